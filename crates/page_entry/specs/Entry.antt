@@ -1,0 +1,79 @@
+-- An entry of a page table: absent, or a frame with its rights and what the processor noted of its use (Intel SDM
+-- volume 3, "4-Level Paging": the format of an entry that maps a 4 KiB page).
+use Rattle.std.specs.Prelude.{ℕ, ◌+◌, ◌*◌, ◌/◌, ◌%◌, ◌^◌, ◌<◌, ◌≡◌, ◌==◌, Bool, true, false, if◌then◌else◌, Option, Some, None, unwrap_or}
+
+-- what a present entry says
+pub record Mapped : Type 0 where
+  pub frame : ℕ
+  pub writable : Bool
+  pub accessed : Bool
+  pub dirty : Bool
+
+-- a bit with its weight, where it is set
+abbrev pub flag : Bool → ℕ → ℕ
+flag set weight = if set then weight else 0
+
+-- Bit 0 present, 1 writable, 2 user, 5 accessed, 6 dirty, 51:12 the frame. The user bit is set in each present entry.
+abbrev pub bits_of : Option Mapped → ℕ
+bits_of None = 0
+bits_of (Some m) = 1 + flag m.writable 2 + 4 + flag m.accessed 32 + flag m.dirty 64 + m.frame * 4096
+
+-- whether bit k is set
+abbrev pub has_bit : ℕ → ℕ → Bool
+has_bit n k = n / 2 ^ k % 2 == 1
+
+-- the entry that these bits are
+abbrev pub entry_of : ℕ → Option Mapped
+entry_of n = if has_bit n 0 then Some (record { frame = n / 4096; writable = has_bit n 1; accessed = has_bit n 5; dirty = has_bit n 6 }) else None
+
+-- only named bits are set, and the frame's number has 32 of its 40 bits
+pub record IsEntry (n : ℕ) : Type 0 where
+  pub named : bits_of (entry_of n) ≡ n
+  pub small : n / 4096 < 2 ^ 32
+
+-- an absent entry allows nothing and has frame 0
+abbrev pub is_writable : Option Mapped → Bool
+is_writable None = false
+is_writable (Some m) = m.writable
+
+abbrev pub is_accessed : Option Mapped → Bool
+is_accessed None = false
+is_accessed (Some m) = m.accessed
+
+abbrev pub is_dirty : Option Mapped → Bool
+is_dirty None = false
+is_dirty (Some m) = m.dirty
+
+abbrev pub frame_of : Option Mapped → ℕ
+frame_of None = 0
+frame_of (Some m) = m.frame
+
+-- a present entry that says nothing yet
+abbrev pub blank : Mapped
+blank = record { frame = 0; writable = false; accessed = false; dirty = false }
+
+-- an entry that is made present is blank where it wasn't; an absent one stays absent under every other change
+abbrev pub with_present_of : Option Mapped → Bool → Option Mapped
+with_present_of e true = Some (unwrap_or e blank)
+with_present_of e false = None
+
+abbrev pub with_writable_of : Option Mapped → Bool → Option Mapped
+with_writable_of None b = None
+with_writable_of (Some m) b = Some (record m { writable = b })
+
+abbrev pub with_accessed_of : Option Mapped → Bool → Option Mapped
+with_accessed_of None b = None
+with_accessed_of (Some m) b = Some (record m { accessed = b })
+
+abbrev pub with_dirty_of : Option Mapped → Bool → Option Mapped
+with_dirty_of None b = None
+with_dirty_of (Some m) b = Some (record m { dirty = b })
+
+abbrev pub with_frame_of : Option Mapped → ℕ → Option Mapped
+with_frame_of None f = None
+with_frame_of (Some m) f = Some (record m { frame = f })
+
+-- what a checkpoint leaves of an entry: neither writable nor dirty
+abbrev pub protected_of : Option Mapped → Option Mapped
+protected_of None = None
+protected_of (Some m) = Some (record m { writable = false; dirty = false })

@@ -1,0 +1,182 @@
+// A page-table entry, as the bits that the processor reads.
+ghost use Rattle.std.specs.Prelude.{⊤, ◌≡◌, ◌==◌, ◌^◌, ◌<◌, None, [], ◌∷◌, codes, is_some};
+ghost use Rattle.std.specs.Int.RustNames.{bit_and};
+ghost use Rattle.page_entry.specs.Entry.{bits_of, is_writable, is_accessed, is_dirty, frame_of, with_present_of, with_writable_of, with_accessed_of, with_dirty_of, with_frame_of, protected_of};
+
+use crate::{FrameNumber, PAGE};
+use bitflags::{Flag, Flags, bitflag_items};
+use std::marker::Model;
+
+/// The named bits of an entry of 4-level paging that maps a 4 KiB page (Intel SDM volume 3, "4-Level Paging").
+#[derive(Clone, Copy, PartialEq, Eq, Debug)]
+pub struct EntryFlags(u64);
+
+bitflag_items! {
+    impl EntryFlags: u64 {
+        const PRESENT = 1;
+        const WRITABLE = 2;
+        const USER = 4;
+        const ACCESSED = 32;
+        const DIRTY = 64;
+    }
+}
+
+impl Flags for EntryFlags {
+    type Bits = u64;
+
+    ghost exact = { ⊤ };
+
+    ghost table = { (codes "PRESENT", 1) ∷ (codes "WRITABLE", 2) ∷ (codes "USER", 4) ∷ (codes "ACCESSED", 32) ∷ (codes "DIRTY", 64) ∷ [] };
+
+    ghost set_of = { λ flags. flags.0 };
+
+    fn flags<'a>() -> &'a [Flag<EntryFlags>] {
+        EntryFlags::FLAGS
+    }
+
+    fn bits(&self) -> u64 {
+        self.0
+    }
+
+    fn from_bits_retain(bits: u64) -> EntryFlags {
+        EntryFlags(bits)
+    }
+}
+
+/// An entry of a page table: absent, or a frame with the right to write and what the processor noted of its use.
+/// An absent entry is 0; a present one has the user bit, and all bits without a name are 0.
+#[derive(Clone, Copy, Debug, PartialEq, Eq)]
+pub struct Entry(u64);
+
+impl Model for Entry {
+    ghost use Rattle.std.specs.Prelude.{ℕ, Option};
+    ghost use Rattle.std.proofs.Common.{ap};
+    ghost use Rattle.page_entry.specs.Entry.{Mapped, bits_of, entry_of, IsEntry};
+
+    ghost Value = { Option Mapped };
+
+    ghost use Rattle.page_entry.specs.declared.entry.Entry.TheInside.{Inside};
+
+    ghost view = { λ e. entry_of e.0 };
+
+    ghost invariant = { λ e. IsEntry e.0 };
+
+    ghost inverse = { λ entry. record { 0 = bits_of entry } };
+
+    ghost inverse_ok = { λ e h. let rebuilt : ℕ → Inside = λ bits. record { 0 = bits } in ap rebuilt h.named };
+}
+
+impl Entry {
+    /// The entry that maps nothing.
+    pub fn absent() -> Self
+        ensures { result ≡ None }
+    {
+        Entry(0)
+    }
+
+    /// The entry as the processor reads it: bit 0 present, 1 writable, 2 user, 5 accessed, 6 dirty, 51:12 the frame.
+    pub fn bits(self) -> u64
+        ensures { result ≡ bits_of self }
+    {
+        EntryFlags(self.0).bits()
+    }
+
+    /// Whether a walk finds a frame here.
+    pub fn present(self) -> bool
+        ensures { result ≡ is_some self }
+    {
+        EntryFlags(self.0).contains(EntryFlags::PRESENT)
+    }
+
+    /// Whether a store is allowed.
+    pub fn writable(self) -> bool
+        ensures { result ≡ is_writable self }
+    {
+        EntryFlags(self.0).contains(EntryFlags::WRITABLE)
+    }
+
+    /// Whether a walk used the entry.
+    pub fn accessed(self) -> bool
+        ensures { result ≡ is_accessed self }
+    {
+        EntryFlags(self.0).contains(EntryFlags::ACCESSED)
+    }
+
+    /// Whether a walk for a store used the entry.
+    pub fn dirty(self) -> bool
+        ensures { result ≡ is_dirty self }
+    {
+        EntryFlags(self.0).contains(EntryFlags::DIRTY)
+    }
+
+    /// The frame that is mapped; 0 in an absent entry.
+    pub fn frame(self) -> FrameNumber
+        ensures { result ≡ frame_of self }
+    {
+        (self.0 / PAGE) as FrameNumber
+    }
+
+    /// The entry made present, blank where it wasn't, or made absent.
+    pub fn with_present(self, present: bool) -> Self
+        ensures { result ≡ with_present_of self present }
+    {
+        match (self.present(), present) {
+            (_, false) => Entry::absent(),
+            (false, true) => Entry(EntryFlags::PRESENT.union(EntryFlags::USER).bits()),
+            (true, true) => self,
+        }
+    }
+
+    /// The entry with or without the right to write. An absent entry stays absent, here and below.
+    pub fn with_writable(self, writable: bool) -> Self
+        ensures { result ≡ with_writable_of self writable }
+    {
+        if !self.present() {
+            return self;
+        }
+        let mut flags = EntryFlags(self.0);
+        flags.set(EntryFlags::WRITABLE, writable);
+        Entry(flags.bits())
+    }
+
+    /// The entry with the accessed bit set or clear.
+    pub fn with_accessed(self, accessed: bool) -> Self
+        ensures { result ≡ with_accessed_of self accessed }
+    {
+        if !self.present() {
+            return self;
+        }
+        let mut flags = EntryFlags(self.0);
+        flags.set(EntryFlags::ACCESSED, accessed);
+        Entry(flags.bits())
+    }
+
+    /// The entry with the dirty bit set or clear.
+    pub fn with_dirty(self, dirty: bool) -> Self
+        ensures { result ≡ with_dirty_of self dirty }
+    {
+        if !self.present() {
+            return self;
+        }
+        let mut flags = EntryFlags(self.0);
+        flags.set(EntryFlags::DIRTY, dirty);
+        Entry(flags.bits())
+    }
+
+    /// The entry mapping another frame.
+    pub fn with_frame(self, frame: FrameNumber) -> Self
+        ensures { result ≡ with_frame_of self frame }
+    {
+        if !self.present() {
+            return self;
+        }
+        Entry(self.0 % PAGE + frame as u64 * PAGE)
+    }
+
+    /// The entry without the right to write and the dirty bit, bits 1 and 6, and nothing else changed.
+    pub fn protected(self) -> Self
+        ensures { result ≡ protected_of self }
+    {
+        self.with_writable(false).with_dirty(false)
+    }
+}

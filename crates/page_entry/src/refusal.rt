@@ -1,0 +1,90 @@
+// Why a call was refused.
+use std::error::Error;
+use std::fmt;
+
+/// Why a call was refused. Where several hold, the first of this order is answered: `Einval` for a processor that isn't
+/// there, `Stalled`, `Locked`, other `Einval`, `NoFile`, `Enomem`, `Eacces`, `Overlap`, `Broken`, `Busy`, `OutOfMemory`.
+/// `BadShape` is tested before any memory is taken and before any read, write or sync of a device. Serving a fault has
+/// an order of its own after `Locked`: `Einval`, `SegvMapErr`, `SegvAccErr`, `BusAdrErr`, `Held`, `NoFrame`, `Device`.
+///
+/// The names in capitals after `E` and the three of signals are those of POSIX.1-2024 (`mmap`, `mprotect`, `msync`,
+/// `<signal.h>`).
+#[derive(Clone, Copy, Debug, PartialEq, Eq)]
+pub enum Refusal {
+    /// The processor isn't active.
+    Stalled,
+    /// The machine's lock is held.
+    Locked,
+    /// So many processors are still interrupted.
+    NotYet(u32),
+    /// A page fault, with its error code: bit 0 a protection violation, bit 1 a write, bit 2 a user access.
+    Fault(u8),
+    /// The page isn't mapped (`SIGSEGV`, `SEGV_MAPERR`).
+    SegvMapErr,
+    /// The mapping doesn't allow the access (`SIGSEGV`, `SEGV_ACCERR`).
+    SegvAccErr,
+    /// The page is wholly past the file's end (`SIGBUS`, `BUS_ADRERR`).
+    BusAdrErr,
+    /// The page is frozen until its record is written, and no copy frame is free.
+    Held,
+    /// No frame is free.
+    NoFrame,
+    /// A device call failed.
+    Device,
+    /// A device call of a write-out failed earlier; the volume has to be opened again.
+    Broken,
+    /// An argument is outside its range.
+    Einval,
+    /// A page of the range isn't mapped, or there is no free address space.
+    Enomem,
+    /// Write access to a file that was opened read-only.
+    Eacces,
+    /// A page of the range is mapped already.
+    Overlap,
+    /// There is no such file.
+    NoFile,
+    /// The call has to wait for another: a write-out isn't done, or the space is in use.
+    Busy,
+    /// The trace is full.
+    TraceFull,
+    /// Memory was refused.
+    OutOfMemory,
+    /// The device holds no volume.
+    NotAVolume,
+    /// The volume's bytes break its grammar.
+    Damaged,
+    /// A number is outside the limits of volumes or machines.
+    BadShape,
+}
+
+impl fmt::Display for Refusal {
+    /// The name in lower case without spaces, and behind `notyet` and `fault` one space and the number.
+    fn fmt<W: fmt::Write>(&self, f: &mut fmt::Formatter<W>) -> fmt::Result {
+        match self {
+            Refusal::Stalled => write!(f, "stalled"),
+            Refusal::Locked => write!(f, "locked"),
+            Refusal::NotYet(count) => write!(f, "notyet {count}"),
+            Refusal::Fault(code) => write!(f, "fault {code}"),
+            Refusal::SegvMapErr => write!(f, "segvmaperr"),
+            Refusal::SegvAccErr => write!(f, "segvaccerr"),
+            Refusal::BusAdrErr => write!(f, "busadrerr"),
+            Refusal::Held => write!(f, "held"),
+            Refusal::NoFrame => write!(f, "noframe"),
+            Refusal::Device => write!(f, "device"),
+            Refusal::Broken => write!(f, "broken"),
+            Refusal::Einval => write!(f, "einval"),
+            Refusal::Enomem => write!(f, "enomem"),
+            Refusal::Eacces => write!(f, "eacces"),
+            Refusal::Overlap => write!(f, "overlap"),
+            Refusal::NoFile => write!(f, "nofile"),
+            Refusal::Busy => write!(f, "busy"),
+            Refusal::TraceFull => write!(f, "tracefull"),
+            Refusal::OutOfMemory => write!(f, "outofmemory"),
+            Refusal::NotAVolume => write!(f, "notavolume"),
+            Refusal::Damaged => write!(f, "damaged"),
+            Refusal::BadShape => write!(f, "badshape"),
+        }
+    }
+}
+
+impl Error for Refusal {}
