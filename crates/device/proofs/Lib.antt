@@ -1,1 +1,3 @@
 pub mod Moments
+mod Replay
+pub mod Ranges

@@ -1,1 +1,4 @@
 pub mod Device
+pub mod File
+pub mod Logged
+pub mod Memory

@@ -1,8 +1,17 @@
-//! A disk of fixed length, as a program sees it: what its calls read and write, and what a crash at any moment may leave.
+//! Disks of fixed length, as a program sees them: what their calls read and write, and what a crash at any moment may
+//! leave. Disks in memory, which can crash, and disks over real files.
 #![tactic(auto)]
 
+mod borrowed;
+mod count;
 mod device;
 mod fault;
+mod file;
+mod memory;
+#[cfg(test)]
+mod tests;
 
 pub use device::Device;
 pub use fault::DeviceFault;
+pub use file::FileDisk;
+pub use memory::MemDisk;

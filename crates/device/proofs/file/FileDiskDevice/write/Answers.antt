@@ -1,0 +1,14 @@
+use Rattle.std.proofs.Common.{inr, arith, length}
+use Rattle.device.proofs.Ranges.{torn_none}
+use Rattle.device.proofs.file.FileDiskDevice.write.Goals as goal
+
+pub returns-clause-left : goal.returns-clause-left
+returns-clause-left c = λ list left. (list, tt, torn_none c.args.at (length c.args.bytes.now) list)
+
+pub returns-clause-time : goal.returns-clause-time
+returns-clause-time c = record {
+  later = omega arith;
+  each = λ list left. (list, tt, torn_none c.args.at (length c.args.bytes.now) list);
+  before = λ t list le left. inr (list, tt, torn_none c.args.at (length c.args.bytes.now) list);
+  keeps = λ t list le left. tt;
+}

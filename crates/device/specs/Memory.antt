@@ -1,0 +1,102 @@
+-- A disk in memory, as the record of its calls: what it held at first, and the writes and syncs since.
+use Rattle.std.specs.Prelude.{◌≡◌, ◌^◌, ◌<◌, ℕ, ◌+◌, ◌-◌, ◌≤◌, min, Bool, false, ◌&&◌, ◌||◌, List, [], ◌∷◌, length, drop, nat_le, nat_lt, if◌then◌else◌, slice_index, slice_index_or}
+use Rattle.std.proofs.Common.{refl, subst, arith}
+use Rattle.device.specs.Device.{written}
+
+-- a write at an offset, or a sync
+pub data Change : Type 0 where
+  write : ℕ → List ℕ → Change
+  sync : Change
+
+-- The record starts at a moment, with a content that is wholly on the disk. The last change stands first.
+pub record Recorded : Type 0 where
+  pub first : List ℕ
+  pub changes : List Change
+  pub start : ℕ
+  pub calls : ℕ
+  pub faults : ℕ
+
+-- a disk with these bytes, none of its calls made yet
+abbrev pub fresh : List ℕ → Recorded
+fresh bytes = record { first = bytes; changes = []; start = 0; calls = 0; faults = 0 }
+
+-- what a read gives after these changes
+abbrev pub content_after : List ℕ → List Change → List ℕ
+content_after first [] = first
+content_after first (write at bytes ∷ older) = written (content_after first older) at bytes
+content_after first (sync ∷ older) = content_after first older
+
+-- whether the place was written since the last sync
+abbrev pub is_unsynced : List Change → ℕ → Bool
+is_unsynced [] i = false
+is_unsynced (write at bytes ∷ older) i = (nat_le at i && nat_lt i (at + length bytes)) || is_unsynced older i
+is_unsynced (sync ∷ older) i = false
+
+-- a crash may leave any byte where one was written since the last sync, and what a read gives elsewhere
+pub record MayBeLeft (first : List ℕ) (changes : List Change) (c : List ℕ) : Type 0 where
+  pub same_length : length c ≡ length (content_after first changes)
+  pub synced : (i : ℕ) → is_unsynced changes i ≡ false → slice_index c i ≡ slice_index (content_after first changes) i
+
+abbrev pub seen_of : Recorded → List ℕ
+seen_of disk = content_after disk.first disk.changes
+
+abbrev pub may_leave_of : Recorded → List ℕ → Type 0
+may_leave_of disk = MayBeLeft disk.first disk.changes
+
+-- each change takes one moment
+abbrev pub moment_of : Recorded → ℕ
+moment_of disk = disk.start + length disk.changes
+
+-- without the newest changes, as many as there were no earlier than t
+abbrev pub left_since_of : Recorded → ℕ → List ℕ → Type 0
+left_since_of disk t c = (newer : ℕ) × (newer ≤ length disk.changes) × (t + newer ≤ moment_of disk) × MayBeLeft disk.first (drop newer disk.changes) c
+
+-- one more, but a count that has come to 2^64-1 stays there
+abbrev pub raised : ℕ → ℕ
+raised n = if nat_lt n (2 ^ 64 - 1) then n + 1 else n
+
+-- after a call that changes nothing
+abbrev pub after_read : Recorded → Recorded
+after_read disk = record disk { calls = raised disk.calls }
+
+-- after a call that was refused memory
+abbrev pub after_refusal : Recorded → Recorded
+after_refusal disk = record disk { calls = raised disk.calls; faults = raised disk.faults }
+
+abbrev pub after_change : Recorded → Change → Recorded
+after_change disk change = record disk { changes = change ∷ disk.changes; calls = raised disk.calls }
+
+-- of each place from i on, the byte chosen if it is marked, else the byte that is there
+abbrev pub chosen_from : (ℕ → Bool) → ℕ → List ℕ → List ℕ → List ℕ
+chosen_from marked i (c ∷ choice) (b ∷ bytes) = (if marked i then c else b) ∷ chosen_from marked (i + 1) choice bytes
+chosen_from marked i [] bytes = []
+chosen_from marked i (c ∷ choice) [] = []
+
+-- What a crash leaves is on the disk, and the record starts again.
+abbrev pub after_stop : Recorded → List ℕ → Recorded
+after_stop disk choice = record disk {
+  first = chosen_from (is_unsynced disk.changes) 0 choice (seen_of disk);
+  changes = [];
+  start = min (moment_of disk) (2 ^ 64 - 1);
+}
+
+-- what the disk keeps beside its record: the content, and which places were written since the last sync
+pub record IsReplay (first : List ℕ) (changes : List Change) (content : List ℕ) (unsynced : List Bool) : Type 0 where
+  pub replayed : content ≡ content_after first changes
+  pub first_length : length first ≡ length content
+  pub marks_length : length unsynced ≡ length content
+  pub marked : (i : ℕ) → i < length content → slice_index_or unsynced i false ≡ is_unsynced changes i
+
+-- what a read gives may be left
+pub seen_is_left_of : (disk : Recorded) → may_leave_of disk (seen_of disk)
+seen_is_left_of disk = record { same_length = refl; synced = λ i same. refl }
+
+-- a crash now is one since any moment so far
+pub now_is_since_of : (disk : Recorded) (t : ℕ) (c : List ℕ) → t ≤ moment_of disk → may_leave_of disk c → left_since_of disk t c
+now_is_since_of disk t c le left = (0, omega arith, omega arith, left)
+
+-- since now there is nothing else
+pub since_now_of : (disk : Recorded) (c : List ℕ) → left_since_of disk (moment_of disk) c → may_leave_of disk c
+since_now_of disk c since =
+    let none : since.0 ≡ 0 = omega (arith, since.2) in
+    subst (λ n. MayBeLeft disk.first (drop n disk.changes) c) none since.3

@@ -1,0 +1,275 @@
+// A disk in memory, for tests and trials: it can crash, and leaves then what the caller chooses among what a crash may leave.
+ghost use Rattle.std.specs.Prelude.{⊤, ◌≡◌, ◌≢◌, ◌↔◌, ℕ, ◌+◌, ◌-◌, ◌^◌, ◌<◌, ◌≤◌, ◌&&◌, ◌||◌, true, false, List, [], ◌∷◌, length, replicate, slice_range, slice_index, slice_index_or, nat_le, nat_lt, if◌then◌else◌, IfOk, OnOk, OnErr, IsOk, IsErr};
+ghost use Rattle.device.specs.Device.{written, Torn, TornFrom, Only, LeavesOnly};
+ghost use Rattle.device.specs.Memory.{seen_of, may_leave_of, moment_of, left_since_of, fresh, raised, after_read, after_refusal, after_change, after_stop};
+ghost use Rattle.device.specs.Memory.Change.{write, sync};
+ghost use Rattle.device.specs.Logged.{changes_of};
+
+use crate::count::raise;
+use crate::{Device, DeviceFault};
+use std::alloc::{AllocError, Allocator};
+use std::marker::Model;
+
+// A write or a sync that was done.
+#[derive(Drop)]
+enum Logged<A: Allocator + Copy> {
+    Write(u64, Vec<u8, A>),
+    Sync,
+}
+
+/// A disk in memory. It is honest, and it records its writes and syncs, so that each content that a crash might have left
+/// since any moment is known; the record takes memory at each of them.
+#[derive(Drop)]
+pub struct MemDisk<A: Allocator + Copy> {
+    alloc: A,
+    first: Vec<u8, A>,
+    log: Vec<Logged<A>, A>,
+    start: u64,
+    content: Vec<u8, A>,
+    unsynced: Vec<bool, A>,
+    calls: u64,
+    faults: u64,
+}
+
+impl<A: Allocator + Copy> Model for MemDisk<A> {
+    ghost use Rattle.device.specs.Memory.{Recorded, IsReplay};
+
+    ghost Value = { Recorded };
+
+    ghost use Rattle.device.specs.Logged.{changes_of};
+
+    ghost view = { λ d. record { first = d.first.items; changes = changes_of d.log.items; start = d.start; calls = d.calls; faults = d.faults } };
+
+    ghost invariant = { λ d. IsReplay d.first.items (changes_of d.log.items) d.content.items d.unsynced.items };
+}
+
+impl<A: Allocator + Copy> MemDisk<A> {
+    /// A disk of zeros, as long as asked, all of it on the disk.
+    pub fn new(alloc: A, len: u64) -> Result<Self, AllocError>
+        ensures { IfOk result (λ disk. disk ≡ fresh (replicate len 0)) }
+    {
+        MemDisk::from_bytes(alloc, vec![in alloc; 0; len as usize]?)
+    }
+
+    /// A disk with these bytes, all of them on the disk.
+    pub fn from_bytes(alloc: A, bytes: Vec<u8, A>) -> Result<Self, AllocError>
+        ensures { IfOk result (λ disk. disk ≡ fresh bytes.items) }
+    {
+        Ok(MemDisk {
+            alloc,
+            first: Vec::from_slice(alloc, &bytes)?,
+            log: Vec::new(alloc),
+            start: 0,
+            unsynced: vec![in alloc; false; bytes.len()]?,
+            content: bytes,
+            calls: 0,
+            faults: 0,
+        })
+    }
+
+    /// What a read gives, all of it.
+    pub fn bytes(&self) -> &[u8]
+        ensures { result.now ≡ seen_of self.now }
+    {
+        &self.content
+    }
+
+    /// A crash: places that were written since the last sync get the bytes of `choice`, which is as long as the disk, and
+    /// the others keep theirs. The disk goes on with that content, all of it on the disk. It takes no memory.
+    pub fn stop(&mut self, choice: &[u8])
+        requires { length choice.now ≡ length (seen_of self.old) }
+        ensures stopped { self.new ≡ after_stop self.old choice.now }
+
+        // What it leaves is what a crash may leave, and each list that a crash may leave can be chosen.
+        ensures left { may_leave_of self.old (seen_of self.new) }
+        ensures chosen { may_leave_of self.old choice.now → seen_of self.new ≡ choice.now }
+
+        // Until it is written again, a further crash leaves nothing else.
+        ensures only { Only (may_leave_of self.new) (seen_of self.new) }
+    {
+        choose(&mut self.content, &self.unsynced, choice);
+        self.first.copy_from_slice(&self.content);
+        clear(&mut self.unsynced);
+        self.start = self.start.saturating_add(self.log.len() as u64);
+        self.log.clear();
+    }
+
+    fn apply_read(&mut self, at: u64, buffer: &mut [u8])
+        requires { at + length buffer.old ≤ length (seen_of self.old) }
+        ensures disk { self.new ≡ after_read self.old }
+        ensures bytes { buffer.new ≡ slice_range (seen_of self.old) at (at + length buffer.old) }
+    {
+        raise(&mut self.calls);
+        let from = at as usize;
+        buffer.copy_from_slice(&self.content[from..from + buffer.len()]);
+    }
+
+    fn apply_write(&mut self, at: u64, bytes: &[u8]) -> Result<(), DeviceFault>
+        requires { at + length bytes.now ≤ length (seen_of self.old) }
+        ensures ok { OnOk result (self.new ≡ after_change self.old (write at bytes.now)) }
+        ensures err { OnErr result (self.new ≡ after_refusal self.old) }
+    {
+        raise(&mut self.calls);
+        if log_write(self.alloc, &mut self.log, at, bytes).is_err() {
+            raise(&mut self.faults);
+            return Err(DeviceFault);
+        }
+        put(&mut self.content, at as usize, bytes);
+        mark(&mut self.unsynced, at as usize, bytes.len());
+        Ok(())
+    }
+
+    fn apply_sync(&mut self) -> Result<(), DeviceFault>
+        ensures ok { OnOk result (self.new ≡ after_change self.old sync) }
+        ensures err { OnErr result (self.new ≡ after_refusal self.old) }
+    {
+        raise(&mut self.calls);
+        if log_sync(&mut self.log).is_err() {
+            raise(&mut self.faults);
+            return Err(DeviceFault);
+        }
+        clear(&mut self.unsynced);
+        Ok(())
+    }
+}
+
+impl<A: Allocator + Copy> Device for MemDisk<A> {
+    ghost use Rattle.device.specs.Memory.{seen_is_left_of, now_is_since_of, since_now_of};
+
+    ghost seen = { seen_of };
+
+    ghost may_leave = { may_leave_of };
+
+    ghost moment = { moment_of };
+
+    ghost left_since = { left_since_of };
+
+    ghost calls_made = { λ disk. disk.calls };
+
+    ghost faults_met = { λ disk. disk.faults };
+
+    ghost is_honest = { λ disk. ⊤ };
+
+    ghost seen_is_left = { λ disk honest. seen_is_left_of disk };
+
+    ghost left_is_whole = { λ disk c honest left. left.same_length };
+
+    ghost now_is_since = { now_is_since_of };
+
+    ghost since_now = { since_now_of };
+
+    fn len(&self) -> u64 {
+        self.content.len() as u64
+    }
+
+    fn read(&mut self, at: u64, buffer: &mut [u8]) -> Result<(), DeviceFault>
+        requires { at + length buffer.old ≤ length (seen_of self.old) }
+
+        ensures bytes { OnOk result (buffer.new ≡ slice_range (seen_of self.old) at (at + length buffer.old)) }
+        ensures left { (c : List ℕ) → may_leave_of self.new c → may_leave_of self.old c }
+        ensures time { LeavesOnly moment_of left_since_of self.old self.new (may_leave_of self.old) }
+
+        // It doesn't fail.
+        ensures ok { IsOk result }
+        ensures recorded { self.new ≡ after_read self.old }
+    {
+        self.apply_read(at, buffer);
+        Ok(())
+    }
+
+    fn write(&mut self, at: u64, bytes: &[u8]) -> Result<(), DeviceFault>
+        requires { at + length bytes.now ≤ length (seen_of self.old) }
+
+        ensures written { OnOk result (seen_of self.new ≡ written (seen_of self.old) at bytes.now) }
+        ensures len { length (seen_of self.new) ≡ length (seen_of self.old) }
+        ensures left { (c : List ℕ) → may_leave_of self.new c → TornFrom at (length bytes.now) (may_leave_of self.old) c }
+        ensures time { LeavesOnly moment_of left_since_of self.old self.new (TornFrom at (length bytes.now) (may_leave_of self.old)) }
+
+        ensures recorded { OnOk result (self.new ≡ after_change self.old (write at bytes.now)) }
+
+        // It fails only where memory is refused, and then it changes nothing.
+        ensures refused { OnErr result (self.new ≡ after_refusal self.old) }
+
+        // A crash may leave any bytes in the range.
+        ensures any { OnOk result ((c : List ℕ) → TornFrom at (length bytes.now) (may_leave_of self.old) c → may_leave_of self.new c) }
+    {
+        self.apply_write(at, bytes)
+    }
+
+    fn sync(&mut self) -> Result<(), DeviceFault>
+        ensures same { seen_of self.new ≡ seen_of self.old }
+        ensures durable { OnOk result (Only (may_leave_of self.new) (seen_of self.old)) }
+        ensures left { (c : List ℕ) → may_leave_of self.new c → may_leave_of self.old c }
+        ensures time { LeavesOnly moment_of left_since_of self.old self.new (may_leave_of self.old) }
+
+        ensures recorded { OnOk result (self.new ≡ after_change self.old sync) }
+
+        // It fails only where memory is refused, and then it changes nothing.
+        ensures refused { OnErr result (self.new ≡ after_refusal self.old) }
+    {
+        self.apply_sync()
+    }
+
+    fn calls(&self) -> u64 {
+        self.calls
+    }
+
+    fn faults(&self) -> u64 {
+        self.faults
+    }
+}
+
+fn log_write<A: Allocator + Copy>(
+    alloc: A,
+    log: &mut Vec<Logged<A>, A>,
+    at: u64,
+    bytes: &[u8],
+) -> Result<(), AllocError>
+    ensures ok { OnOk result (changes_of log.new.items ≡ write at bytes.now ∷ changes_of log.old.items) }
+    ensures err { OnErr result (log.new.items ≡ log.old.items) }
+{
+    log.push(Logged::Write(at, Vec::from_slice(alloc, bytes)?))?;
+    Ok(())
+}
+
+fn log_sync<A: Allocator + Copy>(log: &mut Vec<Logged<A>, A>) -> Result<(), AllocError>
+    ensures ok { OnOk result (changes_of log.new.items ≡ sync ∷ changes_of log.old.items) }
+    ensures err { OnErr result (log.new.items ≡ log.old.items) }
+{
+    log.push(Logged::Sync)?;
+    Ok(())
+}
+
+fn put(content: &mut [u8], at: usize, bytes: &[u8])
+    requires { at + length bytes.now ≤ length content.old }
+    ensures { content.new ≡ written content.old at bytes.now }
+{
+    content[at..at + bytes.len()].copy_from_slice(bytes);
+}
+
+// Marks the places from an offset on.
+fn mark(unsynced: &mut [bool], at: usize, len: usize)
+    requires { at + len ≤ length unsynced.old }
+    ensures len { length unsynced.new ≡ length unsynced.old }
+    ensures marks { (i : ℕ) → i < length unsynced.old → slice_index_or unsynced.new i false ≡ ((nat_le at i && nat_lt i (at + len)) || slice_index_or unsynced.old i false) }
+{
+    unsynced[at..at + len].fill(true);
+}
+
+fn clear(unsynced: &mut [bool])
+    ensures { unsynced.new ≡ replicate (length unsynced.old) false }
+{
+    unsynced.fill(false);
+}
+
+// Puts the bytes that are chosen in the places that are marked.
+fn choose(content: &mut [u8], unsynced: &[bool], choice: &[u8])
+    requires marks { length unsynced.now ≡ length content.old }
+    requires choice { length choice.now ≡ length content.old }
+    ensures len { length content.new ≡ length content.old }
+    ensures chosen { (i : ℕ) → i < length content.old → slice_index content.new i ≡ (if slice_index_or unsynced.now i false then slice_index choice.now i else slice_index content.old i) }
+{
+    for (i, byte) in content.iter_mut().enumerate() {
+        *byte = if unsynced[i] { choice[i] } else { *byte };
+    }
+}

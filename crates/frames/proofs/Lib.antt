@@ -1,0 +1,4 @@
+pub mod FramesLaws
+mod FramesLemmas
+mod PageLemmas
+pub mod WholePages

@@ -1,0 +1,3 @@
+pub mod PlacesLaws
+mod Lists
+mod Entries

@@ -1,0 +1,4 @@
+pub mod Places
+pub mod Judgement
+pub mod State
+pub mod Listed

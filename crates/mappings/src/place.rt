@@ -1,0 +1,41 @@
+// What a page of an address space maps.
+ghost use Rattle.std.specs.Prelude.{◌≡◌};
+ghost use Rattle.mappings.specs.Places.{may_write, allows};
+
+use page_entry::{FileNumber, FilePage};
+
+/// What may be done through a mapping (`PROT_READ`, `PROT_READ | PROT_WRITE`) or a file description (`O_RDONLY`,
+/// `O_RDWR`). Writing alone counts as both.
+#[derive(Clone, Copy, Debug, PartialEq, Eq)]
+pub enum Rights {
+    Read,
+    ReadWrite,
+}
+
+impl Rights {
+    /// Whether they allow writing.
+    pub fn may_write(self) -> bool
+        ensures { result ≡ may_write self }
+    {
+        match self {
+            Rights::Read => false,
+            Rights::ReadWrite => true,
+        }
+    }
+
+    /// Whether a file that was opened with this access may be mapped with the rights.
+    pub fn allows(self, rights: Rights) -> bool
+        ensures { result ≡ allows self rights }
+    {
+        self.may_write() || !rights.may_write()
+    }
+}
+
+/// The file page that a page maps, the rights of its mapping, and the access with which the file was opened for it.
+#[derive(Clone, Copy, Debug, PartialEq, Eq)]
+pub struct Place {
+    pub file: FileNumber,
+    pub page: FilePage,
+    pub rights: Rights,
+    pub access: Rights,
+}

@@ -1,0 +1,3 @@
+pub mod Entries
+mod Lookup
+mod Merge
