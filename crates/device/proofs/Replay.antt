@@ -8,7 +8,7 @@ use Rattle.device.specs.Memory.{Change, Recorded, content_after, is_unsynced, Ma
 use Rattle.device.specs.Memory.Change.{write, sync}
 use Rattle.device.specs.Logged.{change_of, changes_of}
 use Rattle.device.specs.declared.memory.Logged.{Logged}
-use Rattle.device.proofs.Ranges.{length-written, written_before, written_after, torn_none, torn_before, torn_after, restored, length-restored, torn_restored, restored_before, restored_within, restored_after}
+use Rattle.device.proofs.Ranges.{length-written, written_before, written_after, torn_from_none, torn_before, torn_after, restored, length-restored, torn_restored, restored_before, restored_within, restored_after}
 
 pub changes_of-push : {A : Type 0} (log : List (Logged A)) (entry : Logged A) → changes_of (log ++ entry ∷ []) ≡ change_of entry ∷ changes_of log
 changes_of-push [] entry = refl
@@ -88,10 +88,6 @@ time_of_none disk calls faults P was = record {
   keeps = λ t c le left. left;
 }
 
--- torn from what may be left, what may be left is
-pub untorn : (lists : List ℕ → Type 0) (at n : ℕ) (c : List ℕ) → lists c → TornFrom at n lists c
-untorn lists at n c left = (c, left, torn_none at n c)
-
 pub length-changes_of : {A : Type 0} (log : List (Logged A)) → length (changes_of log) ≡ length log
 length-changes_of [] = refl
 length-changes_of (e ∷ log) = omega (arith, length-append (changes_of log) (change_of e ∷ []), length-changes_of log)
@@ -111,12 +107,15 @@ chosen_at marked i (c ∷ choice) (b ∷ bytes) zero j same lt at =
     let here : i ≡ j = omega (arith, at) in ap (λ n. cond (marked n) c b) here
 chosen_at marked i (c ∷ choice) (b ∷ bytes) (suc k) j same lt at = chosen_at marked (i + 1) choice bytes k j (omega (arith, same)) (omega (arith, lt)) (omega (arith, at))
 
--- what is chosen, from its bytes at each place
-pub chosen_all : (marked : ℕ → Bool) (marks : List Bool) (choice bytes new : List ℕ) → length choice ≡ length bytes → length new ≡ length bytes → ((i : ℕ) → i < length bytes → get_or marks i false ≡ marked i) → ((i : ℕ) → i < length bytes → get_or new i 0 ≡ cond (get_or marks i false) (get_or choice i 0) (get_or bytes i 0)) → new ≡ chosen_from marked 0 choice bytes
-chosen_all marked marks choice bytes new same long marks_are new_is =
-    ext_get_or 0 new (chosen_from marked 0 choice bytes) (long ∙ sym (length-chosen_from marked 0 choice bytes same)) (λ i lt.
-    let within : i < length bytes = omega (arith, lt, long) in
-    new_is i within
+-- what is chosen, from its bytes at each place; `was` and `flags` are what a slice of bytes and one of marks had
+pub chosen_all : (marked : ℕ → Bool) (marks flags : List Bool) (choice bytes was new : List ℕ) → was ≡ bytes → flags ≡ marks → length choice ≡ length bytes → length new ≡ length was → ((i : ℕ) → i < length bytes → get_or marks i false ≡ marked i) → ((i : ℕ) → i < length was → get_or new i 0 ≡ cond (get_or flags i false) (get_or choice i 0) (get_or was i 0)) → new ≡ chosen_from marked 0 choice bytes
+chosen_all marked marks flags choice bytes was new was_is flags_are same long marks_are new_is =
+    let long_was : length was ≡ length bytes = ap length was_is in
+    ext_get_or 0 new (chosen_from marked 0 choice bytes) (long ∙ long_was ∙ sym (length-chosen_from marked 0 choice bytes same)) (λ i lt.
+    let within : i < length bytes = omega (arith, lt, long, long_was) in
+    new_is i (omega (arith, lt, long))
+    ∙ ap (λ (l : List ℕ). cond (get_or flags i false) (get_or choice i 0) (get_or l i 0)) was_is
+    ∙ ap (λ (m : List Bool). cond (get_or m i false) (get_or choice i 0) (get_or bytes i 0)) flags_are
     ∙ ap (λ b. cond b (get_or choice i 0) (get_or bytes i 0)) (marks_are i within)
     ∙ sym (chosen_at marked 0 choice bytes i i same within (omega arith)))
 
@@ -168,7 +167,7 @@ either (Err e) p q = inr q
 pub write_left : {T E : Type 0} (result : Result T E) (disk new : Recorded) (at : ℕ) (bytes : List ℕ) → at + length bytes ≤ length (seen_of disk) → OnOk result (new ≡ after_change disk (write at bytes)) → OnErr result (new ≡ after_refusal disk) → (c : List ℕ) → may_leave_of new c → TornFrom at (length bytes) (may_leave_of disk) c
 write_left result disk new at bytes fits done refused c left = ⊎_elim
     (λ (is : new ≡ after_change disk (write at bytes)). left_by_write disk.first disk.changes at bytes fits c (subst (λ (d : Recorded). may_leave_of d c) is left))
-    (λ (is : new ≡ after_refusal disk). untorn (may_leave_of disk) at (length bytes) c (subst (λ (d : Recorded). may_leave_of d c) is left))
+    (λ (is : new ≡ after_refusal disk). torn_from_none at (length bytes) (subst (λ (d : Recorded). may_leave_of d c) is left))
     (either result done refused)
 
 pub write_time : {T E : Type 0} (result : Result T E) (disk new : Recorded) (at : ℕ) (bytes : List ℕ) → at + length bytes ≤ length (seen_of disk) → OnOk result (new ≡ after_change disk (write at bytes)) → OnErr result (new ≡ after_refusal disk) → LeavesOnly moment_of left_since_of disk new (TornFrom at (length bytes) (may_leave_of disk))
@@ -176,9 +175,9 @@ write_time result disk new at bytes fits done refused =
     let P = TornFrom at (length bytes) (may_leave_of disk) in
     ⊎_elim
     (λ (is : new ≡ after_change disk (write at bytes)). subst (λ (d : Recorded). LeavesOnly moment_of left_since_of disk d P) (sym is)
-    (time_of_change disk (write at bytes) P (untorn (may_leave_of disk) at (length bytes)) (left_by_write disk.first disk.changes at bytes fits)))
+    (time_of_change disk (write at bytes) P (λ c left. torn_from_none at (length bytes) left) (left_by_write disk.first disk.changes at bytes fits)))
     (λ (is : new ≡ after_refusal disk). subst (λ (d : Recorded). LeavesOnly moment_of left_since_of disk d P) (sym is)
-    (time_of_none disk (raised disk.calls) (raised disk.faults) P (untorn (may_leave_of disk) at (length bytes))))
+    (time_of_none disk (raised disk.calls) (raised disk.faults) P (λ c left. torn_from_none at (length bytes) left)))
     (either result done refused)
 
 pub sync_time : {T E : Type 0} (result : Result T E) (disk new : Recorded) → OnOk result (new ≡ after_change disk sync) → OnErr result (new ≡ after_refusal disk) → LeavesOnly moment_of left_since_of disk new (may_leave_of disk)

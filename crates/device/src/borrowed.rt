@@ -1,5 +1,4 @@
 // A device behind a reference is one.
-ghost use Rattle.std.specs.Prelude.{◌≡◌};
 
 use crate::{Device, DeviceFault};
 

@@ -1,5 +1,5 @@
 // A disk over a real file.
-ghost use Rattle.std.specs.Prelude.{⊤, ◌≡◌, ◌+◌, ◌≤◌, length, replicate, IfOk, OnOk, OnErr, is_ok};
+ghost use Rattle.std.specs.Prelude.{◌≡◌, IfOk, OnOk, OnErr, is_ok};
 ghost use Rattle.device.specs.File.{opened, after_call, after_fault};
 
 use crate::count::raise;
@@ -44,12 +44,7 @@ impl FileDisk {
             .truncate(true)
             .open(rt, path)?;
         file.set_len(len)?;
-        Ok(FileDisk {
-            file,
-            len,
-            calls: 0,
-            faults: 0,
-        })
+        Ok(FileDisk::over(file, len))
     }
 
     /// Opens a file for reading and writing. Its length is the disk's.
@@ -57,13 +52,19 @@ impl FileDisk {
         ensures { IfOk result (λ disk. disk ≡ opened disk.size) }
     {
         let file = OpenOptions::new().read(true).write(true).open(rt, path)?;
-        let len = file.metadata()?.len();
-        Ok(FileDisk {
+        let size = file.metadata()?.len();
+        Ok(FileDisk::over(file, size))
+    }
+
+    fn over(file: File, len: u64) -> FileDisk
+        ensures { result ≡ opened len }
+    {
+        FileDisk {
             file,
             len,
             calls: 0,
             faults: 0,
-        })
+        }
     }
 
     // Counts a call, and passes its outcome on.

@@ -1,7 +1,7 @@
 // A disk in memory, for tests and trials: it can crash, and leaves then what the caller chooses among what a crash may leave.
-ghost use Rattle.std.specs.Prelude.{⊤, ◌≡◌, ◌≢◌, ◌↔◌, ℕ, ◌+◌, ◌-◌, ◌^◌, ◌<◌, ◌≤◌, ◌&&◌, ◌||◌, true, false, List, [], ◌∷◌, length, replicate, slice_range, slice_index, slice_index_or, nat_le, nat_lt, if◌then◌else◌, IfOk, OnOk, OnErr, IsOk, IsErr};
-ghost use Rattle.device.specs.Device.{written, Torn, TornFrom, Only, LeavesOnly};
-ghost use Rattle.device.specs.Memory.{seen_of, may_leave_of, moment_of, left_since_of, fresh, raised, after_read, after_refusal, after_change, after_stop};
+ghost use Rattle.std.specs.Prelude.{⊤, ◌≡◌, ℕ, ◌+◌, ◌<◌, ◌≤◌, ◌&&◌, ◌||◌, false, List, ◌∷◌, length, replicate, slice_range, slice_index, slice_index_or, nat_le, nat_lt, if◌then◌else◌, IfOk, OnOk, OnErr, IsOk};
+ghost use Rattle.device.specs.Device.{written, TornFrom, Only, LeavesOnly};
+ghost use Rattle.device.specs.Memory.{seen_of, may_leave_of, moment_of, left_since_of, fresh, after_read, after_refusal, after_change, after_stop};
 ghost use Rattle.device.specs.Memory.Change.{write, sync};
 ghost use Rattle.device.specs.Logged.{changes_of};
 
@@ -18,7 +18,7 @@ enum Logged<A: Allocator + Copy> {
 }
 
 /// A disk in memory. It is honest, and it records its writes and syncs, so that each content that a crash might have left
-/// since any moment is known; the record takes memory at each of them.
+/// since any moment is known. A write or a sync whose record is refused memory fails; no other call of it fails.
 #[derive(Drop)]
 pub struct MemDisk<A: Allocator + Copy> {
     alloc: A,
@@ -89,7 +89,7 @@ impl<A: Allocator + Copy> MemDisk<A> {
     {
         choose(&mut self.content, &self.unsynced, choice);
         self.first.copy_from_slice(&self.content);
-        clear(&mut self.unsynced);
+        self.unsynced.fill(false);
         self.start = self.start.saturating_add(self.log.len() as u64);
         self.log.clear();
     }
@@ -187,7 +187,7 @@ impl<A: Allocator + Copy> Device for MemDisk<A> {
 
         ensures recorded { OnOk result (self.new ≡ after_change self.old (write at bytes.now)) }
 
-        // It fails only where memory is refused, and then it changes nothing.
+        // Where its record is refused memory, it fails and changes nothing but the counts.
         ensures refused { OnErr result (self.new ≡ after_refusal self.old) }
 
         // A crash may leave any bytes in the range.
@@ -204,7 +204,7 @@ impl<A: Allocator + Copy> Device for MemDisk<A> {
 
         ensures recorded { OnOk result (self.new ≡ after_change self.old sync) }
 
-        // It fails only where memory is refused, and then it changes nothing.
+        // Where its record is refused memory, it fails and changes nothing but the counts.
         ensures refused { OnErr result (self.new ≡ after_refusal self.old) }
     {
         self.apply_sync()

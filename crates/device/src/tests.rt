@@ -1,8 +1,7 @@
 // Each call once, on a disk in memory and on one over a file.
-ghost use Rattle.std.specs.Prelude.{◌≡◌, ◌+◌, ◌≤◌, length, OnOk};
+ghost use Rattle.std.specs.Prelude.{◌≡◌, length};
 
 use super::*;
-use std::alloc::Global;
 use std::fs;
 use std::test::Fail;
 
@@ -32,6 +31,18 @@ fn a_disk_in_memory_reads_what_was_written(rt: HostRuntime) -> Result<(), Fail> 
     assert_eq!(rt; disk.bytes(), [0, 0, 7, 8, 9, 0, 0, 0].as_slice());
     assert_eq!(rt; disk.calls(), 3);
     assert_eq!(rt; disk.faults(), 0);
+    Ok(())
+}
+
+#[test]
+fn a_disk_that_no_memory_has_room_for_is_refused(rt: HostRuntime) {
+    assert!(rt; MemDisk::new(rt.alloc(), 1 << 63).is_err());
+}
+
+#[test]
+fn a_fault_is_told(rt: HostRuntime) -> Result<(), Fail> {
+    let text = format!(in rt.alloc(); "{}", DeviceFault)?;
+    assert_eq!(rt; text.as_str(), "the device failed");
     Ok(())
 }
 

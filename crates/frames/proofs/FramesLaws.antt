@@ -1,6 +1,6 @@
 -- What a number is in use for after a change of the frames, and what the bytes of a page are after a write.
 use Rattle.std.proofs.Common.{◌≡◌, ◌≢◌, ◌+◌, ◌-◌, ◌<◌, ◌≤◌, ℕ, zero, suc, List, [], ◌∷◌, ◌++◌, length, get_or, set, take, drop, Option, Some, None, is_some, IsSome, slice_get, refl, sym, ap, ◌∙◌, arith}
-use Rattle.std.proofs.lemmas.List.{length-append, length-take-le, length-drop, get_or-set_same, get_or-set_other, get_or_append_left, get_or-append_right, get_or-take, get_or-drop}
+use Rattle.std.proofs.lemmas.List.{append-nil, drop_all, length-append, length-take-le, length-drop, get_or-set_same, get_or-set_other, get_or_append_left, get_or-append_right, get_or-take, get_or-drop}
 use Rattle.std.proofs.lemmas.Option.{slice_get_within, get_or_from_slice_get}
 use Rattle.page_entry.specs.declared.numbers.Owner.{Owner}
 use Rattle.frames.specs.Frames.{Frame, FramesState, frame_at, copy_at, bytes_of, zero_page, overwrite, overwrite_frame, with_frame, without_frame, with_bytes, with_copy, without_copy}
@@ -108,3 +108,7 @@ get_or-overwrite_above page at bytes k d within from =
     let front : length (take at page) ≡ at = length-take-le at page (omega arith) in
     let back : at + length bytes + (k - (at + length bytes)) ≡ k = omega arith in
     get_or-append_right (take at page ++ bytes) (drop (at + length bytes) page) (at + length bytes) k d (omega (arith, length-append (take at page) bytes)) from ∙ get_or-drop (at + length bytes) page (k - (at + length bytes)) d ∙ ap (λ n. get_or page n d) back
+
+-- a write of a whole page leaves nothing of the old one
+pub overwrite-whole : (page bytes : List ℕ) → length bytes ≡ length page → overwrite page 0 bytes ≡ bytes
+overwrite-whole page bytes same = ap (λ rest. bytes ++ rest) (drop_all (0 + length bytes) page (omega arith)) ∙ append-nil bytes

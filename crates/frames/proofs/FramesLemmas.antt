@@ -5,7 +5,7 @@ use Rattle.std.proofs.lemmas.Option.{slice_get-map}
 use Rattle.std.specs.Option.{ok_or, option_map}
 use Rattle.page_entry.specs.declared.refusal.Refusal.{Refusal}
 use Rattle.page_entry.specs.declared.numbers.Owner.{Owner}
-use Rattle.frames.specs.Frames.{Frame, FramesState, bytes_of, owner_of, has_free, zero_page, with_copy, IsPage, HasWholePages}
+use Rattle.frames.specs.Frames.{Frame, FramesState, bytes_of, owner_of, has_free, has_used, zero_page, with_copy, IsPage, HasWholePages}
 use Rattle.frames.specs.Pages.{copy_of}
 use Rattle.frames.proofs.WholePages.{HasWholePages-with_frame, HasWholePages-with_copy_bytes}
 
@@ -24,6 +24,12 @@ pub has_free-copies : (copies : List (Option Frame)) → has_free (map copy_of c
 has_free-copies [] = refl
 has_free-copies (None ∷ copies) = refl
 has_free-copies (Some f ∷ copies) = has_free-copies copies
+
+-- and in use where its page is
+pub has_used-copies : (copies : List (Option Frame)) → has_used (map copy_of copies) ≡ has_used copies
+has_used-copies [] = refl
+has_used-copies (None ∷ copies) = has_used-copies copies
+has_used-copies (Some f ∷ copies) = refl
 
 pub map-replicate_none : (n : ℕ) → map copy_of (replicate n None) ≡ replicate n None
 map-replicate_none zero = refl

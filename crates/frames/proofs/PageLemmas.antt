@@ -6,7 +6,7 @@ use Rattle.std.proofs.lemmas.List.Sums.{count_by-le-length, sum_by-cons}
 use Rattle.std.proofs.lemmas.Bool.{cases_lt, cases_eq}
 use borrow.Rule.Slice.PartMut.{post_of, Post-is}
 use Rattle.page_entry.specs.declared.numbers.Owner.{Owner}
-use Rattle.frames.specs.Frames.{has_free, bytes_of, owner_of, overwrite, overwrite_frame}
+use Rattle.frames.specs.Frames.{has_free, has_used, bytes_of, owner_of, overwrite, overwrite_frame}
 use Rattle.frames.specs.Pages.{frame_of, pages_by, IsKept}
 use Rattle.slab.specs.Slab.{Slab, get, Updates}
 
@@ -72,6 +72,18 @@ none_free-pages_by owner_at (page ∷ pages) all =
     is_none_first : (o : Option Owner) → IsSome o → is_none o ≡ false
     is_none_first None h = absurd (cc)
     is_none_first (Some o) h = refl
+
+-- a number that has a page and an owner is in use
+pub has_used-pages_by : (owner_at : ℕ → Option Owner) (pages : List (List ℕ)) (k : ℕ) → k < length pages → IsSome (owner_at k) → has_used (pages_by owner_at pages) ≡ true
+has_used-pages_by owner_at pages k within used =
+    list_any_at is_some (pages_by owner_at pages) k None (omega (arith, length-pages_by owner_at pages)) (ap is_some (get_or-pages_by owner_at pages k within) ∙ is_some-frame_of (owner_at k) (get_or pages k []) ∙ used)
+
+-- where no number has an owner, none is in use
+pub none_used-pages_by : (owner_at : ℕ → Option Owner) (pages : List (List ℕ)) → ((k : ℕ) → k < length pages → is_some (owner_at k) ≡ false) → has_used (pages_by owner_at pages) ≡ false
+none_used-pages_by owner_at [] none = refl
+none_used-pages_by owner_at (page ∷ pages) none =
+    let later = none_used-pages_by (λ n. owner_at (suc n)) pages (λ k h. none (suc k) (omega arith)) in
+    rw (is_some-frame_of (owner_at 0) page, none 0 (omega arith), later)
 
 -- where as many slots are in use as there are numbers, each number is in use
 pub all_in_use : (slots : List (Option Owner)) (room : ℕ) → length slots ≤ room → count_by is_some slots ≡ room → (k : ℕ) → k < room → IsSome (get_or slots k None)

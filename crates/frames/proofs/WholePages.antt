@@ -1,6 +1,6 @@
 -- Whole pages: a page of zeros, a page that is written into, and that every change of the frames leaves whole pages.
 use Rattle.std.proofs.Common.{◌≡◌, ◌+◌, ◌<◌, ◌≤◌, ℕ, zero, suc, List, [], ◌∷◌, ◌++◌, length, get_or, set, take, drop, replicate, lit<, Option, Some, None, IsSome, refl, ◌∙◌, arith, All}
-use Rattle.std.proofs.lemmas.List.{length-append, length-take-le, length-drop, length-replicate}
+use Rattle.std.proofs.lemmas.List.{length-append, length-take-le, length-drop, length-replicate, get_or-replicate}
 use Rattle.std.proofs.lemmas.List.Elements.{All-append, All-take, All-drop, All-replicate}
 use Rattle.page_entry.specs.declared.numbers.Owner.{Owner}
 use Rattle.frames.specs.Frames.{Frame, FramesState, frame_at, bytes_of, copy_bytes_of, zeros, zero_page, overwrite, overwrite_frame, all_free, with_frame, without_frame, with_bytes, with_copy, without_copy, IsPage, HasWholePages}
@@ -16,6 +16,15 @@ IsPage-zeros n size = record {
 pub IsPage-zero_page : IsPage zero_page
 unfolding zero_page
 IsPage-zero_page = IsPage-zeros 4096 refl
+
+get_or-zeros : (n k d : ℕ) → k < n → get_or (zeros n) k d ≡ 0
+unfolding zeros
+get_or-zeros n k d within = get_or-replicate n k 0 d within
+
+-- each of its bytes is 0
+pub get_or-zero_page : (k d : ℕ) → k < 4096 → get_or zero_page k d ≡ 0
+unfolding zero_page
+get_or-zero_page k d within = get_or-zeros 4096 k d within
 
 -- bytes written into a page leave a page
 pub IsPage-overwrite : (page : List ℕ) (at : ℕ) (bytes : List ℕ) → IsPage page → at + length bytes ≤ 4096 → All (λ byte. byte < 256) bytes → IsPage (overwrite page at bytes)

@@ -1,5 +1,5 @@
 -- What callers see of the frames of a machine: which are in use, for which page of which file, and with what bytes.
-use Rattle.std.specs.Prelude.{◌≡◌, ◌+◌, ◌<◌, ℕ, Bool, List, [], ◌++◌, length, take, drop, replicate, Option, Some, None, is_none, IsSome, slice_index_or, slice_set}
+use Rattle.std.specs.Prelude.{◌≡◌, ◌+◌, ◌<◌, ℕ, Bool, List, [], ◌++◌, length, take, drop, replicate, Option, Some, None, is_none, is_some, IsSome, slice_index_or, slice_set}
 use Rattle.std.specs.List.{list_any, All}
 use Rattle.page_entry.specs.declared.numbers.Owner.{Owner}
 
@@ -39,6 +39,10 @@ copy_bytes_of (Some bytes) = bytes
 -- whether something is free
 abbrev pub has_free : {X : Type 0} → List (Option X) → Bool
 has_free xs = list_any is_none xs
+
+-- whether something is in use
+abbrev pub has_used : {X : Type 0} → List (Option X) → Bool
+has_used xs = list_any is_some xs
 
 -- this many zeros
 unfoldable pub zeros : ℕ → List ℕ

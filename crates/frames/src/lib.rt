@@ -2,8 +2,8 @@
 //! memory is taken when they are made, so that no later call can fail for want of it.
 #![tactic(auto)]
 
-ghost use Rattle.std.specs.Prelude.{◌≡◌, ◌+◌, ◌≤◌, length, Some, None, IfOk, IfErr, IsSome, is_ok, slice_get};
-ghost use Rattle.frames.specs.Frames.{frame_at, copy_at, owner_of, bytes_of, copy_bytes_of, has_free, all_free, with_frame, without_frame, with_bytes, with_copy, without_copy, HasWholePages};
+ghost use Rattle.std.specs.Prelude.{◌≡◌, ◌&&◌, not, ◌+◌, ◌≤◌, length, Some, None, IfOk, IfErr, IsSome, is_ok, slice_get};
+ghost use Rattle.frames.specs.Frames.{frame_at, copy_at, owner_of, bytes_of, copy_bytes_of, has_free, has_used, all_free, with_frame, without_frame, with_bytes, with_copy, without_copy, HasWholePages};
 
 mod pages;
 
@@ -45,6 +45,13 @@ impl<A: Allocator + Copy> Frames<A> {
             frames: Pages::new(alloc, frames)?,
             copies: Pages::new(alloc, copies)?,
         })
+    }
+
+    /// Whether every frame and every copy frame is free.
+    pub fn is_unused(&self) -> bool
+        ensures { result ≡ (not (has_used self.now.frames) && not (has_used self.now.copies)) }
+    {
+        self.frames.is_unused() && self.copies.is_unused()
     }
 
     /// Gives a free frame to a page of a file, its bytes all 0; `NoFrame` exactly where none is free. Which of the free
@@ -155,11 +162,13 @@ mod tests {
     #[test]
     fn copy_keeps_what_was_written(rt: HostRuntime) -> Result<(), Fail> {
         let mut frames = Frames::new(rt.alloc(), 1, 1)?;
+        assert!(rt; frames.is_unused());
         let frame = frames.take(OWNER)?;
         frames.write(frame, 4094, &[65, 66]);
         let copy = frames.copy_out(frame)?;
         assert_eq!(rt; &frames.copy_bytes(copy)[4093..], [0, 65, 66].as_slice());
         frames.give_copy(copy);
+        assert!(rt; !frames.is_unused());
         Ok(())
     }
 }

@@ -1,7 +1,7 @@
 // Pages of 4,096 bytes under numbers, each free or in use.
-ghost use Rattle.std.specs.Prelude.{◌≡◌, ◌+◌, ◌<◌, ◌≤◌, ℕ, vec_len, length, replicate, None, Some, IfOk, IfSome, IfNone, is_some, IsSome, slice_get, slice_set, slice_index_or};
+ghost use Rattle.std.specs.Prelude.{◌≡◌, not, ◌+◌, ◌<◌, ◌≤◌, ℕ, vec_len, length, replicate, None, Some, IfOk, IfSome, IfNone, is_some, IsSome, slice_get, slice_set, slice_index_or};
 ghost use Rattle.slab.specs.Slab.{get, slab_len};
-ghost use Rattle.frames.specs.Frames.{Frame, zero_page, bytes_of, has_free, owner_of, overwrite_frame};
+ghost use Rattle.frames.specs.Frames.{Frame, zero_page, bytes_of, has_free, has_used, owner_of, overwrite_frame};
 
 use page_entry::Owner;
 use slab::Slab;
@@ -39,10 +39,23 @@ impl<A: Allocator + Copy> Pages<A> {
         Ok(Pages { owners, bytes })
     }
 
+    // Whether each page is free.
+    pub(crate) fn is_unused(&self) -> bool
+        ensures { result ≡ not (has_used self.now) }
+    {
+        for number in 0..self.bytes.len() {
+            if self.owners.contains(number) {
+                return false;
+            }
+        }
+        true
+    }
+
     // Gives a free page to this owner, with these bytes; none where each is in use.
     pub(crate) fn insert(&mut self, owner: Owner, bytes: &[u8; 4096]) -> Option<u32>
         ensures was_free { IfSome result (λ number. slice_get self.old number ≡ Some None) }
-        ensures page { IfSome result (λ number. self.new ≡ slice_set self.old number (Some (record { owner = owner; bytes = bytes.now }))) }
+        ensures page { IfSome result (λ number. self.new
+            ≡ slice_set self.old number (Some (record { owner = owner; bytes = bytes.now }))) }
         ensures free { is_some result ≡ has_free self.old }
         ensures none_free { IfNone result (self.new ≡ self.old) }
     {
@@ -85,7 +98,9 @@ impl<A: Allocator + Copy> Pages<A> {
     pub(crate) fn write(&mut self, number: u32, at: usize, bytes: &[u8])
         requires in_use { IsSome (slice_index_or self.old number None) }
         requires within { at + length bytes.now ≤ 4096 }
-        ensures { self.new ≡ slice_set self.old number (overwrite_frame (slice_index_or self.old number None) at bytes.now) }
+        ensures { self.new
+            ≡ slice_set self.old number
+            (overwrite_frame (slice_index_or self.old number None) at bytes.now) }
     {
         let page = &mut self.bytes[number as usize];
         page[at..at + bytes.len()].copy_from_slice(bytes);
@@ -113,8 +128,11 @@ pub(crate) fn zero_bytes() -> [u8; 4096]
 // A slab that gives out the numbers below `count`, the lowest first, and no other.
 fn numbers_below<A: Allocator>(alloc: A, count: usize) -> Result<Slab<Owner, A>, AllocError>
     ensures room { IfOk result (λ owners. count ≤ owners.capacity) }
-    ensures free { IfOk result (λ owners. (number : ℕ) → number < count → get owners number ≡ None) }
-    ensures reserved { IfOk result (λ owners. (number : ℕ) → count ≤ number → number < owners.capacity → IsSome (get owners number)) }
+    ensures free { IfOk result
+        (λ owners. (number : ℕ) → number < count → get owners number ≡ None) }
+    ensures reserved { IfOk result
+        (λ owners. (number : ℕ) → count ≤ number → number < owners.capacity
+        → IsSome (get owners number)) }
 {
     let mut owners = Slab::with_capacity(alloc, count)?;
     give_out_all(&mut owners);

@@ -2,10 +2,11 @@
 use Rattle.std.specs.Prelude.{ℕ, ◌+◌, ◌/◌, ◌%◌, ◌^◌, Bool, not, ◌&&◌, ◌==◌, nat_le, nat_lt, if◌then◌else◌, Option, Some, None, Result, Ok, Err}
 use Rattle.std.specs.Int.{div_ceil}
 use Rattle.page_entry.specs.declared.refusal.Refusal.{Refusal}
-use Rattle.page_entry.specs.declared.refusal.Refusal.TheVariants.{Einval, Eacces, Overlap}
+use Rattle.page_entry.specs.declared.refusal.Refusal.TheVariants.{Einval, Enomem, Eacces, Overlap}
 use Rattle.mappings.specs.declared.place.Place.{Place}
+use Rattle.mappings.specs.declared.place.Rights.{Rights}
 use Rattle.mappings.specs.declared.page_range.PageRange.{PageRange}
-use Rattle.mappings.specs.Places.{Places, allows, any_mapped}
+use Rattle.mappings.specs.Places.{Places, allows, any_mapped, all_mapped, any_forbids}
 
 -- the pages that hold the len bytes from va on
 abbrev pub pages_holding : ℕ → ℕ → PageRange
@@ -34,3 +35,19 @@ add_refusal places range place =
     if not (is_mappable range place.page) then Some Einval
     else (if not (allows place.access place.rights) then Some Eacces
     else (if any_mapped places range.first range.count then Some Overlap else None))
+
+-- why these pages can't be unmapped
+abbrev pub remove_refusal : PageRange → Option Refusal
+remove_refusal range = if is_user_range range then None else Some Einval
+
+-- why the mappings of these pages can't be given the rights
+abbrev pub protect_refusal : Places → PageRange → Rights → Option Refusal
+protect_refusal places range rights =
+    if not (is_user_range range) then Some Einval
+    else (if not (all_mapped places range.first range.count) then Some Enomem
+    else (if any_forbids places range.first range.count rights then Some Eacces else None))
+
+-- what a call answers that is refused only for this reason
+abbrev pub answer : Option Refusal → Result (Unit {0}) Refusal
+answer None = Ok tt
+answer (Some why) = Err why

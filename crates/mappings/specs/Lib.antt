@@ -2,3 +2,4 @@ pub mod Places
 pub mod Judgement
 pub mod State
 pub mod Listed
+pub mod Edits

@@ -1,5 +1,6 @@
 -- The pages of an address space that are mapped, each with its place in a file.
-use Rattle.std.specs.Prelude.{ℕ, zero, suc, ◌+◌, Bool, true, false, not, ◌&&◌, ◌||◌, ◌==◌, nat_le, nat_lt, if◌then◌else◌, List, map, filter}
+use Rattle.std.specs.Prelude.{ℕ, zero, suc, ◌+◌, ◌-◌, Bool, true, false, not, ◌&&◌, ◌||◌, ◌==◌, nat_le, nat_lt, if◌then◌else◌, Option, Some, List, map, filter}
+use Rattle.std.specs.Option.{option_map_or}
 use Rattle.std.specs.List.{list_any, list_all, range_with_len}
 use Rattle.std.specs.Ordering.{nat_cmp}
 use Rattle.std.specs.FinMap as fin_map
@@ -15,6 +16,12 @@ may_write ReadWrite = true
 -- whether a mapping with these rights may be had with this access
 abbrev pub allows : Rights → Rights → Bool
 allows access rights = may_write access || not (may_write rights)
+
+-- whether they are the same
+abbrev pub same_rights : Rights → Rights → Bool
+same_rights Read Read = true
+same_rights ReadWrite ReadWrite = true
+same_rights _ _ = false
 
 -- each mapped page with its place
 abbrev pub Places : Type 0
@@ -49,6 +56,23 @@ any_mapped places first count = list_any (fin_map.contains_key places) (range_wi
 -- whether each of the count pages from first on is mapped
 abbrev pub all_mapped : Places → ℕ → ℕ → Bool
 all_mapped places first count = list_all (fin_map.contains_key places) (range_with_len first count)
+
+-- whether a page of the count pages from first on is mapped with an access that doesn't allow the rights
+abbrev pub any_forbids : Places → ℕ → ℕ → Rights → Bool
+any_forbids places first count rights = list_any (λ q. option_map_or (λ place. not (allows place.access rights)) (fin_map.get places q) false) (range_with_len first count)
+
+-- whether the second is the place right after the first in one file, with the same rights and access
+abbrev pub follows : Option Place → Option Place → Bool
+follows (Some p) (Some q) = p.file == q.file && p.page + 1 == q.page && same_rights p.rights q.rights && same_rights p.access q.access
+follows _ _ = false
+
+-- whether a mapping goes on from the page before this one
+abbrev pub goes_on : Places → ℕ → Bool
+goes_on places page = follows (fin_map.get places (page - 1)) (fin_map.get places page)
+
+-- how many of the two ends of count pages from first on are within a mapping, which a change of these pages splits there
+abbrev pub splits : Places → ℕ → ℕ → ℕ
+splits places first count = (if goes_on places first then 1 else 0) + (if goes_on places (first + count) then 1 else 0)
 
 -- the pages that map this page of this file, in rising order
 abbrev pub pages_mapping : Places → ℕ → ℕ → List ℕ

@@ -1,6 +1,6 @@
 // What a page of an address space maps.
-ghost use Rattle.std.specs.Prelude.{◌≡◌};
-ghost use Rattle.mappings.specs.Places.{may_write, allows};
+ghost use Rattle.std.specs.Prelude.{◌≡◌, Some};
+ghost use Rattle.mappings.specs.Places.{may_write, allows, follows};
 
 use page_entry::{FileNumber, FilePage};
 
@@ -38,4 +38,16 @@ pub struct Place {
     pub page: FilePage,
     pub rights: Rights,
     pub access: Rights,
+}
+
+impl Place {
+    // Whether it is the place right after the other in one file, with the same rights and access.
+    pub(crate) fn follows(self, before: Place) -> bool
+        ensures { result ≡ follows (Some before) (Some self) }
+    {
+        before.file == self.file
+            && u64::from(before.page) + 1 == u64::from(self.page)
+            && before.rights == self.rights
+            && before.access == self.access
+    }
 }

@@ -1,3 +1,4 @@
 pub mod Entries
+pub mod Dirty
 mod Lookup
 mod Merge

@@ -151,10 +151,11 @@ pub grown_slot : (slots : List Slot) (page : ℕ) → sets.contains (table_of sl
 grown_slot slots page = sets.contains-from_list_nat (pages slots) page
 
 -- no slots are the empty table
-pub table_of-nil : table_of [] ≡ empty_table
-table_of-nil =
+pub empty_slots : (slots : List Slot) → slots ≡ [] → table_of slots ≡ empty_table
+empty_slots slots none =
     let same : (table_of []).entries ≡ empty_table.entries = same_entries _ _ (λ q. get_entry [] tt q ∙ sym (get-empty_table q)) in
-    λ k. record { entries = same k; grown = sets.empty }
+    let nothing : table_of [] ≡ empty_table = λ k. record { entries = same k; grown = sets.empty } in
+    ap table_of none ∙ nothing
 
 -- the entries of a table are the present ones, in their order
 pub entries-table_of : (slots : List Slot) → IsRising (pages slots) → maps.entries (table_of slots).entries ≡ present slots

@@ -33,6 +33,7 @@ impl<A: Allocator + Copy> Model for Table<A> {
 
 impl<A: Allocator + Copy> Table<A> {
     /// A table that maps nothing and has grown nowhere. It takes no memory yet.
+    #[tactic(auto, using(crate::proofs::Lookup::empty_slots))]
     pub fn new(alloc: A) -> Self
         ensures { result ≡ empty_table }
     {

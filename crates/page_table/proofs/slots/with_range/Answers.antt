@@ -1,4 +1,4 @@
-use Rattle.std.proofs.Common.{◌≡◌, ◌++◌, length, arith, ap, ◌∙◌, subst, rules, ltb}
+use Rattle.std.proofs.Common.{◌≡◌, length, arith, ap, subst, rules, ltb}
 use Rattle.std.proofs.lemmas.Fn.{always_returns_same}
 use Rattle.page_table.proofs.Lookup.{smaller_first}
 use Rattle.page_table.proofs.Merge.{IsMergedTo, merged_none, merged_here, merged_new}
@@ -9,9 +9,9 @@ use Rattle.page_table.proofs.slots.with_range.Goals as goal
 pub loop-page-init : goal.loop-page-init
 loop-page-init g c =
     let first = c.args.range.start in
-    let sides = c.partition_point.ensures.partitioned (λ slot. ltb slot.0 first) (always_returns_same _ _ _ (λ a r f' called. (search rules, search rules))) (smaller_first _ first c.requires) in
-    let taken = c.in_ok-extend_from_slice.ensures.items ∙ ap (λ slots. slots ++ c.split_at.result.0.now) c.in_ok-grown.ensures.items ∙ c.split_at.ensures.front in
-    rw (taken, c.split_at.ensures.back) (merged_none first _ _ c.requires c.partition_point.ensures.bound sides.0 sides.1)
+    let sides = c.partition_point.ensures.partitioned (λ slot. ltb slot.0 first) (always_returns_same _ _ _ (λ a r f' called. (search rules, search rules))) (smaller_first c.args.slots.now first c.requires) in
+    rw (c.in_ok-extend_from_slice.ensures.items, c.in_ok-grown.ensures.items, c.split_at.ensures.front, c.split_at.ensures.back)
+    (merged_none first _ _ c.requires c.partition_point.ensures.bound sides.0 sides.1)
 
 -- the page's old slot goes over, or the page gets a new one
 pub loop-page-preserved : goal.loop-page-preserved

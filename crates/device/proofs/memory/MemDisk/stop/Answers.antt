@@ -1,4 +1,4 @@
-use Rattle.std.proofs.Common.{◌≡◌, ◌-◌, ◌+◌, ◌^◌, ℕ, List, [], length, min, get_or, cond, Bool, false, sym, ◌∙◌, ap, subst, arith}
+use Rattle.std.proofs.Common.{◌≡◌, ◌-◌, ◌+◌, ◌^◌, ℕ, List, [], length, min, sym, ◌∙◌, ap, subst, arith}
 use Rattle.std.proofs.lemmas.List.{with_items_is}
 use Rattle.device.specs.Device.{Only}
 use Rattle.device.specs.Memory.{Recorded, seen_of, may_leave_of, is_unsynced, chosen_from, after_stop}
@@ -13,19 +13,16 @@ returns-clause-stopped g c =
     let content_is = c.self.invariant.replayed in
     let before_is = c.deref_mut.ensures.value in
     let marks_are = c.deref.ensures.value in
-    let long : length c.choose.new.content ≡ length fields.content.items = c.choose.ensures.len ∙ ap (λ (l : List ℕ). length l) before_is in
+    let long : length c.choose.new.content ≡ length fields.content.items = ◌∙◌ {A = ℕ} c.choose.ensures.len (ap (λ (l : List ℕ). length l) before_is) in
     let copied : c.copy_from_slice.new.self.items ≡ c.choose.new.content =
-    c.copy_from_slice.ensures.items ∙ c.deref-2.ensures.value ∙ with_items_is fields.content c.choose.new.content (omega (arith, long, fields.content.ok.0)) in
+    ◌∙◌ {A = List ℕ} c.copy_from_slice.ensures.items (◌∙◌ {A = List ℕ} c.deref-2.ensures.value (with_items_is fields.content c.choose.new.content (omega (arith, long, fields.content.ok.0)))) in
     let now : Recorded = record { first = fields.first.items; changes = changes; start = fields.start; calls = fields.calls; faults = fields.faults } in
     let same : length c.args.choice.now ≡ length fields.content.items = c.requires ∙ ap (λ (d : Recorded). length (seen_of d)) (sym c.self.view_is) ∙ ap length (sym content_is) in
     let chosen : c.choose.new.content ≡ chosen_from (is_unsynced changes) 0 c.args.choice.now fields.content.items =
-    chosen_all (is_unsynced changes) fields.unsynced.items c.args.choice.now fields.content.items c.choose.new.content same long c.self.invariant.marked (λ i lt.
-    c.choose.ensures.chosen i (omega (arith, lt, ap (λ (l : List ℕ). length l) before_is))
-    ∙ ap (λ (l : List ℕ). cond (get_or c.deref.result.now i false) (get_or c.args.choice.now i 0) (get_or l i 0)) before_is
-    ∙ ap (λ (m : List Bool). cond (get_or m i false) (get_or c.args.choice.now i 0) (get_or fields.content.items i 0)) marks_are) in
-    let none : changes_of c.clear-2.new.self.items ≡ [] = ap changes_of c.clear-2.ensures.items in
-    let start_is : c.saturating_add-self-inside.result ≡ min (fields.start + length changes) (2 ^ 64 - 1) = c.saturating_add-self-inside.ensures ∙ ap (λ n. min (fields.start + n) (2 ^ 64 - 1)) (c.len.ensures ∙ fields.log.ok.0 ∙ sym (length-changes_of fields.log.items)) in
-    stopped_of now c.args.choice.now c.copy_from_slice.new.self.items (changes_of c.clear-2.new.self.items) c.saturating_add-self-inside.result
+    chosen_all (is_unsynced changes) fields.unsynced.items c.deref.result.now c.args.choice.now fields.content.items c.deref_mut.result.now c.choose.new.content before_is marks_are same c.choose.ensures.len c.self.invariant.marked c.choose.ensures.chosen in
+    let none : changes_of c.clear.new.self.items ≡ [] = ap changes_of c.clear.ensures.items in
+    let start_is : c.saturating_add-self-inside.result ≡ min (fields.start + length changes) (2 ^ 64 - 1) = ◌∙◌ {A = ℕ} c.saturating_add-self-inside.ensures (ap (λ n. min (fields.start + n) (2 ^ 64 - 1)) (c.len.ensures ∙ fields.log.ok.0 ∙ sym (length-changes_of fields.log.items))) in
+    stopped_of now c.args.choice.now c.copy_from_slice.new.self.items (changes_of c.clear.new.self.items) c.saturating_add-self-inside.result
     (copied ∙ chosen ∙ ap (chosen_from (is_unsynced changes) 0 c.args.choice.now) content_is) none start_is
     ∙ ap (λ (d : Recorded). after_stop d c.args.choice.now) c.self.view_is
 

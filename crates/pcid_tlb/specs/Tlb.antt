@@ -1,0 +1,73 @@
+-- A translation lookaside buffer whose entries are tagged with a PCID, and what fills and invalidations make of it
+-- (Intel SDM volume 3, "Caching Translation Information" and "Invalidation of TLBs and Paging-Structure Caches").
+use Rattle.std.specs.Prelude.{◌≡◌, ◌<◌, ◌≤◌, ℕ, Bool, ◌&&◌, not, ◌==◌, nat_lt, if◌then◌else◌, List, ◌∷◌, [], ◌++◌, length, drop, Option}
+use Rattle.std.specs.List.{filter, find, remove, AllPairs}
+use Rattle.pcid_tlb.specs.declared.CachedEntry.{CachedEntry}
+use Rattle.pcid_tlb.specs.declared.Invpcid.{Invpcid}
+use Rattle.pcid_tlb.specs.declared.Invpcid.TheVariants.{IndividualAddress, SingleContext, AllContextsAndGlobals, AllContexts}
+
+-- how many entries fit, and the entries that are cached, oldest first
+pub record TlbState : Type 0 where
+  pub capacity : ℕ
+  pub entries : List CachedEntry
+
+-- whether an entry is one of this PCID
+abbrev pub is_of_pcid : ℕ → CachedEntry → Bool
+is_of_pcid pcid e = e.pcid == pcid
+
+-- whether an entry translates this page of this PCID
+abbrev pub is_of : ℕ → ℕ → CachedEntry → Bool
+is_of pcid page e = e.pcid == pcid && e.page == page
+
+-- the entry that a translation of a page of a PCID goes through
+abbrev pub cached : TlbState → ℕ → ℕ → Option CachedEntry
+cached t pcid page = find (is_of pcid page) t.entries
+
+-- with only the entries that pass
+abbrev pub keep_entries : (CachedEntry → Bool) → TlbState → TlbState
+keep_entries test t = record t { entries = filter test t.entries }
+
+-- without the entry of this page of this PCID
+abbrev pub without_page : TlbState → ℕ → ℕ → TlbState
+without_page t pcid page = keep_entries (λ e. not (is_of pcid page e)) t
+
+-- without the entries of this PCID
+abbrev pub without_pcid : TlbState → ℕ → TlbState
+without_pcid t pcid = keep_entries (λ e. not (is_of_pcid pcid e)) t
+
+-- without any entry
+abbrev pub emptied : TlbState → TlbState
+emptied t = record t { entries = [] }
+
+-- without the entries that one form of INVPCID names
+abbrev pub invalidated : TlbState → Invpcid → TlbState
+invalidated t (IndividualAddress pcid page) = without_page t pcid page
+invalidated t (SingleContext pcid) = without_pcid t pcid
+invalidated t AllContextsAndGlobals = emptied t
+invalidated t AllContexts = emptied t
+
+-- after a load of CR3 with this PCID, and with or without the bit that keeps its entries
+abbrev pub cr3_loaded : TlbState → ℕ → Bool → TlbState
+cr3_loaded t pcid keep = if keep then t else without_pcid t pcid
+
+-- the entries without the oldest, where they are as many as fit
+abbrev pub with_room : ℕ → List CachedEntry → List CachedEntry
+with_room capacity entries = if nat_lt (length entries) capacity then entries else drop 1 entries
+
+-- with an entry as the newest, in the place of one of its page and PCID, or of the oldest where no other fits
+abbrev pub filled : TlbState → CachedEntry → TlbState
+filled t e = record t { entries = with_room t.capacity (filter (λ x. not (is_of e.pcid e.page x)) t.entries) ++ e ∷ [] }
+
+-- without the entry in a slot, counted from the oldest
+abbrev pub evicted : TlbState → ℕ → TlbState
+evicted t slot = record t { entries = remove t.entries slot }
+
+-- two entries are not of one page of one PCID
+abbrev pub AreApart : CachedEntry → CachedEntry → Type 0
+AreApart a b = a.pcid ≡ b.pcid → a.page ≡ b.page → ⊥
+
+-- at least one entry fits, no more are cached than fit, and at most one for each page of each PCID
+pub record IsTlb (t : TlbState) : Type 0 where
+  pub roomy : 0 < t.capacity
+  pub bounded : length t.entries ≤ t.capacity
+  pub distinct : AllPairs AreApart t.entries

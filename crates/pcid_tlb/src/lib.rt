@@ -1,0 +1,204 @@
+//! The translation lookaside buffer of one processor: a list of cached page entries, tagged with process-context
+//! identifiers (PCIDs).
+#![tactic(auto)]
+
+ghost use Rattle.std.specs.Prelude.{◌≡◌, ◌==◌, ◌<◌, [], length, nat_lt, IfOk};
+ghost use Rattle.pcid_tlb.specs.Tlb.{cached, filled, evicted, without_page, without_pcid, invalidated, emptied, cr3_loaded, IsTlb};
+
+use page_entry::{FrameNumber, PageNumber, Pcid};
+use std::alloc::{AllocError, Allocator, Global};
+use std::marker::Model;
+
+/// What a TLB caches of a present page entry.
+#[derive(Clone, Copy, Debug, PartialEq, Eq)]
+pub struct CachedEntry {
+    pub pcid: Pcid,
+    pub page: PageNumber,
+    pub frame: FrameNumber,
+    pub writable: bool,
+    pub dirty: bool,
+}
+
+/// What an INVPCID instruction invalidates, in the order of its types 0 to 3 (Intel SDM volume 2, "INVPCID"). No entry
+/// here is global, so the last two do the same.
+#[derive(Clone, Copy, Debug, PartialEq, Eq)]
+pub enum Invpcid {
+    /// Type 0: one page of one PCID.
+    IndividualAddress(Pcid, PageNumber),
+    /// Type 1: all of one PCID.
+    SingleContext(Pcid),
+    /// Type 2: everything, with global entries.
+    AllContextsAndGlobals,
+    /// Type 3: everything but global entries.
+    AllContexts,
+}
+
+/// A TLB of a fixed capacity: the cached entries, oldest first, at most one for each page of each PCID. It takes its
+/// memory when it is made.
+#[derive(Drop)]
+pub struct Tlb<A: Allocator + Copy = Global> {
+    capacity: usize,
+    entries: Vec<CachedEntry, A>,
+}
+
+impl<A: Allocator + Copy> Model for Tlb<A> {
+    ghost use Rattle.std.specs.Prelude.{◌≤◌, vec_capacity};
+    ghost use Rattle.pcid_tlb.specs.Tlb.{TlbState, IsTlb};
+
+    ghost Value = { TlbState };
+
+    ghost view = { λ t. record { capacity = t.capacity; entries = t.entries.items } };
+
+    ghost invariant = { λ t.
+        IsTlb (record { capacity = t.capacity; entries = t.entries.items })
+        × (t.capacity ≤ vec_capacity t.entries) };
+}
+
+impl<A: Allocator + Copy> Tlb<A> {
+    /// An empty TLB for at most `capacity` entries, at least 1. Fails where memory is refused.
+    pub fn new(alloc: A, capacity: usize) -> Result<Self, AllocError>
+        requires { 0 < capacity }
+        ensures { IfOk result (λ tlb. tlb ≡ record { capacity = capacity; entries = [] }) }
+    {
+        Ok(Tlb {
+            capacity,
+            entries: Vec::with_capacity(alloc, capacity)?,
+        })
+    }
+
+    /// How many entries are cached.
+    pub fn len(&self) -> usize
+        ensures { result ≡ length self.now.entries }
+    {
+        self.entries.len()
+    }
+
+    /// Whether no entry is cached.
+    pub fn is_empty(&self) -> bool
+        ensures { result ≡ (length self.now.entries == 0) }
+    {
+        self.entries.is_empty()
+    }
+
+    /// The cached entry of a page of a PCID, if there is one.
+    pub fn lookup(&self, pcid: Pcid, page: PageNumber) -> Option<CachedEntry>
+        ensures found { result ≡ cached self.now pcid page }
+        ensures sound { IsTlb self.now }
+    {
+        self.entries
+            .iter()
+            .find(|e| e.pcid == pcid && e.page == page)
+            .copied()
+    }
+
+    /// Caches an entry as the newest. It replaces one of its page and PCID; where the TLB is full without such a one, the
+    /// oldest is dropped.
+    pub fn fill(&mut self, entry: CachedEntry)
+        ensures { self.new ≡ filled self.old entry }
+    {
+        self.invlpg(entry.pcid, entry.page);
+        if self.entries.len() == self.capacity {
+            self.entries.remove(0);
+        }
+        self.entries.push_reserved(entry);
+    }
+
+    /// Drops the entry in a slot, counted from 0, the oldest; false where there is no such slot.
+    pub fn evict(&mut self, slot: usize) -> bool
+        ensures dropped { result ≡ nat_lt slot (length self.old.entries) }
+        ensures rest { self.new ≡ evicted self.old slot }
+    {
+        if slot >= self.entries.len() {
+            return false;
+        }
+        self.entries.remove(slot);
+        true
+    }
+
+    /// Drops the entry of a page of a PCID, as INVLPG does where that PCID is current (Intel SDM volume 3, "Operations
+    /// that Invalidate TLBs and Paging-Structure Caches", as for the next two).
+    pub fn invlpg(&mut self, pcid: Pcid, page: PageNumber)
+        ensures { self.new ≡ without_page self.old pcid page }
+    {
+        self.entries.retain(|e| !(e.pcid == pcid && e.page == page));
+    }
+
+    /// Drops the entries that INVPCID names.
+    pub fn invpcid(&mut self, kind: Invpcid)
+        ensures { self.new ≡ invalidated self.old kind }
+    {
+        match kind {
+            Invpcid::IndividualAddress(pcid, page) => self.invlpg(pcid, page),
+            Invpcid::SingleContext(pcid) => self.drop_pcid(pcid),
+            Invpcid::AllContextsAndGlobals | Invpcid::AllContexts => self.entries.clear(),
+        }
+    }
+
+    /// Loads CR3 with a PCID: drops that PCID's entries unless bit 63 of the new value keeps them.
+    pub fn load_cr3(&mut self, pcid: Pcid, keep: bool)
+        ensures { self.new ≡ cr3_loaded self.old pcid keep }
+    {
+        if !keep {
+            self.drop_pcid(pcid);
+        }
+    }
+
+    fn drop_pcid(&mut self, pcid: Pcid)
+        ensures { self.new ≡ without_pcid self.old pcid }
+    {
+        self.entries.retain(|e| e.pcid != pcid);
+    }
+}
+
+#[cfg(test)]
+mod tests {
+    use super::{CachedEntry, Invpcid, Tlb};
+    use std::test::Fail;
+
+    const FIRST: CachedEntry = CachedEntry {
+        pcid: 1,
+        page: 5,
+        frame: 9,
+        writable: false,
+        dirty: false,
+    };
+
+    #[test]
+    fn full_tlb_drops_the_oldest(rt: HostRuntime) -> Result<(), Fail> {
+        let mut tlb = Tlb::new(rt.alloc(), 2)?;
+        let other_space = CachedEntry { pcid: 2, ..FIRST };
+        tlb.fill(FIRST);
+        tlb.fill(other_space);
+        let written = CachedEntry {
+            writable: true,
+            dirty: true,
+            ..FIRST
+        };
+        tlb.fill(written);
+        assert_eq!(rt; tlb.lookup(2, 5), Some(other_space));
+        tlb.fill(CachedEntry { page: 6, ..FIRST });
+        assert_eq!(rt; tlb.lookup(2, 5), None);
+        assert_eq!(rt; tlb.lookup(1, 5), Some(written));
+        assert_eq!(rt; tlb.len(), 2);
+        Ok(())
+    }
+
+    #[test]
+    fn invalidations_drop_what_they_name(rt: HostRuntime) -> Result<(), Fail> {
+        let mut tlb = Tlb::new(rt.alloc(), 4)?;
+        let other_space = CachedEntry { pcid: 2, ..FIRST };
+        tlb.fill(FIRST);
+        tlb.fill(other_space);
+        tlb.invlpg(1, 5);
+        assert_eq!(rt; tlb.lookup(1, 5), None);
+        tlb.load_cr3(2, true);
+        assert_eq!(rt; tlb.lookup(2, 5), Some(other_space));
+        tlb.load_cr3(2, false);
+        assert_eq!(rt; tlb.lookup(2, 5), None);
+        tlb.fill(FIRST);
+        tlb.invpcid(Invpcid::AllContexts);
+        assert!(rt; tlb.is_empty());
+        assert_eq!(rt; tlb.evict(0), false);
+        Ok(())
+    }
+}
