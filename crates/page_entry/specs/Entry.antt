@@ -31,19 +31,22 @@ pub record IsEntry (n : ℕ) : Type 0 where
   pub named : bits_of (entry_of n) ≡ n
   pub small : n / 4096 < 2 ^ 32
 
--- an absent entry allows nothing and has frame 0
+-- whether the entry allows a store; an absent one allows nothing
 abbrev pub is_writable : Option Mapped → Bool
 is_writable None = false
 is_writable (Some m) = m.writable
 
+-- whether a walk used the entry
 abbrev pub is_accessed : Option Mapped → Bool
 is_accessed None = false
 is_accessed (Some m) = m.accessed
 
+-- whether a walk for a store used the entry
 abbrev pub is_dirty : Option Mapped → Bool
 is_dirty None = false
 is_dirty (Some m) = m.dirty
 
+-- the frame that is mapped; 0 in an absent entry
 abbrev pub frame_of : Option Mapped → ℕ
 frame_of None = 0
 frame_of (Some m) = m.frame
@@ -52,23 +55,27 @@ frame_of (Some m) = m.frame
 abbrev pub blank : Mapped
 blank = record { frame = 0; writable = false; accessed = false; dirty = false }
 
--- an entry that is made present is blank where it wasn't; an absent one stays absent under every other change
+-- the entry made present, blank where it wasn't, or made absent
 abbrev pub with_present_of : Option Mapped → Bool → Option Mapped
 with_present_of e true = Some (unwrap_or e blank)
 with_present_of e false = None
 
+-- the entry with or without the right to write; an absent entry stays absent, here and below
 abbrev pub with_writable_of : Option Mapped → Bool → Option Mapped
 with_writable_of None b = None
 with_writable_of (Some m) b = Some (record m { writable = b })
 
+-- the entry with or without the accessed bit
 abbrev pub with_accessed_of : Option Mapped → Bool → Option Mapped
 with_accessed_of None b = None
 with_accessed_of (Some m) b = Some (record m { accessed = b })
 
+-- the entry with or without the dirty bit
 abbrev pub with_dirty_of : Option Mapped → Bool → Option Mapped
 with_dirty_of None b = None
 with_dirty_of (Some m) b = Some (record m { dirty = b })
 
+-- the entry mapping another frame
 abbrev pub with_frame_of : Option Mapped → ℕ → Option Mapped
 with_frame_of None f = None
 with_frame_of (Some m) f = Some (record m { frame = f })

@@ -1,6 +1,6 @@
 -- Where the first journal and the home blocks lie.
-use Rattle.std.proofs.Common.{◌≡◌, ℕ, ◌+◌, ◌-◌, ◌*◌, ◌<◌, ◌≤◌, arith}
-use Rattle.volume_codec.specs.Layout.{Layout, layout_one, gate_block, descriptor_block, record_block, first_home}
+use Rattle.std.proofs.Common.{◌≡◌, ℕ, ◌+◌, ◌<◌, arith}
+use Rattle.volume_codec.specs.Layout.{layout_one, gate_block, descriptor_block, record_block, first_home}
 
 pub gate_block-first : (slots : ℕ) → gate_block slots 0 ≡ 1
 gate_block-first slots = omega arith

@@ -1,0 +1,11 @@
+pub mod Applied
+pub mod Blank
+pub mod BlockRanges
+pub mod Erased
+pub mod FileBytes
+pub mod FirstOpening
+pub mod Opened
+pub mod Refusals
+pub mod Replayed
+pub mod Unique
+pub mod Unwritten

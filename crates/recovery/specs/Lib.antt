@@ -1,0 +1,5 @@
+pub mod Counts
+pub mod Volume
+pub mod Format
+pub mod Opening
+pub mod Journal
