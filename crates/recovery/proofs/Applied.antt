@@ -1,11 +1,11 @@
 -- What writing records to their home blocks, one by one, leaves.
-use Rattle.std.proofs.Common.{◌≡◌, ◌≢◌, ◌<◌, ◌≤◌, ℕ, ◌+◌, ◌*◌, List, [], ◌∷◌, length, slice_index, inl, inr, ⊎_elim, refl, sym, ◌∙◌, ap, subst, arith}
+use Rattle.std.proofs.Common.{◌≡◌, ◌<◌, ◌≤◌, ℕ, ◌+◌, ◌*◌, List, [], ◌∷◌, length, slice_index, inl, inr, refl, sym, ◌∙◌, ap, subst, arith}
 use Rattle.std.proofs.lemmas.Bool.{cases_eq}
 use Rattle.device.specs.Device.{written, Torn, TornFrom, Only}
 use Rattle.device.proofs.Ranges.{torn_by_write}
 use Rattle.volume_codec.specs.Layout.{block_at}
-use Rattle.recovery.specs.Journal.{AreTargets, IsNoneOf, AgreesOutside, AgreesFrom, AreApplied, IsCarriedOut, CarriedFrom}
-use Rattle.recovery.proofs.BlockRanges.{block_at-other, block_at-written, length-block_at, gate-written}
+use Rattle.recovery.specs.Journal.{AreTargets, AgreesOutside, AgreesFrom, AreApplied, IsCarriedOut, CarriedFrom}
+use Rattle.recovery.proofs.BlockRanges.{block_at-other, block_at-written, gate-written}
 
 pub agrees_itself : (homes old : List ℕ) → AgreesOutside homes old old
 agrees_itself homes old = record { same_length = refl; same = λ b none. refl }

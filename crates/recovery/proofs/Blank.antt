@@ -1,17 +1,16 @@
 -- A volume whose home blocks are zeros has files of zeros.
-use Rattle.std.proofs.Common.{◌≡◌, ◌≢◌, ◌⊎◌, ◌<◌, ◌≤◌, ℕ, zero, suc, ◌+◌, ◌*◌, List, [], ◌∷◌, ◌++◌, length, take, replicate, slice_index, map, inl, inr, refl, sym, ◌∙◌, ap, subst, arith, add-zero}
+use Rattle.std.proofs.Common.{◌≡◌, ◌<◌, ◌≤◌, ℕ, zero, suc, ◌+◌, ◌*◌, List, [], ◌∷◌, ◌++◌, length, take, replicate, slice_index, inl, inr, refl, sym, ◌∙◌, ap, subst, arith}
 use Rattle.device.specs.Device.{written, Torn}
 use Rattle.device.proofs.Ranges.{length-written, torn_by_write, torn_after}
 use Rattle.volume_codec.specs.Files.{File}
 use Rattle.volume_codec.specs.Layout.{layout_one, block_at, first_home}
 use Rattle.volume_codec.specs.Text.{zeros}
-use Rattle.volume_codec.specs.Super.{FileSpec, SuperValue, Fits, pages_of, total_pages, block_count, super_text}
-use Rattle.volume_codec.specs.Recovery.{blocks_from, files_from, IsVolume}
+use Rattle.volume_codec.specs.Super.{FileSpec, SuperValue, pages_of, total_pages, block_count, super_text}
+use Rattle.volume_codec.specs.Recovery.{blocks_from, files_from}
 use Rattle.volume_codec.proofs.Padding.{zeros-append, take-zeros}
-use Rattle.recovery.specs.Volume.{files_of}
 use Rattle.recovery.specs.Format.{IsBlank, HasShape, zero_files}
 use Rattle.recovery.specs.Journal.{IsErased}
-use Rattle.recovery.proofs.BlockRanges.{block_at-before, block_at-after, block_at-other, block_at-written, gate-written, gate_place}
+use Rattle.recovery.proofs.BlockRanges.{block_at-other, block_at-written, gate-written, gate_place}
 
 blocks_from_zeros : (block : ℕ → List ℕ) (b n : ℕ) → ((i : ℕ) → b ≤ i → i < b + n → block i ≡ zeros 4096) → blocks_from block b n ≡ zeros (4096 * n)
 unfolding zeros

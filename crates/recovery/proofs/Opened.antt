@@ -1,12 +1,12 @@
 -- A volume is opened: what its journal's records leave, and what a crash leaves meanwhile.
-use Rattle.std.proofs.Common.{◌≡◌, ◌≢◌, ◌⊎◌, ◌<◌, ◌≤◌, ℕ, ◌+◌, ◌*◌, List, [], ◌∷◌, length, slice_index, inl, inr, ⊎_elim, refl, sym, ◌∙◌, ap, subst, arith}
+use Rattle.std.proofs.Common.{◌≡◌, ◌⊎◌, ◌≤◌, ℕ, ◌*◌, List, [], length, slice_index, inl, inr, ⊎_elim, refl, sym, ◌∙◌, ap, subst, arith}
 use Rattle.device.specs.Device.{Only, LeavesOnly}
 use Rattle.device.proofs.Moments.{leaves_weaker, leaves_on}
 use Rattle.volume_codec.specs.Files.{File}
-use Rattle.volume_codec.specs.Layout.{layout_one, block_at, descriptor_block}
-use Rattle.volume_codec.specs.Super.{SuperValue, Fits, IsSuper, block_count}
-use Rattle.volume_codec.specs.Descriptor.{DescriptorValue, AreHomes, IsDescriptor}
-use Rattle.volume_codec.specs.Recovery.{IsVolume, RecoversTo, standing_block, recovered_files}
+use Rattle.volume_codec.specs.Layout.{layout_one, block_at}
+use Rattle.volume_codec.specs.Super.{SuperValue, IsSuper, block_count}
+use Rattle.volume_codec.specs.Descriptor.{DescriptorValue, IsDescriptor}
+use Rattle.volume_codec.specs.Recovery.{IsVolume, RecoversTo, recovered_files}
 use Rattle.recovery.specs.Journal.{AgreesOutside, CarriedFrom, IsCarriedOut}
 use Rattle.recovery.specs.Opening.{HasOpenJournal, IsOpened, RecoversAs}
 use Rattle.recovery.proofs.BlockRanges.{gate_place, descriptor_place}

@@ -1,11 +1,11 @@
 -- Which bytes are refused.
-use Rattle.std.proofs.Common.{◌≡◌, ◌≢◌, ◌<◌, ◌≤◌, ℕ, ◌*◌, List, length, take, inl, inr, refl, sym, ◌∙◌, ap, subst, arith}
+use Rattle.std.proofs.Common.{◌≡◌, ◌<◌, ◌≤◌, ℕ, ◌*◌, List, length, inl, inr, sym, ◌∙◌, ap, subst, arith}
 use Rattle.std.proofs.lemmas.List.{take-take}
 use Rattle.page_entry.specs.declared.refusal.Refusal.{Refusal}
 use Rattle.page_entry.specs.declared.refusal.Refusal.TheVariants.{Device, OutOfMemory, NotAVolume, Damaged}
-use Rattle.volume_codec.specs.Layout.{layout_one, block_at, descriptor_block}
+use Rattle.volume_codec.specs.Layout.{layout_one, block_at}
 use Rattle.volume_codec.specs.Super.{SuperValue, IsSuper, block_count}
-use Rattle.volume_codec.specs.Descriptor.{DescriptorValue, IsDescriptor}
+use Rattle.volume_codec.specs.Descriptor.{IsDescriptor}
 use Rattle.volume_codec.specs.Recovery.{Commits, IsDamaged}
 use Rattle.volume_codec.specs.Refusals.{RefusesSuper, RefusesDescriptor}
 use Rattle.recovery.specs.Opening.{RefusesOpening, HasOpenJournal}

@@ -1,13 +1,11 @@
 -- What a volume recovers to while its journal is carried out.
-use Rattle.std.proofs.Common.{◌≡◌, ◌≢◌, ◌⊎◌, ◌==◌, ◌<◌, ◌≤◌, ℕ, zero, suc, ◌+◌, ◌-◌, ◌*◌, List, [], ◌∷◌, ◌++◌, length, slice_index, if◌then◌else◌, inl, inr, ⊎_elim, refl, sym, ◌∙◌, ap, subst, arith, rules}
+use Rattle.std.proofs.Common.{◌≡◌, ◌≢◌, ◌⊎◌, ◌<◌, ◌≤◌, ℕ, zero, suc, ◌+◌, ◌*◌, List, [], ◌∷◌, length, slice_index, inl, inr, refl, sym, ◌∙◌, ap, subst, arith}
 use Rattle.std.proofs.lemmas.Bool.{cases_eq}
 use Rattle.std.proofs.lemmas.Bool.Decides.{nat_tests}
-use Rattle.device.specs.Device.{written, Torn}
-use Rattle.volume_codec.specs.Files.{File}
-use Rattle.volume_codec.specs.Layout.{layout_one, block_at, gate_block, descriptor_block, record_block, first_home}
-use Rattle.volume_codec.specs.Super.{SuperValue, IsSuper, total_pages, block_count}
-use Rattle.volume_codec.specs.Descriptor.{DescriptorValue, RiseWithin, AreHomes, IsDescriptor}
-use Rattle.volume_codec.specs.Recovery.{IsOpen, standing_block, files_from, recovered_files, Commits, IsVolume, RecoversTo}
+use Rattle.volume_codec.specs.Layout.{layout_one, block_at, descriptor_block, first_home}
+use Rattle.volume_codec.specs.Super.{SuperValue, block_count}
+use Rattle.volume_codec.specs.Descriptor.{RiseWithin, AreHomes, IsDescriptor}
+use Rattle.volume_codec.specs.Recovery.{standing_block, files_from, recovered_files, IsVolume, RecoversTo}
 use Rattle.volume_codec.proofs.Recovered.{files_from-same}
 use Rattle.recovery.specs.Volume.{files_of}
 use Rattle.recovery.specs.Journal.{AreTargets, IsNoneOf, AgreesOutside, AreApplied, IsCarriedOut}

@@ -1,14 +1,14 @@
 -- A list of bytes is a volume with one table and one journal at most.
-use Rattle.std.proofs.Common.{◌≡◌, ◌≢◌, ◌⊎◌, ◌<◌, ◌≤◌, ◌^◌, ℕ, zero, suc, ◌+◌, ◌-◌, ◌*◌, List, [], ◌∷◌, ◌++◌, length, take, drop, inl, inr, ⊎_elim, refl, sym, ◌∙◌, ap, subst, arith, append_assoc}
+use Rattle.std.proofs.Common.{◌≡◌, ◌≤◌, ◌^◌, ℕ, ◌+◌, ◌-◌, List, [], ◌∷◌, ◌++◌, length, take, drop, inl, inr, refl, sym, ◌∙◌, ap, subst, arith, append_assoc}
 use Rattle.std.specs.List.{flat_map}
-use Rattle.std.proofs.lemmas.List.{take_at, drop_at, take-take}
+use Rattle.std.proofs.lemmas.List.{drop_at, take-take}
 use Rattle.volume_codec.specs.Files.{File}
 use Rattle.volume_codec.specs.Layout.{layout_one, block_at, descriptor_block}
-use Rattle.volume_codec.specs.Text.{number_text, zeros, padded}
+use Rattle.volume_codec.specs.Text.{number_text, zeros}
 use Rattle.volume_codec.specs.Reading.{number_in, numbers_in, files_in}
-use Rattle.volume_codec.specs.Super.{FileSpec, SuperValue, Fits, IsSuper, block_count}
-use Rattle.volume_codec.specs.Descriptor.{DescriptorValue, RiseWithin, AreHomes, IsDescribed, IsDescriptor, descriptor_text}
-use Rattle.volume_codec.specs.Recovery.{IsOpen, Commits, IsVolume, RecoversTo, IsNotAVolume, IsDamaged, recovered_files}
+use Rattle.volume_codec.specs.Super.{FileSpec, SuperValue, Fits, IsSuper}
+use Rattle.volume_codec.specs.Descriptor.{DescriptorValue, RiseWithin, IsDescriptor}
+use Rattle.volume_codec.specs.Recovery.{Commits, IsVolume, RecoversTo, recovered_files}
 use Rattle.volume_codec.proofs.Padding.{drop-past, length-zeros}
 use Rattle.volume_codec.proofs.Spelling.{length-number_text}
 use Rattle.volume_codec.proofs.Functional.{number_in-text, reads_block}

@@ -1,5 +1,5 @@
 -- A volume that was opened: its table, and the device that it lies on.
-use Rattle.std.specs.Prelude.{◌≡◌, ℕ, ◌*◌, ◌≤◌, List, [], map, length, slice_index_or}
+use Rattle.std.specs.Prelude.{ℕ, ◌*◌, ◌≤◌, List, [], map, length, slice_index_or}
 use Rattle.device.specs.Device.{Only}
 use Rattle.volume_codec.specs.Files.{File}
 use Rattle.volume_codec.specs.Layout.{layout_one}

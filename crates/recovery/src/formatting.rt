@@ -113,6 +113,9 @@ pub fn format_and_open<D: Device, A: Allocator + Copy>(
         (λ volume. files_of volume.table (D.seen volume.device) ≡ zero_files (table_of files.now slots).files) }
     ensures refused { D.is_honest device → IfErr result
         (λ refused. RefusesFormat (table_of files.now slots) (length (D.seen device)) refused.0) }
+    ensures settled { IfOk result (λ volume. IsSettled D.seen D.may_leave D.is_honest volume.table volume.device) }
+    ensures done { IfOk result (λ volume. D.faults_met volume.device ≡ D.faults_met device) }
+    ensures failed { IfErr result (λ refused. HasCause (D.faults_met device) (D.faults_met refused.1) refused.0) }
 {
     match format(alloc, &mut device, files, slots) {
         Ok(()) => open(alloc, device),

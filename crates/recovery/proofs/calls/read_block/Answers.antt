@@ -1,4 +1,4 @@
-use Rattle.std.proofs.Common.{length, ◌∙◌, ap, arith}
+use Rattle.std.proofs.Common.{length, ◌∙◌, ap}
 use Rattle.volume_codec.proofs.Padding.{length-zeros}
 use Rattle.recovery.proofs.BlockRanges.{block_of_range}
 use Rattle.recovery.proofs.calls.read_block.Goals as goal

@@ -1,4 +1,4 @@
-use Rattle.std.proofs.Common.{◌≡◌, ◌+◌, ◌*◌, ◌≤◌, length, ap, ◌∙◌, arith, rules}
+use Rattle.std.proofs.Common.{◌*◌, ap, ◌∙◌, arith, rules}
 use Rattle.recovery.proofs.Erased.{erase_more}
 use Rattle.recovery.proofs.formatting.erase.Goals as goal
 

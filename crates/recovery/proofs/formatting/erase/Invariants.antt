@@ -1,4 +1,4 @@
-use Rattle.std.proofs.Common.{◌≡◌, ◌↔◌, ◌≤◌, length}
+use Rattle.std.proofs.Common.{◌≡◌, ◌↔◌, length}
 use Rattle.volume_codec.specs.Text.{zeros}
 use Rattle.recovery.specs.Journal.{IsErased}
 use Rattle.recovery.proofs.formatting.erase.Given as goal

@@ -1,10 +1,9 @@
-use Rattle.std.proofs.Common.{◌≡◌, ◌+◌, ◌*◌, ◌≤◌, ℕ, [], ◌∷◌, List, length, sym, ap, ◌∙◌, arith, rules}
+use Rattle.std.proofs.Common.{◌≡◌, ◌*◌, ℕ, [], ◌∷◌, List, length, sym, ap, ◌∙◌, arith}
 use Rattle.std.proofs.lemmas.Result.{on_ok_weaker}
 use Rattle.device.specs.Device.{written}
 use Rattle.volume_codec.specs.Layout.{layout_one, first_home}
-use Rattle.volume_codec.specs.Super.{block_count, super_text}
+use Rattle.volume_codec.specs.Super.{super_text}
 use Rattle.volume_codec.proofs.Layouts.{gate_block-first}
-use Rattle.recovery.specs.Journal.{IsErased}
 use Rattle.recovery.proofs.Erased.{erased_at}
 use Rattle.recovery.proofs.Blank.{blank_made, past_made}
 use Rattle.recovery.proofs.formatting.write_table.Goals as goal

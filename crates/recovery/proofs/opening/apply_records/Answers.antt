@@ -1,8 +1,7 @@
-use Rattle.std.proofs.Common.{◌≡◌, ◌≤◌, ◌<◌, ◌+◌, ◌*◌, ℕ, List, length, slice_index, sym, ap, subst, ◌∙◌, arith, rules}
-use Rattle.device.specs.Device.{LeavesOnly}
+use Rattle.std.proofs.Common.{◌≡◌, ◌≤◌, ◌<◌, ◌+◌, ℕ, List, length, sym, ap, subst, ◌∙◌, arith, rules}
 use Rattle.device.proofs.Moments.{leaves_on}
 use Rattle.volume_codec.specs.Layout.{block_at}
-use Rattle.recovery.specs.Journal.{AgreesOutside, AgreesFrom, AreApplied}
+use Rattle.recovery.specs.Journal.{AgreesOutside, AreApplied}
 use Rattle.recovery.proofs.Applied.{agrees_from_more, applied_more, agrees_written}
 use Rattle.recovery.proofs.opening.apply_records.Goals as goal
 

@@ -1,4 +1,4 @@
-use Rattle.std.proofs.Common.{◌≡◌, ◌↔◌, ◌≤◌, ◌*◌, ℕ, List, length}
+use Rattle.std.proofs.Common.{◌≡◌, ◌↔◌, ◌*◌, ℕ, List, length}
 use Rattle.device.specs.Device.{LeavesOnly}
 use Rattle.recovery.specs.Counts.{Rises}
 use Rattle.recovery.specs.Journal.{AgreesOutside, AgreesFrom, AreApplied}

@@ -1,9 +1,9 @@
-use Rattle.std.proofs.Common.{◌≡◌, ◌≤◌, ◌+◌, ◌*◌, ℕ, List, [], ◌∷◌, length, inl, sym, ap, subst, ◌∙◌, arith}
+use Rattle.std.proofs.Common.{◌≡◌, ◌≤◌, ◌*◌, [], ◌∷◌, length, sym, subst, ◌∙◌, arith}
 use Rattle.std.proofs.lemmas.Result.{on_ok_weaker}
 use Rattle.device.specs.Device.{written}
 use Rattle.device.proofs.Moments.{leaves_weaker, leaves_on}
 use Rattle.volume_codec.proofs.Layouts.{gate_block-first}
-use Rattle.recovery.specs.Journal.{AgreesFrom, IsCarriedOut, CarriedFrom}
+use Rattle.recovery.specs.Journal.{IsCarriedOut}
 use Rattle.recovery.proofs.Applied.{carried_written, carried_from, from_agrees, shut_written}
 use Rattle.recovery.proofs.Replayed.{carried_out}
 use Rattle.recovery.proofs.opening.carry_out.Goals as goal

@@ -1,4 +1,4 @@
-use Rattle.std.proofs.Common.{arith, rules}
+use Rattle.std.proofs.Common.{arith}
 use Rattle.std.proofs.lemmas.Result.{err_from_is_err_and}
 use Rattle.recovery.proofs.Unwritten.{unwritten_then, unwritten_time}
 use Rattle.recovery.proofs.opening.judge.Goals as goal

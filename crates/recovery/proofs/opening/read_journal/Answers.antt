@@ -2,7 +2,7 @@ use Rattle.std.proofs.Common.{◌≡◌, ◌≤◌, ℕ, List, length, ap, subst
 use Rattle.std.proofs.lemmas.Result.{IfErr-weaker}
 use Rattle.volume_codec.specs.Layout.{layout_one, block_at}
 use Rattle.volume_codec.specs.Refusals.{RefusesDescriptor}
-use Rattle.volume_codec.specs.Descriptor.{DescriptorValue, IsDescriptor}
+use Rattle.volume_codec.specs.Descriptor.{IsDescriptor}
 use Rattle.std.specs.Prelude.{IfOk}
 use Rattle.recovery.specs.Opening.{RefusesOpening}
 use Rattle.recovery.proofs.Refusals.{refuses_descriptor}

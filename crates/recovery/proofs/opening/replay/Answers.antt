@@ -1,4 +1,4 @@
-use Rattle.std.proofs.Common.{◌≡◌, ◌<◌, ◌≤◌, ◌*◌, ℕ, List, length, sym, ap, subst, arith, rules}
+use Rattle.std.proofs.Common.{◌<◌, ◌≤◌, ◌*◌, ℕ, List, length, sym, ap, subst, arith}
 use Rattle.volume_codec.specs.Layout.{layout_one}
 use Rattle.volume_codec.specs.Super.{block_count}
 use Rattle.recovery.specs.Journal.{AreTargets, IsCarriedOut}

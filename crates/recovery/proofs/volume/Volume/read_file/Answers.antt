@@ -1,7 +1,7 @@
-use Rattle.std.proofs.Common.{◌≡◌, ◌≤◌, ◌<◌, ◌+◌, ◌*◌, ◌^◌, ℕ, List, length, slice_index, slice_range, sym, ap, subst, ◌∙◌, arith, rules}
+use Rattle.std.proofs.Common.{◌≡◌, ◌≤◌, ◌<◌, ◌+◌, ◌*◌, length, slice_index, slice_range, sym, ap, subst, ◌∙◌, arith}
 use Rattle.std.proofs.lemmas.Result.{on_ok_weaker}
 use Rattle.volume_codec.specs.Layout.{layout_one}
-use Rattle.volume_codec.specs.Super.{SuperValue, first_home_of, block_count}
+use Rattle.volume_codec.specs.Super.{SuperValue, block_count}
 use Rattle.volume_codec.specs.Tables.{lengths_in}
 use Rattle.recovery.specs.Volume.{VolumeState, files_of, bytes_of}
 use Rattle.recovery.proofs.FileBytes.{file_room, read_part}

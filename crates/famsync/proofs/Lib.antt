@@ -1,0 +1,4 @@
+mod AllOf
+mod DumpRows
+mod Names
+mod Cuts

@@ -1,0 +1,33 @@
+-- The laws of whole runs, at this run.
+use Rattle.std.proofs.Common.{subst}
+use Rattle.volume_codec.specs.Layout.{layout_one}
+use Rattle.volume_codec.specs.Super.{Fits}
+use Rattle.machine.specs.State.{State}
+use Rattle.machine.proofs.WholeRuns.{coherence}
+use Rattle.machine.proofs.Served.{faults_are_served}
+use Rattle.machine.proofs.ReadBack.{reads_back_always}
+use Rattle.machine.proofs.StepCounts.{counts_steps}
+use Rattle.machine.proofs.machine.Machine.run.Goals as goal
+
+pub returns-clause-coherent : goal.returns-clause-coherent
+returns-clause-coherent g c = λ honest files fresh rest.
+    let s : State = c.args.self.now.state in
+    let fits : Fits layout_one s.table = subst (λ w. Fits layout_one w.state.table) c.self.view_is c.slots-slots.ensures.fits in
+    let all = coherence files s c.do_all.new.self.state (g.D.Device.seen c.args.self.now.device) (g.D.Device.seen c.do_all.new.self.device) c.args.steps.now c.do_all.new.replies fresh fits rest (c.do_all.ensures.run honest) in
+    (all.0, all.1, all.2)
+
+pub returns-clause-served : goal.returns-clause-served
+returns-clause-served g c = λ honest.
+    faults_are_served c.args.self.now.state (g.D.Device.seen c.args.self.now.device) c.args.steps.now c.do_all.new.replies c.do_all.new.self.state (g.D.Device.seen c.do_all.new.self.device) (c.do_all.ensures.run honest)
+
+pub returns-clause-durable : goal.returns-clause-durable
+returns-clause-durable g c = λ honest files fresh rest.
+    let s : State = c.args.self.now.state in
+    let fits : Fits layout_one s.table = subst (λ w. Fits layout_one w.state.table) c.self.view_is c.slots-slots.ensures.fits in
+    reads_back_always files s c.do_all.new.self.state (g.D.Device.seen c.args.self.now.device) (g.D.Device.seen c.do_all.new.self.device) c.args.steps.now c.do_all.new.replies fresh fits rest (c.do_all.ensures.run honest)
+
+pub returns-clause-counted : goal.returns-clause-counted
+returns-clause-counted g c = λ honest files fresh rest.
+    let s : State = c.args.self.now.state in
+    let fits : Fits layout_one s.table = subst (λ w. Fits layout_one w.state.table) c.self.view_is c.slots-slots.ensures.fits in
+    counts_steps files s c.do_all.new.self.state (g.D.Device.seen c.args.self.now.device) (g.D.Device.seen c.do_all.new.self.device) c.args.steps.now c.do_all.new.replies fresh fits rest (c.do_all.ensures.run honest)

@@ -1,0 +1,29 @@
+use Rattle.std.proofs.Common.{◌≡◌, ℕ, ◌<◌, Option, length, set, refl, ◌/◌, sym, subst, arith}
+use Rattle.page_entry.specs.Entry.{Mapped}
+use Rattle.machine.specs.State.{State, AddressSpace, IsThere, with_entry, current, space_at}
+use Rattle.machine.specs.Answers.{MapsHeld, with_entry_for}
+use Rattle.machine.specs.Whole.{IsSound, write_outs_of}
+use Rattle.std.proofs.lemmas.Grind.{common_steps}
+use Rattle.machine.proofs.SoundParts.{sound_set_entry}
+use Rattle.machine.proofs.machine.Machine.set_entry.Goals as goal
+
+-- what is known of the space that is entered
+entered : (s : State) (p va : ℕ) (e : Option Mapped) (number : ℕ) (space new : AddressSpace) → current s p ≡ number → space_at s number ≡ space → new ≡ with_entry space (va / 4096) e → with_entry_for s p va e ≡ record s { spaces = set s.spaces number new }
+entered s p va e number space new at is put = rw (at, is, put) refl
+
+pub invariant_of-self : goal.invariant_of-self
+invariant_of-self g c = record {
+  sound =
+      let s : State = record { table = c.self.inside.table; processors = c.self.inside.processors.items; lock = c.self.inside.lock; spaces = c.self.inside.spaces.items; memory = c.self.inside.frames; write_outs = write_outs_of c.self.inside.write_out c.self.inside.pages.items; marks = c.self.inside.marks; broken = c.self.inside.broken } in
+      let there : c.args.p < length c.self.inside.processors.items = subst (λ w. IsThere w.state c.args.p) (sym c.self.view_is) c.requires.there in
+      let at : current s c.args.p ≡ c.index.result.now.space = grind (arith, common_steps) in
+      let within : c.index.result.now.space < length c.self.inside.spaces.items = subst (λ n. n < length c.self.inside.spaces.items) at (c.self.invariant.sound.current c.args.p there) in
+      let is : space_at s c.index.result.now.space ≡ c.index_mut.result.now = grind (arith, common_steps) in
+      subst IsSound (entered s c.args.p c.args.va c.args.entry c.index.result.now.space c.index_mut.result.now c.set_entry.new.self at is c.set_entry.ensures)
+      (sound_set_entry s c.args.p c.args.va c.args.entry c.self.invariant.sound c.requires.present (subst (λ w. MapsHeld w.state c.args.p c.args.va c.args.entry) (sym c.self.view_is) c.requires.backed));
+  long = c.self.invariant.long;
+  frames_are = c.self.invariant.frames_are;
+  room_for_pages = c.self.invariant.room_for_pages;
+  room_for_homes = c.self.invariant.room_for_homes;
+  begun = c.self.invariant.begun;
+}

@@ -1,0 +1,17 @@
+pub mod FewBytes
+pub mod History
+pub mod State
+pub mod Told
+pub mod Rules
+pub mod Laws
+pub mod Spaces
+pub mod Whole
+pub mod Answers
+pub mod Protection
+pub mod Booting
+pub mod Shapes
+pub mod Gathering
+pub mod Work
+pub mod Fixing
+pub mod Progress
+pub mod Stops

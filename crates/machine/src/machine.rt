@@ -1,0 +1,168 @@
+// The machine's state, how it is made, and one step of it.
+ghost use Rattle.std.specs.Prelude.{◌≡◌, ◌≤◌, length, IfOk, IfErr, OnOk};
+ghost use Rattle.machine.specs.Laws.{fresh};
+ghost use Rattle.machine.specs.Booting.{IsRoom, RefusesShape};
+ghost use Rattle.machine.specs.Shapes.{IsShape};
+
+use crate::Shape;
+use crate::space::Space;
+use crate::state::{Lock, Processor, WriteOut};
+use device::Device;
+use frames::Frames;
+use page_entry::{Owner, Refusal};
+use recovery::Volume;
+use std::alloc::{AllocError, Allocator};
+use std::marker::Model;
+use volume_codec::Super;
+
+// The memory that a machine takes when it is made.
+#[derive(Drop)]
+pub(crate) struct Room<A: Allocator + Copy> {
+    processors: Vec<Processor, A>,
+    spaces: Vec<Space<A>, A>,
+    frames: Frames<A>,
+    frame_count: u32,
+    pages: Vec<Owner, A>,
+    homes: Vec<u32, A>,
+}
+
+impl<A: Allocator + Copy> Room<A> {
+    // Room for one processor and so many frames.
+    fn new(alloc: A, frame_count: u32) -> Result<Self, AllocError>
+        ensures room { IfOk result IsRoom }
+        ensures frames { IfOk result (λ room. length room.frames.frames ≡ frame_count) }
+    {
+        let mut processors = Vec::with_capacity(alloc, 1)?;
+        processors.push(Processor { space: 0 })?;
+        let mut spaces = Vec::with_capacity(alloc, 1)?;
+        spaces.push(Space::new(alloc))?;
+        Ok(Room {
+            processors,
+            spaces,
+            frames: Frames::new(alloc, frame_count, 0)?,
+            frame_count,
+            pages: Vec::with_capacity(alloc, frame_count as usize)?,
+            homes: Vec::with_capacity(alloc, frame_count as usize)?,
+        })
+    }
+}
+
+/// A machine over a volume: processors, address spaces, frames, and at most one write-out that isn't done.
+#[derive(Drop)]
+pub struct Machine<D: Device + Drop, A: Allocator + Copy> {
+    pub(crate) alloc: A,
+    pub(crate) device: D,
+    pub(crate) table: Super<A>,
+    pub(crate) processors: Vec<Processor, A>,
+    pub(crate) lock: Option<Lock>,
+    pub(crate) spaces: Vec<Space<A>, A>,
+    pub(crate) frames: Frames<A>,
+    pub(crate) frame_count: u32,
+    pub(crate) write_out: Option<WriteOut>,
+    // The pages of the write-out, in the order of their home blocks, and these blocks. There is room for a page a frame.
+    pub(crate) pages: Vec<Owner, A>,
+    pub(crate) homes: Vec<u32, A>,
+    pub(crate) marks: u32,
+    pub(crate) broken: bool,
+}
+
+impl<D: Device + Drop, A: Allocator + Copy> Model for Machine<D, A> {
+    ghost use Rattle.std.specs.Vec.{vec_capacity};
+    ghost use Rattle.machine.specs.Whole.{Whole, whole_code, write_outs_of, IsMachine};
+
+    ghost Value = { Whole D };
+
+    ghost coded = { whole_code D.code };
+
+    ghost view = { λ m. record {
+      state = record {
+        table = m.table;
+        processors = m.processors.items;
+        lock = m.lock;
+        spaces = m.spaces.items;
+        memory = m.frames;
+        write_outs = write_outs_of m.write_out m.pages.items;
+        marks = m.marks;
+        broken = m.broken;
+      };
+      device = m.device;
+    } };
+
+    ghost invariant = { λ m. IsMachine D.seen m.device (record {
+      table = m.table;
+      processors = m.processors.items;
+      lock = m.lock;
+      spaces = m.spaces.items;
+      memory = m.frames;
+      write_outs = write_outs_of m.write_out m.pages.items;
+      marks = m.marks;
+      broken = m.broken;
+    }) m.frame_count (vec_capacity m.pages) (vec_capacity m.homes) };
+}
+
+impl<D: Device + Drop, A: Allocator + Copy> Machine<D, A> {
+    /// A machine over an opened volume: each processor is in space 0, which maps nothing, and no page is in memory.
+    ///
+    /// `BadShape` unless there is one processor, 1 to 64 TLB entries, 1 frame to as many as the volume has record slots,
+    /// and no copy frame; it is judged before memory is taken. `OutOfMemory` where memory is refused. A refusal hands the
+    /// volume back. No device call is made.
+    pub fn boot(
+        alloc: A,
+        volume: Volume<D, A>,
+        shape: Shape,
+    ) -> Result<Self, (Refusal, Volume<D, A>)>
+        ensures booted { IfOk result (λ machine. (machine.state ≡ fresh volume.table shape.cpus shape.frames shape.copies) × (machine.device ≡ volume.device)) }
+        ensures shaped { OnOk result (IsShape volume.table.slots shape) }
+        ensures refused { IfErr result (λ e. RefusesShape volume.table shape e.0) }
+        ensures volume { IfErr result (λ e. e.1 ≡ volume) }
+    {
+        let slots = u64::from(volume.table().slots());
+        if !shape.fits(slots) {
+            return Err((Refusal::BadShape, volume));
+        }
+        match Room::new(alloc, shape.frames as u32) {
+            Ok(room) => Ok(Machine::over(alloc, volume, room)),
+            Err(_) => Err((Refusal::OutOfMemory, volume)),
+        }
+    }
+
+    fn over(alloc: A, volume: Volume<D, A>, room: Room<A>) -> Self
+        requires frames { length room.frames.frames ≤ volume.table.slots }
+        requires room { IsRoom room }
+        ensures state { result.state ≡ fresh volume.table 1 (length room.frames.frames) 0 }
+        ensures device { result.device ≡ volume.device }
+    {
+        let Room {
+            processors,
+            spaces,
+            frames,
+            frame_count,
+            pages,
+            homes,
+        } = room;
+        let (table, device) = volume.into_parts();
+        Machine {
+            alloc,
+            device,
+            table,
+            processors,
+            lock: None,
+            spaces,
+            frames,
+            frame_count,
+            write_out: None,
+            pages,
+            homes,
+            marks: 0,
+            broken: false,
+        }
+    }
+
+    /// The machine's device, as it is.
+    pub fn into_device(self) -> D
+        ensures { result ≡ self.device }
+    {
+        let Machine { device, .. } = self;
+        device
+    }
+}
