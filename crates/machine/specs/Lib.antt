@@ -15,3 +15,4 @@ pub mod Work
 pub mod Fixing
 pub mod Progress
 pub mod Stops
+pub mod Calls

@@ -1,6 +1,7 @@
 // One step of a machine, and whole runs of it.
 ghost use Rattle.std.specs.Prelude.{◌≡◌, ◌↔◌, length};
 ghost use Rattle.machine.specs.Rules.{Rules, Run};
+ghost use Rattle.machine.specs.Calls.{CallsOf};
 ghost use Rattle.machine.specs.Laws.{Coheres, IsDurable, FaultsAreServed};
 ghost use Rattle.machine.specs.Progress.{IsCounted};
 
@@ -14,6 +15,7 @@ impl<D: Device + Drop, A: Allocator + Copy> Machine<D, A> {
     /// One act of one processor. Whatever act it is, it returns, and what it refuses changes nothing but what the rules say.
     pub fn step(&mut self, step: Step) -> Reply
         ensures rules { D.is_honest self.old.device → Rules self.old.state (D.seen self.old.device) step result self.new.state (D.seen self.new.device) }
+        ensures calls { CallsOf self.old.state step.p step.act result (D.calls_made self.old.device) (D.calls_made self.new.device) (D.faults_met self.old.device) (D.faults_met self.new.device) }
         ensures honest { D.is_honest self.new.device ↔ D.is_honest self.old.device }
         ensures len { length (D.seen self.new.device) ≡ length (D.seen self.old.device) }
     {
