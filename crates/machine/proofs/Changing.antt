@@ -1,18 +1,18 @@
 -- What a change gathers, and the machine that it leaves.
-use Rattle.std.proofs.Common.{◌≡◌, ◌≢◌, ℕ, ◌+◌, ◌*◌, ◌<◌, List, [], ◌++◌, length, take, drop, Option, Some, None, refl, sym, ap, subst, ◌∙◌, Contains, ◌↔◌}
+use Rattle.std.proofs.Common.{◌≡◌, ◌≢◌, ℕ, ◌+◌, ◌<◌, List, [], ◌++◌, length, take, drop, Option, Some, None, refl, sym, ap, subst, ◌∙◌, Contains, ◌↔◌}
 use Rattle.std.specs.FinMap as maps
 use Rattle.std.specs.Ordering.{nat_cmp}
 use Rattle.std.proofs.lemmas.List.{get_or_default}
 use Rattle.std.proofs.Math.Seq.{take-append_seam}
 use Rattle.page_entry.specs.declared.numbers.Owner.{Owner}
-use Rattle.mappings.specs.declared.place.Place.{Place}
 use Rattle.machine.specs.declared.state.Lock.{Lock}
 use Rattle.machine.specs.declared.act.Reply.TheVariants as replies
-use Rattle.machine.specs.State.{State, AddressSpace, WriteOut, IsThere, IsInitiating, empty_space, space_at, Holds, page_at, length_of, IsDirty}
+use Rattle.machine.specs.State.{State, AddressSpace, WriteOut, IsThere, IsInitiating, empty_space, space_at, Holds, IsDirty}
 use Rattle.machine.specs.Rules.{AreRising, AreGathered, Protects, with_write_out, Changes}
 use Rattle.machine.specs.Gathering.{IsDirtyIn}
-use Rattle.machine.specs.Whole.{IsSound, IsInTable}
+use Rattle.machine.specs.Whole.{IsSound}
 use Rattle.machine.proofs.ListLaws.{within_by_get_or}
+use Rattle.machine.proofs.Sound.{dirty_held}
 
 -- a page that is dirty in one of the spaces is dirty
 dirty_from : (s : State) (owner : Owner) → IsDirtyIn s.spaces owner → IsDirty s owner
@@ -28,28 +28,15 @@ dirty_in s owner (number, page, place, entry, placed, is, found, dirty) =
     absurd (cc)) in
     (space_at s number, (number, there, sym (get_or_default s.spaces number empty_space (space_at s number) there)), (page, place, entry, placed, is, found, dirty))
 
--- a dirty page is in a frame, and a page of a file of the table
-dirty_backed : (s : State) (owner : Owner) → IsSound s → IsDirty s owner → ((frame : ℕ) × Holds s.memory frame owner) × IsInTable s.table owner
-dirty_backed s owner sound (number, page, place, entry, placed, is, found, dirty) =
-    let b = sound.backed number page entry found in
-    let same : b.0 ≡ place = let e : Some b.0 ≡ Some place = sym b.1 ∙ placed in cc in (
-      (entry.frame, subst (Holds s.memory entry.frame) (ap page_at same ∙ is) b.2),
-      subst (IsInTable s.table) is (sound.in_table number page place placed, subst (λ (place : Place). 4096 * place.page < length_of s.table place.file) same b.3),
-    )
-
 -- rising pages of the frames that are dirty in some space are exactly the dirty pages
 pub gathered_pages : (s : State) (pages : List Owner) → IsSound s → AreRising pages → ((owner : Owner) → Contains pages owner ↔ (((frame : ℕ) × Holds s.memory frame owner) × IsDirtyIn s.spaces owner)) → AreGathered s pages
 gathered_pages s pages sound rising found = record {
   rising = rising;
   dirty = λ owner. (
     λ here. dirty_from s owner ((found owner).0 here).1,
-    λ dirty. (found owner).1 ((dirty_backed s owner sound dirty).0, dirty_in s owner dirty),
+    λ dirty. (found owner).1 (dirty_held s owner sound dirty, dirty_in s owner dirty),
   );
 }
-
--- they are pages of files of the table
-pub gathered_listed : (s : State) (pages : List Owner) → IsSound s → AreGathered s pages → (owner : Owner) → Contains pages owner → IsInTable s.table owner
-gathered_listed s pages sound gathered owner here = (dirty_backed s owner sound ((gathered.dirty owner).0 here)).1
 
 -- spaces that were written back over the whole list of them
 pub written_back : {X : Type 0} (n : ℕ) (new old : List X) → n ≡ length new → take n (new ++ drop (length new) old) ≡ new

@@ -76,6 +76,7 @@ pub sound_with_page : (s : State) (frame : ℕ) (owner : Owner) (bytes : List �
 sound_with_page s frame owner bytes sound free = sound_further s (with_page s frame owner bytes) sound (record {
   same_table = refl;
   current = sound.current;
+  nowhere = sound.nowhere;
   keeps = Holds-taken s.memory frame owner bytes free;
   frames = length-set s.memory.frames frame (Some (record { owner = owner; bytes = bytes }));
   spaces = λ number. kept_space s.table s.memory (with_page s frame owner bytes).memory (space_at s number) (Holds-taken s.memory frame owner bytes free) (sound_space s sound number);

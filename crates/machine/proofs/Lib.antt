@@ -12,6 +12,7 @@ pub mod Kept
 pub mod KeptByAccess
 pub mod KeptByFix
 pub mod KeptBySpaces
+pub mod Freshness
 pub mod Gathered
 pub mod KeptByChange
 pub mod KeptByFlush
@@ -23,7 +24,6 @@ pub mod Sound
 pub mod SoundParts
 pub mod Growing
 pub mod Protecting
-pub mod HomeBlocks
 pub mod GatheredPages
 pub mod RisingPages
 pub mod MappingRules

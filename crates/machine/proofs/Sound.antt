@@ -79,6 +79,10 @@ holds_set P (y ∷ xs) zero x d (suc n) was put = was
 holds_set P (y ∷ xs) (suc i) x d zero was put = was
 holds_set P (y ∷ xs) (suc i) x d (suc n) was put = holds_set P xs i x d n was (λ same. put (ap suc same))
 
+-- space 0 maps nothing after a space was put at a number, if what is put at 0 maps nothing
+nowhere_set : (s : State) (number : ℕ) (space : AddressSpace) → IsSound s → (0 ≡ number → (page : ℕ) → maps.get space.places page ≡ None) → (page : ℕ) → maps.get (get_or (set s.spaces number space) 0 empty_space).places page ≡ None
+nowhere_set s number space sound put page = holds_set (λ (there : AddressSpace). maps.get there.places page ≡ None) s.spaces number space empty_space 0 (sound.nowhere page) (λ first. put first page)
+
 -- ---- a machine whose parts change
 
 kept_write_out : (s new : State) (w : WriteOut) → new.table ≡ s.table → Keeps s.memory new.memory → IsUnderWay s w → IsUnderWay new w
@@ -94,6 +98,7 @@ kept_write_out s new w same keeps under = record {
 pub record IsFurther (s new : State) : Type 0 where
   pub same_table : new.table ≡ s.table
   pub current : (p : ℕ) → p < length new.processors → current new p < length new.spaces
+  pub nowhere : (page : ℕ) → maps.get (space_at new 0).places page ≡ None
   pub keeps : Keeps s.memory new.memory
   pub frames : length new.memory.frames ≡ length s.memory.frames
   pub spaces : (number : ℕ) → IsSoundSpace s.table new.memory (space_at new number)
@@ -103,6 +108,7 @@ pub sound_further : (s new : State) → IsSound s → IsFurther s new → IsSoun
 sound_further s new sound further = record {
   fits = rw further.same_table sound.fits;
   current = further.current;
+  nowhere = further.nowhere;
   backed = λ number page entry found. rw further.same_table ((further.spaces number).backed page entry found);
   in_table = λ number page place found. rw further.same_table ((further.spaces number).in_table page place found);
   few_frames = rw (further.same_table, further.frames) sound.few_frames;
@@ -112,11 +118,12 @@ sound_further s new sound further = record {
 pub all_kept : (memory : FramesState) → Keeps memory memory
 all_kept memory frame owner holds = holds
 
--- a machine with another current space of a processor, and a memory that keeps its pages
-pub sound_walked : (s : State) (p : ℕ) (space : AddressSpace) (memory : FramesState) → IsSound s → Keeps s.memory memory → length memory.frames ≡ length s.memory.frames → IsSoundSpace s.table memory space → IsSound (record s { spaces = set s.spaces (current s p) space; memory = memory })
-sound_walked s p space memory sound keeps frames here = sound_further s (record s { spaces = set s.spaces (current s p) space; memory = memory }) sound (record {
+-- a machine with another current space of a processor, which has the same places, and a memory that keeps its pages
+pub sound_walked : (s : State) (p : ℕ) (space : AddressSpace) (memory : FramesState) → IsSound s → Keeps s.memory memory → length memory.frames ≡ length s.memory.frames → space.places ≡ (current_space s p).places → IsSoundSpace s.table memory space → IsSound (record s { spaces = set s.spaces (current s p) space; memory = memory })
+sound_walked s p space memory sound keeps frames places here = sound_further s (record s { spaces = set s.spaces (current s p) space; memory = memory }) sound (record {
   same_table = refl;
   current = λ q within. rw length-set (sound.current q within);
+  nowhere = λ page. nowhere_set s (current s p) space sound (λ first page. ap (λ (places : Places). maps.get places page) places ∙ ap (λ n. maps.get (space_at s n).places page) (sym first) ∙ sound.nowhere page) page;
   keeps = keeps;
   frames = frames;
   spaces = λ number. holds_set (IsSoundSpace s.table memory) s.spaces (current s p) space empty_space number (kept_space s.table s.memory memory (space_at s number) keeps (sound_space s sound number)) (λ same. here);
@@ -127,7 +134,7 @@ sound_walked s p space memory sound keeps frames here = sound_further s (record 
 
 pub sound_load : (s : State) (p va count : ℕ) (reply : Reply) (new : State) → IsSound s → Loads s p va count reply new → IsSound new
 sound_load s p va count (replies.Bytes bytes) new sound (active, access, entry, found, read, is) =
-    sound_same _ new is (sound_walked s p _ s.memory sound (all_kept s.memory) refl
+    sound_same _ new is (sound_walked s p _ s.memory sound (all_kept s.memory) refl refl
     (entered_space s.table s.memory (current_space s p) (va / 4096) (record entry { accessed = true }) (sound_space s sound (current s p)) (sound.backed (current s p) (va / 4096) entry found)))
 sound_load s p va count (replies.Refused (refusals.Fault code)) new sound h = sound_same s new h.0 sound
 sound_load s p va count (replies.Refused why) new sound h = sound_same s new h.0 sound
@@ -148,7 +155,7 @@ sound_store s p va bytes replies.Stored new sound (active, access, entry, found,
     let memory = with_bytes s.memory entry.frame (va % 4096) bytes in
     let keeps = kept_with_bytes s.memory entry.frame (va % 4096) bytes in
     let here = kept_space s.table s.memory memory (current_space s p) keeps (sound_space s sound (current s p)) in
-    sound_same _ new is (sound_walked s p _ memory sound keeps (length-set s.memory.frames entry.frame (overwrite_frame (frame_at s.memory entry.frame) (va % 4096) bytes))
+    sound_same _ new is (sound_walked s p _ memory sound keeps (length-set s.memory.frames entry.frame (overwrite_frame (frame_at s.memory entry.frame) (va % 4096) bytes)) refl
     (entered_space s.table memory (current_space s p) (va / 4096) (record entry { accessed = true; dirty = true }) here (here.backed (va / 4096) entry found)))
 sound_store s p va bytes (replies.Refused (refusals.Fault code)) new sound h = sound_same s new h.0 sound
 sound_store s p va bytes (replies.Refused why) new sound h = sound_same s new h.0 sound
@@ -164,6 +171,7 @@ sound_switch s p space replies.Switched new sound (free, there, is) =
       current = λ q within.
           let was = sound.current q (let e = length-set s.processors p (record { space = space }) in omega arith) in
           holds_set (λ (c : Processor). c.space < length s.spaces) s.processors p (record { space = space }) nobody q was (λ same. there);
+      nowhere = sound.nowhere;
       keeps = all_kept s.memory;
       frames = refl;
       spaces = sound_space s sound;
@@ -186,6 +194,7 @@ sound_create s p (replies.Space number) new sound (free, one, first, is) =
     sound_same next new is (sound_further s next sound (record {
       same_table = refl;
       current = λ q within. let was = sound.current q within in let more = length_push s.spaces empty_space in omega arith;
+      nowhere = λ page. ap (λ (there : AddressSpace). maps.get there.places page) (get_or-more_empty s.spaces empty_space 0) ∙ sound.nowhere page;
       keeps = all_kept s.memory;
       frames = refl;
       spaces = λ n. subst (IsSoundSpace s.table s.memory) (sym (get_or-more_empty s.spaces empty_space n)) (sound_space s sound n);
@@ -213,13 +222,14 @@ mapped_space table memory space first count place sound none listed = record {
 }
 
 pub sound_map : (s : State) (p space va len file offset : ℕ) (prot access : Rights) (reply : Reply) (new : State) → IsSound s → Maps s p space va len file offset prot access reply new → IsSound new
-sound_map s p space va len file offset prot access replies.Mapped new sound (free, pages, mappable, listed, allowed, none, is) =
+sound_map s p space va len file offset prot access replies.Mapped new sound (free, pages, (some, there_is, mapped, apart), listed, allowed, none, is) =
     let place : Place = record { file = file; page = pages.1; rights = prot; access = access } in
     let there : AddressSpace = record (space_at s space) { places = with_range (space_at s space).places pages.0.first pages.0.count place } in
     let next : State = record s { spaces = set s.spaces space there } in
     sound_same next new is (sound_further s next sound (record {
       same_table = refl;
       current = λ q within. rw length-set (sound.current q within);
+      nowhere = nowhere_set s space there sound (λ first. absurd (omega arith));
       keeps = all_kept s.memory;
       frames = refl;
       spaces = λ number. holds_set (IsSoundSpace s.table s.memory) s.spaces space there empty_space number (sound_space s sound number)
@@ -275,7 +285,7 @@ sound_fix s disk p va write replies.Fixed new sound (free, place, frame, memory,
     let b = brought s disk (page_at place) frame memory brings in
     let here = kept_space s.table s.memory memory (current_space s p) b.keeps (sound_space s sound (current s p)) in
     let can_write = may_write place.rights && not (is_frozen s (page_at place)) in
-    sound_same _ new is (sound_walked s p _ memory sound b.keeps b.frames
+    sound_same _ new is (sound_walked s p _ memory sound b.keeps b.frames refl
     (entered_space s.table memory (current_space s p) (va / 4096) (fixed_entry (entry_for s p va) frame can_write write) here
     (fixed_backs s.table memory (current_space s p) (va / 4096) frame can_write write place (entry_for s p va) here refl can.mapped b.holds can.inside)))
 sound_fix s disk p va write (replies.Refused refusals.Einval) new sound h = sound_same s new h.0 sound
@@ -291,6 +301,7 @@ sound_begun : (s : State) (lock : Option Lock) (broken : Bool) → IsSound s →
 sound_begun s lock broken sound = sound_further s (record s { lock = lock; broken = broken }) sound (record {
   same_table = refl;
   current = sound.current;
+  nowhere = sound.nowhere;
   keeps = all_kept s.memory;
   frames = refl;
   spaces = sound_space s sound;
@@ -334,6 +345,7 @@ sound_stepped s w rest sound are =
     sound_further s next sound (record {
       same_table = refl;
       current = sound.current;
+      nowhere = sound.nowhere;
       keeps = all_kept s.memory;
       frames = refl;
       spaces = sound_space s sound;
@@ -501,6 +513,14 @@ protected_spaces table memory pages (old ∷ olds) [] protects sound n = absurd 
 protected_spaces table memory pages (old ∷ olds) (new ∷ news) protects sound zero = protected_space table memory pages old new protects.0 (sound 0)
 protected_spaces table memory pages (old ∷ olds) (new ∷ news) protects sound (suc n) = protected_spaces table memory pages olds news protects.1 (λ n. sound (suc n)) n
 
+-- a protected space has the places that it had
+same_places : (pages : List Owner) (olds news : List AddressSpace) → Protects pages olds news → (n : ℕ) → (get_or news n empty_space).places ≡ (get_or olds n empty_space).places
+same_places pages [] [] protects n = refl
+same_places pages [] (new ∷ news) protects n = absurd protects
+same_places pages (old ∷ olds) [] protects n = absurd protects
+same_places pages (old ∷ olds) (new ∷ news) protects zero = protects.0.same_places
+same_places pages (old ∷ olds) (new ∷ news) protects (suc n) = same_places pages olds news protects.1 n
+
 as_many_spaces : (pages : List Owner) (olds news : List AddressSpace) → Protects pages olds news → length news ≡ length olds
 as_many_spaces pages [] [] protects = refl
 as_many_spaces pages [] (new ∷ news) protects = absurd protects
@@ -508,7 +528,7 @@ as_many_spaces pages (old ∷ olds) [] protects = absurd protects
 as_many_spaces pages (old ∷ olds) (new ∷ news) protects = ap suc (as_many_spaces pages olds news protects.1)
 
 -- a dirty page is in a frame, and a page of the table
-dirty_held : (s : State) (owner : Owner) → IsSound s → IsDirty s owner → (frame : ℕ) × Holds s.memory frame owner
+pub dirty_held : (s : State) (owner : Owner) → IsSound s → IsDirty s owner → (frame : ℕ) × Holds s.memory frame owner
 dirty_held s owner sound (number, page, place, entry, placed, is, found, dirty) =
     let b = sound.backed number page entry found in
     let same : b.0 ≡ place = let e : Some b.0 ≡ Some place = sym b.1 ∙ placed in cc in
@@ -548,6 +568,7 @@ sound_changed s number pages spaces sound counted gathered protects =
     sound_further s next sound (record {
       same_table = refl;
       current = λ q within. rw (as_many_spaces pages s.spaces spaces protects) (sound.current q within);
+      nowhere = λ page. ap (λ (places : Places). maps.get places page) (same_places pages s.spaces spaces protects 0) ∙ sound.nowhere page;
       keeps = all_kept s.memory;
       frames = refl;
       spaces = protected_spaces s.table s.memory pages s.spaces spaces protects (sound_space s sound);

@@ -23,12 +23,13 @@ held s p va (Some entry) sound is = sound.backed (current s p) (va / 4096) entry
 pub sound_set_entry : (s : State) (p va : ℕ) (e : Option Mapped) → IsSound s → IsSome e → MapsHeld s p va e → IsSound (with_entry_for s p va e)
 sound_set_entry s p va None sound some h = cc
 sound_set_entry s p va (Some entry) sound some h =
-    sound_walked s p _ s.memory sound (all_kept s.memory) refl (entered_space s.table s.memory (current_space s p) (va / 4096) entry (sound_space s sound (current s p)) h)
+    sound_walked s p _ s.memory sound (all_kept s.memory) refl refl (entered_space s.table s.memory (current_space s p) (va / 4096) entry (sound_space s sound (current s p)) h)
 
 pub sound_write_frame : (s : State) (frame at : ℕ) (bytes : List ℕ) → IsSound s → IsSound (record s { memory = with_bytes s.memory frame at bytes })
 sound_write_frame s frame at bytes sound = sound_further s (record s { memory = with_bytes s.memory frame at bytes }) sound (record {
   same_table = refl;
   current = sound.current;
+  nowhere = sound.nowhere;
   keeps = kept_with_bytes s.memory frame at bytes;
   frames = length-set s.memory.frames frame (overwrite_frame (frame_at s.memory frame) at bytes);
   spaces = λ number. kept_space s.table s.memory (with_bytes s.memory frame at bytes) (space_at s number) (kept_with_bytes s.memory frame at bytes) (sound_space s sound number);
@@ -70,6 +71,7 @@ pub sound_fresh : (table : SuperValue) (n : ℕ) → Fits layout_one table → n
 sound_fresh table n fits few = record {
   fits = fits;
   current = λ p there. first_space p there;
+  nowhere = empty_places 0;
   backed = λ number page entry found. let none = empty_entries number page in absurd (cc);
   in_table = λ number page place found. let none = empty_places number page in absurd (cc);
   few_frames = rw length-replicate few;

@@ -86,23 +86,23 @@ pub record IsUnderWay (s : State) (w : WriteOut) : Type 0 where
   pub mark : 0 < w.mark
   pub homes : AreHomes layout_one s.table (map (home_of s.table) w.pages)
 
--- What holds of every machine's state: processors are in spaces that are there; entries map frames that hold their
--- pages, and such a page begins inside its file; mapped files are in the table; a write-out has pages in memory and
--- steps left, and its home blocks can be written.
+-- What holds of every machine's state: processors are in spaces that are there; space 0 maps nothing; entries map
+-- frames that hold their pages, and such a page begins inside its file; mapped files are in the table; a write-out has
+-- pages in memory and steps left, and its home blocks can be written.
 pub record IsSound (s : State) : Type 0 where
   pub fits : Fits layout_one s.table
   pub current : (p : ℕ) → p < length s.processors → current s p < length s.spaces
+  pub nowhere : (page : ℕ) → maps.get (space_at s 0).places page ≡ None
   pub backed : (number page : ℕ) (entry : Mapped) → maps.get (space_at s number).entries page ≡ Some entry → (place : Place) × (maps.get (space_at s number).places page ≡ Some place) × Holds s.memory entry.frame (page_at place) × (4096 * place.page < length_of s.table place.file)
   pub in_table : (number page : ℕ) (place : Place) → maps.get (space_at s number).places page ≡ Some place → place.file < length s.table.files
   pub few_frames : length s.memory.frames ≤ s.table.slots
   pub write_outs : (w : WriteOut) → Contains s.write_outs w → IsUnderWay s w
 
 -- what holds of every machine: a sound state, a device as long as its volume, and room for a page of each frame in a write-out
-pub record IsMachine {D : Type 0} (seen : D → List ℕ) (device : D) (s : State) (frames pages homes : ℕ) : Type 0 where
+pub record IsMachine {D : Type 0} (seen : D → List ℕ) (device : D) (s : State) (frames pages : ℕ) : Type 0 where
   pub sound : IsSound s
   pub long : 4096 * block_count layout_one s.table ≤ length (seen device)
   pub frames_are : length s.memory.frames ≡ frames
   pub room_for_pages : frames ≤ pages
-  pub room_for_homes : frames ≤ homes
   -- while a change is begun, no write-out is under way and a mark is left
   pub begun : s.lock ≢ None → (s.write_outs ≡ []) × (s.marks + 1 < 2 ^ 32)

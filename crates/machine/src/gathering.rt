@@ -1,20 +1,18 @@
-// What a checkpoint does at once: the dirty pages are gathered in the order of their home blocks, their entries are
-// protected, and their home blocks are listed.
-ghost use Rattle.std.specs.Prelude.{ℕ, ◌≡◌, ◌⊎◌, ◌+◌, ◌<◌, ◌≤◌, ◌↔◌, IsTrue, Contains, length, map};
+// What a checkpoint does at once: the dirty pages are gathered in the order of their home blocks, and their entries are
+// protected.
+ghost use Rattle.std.specs.Prelude.{ℕ, ◌≡◌, ◌⊎◌, ◌+◌, ◌<◌, ◌≤◌, ◌↔◌, IsTrue, Contains, length};
 ghost use Rattle.std.specs.List.{prefix_len};
 ghost use Rattle.std.specs.Vec.{vec_len, vec_capacity};
 ghost use Rattle.page_entry.specs.declared.numbers.Owner.{Owner};
 ghost use Rattle.machine.specs.State.{AddressSpace, Holds};
-ghost use Rattle.machine.specs.Rules.{AreRising, Protects, home_of};
+ghost use Rattle.machine.specs.Rules.{AreRising, Protects};
 ghost use Rattle.machine.specs.Spaces.{MapsDirty};
 ghost use Rattle.machine.specs.Gathering.{is_earlier, IsDirtyIn};
-ghost use Rattle.machine.specs.Whole.{IsInTable};
 
 use crate::space::Space;
 use frames::Frames;
 use page_entry::Owner;
 use std::alloc::Allocator;
-use volume_codec::Super;
 
 // Whether a page stands before another, in the order of home blocks.
 fn is_earlier(page: Owner, other: Owner) -> bool
@@ -92,32 +90,5 @@ pub fn protect_all<A: Allocator + Copy>(spaces: &mut [Space<A>], owners: &[Owner
 {
     for space in spaces.iter_mut() {
         space.protect(owners);
-    }
-}
-
-// The home block of a page.
-fn home<A: Allocator + Copy>(table: &Super<A>, owner: Owner) -> u32
-    requires { IsInTable table.now owner }
-    ensures { result ≡ home_of table.now owner }
-{
-    // The table's blocks are fewer than 2^32, so that the sum fits.
-    let _slots = table.slots();
-    table.first_home(usize::from(owner.file)) + owner.page
-}
-
-/// Lists the home block of each page, in the order of the pages. The list has room, so that no memory is taken.
-pub fn homes_of<A: Allocator + Copy, B: Allocator>(
-    table: &Super<A>,
-    pages: &[Owner],
-    homes: &mut Vec<u32, B>,
-)
-    requires in_table { (owner : Owner) → Contains pages.now owner → IsInTable table.now owner }
-    requires room { length pages.now ≤ vec_capacity homes.old }
-    ensures homes { homes.new.items ≡ map (home_of table.now) pages.now }
-    ensures capacity { vec_capacity homes.old ≤ vec_capacity homes.new }
-{
-    homes.clear();
-    for owner in pages {
-        let _ = homes.push(home(table, *owner));
     }
 }

@@ -1,7 +1,7 @@
 // The machine's state, how it is made, and one step of it.
-ghost use Rattle.std.specs.Prelude.{◌≡◌, ◌≤◌, length, IfOk, IfErr, OnOk};
-ghost use Rattle.machine.specs.Laws.{fresh};
-ghost use Rattle.machine.specs.Booting.{IsRoom, RefusesShape};
+ghost use Rattle.std.specs.Prelude.{◌≡◌, ◌≤◌, ◌↔◌, length, IsTrue, IfOk, IfErr, OnOk};
+ghost use Rattle.machine.specs.Laws.{fresh, IsFresh};
+ghost use Rattle.machine.specs.Booting.{IsRoom, RefusesShape, HasBegunNothing};
 ghost use Rattle.machine.specs.Shapes.{IsShape};
 
 use crate::Shape;
@@ -23,7 +23,6 @@ pub(crate) struct Room<A: Allocator + Copy> {
     frames: Frames<A>,
     frame_count: u32,
     pages: Vec<Owner, A>,
-    homes: Vec<u32, A>,
 }
 
 impl<A: Allocator + Copy> Room<A> {
@@ -42,7 +41,6 @@ impl<A: Allocator + Copy> Room<A> {
             frames: Frames::new(alloc, frame_count, 0)?,
             frame_count,
             pages: Vec::with_capacity(alloc, frame_count as usize)?,
-            homes: Vec::with_capacity(alloc, frame_count as usize)?,
         })
     }
 }
@@ -59,9 +57,8 @@ pub struct Machine<D: Device + Drop, A: Allocator + Copy> {
     pub(crate) frames: Frames<A>,
     pub(crate) frame_count: u32,
     pub(crate) write_out: Option<WriteOut>,
-    // The pages of the write-out, in the order of their home blocks, and these blocks. There is room for a page a frame.
+    // The pages of the write-out, in the order of their home blocks. There is room for a page of each frame.
     pub(crate) pages: Vec<Owner, A>,
-    pub(crate) homes: Vec<u32, A>,
     pub(crate) marks: u32,
     pub(crate) broken: bool,
 }
@@ -97,7 +94,7 @@ impl<D: Device + Drop, A: Allocator + Copy> Model for Machine<D, A> {
       write_outs = write_outs_of m.write_out m.pages.items;
       marks = m.marks;
       broken = m.broken;
-    }) m.frame_count (vec_capacity m.pages) (vec_capacity m.homes) };
+    }) m.frame_count (vec_capacity m.pages) };
 }
 
 impl<D: Device + Drop, A: Allocator + Copy> Machine<D, A> {
@@ -138,7 +135,6 @@ impl<D: Device + Drop, A: Allocator + Copy> Machine<D, A> {
             frames,
             frame_count,
             pages,
-            homes,
         } = room;
         let (table, device) = volume.into_parts();
         Machine {
@@ -152,10 +148,24 @@ impl<D: Device + Drop, A: Allocator + Copy> Machine<D, A> {
             frame_count,
             write_out: None,
             pages,
-            homes,
             marks: 0,
             broken: false,
         }
+    }
+
+    /// Whether the machine is as `boot` leaves it.
+    #[tactic(auto, using(crate::proofs::Freshness::fresh_by_look, crate::proofs::Freshness::look_of_fresh))]
+    pub fn is_fresh(&self) -> bool
+        ensures { IsTrue result ↔ IsFresh self.now.state }
+    {
+        // Where space 0 is the only one, all processors are in it; and it maps nothing.
+        self.has_begun_nothing() && self.spaces.len() == 1 && self.frames.is_unused()
+    }
+
+    fn has_begun_nothing(&self) -> bool
+        ensures { IsTrue result ↔ HasBegunNothing self.now.state }
+    {
+        self.lock.is_none() && self.write_out.is_none() && self.marks == 0 && !self.broken
     }
 
     /// The machine's device, as it is.

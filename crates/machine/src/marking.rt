@@ -5,7 +5,7 @@ ghost use Rattle.machine.specs.Answers.{reply_to};
 ghost use Rattle.machine.specs.Whole.{write_outs_of};
 
 use crate::Reply;
-use crate::gathering::{gather, homes_of, protect_all};
+use crate::gathering::{gather, protect_all};
 use crate::machine::Machine;
 use crate::state::WriteOut;
 use device::Device;
@@ -44,7 +44,6 @@ impl<D: Device + Drop, A: Allocator + Copy> Machine<D, A> {
             &mut self.pages,
         );
         protect_all(&mut self.spaces, &self.pages);
-        homes_of(&self.table, &self.pages, &mut self.homes);
         self.marks += 1;
         self.lock = None;
         self.write_out = write_out_of(&self.pages, self.marks);

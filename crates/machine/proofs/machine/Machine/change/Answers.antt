@@ -6,17 +6,9 @@ use Rattle.machine.specs.Rules.{Changes, with_write_out, AreGathered, Protects}
 use Rattle.machine.specs.Gathering.{IsDirtyIn}
 use Rattle.machine.specs.Whole.{write_outs_of}
 use Rattle.machine.proofs.Sound.{sound_change}
-use Rattle.machine.proofs.Changing.{gathered_pages, gathered_listed, written_back, is_held, marked}
+use Rattle.machine.proofs.Changing.{gathered_pages, written_back, is_held, marked}
 use Rattle.machine.proofs.machine.Machine.change.Goals as goal
 use Rattle.machine.proofs.machine.Machine.change.Given as given
-
-pub homes_of-requires-clause-in_table : goal.homes_of-requires-clause-in_table
-homes_of-requires-clause-in_table g c owner here =
-    let s : State = record { table = c.self.inside.table; processors = c.self.inside.processors.items; lock = c.self.inside.lock; spaces = c.self.inside.spaces.items; memory = c.self.inside.frames; write_outs = write_outs_of c.self.inside.write_out c.self.inside.pages.items; marks = c.self.inside.marks; broken = c.self.inside.broken } in
-    let pages : List Owner = c.gather.new.pages.items in
-    let gathered : AreGathered s pages = gathered_pages s pages c.self.invariant.sound c.gather.ensures.rising
-    (λ owner. subst (λ spaces. Contains pages owner ↔ (((frame : ℕ) × Holds s.memory frame owner) × IsDirtyIn spaces owner)) c.deref.ensures.value (c.gather.ensures.pages owner)) in
-    gathered_listed s pages c.self.invariant.sound gathered owner (subst (λ xs. Contains xs owner) c.deref-3.ensures.value here)
 
 -- the machine before the change
 abbrev before : (g : given.Over) → goal.After-self-4-1 g → State
@@ -42,7 +34,7 @@ changed g c =
     subst (λ old. Protects pages old c.protect_all.new.spaces) c.deref_mut.ensures.value (subst (λ owners. Protects owners c.deref_mut.result.now c.protect_all.new.spaces) c.deref-2.ensures.value c.protect_all.ensures) in
     let long : c.self.inside.spaces.len ≡ length c.protect_all.new.spaces = let len = c.deref_mut.ensures.len in let kept = c.protect_all.auto.spaces in omega arith in
     let begun = c.self.invariant.begun (is_held c.self.inside.lock c.in-Some.lock c.in-Some.is) in
-    let left = subst (λ xs. write_outs_of c.write_out_of-self-inside.result xs ≡ with_write_out [] (c.self.inside.marks + 1) xs) c.deref-4.ensures.value c.write_out_of-self-inside.ensures in
+    let left = subst (λ xs. write_outs_of c.write_out_of-self-inside.result xs ≡ with_write_out [] (c.self.inside.marks + 1) xs) c.deref-3.ensures.value c.write_out_of-self-inside.ensures in
     marked (before g c) c.args.p pages _ c.protect_all.new.spaces _ there initiating gathered protects (written_back c.self.inside.spaces.len c.protect_all.new.spaces c.self.inside.spaces.items long) begun.0 left
 
 pub invariant_of-self : goal.invariant_of-self
@@ -51,7 +43,6 @@ invariant_of-self g c = record {
   long = c.self.invariant.long;
   frames_are = c.self.invariant.frames_are;
   room_for_pages = let was = c.self.invariant.room_for_pages in let more = c.gather.ensures.capacity in omega arith;
-  room_for_homes = let was = c.self.invariant.room_for_homes in let more = c.homes_of.ensures.capacity in omega arith;
   begun = λ held. absurd (held refl);
 }
 

@@ -23,6 +23,5 @@ invariant_of-self g c =
       long = c.self.invariant.long;
       frames_are = c.self.invariant.frames_are;
       room_for_pages = c.self.invariant.room_for_pages;
-      room_for_homes = c.self.invariant.room_for_homes;
       begun = c.self.invariant.begun;
     }

@@ -20,7 +20,6 @@ invariant_of-self g c =
       long = c.self.invariant.long;
       frames_are = ap (λ (m : FramesState). length m.frames) is ∙ (length-set c.self.inside.frames.frames c.unwrap-frame.result (Some (record { owner = c.args.owner; bytes = c.args.bytes.now })) ∙ c.self.invariant.frames_are);
       room_for_pages = c.self.invariant.room_for_pages;
-      room_for_homes = c.self.invariant.room_for_homes;
       begun = c.self.invariant.begun;
     }
 

@@ -53,7 +53,6 @@ invariant_of-self g c =
       long = subst (λ n. 4096 * block_count layout_one c.self.inside.table ≤ n) (sym c.carry_out.ensures.len) c.self.invariant.long;
       frames_are = c.self.invariant.frames_are;
       room_for_pages = c.self.invariant.room_for_pages;
-      room_for_homes = c.self.invariant.room_for_homes;
       begun = λ held. absurd (let none : s.write_outs ≡ [] = (c.self.invariant.begun held).0 in cc);
     }
 
@@ -113,7 +112,6 @@ invariant_of-self-in-Err g c =
       long = subst (λ n. 4096 * block_count layout_one c.self.inside.table ≤ n) (sym c.carry_out.ensures.len) c.self.invariant.long;
       frames_are = c.self.invariant.frames_are;
       room_for_pages = c.self.invariant.room_for_pages;
-      room_for_homes = c.self.invariant.room_for_homes;
       begun = λ held. absurd (let none : s.write_outs ≡ [] = (c.self.invariant.begun held).0 in cc);
     }
 

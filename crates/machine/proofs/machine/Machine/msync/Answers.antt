@@ -38,7 +38,6 @@ invariant_of-self g c =
       long = c.self.invariant.long;
       frames_are = c.self.invariant.frames_are;
       room_for_pages = c.self.invariant.room_for_pages;
-      room_for_homes = c.self.invariant.room_for_homes;
       begun = λ _. (no_write_out c.self.inside.write_out c.self.inside.pages.items (λ some. idle (inl some)), let few : s.marks < 2 ^ 32 - 1 = ⊎_elim (λ less. less) (λ many. absurd (idle (inr many))) (cases_lt s.marks (2 ^ 32 - 1)) in omega arith);
     }
 

@@ -13,6 +13,5 @@ invariant_of-result g c =
       long = rw (c.into_parts-table.ensures.table, c.into_parts-table.ensures.device) settled.long;
       frames_are = frames;
       room_for_pages = c.requires.room.pages;
-      room_for_homes = c.requires.room.homes;
       begun = λ held. absurd (held refl);
     }

@@ -11,6 +11,5 @@ invariant_of-self g c = record {
   long = c.self.invariant.long;
   frames_are = ap (λ m. length m.frames) c.write.ensures ∙ (length-set c.self.inside.frames.frames c.args.frame (overwrite_frame (frame_at c.self.inside.frames c.args.frame) c.args.at c.args.bytes.now) ∙ c.self.invariant.frames_are);
   room_for_pages = c.self.invariant.room_for_pages;
-  room_for_homes = c.self.invariant.room_for_homes;
   begun = c.self.invariant.begun;
 }
