@@ -141,12 +141,31 @@ fn are(replies: &[Reply], parts: &[&[Reply]]) -> bool {
 fn first_byte(alloc: Global, disk: MemDisk<Global>, file: usize) -> Result<u8, Fail> {
     match recovery::open(alloc, disk) {
         Ok(mut volume) => {
+            if file >= volume.file_count() || volume.length(file) == 0 {
+                return Err("the file has no byte".into());
+            }
             let mut byte = [1];
             volume.read_file(file, 0, &mut byte)?;
             Ok(byte[0])
         }
         Err((refusal, _)) => Err(refusal.into()),
     }
+}
+
+// A machine is fresh until a step changes it.
+#[test]
+fn a_machine_is_fresh_at_first(rt: HostRuntime) -> Result<(), Fail> {
+    let mut machine = booted(rt.alloc())?;
+    assert!(rt; machine.is_fresh());
+    let load = Act::Load { va: 4096, count: 1 };
+    let reply = machine.step(Step { p: 0, act: load });
+    assert!(rt; reply == Reply::Refused(Refusal::Fault(4)) && machine.is_fresh());
+    let reply = machine.step(Step {
+        p: 0,
+        act: Act::Create,
+    });
+    assert!(rt; reply == Reply::Space(1) && !machine.is_fresh());
+    Ok(())
 }
 
 // Nothing was stored: the mark is durable at once, and no device call is made.
