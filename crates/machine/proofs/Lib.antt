@@ -30,6 +30,7 @@ pub mod MappingRules
 pub mod Runs
 pub mod WriteOutParts
 pub mod FlushParts
+pub mod CallCounts
 pub mod Changing
 pub mod Fixing
 pub mod Parts

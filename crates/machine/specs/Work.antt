@@ -1,5 +1,5 @@
 -- What a step of the write-out asks of the device, as the code has it, and what it costs.
-use Rattle.std.specs.Prelude.{ℕ, ◌≡◌, ◌+◌, ◌*◌, ◌<◌, ◌≤◌, List, [], ◌∷◌, length, None, false}
+use Rattle.std.specs.Prelude.{ℕ, zero, suc, ◌≡◌, ◌+◌, ◌*◌, ◌<◌, ◌≤◌, List, [], ◌∷◌, length, None, false}
 use Rattle.page_entry.specs.declared.numbers.Owner.{Owner}
 use Rattle.page_entry.specs.declared.refusal.Refusal.TheVariants as refusals
 use Rattle.frames.specs.Frames.{FramesState}
@@ -83,3 +83,8 @@ HasSynced s [] reply = ⊥
 HasSynced s (w ∷ rest) (replies.Refused why) = ⊥
 HasSynced s (w ∷ rest) replies.Nothing = ⊥
 HasSynced s (w ∷ rest) reply = IsSync (work_of s w)
+
+-- how many calls of the device the first steps of a write-out make together, where none fails
+abbrev pub calls_in_steps : State → WriteOut → ℕ → ℕ
+calls_in_steps s w zero = 0
+calls_in_steps s w (suc n) = calls_in_steps s w n + calls_of (work_of s (record w { steps = n }))

@@ -1,15 +1,16 @@
 // What holds of every run of a machine, by its steps and replies alone.
-ghost use Rattle.std.specs.Prelude.{ℕ, List, None};
+ghost use Rattle.std.specs.Prelude.{ℕ, ◌≡◌, ◌+◌, ◌*◌, ◌<◌, List, length, None};
 ghost use Rattle.volume_codec.specs.Files.{File};
 ghost use Rattle.volume_codec.specs.Layout.{layout_one};
 ghost use Rattle.volume_codec.specs.Super.{Fits};
 ghost use Rattle.machine.specs.declared.act.Reply.{Reply as Answer};
 ghost use Rattle.machine.specs.declared.act.Step.{Step as Move};
-ghost use Rattle.machine.specs.State.{State};
+ghost use Rattle.machine.specs.State.{State, WriteOut};
 ghost use Rattle.machine.specs.Rules.{Run};
 ghost use Rattle.machine.specs.Laws.{IsFresh, IsAtRest, told_at_start, EachStep, LoadLaw, StoreLaw, AddressLaw, FaultsAreServed, ReadsBack};
 ghost use Rattle.machine.specs.Told.{tell_all};
 ghost use Rattle.machine.specs.Progress.{CountsSteps};
+ghost use Rattle.machine.specs.Work.{calls_in_steps};
 ghost use Rattle.machine.specs.Stops.{RunLeaves};
 
 /// Coherence: over every run from a volume at rest, loads give the latest stores, stores and faults are answered by what is mapped, and a served fault is served.
@@ -36,4 +37,10 @@ pub fn crash_safety()
 /// own, k of them, each once; its step k + 4 commits the mark, and its step 2k + 7 is the last.
 pub fn write_out_steps()
     ensures { (files : List File) (s new : State) (disk last : List ℕ) (steps : List Move) (answers : List Answer) → IsFresh s → Fits layout_one s.table → IsAtRest s.table disk files → Run s disk steps answers new last → CountsSteps (told_at_start s) None steps answers }
+{}
+
+/// Device calls of write-outs: the 2k + 7 steps of a write-out of k pages make 3k + 7 calls together, where none fails.
+#[tactic(auto, using(crate::proofs::CallCounts::all_calls))]
+pub fn write_out_calls()
+    ensures { (s : State) (w : WriteOut) → 0 < length w.pages → calls_in_steps s w (2 * length w.pages + 7) ≡ 3 * length w.pages + 7 }
 {}
