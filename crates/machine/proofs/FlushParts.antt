@@ -4,15 +4,14 @@ use Rattle.std.specs.List.{Contains}
 use Rattle.std.proofs.lemmas.List.{length-map}
 use Rattle.page_entry.specs.declared.refusal.Refusal.{Refusal}
 use Rattle.page_entry.specs.declared.refusal.Refusal.TheVariants as refusals
-use Rattle.device.specs.Device.{LeavesOnly}
-use Rattle.device.proofs.Ranges.{torn_none, torn_from_none}
-use Rattle.device.proofs.Moments.{leaves_at_start}
+use Rattle.device.proofs.Ranges.{torn_none}
 use Rattle.machine.specs.declared.act.Reply.{Reply}
 use Rattle.machine.specs.declared.act.Reply.TheVariants as replies
 use Rattle.machine.specs.State.{State, WriteOut, IsActive}
-use Rattle.machine.specs.Rules.{DeviceWork, WriteAt, CopyBlock, Sync, work_of, reply_of, write_outs_after, worked, TornByWork, Flushes, home_of}
+use Rattle.machine.specs.Rules.{DeviceWork, WriteAt, CopyBlock, Sync, work_of, reply_of, write_outs_after, worked, TornByWork, Flushes, NotActive, home_of}
 use Rattle.machine.specs.Whole.{IsSound, IsUnderWay}
-use Rattle.machine.specs.Work.{IsWithin, calls_of, calls_of_first, failures_of, HasCalled, bare, TornFromWork, TornFromStep, IsSync, HasSynced}
+use Rattle.machine.specs.Work.{IsWithin, calls_of, calls_of_first, failures_of, HasCalled, bare, TornFromWork, IsSync}
+use Rattle.machine.specs.Stops.{LeftByWork, LeftByFlush}
 use Rattle.machine.proofs.ListLaws.{Contains-head}
 
 pub within_more : (work : DeviceWork) (m n : ℕ) → m ≤ n → IsWithin work m → IsWithin work n
@@ -78,30 +77,32 @@ few_pages_under_way s w sound u =
 
 -- ---- crashes
 
-torn_from_work_none : (work : DeviceWork) (lists : List ℕ → Type 0) (c : List ℕ) → lists c → TornFromWork work lists c
-torn_from_work_none (WriteAt at bytes) lists c left = torn_from_none at (length bytes) left
-torn_from_work_none (CopyBlock from to) lists c left = torn_from_none (4096 * to) 4096 left
-torn_from_work_none Sync lists c left = left
+-- what work that was done, or that failed, may leave
+pub torn_from : (work : DeviceWork) (lists : List ℕ → Type 0) (c : List ℕ) → TornFromWork work lists c → (d : List ℕ) × lists d × TornByWork work d c
+torn_from (WriteAt at bytes) lists c torn = torn
+torn_from (CopyBlock from to) lists c torn = torn
+torn_from Sync lists c left = (c, left, refl)
 
-pub torn_from_step_none : (s : State) (write_outs : List WriteOut) (lists : List ℕ → Type 0) (c : List ℕ) → lists c → TornFromStep s write_outs lists c
-torn_from_step_none s [] lists c left = left
-torn_from_step_none s (w ∷ rest) lists c left = torn_from_work_none (work_of s w) lists c left
+left_from : (work : DeviceWork) (disk : List ℕ) (lists : List ℕ → Type 0) (c : List ℕ) → TornFromWork work lists c → (IsSync work → c ≡ disk) → (d : List ℕ) × lists d × LeftByWork work disk d c
+left_from (WriteAt at bytes) disk lists c torn synced = torn
+left_from (CopyBlock from to) disk lists c torn synced = torn
+left_from Sync disk lists c left synced = (c, left, synced tt)
 
--- a step that asks nothing of the device
-pub leaves_still : {D : Type 0} (moment : D → ℕ) (left_since : D → ℕ → List ℕ → Type 0) (device : D) (may_leave : List ℕ → Type 0) (s : State) (write_outs : List WriteOut)
-    → ((c : List ℕ) → left_since device (moment device) c → may_leave c) → LeavesOnly moment left_since device device (TornFromStep s write_outs may_leave)
-leaves_still moment left_since device may_leave s write_outs now = leaves_at_start (λ c left. torn_from_step_none s write_outs may_leave c (now c left))
+pub left_done : (s : State) (disk : List ℕ) (w : WriteOut) (reply : Reply) (lists : List ℕ → Type 0) (c : List ℕ) → s.write_outs ≡ w ∷ [] → reply ≡ reply_of w → TornFromWork (work_of s w) lists c → (IsSync (work_of s w) → c ≡ disk) → (d : List ℕ) × lists d × LeftByFlush s disk reply d c
+left_done s disk w reply lists c are answer torn synced =
+    let from = left_from (work_of s w) disk lists c torn synced in (
+      from.0,
+      from.1,
+      subst (λ r. LeftByFlush s disk r from.0 c) (sym answer)
+          (by_reply (λ r. LeftByFlush s disk r from.0 c) (λ m. (w, [], are, from.2)) (λ m. (w, [], are, from.2)) (w, [], are, from.2) w),
+    )
 
-pub not_synced_refused : (s : State) (write_outs : List WriteOut) (why : Refusal) → HasSynced s write_outs (replies.Refused why) → ⊥
-not_synced_refused s [] why h = h
-not_synced_refused s (w ∷ rest) why h = h
+pub left_failed : (s : State) (disk : List ℕ) (w : WriteOut) (lists : List ℕ → Type 0) (c : List ℕ) → s.write_outs ≡ w ∷ [] → TornFromWork (work_of s w) lists c → (d : List ℕ) × lists d × LeftByFlush s disk (replies.Refused refusals.Device) d c
+left_failed s disk w lists c are torn =
+    let from = torn_from (work_of s w) lists c torn in
+    (from.0, from.1, (w, [], are, from.2))
 
-pub not_synced_nothing : (s : State) (write_outs : List WriteOut) → HasSynced s write_outs replies.Nothing → ⊥
-not_synced_nothing s [] h = h
-not_synced_nothing s (w ∷ rest) h = h
-
-pub synced : (s : State) (w : WriteOut) (reply : Reply) → s.write_outs ≡ w ∷ [] → reply ≡ reply_of w → HasSynced s s.write_outs reply → IsSync (work_of s w)
-synced s w reply are answer h =
-    let first : HasSynced s (w ∷ []) reply = subst (λ l. HasSynced s l reply) are h in
-    let answered : HasSynced s (w ∷ []) (reply_of w) = subst (HasSynced s (w ∷ [])) answer first in
-    by_reply (λ r. HasSynced s (w ∷ []) r → IsSync (work_of s w)) (λ m h. h) (λ m h. h) (λ h. h) w answered
+pub left_refused : (s : State) (disk : List ℕ) (p : ℕ) (why : Refusal) (c : List ℕ) → NotActive s p why → LeftByFlush s disk (replies.Refused why) c c
+left_refused s disk p refusals.Einval c h = refl
+left_refused s disk p refusals.Stalled c h = refl
+left_refused s disk p why c h = absurd h

@@ -31,6 +31,7 @@ pub mod Runs
 pub mod WriteOutParts
 pub mod FlushParts
 pub mod CallCounts
+pub mod CrashRuns
 pub mod Changing
 pub mod Fixing
 pub mod Parts

@@ -77,13 +77,6 @@ IsSync (WriteAt at bytes) = ⊥
 IsSync (CopyBlock from to) = ⊥
 IsSync Sync = Unit {0}
 
--- a step that was answered this was a sync, and it succeeded
-abbrev pub HasSynced : State → List WriteOut → Reply → Type 0
-HasSynced s [] reply = ⊥
-HasSynced s (w ∷ rest) (replies.Refused why) = ⊥
-HasSynced s (w ∷ rest) replies.Nothing = ⊥
-HasSynced s (w ∷ rest) reply = IsSync (work_of s w)
-
 -- how many calls of the device the first steps of a write-out make together, where none fails
 abbrev pub calls_in_steps : State → WriteOut → ℕ → ℕ
 calls_in_steps s w zero = 0

@@ -1,9 +1,12 @@
 // One step of a machine, and whole runs of it.
-ghost use Rattle.std.specs.Prelude.{◌≡◌, ◌↔◌, length};
+ghost use Rattle.std.specs.Prelude.{◌≡◌, ◌↔◌, ℕ, List, length};
 ghost use Rattle.machine.specs.Rules.{Rules, Run};
 ghost use Rattle.machine.specs.Calls.{CallsOf};
-ghost use Rattle.machine.specs.Laws.{Coheres, IsDurable, FaultsAreServed};
+ghost use Rattle.volume_codec.specs.Files.{File};
+ghost use Rattle.machine.specs.Laws.{Coheres, IsDurable, FaultsAreServed, IsFresh, IsAtRest};
 ghost use Rattle.machine.specs.Progress.{IsCounted};
+ghost use Rattle.machine.specs.Stops.{LeavesByStep, TornByStep, RunLeaves, LeftWithin, IsCrashSafe, ReadsBackWithin};
+ghost use Rattle.device.specs.Device.{LeavesOnly, Only};
 
 use crate::machine::Machine;
 use crate::mapping::MapRequest;
@@ -16,6 +19,8 @@ impl<D: Device + Drop, A: Allocator + Copy> Machine<D, A> {
     pub fn step(&mut self, step: Step) -> Reply
         ensures rules { D.is_honest self.old.device → Rules self.old.state (D.seen self.old.device) step result self.new.state (D.seen self.new.device) }
         ensures calls { CallsOf self.old.state step.p step.act result (D.calls_made self.old.device) (D.calls_made self.new.device) (D.faults_met self.old.device) (D.faults_met self.new.device) }
+        ensures leaves { D.is_honest self.old.device → LeavesByStep self.old.state (D.seen self.old.device) step.act result (D.may_leave self.old.device) (D.may_leave self.new.device) }
+        ensures time { LeavesOnly D.moment D.left_since self.old.device self.new.device (TornByStep self.old.state step.p step.act (D.may_leave self.old.device)) }
         ensures honest { D.is_honest self.new.device ↔ D.is_honest self.old.device }
         ensures len { length (D.seen self.new.device) ≡ length (D.seen self.old.device) }
     {
@@ -60,6 +65,8 @@ impl<D: Device + Drop, A: Allocator + Copy> Machine<D, A> {
     fn do_all(&mut self, steps: &[Step], replies: &mut [Reply])
         requires { length replies.old ≡ length steps.now }
         ensures run { D.is_honest self.old.device → Run self.old.state (D.seen self.old.device) steps.now replies.new self.new.state (D.seen self.new.device) }
+        ensures leaves { D.is_honest self.old.device → Only (D.may_leave self.old.device) (D.seen self.old.device) → (c : List ℕ) → D.may_leave self.new.device c → RunLeaves self.old.state (D.seen self.old.device) (D.seen self.old.device) steps.now replies.new self.new.state (D.seen self.new.device) c }
+        ensures time { D.is_honest self.old.device → Only (D.may_leave self.old.device) (D.seen self.old.device) → LeavesOnly D.moment D.left_since self.old.device self.new.device (LeftWithin self.old.state (D.seen self.old.device) steps.now replies.new) }
         ensures honest { D.is_honest self.new.device ↔ D.is_honest self.old.device }
     {
         for (i, step) in steps.iter().enumerate() {
@@ -71,8 +78,10 @@ impl<D: Device + Drop, A: Allocator + Copy> Machine<D, A> {
     ///
     /// From a fresh machine over a volume at rest, on an honest device: loads give the latest stores, stores and faults are
     /// answered by what is mapped, a served fault is served; the device reads back as the files after a prefix of the
-    /// answered stores that ends at a mark and has every mark that was acknowledged, also where device calls failed; and
-    /// each write-out takes as many steps as its pages ask for.
+    /// answered stores that ends at a mark and has every mark that was acknowledged, also where device calls failed; so
+    /// does all that a crash may leave of it after the last step or within the next one, and all that one at any moment
+    /// of the run may have left, if the device was synced before; and each write-out takes as many steps as its pages ask
+    /// for.
     pub fn run(&mut self, steps: &[Step], replies: &mut [Reply])
         requires { length replies.old ≡ length steps.now }
 
@@ -80,6 +89,9 @@ impl<D: Device + Drop, A: Allocator + Copy> Machine<D, A> {
         ensures coherent { D.is_honest self.old.device → Coheres self.old.state (D.seen self.old.device) steps.now replies.new }
         ensures served { D.is_honest self.old.device → FaultsAreServed steps.now replies.new }
         ensures durable { D.is_honest self.old.device → IsDurable self.old.state (D.seen self.old.device) steps.now replies.new (D.seen self.new.device) }
+        ensures crash_safe { D.is_honest self.old.device → Only (D.may_leave self.old.device) (D.seen self.old.device) → IsCrashSafe self.old.state (D.seen self.old.device) steps.now replies.new self.new.state (D.may_leave self.new.device) }
+        ensures any_moment { D.is_honest self.old.device → Only (D.may_leave self.old.device) (D.seen self.old.device) → (files : List File) → IsFresh self.old.state → IsAtRest self.old.state.table (D.seen self.old.device) files
+            → LeavesOnly D.moment D.left_since self.old.device self.new.device (ReadsBackWithin files self.old.state steps.now replies.new) }
         ensures counted { D.is_honest self.old.device → IsCounted self.old.state (D.seen self.old.device) steps.now replies.new }
         ensures honest { D.is_honest self.new.device ↔ D.is_honest self.old.device }
     {

@@ -10,7 +10,9 @@ ghost use Rattle.machine.specs.State.{length_of, record_of};
 ghost use Rattle.machine.specs.Rules.{work_of, reply_of, write_outs_after, worked, TornByWork, bytes_held, home_of, Flushes};
 ghost use Rattle.machine.specs.Whole.{IsInTable, IsUnderWay, write_outs_of};
 ghost use Rattle.machine.specs.Answers.{reply_to};
-ghost use Rattle.machine.specs.Work.{work_meant, IsWithin, calls_of, TornFromWork, IsSync, HasSynced, bare, under_way, Advances, failures_of, HasCalled, TornFromStep};
+ghost use Rattle.machine.specs.Stops.{LeavesByStep, TornByStep};
+ghost use Rattle.machine.specs.declared.act.Act.TheVariants.{Flush};
+ghost use Rattle.machine.specs.Work.{work_meant, IsWithin, calls_of, TornFromWork, IsSync, bare, under_way, Advances, failures_of, HasCalled};
 
 use crate::Reply;
 use crate::machine::Machine;
@@ -230,9 +232,8 @@ impl<D: Device + Drop, A: Allocator + Copy> Machine<D, A> {
         ensures calls { D.calls_made self.old.device < 2 ^ 64 - 2 → HasCalled self.old.state (reply_to result) (D.calls_made self.old.device) (D.calls_made self.new.device) }
         ensures faults { D.faults_met self.old.device < 2 ^ 64 - 1 → D.faults_met self.new.device ≡ D.faults_met self.old.device + failures_of (reply_to result) }
         ensures faults_stay { 2 ^ 64 - 1 ≤ D.faults_met self.old.device → D.faults_met self.new.device ≡ D.faults_met self.old.device }
-        ensures time { LeavesOnly D.moment D.left_since self.old.device self.new.device (TornFromStep self.old.state self.old.state.write_outs (D.may_leave self.old.device)) }
-        ensures left { (c : List ℕ) → D.may_leave self.new.device c → TornFromStep self.old.state self.old.state.write_outs (D.may_leave self.old.device) c }
-        ensures durable { D.is_honest self.old.device → HasSynced self.old.state self.old.state.write_outs (reply_to result) → Only (D.may_leave self.new.device) (D.seen self.old.device) }
+        ensures time { LeavesOnly D.moment D.left_since self.old.device self.new.device (TornByStep self.old.state p Flush (D.may_leave self.old.device)) }
+        ensures leaves { D.is_honest self.old.device → LeavesByStep self.old.state (D.seen self.old.device) Flush (reply_to result) (D.may_leave self.old.device) (D.may_leave self.new.device) }
     {
         self.admit(p)?;
         if self.broken {

@@ -1,16 +1,21 @@
-use Rattle.std.proofs.Common.{◌≡◌, ℕ, ◌+◌, ◌*◌, ◌<◌, ◌≤◌, List, [], ◌∷◌, length, true, refl, sym, ap, ◌∙◌, subst}
+use Rattle.std.proofs.Common.{◌≡◌, ◌+◌, ◌*◌, ◌<◌, ◌≤◌, List, [], ◌∷◌, length, true, refl, inl, inr, sym, ap, ◌∙◌, subst}
 use Rattle.page_entry.specs.declared.refusal.Refusal.TheVariants as refusals
 use Rattle.volume_codec.specs.Layout.{layout_one}
 use Rattle.volume_codec.specs.Super.{block_count}
 use Rattle.machine.specs.declared.act.Reply.TheVariants as replies
 use Rattle.page_entry.specs.declared.numbers.Owner.{Owner}
 use Rattle.machine.specs.State.{State, WriteOut, IsActive}
-use Rattle.machine.specs.Rules.{work_of, write_outs_after, worked, TornByWork, Flushes, reply_of}
+use Rattle.machine.specs.Rules.{work_of, write_outs_after, worked, TornByWork, Flushes, NotActive, reply_of}
 use Rattle.machine.specs.Whole.{IsUnderWay, write_outs_of}
-use Rattle.machine.specs.Work.{work_meant, calls_of, bare, under_way, Advances, HasCalled, failures_of, TornFromWork, TornFromStep, IsSync, HasSynced}
-use Rattle.device.specs.Device.{LeavesOnly, Only}
+use Rattle.machine.specs.Work.{work_meant, calls_of, bare, under_way, Advances, HasCalled, failures_of, TornFromWork, TornFromStep, IsSync}
+use Rattle.device.specs.Device.{LeavesOnly}
+use Rattle.machine.specs.Stops.{LeftByFlush, LeavesByStep, TornByStep}
+use Rattle.machine.specs.Answers.{reply_to}
+use Rattle.std.proofs.lemmas.Result.{err_from_is_err_and}
+use Rattle.machine.specs.declared.act.Act.TheVariants as acts
+use Rattle.device.proofs.Moments.{leaves_at_start, leaves_weaker}
 use Rattle.machine.proofs.Sound.{sound_flush}
-use Rattle.machine.proofs.FlushParts.{within_more, torn_nothing, step_done, step_failed, called_done, called_failed, none_failed, first_under_way, bare_under_way, few_pages_under_way, leaves_still, synced}
+use Rattle.machine.proofs.FlushParts.{within_more, torn_nothing, step_done, step_failed, called_done, called_failed, none_failed, first_under_way, bare_under_way, few_pages_under_way, left_done, left_failed, left_refused}
 use Rattle.machine.proofs.machine.Machine.flush.Goals as goal
 
 pub next_work-work-requires-clause-under_way : goal.next_work-work-requires-clause-under_way
@@ -157,19 +162,10 @@ returns-in-Ok-clause-time g c =
     let are : s.write_outs ≡ w ∷ [] = ap (λ o. write_outs_of o c.self.inside.pages.items) c.in-Some.is in
     let work : work_meant c.next_work-work.result ≡ work_of s w = c.next_work-work.ensures.work ∙ ap (λ pages. work_of s (under_way c.in-Some.write_out pages)) c.deref.ensures.value in
     let lists = g.D.Device.may_leave c.self.inside.device in
+    let active : IsActive s c.args.p = subst (λ m. IsActive m.state c.args.p) (sym c.self.view_is) c.in_ok-admit.ensures in
     let torn = subst (λ work. LeavesOnly g.D.Device.moment g.D.Device.left_since c.self.inside.device c.carry_out.new.device (TornFromWork work lists)) work c.carry_out.ensures.time in
-    subst (λ m. LeavesOnly g.D.Device.moment g.D.Device.left_since m.device c.carry_out.new.device (TornFromStep m.state m.state.write_outs (g.D.Device.may_leave m.device))) c.self.view_is
-    (subst (λ l. LeavesOnly g.D.Device.moment g.D.Device.left_since c.self.inside.device c.carry_out.new.device (TornFromStep s l lists)) (sym are) torn)
-
-pub returns-in-Ok-clause-left : goal.returns-in-Ok-clause-left
-returns-in-Ok-clause-left g c =
-    let s : State = record { table = c.self.inside.table; processors = c.self.inside.processors.items; lock = c.self.inside.lock; spaces = c.self.inside.spaces.items; memory = c.self.inside.frames; write_outs = write_outs_of c.self.inside.write_out c.self.inside.pages.items; marks = c.self.inside.marks; broken = c.self.inside.broken } in
-    let w : WriteOut = under_way c.in-Some.write_out c.self.inside.pages.items in
-    let are : s.write_outs ≡ w ∷ [] = ap (λ o. write_outs_of o c.self.inside.pages.items) c.in-Some.is in
-    let work : work_meant c.next_work-work.result ≡ work_of s w = c.next_work-work.ensures.work ∙ ap (λ pages. work_of s (under_way c.in-Some.write_out pages)) c.deref.ensures.value in
-    let lists = g.D.Device.may_leave c.self.inside.device in
-    subst (λ m. (d : List ℕ) → g.D.Device.may_leave c.carry_out.new.device d → TornFromStep m.state m.state.write_outs (g.D.Device.may_leave m.device) d) c.self.view_is
-    (λ d left. subst (λ l. TornFromStep s l lists d) (sym are) (subst (λ work. TornFromWork work lists d) work (c.carry_out.ensures.left d left)))
+    subst (λ m. LeavesOnly g.D.Device.moment g.D.Device.left_since m.device c.carry_out.new.device (TornByStep m.state c.args.p acts.Flush (g.D.Device.may_leave m.device))) c.self.view_is
+    (leaves_weaker torn (λ d left. inr (active, c.if-self.false, subst (λ l. TornFromStep s l lists d) (sym are) left)))
 
 pub returns-in-Err-clause-time : goal.returns-in-Err-clause-time
 returns-in-Err-clause-time g c =
@@ -178,34 +174,47 @@ returns-in-Err-clause-time g c =
     let are : s.write_outs ≡ w ∷ [] = ap (λ o. write_outs_of o c.self.inside.pages.items) c.in-Some.is in
     let work : work_meant c.next_work-work.result ≡ work_of s w = c.next_work-work.ensures.work ∙ ap (λ pages. work_of s (under_way c.in-Some.write_out pages)) c.deref.ensures.value in
     let lists = g.D.Device.may_leave c.self.inside.device in
+    let active : IsActive s c.args.p = subst (λ m. IsActive m.state c.args.p) (sym c.self.view_is) c.in_ok-admit.ensures in
     let torn = subst (λ work. LeavesOnly g.D.Device.moment g.D.Device.left_since c.self.inside.device c.carry_out.new.device (TornFromWork work lists)) work c.carry_out.ensures.time in
-    subst (λ m. LeavesOnly g.D.Device.moment g.D.Device.left_since m.device c.carry_out.new.device (TornFromStep m.state m.state.write_outs (g.D.Device.may_leave m.device))) c.self.view_is
-    (subst (λ l. LeavesOnly g.D.Device.moment g.D.Device.left_since c.self.inside.device c.carry_out.new.device (TornFromStep s l lists)) (sym are) torn)
+    subst (λ m. LeavesOnly g.D.Device.moment g.D.Device.left_since m.device c.carry_out.new.device (TornByStep m.state c.args.p acts.Flush (g.D.Device.may_leave m.device))) c.self.view_is
+    (leaves_weaker torn (λ d left. inr (active, c.if-self.false, subst (λ l. TornFromStep s l lists d) (sym are) left)))
 
-pub returns-in-Err-clause-left : goal.returns-in-Err-clause-left
-returns-in-Err-clause-left g c =
-    let s : State = record { table = c.self.inside.table; processors = c.self.inside.processors.items; lock = c.self.inside.lock; spaces = c.self.inside.spaces.items; memory = c.self.inside.frames; write_outs = write_outs_of c.self.inside.write_out c.self.inside.pages.items; marks = c.self.inside.marks; broken = c.self.inside.broken } in
-    let w : WriteOut = under_way c.in-Some.write_out c.self.inside.pages.items in
-    let are : s.write_outs ≡ w ∷ [] = ap (λ o. write_outs_of o c.self.inside.pages.items) c.in-Some.is in
-    let work : work_meant c.next_work-work.result ≡ work_of s w = c.next_work-work.ensures.work ∙ ap (λ pages. work_of s (under_way c.in-Some.write_out pages)) c.deref.ensures.value in
-    let lists = g.D.Device.may_leave c.self.inside.device in
-    subst (λ m. (d : List ℕ) → g.D.Device.may_leave c.carry_out.new.device d → TornFromStep m.state m.state.write_outs (g.D.Device.may_leave m.device) d) c.self.view_is
-    (λ d left. subst (λ l. TornFromStep s l lists d) (sym are) (subst (λ work. TornFromWork work lists d) work (c.carry_out.ensures.left d left)))
+pub returns-in_err-admit-clause-time : goal.returns-in_err-admit-clause-time
+returns-in_err-admit-clause-time g c =
+    leaves_at_start (λ d left. inl (g.met.D.Device.since_now c.args.self.now.device d left))
 
-pub returns-in-Ok-clause-durable : goal.returns-in-Ok-clause-durable
-returns-in-Ok-clause-durable g c =
+pub returns-then-self-clause-time : goal.returns-then-self-clause-time
+returns-then-self-clause-time g c =
+    leaves_at_start (λ d left. inl (g.met.D.Device.since_now c.args.self.now.device d left))
+
+pub returns-in-Ok-clause-leaves : goal.returns-in-Ok-clause-leaves
+returns-in-Ok-clause-leaves g c =
     let s : State = record { table = c.self.inside.table; processors = c.self.inside.processors.items; lock = c.self.inside.lock; spaces = c.self.inside.spaces.items; memory = c.self.inside.frames; write_outs = write_outs_of c.self.inside.write_out c.self.inside.pages.items; marks = c.self.inside.marks; broken = c.self.inside.broken } in
     let w : WriteOut = under_way c.in-Some.write_out c.self.inside.pages.items in
     let are : s.write_outs ≡ w ∷ [] = ap (λ o. write_outs_of o c.self.inside.pages.items) c.in-Some.is in
     let work : work_meant c.next_work-work.result ≡ work_of s w = c.next_work-work.ensures.work ∙ ap (λ pages. work_of s (under_way c.in-Some.write_out pages)) c.deref.ensures.value in
     let answer : c.after_step-reply.result.0 ≡ reply_of w = c.after_step-reply.ensures.reply ∙ ap (λ pages. reply_of (under_way c.in-Some.write_out pages)) c.deref-2.ensures.value in
-    subst (λ m. g.D.Device.is_honest m.device → HasSynced m.state m.state.write_outs c.after_step-reply.result.0 → Only (g.D.Device.may_leave c.carry_out.new.device) (g.D.Device.seen m.device)) c.self.view_is
-    (λ honest has. c.in-Ok.ensures.durable honest (subst IsSync (sym work) (synced s w c.after_step-reply.result.0 are answer has)))
+    let lists = g.D.Device.may_leave c.self.inside.device in
+    subst (λ m. g.D.Device.is_honest m.device → LeavesByStep m.state (g.D.Device.seen m.device) acts.Flush c.after_step-reply.result.0 (g.D.Device.may_leave m.device) (g.D.Device.may_leave c.carry_out.new.device)) c.self.view_is
+    (λ honest d left. left_done s (g.D.Device.seen c.self.inside.device) w c.after_step-reply.result.0 lists d are answer
+    (subst (λ work. TornFromWork work lists d) work (c.carry_out.ensures.left d left))
+    (λ sync. c.in-Ok.ensures.durable honest (subst IsSync (sym work) sync) d left))
 
-pub returns-in_err-admit-clause-time : goal.returns-in_err-admit-clause-time
-returns-in_err-admit-clause-time g c =
-    leaves_still g.D.Device.moment g.D.Device.left_since c.args.self.now.device (g.D.Device.may_leave c.args.self.now.device) c.args.self.now.state c.args.self.now.state.write_outs (g.met.D.Device.since_now c.args.self.now.device)
+pub returns-in-Err-clause-leaves : goal.returns-in-Err-clause-leaves
+returns-in-Err-clause-leaves g c =
+    let s : State = record { table = c.self.inside.table; processors = c.self.inside.processors.items; lock = c.self.inside.lock; spaces = c.self.inside.spaces.items; memory = c.self.inside.frames; write_outs = write_outs_of c.self.inside.write_out c.self.inside.pages.items; marks = c.self.inside.marks; broken = c.self.inside.broken } in
+    let w : WriteOut = under_way c.in-Some.write_out c.self.inside.pages.items in
+    let are : s.write_outs ≡ w ∷ [] = ap (λ o. write_outs_of o c.self.inside.pages.items) c.in-Some.is in
+    let work : work_meant c.next_work-work.result ≡ work_of s w = c.next_work-work.ensures.work ∙ ap (λ pages. work_of s (under_way c.in-Some.write_out pages)) c.deref.ensures.value in
+    let lists = g.D.Device.may_leave c.self.inside.device in
+    subst (λ m. g.D.Device.is_honest m.device → LeavesByStep m.state (g.D.Device.seen m.device) acts.Flush (replies.Refused refusals.Device) (g.D.Device.may_leave m.device) (g.D.Device.may_leave c.carry_out.new.device)) c.self.view_is
+    (λ honest d left. left_failed s (g.D.Device.seen c.self.inside.device) w lists d are (subst (λ work. TornFromWork work lists d) work (c.carry_out.ensures.left d left)))
 
-pub returns-then-self-clause-time : goal.returns-then-self-clause-time
-returns-then-self-clause-time g c =
-    leaves_still g.D.Device.moment g.D.Device.left_since c.args.self.now.device (g.D.Device.may_leave c.args.self.now.device) c.args.self.now.state c.args.self.now.state.write_outs (g.met.D.Device.since_now c.args.self.now.device)
+pub returns-in_err-admit-clause-leaves : goal.returns-in_err-admit-clause-leaves
+returns-in_err-admit-clause-leaves g c = λ honest d left.
+    let p = err_from_is_err_and c.from_residual.result c.from_residual.ensures.1 in (
+      d,
+      left,
+      subst (λ r. LeftByFlush c.args.self.now.state (g.D.Device.seen c.args.self.now.device) (reply_to r) d d) (sym p.1)
+          (left_refused c.args.self.now.state (g.D.Device.seen c.args.self.now.device) c.args.p p.0 d (subst (NotActive c.args.self.now.state c.args.p) (sym p.2) c.in_err-admit.ensures)),
+    )
