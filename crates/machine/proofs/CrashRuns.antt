@@ -5,12 +5,14 @@ use Rattle.page_entry.specs.declared.refusal.Refusal.TheVariants as refusals
 use Rattle.volume_codec.specs.Files.{File}
 use Rattle.volume_codec.specs.Layout.{layout_one}
 use Rattle.volume_codec.specs.Super.{Fits}
+use Rattle.volume_codec.specs.Recovery.{RecoversTo}
+use Rattle.recovery.specs.Opening.{LeftByOpenings}
 use Rattle.machine.specs.declared.act.Act.{Act}
 use Rattle.machine.specs.declared.act.Act.TheVariants as acts
 use Rattle.machine.specs.declared.act.Reply.{Reply}
 use Rattle.machine.specs.declared.act.Reply.TheVariants as replies
 use Rattle.machine.specs.declared.act.Step.{Step}
-use Rattle.machine.specs.History.{Event}
+use Rattle.machine.specs.History.{Event, files_after}
 use Rattle.machine.specs.State.{State, WriteOut, IsActive}
 use Rattle.machine.specs.Told.{Told, tell, tell_all}
 use Rattle.machine.specs.Rules.{DeviceWork, WriteAt, CopyBlock, Sync, TornByWork, work_of}
@@ -116,3 +118,12 @@ left_now s disk steps answers i answer new disk' lists leaves p act c torn =
 -- all that a crash may leave within a run reads back
 pub within_reads_back : (files : List File) (s : State) (disk : List ℕ) (steps : List Step) (answers : List Reply) (c : List ℕ) → IsFresh s → Fits layout_one s.table → IsAtRest s.table disk files → LeftWithin s disk steps answers c → ReadsBackWithin files s steps answers c
 within_reads_back files s disk steps answers c is fits rest (n, few, behind) = (n, few, behind_reads_back files s disk (take n steps) (take n answers) c is fits rest behind)
+
+-- ---- later openings
+
+-- what reads back still does after openings, each of which may have been stopped
+pub opened_again : (files : List File) (history : List Event) (first c : List ℕ) (n : ℕ) → ReadsBack files history first → LeftByOpenings n first c → ReadsBack files history c
+opened_again files history first c zero back same = subst (λ (x : List ℕ). ReadsBack files history x) (sym same) back
+opened_again files history first c (suc n) back (b, before, (d, same, recovers)) =
+    let was = opened_again files history first b n back before in
+    (was.0, was.1, recovers (files_after files was.0) (subst (λ (x : List ℕ). RecoversTo layout_one x (files_after files was.0)) (sym same) was.2))

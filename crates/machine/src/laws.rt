@@ -12,6 +12,8 @@ ghost use Rattle.machine.specs.Told.{tell_all};
 ghost use Rattle.machine.specs.Progress.{CountsSteps};
 ghost use Rattle.machine.specs.Work.{calls_in_steps};
 ghost use Rattle.machine.specs.Stops.{RunLeaves};
+ghost use Rattle.machine.specs.History.{Event};
+ghost use Rattle.recovery.specs.Opening.{LeftByOpenings};
 
 /// Coherence: over every run from a volume at rest, loads give the latest stores, stores and faults are answered by what is mapped, and a served fault is served.
 pub fn coherence()
@@ -31,6 +33,12 @@ pub fn durability()
 /// prefix of the history: any bytes where was written since the last sync, and what was synced elsewhere.
 pub fn crash_safety()
     ensures { (files : List File) (s new : State) (disk last left : List ℕ) (steps : List Move) (answers : List Answer) → IsFresh s → Fits layout_one s.table → IsAtRest s.table disk files → RunLeaves s disk disk steps answers new last left → ReadsBack files (tell_all (told_at_start s) steps answers).history left }
+{}
+
+/// Later openings: what recovers to the files after a durable prefix still does after any number of openings, each of which may have been stopped at
+/// any moment.
+pub fn later_openings()
+    ensures { (files : List File) (history : List Event) (first c : List ℕ) (n : ℕ) → ReadsBack files history first → LeftByOpenings n first c → ReadsBack files history c }
 {}
 
 /// Steps of write-outs: over every run from a volume at rest, each write-out has the pages that were stored to between the former mark and its

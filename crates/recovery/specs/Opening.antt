@@ -1,5 +1,5 @@
 -- What opening makes of a device, and when it refuses.
-use Rattle.std.specs.Prelude.{◌≡◌, ℕ, ◌+◌, ◌*◌, ◌≤◌, ◌==◌, if◌then◌else◌, List, []}
+use Rattle.std.specs.Prelude.{◌≡◌, ℕ, zero, suc, ◌+◌, ◌*◌, ◌≤◌, ◌==◌, if◌then◌else◌, List, []}
 use Rattle.page_entry.specs.declared.refusal.Refusal.{Refusal}
 use Rattle.page_entry.specs.declared.refusal.Refusal.TheVariants.{Device, OutOfMemory, NotAVolume, Damaged}
 use Rattle.volume_codec.specs.Files.{File}
@@ -42,6 +42,12 @@ pub record IsUnwritten {D : Type 0} (seen : D → List ℕ) (may_leave : D → L
 -- this list recovers to what some list among these recovers to
 abbrev pub RecoversAs : (List ℕ → Type 0) → List ℕ → Type 0
 RecoversAs lists c = (d : List ℕ) × lists d × ((files : List File) → RecoversTo layout_one d files → RecoversTo layout_one c files)
+
+-- What may be there of a list that was opened so many times: each opening ended, or was stopped at some moment, and left what recovers to the files
+-- that the list before it recovered to.
+abbrev pub LeftByOpenings : ℕ → List ℕ → List ℕ → Type 0
+LeftByOpenings zero first c = c ≡ first
+LeftByOpenings (suc n) first c = (b : List ℕ) × LeftByOpenings n first b × RecoversAs (λ x. x ≡ b) c
 
 -- the super block of these bytes says this table, and the gate of their journal is open
 pub record HasOpenJournal (table : SuperValue) (bytes : List ℕ) : Type 0 where
