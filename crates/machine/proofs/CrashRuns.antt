@@ -1,18 +1,20 @@
 -- What a crash may leave within a run of the code, by what the rules say that a stop leaves.
-use Rattle.std.proofs.Common.{◌≡◌, ◌≤◌, ℕ, zero, suc, true, false, List, [], ◌∷◌, ◌++◌, ◌+◌, length, take, set, refl, sym, ap, ◌∙◌, subst, inl, inr, arith}
+use Rattle.std.proofs.Common.{◌≡◌, ◌≤◌, ℕ, zero, suc, true, false, List, [], ◌∷◌, ◌++◌, ◌+◌, length, take, set, refl, sym, ap, ◌∙◌, subst, inl, inr, ⊎_elim, arith}
 use Rattle.std.proofs.lemmas.List.{append-nil}
 use Rattle.page_entry.specs.declared.refusal.Refusal.TheVariants as refusals
 use Rattle.volume_codec.specs.Files.{File}
 use Rattle.volume_codec.specs.Layout.{layout_one}
-use Rattle.volume_codec.specs.Super.{Fits}
-use Rattle.volume_codec.specs.Recovery.{RecoversTo}
-use Rattle.recovery.specs.Opening.{LeftByOpenings}
+use Rattle.volume_codec.specs.Super.{SuperValue, Fits, block_count}
+use Rattle.volume_codec.specs.Recovery.{RecoversTo, IsNotAVolume, IsDamaged, recovered_files}
+use Rattle.recovery.specs.Opening.{IsOpened, LeftByOpenings}
+use Rattle.recovery.specs.Volume.{files_of}
+use Rattle.recovery.proofs.Unique.{magic_of, same_recovery}
 use Rattle.machine.specs.declared.act.Act.{Act}
 use Rattle.machine.specs.declared.act.Act.TheVariants as acts
 use Rattle.machine.specs.declared.act.Reply.{Reply}
 use Rattle.machine.specs.declared.act.Reply.TheVariants as replies
 use Rattle.machine.specs.declared.act.Step.{Step}
-use Rattle.machine.specs.History.{Event, files_after}
+use Rattle.machine.specs.History.{Event, files_after, IsDurablePrefix}
 use Rattle.machine.specs.State.{State, WriteOut, IsActive}
 use Rattle.machine.specs.Told.{Told, tell, tell_all}
 use Rattle.machine.specs.Rules.{DeviceWork, WriteAt, CopyBlock, Sync, TornByWork, work_of}
@@ -127,3 +129,17 @@ opened_again files history first c zero back same = subst (λ (x : List ℕ). Re
 opened_again files history first c (suc n) back (b, before, (d, same, recovers)) =
     let was = opened_again files history first b n back before in
     (was.0, was.1, recovers (files_after files was.0) (subst (λ (x : List ℕ). RecoversTo layout_one x (files_after files was.0)) (sym same) was.2))
+
+-- what reads back is a volume
+pub no_refusal : (files : List File) (history : List Event) (c : List ℕ) → ReadsBack files history c → (IsNotAVolume layout_one c → ⊥) × (IsDamaged layout_one c → ⊥)
+no_refusal files history c (prefix, durable, recovers) = (
+  ⊎_elim
+      (λ short. let long = recovers.volume.long in let some : 1 ≤ block_count layout_one recovers.table = omega arith in absurd (omega arith))
+      (λ other. other (magic_of recovers.table c recovers.volume.super_block)),
+  λ damaged. damaged.2 (files_after files prefix) recovers,
+)
+
+-- and it opens to the files that it recovers to
+pub opens_to : (files : List File) (history : List Event) (c : List ℕ) → ReadsBack files history c → (table : SuperValue) (homes new : List ℕ) → IsOpened table homes c new → (prefix : List Event) × IsDurablePrefix prefix history × (files_of table new ≡ files_after files prefix)
+opens_to files history c (prefix, durable, recovers) table homes new opened =
+    (prefix, durable, opened.files ∙ same_recovery c (recovered_files layout_one table homes c) (files_after files prefix) (record { table = table; homes = homes; volume = opened.held; files_are = refl }) recovers)

@@ -2,7 +2,7 @@
 ghost use Rattle.std.specs.Prelude.{ℕ, ◌≡◌, ◌+◌, ◌*◌, ◌<◌, List, length, None};
 ghost use Rattle.volume_codec.specs.Files.{File};
 ghost use Rattle.volume_codec.specs.Layout.{layout_one};
-ghost use Rattle.volume_codec.specs.Super.{Fits};
+ghost use Rattle.volume_codec.specs.Super.{SuperValue, Fits};
 ghost use Rattle.machine.specs.declared.act.Reply.{Reply as Answer};
 ghost use Rattle.machine.specs.declared.act.Step.{Step as Move};
 ghost use Rattle.machine.specs.State.{State, WriteOut};
@@ -12,8 +12,10 @@ ghost use Rattle.machine.specs.Told.{tell_all};
 ghost use Rattle.machine.specs.Progress.{CountsSteps};
 ghost use Rattle.machine.specs.Work.{calls_in_steps};
 ghost use Rattle.machine.specs.Stops.{RunLeaves};
-ghost use Rattle.machine.specs.History.{Event};
-ghost use Rattle.recovery.specs.Opening.{LeftByOpenings};
+ghost use Rattle.machine.specs.History.{Event, files_after, IsDurablePrefix};
+ghost use Rattle.volume_codec.specs.Recovery.{IsNotAVolume, IsDamaged};
+ghost use Rattle.recovery.specs.Opening.{IsOpened, LeftByOpenings};
+ghost use Rattle.recovery.specs.Volume.{files_of};
 
 /// Coherence: over every run from a volume at rest, loads give the latest stores, stores and faults are answered by what is mapped, and a served fault is served.
 pub fn coherence()
@@ -39,6 +41,13 @@ pub fn crash_safety()
 /// any moment.
 pub fn later_openings()
     ensures { (files : List File) (history : List Event) (first c : List ℕ) (n : ℕ) → ReadsBack files history first → LeftByOpenings n first c → ReadsBack files history c }
+{}
+
+/// Opening: what recovers to the files after a durable prefix isn't refused for its bytes, and where it is opened, it has exactly these files.
+pub fn opening()
+    ensures refused { (files : List File) (history : List Event) (c : List ℕ) → ReadsBack files history c → (IsNotAVolume layout_one c → ⊥) × (IsDamaged layout_one c → ⊥) }
+    ensures opened { (files : List File) (history : List Event) (c : List ℕ) → ReadsBack files history c → (table : SuperValue) (homes new : List ℕ) → IsOpened table homes c new
+        → (prefix : List Event) × IsDurablePrefix prefix history × (files_of table new ≡ files_after files prefix) }
 {}
 
 /// Steps of write-outs: over every run from a volume at rest, each write-out has the pages that were stored to between the former mark and its

@@ -19,7 +19,7 @@ mod write_out;
 pub use act::{Act, Reply, Shape, Step};
 pub use few_bytes::FewBytes;
 pub use laws::{
-    coherence, crash_safety, durability, later_openings, write_out_calls, write_out_steps,
+    coherence, crash_safety, durability, later_openings, opening, write_out_calls, write_out_steps,
 };
 pub use machine::Machine;
 pub use state::{Change, Lock, Processor};
