@@ -6,6 +6,7 @@ pub mod Rules
 pub mod Laws
 pub mod Spaces
 pub mod Whole
+pub mod Inside
 pub mod Answers
 pub mod Protection
 pub mod Booting

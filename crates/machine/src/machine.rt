@@ -65,36 +65,16 @@ pub struct Machine<D: Device + Drop, A: Allocator + Copy> {
 
 impl<D: Device + Drop, A: Allocator + Copy> Model for Machine<D, A> {
     ghost use Rattle.std.specs.Vec.{vec_capacity};
-    ghost use Rattle.machine.specs.Whole.{Whole, whole_code, write_outs_of, IsMachine};
+    ghost use Rattle.machine.specs.Inside.{state_in};
+    ghost use Rattle.machine.specs.Whole.{Whole, whole_code, IsMachine};
 
     ghost Value = { Whole D };
 
     ghost coded = { whole_code D.code };
 
-    ghost view = { λ m. record {
-      state = record {
-        table = m.table;
-        processors = m.processors.items;
-        lock = m.lock;
-        spaces = m.spaces.items;
-        memory = m.frames;
-        write_outs = write_outs_of m.write_out m.pages.items;
-        marks = m.marks;
-        broken = m.broken;
-      };
-      device = m.device;
-    } };
+    ghost view = { λ m. record { state = state_in m; device = m.device } };
 
-    ghost invariant = { λ m. IsMachine D.seen m.device (record {
-      table = m.table;
-      processors = m.processors.items;
-      lock = m.lock;
-      spaces = m.spaces.items;
-      memory = m.frames;
-      write_outs = write_outs_of m.write_out m.pages.items;
-      marks = m.marks;
-      broken = m.broken;
-    }) m.frame_count (vec_capacity m.pages) };
+    ghost invariant = { λ m. IsMachine D.seen m.device (state_in m) m.frame_count (vec_capacity m.pages) };
 }
 
 impl<D: Device + Drop, A: Allocator + Copy> Machine<D, A> {

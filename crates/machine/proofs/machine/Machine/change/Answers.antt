@@ -4,6 +4,7 @@ use Rattle.machine.specs.declared.act.Reply.TheVariants as replies
 use Rattle.machine.specs.State.{State, Holds, IsThere, IsInitiating}
 use Rattle.machine.specs.Rules.{Changes, with_write_out, AreGathered, Protects}
 use Rattle.machine.specs.Gathering.{IsDirtyIn}
+use Rattle.machine.specs.Inside.{state_in}
 use Rattle.machine.specs.Whole.{write_outs_of}
 use Rattle.machine.proofs.Sound.{sound_change}
 use Rattle.machine.proofs.Changing.{gathered_pages, written_back, is_held, marked}
@@ -12,7 +13,7 @@ use Rattle.machine.proofs.machine.Machine.change.Given as given
 
 -- the machine before the change
 abbrev before : (g : given.Over) → goal.After-self-4-1 g → State
-before g c = record { table = c.self.inside.table; processors = c.self.inside.processors.items; lock = c.self.inside.lock; spaces = c.self.inside.spaces.items; memory = c.self.inside.frames; write_outs = write_outs_of c.self.inside.write_out c.self.inside.pages.items; marks = c.self.inside.marks; broken = c.self.inside.broken }
+before g c = state_in c.self.inside
 
 -- the machine after it
 abbrev after : (g : given.Over) → goal.After-self-4-1 g → State

@@ -2,7 +2,8 @@ use Rattle.std.proofs.Common.{◌≡◌, ℕ, Bool, true, false, cond, List, [],
 use Rattle.std.specs.Result.{is_ok}
 use Rattle.machine.specs.declared.act.Reply.TheVariants as replies
 use Rattle.machine.specs.State.{State, AddressSpace, empty_space, IsFree}
-use Rattle.machine.specs.Whole.{IsSound, write_outs_of}
+use Rattle.machine.specs.Inside.{state_in}
+use Rattle.machine.specs.Whole.{IsSound}
 use Rattle.machine.proofs.Sound.{sound_create}
 use Rattle.machine.proofs.machine.Machine.create.Goals as goal
 
@@ -15,7 +16,7 @@ sound_grown s p false space spaces sound free one empty are = subst (λ (l : Lis
 
 pub invariant_of-self : goal.invariant_of-self
 invariant_of-self g c =
-    let s : State = record { table = c.self.inside.table; processors = c.self.inside.processors.items; lock = c.self.inside.lock; spaces = c.self.inside.spaces.items; memory = c.self.inside.frames; write_outs = write_outs_of c.self.inside.write_out c.self.inside.pages.items; marks = c.self.inside.marks; broken = c.self.inside.broken } in
+    let s : State = state_in c.self.inside in
     let free : IsFree s c.args.p = subst (λ w. IsFree w.state c.args.p) (sym c.self.view_is) c.in_ok-admit_alone.ensures in
     let one : length s.spaces ≡ 1 = omega arith in
     record {

@@ -1,7 +1,7 @@
 use Rattle.std.proofs.Common.{◌≡◌, length, set, slice_get, Some, None, ap, ◌∙◌}
 use Rattle.frames.specs.Frames.{with_frame, with_bytes}
 use Rattle.machine.specs.State.{State}
-use Rattle.machine.specs.Whole.{write_outs_of}
+use Rattle.machine.specs.Inside.{state_in}
 use Rattle.machine.specs.Fixing.{with_page}
 use Rattle.frames.specs.Frames.{FramesState}
 use Rattle.std.proofs.lemmas.Result.{IfOk-at_ok}
@@ -11,7 +11,7 @@ use Rattle.machine.proofs.machine.Machine.fill.Goals as goal
 
 pub invariant_of-self : goal.invariant_of-self
 invariant_of-self g c =
-    let s : State = record { table = c.self.inside.table; processors = c.self.inside.processors.items; lock = c.self.inside.lock; spaces = c.self.inside.spaces.items; memory = c.self.inside.frames; write_outs = write_outs_of c.self.inside.write_out c.self.inside.pages.items; marks = c.self.inside.marks; broken = c.self.inside.broken } in
+    let s : State = state_in c.self.inside in
     let free : slice_get c.self.inside.frames.frames c.unwrap-frame.result ≡ Some None = IfOk-at_ok (λ f. slice_get c.self.inside.frames.frames f ≡ Some None) c.unwrap-frame.ensures c.take.ensures.was_free in
     let taken : c.take.new.self ≡ with_frame c.self.inside.frames c.unwrap-frame.result c.args.owner = IfOk-at_ok (λ f. c.take.new.self ≡ with_frame c.self.inside.frames f c.args.owner) c.unwrap-frame.ensures c.take.ensures.taken in
     let is : c.write.new.self ≡ record c.self.inside.frames { frames = set c.self.inside.frames.frames c.unwrap-frame.result (Some (record { owner = c.args.owner; bytes = c.args.bytes.now })) } = c.write.ensures ∙ ap (λ (m : FramesState). with_bytes m c.unwrap-frame.result 0 c.args.bytes.now) taken ∙ filled c.self.inside.frames c.unwrap-frame.result c.args.owner c.args.bytes.now free c.told-bytes in
@@ -25,7 +25,7 @@ invariant_of-self g c =
 
 pub returns-clause-state : goal.returns-clause-state
 returns-clause-state g c =
-    let s : State = record { table = c.self.inside.table; processors = c.self.inside.processors.items; lock = c.self.inside.lock; spaces = c.self.inside.spaces.items; memory = c.self.inside.frames; write_outs = write_outs_of c.self.inside.write_out c.self.inside.pages.items; marks = c.self.inside.marks; broken = c.self.inside.broken } in
+    let s : State = state_in c.self.inside in
     let free : slice_get c.self.inside.frames.frames c.unwrap-frame.result ≡ Some None = IfOk-at_ok (λ f. slice_get c.self.inside.frames.frames f ≡ Some None) c.unwrap-frame.ensures c.take.ensures.was_free in
     let taken : c.take.new.self ≡ with_frame c.self.inside.frames c.unwrap-frame.result c.args.owner = IfOk-at_ok (λ f. c.take.new.self ≡ with_frame c.self.inside.frames f c.args.owner) c.unwrap-frame.ensures c.take.ensures.taken in
     let is : c.write.new.self ≡ record c.self.inside.frames { frames = set c.self.inside.frames.frames c.unwrap-frame.result (Some (record { owner = c.args.owner; bytes = c.args.bytes.now })) } = c.write.ensures ∙ ap (λ (m : FramesState). with_bytes m c.unwrap-frame.result 0 c.args.bytes.now) taken ∙ filled c.self.inside.frames c.unwrap-frame.result c.args.owner c.args.bytes.now free c.told-bytes in

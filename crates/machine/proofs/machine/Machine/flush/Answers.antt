@@ -6,6 +6,7 @@ use Rattle.machine.specs.declared.act.Reply.TheVariants as replies
 use Rattle.page_entry.specs.declared.numbers.Owner.{Owner}
 use Rattle.machine.specs.State.{State, WriteOut, IsActive}
 use Rattle.machine.specs.Rules.{work_of, write_outs_after, worked, TornByWork, Flushes, NotActive, reply_of}
+use Rattle.machine.specs.Inside.{state_in}
 use Rattle.machine.specs.Whole.{IsUnderWay, write_outs_of}
 use Rattle.machine.specs.Work.{work_meant, calls_of, bare, under_way, Advances, HasCalled, failures_of, TornFromWork, TornFromStep, IsSync}
 use Rattle.device.specs.Device.{LeavesOnly}
@@ -20,21 +21,21 @@ use Rattle.machine.proofs.machine.Machine.flush.Goals as goal
 
 pub next_work-work-requires-clause-under_way : goal.next_work-work-requires-clause-under_way
 next_work-work-requires-clause-under_way g c =
-    let s : State = record { table = c.self.inside.table; processors = c.self.inside.processors.items; lock = c.self.inside.lock; spaces = c.self.inside.spaces.items; memory = c.self.inside.frames; write_outs = write_outs_of c.self.inside.write_out c.self.inside.pages.items; marks = c.self.inside.marks; broken = c.self.inside.broken } in
+    let s : State = state_in c.self.inside in
     let w : WriteOut = under_way c.in-Some.write_out c.self.inside.pages.items in
     let are : s.write_outs ≡ w ∷ [] = ap (λ o. write_outs_of o c.self.inside.pages.items) c.in-Some.is in
     subst (λ pages. IsUnderWay (bare c.self.inside.table c.self.inside.frames) (under_way c.in-Some.write_out pages)) (sym c.deref.ensures.value) (bare_under_way s w (first_under_way s w c.self.invariant.sound are))
 
 pub after_step-reply-requires-clause-few : goal.after_step-reply-requires-clause-few
 after_step-reply-requires-clause-few g c =
-    let s : State = record { table = c.self.inside.table; processors = c.self.inside.processors.items; lock = c.self.inside.lock; spaces = c.self.inside.spaces.items; memory = c.self.inside.frames; write_outs = write_outs_of c.self.inside.write_out c.self.inside.pages.items; marks = c.self.inside.marks; broken = c.self.inside.broken } in
+    let s : State = state_in c.self.inside in
     let w : WriteOut = under_way c.in-Some.write_out c.self.inside.pages.items in
     let are : s.write_outs ≡ w ∷ [] = ap (λ o. write_outs_of o c.self.inside.pages.items) c.in-Some.is in
     subst (λ (pages : List Owner). length pages ≤ 1020) (sym c.deref-2.ensures.value) (few_pages_under_way s w c.self.invariant.sound (first_under_way s w c.self.invariant.sound are))
 
 pub after_step-reply-requires-clause-steps : goal.after_step-reply-requires-clause-steps
 after_step-reply-requires-clause-steps g c =
-    let s : State = record { table = c.self.inside.table; processors = c.self.inside.processors.items; lock = c.self.inside.lock; spaces = c.self.inside.spaces.items; memory = c.self.inside.frames; write_outs = write_outs_of c.self.inside.write_out c.self.inside.pages.items; marks = c.self.inside.marks; broken = c.self.inside.broken } in
+    let s : State = state_in c.self.inside in
     let w : WriteOut = under_way c.in-Some.write_out c.self.inside.pages.items in
     let are : s.write_outs ≡ w ∷ [] = ap (λ o. write_outs_of o c.self.inside.pages.items) c.in-Some.is in
     subst (λ (pages : List Owner). c.in-Some.write_out.steps ≤ 2 * length pages + 6) (sym c.deref-2.ensures.value) (first_under_way s w c.self.invariant.sound are).steps
@@ -45,7 +46,7 @@ carry_out-requires g c =
 
 pub invariant_of-self : goal.invariant_of-self
 invariant_of-self g c =
-    let s : State = record { table = c.self.inside.table; processors = c.self.inside.processors.items; lock = c.self.inside.lock; spaces = c.self.inside.spaces.items; memory = c.self.inside.frames; write_outs = write_outs_of c.self.inside.write_out c.self.inside.pages.items; marks = c.self.inside.marks; broken = c.self.inside.broken } in
+    let s : State = state_in c.self.inside in
     let w : WriteOut = under_way c.in-Some.write_out c.self.inside.pages.items in
     let are : s.write_outs ≡ w ∷ [] = ap (λ o. write_outs_of o c.self.inside.pages.items) c.in-Some.is in
     let active : IsActive s c.args.p = subst (λ m. IsActive m.state c.args.p) (sym c.self.view_is) c.in_ok-admit.ensures in
@@ -63,7 +64,7 @@ invariant_of-self g c =
 
 pub returns-in-Ok-clause-rules : goal.returns-in-Ok-clause-rules
 returns-in-Ok-clause-rules g c =
-    let s : State = record { table = c.self.inside.table; processors = c.self.inside.processors.items; lock = c.self.inside.lock; spaces = c.self.inside.spaces.items; memory = c.self.inside.frames; write_outs = write_outs_of c.self.inside.write_out c.self.inside.pages.items; marks = c.self.inside.marks; broken = c.self.inside.broken } in
+    let s : State = state_in c.self.inside in
     let w : WriteOut = under_way c.in-Some.write_out c.self.inside.pages.items in
     let are : s.write_outs ≡ w ∷ [] = ap (λ o. write_outs_of o c.self.inside.pages.items) c.in-Some.is in
     let active : IsActive s c.args.p = subst (λ m. IsActive m.state c.args.p) (sym c.self.view_is) c.in_ok-admit.ensures in
@@ -76,7 +77,7 @@ returns-in-Ok-clause-rules g c =
 
 pub returns-in-Ok-clause-state : goal.returns-in-Ok-clause-state
 returns-in-Ok-clause-state g c =
-    let s : State = record { table = c.self.inside.table; processors = c.self.inside.processors.items; lock = c.self.inside.lock; spaces = c.self.inside.spaces.items; memory = c.self.inside.frames; write_outs = write_outs_of c.self.inside.write_out c.self.inside.pages.items; marks = c.self.inside.marks; broken = c.self.inside.broken } in
+    let s : State = state_in c.self.inside in
     let w : WriteOut = under_way c.in-Some.write_out c.self.inside.pages.items in
     let are : s.write_outs ≡ w ∷ [] = ap (λ o. write_outs_of o c.self.inside.pages.items) c.in-Some.is in
     let active : IsActive s c.args.p = subst (λ m. IsActive m.state c.args.p) (sym c.self.view_is) c.in_ok-admit.ensures in
@@ -89,7 +90,7 @@ returns-in-Ok-clause-state g c =
 
 pub returns-in-Ok-clause-calls : goal.returns-in-Ok-clause-calls
 returns-in-Ok-clause-calls g c =
-    let s : State = record { table = c.self.inside.table; processors = c.self.inside.processors.items; lock = c.self.inside.lock; spaces = c.self.inside.spaces.items; memory = c.self.inside.frames; write_outs = write_outs_of c.self.inside.write_out c.self.inside.pages.items; marks = c.self.inside.marks; broken = c.self.inside.broken } in
+    let s : State = state_in c.self.inside in
     let w : WriteOut = under_way c.in-Some.write_out c.self.inside.pages.items in
     let are : s.write_outs ≡ w ∷ [] = ap (λ o. write_outs_of o c.self.inside.pages.items) c.in-Some.is in
     let work : work_meant c.next_work-work.result ≡ work_of s w = c.next_work-work.ensures.work ∙ ap (λ pages. work_of s (under_way c.in-Some.write_out pages)) c.deref.ensures.value in
@@ -99,7 +100,7 @@ returns-in-Ok-clause-calls g c =
 
 pub returns-in-Ok-clause-faults : goal.returns-in-Ok-clause-faults
 returns-in-Ok-clause-faults g c =
-    let s : State = record { table = c.self.inside.table; processors = c.self.inside.processors.items; lock = c.self.inside.lock; spaces = c.self.inside.spaces.items; memory = c.self.inside.frames; write_outs = write_outs_of c.self.inside.write_out c.self.inside.pages.items; marks = c.self.inside.marks; broken = c.self.inside.broken } in
+    let s : State = state_in c.self.inside in
     let w : WriteOut = under_way c.in-Some.write_out c.self.inside.pages.items in
     let are : s.write_outs ≡ w ∷ [] = ap (λ o. write_outs_of o c.self.inside.pages.items) c.in-Some.is in
     let answer : c.after_step-reply.result.0 ≡ reply_of w = c.after_step-reply.ensures.reply ∙ ap (λ pages. reply_of (under_way c.in-Some.write_out pages)) c.deref-2.ensures.value in
@@ -108,7 +109,7 @@ returns-in-Ok-clause-faults g c =
 
 pub invariant_of-self-in-Err : goal.invariant_of-self-in-Err
 invariant_of-self-in-Err g c =
-    let s : State = record { table = c.self.inside.table; processors = c.self.inside.processors.items; lock = c.self.inside.lock; spaces = c.self.inside.spaces.items; memory = c.self.inside.frames; write_outs = write_outs_of c.self.inside.write_out c.self.inside.pages.items; marks = c.self.inside.marks; broken = c.self.inside.broken } in
+    let s : State = state_in c.self.inside in
     let w : WriteOut = under_way c.in-Some.write_out c.self.inside.pages.items in
     let are : s.write_outs ≡ w ∷ [] = ap (λ o. write_outs_of o c.self.inside.pages.items) c.in-Some.is in
     let active : IsActive s c.args.p = subst (λ m. IsActive m.state c.args.p) (sym c.self.view_is) c.in_ok-admit.ensures in
@@ -122,7 +123,7 @@ invariant_of-self-in-Err g c =
 
 pub returns-in-Err-clause-rules : goal.returns-in-Err-clause-rules
 returns-in-Err-clause-rules g c =
-    let s : State = record { table = c.self.inside.table; processors = c.self.inside.processors.items; lock = c.self.inside.lock; spaces = c.self.inside.spaces.items; memory = c.self.inside.frames; write_outs = write_outs_of c.self.inside.write_out c.self.inside.pages.items; marks = c.self.inside.marks; broken = c.self.inside.broken } in
+    let s : State = state_in c.self.inside in
     let w : WriteOut = under_way c.in-Some.write_out c.self.inside.pages.items in
     let are : s.write_outs ≡ w ∷ [] = ap (λ o. write_outs_of o c.self.inside.pages.items) c.in-Some.is in
     let active : IsActive s c.args.p = subst (λ m. IsActive m.state c.args.p) (sym c.self.view_is) c.in_ok-admit.ensures in
@@ -132,7 +133,7 @@ returns-in-Err-clause-rules g c =
 
 pub returns-in-Err-clause-state : goal.returns-in-Err-clause-state
 returns-in-Err-clause-state g c =
-    let s : State = record { table = c.self.inside.table; processors = c.self.inside.processors.items; lock = c.self.inside.lock; spaces = c.self.inside.spaces.items; memory = c.self.inside.frames; write_outs = write_outs_of c.self.inside.write_out c.self.inside.pages.items; marks = c.self.inside.marks; broken = c.self.inside.broken } in
+    let s : State = state_in c.self.inside in
     let w : WriteOut = under_way c.in-Some.write_out c.self.inside.pages.items in
     let are : s.write_outs ≡ w ∷ [] = ap (λ o. write_outs_of o c.self.inside.pages.items) c.in-Some.is in
     let active : IsActive s c.args.p = subst (λ m. IsActive m.state c.args.p) (sym c.self.view_is) c.in_ok-admit.ensures in
@@ -141,7 +142,7 @@ returns-in-Err-clause-state g c =
 
 pub returns-in-Err-clause-calls : goal.returns-in-Err-clause-calls
 returns-in-Err-clause-calls g c =
-    let s : State = record { table = c.self.inside.table; processors = c.self.inside.processors.items; lock = c.self.inside.lock; spaces = c.self.inside.spaces.items; memory = c.self.inside.frames; write_outs = write_outs_of c.self.inside.write_out c.self.inside.pages.items; marks = c.self.inside.marks; broken = c.self.inside.broken } in
+    let s : State = state_in c.self.inside in
     let w : WriteOut = under_way c.in-Some.write_out c.self.inside.pages.items in
     let are : s.write_outs ≡ w ∷ [] = ap (λ o. write_outs_of o c.self.inside.pages.items) c.in-Some.is in
     let work : work_meant c.next_work-work.result ≡ work_of s w = c.next_work-work.ensures.work ∙ ap (λ pages. work_of s (under_way c.in-Some.write_out pages)) c.deref.ensures.value in
@@ -157,7 +158,7 @@ returns-in-Err-clause-faults g c =
 
 pub returns-in-Ok-clause-time : goal.returns-in-Ok-clause-time
 returns-in-Ok-clause-time g c =
-    let s : State = record { table = c.self.inside.table; processors = c.self.inside.processors.items; lock = c.self.inside.lock; spaces = c.self.inside.spaces.items; memory = c.self.inside.frames; write_outs = write_outs_of c.self.inside.write_out c.self.inside.pages.items; marks = c.self.inside.marks; broken = c.self.inside.broken } in
+    let s : State = state_in c.self.inside in
     let w : WriteOut = under_way c.in-Some.write_out c.self.inside.pages.items in
     let are : s.write_outs ≡ w ∷ [] = ap (λ o. write_outs_of o c.self.inside.pages.items) c.in-Some.is in
     let work : work_meant c.next_work-work.result ≡ work_of s w = c.next_work-work.ensures.work ∙ ap (λ pages. work_of s (under_way c.in-Some.write_out pages)) c.deref.ensures.value in
@@ -169,7 +170,7 @@ returns-in-Ok-clause-time g c =
 
 pub returns-in-Err-clause-time : goal.returns-in-Err-clause-time
 returns-in-Err-clause-time g c =
-    let s : State = record { table = c.self.inside.table; processors = c.self.inside.processors.items; lock = c.self.inside.lock; spaces = c.self.inside.spaces.items; memory = c.self.inside.frames; write_outs = write_outs_of c.self.inside.write_out c.self.inside.pages.items; marks = c.self.inside.marks; broken = c.self.inside.broken } in
+    let s : State = state_in c.self.inside in
     let w : WriteOut = under_way c.in-Some.write_out c.self.inside.pages.items in
     let are : s.write_outs ≡ w ∷ [] = ap (λ o. write_outs_of o c.self.inside.pages.items) c.in-Some.is in
     let work : work_meant c.next_work-work.result ≡ work_of s w = c.next_work-work.ensures.work ∙ ap (λ pages. work_of s (under_way c.in-Some.write_out pages)) c.deref.ensures.value in
@@ -189,7 +190,7 @@ returns-then-self-clause-time g c =
 
 pub returns-in-Ok-clause-leaves : goal.returns-in-Ok-clause-leaves
 returns-in-Ok-clause-leaves g c =
-    let s : State = record { table = c.self.inside.table; processors = c.self.inside.processors.items; lock = c.self.inside.lock; spaces = c.self.inside.spaces.items; memory = c.self.inside.frames; write_outs = write_outs_of c.self.inside.write_out c.self.inside.pages.items; marks = c.self.inside.marks; broken = c.self.inside.broken } in
+    let s : State = state_in c.self.inside in
     let w : WriteOut = under_way c.in-Some.write_out c.self.inside.pages.items in
     let are : s.write_outs ≡ w ∷ [] = ap (λ o. write_outs_of o c.self.inside.pages.items) c.in-Some.is in
     let work : work_meant c.next_work-work.result ≡ work_of s w = c.next_work-work.ensures.work ∙ ap (λ pages. work_of s (under_way c.in-Some.write_out pages)) c.deref.ensures.value in
@@ -202,7 +203,7 @@ returns-in-Ok-clause-leaves g c =
 
 pub returns-in-Err-clause-leaves : goal.returns-in-Err-clause-leaves
 returns-in-Err-clause-leaves g c =
-    let s : State = record { table = c.self.inside.table; processors = c.self.inside.processors.items; lock = c.self.inside.lock; spaces = c.self.inside.spaces.items; memory = c.self.inside.frames; write_outs = write_outs_of c.self.inside.write_out c.self.inside.pages.items; marks = c.self.inside.marks; broken = c.self.inside.broken } in
+    let s : State = state_in c.self.inside in
     let w : WriteOut = under_way c.in-Some.write_out c.self.inside.pages.items in
     let are : s.write_outs ≡ w ∷ [] = ap (λ o. write_outs_of o c.self.inside.pages.items) c.in-Some.is in
     let work : work_meant c.next_work-work.result ≡ work_of s w = c.next_work-work.ensures.work ∙ ap (λ pages. work_of s (under_way c.in-Some.write_out pages)) c.deref.ensures.value in

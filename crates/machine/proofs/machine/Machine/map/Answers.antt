@@ -9,7 +9,7 @@ use Rattle.mappings.specs.Judgement.{add_refusal}
 use Rattle.machine.specs.declared.act.Reply.TheVariants as replies
 use Rattle.machine.specs.State.{State, IsFree, empty_space, space_at}
 use Rattle.machine.specs.Rules.{Maps, IsMappable, IsMappedAlready}
-use Rattle.machine.specs.Whole.{write_outs_of}
+use Rattle.machine.specs.Inside.{state_in}
 use Rattle.machine.proofs.Sound.{sound_map}
 use Rattle.machine.proofs.MappingRules.{maps_one, refuses_one, put_back, put_mapped}
 use Rattle.machine.proofs.machine.Machine.map.Given.{Over}
@@ -20,7 +20,7 @@ pub returns-in_err-map-clause-rules : goal.returns-in_err-map-clause-rules
 returns-in_err-map-clause-rules g c =
     let p = err_from_is_err_and c.from_residual-in_err-map.result c.from_residual-in_err-map.ensures.1 in
     let now : State = c.args.self.now.state in
-    let s : State = record { table = c.self.inside.table; processors = c.self.inside.processors.items; lock = c.self.inside.lock; spaces = c.self.inside.spaces.items; memory = c.self.inside.frames; write_outs = write_outs_of c.self.inside.write_out c.self.inside.pages.items; marks = c.self.inside.marks; broken = c.self.inside.broken } in
+    let s : State = state_in c.self.inside in
     let same : s ≡ now = ap (λ w. w.state) c.self.view_is in
     let pages : PageRange × ℕ = (c.in_ok-range.range, c.in_ok-range.page) in
     let place : Place = record { file = c.args.request.file; page = c.in_ok-range.page; rights = c.args.request.prot; access = c.args.request.access } in
@@ -38,9 +38,9 @@ returns-in_err-map-clause-rules g c =
     rw p.1 (refuses_one now c.args.p c.args.request.space c.args.request.va c.args.request.len c.args.request.file c.args.request.offset c.args.request.prot c.args.request.access pages p.0 (record s { spaces = set s.spaces c.args.request.space c.map.new.self }) c.in_ok-admit_alone.ensures mappable listed why_is unchanged)
 
 -- the rule for the mapping that was made, at the state as it was inside
-made : (g : Over) (c : In_ok-map g) → (let s : State = record { table = c.self.inside.table; processors = c.self.inside.processors.items; lock = c.self.inside.lock; spaces = c.self.inside.spaces.items; memory = c.self.inside.frames; write_outs = write_outs_of c.self.inside.write_out c.self.inside.pages.items; marks = c.self.inside.marks; broken = c.self.inside.broken } in Maps s c.args.p c.args.request.space c.args.request.va c.args.request.len c.args.request.file c.args.request.offset c.args.request.prot c.args.request.access replies.Mapped (record s { spaces = set s.spaces c.args.request.space c.map.new.self }))
+made : (g : Over) (c : In_ok-map g) → (let s : State = state_in c.self.inside in Maps s c.args.p c.args.request.space c.args.request.va c.args.request.len c.args.request.file c.args.request.offset c.args.request.prot c.args.request.access replies.Mapped (record s { spaces = set s.spaces c.args.request.space c.map.new.self }))
 made g c =
-    let s : State = record { table = c.self.inside.table; processors = c.self.inside.processors.items; lock = c.self.inside.lock; spaces = c.self.inside.spaces.items; memory = c.self.inside.frames; write_outs = write_outs_of c.self.inside.write_out c.self.inside.pages.items; marks = c.self.inside.marks; broken = c.self.inside.broken } in
+    let s : State = state_in c.self.inside in
     let pages : PageRange × ℕ = (c.in_ok-range.range, c.in_ok-range.page) in
     let place : Place = record { file = c.args.request.file; page = c.in_ok-range.page; rights = c.args.request.prot; access = c.args.request.access } in
     let free : IsFree s c.args.p = subst (λ w. IsFree w.state c.args.p) (sym c.self.view_is) c.in_ok-admit_alone.ensures in
@@ -57,7 +57,7 @@ made g c =
 
 pub invariant_of-self-2 : goal.invariant_of-self-2
 invariant_of-self-2 g c =
-    let s : State = record { table = c.self.inside.table; processors = c.self.inside.processors.items; lock = c.self.inside.lock; spaces = c.self.inside.spaces.items; memory = c.self.inside.frames; write_outs = write_outs_of c.self.inside.write_out c.self.inside.pages.items; marks = c.self.inside.marks; broken = c.self.inside.broken } in
+    let s : State = state_in c.self.inside in
     record {
       sound = sound_map s c.args.p c.args.request.space c.args.request.va c.args.request.len c.args.request.file c.args.request.offset c.args.request.prot c.args.request.access replies.Mapped (record s { spaces = set s.spaces c.args.request.space c.map.new.self }) c.self.invariant.sound (made g c);
       long = c.self.invariant.long;
@@ -68,5 +68,5 @@ invariant_of-self-2 g c =
 
 pub returns-clause-rules : goal.returns-clause-rules
 returns-clause-rules g c =
-    let s : State = record { table = c.self.inside.table; processors = c.self.inside.processors.items; lock = c.self.inside.lock; spaces = c.self.inside.spaces.items; memory = c.self.inside.frames; write_outs = write_outs_of c.self.inside.write_out c.self.inside.pages.items; marks = c.self.inside.marks; broken = c.self.inside.broken } in
+    let s : State = state_in c.self.inside in
     subst (λ w. Maps w.state c.args.p c.args.request.space c.args.request.va c.args.request.len c.args.request.file c.args.request.offset c.args.request.prot c.args.request.access replies.Mapped (record s { spaces = set s.spaces c.args.request.space c.map.new.self })) c.self.view_is (made g c)

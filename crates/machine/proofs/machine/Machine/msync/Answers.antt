@@ -8,6 +8,7 @@ use Rattle.machine.specs.declared.act.Reply.TheVariants as replies
 use Rattle.machine.specs.declared.state.Change.TheVariants as changes
 use Rattle.machine.specs.State.{State, current_space}
 use Rattle.machine.specs.Rules.{whole_range_mapped, IsBusy}
+use Rattle.machine.specs.Inside.{state_in}
 use Rattle.machine.specs.Whole.{IsSound, write_outs_of}
 use Rattle.machine.proofs.Sound.{sound_msync}
 use Rattle.machine.proofs.machine.Machine.msync.Goals as goal
@@ -25,7 +26,7 @@ no_write_out (Some progress) pages h = absurd (h (λ e. cc))
 
 pub invariant_of-self : goal.invariant_of-self
 invariant_of-self g c =
-    let s : State = record { table = c.self.inside.table; processors = c.self.inside.processors.items; lock = c.self.inside.lock; spaces = c.self.inside.spaces.items; memory = c.self.inside.frames; write_outs = write_outs_of c.self.inside.write_out c.self.inside.pages.items; marks = c.self.inside.marks; broken = c.self.inside.broken } in
+    let s : State = state_in c.self.inside in
     let now : State = c.args.self.now.state in
     let next : State = record now { lock = Some (record { holder = c.args.p; change = changes.Checkpoint }) } in
     let is : record s { lock = Some (record { holder = c.args.p; change = changes.Checkpoint }) } ≡ next = ap (λ w. record w.state { lock = Some (record { holder = c.args.p; change = changes.Checkpoint }) }) c.self.view_is in

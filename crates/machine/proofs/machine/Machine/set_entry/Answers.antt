@@ -2,7 +2,8 @@ use Rattle.std.proofs.Common.{◌≡◌, ℕ, ◌<◌, Option, length, set, refl
 use Rattle.page_entry.specs.Entry.{Mapped}
 use Rattle.machine.specs.State.{State, AddressSpace, IsThere, with_entry, current, space_at}
 use Rattle.machine.specs.Answers.{MapsHeld, with_entry_for}
-use Rattle.machine.specs.Whole.{IsSound, write_outs_of}
+use Rattle.machine.specs.Inside.{state_in}
+use Rattle.machine.specs.Whole.{IsSound}
 use Rattle.std.proofs.lemmas.Grind.{common_steps}
 use Rattle.machine.proofs.SoundParts.{sound_set_entry}
 use Rattle.machine.proofs.machine.Machine.set_entry.Goals as goal
@@ -14,7 +15,7 @@ entered s p va e number space new at is put = rw (at, is, put) refl
 pub invariant_of-self : goal.invariant_of-self
 invariant_of-self g c = record {
   sound =
-      let s : State = record { table = c.self.inside.table; processors = c.self.inside.processors.items; lock = c.self.inside.lock; spaces = c.self.inside.spaces.items; memory = c.self.inside.frames; write_outs = write_outs_of c.self.inside.write_out c.self.inside.pages.items; marks = c.self.inside.marks; broken = c.self.inside.broken } in
+      let s : State = state_in c.self.inside in
       let there : c.args.p < length c.self.inside.processors.items = subst (λ w. IsThere w.state c.args.p) (sym c.self.view_is) c.requires.there in
       let at : current s c.args.p ≡ c.index.result.now.space = grind (arith, common_steps) in
       let within : c.index.result.now.space < length c.self.inside.spaces.items = subst (λ n. n < length c.self.inside.spaces.items) at (c.self.invariant.sound.current c.args.p there) in

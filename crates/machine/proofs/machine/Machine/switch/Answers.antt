@@ -1,13 +1,13 @@
 use Rattle.std.proofs.Common.{refl, sym, subst, arith}
 use Rattle.machine.specs.declared.act.Reply.TheVariants as replies
 use Rattle.machine.specs.State.{State, IsFree}
-use Rattle.machine.specs.Whole.{write_outs_of}
+use Rattle.machine.specs.Inside.{state_in}
 use Rattle.machine.proofs.Sound.{sound_switch}
 use Rattle.machine.proofs.machine.Machine.switch.Goals as goal
 
 pub invariant_of-self : goal.invariant_of-self
 invariant_of-self g c =
-    let s : State = record { table = c.self.inside.table; processors = c.self.inside.processors.items; lock = c.self.inside.lock; spaces = c.self.inside.spaces.items; memory = c.self.inside.frames; write_outs = write_outs_of c.self.inside.write_out c.self.inside.pages.items; marks = c.self.inside.marks; broken = c.self.inside.broken } in
+    let s : State = state_in c.self.inside in
     let free : IsFree s c.args.p = subst (λ w. IsFree w.state c.args.p) (sym c.self.view_is) c.in_ok-admit_alone.ensures in
     record {
       sound = sound_switch s c.args.p c.args.space replies.Switched _ c.self.invariant.sound (free, omega arith, refl);
