@@ -2,3 +2,4 @@ mod AllOf
 mod DumpRows
 mod Names
 mod Cuts
+mod Sessions

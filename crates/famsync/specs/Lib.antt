@@ -6,3 +6,4 @@ pub mod Replies
 pub mod Script
 pub mod ScriptFault
 pub mod Acts
+pub mod Session

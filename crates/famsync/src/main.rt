@@ -10,6 +10,7 @@ mod fault;
 mod perform;
 mod run;
 mod script;
+mod session;
 mod step;
 #[cfg(test)]
 mod tests;

@@ -5,8 +5,9 @@ ghost use Rattle.famsync.specs.Replies.{tells_failure};
 use crate::disk::read_file;
 use crate::fault::Fault;
 use crate::script::{Script, ScriptFault};
+use crate::session::run_steps;
 use device::FileDisk;
-use machine::{Machine, Reply, Shape};
+use machine::Reply;
 use page_entry::Refusal;
 use std::alloc::Allocator;
 use std::fs::File;
@@ -29,8 +30,10 @@ where
 {
     let Script { shape, steps } = read_script(rt, alloc, script)?;
     let mut replies = vec![in alloc; Reply::Nothing; steps.len()]?;
-    let mut machine = boot(rt, alloc, path, shape)?;
-    machine.run(&steps, &mut replies);
+    let disk = FileDisk::open(rt, path).map_err(|cause| Fault::File { path, cause })?;
+    if let Err(cause) = run_steps(alloc, disk, shape, &steps, &mut replies) {
+        return Err(Fault::Disk { path, cause });
+    }
     write_replies(script, &replies, out)
 }
 
@@ -44,27 +47,6 @@ where
         Ok(script) => Ok(script),
         Err(ScriptFault::Memory(cause)) => Err(Fault::Memory(cause)),
         Err(cause) => Err(Fault::Script { path, cause }),
-    }
-}
-
-fn boot<'a, R, A>(
-    rt: &R,
-    alloc: A,
-    path: &'a str,
-    shape: Shape,
-) -> Result<Machine<FileDisk, A>, Fault<'a>>
-where
-    R: Files<File = File>,
-    A: Allocator + Copy,
-{
-    let disk = FileDisk::open(rt, path).map_err(|cause| Fault::File { path, cause })?;
-    let volume = match recovery::open(alloc, disk) {
-        Ok(volume) => volume,
-        Err((cause, _)) => return Err(Fault::Disk { path, cause }),
-    };
-    match Machine::boot(alloc, volume, shape) {
-        Ok(machine) => Ok(machine),
-        Err((cause, _)) => Err(Fault::Disk { path, cause }),
     }
 }
 

@@ -1,0 +1,48 @@
+// A run on a volume, from its device and back.
+ghost use Rattle.std.specs.Prelude.{◌≡◌, ℕ, List, length, IfOk};
+ghost use Rattle.device.specs.Device.{LeavesOnly};
+ghost use Rattle.volume_codec.specs.Files.{File};
+ghost use Rattle.volume_codec.specs.Layout.{layout_one};
+ghost use Rattle.volume_codec.specs.Recovery.{RecoversTo};
+ghost use Rattle.machine.specs.Laws.{ReadsBack};
+ghost use Rattle.famsync.specs.Session.{history_of, ReadsBackAfterSome};
+
+use device::Device;
+use machine::{Machine, Reply, Shape, Step};
+use page_entry::Refusal;
+use std::alloc::Allocator;
+
+/// Opens the volume of a device, does the steps on a machine of this shape, puts each one's reply into its place, and hands
+/// the device back.
+///
+/// Whatever the steps are, and also where device calls fail, the device then recovers to its files after a prefix of the
+/// answered stores that is empty or ends at a commit and has every commit that was acknowledged; and so does all that a
+/// crash then may leave of it, or a crash at any moment of the opening and the run may have left.
+pub fn run_steps<D: Device + Drop, A: Allocator + Copy>(
+    alloc: A,
+    device: D,
+    shape: Shape,
+    steps: &[Step],
+    replies: &mut [Reply],
+) -> Result<D, Refusal>
+    requires { length replies.old ≡ length steps.now }
+
+    ensures durable { D.is_honest device → (files : List File) → RecoversTo layout_one (D.seen device) files
+        → IfOk result (λ after. ReadsBack files (history_of steps.now replies.new) (D.seen after)) }
+    ensures crash_safe { D.is_honest device → (files : List File) → RecoversTo layout_one (D.seen device) files
+        → IfOk result (λ after. (c : List ℕ) → D.may_leave after c → ReadsBack files (history_of steps.now replies.new) c) }
+    ensures any_moment { D.is_honest device → (files : List File) → ((c : List ℕ) → D.may_leave device c → RecoversTo layout_one c files)
+        → IfOk result (λ after. LeavesOnly D.moment D.left_since device after (ReadsBackAfterSome files steps.now replies.new)) }
+{
+    let volume = match recovery::open(alloc, device) {
+        Ok(volume) => volume,
+        Err((refusal, _)) => return Err(refusal),
+    };
+    match Machine::boot(alloc, volume, shape) {
+        Ok(mut machine) => {
+            machine.run(steps, replies);
+            Ok(machine.into_device())
+        }
+        Err((refusal, _)) => Err(refusal),
+    }
+}
