@@ -31,10 +31,10 @@ where
     let Script { shape, steps } = read_script(rt, alloc, script)?;
     let mut replies = vec![in alloc; Reply::Nothing; steps.len()]?;
     let disk = FileDisk::open(rt, path).map_err(|cause| Fault::File { path, cause })?;
-    if let Err(cause) = run_steps(alloc, disk, shape, &steps, &mut replies) {
-        return Err(Fault::Disk { path, cause });
+    match run_steps(alloc, disk, shape, &steps, &mut replies) {
+        Ok(_) => write_replies(script, &replies, out),
+        Err((cause, _)) => Err(Fault::Disk { path, cause }),
     }
-    write_replies(script, &replies, out)
 }
 
 fn read_script<'a, R, A>(rt: &R, alloc: A, path: &'a str) -> Result<Script<A>, Fault<'a>>

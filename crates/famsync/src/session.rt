@@ -1,11 +1,12 @@
 // A run on a volume, from its device and back.
-ghost use Rattle.std.specs.Prelude.{◌≡◌, ℕ, List, length, IfOk};
+ghost use Rattle.std.specs.Prelude.{◌≡◌, ℕ, List, length, IfOk, IfErr};
 ghost use Rattle.device.specs.Device.{LeavesOnly};
 ghost use Rattle.volume_codec.specs.Files.{File};
 ghost use Rattle.volume_codec.specs.Layout.{layout_one};
 ghost use Rattle.volume_codec.specs.Recovery.{RecoversTo};
+ghost use Rattle.recovery.specs.Counts.{HasCause};
 ghost use Rattle.machine.specs.Laws.{ReadsBack};
-ghost use Rattle.famsync.specs.Session.{history_of, ReadsBackAfterSome};
+ghost use Rattle.famsync.specs.Session.{RunsOn, RefusesRun, history_of, ReadsBackAfterSome};
 
 use device::Device;
 use machine::{Machine, Reply, Shape, Step};
@@ -18,14 +19,21 @@ use std::alloc::Allocator;
 /// Whatever the steps are, and also where device calls fail, the device then recovers to its files after a prefix of the
 /// answered stores that is empty or ends at a commit and has every commit that was acknowledged; and so does all that a
 /// crash then may leave of it, or a crash at any moment of the opening and the run may have left.
+///
+/// `NotAVolume` and `Damaged` as `open`, and `BadShape` as `Machine::boot`; `Device` where a device call of the opening
+/// failed, and `OutOfMemory` where memory was refused. What a crash may have left then recovers to the files as before.
 pub fn run_steps<D: Device + Drop, A: Allocator + Copy>(
     alloc: A,
     device: D,
     shape: Shape,
     steps: &[Step],
     replies: &mut [Reply],
-) -> Result<D, Refusal>
+) -> Result<D, (Refusal, D)>
     requires { length replies.old ≡ length steps.now }
+
+    ensures ran { D.is_honest device → IfOk result (λ after. RunsOn (D.seen device) shape steps.now replies.new (D.seen after)) }
+    ensures refused { D.is_honest device → IfErr result (λ refused. RefusesRun (D.seen device) shape refused.0) }
+    ensures failed { IfErr result (λ refused. HasCause (D.faults_met device) (D.faults_met refused.1) refused.0) }
 
     ensures durable { D.is_honest device → (files : List File) → RecoversTo layout_one (D.seen device) files
         → IfOk result (λ after. ReadsBack files (history_of steps.now replies.new) (D.seen after)) }
@@ -33,16 +41,18 @@ pub fn run_steps<D: Device + Drop, A: Allocator + Copy>(
         → IfOk result (λ after. (c : List ℕ) → D.may_leave after c → ReadsBack files (history_of steps.now replies.new) c) }
     ensures any_moment { D.is_honest device → (files : List File) → ((c : List ℕ) → D.may_leave device c → RecoversTo layout_one c files)
         → IfOk result (λ after. LeavesOnly D.moment D.left_since device after (ReadsBackAfterSome files steps.now replies.new)) }
+    ensures any_moment_err { D.is_honest device → (files : List File) → ((c : List ℕ) → D.may_leave device c → RecoversTo layout_one c files)
+        → IfErr result (λ refused. LeavesOnly D.moment D.left_since device refused.1 (λ c. RecoversTo layout_one c files)) }
 {
     let volume = match recovery::open(alloc, device) {
         Ok(volume) => volume,
-        Err((refusal, _)) => return Err(refusal),
+        Err(refused) => return Err(refused),
     };
     match Machine::boot(alloc, volume, shape) {
         Ok(mut machine) => {
             machine.run(steps, replies);
             Ok(machine.into_device())
         }
-        Err((refusal, _)) => Err(refusal),
+        Err((refusal, volume)) => Err((refusal, volume.into_device())),
     }
 }
