@@ -18,7 +18,8 @@ use std::alloc::Allocator;
 ///
 /// Whatever the steps are, and also where device calls fail, the device then recovers to its files after a prefix of the
 /// answered stores that is empty or ends at a commit and has every commit that was acknowledged; and so does all that a
-/// crash then may leave of it, or a crash at any moment of the opening and the run may have left.
+/// crash then may leave of it. If all that a crash before might have left recovers to these files, what a crash at any
+/// moment of the opening and the run may have left recovers so after some of the steps.
 ///
 /// `NotAVolume` and `Damaged` as `open`, and `BadShape` as `Machine::boot`; `Device` where a device call of the opening
 /// failed, and `OutOfMemory` where memory was refused. What a crash may have left then recovers to the files as before.

@@ -79,9 +79,9 @@ impl<D: Device + Drop, A: Allocator + Copy> Machine<D, A> {
     /// From a fresh machine over a volume at rest, on an honest device: loads give the latest stores, stores and faults are
     /// answered by what is mapped, a served fault is served; the device reads back as the files after a prefix of the
     /// answered stores that ends at a mark and has every mark that was acknowledged, also where device calls failed; so
-    /// does all that a crash may leave of it after the last step or within the next one, and all that one at any moment
-    /// of the run may have left, if the device was synced before; and each write-out takes as many steps as its pages ask
-    /// for.
+    /// does all that a crash may leave of it after the last step or within the next one, if the device was synced before;
+    /// what a crash at an earlier moment may have left reads back so after some of the steps; and each write-out takes as
+    /// many steps as its pages ask for.
     pub fn run(&mut self, steps: &[Step], replies: &mut [Reply])
         requires { length replies.old ≡ length steps.now }
 
