@@ -1,3 +1,5 @@
 pub mod Moments
-mod Replay
+mod Outcomes
 pub mod Ranges
+mod Replay
+mod Spoiling

@@ -22,7 +22,7 @@ written_within old at bytes i fits le lt =
     let first : get_or (written old at bytes) i 0 ≡ get_or (take at old ++ bytes) i 0 = get_or_append_left (take at old ++ bytes) (drop (at + length bytes) old) 0 i (omega (arith, front, length-append (take at old) bytes)) in
     first ∙ get_or-append_right (take at old) bytes at i 0 front le
 
--- the place is behind the range that is written
+-- the place is past the range that is written
 pub written_after : (old : List ℕ) (at : ℕ) (bytes : List ℕ) (i : ℕ) → at + length bytes ≤ length old → at + length bytes ≤ i → get_or (written old at bytes) i 0 ≡ get_or old i 0
 written_after old at bytes i fits le =
     let front : length (take at old ++ bytes) ≡ at + length bytes = omega (arith, length-append (take at old) bytes, length-take at old) in
@@ -54,7 +54,7 @@ torn_none at n old = record { before = refl; after = refl; same_length = refl }
 pub torn_before : {at n : ℕ} {old new : List ℕ} → Torn at n old new → (i : ℕ) → i < at → get_or new i 0 ≡ get_or old i 0
 torn_before {at} {n} {old} {new} torn i lt = sym (get_or-take at new i 0 lt) ∙ ap (λ (l : List ℕ). get_or l i 0) torn.before ∙ get_or-take at old i 0 lt
 
--- places behind a torn range keep their bytes
+-- places past a torn range keep their bytes
 pub torn_after : {at n : ℕ} {old new : List ℕ} → Torn at n old new → (i : ℕ) → at + n ≤ i → get_or new i 0 ≡ get_or old i 0
 torn_after {at} {n} {old} {new} torn i le =
     let place : at + n + (i - (at + n)) ≡ i = omega arith in
@@ -115,7 +115,7 @@ same_parts xs ys i j same at =
 pub part_before_torn : {at n : ℕ} {old new : List ℕ} → Torn at n old new → (i j : ℕ) → j ≤ at → slice_range new i j ≡ slice_range old i j
 part_before_torn {at} {n} {old} {new} torn i j le = same_parts new old i j torn.same_length (λ k from lt. torn_before torn k (omega (arith, le, lt)))
 
--- a part behind a torn range stays
+-- a part past a torn range stays
 pub part_after_torn : {at n : ℕ} {old new : List ℕ} → Torn at n old new → (i j : ℕ) → at + n ≤ i → slice_range new i j ≡ slice_range old i j
 part_after_torn {at} {n} {old} {new} torn i j le = same_parts new old i j torn.same_length (λ k from lt. torn_after torn k (omega (arith, le, from)))
 
@@ -123,7 +123,7 @@ part_after_torn {at} {n} {old} {new} torn i j le = same_parts new old i j torn.s
 pub part_before_written : (old : List ℕ) (at : ℕ) (bytes : List ℕ) (i j : ℕ) → at + length bytes ≤ length old → j ≤ at → slice_range (written old at bytes) i j ≡ slice_range old i j
 part_before_written old at bytes i j fits le = part_before_torn (torn_by_write old at bytes fits) i j le
 
--- a part behind the range that is written stays
+-- a part past the range that is written stays
 pub part_after_written : (old : List ℕ) (at : ℕ) (bytes : List ℕ) (i j : ℕ) → at + length bytes ≤ length old → at + length bytes ≤ i → slice_range (written old at bytes) i j ≡ slice_range old i j
 part_after_written old at bytes i j fits le = part_after_torn (torn_by_write old at bytes fits) i j le
 

@@ -1,4 +1,6 @@
+pub mod Count
 pub mod Device
+pub mod Failing
 pub mod File
-pub mod Logged
 pub mod Memory
+pub mod inside

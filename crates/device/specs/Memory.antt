@@ -1,6 +1,6 @@
 -- A disk in memory, as the record of its calls: what it held at first, and the writes and syncs since.
-use Rattle.std.specs.Prelude.{◌≡◌, ◌^◌, ◌<◌, ℕ, ◌+◌, ◌-◌, ◌≤◌, min, Bool, false, ◌&&◌, ◌||◌, List, [], ◌∷◌, length, drop, nat_le, nat_lt, if◌then◌else◌, slice_index, slice_index_or}
-use Rattle.std.proofs.Common.{refl, subst, arith}
+use Rattle.std.specs.Prelude.{◌≡◌, ◌^◌, ℕ, ◌+◌, ◌-◌, ◌≤◌, min, Bool, false, ◌&&◌, ◌||◌, List, [], ◌∷◌, length, drop, nat_le, nat_lt, if◌then◌else◌, slice_index}
+use Rattle.device.specs.Count.{raised}
 use Rattle.device.specs.Device.{written}
 
 -- a write at an offset, or a sync
@@ -51,10 +51,6 @@ moment_of disk = disk.start + length disk.changes
 abbrev pub left_since_of : Recorded → ℕ → List ℕ → Type 0
 left_since_of disk t c = (newer : ℕ) × (newer ≤ length disk.changes) × (t + newer ≤ moment_of disk) × MayBeLeft disk.first (drop newer disk.changes) c
 
--- one more, but a count that has come to 2^64-1 stays there
-abbrev pub raised : ℕ → ℕ
-raised n = if nat_lt n (2 ^ 64 - 1) then n + 1 else n
-
 -- after a call that changes nothing
 abbrev pub after_read : Recorded → Recorded
 after_read disk = record disk { calls = raised disk.calls }
@@ -79,24 +75,3 @@ after_stop disk choice = record disk {
   changes = [];
   start = min (moment_of disk) (2 ^ 64 - 1);
 }
-
--- what the disk keeps beside its record: the content, and which places were written since the last sync
-pub record IsReplay (first : List ℕ) (changes : List Change) (content : List ℕ) (unsynced : List Bool) : Type 0 where
-  pub replayed : content ≡ content_after first changes
-  pub first_length : length first ≡ length content
-  pub marks_length : length unsynced ≡ length content
-  pub marked : (i : ℕ) → i < length content → slice_index_or unsynced i false ≡ is_unsynced changes i
-
--- what a read gives may be left
-pub seen_is_left_of : (disk : Recorded) → may_leave_of disk (seen_of disk)
-seen_is_left_of disk = record { same_length = refl; synced = λ i same. refl }
-
--- a crash now is one since any moment so far
-pub now_is_since_of : (disk : Recorded) (t : ℕ) (c : List ℕ) → t ≤ moment_of disk → may_leave_of disk c → left_since_of disk t c
-now_is_since_of disk t c le left = (0, omega arith, omega arith, left)
-
--- since now there is nothing else
-pub since_now_of : (disk : Recorded) (c : List ℕ) → left_since_of disk (moment_of disk) c → may_leave_of disk c
-since_now_of disk c since =
-    let none : since.0 ≡ 0 = omega (arith, since.2) in
-    subst (λ n. MayBeLeft disk.first (drop n disk.changes) c) none since.3

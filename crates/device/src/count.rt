@@ -1,6 +1,6 @@
 // The counts of calls and faults.
 ghost use Rattle.std.specs.Prelude.{◌≡◌};
-ghost use Rattle.device.specs.Memory.{raised};
+ghost use Rattle.device.specs.Count.{raised};
 
 // One more, but a count that has come to 2^64-1 stays there.
 pub(crate) fn raise(count: &mut u64)

@@ -39,7 +39,8 @@ pub trait Device {
     fn read(&mut self, at: u64, buffer: &mut [u8]) -> Result<(), DeviceFault>
         requires { at + length buffer.old ≤ length (seen self.old) }
 
-        ensures bytes { is_honest self.old → OnOk result (buffer.new ≡ slice_range (seen self.old) at (at + length buffer.old)) }
+        ensures bytes { is_honest self.old
+            → OnOk result (buffer.new ≡ slice_range (seen self.old) at (at + length buffer.old)) }
         ensures same { is_honest self.old → seen self.new ≡ seen self.old }
         ensures keeps { is_honest self.old → (c : List ℕ) → may_leave self.old c → may_leave self.new c }
         ensures left { (c : List ℕ) → may_leave self.new c → may_leave self.old c }
@@ -49,25 +50,28 @@ pub trait Device {
         ensures len { length (seen self.new) ≡ length (seen self.old) }
         ensures calls { calls_made self.old < 2 ^ 64 - 1 → calls_made self.new ≡ calls_made self.old + 1 }
         ensures calls_stay { 2 ^ 64 - 1 ≤ calls_made self.old → calls_made self.new ≡ calls_made self.old }
-        ensures failed { IsErr result → faults_met self.old < 2 ^ 64 - 1 → faults_met self.new ≡ faults_met self.old + 1 }
+        ensures failed { IsErr result
+            → faults_met self.old < 2 ^ 64 - 1 → faults_met self.new ≡ faults_met self.old + 1 }
         ensures faults_stay { 2 ^ 64 - 1 ≤ faults_met self.old → faults_met self.new ≡ faults_met self.old }
         ensures done { IsOk result → faults_met self.new ≡ faults_met self.old };
 
-    /// Writes bytes from an offset on. Whether it succeeds or not, a crash before the next sync that succeeds may leave any
-    /// bytes in the range; where it fails, a read too may give any bytes there.
+    /// Writes bytes from an offset on. Whether it succeeds or not, a crash before the next sync that succeeds may leave
+    /// any bytes in the range; where it fails, a read too may give any bytes there.
     fn write(&mut self, at: u64, bytes: &[u8]) -> Result<(), DeviceFault>
         requires { at + length bytes.now ≤ length (seen self.old) }
 
         ensures written { is_honest self.old → OnOk result (seen self.new ≡ written (seen self.old) at bytes.now) }
         ensures torn { IsErr result → is_honest self.old → Torn at (length bytes.now) (seen self.old) (seen self.new) }
         ensures left { (c : List ℕ) → may_leave self.new c → TornFrom at (length bytes.now) (may_leave self.old) c }
-        ensures time { LeavesOnly moment left_since self.old self.new (TornFrom at (length bytes.now) (may_leave self.old)) }
+        ensures time { LeavesOnly moment left_since self.old self.new
+            (TornFrom at (length bytes.now) (may_leave self.old)) }
 
         ensures honest { is_honest self.new ↔ is_honest self.old }
         ensures len { length (seen self.new) ≡ length (seen self.old) }
         ensures calls { calls_made self.old < 2 ^ 64 - 1 → calls_made self.new ≡ calls_made self.old + 1 }
         ensures calls_stay { 2 ^ 64 - 1 ≤ calls_made self.old → calls_made self.new ≡ calls_made self.old }
-        ensures failed { IsErr result → faults_met self.old < 2 ^ 64 - 1 → faults_met self.new ≡ faults_met self.old + 1 }
+        ensures failed { IsErr result
+            → faults_met self.old < 2 ^ 64 - 1 → faults_met self.new ≡ faults_met self.old + 1 }
         ensures faults_stay { 2 ^ 64 - 1 ≤ faults_met self.old → faults_met self.new ≡ faults_met self.old }
         ensures done { IsOk result → faults_met self.new ≡ faults_met self.old };
 
@@ -83,7 +87,8 @@ pub trait Device {
         ensures len { length (seen self.new) ≡ length (seen self.old) }
         ensures calls { calls_made self.old < 2 ^ 64 - 1 → calls_made self.new ≡ calls_made self.old + 1 }
         ensures calls_stay { 2 ^ 64 - 1 ≤ calls_made self.old → calls_made self.new ≡ calls_made self.old }
-        ensures failed { IsErr result → faults_met self.old < 2 ^ 64 - 1 → faults_met self.new ≡ faults_met self.old + 1 }
+        ensures failed { IsErr result
+            → faults_met self.old < 2 ^ 64 - 1 → faults_met self.new ≡ faults_met self.old + 1 }
         ensures faults_stay { 2 ^ 64 - 1 ≤ faults_met self.old → faults_met self.new ≡ faults_met self.old }
         ensures done { IsOk result → faults_met self.new ≡ faults_met self.old };
 
@@ -99,10 +104,12 @@ pub trait Device {
     ghost seen_is_left: { (device : Self) → is_honest device → may_leave device (seen device) };
 
     /// Each list that may be left has the device's length.
-    ghost left_is_whole: { (device : Self) (c : List ℕ) → is_honest device → may_leave device c → length c ≡ length (seen device) };
+    ghost left_is_whole: { (device : Self) (c : List ℕ)
+        → is_honest device → may_leave device c → length c ≡ length (seen device) };
 
     /// A crash now is one since any moment so far.
-    ghost now_is_since: { (device : Self) (t : ℕ) (c : List ℕ) → t ≤ moment device → may_leave device c → left_since device t c };
+    ghost now_is_since: { (device : Self) (t : ℕ) (c : List ℕ)
+        → t ≤ moment device → may_leave device c → left_since device t c };
 
     /// Since now there is nothing else.
     ghost since_now: { (device : Self) (c : List ℕ) → left_since device (moment device) c → may_leave device c };

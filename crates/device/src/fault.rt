@@ -1,4 +1,6 @@
 // Why a call of a disk failed.
+ghost use Rattle.std.specs.Prelude.{Some, codes};
+
 use std::error::Error;
 use std::fmt;
 
@@ -7,6 +9,8 @@ use std::fmt;
 pub struct DeviceFault;
 
 impl fmt::Display for DeviceFault {
+    ghost output = { λ fault. Some (codes "the device failed") };
+
     fn fmt<W: fmt::Write>(&self, f: &mut fmt::Formatter<W>) -> fmt::Result {
         write!(f, "the device failed")
     }

@@ -1,41 +1,50 @@
-// A disk over a real file.
-ghost use Rattle.std.specs.Prelude.{◌≡◌, IfOk, OnOk, OnErr, is_ok};
-ghost use Rattle.device.specs.File.{opened, after_call, after_fault};
+// A disk over a file.
+ghost use Rattle.std.specs.Prelude.{◌≡◌, ◌+◌, ◌≤◌, length, IfOk, is_ok};
+ghost use Rattle.device.specs.File.{IsCalledOnce, opened, after_call};
+ghost use Rattle.device.specs.File.FileCall.{read, write, sync};
 
 use crate::count::raise;
-use crate::{Device, DeviceFault};
+use crate::{BlockFile, Device, DeviceFault};
 use std::fs::{File, OpenOptions};
 use std::io;
 use std::marker::Model;
-use std::os::unix::fs::FileExt;
 use std::rt::Files;
 
-/// A disk over a real file: reads and writes are at their offsets (POSIX.1-2024, `pread` and `pwrite`), and a sync comes
-/// to the disk (`fsync`). The file keeps the length that it had when it was opened, as long as nobody else changes it.
+/// A disk over a file: each of its calls makes one call of the file, with the same arguments, and tells its error as a
+/// [`DeviceFault`]. The file keeps the length that it had when it was opened, as long as nobody else changes it.
 ///
-/// No contract can say what a file holds. So this device isn't honest to the clauses: that a file, the system and the
-/// disk under it keep the rules of [`Device`] is a premise, and what is proved of honest devices holds of a real file
-/// under that premise alone.
+/// No contract can say what a file gives, or what it keeps. So `is_honest` of this disk claims nothing and is never
+/// proved. What is proved of devices is proved of every honest [`Device`]; the step from there to a real file, that the
+/// file, the system and the disk under it keep the rules of `Device`, is an argument outside the logic.
 #[derive(Drop)]
-pub struct FileDisk {
-    file: File,
+pub struct FileDisk<F: BlockFile> {
+    file: F,
     len: u64,
     calls: u64,
     faults: u64,
 }
 
-impl Model for FileDisk {
+impl<F: BlockFile> Model for FileDisk<F> {
     ghost use Rattle.device.specs.File.{Opened};
+    ghost use Rattle.device.specs.inside.Codes.{opened_code};
 
-    ghost Value = { Opened };
+    ghost Value = { Opened F };
 
-    ghost view = { λ disk. record { size = disk.len; calls = disk.calls; faults = disk.faults } };
+    ghost coded = { opened_code F.code };
+
+    ghost view = { λ disk. record {
+      file = disk.file;
+      size = disk.len;
+      calls = disk.calls;
+      faults = disk.faults;
+    } };
 }
 
-impl FileDisk {
-    /// Makes a file of zeros of this length in bytes. A file that is there already is replaced, and no byte of it stays.
-    pub fn create<R: Files<File = File>>(rt: &R, path: &str, len: u64) -> io::Result<FileDisk>
-        ensures { IfOk result (λ disk. disk ≡ opened len) }
+impl FileDisk<File> {
+    /// Makes a file of zeros of this length in bytes. A file that is there already is replaced, and no byte of it
+    /// stays.
+    pub fn create<R: Files<File = File>>(rt: &R, path: &str, len: u64) -> io::Result<FileDisk<File>>
+        ensures { IfOk result (λ disk. disk ≡ opened disk.file len) }
     {
         let file = OpenOptions::new()
             .read(true)
@@ -48,16 +57,19 @@ impl FileDisk {
     }
 
     /// Opens a file for reading and writing. Its length is the disk's.
-    pub fn open<R: Files<File = File>>(rt: &R, path: &str) -> io::Result<FileDisk>
-        ensures { IfOk result (λ disk. disk ≡ opened disk.size) }
+    pub fn open<R: Files<File = File>>(rt: &R, path: &str) -> io::Result<FileDisk<File>>
+        ensures { IfOk result (λ disk. disk ≡ opened disk.file disk.size) }
     {
         let file = OpenOptions::new().read(true).write(true).open(rt, path)?;
         let size = file.metadata()?.len();
         Ok(FileDisk::over(file, size))
     }
+}
 
-    fn over(file: File, len: u64) -> FileDisk
-        ensures { result ≡ opened len }
+impl<F: BlockFile> FileDisk<F> {
+    /// A disk over a file that is open for reading and writing, of this length in bytes.
+    pub fn over(file: F, len: u64) -> FileDisk<F>
+        ensures { result ≡ opened file len }
     {
         FileDisk {
             file,
@@ -67,11 +79,18 @@ impl FileDisk {
         }
     }
 
+    /// The file, as the disk's calls left it.
+    pub fn into_file(self) -> F
+        ensures { result ≡ self.file }
+    {
+        let FileDisk { file, .. } = self;
+        file
+    }
+
     // Counts a call, and passes its outcome on.
     fn count(&mut self, outcome: io::Result<()>) -> Result<(), DeviceFault>
         ensures same { is_ok result ≡ is_ok outcome }
-        ensures ok { OnOk result (self.new ≡ after_call self.old) }
-        ensures err { OnErr result (self.new ≡ after_fault self.old) }
+        ensures counted { self.new ≡ after_call self.old self.old.file (is_ok outcome) }
     {
         raise(&mut self.calls);
         match outcome {
@@ -84,7 +103,7 @@ impl FileDisk {
     }
 }
 
-impl Device for FileDisk {
+impl<F: BlockFile> Device for FileDisk<F> {
     ghost use Rattle.device.specs.File.{stand_in, any_list, any_time};
 
     ghost seen = { stand_in };
@@ -113,17 +132,31 @@ impl Device for FileDisk {
         self.len
     }
 
-    fn read(&mut self, at: u64, buffer: &mut [u8]) -> Result<(), DeviceFault> {
+    fn read(&mut self, at: u64, buffer: &mut [u8]) -> Result<(), DeviceFault>
+        requires { at + length buffer.old ≤ self.old.size }
+        ensures asked { IsCalledOnce (F.calls_made self.old.file) (F.calls_made self.new.file)
+            (read at buffer.new (is_ok result)) }
+        ensures counted { self.new ≡ after_call self.old self.new.file (is_ok result) }
+    {
         let outcome = self.file.read_exact_at(buffer, at);
         self.count(outcome)
     }
 
-    fn write(&mut self, at: u64, bytes: &[u8]) -> Result<(), DeviceFault> {
+    fn write(&mut self, at: u64, bytes: &[u8]) -> Result<(), DeviceFault>
+        requires { at + length bytes.now ≤ self.old.size }
+        ensures asked { IsCalledOnce (F.calls_made self.old.file) (F.calls_made self.new.file)
+            (write at bytes.now (is_ok result)) }
+        ensures counted { self.new ≡ after_call self.old self.new.file (is_ok result) }
+    {
         let outcome = self.file.write_all_at(bytes, at);
         self.count(outcome)
     }
 
-    fn sync(&mut self) -> Result<(), DeviceFault> {
+    fn sync(&mut self) -> Result<(), DeviceFault>
+        ensures asked { IsCalledOnce (F.calls_made self.old.file) (F.calls_made self.new.file)
+            (sync (is_ok result)) }
+        ensures counted { self.new ≡ after_call self.old self.new.file (is_ok result) }
+    {
         let outcome = self.file.sync_all();
         self.count(outcome)
     }

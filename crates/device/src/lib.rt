@@ -1,17 +1,21 @@
 //! Disks of fixed length, as a program sees them: what their calls read and write, and what a crash at any moment may
-//! leave. Disks in memory, which can crash, and disks over real files.
+//! leave. Disks in memory, which can crash, disks whose calls can fail, and disks over real files.
 #![tactic(auto)]
 
+mod block_file;
 mod borrowed;
 mod count;
 mod device;
+mod failing;
 mod fault;
 mod file;
 mod memory;
 #[cfg(test)]
 mod tests;
 
+pub use block_file::BlockFile;
 pub use device::Device;
+pub use failing::FailingDisk;
 pub use fault::DeviceFault;
 pub use file::FileDisk;
 pub use memory::MemDisk;

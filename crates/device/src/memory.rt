@@ -1,9 +1,11 @@
-// A disk in memory, for tests and trials: it can crash, and leaves then what the caller chooses among what a crash may leave.
-ghost use Rattle.std.specs.Prelude.{⊤, ◌≡◌, ℕ, ◌+◌, ◌<◌, ◌≤◌, ◌&&◌, ◌||◌, false, List, ◌∷◌, length, replicate, slice_range, slice_index, slice_index_or, nat_le, nat_lt, if◌then◌else◌, IfOk, OnOk, OnErr, IsOk};
+// A disk in memory, for tests and trials: it can crash, and leaves then what the caller chooses among what a crash may
+// leave.
+ghost use Rattle.std.specs.Prelude.{⊤, ◌≡◌, ℕ, ◌+◌, ◌≤◌, List, [], ◌∷◌, length, replicate, slice_range, IfOk, OnOk, OnErr, IsOk};
 ghost use Rattle.device.specs.Device.{written, TornFrom, Only, LeavesOnly};
-ghost use Rattle.device.specs.Memory.{seen_of, may_leave_of, moment_of, left_since_of, fresh, after_read, after_refusal, after_change, after_stop};
+ghost use Rattle.device.specs.Memory.{is_unsynced, seen_of, may_leave_of, moment_of, left_since_of, fresh, after_read, after_refusal, after_change, chosen_from, after_stop};
 ghost use Rattle.device.specs.Memory.Change.{write, sync};
-ghost use Rattle.device.specs.Logged.{changes_of};
+ghost use Rattle.device.specs.inside.Logged.{change_of, changes_of};
+ghost use Rattle.device.specs.inside.Replay.{since_sync, with_choice, AreWithin};
 
 use crate::count::raise;
 use crate::{Device, DeviceFault};
@@ -17,8 +19,8 @@ enum Logged<A: Allocator + Copy> {
     Sync,
 }
 
-/// A disk in memory. It is honest, and it records its writes and syncs, so that each content that a crash might have left
-/// since any moment is known. A write or a sync whose record is refused memory fails; no other call of it fails.
+/// A disk in memory. It is honest, and it records its writes and syncs, so that each content that a crash might have
+/// left since any moment is known. A write or a sync whose record is refused memory fails; no other call of it fails.
 #[derive(Drop)]
 pub struct MemDisk<A: Allocator + Copy> {
     alloc: A,
@@ -26,21 +28,29 @@ pub struct MemDisk<A: Allocator + Copy> {
     log: Vec<Logged<A>, A>,
     start: u64,
     content: Vec<u8, A>,
-    unsynced: Vec<bool, A>,
+    // Where in the log the writes since the last sync begin.
+    synced: usize,
     calls: u64,
     faults: u64,
 }
 
 impl<A: Allocator + Copy> Model for MemDisk<A> {
-    ghost use Rattle.device.specs.Memory.{Recorded, IsReplay};
+    ghost use Rattle.device.specs.Memory.{Recorded};
 
     ghost Value = { Recorded };
 
-    ghost use Rattle.device.specs.Logged.{changes_of};
+    ghost use Rattle.device.specs.inside.Logged.{changes_of};
+    ghost use Rattle.device.specs.inside.Replay.{IsReplay};
 
-    ghost view = { λ d. record { first = d.first.items; changes = changes_of d.log.items; start = d.start; calls = d.calls; faults = d.faults } };
+    ghost view = { λ d. record {
+      first = d.first.items;
+      changes = changes_of d.log.items;
+      start = d.start;
+      calls = d.calls;
+      faults = d.faults;
+    } };
 
-    ghost invariant = { λ d. IsReplay d.first.items (changes_of d.log.items) d.content.items d.unsynced.items };
+    ghost invariant = { λ d. IsReplay d.first.items (changes_of d.log.items) d.content.items d.synced };
 }
 
 impl<A: Allocator + Copy> MemDisk<A> {
@@ -60,8 +70,8 @@ impl<A: Allocator + Copy> MemDisk<A> {
             first: Vec::from_slice(alloc, &bytes)?,
             log: Vec::new(alloc),
             start: 0,
-            unsynced: vec![in alloc; false; bytes.len()]?,
             content: bytes,
+            synced: 0,
             calls: 0,
             faults: 0,
         })
@@ -74,8 +84,8 @@ impl<A: Allocator + Copy> MemDisk<A> {
         &self.content
     }
 
-    /// A crash: places that were written since the last sync get the bytes of `choice`, which is as long as the disk, and
-    /// the others keep theirs. The disk goes on with that content, all of it on the disk. It takes no memory.
+    /// A crash: places that were written since the last sync get the bytes of `choice`, which is as long as the disk,
+    /// and the others keep theirs. The disk goes on with that content, all of it on the disk. It takes no memory.
     pub fn stop(&mut self, choice: &[u8])
         requires { length choice.now ≡ length (seen_of self.old) }
         ensures stopped { self.new ≡ after_stop self.old choice.now }
@@ -87,11 +97,11 @@ impl<A: Allocator + Copy> MemDisk<A> {
         // Until it is written again, a further crash leaves nothing else.
         ensures only { Only (may_leave_of self.new) (seen_of self.new) }
     {
-        choose(&mut self.content, &self.unsynced, choice);
+        choose(&mut self.content, &self.log, self.synced, choice);
         self.first.copy_from_slice(&self.content);
-        self.unsynced.fill(false);
         self.start = self.start.saturating_add(self.log.len() as u64);
         self.log.clear();
+        self.synced = 0;
     }
 
     fn apply_read(&mut self, at: u64, buffer: &mut [u8])
@@ -115,7 +125,6 @@ impl<A: Allocator + Copy> MemDisk<A> {
             return Err(DeviceFault);
         }
         put(&mut self.content, at as usize, bytes);
-        mark(&mut self.unsynced, at as usize, bytes.len());
         Ok(())
     }
 
@@ -128,13 +137,13 @@ impl<A: Allocator + Copy> MemDisk<A> {
             raise(&mut self.faults);
             return Err(DeviceFault);
         }
-        clear(&mut self.unsynced);
+        self.synced = self.log.len();
         Ok(())
     }
 }
 
 impl<A: Allocator + Copy> Device for MemDisk<A> {
-    ghost use Rattle.device.specs.Memory.{seen_is_left_of, now_is_since_of, since_now_of};
+    ghost use Rattle.device.specs.inside.Laws.{seen_is_left_of, now_is_since_of, since_now_of};
 
     ghost seen = { seen_of };
 
@@ -182,8 +191,10 @@ impl<A: Allocator + Copy> Device for MemDisk<A> {
 
         ensures written { OnOk result (seen_of self.new ≡ written (seen_of self.old) at bytes.now) }
         ensures len { length (seen_of self.new) ≡ length (seen_of self.old) }
-        ensures left { (c : List ℕ) → may_leave_of self.new c → TornFrom at (length bytes.now) (may_leave_of self.old) c }
-        ensures time { LeavesOnly moment_of left_since_of self.old self.new (TornFrom at (length bytes.now) (may_leave_of self.old)) }
+        ensures left { (c : List ℕ)
+            → may_leave_of self.new c → TornFrom at (length bytes.now) (may_leave_of self.old) c }
+        ensures time { LeavesOnly moment_of left_since_of self.old self.new
+            (TornFrom at (length bytes.now) (may_leave_of self.old)) }
 
         ensures recorded { OnOk result (self.new ≡ after_change self.old (write at bytes.now)) }
 
@@ -191,7 +202,8 @@ impl<A: Allocator + Copy> Device for MemDisk<A> {
         ensures refused { OnErr result (self.new ≡ after_refusal self.old) }
 
         // A crash may leave any bytes in the range.
-        ensures any { OnOk result ((c : List ℕ) → TornFrom at (length bytes.now) (may_leave_of self.old) c → may_leave_of self.new c) }
+        ensures any { OnOk result ((c : List ℕ)
+            → TornFrom at (length bytes.now) (may_leave_of self.old) c → may_leave_of self.new c) }
     {
         self.apply_write(at, bytes)
     }
@@ -247,29 +259,34 @@ fn put(content: &mut [u8], at: usize, bytes: &[u8])
     content[at..at + bytes.len()].copy_from_slice(bytes);
 }
 
-// Marks the places from an offset on.
-fn mark(unsynced: &mut [bool], at: usize, len: usize)
-    requires { at + len ≤ length unsynced.old }
-    ensures len { length unsynced.new ≡ length unsynced.old }
-    ensures marks { (i : ℕ) → i < length unsynced.old → slice_index_or unsynced.new i false ≡ ((nat_le at i && nat_lt i (at + len)) || slice_index_or unsynced.old i false) }
-{
-    unsynced[at..at + len].fill(true);
-}
-
-fn clear(unsynced: &mut [bool])
-    ensures { unsynced.new ≡ replicate (length unsynced.old) false }
-{
-    unsynced.fill(false);
-}
-
-// Puts the bytes that are chosen in the places that are marked.
-fn choose(content: &mut [u8], unsynced: &[bool], choice: &[u8])
-    requires marks { length unsynced.now ≡ length content.old }
+// Puts the bytes that are chosen in the places that were written since the last sync.
+fn choose<A: Allocator + Copy>(content: &mut [u8], log: &[Logged<A>], synced: usize, choice: &[u8])
     requires choice { length choice.now ≡ length content.old }
-    ensures len { length content.new ≡ length content.old }
-    ensures chosen { (i : ℕ) → i < length content.old → slice_index content.new i ≡ (if slice_index_or unsynced.now i false then slice_index choice.now i else slice_index content.old i) }
+    requires since { synced + since_sync (changes_of log.now) ≡ length log.now }
+    requires within { AreWithin (length content.old) (changes_of log.now) }
+    ensures { content.new ≡ chosen_from (is_unsynced (changes_of log.now)) 0 choice.now content.old }
 {
-    for (i, byte) in content.iter_mut().enumerate() {
-        *byte = if unsynced[i] { choice[i] } else { *byte };
+    put_all(content, &log[synced..], choice);
+}
+
+// Puts the bytes that are chosen in the ranges that were written.
+fn put_all<A: Allocator + Copy>(content: &mut [u8], log: &[Logged<A>], choice: &[u8])
+    requires choice { length choice.now ≡ length content.old }
+    requires within { AreWithin (length content.old) (changes_of log.now) }
+    ensures { content.new ≡ with_choice (changes_of log.now) choice.now content.old }
+{
+    for entry in log {
+        put_one(content, entry, choice);
+    }
+}
+
+fn put_one<A: Allocator + Copy>(content: &mut [u8], entry: &Logged<A>, choice: &[u8])
+    requires choice { length choice.now ≡ length content.old }
+    requires within { AreWithin (length content.old) (change_of entry.now ∷ []) }
+    ensures { content.new ≡ with_choice (change_of entry.now ∷ []) choice.now content.old }
+{
+    if let Logged::Write(at, bytes) = entry {
+        let from = *at as usize;
+        put(content, from, &choice[from..from + bytes.len()]);
     }
 }

@@ -1,20 +1,20 @@
 -- A run on a volume that was just opened: what holds of its machine at first, and what holds of what is left.
 use Rattle.std.proofs.Common.{◌≡◌, ℕ, List, [], take, refl, sym, ap, ◌∙◌, subst}
-use Rattle.volume_codec.specs.Files.{File}
-use Rattle.volume_codec.specs.Layout.{layout_one}
-use Rattle.volume_codec.specs.Super.{SuperValue}
-use Rattle.volume_codec.specs.Recovery.{RecoversTo, recovered_files}
-use Rattle.recovery.specs.Opening.{IsOpened}
-use Rattle.recovery.proofs.Unique.{same_recovery}
-use Rattle.machine.specs.declared.act.Reply.{Reply}
-use Rattle.machine.specs.declared.act.Shape.{Shape}
-use Rattle.machine.specs.declared.act.Step.{Step}
-use Rattle.machine.specs.History.{Event, files_after}
-use Rattle.machine.specs.Shapes.{IsShape}
-use Rattle.machine.specs.State.{State}
-use Rattle.machine.specs.Told.{Told, tell_all}
-use Rattle.machine.specs.Laws.{IsFresh, fresh, IsAtRest, ReadsBack, told_at_start}
-use Rattle.machine.specs.Stops.{ReadsBackWithin}
+use Rattle.old_volume_codec.specs.Files.{File}
+use Rattle.old_volume_codec.specs.Layout.{layout_one}
+use Rattle.old_volume_codec.specs.Super.{SuperValue}
+use Rattle.old_volume_codec.specs.Recovery.{RecoversTo, recovered_files}
+use Rattle.old_recovery.specs.Opening.{IsOpened}
+use Rattle.old_recovery.proofs.Unique.{same_recovery}
+use Rattle.old_machine.specs.declared.act.Reply.{Reply}
+use Rattle.old_machine.specs.declared.act.Shape.{Shape}
+use Rattle.old_machine.specs.declared.act.Step.{Step}
+use Rattle.old_machine.specs.History.{Event, files_after}
+use Rattle.old_machine.specs.Shapes.{IsShape}
+use Rattle.old_machine.specs.State.{State}
+use Rattle.old_machine.specs.Told.{Told, tell_all}
+use Rattle.old_machine.specs.Laws.{IsFresh, fresh, IsAtRest, ReadsBack, told_at_start}
+use Rattle.old_machine.specs.Stops.{ReadsBackWithin}
 use Rattle.famsync.specs.Session.{told_first, ReadsBackAfterSome}
 
 -- a machine that was booted is fresh, and nothing is told of it but its one processor

@@ -3,8 +3,8 @@ use Rattle.std.specs.Prelude.{ℕ, List, [], ◌∷◌, find, codes, Option, Som
 use Rattle.std.specs.Str.{bytes_eq}
 use Rattle.serde_json.specs.Data.{Data}
 use Rattle.famsync.specs.Arguments.{if_some, byte_of, short_of, long_of, prot_of, access_of, keep_of, write_of, bytes_of}
-use Rattle.machine.specs.declared.act.Act.{Act}
-use Rattle.machine.specs.declared.act.Act.TheVariants.{Load, Store, Switch, Fix, Create, Map, Msync, Change, Flush}
+use Rattle.old_machine.specs.declared.act.Act.{Act}
+use Rattle.old_machine.specs.declared.act.Act.TheVariants.{Load, Store, Switch, Fix, Create, Map, Msync, Change, Flush}
 
 -- an address and a count
 abbrev pub load_of : List Data → Option Act

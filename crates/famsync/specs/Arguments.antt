@@ -3,8 +3,8 @@ use Rattle.std.specs.Prelude.{ℕ, ◌-◌, ◌^◌, nat_le, if◌then◌else◌
 use Rattle.std.specs.Str.{bytes_eq}
 use Rattle.serde_json.specs.Data.{Data, Items, no_items, item}
 use Rattle.serde_json.specs.Find.{as_u64, as_number, as_str, as_array}
-use Rattle.mappings.specs.declared.place.Rights.{Rights}
-use Rattle.mappings.specs.declared.place.Rights.TheVariants.{Read, ReadWrite}
+use Rattle.old_mappings.specs.declared.place.Rights.{Rights}
+use Rattle.old_mappings.specs.declared.place.Rights.TheVariants.{Read, ReadWrite}
 
 -- what f makes of the value, if there is one
 abbrev pub if_some : {A B : Type 0} → Option A → (A → Option B) → Option B

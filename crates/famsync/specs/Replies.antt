@@ -1,7 +1,7 @@
 -- Replies that end a run of the program with a fault.
 use Rattle.std.specs.Prelude.{Bool, true, false}
-use Rattle.machine.specs.declared.act.Reply.{Reply}
-use Rattle.machine.specs.declared.act.Reply.TheVariants.{Refused}
+use Rattle.old_machine.specs.declared.act.Reply.{Reply}
+use Rattle.old_machine.specs.declared.act.Reply.TheVariants.{Refused}
 use Rattle.page_entry.specs.declared.refusal.Refusal.{Refusal}
 use Rattle.page_entry.specs.declared.refusal.Refusal.TheVariants.{Device}
 

@@ -7,8 +7,8 @@ use Rattle.serde_json.specs.Read.{read}
 use Rattle.serde_json.specs.Find.{get, as_str, as_array, as_object}
 use Rattle.famsync.specs.Arguments.{if_some, byte_of, long_of, list_of, all_of}
 use Rattle.famsync.specs.Acts.{act_of}
-use Rattle.machine.specs.declared.act.Shape.{Shape}
-use Rattle.machine.specs.declared.act.Step.{Step}
+use Rattle.old_machine.specs.declared.act.Shape.{Shape}
+use Rattle.old_machine.specs.declared.act.Step.{Step}
 
 -- a step: a processor, the name of an act, and its arguments
 abbrev pub items_step : List Data → Option Step

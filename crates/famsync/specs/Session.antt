@@ -3,20 +3,20 @@ use Rattle.std.specs.Prelude.{ℕ, ◌≤◌, List, [], ◌∷◌, length, take}
 use Rattle.page_entry.specs.declared.refusal.Refusal.{Refusal}
 use Rattle.page_entry.specs.declared.refusal.Refusal.TheVariants.{BadShape}
 use Rattle.std.specs.FinMap as maps
-use Rattle.volume_codec.specs.Files.{File}
-use Rattle.volume_codec.specs.Layout.{layout_one}
-use Rattle.volume_codec.specs.Super.{SuperValue}
-use Rattle.volume_codec.specs.Recovery.{IsVolume}
-use Rattle.recovery.specs.Opening.{IsOpened, RefusesOpening}
-use Rattle.machine.specs.declared.act.Reply.{Reply}
-use Rattle.machine.specs.declared.act.Shape.{Shape}
-use Rattle.machine.specs.declared.act.Step.{Step}
-use Rattle.machine.specs.History.{Event}
-use Rattle.machine.specs.Told.{Told, tell_all}
-use Rattle.machine.specs.Shapes.{IsShape}
-use Rattle.machine.specs.State.{State}
-use Rattle.machine.specs.Rules.{Run}
-use Rattle.machine.specs.Laws.{fresh, ReadsBack}
+use Rattle.old_volume_codec.specs.Files.{File}
+use Rattle.old_volume_codec.specs.Layout.{layout_one}
+use Rattle.old_volume_codec.specs.Super.{SuperValue}
+use Rattle.old_volume_codec.specs.Recovery.{IsVolume}
+use Rattle.old_recovery.specs.Opening.{IsOpened, RefusesOpening}
+use Rattle.old_machine.specs.declared.act.Reply.{Reply}
+use Rattle.old_machine.specs.declared.act.Shape.{Shape}
+use Rattle.old_machine.specs.declared.act.Step.{Step}
+use Rattle.old_machine.specs.History.{Event}
+use Rattle.old_machine.specs.Told.{Told, tell_all}
+use Rattle.old_machine.specs.Shapes.{IsShape}
+use Rattle.old_machine.specs.State.{State}
+use Rattle.old_machine.specs.Rules.{Run}
+use Rattle.old_machine.specs.Laws.{fresh, ReadsBack}
 
 -- a volume with these bytes is opened, a machine of this shape is fresh on it, and the steps are answered by its rules
 abbrev pub RunsOn : List ℕ → Shape → List Step → List Reply → List ℕ → Type 0

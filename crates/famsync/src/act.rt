@@ -6,7 +6,7 @@ ghost use Rattle.famsync.specs.Acts.{load_of, store_of, switch_of, fix_of, map_o
 
 use crate::argument::{access, byte, bytes, keep, long, prot, short, write};
 use crate::script::StepFault;
-use machine::Act;
+use old_machine::Act;
 use serde_json::Value;
 
 /// The act that has this name and these arguments in a script.

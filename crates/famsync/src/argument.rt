@@ -5,8 +5,8 @@ ghost use Rattle.serde_json.specs.View.{view};
 ghost use Rattle.famsync.specs.Arguments.{whole_number, byte_of, short_of, long_of, prot_of, access_of, keep_of, write_of, few_of, bytes_of};
 
 use crate::script::StepFault;
-use machine::FewBytes;
-use mappings::Rights;
+use old_machine::FewBytes;
+use old_mappings::Rights;
 use serde_json::Value;
 
 /// A whole number up to `most`, written without a sign, a point and an exponent. `what` names it in a fault.

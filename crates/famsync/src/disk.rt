@@ -24,11 +24,11 @@ where
     W: Write,
 {
     let refused = |cause| Fault::Disk { path, cause };
-    let blocks = recovery::blocks(files, slots).map_err(refused)?;
+    let blocks = old_recovery::blocks(files, slots).map_err(refused)?;
     let mut disk = FileDisk::create(rt, path, blocks.saturating_mul(PAGE)).map_err(
         |cause| Fault::File { path, cause },
     )?;
-    recovery::format(alloc, &mut disk, files, slots).map_err(refused)?;
+    old_recovery::format(alloc, &mut disk, files, slots).map_err(refused)?;
     writeln!(out, "formatted {blocks} blocks")?;
     Ok(())
 }
@@ -41,7 +41,7 @@ where
     W: Write,
 {
     let disk = MemDisk::from_bytes(alloc, read_file(rt, alloc, path)?)?;
-    match recovery::open(alloc, disk) {
+    match old_recovery::open(alloc, disk) {
         Ok(mut volume) => write_files(path, &mut volume, out),
         Err((cause, _)) => Err(Fault::Disk { path, cause }),
     }

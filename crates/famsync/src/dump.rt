@@ -1,12 +1,12 @@
 // The dump of a volume: the name and length of each file, and its rows of 16 bytes in hexadecimal.
 ghost use Rattle.std.specs.Prelude.{◌≡◌, ◌<◌, length, slice_get, Some};
-ghost use Rattle.volume_codec.specs.Tables.{lengths_in};
+ghost use Rattle.old_volume_codec.specs.Tables.{lengths_in};
 ghost use Rattle.famsync.specs.Dump.{row_text};
 
 use crate::fault::Fault;
 use device::Device;
+use old_recovery::Volume;
 use page_entry::PAGE;
-use recovery::Volume;
 use std::alloc::Allocator;
 use std::{fmt, io};
 

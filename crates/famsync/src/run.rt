@@ -7,7 +7,7 @@ use crate::fault::Fault;
 use crate::script::{Script, ScriptFault};
 use crate::session::run_steps;
 use device::FileDisk;
-use machine::Reply;
+use old_machine::Reply;
 use page_entry::Refusal;
 use std::alloc::Allocator;
 use std::fs::File;

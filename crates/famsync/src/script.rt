@@ -9,7 +9,7 @@ ghost use Rattle.famsync.specs.ScriptFault.{IsMemory};
 
 use crate::argument::long;
 use crate::step::steps;
-use machine::{Shape, Step};
+use old_machine::{Shape, Step};
 use serde_json::{Category, Map, Value};
 use std::alloc::{AllocError, Allocator, Global};
 use std::str;

@@ -1,15 +1,15 @@
 // A run on a volume, from its device and back.
 ghost use Rattle.std.specs.Prelude.{◌≡◌, ℕ, List, length, IfOk, IfErr};
 ghost use Rattle.device.specs.Device.{LeavesOnly};
-ghost use Rattle.volume_codec.specs.Files.{File};
-ghost use Rattle.volume_codec.specs.Layout.{layout_one};
-ghost use Rattle.volume_codec.specs.Recovery.{RecoversTo};
-ghost use Rattle.recovery.specs.Counts.{HasCause};
-ghost use Rattle.machine.specs.Laws.{ReadsBack};
+ghost use Rattle.old_volume_codec.specs.Files.{File};
+ghost use Rattle.old_volume_codec.specs.Layout.{layout_one};
+ghost use Rattle.old_volume_codec.specs.Recovery.{RecoversTo};
+ghost use Rattle.old_recovery.specs.Counts.{HasCause};
+ghost use Rattle.old_machine.specs.Laws.{ReadsBack};
 ghost use Rattle.famsync.specs.Session.{RunsOn, RefusesRun, history_of, ReadsBackAfterSome};
 
 use device::Device;
-use machine::{Machine, Reply, Shape, Step};
+use old_machine::{Machine, Reply, Shape, Step};
 use page_entry::Refusal;
 use std::alloc::Allocator;
 
@@ -45,7 +45,7 @@ pub fn run_steps<D: Device + Drop, A: Allocator + Copy>(
     ensures any_moment_err { D.is_honest device → (files : List File) → ((c : List ℕ) → D.may_leave device c → RecoversTo layout_one c files)
         → IfErr result (λ refused. LeavesOnly D.moment D.left_since device refused.1 (λ c. RecoversTo layout_one c files)) }
 {
-    let volume = match recovery::open(alloc, device) {
+    let volume = match old_recovery::open(alloc, device) {
         Ok(volume) => volume,
         Err(refused) => return Err(refused),
     };

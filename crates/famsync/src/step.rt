@@ -9,7 +9,7 @@ ghost use Rattle.famsync.specs.ScriptFault.{IsMemory};
 use crate::act::act;
 use crate::argument::byte;
 use crate::script::{ScriptFault, StepFault};
-use machine::Step;
+use old_machine::Step;
 use serde_json::Value;
 use std::alloc::{AllocError, Allocator};
 

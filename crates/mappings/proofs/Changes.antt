@@ -1,5 +1,5 @@
 -- What edits of a list of mappings leave at one page.
-use Rattle.std.proofs.Common.{◌≡◌, ℕ, zero, suc, ◌+◌, ◌-◌, ◌^◌, ◌<◌, ◌≤◌, Bool, true, false, cond, ◌&&◌, ltb, leb, if◌then◌else◌, List, [], ◌∷◌, length, map, filter, get_or, set, Option, Some, None, refl, sym, ap, ◌∙◌, subst, inl, inr, ◌⊎◌, arith}
+use Rattle.std.proofs.Common.{◌≡◌, ℕ, zero, suc, ◌+◌, ◌-◌, ◌^◌, ◌<◌, ◌≤◌, Bool, true, false, cond, ◌&&◌, ◌==◌, ltb, leb, if◌then◌else◌, List, [], ◌∷◌, length, map, filter, get_or, set, Option, Some, None, refl, sym, ap, ◌∙◌, subst, inl, inr, ◌⊎◌, arith}
 use Rattle.std.specs.List.{insert}
 use Rattle.std.specs.Option.{option_map}
 use Rattle.std.specs.FinMap as fin_map
@@ -13,8 +13,8 @@ use Rattle.mappings.specs.declared.place.Rights.{Rights}
 use Rattle.mappings.specs.declared.place.Rights.TheVariants.{Read, ReadWrite}
 use Rattle.mappings.specs.declared.mapping.Mapping.{Mapping}
 use Rattle.mappings.specs.Places.{Places, is_among, without_range, with_rights, same_rights, follows, goes_on, splits}
-use Rattle.mappings.specs.Listed.{covers, place_in, places_of, IsOrdered, IsFirstAfter}
-use Rattle.mappings.specs.Edits.{below, from_page, split_at, is_outside, with_rights_within, IsUncut, IsSplit}
+use Rattle.mappings.specs.inside.Listed.{covers, place_in, places_of, joins, Beside, Neighbours, IsMerged, IsOrdered, IsFirstAfter}
+use Rattle.mappings.specs.inside.Edits.{below, from_page, split_at, is_outside, with_rights_within, IsUncut, IsMergedBut, IsSplit}
 use Rattle.mappings.proofs.PlacesLaws.{advanced-advanced, get-without_range, get-with_rights}
 use Rattle.mappings.proofs.Lists.{lookup, get-places_of, lookup_below, IsFirstAfter-tail, IsOrdered-lower}
 
@@ -107,6 +107,41 @@ module _ (page : ℕ) where
       let past : m.end ≤ page = f.before 0 m (omega arith) in
       let apart : (ltb m.first page && ltb page m.end) ≡ false = grind (arith, nat_tests) in
       rw (apart, split_at_apart m.end ms i o.2 (IsFirstAfter-tail m ms page i f) (λ d h. above d (omega arith))) refl
+
+-- neighbours are as weaker facts say, too
+pub Neighbours-weaker : (R S : Mapping → Mapping → Type 0) → ((m n : Mapping) → R m n → S m n) → (ms : List Mapping) → Neighbours R ms → Neighbours S ms
+Neighbours-weaker R S weaker [] each = tt
+Neighbours-weaker R S weaker (m ∷ []) each = (tt, tt)
+Neighbours-weaker R S weaker (m ∷ n ∷ ms) each = (weaker m n each.0, Neighbours-weaker R S weaker (n ∷ ms) each.1)
+
+-- a list that goes on nowhere does so at two pages at most
+IsMergedBut-from_merged : (p q : ℕ) (ms : List Mapping) → IsMerged ms → IsMergedBut p q ms
+IsMergedBut-from_merged p q ms merged = Neighbours-weaker _ _ (λ m n apart. λ e. absurd (false≢true (sym apart ∙ e))) ms merged
+
+module _ (p q page : ℕ) (one : (page ≡ p) ⊎ (page ≡ q)) where
+  abbrev IsApartBut : Mapping → Mapping → Type 0
+  IsApartBut before next = joins before next ≡ true → (next.first ≡ p) ⊎ (next.first ≡ q)
+
+  Beside-split_at : (x : Mapping) (ms : List Mapping) → Beside IsApartBut x ms → Beside IsApartBut x (split_at page ms)
+  Beside-split_at x [] apart = tt
+  Beside-split_at x (m ∷ ms) apart = split_cases page m ms (Beside IsApartBut x) (λ above below. apart) (λ stays. apart)
+
+  -- the part from a page on goes on as the whole does
+  joins-from_page : (m n : Mapping) → m.first < page → page < m.end → joins (from_page m page) n ≡ joins m n
+  joins-from_page m n above below =
+      let same : m.place.page + (page - m.first) + (m.end - page) ≡ m.place.page + (m.end - m.first) = omega arith in
+      ap (λ k. m.end == n.first && (m.place.file == n.place.file && (k == n.place.page && (same_rights m.place.rights n.place.rights && same_rights m.place.access n.place.access)))) same
+
+  Beside-from_page : (m : Mapping) (ms : List Mapping) → m.first < page → page < m.end → Beside IsApartBut m ms → Beside IsApartBut (from_page m page) ms
+  Beside-from_page m [] above below apart = tt
+  Beside-from_page m (n ∷ ms) above below apart = λ e. apart (sym (joins-from_page m n above below) ∙ e)
+
+  pub IsMergedBut-split_at : (ms : List Mapping) → IsMergedBut p q ms → IsMergedBut p q (split_at page ms)
+  IsMergedBut-split_at [] merged = tt
+  IsMergedBut-split_at (m ∷ ms) merged =
+      split_cases page m ms (IsMergedBut p q)
+      (λ above below. (λ _. one, (Beside-from_page m ms above below merged.0, merged.1)))
+      (λ stays. (Beside-split_at m ms merged.0, IsMergedBut-split_at ms merged.1))
 
 -- two rights are the same as themselves
 same_rights-itself : (rights : Rights) → same_rights rights rights ≡ true
@@ -228,8 +263,8 @@ split_room_twice ms first count o =
     omega (arith, once, twice)
 
 -- two splits leave no mapping across the ends of a range
-pub IsSplit-split_at : (ms : List Mapping) (first count : ℕ) → IsOrdered 0 ms → IsSplit ms (split_at first (split_at (first + count) ms)) first count
-IsSplit-split_at ms first count o =
+pub IsSplit-split_at : (ms : List Mapping) (first count : ℕ) → IsOrdered 0 ms → IsMerged ms → IsSplit ms (split_at first (split_at (first + count) ms)) first count
+IsSplit-split_at ms first count o merged =
     let once = split_at (first + count) ms in
     let ordered = IsOrdered-split_at (first + count) 0 ms o in
     record {
@@ -237,6 +272,7 @@ IsSplit-split_at ms first count o =
       same_places = same_places _ _ (λ q. lookup-split_at first q once ∙ lookup-split_at (first + count) q ms);
       uncut_first = IsUncut-split_at first 0 once ordered;
       uncut_end = IsUncut-split_at_other first (first + count) once (IsUncut-split_at (first + count) 0 ms o);
+      merged_but = IsMergedBut-split_at first (first + count) first (inl refl) once (IsMergedBut-split_at first (first + count) (first + count) (inr refl) ms (IsMergedBut-from_merged first (first + count) ms merged));
     }
 
 -- no page from 2^35 on is mapped

@@ -9,7 +9,7 @@ use Rattle.std.proofs.lemmas.Bool.Decides.{nat_tests}
 use Rattle.mappings.specs.declared.place.Place.{Place}
 use Rattle.mappings.specs.declared.mapping.Mapping.{Mapping}
 use Rattle.mappings.specs.Places.{advanced, is_among, pages_mapping}
-use Rattle.mappings.specs.Listed.{places_of, pages_listed, IsOrdered}
+use Rattle.mappings.specs.inside.Listed.{places_of, pages_listed, IsOrdered}
 use Rattle.mappings.proofs.PlacesLaws.{eq_by_cmp-nat_cmp, first_or_other}
 use Rattle.mappings.proofs.Lists.{lookup, get-places_of}
 

@@ -4,3 +4,6 @@ mod Entries
 mod Changes
 mod Searches
 pub mod MappedPages
+mod Merging
+mod Cuts
+mod Calls

@@ -1,5 +1,5 @@
 -- Lists of mappings in order, and what they map at one page.
-use Rattle.std.proofs.Common.{◌≡◌, ℕ, zero, suc, ◌+◌, ◌-◌, ◌<◌, ◌≤◌, Bool, true, false, cond, ltb, leb, if◌then◌else◌, List, [], ◌∷◌, length, get_or, Result, Ok, Err, OnOk, Option, Some, None, IsSome, is_some, max, refl, sym, ◌∙◌, subst, inl, inr, arith}
+use Rattle.std.proofs.Common.{◌≡◌, ℕ, zero, suc, ◌+◌, ◌-◌, ◌<◌, ◌≤◌, Bool, true, false, cond, ltb, leb, if◌then◌else◌, List, [], ◌∷◌, length, get_or, take, drop, Result, Ok, Err, OnOk, Option, Some, None, IsSome, is_some, max, refl, sym, ◌∙◌, subst, inl, inr, arith}
 use Rattle.std.specs.List.{insert}
 use Rattle.std.specs.List.Sorted.{IsNonDecreasingBy, IsPartitionPoint}
 use Rattle.std.specs.Ordering.{nat_cmp}
@@ -14,7 +14,7 @@ use Rattle.mappings.specs.declared.mapping.Mapping.{Mapping}
 use Rattle.mappings.specs.Places.{is_among, with_range, any_mapped, allows}
 use Rattle.mappings.specs.Judgement.{is_mappable, add_refusal}
 use Rattle.mappings.specs.declared.page_range.PageRange.{PageRange}
-use Rattle.mappings.specs.Listed.{covers, place_in, places_of, IsMapping, IsOrdered, IsFirstAfter, IsGap}
+use Rattle.mappings.specs.inside.Listed.{covers, place_in, places_of, IsMapping, IsOrdered, IsFirstAfter, IsGap, IsMeeting}
 use Rattle.mappings.proofs.PlacesLaws.{get-with_range, Decides-any_in_range}
 
 not_true_false : (b : Bool) → (b ≡ true → ⊥) → b ≡ false
@@ -218,3 +218,39 @@ IsOrdered-lower low b (m ∷ ms) o le = let bound = o.0 in (omega arith, o.1, o.
 -- the rest of a list in order
 pub IsOrdered-rest : (m : Mapping) (ms : List Mapping) → IsOrdered 0 (m ∷ ms) → IsOrdered 0 ms
 IsOrdered-rest m ms o = IsOrdered-lower m.end 0 ms o.2 (omega arith)
+
+-- some of the mappings of a list
+pub IsOrdered-between : (low b from n : ℕ) (ms : List Mapping) → IsOrdered low ms → ((d : Mapping) → 0 < n → from < length ms → b ≤ (get_or ms from d).first) → IsOrdered b (take n (drop from ms))
+IsOrdered-between low b zero zero ms o h = tt
+IsOrdered-between low b zero (suc n) [] o h = tt
+IsOrdered-between low b zero (suc n) (m ∷ ms) o h =
+    (h m (omega arith) (omega arith), o.1, IsOrdered-between m.end m.end zero n ms o.2 (λ d some within. first_at m.end ms o.2 d within))
+  where
+    first_at : (low : ℕ) (ms : List Mapping) → IsOrdered low ms → (d : Mapping) → 0 < length ms → low ≤ (get_or ms 0 d).first
+    first_at low [] o d h = absurd (omega arith)
+    first_at low (m ∷ ms) o d h = o.0
+IsOrdered-between low b (suc from) n [] o h = empty n
+  where
+    empty : (n : ℕ) → IsOrdered b (take n (drop (suc from) []))
+    empty zero = tt
+    empty (suc n) = tt
+IsOrdered-between low b (suc from) n (m ∷ ms) o h = IsOrdered-between m.end b from n ms o.2 (λ d some within. h d some (omega arith))
+
+-- what searches by the ends and by the first pages find
+pub IsMeeting-from_searches : (ms : List Mapping) (first end from to n : ℕ) → IsFirstAfter ms first from → to ≤ length ms → IsPartitionPoint (λ m. ltb m.first end ≡ true) (λ m. ltb m.first end ≡ false) ms to → n ≡ max to from → IsMeeting ms first end from n
+IsMeeting-from_searches ms first end from to n f within parted same = record {
+  forward = omega arith;
+  within = omega (arith, f.within);
+  before = f.before;
+  after = λ j d h k. let e = parted.1 j d (omega arith) k in grind (arith, nat_tests);
+  ends = λ j d h k. f.after j d h (omega arith);
+  begins = λ j d h k. let e = parted.0 j d (omega arith) (omega arith) in grind (arith, nat_tests);
+}
+
+-- the first pages of the mappings rise
+pub firsts_rise : (low : ℕ) (ms : List Mapping) → IsOrdered low ms → IsNonDecreasingBy (λ m. m.first) ms
+firsts_rise low ms o i j d le h =
+    elim (cases_lt i j) [
+      | inl less ↦ omega (arith, apart_at low ms o i j d less h, (mapping_at low ms o i d (omega arith)).has_pages)
+      | inr same ↦ subst (λ j. (get_or ms i d).first ≤ (get_or ms j d).first) {x = i} (omega arith) (omega arith)
+    ]

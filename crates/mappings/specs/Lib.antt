@@ -1,5 +1,4 @@
 pub mod Places
 pub mod Judgement
 pub mod State
-pub mod Listed
-pub mod Edits
+pub mod inside

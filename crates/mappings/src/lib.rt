@@ -2,6 +2,7 @@
 //! `munmap`, `mprotect`).
 #![tactic(auto)]
 
+mod list;
 mod mapping;
 mod mappings;
 mod page_range;

@@ -5,11 +5,13 @@ ghost use Rattle.std.specs.FinMap as fin_map;
 ghost use Rattle.mappings.specs.Places.{with_range, without_range, with_rights, any_mapped, all_mapped, any_forbids, goes_on, splits, pages_mapping};
 ghost use Rattle.mappings.specs.Judgement.{add_refusal, remove_refusal, protect_refusal, answer};
 
-use crate::mapping::{
-    Mapping, any_forbids, any_meets, first_after, free_from, gap_for, set_rights, split_ends,
+use crate::list::{
+    any_forbids, covers_all, first_after, meeting, merge_around, remove_range, set_rights,
+    split_ends,
 };
+use crate::mapping::Mapping;
 use crate::{PageRange, PagesOf, Place, Rights};
-use page_entry::{FileNumber, FilePage, PageNumber, Refusal};
+use page_entry::{FileNumber, PageIndex, PageNumber, Refusal};
 use std::alloc::Allocator;
 use std::marker::Model;
 
@@ -24,7 +26,7 @@ impl<A: Allocator + Copy> Model for Mappings<A> {
     ghost use Rattle.std.specs.Prelude.{◌-◌};
     ghost use Rattle.std.specs.Vec.{vec_len, vec_capacity};
     ghost use Rattle.mappings.specs.State.{MappingsState, mappings_code};
-    ghost use Rattle.mappings.specs.Listed.{places_of, IsOrdered};
+    ghost use Rattle.mappings.specs.inside.Listed.{places_of, IsKept};
 
     ghost Value = { MappingsState };
 
@@ -32,7 +34,7 @@ impl<A: Allocator + Copy> Model for Mappings<A> {
 
     ghost view = { λ m. record { places = places_of m.list.items; spare = vec_capacity m.list - vec_len m.list } };
 
-    ghost invariant = { λ m. IsOrdered 0 m.list.items };
+    ghost invariant = { λ m. IsKept m.list.items };
 }
 
 impl<A: Allocator + Copy> Mappings<A> {
@@ -57,17 +59,12 @@ impl<A: Allocator + Copy> Mappings<A> {
         }
     }
 
-    /// Maps the pages of the range to the pages of a file from the place on, one after the other.
+    /// Whether the pages of the range may be mapped to the pages of a file from the place on, one after the other.
     ///
     /// `Einval` if the range has no pages or more than 65,536, isn't within bytes 4,096 to 2^47, or a file page is beyond
-    /// 2^32 - 1; `Eacces` if writing is asked with read-only access; `Overlap` if a page of the range is mapped already;
-    /// `OutOfMemory` if memory for one more mapping is refused. After an error nothing has changed.
-    pub fn add(&mut self, range: PageRange, place: Place) -> Result<(), Refusal>
-        ensures added { OnOk result (self.new.places ≡ with_range self.old.places range.first range.count place) }
-        ensures allowed { OnOk result (add_refusal self.old.places range place ≡ None) }
-        ensures refused { IfErr result (λ why. why ≡ unwrap_or (add_refusal self.old.places range place) OutOfMemory) }
-        ensures memory { OnErr result (add_refusal self.old.places range place ≡ None → self.old.spare ≡ 0) }
-        ensures err { OnErr result (self.new ≡ self.old) }
+    /// 2^32 - 1; `Eacces` if writing is asked with read-only access; `Overlap` if a page of the range is mapped already.
+    pub fn may_add(&self, range: PageRange, place: Place) -> Result<(), Refusal>
+        ensures { result ≡ answer (add_refusal self.now.places range place) }
     {
         if !range.is_mappable(u64::from(place.page)) {
             return Err(Refusal::Einval);
@@ -75,41 +72,60 @@ impl<A: Allocator + Copy> Mappings<A> {
         if !place.access.allows(place.rights) {
             return Err(Refusal::Eacces);
         }
+        if self.has_mapped(range) {
+            return Err(Refusal::Overlap);
+        }
+        Ok(())
+    }
+
+    /// Maps the pages of the range to the pages of a file from the place on, one after the other. A mapping that goes on
+    /// from its neighbour becomes one with it.
+    ///
+    /// It is refused as `may_add` says, and then with `OutOfMemory` if memory for one more mapping is refused. After an
+    /// error nothing has changed.
+    pub fn add(&mut self, range: PageRange, place: Place) -> Result<(), Refusal>
+        ensures added { OnOk result (self.new.places ≡ with_range self.old.places range.first range.count place) }
+        ensures allowed { OnOk result (add_refusal self.old.places range place ≡ None) }
+        ensures refused { IfErr result (λ why. why ≡ unwrap_or (add_refusal self.old.places range place) OutOfMemory) }
+        ensures memory { OnErr result (add_refusal self.old.places range place ≡ None → self.old.spare ≡ 0) }
+        ensures err { OnErr result (self.new ≡ self.old) }
+    {
+        self.may_add(range, place)?;
+        if self.list.reserve(1).is_err() {
+            return Err(Refusal::OutOfMemory);
+        }
         let mapping = Mapping {
             first: range.first,
             end: range.first + range.count,
             place,
         };
-        let Some(at) = gap_for(&self.list, mapping.first, mapping.end) else {
-            return Err(Refusal::Overlap);
+        let at = first_after(&self.list, range.first);
+        let Ok(()) = self.list.insert(at, mapping) else {
+            unreachable!()
         };
-        if self.list.reserve(1).is_err() {
-            return Err(Refusal::OutOfMemory);
-        }
-        self.list
-            .insert(at, mapping)
-            .map_err(|_| Refusal::OutOfMemory)
+        merge_around(&mut self.list, at..at + 1);
+        Ok(())
     }
 
     /// Whether a page of the range is mapped.
     pub fn has_mapped(&self, range: PageRange) -> bool
         ensures { result ≡ any_mapped self.now.places range.first range.count }
     {
-        0 < range.count && any_meets(&self.list, range)
+        0 < range.count && !meeting(&self.list, range).is_empty()
     }
 
     /// Whether each page of the range is mapped.
     pub fn is_mapped(&self, range: PageRange) -> bool
         ensures { result ≡ all_mapped self.now.places range.first range.count }
     {
-        range.count <= free_from(&self.list, range.first) - range.first
+        covers_all(&self.list, range)
     }
 
     // Whether a mapping of the range's pages has an access that doesn't allow the rights.
     fn has_forbidden(&self, range: PageRange, rights: Rights) -> bool
         ensures { result ≡ any_forbids self.now.places range.first range.count rights }
     {
-        0 < range.count && any_forbids(&self.list, range, rights)
+        0 < range.count && any_forbids(&self.list[meeting(&self.list, range)], rights)
     }
 
     // Whether a mapping goes on from the page before this one.
@@ -163,10 +179,9 @@ impl<A: Allocator + Copy> Mappings<A> {
         if !range.is_user() {
             return Err(Refusal::Einval);
         }
-        let (first, end) = (range.first, range.first + range.count);
         split_ends(&mut self.list, range);
-        self.list
-            .retain(|mapping| mapping.end <= first || end <= mapping.first);
+        let places = meeting(&self.list, range);
+        remove_range(&mut self.list, places);
         Ok(())
     }
 
@@ -189,7 +204,8 @@ impl<A: Allocator + Copy> Mappings<A> {
         Ok(())
     }
 
-    /// Gives the rights to the mappings of the range's pages, and to no others. It takes no memory.
+    /// Gives the rights to the mappings of the range's pages, and to no others. Mappings that then go on from their
+    /// neighbours become one with them. It takes no memory.
     ///
     /// It is refused as `may_protect` says. After an error nothing has changed.
     pub fn protect(&mut self, range: PageRange, rights: Rights) -> Result<(), Refusal>
@@ -200,17 +216,15 @@ impl<A: Allocator + Copy> Mappings<A> {
     {
         self.may_protect(range, rights)?;
         split_ends(&mut self.list, range);
-        set_rights(
-            &mut self.list,
-            range.first,
-            range.first + range.count,
-            rights,
-        );
+        let places = meeting(&self.list, range);
+        let (from, to) = (places.start, places.end);
+        set_rights(&mut self.list[places], rights);
+        merge_around(&mut self.list, from..to);
         Ok(())
     }
 
     /// The pages that map this page of this file, in rising order. It takes no memory.
-    pub fn pages_of(&self, file: FileNumber, page: FilePage) -> PagesOf<'_>
+    pub fn pages_of(&self, file: FileNumber, page: PageIndex) -> PagesOf<'_>
         ensures { result ≡ pages_mapping self.now.places file page }
     {
         PagesOf::new(&self.list, file, page)

@@ -2,7 +2,7 @@
 ghost use Rattle.std.specs.Prelude.{◌≡◌};
 ghost use Rattle.mappings.specs.Judgement.{is_user_range, is_mappable, range_of_bytes, mapped_pages_of};
 
-use page_entry::{FilePage, PAGE, PageNumber, Refusal};
+use page_entry::{PAGE, PageIndex, PageNumber, Refusal};
 
 /// The most pages that one mapping may have.
 pub const MAX_PAGES: u64 = 65_536;
@@ -64,12 +64,12 @@ impl PageRange {
 ///
 /// `Einval` if `va` or `offset` isn't a multiple of 4,096, `len` is 0, the pages aren't within bytes 4,096 to 2^47 or
 /// are more than 65,536, or a file page is beyond 2^32 - 1.
-pub fn mapped_pages(va: u64, len: u64, offset: u64) -> Result<(PageRange, FilePage), Refusal>
+pub fn mapped_pages(va: u64, len: u64, offset: u64) -> Result<(PageRange, PageIndex), Refusal>
     ensures { result ≡ mapped_pages_of va len offset }
 {
     let range = PageRange::of_bytes(va, len)?;
     if offset % PAGE == 0 && range.is_mappable(offset / PAGE) {
-        Ok((range, (offset / PAGE) as FilePage))
+        Ok((range, (offset / PAGE) as PageIndex))
     } else {
         Err(Refusal::Einval)
     }

@@ -1,10 +1,10 @@
 // The pages that map one page of a file.
 ghost use Rattle.std.specs.Prelude.{◌≡◌};
 ghost use Rattle.std.specs.Iterator.{YieldsFirst, item_count};
-ghost use Rattle.mappings.specs.Listed.{pages_listed, IsOrdered};
+ghost use Rattle.mappings.specs.inside.Listed.{pages_listed, IsOrdered};
 
 use crate::mapping::Mapping;
-use page_entry::{FileNumber, FilePage, PageNumber};
+use page_entry::{FileNumber, PageIndex, PageNumber};
 use std::marker::Model;
 
 /// The pages that map one page of a file, in rising order.
@@ -12,12 +12,12 @@ use std::marker::Model;
 pub struct PagesOf<'a> {
     rest: &'a [Mapping],
     file: FileNumber,
-    page: FilePage,
+    page: PageIndex,
 }
 
 impl<'a> Model for PagesOf<'a> {
     ghost use Rattle.std.specs.Prelude.{List, ℕ};
-    ghost use Rattle.mappings.specs.Listed.{pages_listed, IsOrdered};
+    ghost use Rattle.mappings.specs.inside.Listed.{pages_listed, IsOrdered};
 
     ghost Value = { List ℕ };
 
@@ -27,7 +27,7 @@ impl<'a> Model for PagesOf<'a> {
 }
 
 impl<'a> PagesOf<'a> {
-    pub(crate) fn new(rest: &'a [Mapping], file: FileNumber, page: FilePage) -> Self
+    pub(crate) fn new(rest: &'a [Mapping], file: FileNumber, page: PageIndex) -> Self
         requires { IsOrdered 0 rest.now }
         ensures { result ≡ pages_listed rest.now file page }
     {

@@ -2,7 +2,7 @@
 ghost use Rattle.std.specs.Prelude.{◌≡◌, Some};
 ghost use Rattle.mappings.specs.Places.{may_write, allows, follows};
 
-use page_entry::{FileNumber, FilePage};
+use page_entry::{FileNumber, PageIndex};
 
 /// What may be done through a mapping (`PROT_READ`, `PROT_READ | PROT_WRITE`) or a file description (`O_RDONLY`,
 /// `O_RDWR`). Writing alone counts as both.
@@ -35,7 +35,7 @@ impl Rights {
 #[derive(Clone, Copy, Debug, PartialEq, Eq)]
 pub struct Place {
     pub file: FileNumber,
-    pub page: FilePage,
+    pub page: PageIndex,
     pub rights: Rights,
     pub access: Rights,
 }

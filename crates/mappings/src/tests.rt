@@ -98,6 +98,33 @@ fn rights_of_one_page_change(rt: HostRuntime) -> Result<(), Fail> {
     Ok(())
 }
 
+// The most pages that one mapping may have, and the file pages that they map.
+#[test]
+fn a_mapping_of_the_most_pages(rt: HostRuntime) -> Result<(), Fail> {
+    let mut space = Mappings::new(rt.alloc());
+    let all = range(1, 65_536);
+    assert_eq!(rt;
+        space.may_add(range(1, 65_537), place(0, 0, READ_WRITE, READ_WRITE)),
+        Err(Refusal::Einval)
+    );
+    assert_eq!(rt;
+        space.may_add(all, place(3, 5, READ_WRITE, READ_WRITE)),
+        Ok(())
+    );
+    space.add(all, place(3, 5, READ_WRITE, READ_WRITE))?;
+    assert!(rt; space.is_mapped(all));
+    assert!(rt; !space.is_mapped(range(1, 65_537)));
+    assert!(rt; space.has_mapped(range(65_536, 4)));
+    assert_eq!(rt;
+        space.where_is(65_536),
+        Some(place(3, 65_540, READ_WRITE, READ_WRITE))
+    );
+    let mut pages = space.pages_of(3, 65_540);
+    assert_eq!(rt; pages.next(), Some(65_536));
+    assert_eq!(rt; pages.next(), None);
+    Ok(())
+}
+
 #[test]
 fn refusals_and_pages_of_a_file_page(rt: HostRuntime) -> Result<(), Fail> {
     let mut space = Mappings::new(rt.alloc());

@@ -1,11 +1,12 @@
 -- Setting and clearing one bit of an entry, as a change of the record that the bits are.
-use Rattle.std.proofs.Common.{◌≡◌, ℕ, ◌+◌, ◌-◌, ◌*◌, ◌/◌, ◌%◌, ◌^◌, ◌<◌, ◌≤◌, ◌==◌, Bool, true, false, if◌then◌else◌, Option, Some, None, refl, sym, ap, ◌∙◌, subst, arith, is_some, bit_or}
+use Rattle.std.proofs.Common.{◌≡◌, ℕ, zero, suc, ◌+◌, ◌-◌, ◌*◌, ◌/◌, ◌%◌, ◌^◌, ◌<◌, ◌≤◌, ◌==◌, Bool, true, false, if◌then◌else◌, Option, Some, None, refl, sym, ap, ◌∙◌, subst, arith, is_some, bit_or}
 use Rattle.std.specs.Int.RustNames.{bit_and}
 use Rattle.std.specs.Int.Bits.{or_add_and}
 use Rattle.std.proofs.lemmas.Nat.{and-not, and_comm}
 use Rattle.std.proofs.lemmas.Nat.Bits.{and_pow}
+use Rattle.std.proofs.lemmas.Bool.Decides.{nat_tests}
 use Rattle.bitflags.specs.Sets.{without}
-use Rattle.page_entry.specs.Entry.{Mapped, flag, bits_of, has_bit, entry_of, IsEntry, is_writable, is_accessed, is_dirty, with_writable_of, with_accessed_of, with_dirty_of, with_frame_of, frame_of}
+use Rattle.page_entry.specs.Entry.{Mapped, flag, bits_of, has_bit, entry_of, IsEntry, is_writable, is_accessed, is_dirty, with_present_of, with_writable_of, with_accessed_of, with_dirty_of, with_frame_of, frame_of}
 
 -- setting bit k adds its weight where it was clear
 or_bit : (n k : ℕ) → bit_or n (2 ^ k) + (n / 2 ^ k % 2) * 2 ^ k ≡ n + 2 ^ k
@@ -169,3 +170,21 @@ accessed_changes b = record { bits = λ e s h. set_accessed e b s h; small = λ 
 
 pub dirty_changes : (b : Bool) → Computes (λ n. after_set n 64 b) (λ e. with_dirty_of e b)
 dirty_changes b = record { bits = λ e s h. set_dirty e b s h; small = λ e. elim e as (λ e. IsSmall e → IsSmall (with_dirty_of e b)) [ None ↦ λ s. s | Some m ↦ λ s. s ] }
+
+-- a bit as a number is one where its weight is the weight of a set bit
+weighed : (bit : ℕ) (weight : ℕ) → bit < 2 → 0 < weight → (bit * weight == weight) ≡ (bit == 1)
+weighed zero weight less some = grind (arith, nat_tests)
+weighed (suc zero) weight less some = grind (arith, nat_tests)
+weighed (suc (suc bit)) weight less some = absurd (omega arith)
+
+-- what a test of one bit says of any number
+test_bit : (n k : ℕ) → 0 < 2 ^ k → (bit_and n (2 ^ k) == 2 ^ k) ≡ has_bit n k
+test_bit n k some = ap (λ x. x == 2 ^ k) (and_pow n k) ∙ weighed (n / 2 ^ k % 2) (2 ^ k) (omega arith) some
+
+-- the entry that is made of these bits, one by one
+pub read_back : (n : ℕ) → with_dirty_of (with_accessed_of (with_writable_of (with_frame_of (with_present_of None (bit_and n 1 == 1)) (n / 4096)) (bit_and n 2 == 2)) (bit_and n 32 == 32)) (bit_and n 64 == 64) ≡ entry_of n
+read_back n = rw (test_bit n 0 (omega arith), test_bit n 1 (omega arith), test_bit n 5 (omega arith), test_bit n 6 (omega arith)) (by_present (has_bit n 0))
+  where
+    by_present : (b : Bool) → with_dirty_of (with_accessed_of (with_writable_of (with_frame_of (with_present_of None b) (n / 4096)) (has_bit n 1)) (has_bit n 5)) (has_bit n 6) ≡ (if b then Some (record { frame = n / 4096; writable = has_bit n 1; accessed = has_bit n 5; dirty = has_bit n 6 }) else None)
+    by_present true = refl
+    by_present false = refl

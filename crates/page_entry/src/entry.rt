@@ -1,7 +1,7 @@
 // A page-table entry, as the bits that the processor reads.
-ghost use Rattle.std.specs.Prelude.{⊤, ◌≡◌, ◌==◌, ◌^◌, ◌<◌, None, [], ◌∷◌, codes, is_some};
+ghost use Rattle.std.specs.Prelude.{⊤, ◌≡◌, ◌==◌, ◌↔◌, ◌^◌, ◌<◌, None, [], ◌∷◌, codes, is_some, IsSome, IfSome};
 ghost use Rattle.std.specs.Int.RustNames.{bit_and};
-ghost use Rattle.page_entry.specs.Entry.{bits_of, is_writable, is_accessed, is_dirty, frame_of, with_present_of, with_writable_of, with_accessed_of, with_dirty_of, with_frame_of, protected_of};
+ghost use Rattle.page_entry.specs.Entry.{IsEntry, entry_of, bits_of, is_writable, is_accessed, is_dirty, frame_of, with_present_of, with_writable_of, with_accessed_of, with_dirty_of, with_frame_of, protected_of};
 
 use crate::{FrameNumber, PAGE};
 use bitflags::{Flag, Flags, bitflag_items};
@@ -74,9 +74,31 @@ impl Entry {
         Entry(0)
     }
 
+    /// The entry that these bits are. None where a bit without a name is set, a present entry lacks the user bit, an
+    /// absent one isn't 0, or the frame's number has more than 32 bits.
+    pub fn from_bits(bits: u64) -> Option<Self>
+        ensures some { IsSome result ↔ IsEntry bits }
+        ensures read { IfSome result (λ entry. entry ≡ entry_of bits) }
+    {
+        let flags = EntryFlags(bits);
+        let frame = FrameNumber::try_from(bits / PAGE).ok()?;
+        let entry = Entry::absent()
+            .with_present(flags.contains(EntryFlags::PRESENT))
+            .with_frame(frame)
+            .with_writable(flags.contains(EntryFlags::WRITABLE))
+            .with_accessed(flags.contains(EntryFlags::ACCESSED))
+            .with_dirty(flags.contains(EntryFlags::DIRTY));
+        if entry.bits() == bits {
+            Some(entry)
+        } else {
+            None
+        }
+    }
+
     /// The entry as the processor reads it: bit 0 present, 1 writable, 2 user, 5 accessed, 6 dirty, 51:12 the frame.
     pub fn bits(self) -> u64
-        ensures { result ≡ bits_of self }
+        ensures bits { result ≡ bits_of self }
+        ensures entry { IsEntry result }
     {
         EntryFlags(self.0).bits()
     }

@@ -6,7 +6,9 @@ mod numbers;
 mod refusal;
 
 pub use entry::{Entry, EntryFlags};
-pub use numbers::{FileNumber, FilePage, FrameNumber, Owner, PAGE, PageNumber, Pcid, Processor};
+pub use numbers::{
+    FileNumber, FilePage, FrameNumber, PAGE, PageIndex, PageNumber, Pcid, ProcessorNumber,
+};
 pub use refusal::Refusal;
 
 #[cfg(test)]
@@ -29,6 +31,18 @@ mod tests {
             (stored.protected(), 0x3025),
         ] {
             assert_eq!(rt; entry.bits(), bits);
+            assert_eq!(rt; Entry::from_bits(bits), Some(entry));
+        }
+    }
+
+    // A blank present entry of the last frame, and bits that are no entry: the frame after it, an absent entry that isn't
+    // 0, a present one without the user bit, and one with bit 8, which would make it global.
+    #[test]
+    fn other_bits_are_no_entry(rt: HostRuntime) {
+        let last = Entry::absent().with_present(true).with_frame(u32::MAX);
+        assert_eq!(rt; Entry::from_bits(0xfff_ffff_f005), Some(last));
+        for bits in [0x1000_0000_0005, 2, 0x3000, 0x3003, 0x3105, u64::MAX] {
+            assert_eq!(rt; Entry::from_bits(bits), None);
         }
     }
 

@@ -4,7 +4,7 @@
 pub const PAGE: u64 = 4096;
 
 /// A processor, counted from 0.
-pub type Processor = u8;
+pub type ProcessorNumber = u8;
 
 /// A process-context identifier, 0 to 4,095 (Intel SDM volume 3, "Process-Context Identifiers"). A space's number is
 /// its PCID.
@@ -19,12 +19,12 @@ pub type FrameNumber = u32;
 /// A file, by its place in the volume's table, counted from 0.
 pub type FileNumber = u16;
 
-/// A page of a file: an offset divided by 4,096.
-pub type FilePage = u32;
+/// The place of a page in its file: an offset divided by 4,096.
+pub type PageIndex = u32;
 
-/// The page of a file whose bytes a frame has.
-#[derive(Clone, Copy, Debug, PartialEq, Eq)]
-pub struct Owner {
+/// A page of a file. Pages are ordered as their home blocks are: by file, then by place.
+#[derive(Clone, Copy, Debug, PartialEq, Eq, PartialOrd, Ord)]
+pub struct FilePage {
     pub file: FileNumber,
-    pub page: FilePage,
+    pub page: PageIndex,
 }

@@ -58,7 +58,12 @@ pub enum Refusal {
 }
 
 impl fmt::Display for Refusal {
-    /// The name in lower case without spaces, and behind `notyet` and `fault` one space and the number.
+    ghost use Rattle.std.specs.Prelude.{Some};
+    ghost use Rattle.page_entry.specs.Refusal.{words_of};
+
+    ghost output = { λ refusal. Some (words_of refusal) };
+
+    /// The name in lower case without spaces, and after `notyet` and `fault` one space and the number.
     fn fmt<W: fmt::Write>(&self, f: &mut fmt::Formatter<W>) -> fmt::Result {
         match self {
             Refusal::Stalled => write!(f, "stalled"),

@@ -10,7 +10,16 @@ use Rattle.std.specs.FinMap.Entries.{below_all}
 use Rattle.std.proofs.lemmas.Bool.Decides.{nat_tests}
 use Rattle.page_entry.specs.Entry.{Mapped, is_dirty}
 use Rattle.page_table.specs.Table.{in_range, dirty_among, dirty_in}
-use Rattle.page_table.specs.Slots.{IsBelow, IsRising}
+
+-- the page is below each of these
+abbrev IsBelow : ℕ → List ℕ → Type 0
+IsBelow page [] = Unit {0}
+IsBelow page (next ∷ later) = (page < next) × IsBelow page later
+
+-- each page is below all later ones
+abbrev IsRising : List ℕ → Type 0
+IsRising [] = Unit {0}
+IsRising (page ∷ later) = IsBelow page later × IsRising later
 
 abbrev keys_of : List (ℕ × Mapped) → List ℕ
 keys_of es = map (λ e. e.0) es

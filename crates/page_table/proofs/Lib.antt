@@ -1,4 +1,9 @@
 pub mod Entries
 pub mod Dirty
 mod Lookup
-mod Merge
+mod Edits
+mod Tables
+mod Growth
+mod Joins
+mod Splices
+mod DirtyParts

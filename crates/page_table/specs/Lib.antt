@@ -1,2 +1,2 @@
 pub mod Table
-pub mod Slots
+pub mod inside

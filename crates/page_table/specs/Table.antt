@@ -1,6 +1,6 @@
 -- A page table as a map from page to entry, with the pages that have grown. A page is the number of 4 KiB of linear
 -- addresses; a range has the pages from `first` up to and without `end`.
-use Rattle.std.specs.Prelude.{ℕ, ◌≡◌, ◌≤◌, ◌<◌, Bool, true, not, ◌&&◌, nat_le, nat_lt, List, map, Option, Some, None, refl}
+use Rattle.std.specs.Prelude.{ℕ, ◌≡◌, ◌≤◌, ◌<◌, Bool, true, false, not, ◌&&◌, nat_le, nat_lt, if◌then◌else◌, slice_index_or, List, map, Option, Some, None, refl}
 use Rattle.std.specs.List.{filter}
 use Rattle.std.specs.Ordering.{nat_cmp}
 use Rattle.std.specs.Coded.{Coded, code_by, coded×, coded_ℕ, coded_bool}
@@ -48,6 +48,26 @@ in_range first end page = nat_le first page && nat_lt page end
 abbrev pub outside_range : maps.FinMap nat_cmp Mapped → ℕ → ℕ → maps.FinMap nat_cmp Mapped
 outside_range entries first end = maps.retain_keys entries (λ page. not (in_range first end page))
 
+-- the entries, each changed as f says of its page and itself
+abbrev pub changed_by : (ℕ → Mapped → Mapped) → maps.FinMap nat_cmp Mapped → maps.FinMap nat_cmp Mapped
+changed_by f entries = maps.from_entries (map (λ e. (e.0, f e.0 e.1)) (maps.entries entries))
+
+-- whether the frame with this number is marked; one past the list's end isn't
+abbrev pub is_marked : List Bool → ℕ → Bool
+is_marked marked frame = slice_index_or marked frame false
+
+-- an entry that maps a marked frame without the right to write and the dirty bit; any other as it is
+abbrev pub protected_if : List Bool → Mapped → Mapped
+protected_if marked entry = if is_marked marked entry.frame then record entry { writable = false; dirty = false } else entry
+
+-- the entries, those that map a marked frame without the right to write and the dirty bit
+unfoldable pub frames_protected : maps.FinMap nat_cmp Mapped → List Bool → maps.FinMap nat_cmp Mapped
+frames_protected entries marked = changed_by (λ _ entry. protected_if marked entry) entries
+
+-- the entries, those of the range without the right to write
+unfoldable pub range_read_only : maps.FinMap nat_cmp Mapped → ℕ → ℕ → maps.FinMap nat_cmp Mapped
+range_read_only entries first end = changed_by (λ page entry. if in_range first end page then record entry { writable = false } else entry) entries
+
 -- the pages of the dirty entries of a range, in the order of this list
 abbrev pub dirty_among : List (ℕ × Mapped) → ℕ → ℕ → List ℕ
 dirty_among entries first end = map (λ e. e.0) (filter (λ e. in_range first end e.0 && e.1.dirty) entries)
@@ -56,8 +76,12 @@ dirty_among entries first end = map (λ e. e.0) (filter (λ e. in_range first en
 abbrev pub dirty_in : maps.FinMap nat_cmp Mapped → ℕ → ℕ → List ℕ
 dirty_in entries first end = dirty_among (maps.entries entries) first end
 
+-- each page of the range has grown
+abbrev pub HasGrown : ℕ → ℕ → TableState → Type 0
+HasGrown first end table = (page : ℕ) → first ≤ page → page < end → is_grown table page ≡ true
+
 -- the same entries, and room: each page of the range has grown, and what had grown still has
 pub record GrowsOver (first end : ℕ) (old new : TableState) : Type 0 where
   pub same_entries : new.entries ≡ old.entries
-  pub range_grown : (page : ℕ) → first ≤ page → page < end → is_grown new page ≡ true
+  pub range_grown : HasGrown first end new
   pub still_grown : (page : ℕ) → is_grown old page ≡ true → is_grown new page ≡ true

@@ -2,8 +2,10 @@
 //! takes no memory.
 #![tactic(auto)]
 
+mod change;
 mod dirty_pages;
-mod slots;
+mod region;
+mod regions;
 mod table;
 
 pub use dirty_pages::DirtyPages;

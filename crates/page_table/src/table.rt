@@ -1,20 +1,25 @@
 // The table: a map from page to entry that grows by ranges.
-ghost use Rattle.std.specs.Prelude.{◌≡◌, ◌≤◌, ◌^◌, IsTrue, OnOk, IfErr};
+ghost use Rattle.std.specs.Prelude.{◌≡◌, ◌≤◌, ◌<◌, ◌^◌, IsTrue, OnOk, IfErr, Ok};
 ghost use Rattle.std.specs.FinMap as maps;
-ghost use Rattle.page_table.specs.Table.{empty_table, is_grown, put_entry, outside_range, dirty_in, GrowsOver};
+ghost use Rattle.page_table.specs.Table.{empty_table, is_grown, put_entry, outside_range, frames_protected, range_read_only, dirty_in, HasGrown, GrowsOver};
 
 use crate::DirtyPages;
-use crate::slots::{Slot, clear_range, place, with_range};
+use crate::change::Change;
+use crate::region::Region;
+use crate::regions::{add_region, change_within, first_after, first_missing, meeting, missing_end};
 use page_entry::{Entry, PageNumber, Refusal};
 use std::alloc::Allocator;
 use std::marker::Model;
 use std::ops::Range;
 
+/// One more than the last page of user addresses, which are below 2^47.
+const END_PAGE: PageNumber = 1 << 35;
+
 /// A page table: a map from page to entry, absent where nothing was set. Pages are those of user addresses, below
 /// 2^35 (Intel SDM volume 3, "4-Level Paging").
 #[derive(Drop)]
 pub struct Table<A: Allocator + Copy> {
-    slots: Vec<Slot, A>,
+    regions: Vec<Region<A>, A>,
 }
 
 impl<A: Allocator + Copy> Model for Table<A> {
@@ -24,26 +29,26 @@ impl<A: Allocator + Copy> Model for Table<A> {
 
     ghost coded = { table_code };
 
-    ghost use Rattle.page_table.specs.Slots.{table_of, pages, IsRising};
+    ghost use Rattle.page_table.specs.inside.Regions.{table_of, IsOrdered};
 
-    ghost view = { λ t. table_of t.slots.items };
+    ghost view = { λ t. table_of t.regions.items };
 
-    ghost invariant = { λ t. IsRising (pages t.slots.items) };
+    ghost invariant = { λ t. IsOrdered 0 t.regions.items };
 }
 
 impl<A: Allocator + Copy> Table<A> {
     /// A table that maps nothing and has grown nowhere. It takes no memory yet.
-    #[tactic(auto, using(crate::proofs::Lookup::empty_slots))]
+    #[tactic(auto, using(crate::proofs::Lookup::no_regions))]
     pub fn new(alloc: A) -> Self
         ensures { result ≡ empty_table }
     {
         Self {
-            slots: Vec::new(alloc),
+            regions: Vec::new(alloc),
         }
     }
 
-    /// Makes all growth that `set` of a page of the range needs; no entry changes. Where memory is refused the table
-    /// stays as it was.
+    /// Makes all growth that `set` of a page of the range needs; no entry changes. It takes memory only where a page of
+    /// the range hasn't grown yet. Where memory is refused the table stays as it was.
     ///
     /// # Errors
     /// `OutOfMemory`.
@@ -51,12 +56,15 @@ impl<A: Allocator + Copy> Table<A> {
         requires { range.end ≤ 2 ^ 35 }
         ensures ok { OnOk result (GrowsOver range.start range.end self.old self.new) }
         ensures err { IfErr result (λ e. (e ≡ Refusal.OutOfMemory) × (self.new ≡ self.old)) }
+        ensures enough { HasGrown range.start range.end self.old → (result ≡ Ok tt) × (self.new ≡ self.old) }
     {
-        match with_range(*self.slots.allocator(), &self.slots, range) {
-            Ok(slots) => {
-                self.slots = slots;
-                Ok(())
-            }
+        let first = first_missing(&self.regions, range.start);
+        if range.end <= first {
+            return Ok(());
+        }
+        let end = missing_end(&self.regions, range.end);
+        match add_region(&mut self.regions, first..end) {
+            Ok(()) => Ok(()),
             Err(_) => Err(Refusal::OutOfMemory),
         }
     }
@@ -65,9 +73,11 @@ impl<A: Allocator + Copy> Table<A> {
     pub fn get(&self, page: PageNumber) -> Entry
         ensures { result ≡ maps.get self.now.entries page }
     {
-        match place(&self.slots, page) {
-            Some(at) => self.slots[at].1,
-            None => Entry::absent(),
+        let at = first_after(&self.regions, page);
+        if at < self.regions.len() {
+            self.regions[at].get(page)
+        } else {
+            Entry::absent()
         }
     }
 
@@ -76,25 +86,39 @@ impl<A: Allocator + Copy> Table<A> {
         requires { IsTrue (is_grown self.old page) }
         ensures { self.new ≡ record self.old { entries = put_entry self.old.entries page entry } }
     {
-        match place(&self.slots, page) {
-            Some(at) => self.slots[at] = (page, entry),
-            None => unreachable!(),
-        }
+        let at = first_after(&self.regions, page);
+        let region = &mut self.regions[at];
+        region.set(page, entry);
     }
 
     /// Makes every entry of the range absent. It takes no memory, and what has grown stays.
     pub fn clear(&mut self, range: Range<PageNumber>)
         ensures { self.new ≡ record self.old { entries = outside_range self.old.entries range.start range.end } }
     {
-        clear_range(&mut self.slots, &range);
+        change_within(&mut self.regions, &range, Change::Clear);
+    }
+
+    /// Takes the right to write from every entry of the range. It takes no memory.
+    pub fn make_read_only(&mut self, range: Range<PageNumber>)
+        ensures { self.new ≡ record self.old { entries = range_read_only self.old.entries range.start range.end } }
+    {
+        change_within(&mut self.regions, &range, Change::MakeReadOnly);
+    }
+
+    /// Takes the right to write and the dirty bit from every entry that maps a marked frame: one whose number is below
+    /// the length of `marked`, with true at its place. It takes no memory.
+    pub fn protect_frames(&mut self, marked: &[bool])
+        ensures { self.new ≡ record self.old { entries = frames_protected self.old.entries marked.now } }
+    {
+        change_within(&mut self.regions, &(0..END_PAGE), Change::Protect(marked));
     }
 
     /// The pages of the range whose entries are dirty, in rising order.
-    pub fn dirty_pages<'a>(&'a self, range: Range<PageNumber>) -> DirtyPages<'a>
+    pub fn dirty_pages<'a>(&'a self, range: Range<PageNumber>) -> DirtyPages<'a, A>
         ensures { result ≡ dirty_in self.now.entries range.start range.end }
     {
         DirtyPages {
-            slots: &self.slots,
+            regions: &self.regions[meeting(&self.regions, &range)],
             range,
         }
     }

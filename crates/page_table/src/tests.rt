@@ -75,13 +75,50 @@ fn agrees_with_a_scanned_list(rt: HostRuntime) -> Result<(), Fail> {
     Ok(())
 }
 
+// One more than the last page.
+const END: PageNumber = 1 << 35;
+
 #[test]
-fn grows_with_ample_memory(rt: HostRuntime) {
+fn grows_with_ample_memory(rt: HostRuntime) -> Result<(), Fail> {
     let mut table = Table::new(rt.alloc());
     assert_eq!(rt; table.get(5), Entry::absent());
     assert_eq!(rt; table.grow(3..3), Ok(()));
     assert_eq!(rt; table.grow(5..6), Ok(()));
-    assert_eq!(rt; table.grow(0..65_536), Ok(()));
-    assert_eq!(rt; table.grow(34_359_738_367..34_359_738_368), Ok(()));
-    assert_eq!(rt; table.dirty_pages(0..65_536).next(), None);
+    assert_eq!(rt; table.dirty_pages(0..END).next(), None);
+    let stored = entry(8, true, true);
+    table.grow(0..65_536)?;
+    table.set(0, stored);
+    table.set(65_535, stored);
+    table.grow(END - 1..END)?;
+    table.set(END - 1, stored);
+    let listed: Vec<PageNumber> = table.dirty_pages(1..END).collect(rt.alloc())?;
+    assert_eq!(rt; listed.as_slice(), [65_535, END - 1].as_slice());
+    // Each page has grown already, in two regions that touch.
+    table.grow(65_536..65_540)?;
+    assert_eq!(rt; table.grow(65_530..65_540), Ok(()));
+    assert_eq!(rt; table.get(65_535), stored);
+    Ok(())
+}
+
+#[test]
+fn protects_marked_frames_and_ranges(rt: HostRuntime) -> Result<(), Fail> {
+    let mut table = Table::new(rt.alloc());
+    let first = entry(1, true, true).with_writable(true);
+    let second = entry(2, true, true).with_writable(true);
+    table.grow(7..10)?;
+    table.set(7, first);
+    table.set(8, second);
+    table.grow(END - 1..END)?;
+    table.set(END - 1, first);
+    // Frame 1 is marked, and the list has no place for frame 2.
+    table.protect_frames(&[true, true]);
+    assert_eq!(rt; table.get(7), first.protected());
+    assert_eq!(rt; table.get(8), second);
+    assert_eq!(rt; table.get(END - 1), first.protected());
+    assert_eq!(rt; table.get(9), Entry::absent());
+    table.make_read_only(8..10);
+    assert_eq!(rt; table.get(8), second.with_writable(false));
+    let listed: Vec<PageNumber> = table.dirty_pages(0..END).collect(rt.alloc())?;
+    assert_eq!(rt; listed.as_slice(), [8].as_slice());
+    Ok(())
 }

@@ -1,5 +1,5 @@
 -- What is cached after a fill or an invalidation, and that each leaves a TLB.
-use Rattle.std.proofs.Common.{◌≡◌, ◌<◌, ◌≤◌, ℕ, zero, suc, Bool, true, false, not, ◌==◌, cond, ltb, List, [], ◌∷◌, ◌++◌, length, get_or, take, drop, Some, None, refl, sym, ap, ◌∙◌, subst, arith, All}
+use Rattle.std.proofs.Common.{◌≡◌, ◌<◌, ◌≤◌, ℕ, zero, suc, Bool, true, false, not, ◌==◌, cond, ltb, List, [], ◌∷◌, ◌++◌, length, get_or, take, drop, Some, None, refl, sym, ap, ◌∙◌, subst, inl, inr, ◌⊎◌, arith, All}
 use Rattle.std.specs.List.{filter, find, remove, AllPairs}
 use Rattle.std.proofs.lemmas.Bool.{eq-eqb}
 use Rattle.std.proofs.lemmas.List.Folds.{find-append}
@@ -11,8 +11,8 @@ use Rattle.std.proofs.lemmas.List.Kept.{AllPairs-cons, AllPairs-filter}
 use Rattle.std.proofs.lemmas.List.Sums.{count_by-le-length, length-filter}
 use Rattle.pcid_tlb.specs.declared.CachedEntry.{CachedEntry}
 use Rattle.pcid_tlb.specs.declared.Invpcid.{Invpcid}
-use Rattle.pcid_tlb.specs.declared.Invpcid.TheVariants.{IndividualAddress, SingleContext, AllContextsAndGlobals, AllContexts}
-use Rattle.pcid_tlb.specs.Tlb.{TlbState, is_of, is_of_pcid, cached, keep_entries, without_page, without_pcid, emptied, invalidated, cr3_loaded, with_room, filled, evicted, AreApart, IsTlb}
+use Rattle.pcid_tlb.specs.declared.Invpcid.TheVariants.{AllContextsAndGlobals, AllContexts}
+use Rattle.pcid_tlb.specs.Tlb.{TlbState, is_of, is_of_pcid, cached, keep_entries, without_page, without_pcid, drops, invalidated, cr3_loaded, with_room, filled, evicted, AreApart, IsTlb}
 
 -- an element leaves
 pub All-remove : {X : Type 0} (P : X → Type 0) (xs : List X) (k : ℕ) → All P xs → All P (remove xs k)
@@ -60,10 +60,7 @@ pub All-kept : (P : CachedEntry → Type 0) (test : CachedEntry → Bool) (t : T
 All-kept P test t all = All-filter test P t.entries all
 
 pub All-invalidated : (P : CachedEntry → Type 0) (t : TlbState) (kind : Invpcid) → All P t.entries → All P (invalidated t kind).entries
-All-invalidated P t (IndividualAddress pcid page) all = All-filter _ P t.entries all
-All-invalidated P t (SingleContext pcid) all = All-filter _ P t.entries all
-All-invalidated P t AllContextsAndGlobals all = λ k d within. absurd (omega arith)
-All-invalidated P t AllContexts all = λ k d within. absurd (omega arith)
+All-invalidated P t kind all = All-filter _ P t.entries all
 
 pub All-cr3_loaded : (P : CachedEntry → Type 0) (t : TlbState) (pcid : ℕ) (keep : Bool) → All P t.entries → All P (cr3_loaded t pcid keep).entries
 All-cr3_loaded P t pcid true all = all
@@ -97,13 +94,6 @@ IsTlb-keep_entries test t is = record {
   distinct = AllPairs-filter AreApart test t.entries is.distinct;
 }
 
-pub IsTlb-emptied : (t : TlbState) → IsTlb t → IsTlb (emptied t)
-IsTlb-emptied t is = record {
-  roomy = is.roomy;
-  bounded = omega arith;
-  distinct = λ i j d below within. absurd (omega arith);
-}
-
 pub IsTlb-evicted : (t : TlbState) (slot : ℕ) → IsTlb t → IsTlb (evicted t slot)
 IsTlb-evicted t slot is = record {
   roomy = is.roomy;
@@ -112,10 +102,7 @@ IsTlb-evicted t slot is = record {
 }
 
 pub IsTlb-invalidated : (t : TlbState) (kind : Invpcid) → IsTlb t → IsTlb (invalidated t kind)
-IsTlb-invalidated t (IndividualAddress pcid page) is = IsTlb-keep_entries _ t is
-IsTlb-invalidated t (SingleContext pcid) is = IsTlb-keep_entries _ t is
-IsTlb-invalidated t AllContextsAndGlobals is = IsTlb-emptied t is
-IsTlb-invalidated t AllContexts is = IsTlb-emptied t is
+IsTlb-invalidated t kind is = IsTlb-keep_entries (λ e. not (drops kind e)) t is
 
 pub IsTlb-cr3_loaded : (t : TlbState) (pcid : ℕ) (keep : Bool) → IsTlb t → IsTlb (cr3_loaded t pcid keep)
 IsTlb-cr3_loaded t pcid true is = is
@@ -255,5 +242,24 @@ cached-without_pcid_other t pcid other_pcid page apart =
     differs e true f same = absurd (apart (sym same ∙ same_pcid e.pcid pcid f))
     differs e false f same = ap not f
 
-pub cached-emptied : (t : TlbState) (pcid page : ℕ) → cached (emptied t) pcid page ≡ None
-cached-emptied t pcid page = refl
+-- an entry that one form of INVPCID drops isn't cached after it
+pub cached-invalidated : (t : TlbState) (kind : Invpcid) (pcid page : ℕ) → ((e : CachedEntry) → is_of pcid page e ≡ true → drops kind e ≡ true) → cached (invalidated t kind) pcid page ≡ None
+cached-invalidated t kind pcid page dropped = find-filter_none (is_of pcid page) (λ e. not (drops kind e)) (λ e here. ap not (dropped e here)) t.entries
+
+-- and every other one is cached as it was
+pub cached-survives : (t : TlbState) (kind : Invpcid) (pcid page : ℕ) → ((e : CachedEntry) → is_of pcid page e ≡ true → drops kind e ≡ false) → cached (invalidated t kind) pcid page ≡ cached t pcid page
+cached-survives t kind pcid page kept = find-filter_kept (is_of pcid page) (λ e. not (drops kind e)) (λ e here. ap not (kept e here)) t.entries
+
+-- a form of INVPCID that drops every entry leaves nothing
+pub invalidated-all : (t : TlbState) (kind : Invpcid) → ((kind ≡ AllContextsAndGlobals) ⊎ (kind ≡ AllContexts)) → invalidated t kind ≡ record t { entries = [] }
+invalidated-all t kind all = elim all [
+  | inl is ↦ ap (invalidated t) is ∙ ap emptied (none t.entries)
+  | inr is ↦ ap (invalidated t) is ∙ ap emptied (none t.entries)
+]
+  where
+    emptied : List CachedEntry → TlbState
+    emptied es = record t { entries = es }
+
+    none : (es : List CachedEntry) → filter (λ e. false) es ≡ []
+    none [] = refl
+    none (e ∷ es) = none es

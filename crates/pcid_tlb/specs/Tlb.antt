@@ -1,6 +1,6 @@
 -- A translation lookaside buffer whose entries are tagged with a PCID, and what fills and invalidations make of it
 -- (Intel SDM volume 3, "Caching Translation Information" and "Invalidation of TLBs and Paging-Structure Caches").
-use Rattle.std.specs.Prelude.{◌≡◌, ◌<◌, ◌≤◌, ℕ, Bool, ◌&&◌, not, ◌==◌, nat_lt, if◌then◌else◌, List, ◌∷◌, [], ◌++◌, length, drop, Option}
+use Rattle.std.specs.Prelude.{◌≡◌, ◌<◌, ◌≤◌, ℕ, Bool, true, ◌&&◌, not, ◌==◌, nat_lt, if◌then◌else◌, List, ◌∷◌, [], ◌++◌, length, drop, Option}
 use Rattle.std.specs.List.{filter, find, remove, AllPairs}
 use Rattle.pcid_tlb.specs.declared.CachedEntry.{CachedEntry}
 use Rattle.pcid_tlb.specs.declared.Invpcid.{Invpcid}
@@ -35,16 +35,16 @@ without_page t pcid page = keep_entries (λ e. not (is_of pcid page e)) t
 abbrev pub without_pcid : TlbState → ℕ → TlbState
 without_pcid t pcid = keep_entries (λ e. not (is_of_pcid pcid e)) t
 
--- without any entry
-abbrev pub emptied : TlbState → TlbState
-emptied t = record t { entries = [] }
+-- whether one form of INVPCID drops an entry; it survives the others
+abbrev pub drops : Invpcid → CachedEntry → Bool
+drops (IndividualAddress pcid page) e = is_of pcid page e
+drops (SingleContext pcid) e = is_of_pcid pcid e
+drops AllContextsAndGlobals e = true
+drops AllContexts e = true
 
--- without the entries that one form of INVPCID names
+-- with only the entries that survive one form of INVPCID
 abbrev pub invalidated : TlbState → Invpcid → TlbState
-invalidated t (IndividualAddress pcid page) = without_page t pcid page
-invalidated t (SingleContext pcid) = without_pcid t pcid
-invalidated t AllContextsAndGlobals = emptied t
-invalidated t AllContexts = emptied t
+invalidated t kind = keep_entries (λ e. not (drops kind e)) t
 
 -- after a load of CR3 with this PCID, and with or without the bit that keeps its entries
 abbrev pub cr3_loaded : TlbState → ℕ → Bool → TlbState

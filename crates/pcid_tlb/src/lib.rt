@@ -3,7 +3,7 @@
 #![tactic(auto)]
 
 ghost use Rattle.std.specs.Prelude.{◌≡◌, ◌==◌, ◌<◌, [], length, nat_lt, IfOk};
-ghost use Rattle.pcid_tlb.specs.Tlb.{cached, filled, evicted, without_page, without_pcid, invalidated, emptied, cr3_loaded, IsTlb};
+ghost use Rattle.pcid_tlb.specs.Tlb.{cached, filled, evicted, without_page, without_pcid, invalidated, cr3_loaded, IsTlb};
 
 use page_entry::{FrameNumber, PageNumber, Pcid};
 use std::alloc::{AllocError, Allocator, Global};
@@ -19,17 +19,17 @@ pub struct CachedEntry {
     pub dirty: bool,
 }
 
-/// What an INVPCID instruction invalidates, in the order of its types 0 to 3 (Intel SDM volume 2, "INVPCID"). No entry
-/// here is global, so the last two do the same.
+/// What an INVPCID instruction invalidates, in the order of its types 0 to 3 (Intel SDM volume 2, "INVPCID"). No
+/// translation here is global, so the last two do the same.
 #[derive(Clone, Copy, Debug, PartialEq, Eq)]
 pub enum Invpcid {
-    /// Type 0: one page of one PCID.
+    /// Type 0, individual-address invalidation: the translation of one page for one PCID.
     IndividualAddress(Pcid, PageNumber),
-    /// Type 1: all of one PCID.
+    /// Type 1, single-context invalidation: all translations for one PCID.
     SingleContext(Pcid),
-    /// Type 2: everything, with global entries.
+    /// Type 2, all-context invalidation, including global translations.
     AllContextsAndGlobals,
-    /// Type 3: everything but global entries.
+    /// Type 3, all-context invalidation, except global translations.
     AllContexts,
 }
 
@@ -123,14 +123,14 @@ impl<A: Allocator + Copy> Tlb<A> {
         self.entries.retain(|e| !(e.pcid == pcid && e.page == page));
     }
 
-    /// Drops the entries that INVPCID names.
+    /// Drops the entries that INVPCID invalidates; the others survive.
     pub fn invpcid(&mut self, kind: Invpcid)
         ensures { self.new ≡ invalidated self.old kind }
     {
         match kind {
             Invpcid::IndividualAddress(pcid, page) => self.invlpg(pcid, page),
             Invpcid::SingleContext(pcid) => self.drop_pcid(pcid),
-            Invpcid::AllContextsAndGlobals | Invpcid::AllContexts => self.entries.clear(),
+            Invpcid::AllContextsAndGlobals | Invpcid::AllContexts => self.drop_all(),
         }
     }
 
@@ -147,6 +147,12 @@ impl<A: Allocator + Copy> Tlb<A> {
         ensures { self.new ≡ without_pcid self.old pcid }
     {
         self.entries.retain(|e| e.pcid != pcid);
+    }
+
+    fn drop_all(&mut self)
+        ensures { self.new ≡ record self.old { entries = [] } }
+    {
+        self.entries.clear();
     }
 }
 
@@ -180,6 +186,27 @@ mod tests {
         assert_eq!(rt; tlb.lookup(2, 5), None);
         assert_eq!(rt; tlb.lookup(1, 5), Some(written));
         assert_eq!(rt; tlb.len(), 2);
+        Ok(())
+    }
+
+    // The oldest of 64 entries leaves when a 65th comes, and no other.
+    #[test]
+    fn a_tlb_of_64_entries(rt: HostRuntime) -> Result<(), Fail> {
+        let mut tlb = Tlb::new(rt.alloc(), 64)?;
+        for page in 0..64 {
+            tlb.fill(CachedEntry { page, ..FIRST });
+        }
+        assert_eq!(rt; tlb.len(), 64);
+        assert_eq!(rt; tlb.lookup(1, 0), Some(CachedEntry { page: 0, ..FIRST }));
+        tlb.fill(CachedEntry { page: 64, ..FIRST });
+        assert_eq!(rt; tlb.len(), 64);
+        assert_eq!(rt; tlb.lookup(1, 0), None);
+        for page in 1..65 {
+            assert_eq!(rt; tlb.lookup(1, page), Some(CachedEntry { page, ..FIRST }));
+        }
+        assert_eq!(rt; tlb.evict(64), false);
+        assert!(rt; tlb.evict(63));
+        assert_eq!(rt; tlb.lookup(1, 64), None);
         Ok(())
     }
 

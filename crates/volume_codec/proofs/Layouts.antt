@@ -1,19 +1,123 @@
--- Where the first journal and the home blocks lie.
-use Rattle.std.proofs.Common.{◌≡◌, ℕ, ◌+◌, ◌<◌, arith}
-use Rattle.volume_codec.specs.Layout.{layout_one, gate_block, descriptor_block, record_block, first_home}
+-- Layouts, and where the parts of a volume lie in them.
+use Rattle.std.proofs.Common.{◌≡◌, ◌≢◌, inl, inr, ℕ, suc, ◌+◌, ◌*◌, ◌<◌, ◌≤◌, List, length, get_or, refl, ap, arith}
+use Rattle.std.proofs.lemmas.Bool.{cases_lt}
+use Rattle.std.proofs.lemmas.Nat.{mul-le}
+use Rattle.volume_codec.specs.declared.layout.Layout.{Layout}
+use Rattle.volume_codec.specs.declared.layout.Layout.TheVariants.{One, Two}
+use Rattle.volume_codec.specs.Layout.{GeometryValue, IsGeometry, number_of, magic_of, journals_of, gate_block, descriptor_block, record_block, first_home, first_file_home}
 
+-- no two layouts have one number
+pub number_of-injective : (a b : Layout) → number_of a ≡ number_of b → a ≡ b
+number_of-injective One One h = refl
+number_of-injective One Two h = absurd (omega arith)
+number_of-injective Two One h = absurd (omega arith)
+number_of-injective Two Two h = refl
+
+-- nor one magic
+pub magic_of-injective : (a b : Layout) → magic_of a ≡ magic_of b → a ≡ b
+magic_of-injective One One h = refl
+magic_of-injective One Two h = let e : ◌≡◌ {A = ℕ} 49 50 = ap (λ (bytes : List ℕ). get_or bytes 7 0) h in absurd (omega (arith, e))
+magic_of-injective Two One h = let e : ◌≡◌ {A = ℕ} 50 49 = ap (λ (bytes : List ℕ). get_or bytes 7 0) h in absurd (omega (arith, e))
+magic_of-injective Two Two h = refl
+
+-- a magic has eight bytes
+pub length-magic_of : (layout : Layout) → length (magic_of layout) ≡ 8
+length-magic_of One = refl
+length-magic_of Two = refl
+
+-- there is a journal
+pub journals_of-some : (layout : Layout) → 0 < journals_of layout
+journals_of-some One = omega arith
+journals_of-some Two = omega arith
+
+pub journals_of-few : (layout : Layout) → journals_of layout ≤ 2
+journals_of-few One = omega arith
+journals_of-few Two = omega arith
+
+-- the blocks of a journal end before those of the next
+next_journal : (j k w : ℕ) → j < k → j * w + w ≤ k * w
+next_journal j k w h = let m = mul-le (suc j) w k w (omega arith) (omega arith) in let e = step j w in omega arith
+  where
+    step : (j w : ℕ) → suc j * w ≡ j * w + w
+    step j w = omega arith
+
+-- the first journal's parts
 pub gate_block-first : (slots : ℕ) → gate_block slots 0 ≡ 1
 gate_block-first slots = omega arith
 
 pub descriptor_block-first : (slots : ℕ) → descriptor_block slots 0 ≡ 2
 descriptor_block-first slots = omega arith
 
-pub record_block-first : (slots s : ℕ) → record_block slots 0 s ≡ 3 + s
-record_block-first slots s = omega arith
+pub record_block-first : (slots i : ℕ) → record_block slots 0 i ≡ 3 + i
+record_block-first slots i = omega arith
 
-pub first_home-one : (slots : ℕ) → first_home layout_one slots ≡ 3 + slots
+-- the second journal's parts
+pub gate_block-second : (slots : ℕ) → gate_block slots 1 ≡ 3 + slots
+gate_block-second slots = omega arith
+
+pub descriptor_block-second : (slots : ℕ) → descriptor_block slots 1 ≡ 4 + slots
+descriptor_block-second slots = omega arith
+
+pub record_block-second : (slots i : ℕ) → record_block slots 1 i ≡ 5 + slots + i
+record_block-second slots i = omega arith
+
+-- the home blocks
+pub first_home-one : (slots : ℕ) → first_home One slots ≡ 3 + slots
 first_home-one slots = omega arith
 
--- the first journal's records lie behind its descriptor and before every home block
-pub record_block-below : (slots s : ℕ) → s < slots → record_block slots 0 s < first_home layout_one slots
-record_block-below slots s h = omega arith
+pub first_home-two : (slots : ℕ) → first_home Two slots ≡ 5 + 2 * slots
+first_home-two slots = omega arith
+
+-- a journal's parts lie before every home block
+pub gate_block-low : (layout : Layout) (slots j : ℕ) → j < journals_of layout → gate_block slots j < first_home layout slots
+gate_block-low layout slots j h = let m = next_journal j (journals_of layout) (2 + slots) h in omega arith
+
+pub descriptor_block-low : (layout : Layout) (slots j : ℕ) → j < journals_of layout → descriptor_block slots j < first_home layout slots
+descriptor_block-low layout slots j h = let m = next_journal j (journals_of layout) (2 + slots) h in omega arith
+
+pub record_block-low : (layout : Layout) (slots j i : ℕ) → j < journals_of layout → i < slots → record_block slots j i < first_home layout slots
+record_block-low layout slots j i h l = let m = next_journal j (journals_of layout) (2 + slots) h in omega arith
+
+-- and before the parts of the next journal
+pub record_block-apart : (slots j k i : ℕ) → j < k → i < slots → record_block slots j i < gate_block slots k
+record_block-apart slots j k i h l = let m = next_journal j k (2 + slots) h in omega arith
+
+pub descriptor_block-apart : (slots j k : ℕ) → j < k → descriptor_block slots j < gate_block slots k
+descriptor_block-apart slots j k h = let m = next_journal j k (2 + slots) h in omega arith
+
+-- no two journals have one gate
+pub gates_apart : (slots j k : ℕ) → gate_block slots j ≡ gate_block slots k → j ≡ k
+gates_apart slots j k same = elim (cases_lt j k) [
+  | inl before ↦ let m = next_journal j k (2 + slots) before in absurd (omega arith)
+  | inr from_k ↦ elim (cases_lt k j) [
+    | inl after ↦ let m = next_journal k j (2 + slots) after in absurd (omega arith)
+    | inr here ↦ omega arith
+  ]
+]
+
+-- and no gate lies in another part of a journal
+pub gate_not_descriptor : (slots j k : ℕ) → gate_block slots k ≢ descriptor_block slots j
+gate_not_descriptor slots j k same = elim (cases_lt j k) [
+  | inl before ↦ let m = descriptor_block-apart slots j k before in omega arith
+  | inr from_k ↦ elim (cases_lt k j) [
+    | inl after ↦ let m = next_journal k j (2 + slots) after in omega arith
+    | inr here ↦ let e : k ≡ j = omega arith in let f = ap (gate_block slots) e in omega arith
+  ]
+]
+
+pub gate_not_record : (slots j k i : ℕ) → i < slots → gate_block slots k ≢ record_block slots j i
+gate_not_record slots j k i h same = elim (cases_lt j k) [
+  | inl before ↦ let m = record_block-apart slots j k i before h in omega arith
+  | inr from_k ↦ elim (cases_lt k j) [
+    | inl after ↦ let m = next_journal k j (2 + slots) after in omega arith
+    | inr here ↦ let e : k ≡ j = omega arith in let f = ap (gate_block slots) e in omega arith
+  ]
+]
+
+-- the files' home blocks are home blocks
+pub first_home-le : (layout : Layout) (slots : ℕ) → first_home layout slots ≤ first_file_home layout slots
+first_home-le layout slots = omega arith
+
+-- every home block, and so every part of a journal, lies within the volume
+pub first_home-within : (g : GeometryValue) → IsGeometry g → first_home g.layout g.slots < g.blocks
+first_home-within g is = omega (arith, first_home-le g.layout g.slots, is.some_homes)

@@ -1,11 +1,12 @@
 pub mod Layouts
 pub mod Padding
+pub mod Places
 pub mod TableLemmas
 pub mod Rows
-pub mod Places
 pub mod Spelling
-pub mod ReadingLemmas
-pub mod Functional
 pub mod Blocks
 pub mod Homes
+pub mod ReadingLemmas
+pub mod Functional
 pub mod Recovered
+pub mod Batches

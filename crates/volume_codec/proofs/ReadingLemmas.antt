@@ -1,15 +1,17 @@
 -- What is read of what was spelled.
-use Rattle.std.proofs.Common.{◌≡◌, ℕ, zero, suc, ◌+◌, ◌-◌, ◌*◌, ◌<◌, ◌≤◌, Bool, true, false, not, List, [], ◌∷◌, ◌++◌, length, drop, Option, Result, Ok, Err, bytes_eq, MatchOption, MatchResult, IsUtf8, IsAscii, refl, sym, ap, subst, ◌∙◌, arith, append_assoc}
+use Rattle.std.proofs.Common.{◌≡◌, ℕ, zero, suc, ◌+◌, ◌-◌, ◌*◌, ◌<◌, ◌≤◌, Bool, true, false, not, List, [], ◌∷◌, ◌++◌, length, drop, Result, Ok, Err, bytes_eq, MatchResult, IsUtf8, IsAscii, refl, sym, ap, subst, ◌∙◌, arith, append_assoc}
 use Rattle.std.specs.Borrow.{Bor}
-use Rattle.std.specs.Result.{result_ok}
+use Rattle.std.specs.Result.{result_unwrap_or}
 use Rattle.std.specs.List.{AllByRecursion}
 use Rattle.std.proofs.lemmas.Slice.Eq.{bytes_eq-Decides}
 use Rattle.std.proofs.lemmas.Str.{IsUtf8-from_ascii}
 use Rattle.std.proofs.lemmas.List.{drop-drop, map_push, append-nil}
-use Rattle.volume_codec.specs.Super.{FileSpec, IsName, IsNameByte}
-use Rattle.volume_codec.specs.Tables.{file_specs}
-use Rattle.volume_codec.specs.Reading.{number_in, name_in, file_in, files_in, numbers_in}
-use Rattle.volume_codec.proofs.Rows.{spec}
+use Rattle.volume_codec.specs.declared.file_spec.FileSpec.{FileSpec}
+use Rattle.volume_codec.specs.Files.{TableFile}
+use Rattle.volume_codec.specs.Super.{IsName, IsNameByte}
+use Rattle.volume_codec.specs.inside.Reading.{number_in, name_in, file_in, entries_in, numbers_in}
+use Rattle.volume_codec.specs.inside.Tables.{files_of, AreFull}
+use Rattle.volume_codec.proofs.Rows.{file_of}
 
 -- a name is text
 name_ascii : (name : List ℕ) → AllByRecursion IsNameByte name → IsAscii name
@@ -20,53 +22,56 @@ name_ascii (b ∷ bs) h (suc i) = name_ascii bs h.1 i
 pub utf8_name : (name : List ℕ) → IsName name → IsUtf8 name
 utf8_name name is = IsUtf8-from_ascii name (name_ascii name is.printable)
 
--- the text that bytes are, or none
-pub text_found : {E : Type 0} (r : Result (Bor (List ℕ)) E) (found : Option (Bor (List ℕ))) (bytes name : List ℕ) (Q : E → Type 0) → bytes ≡ name → found ≡ result_ok r
-    → MatchResult r (λ s. (s.now ≡ bytes) × IsUtf8 bytes) (λ e. (IsUtf8 bytes → ⊥) × Q e) → MatchOption found (IsName name → ⊥) (λ s. s.now ≡ name)
-text_found {E} (Ok s) found bytes name Q same is h =
-    let P : Option (Bor (List ℕ)) → Type 0 = λ o. MatchOption o (IsName name → ⊥) (λ s. s.now ≡ name) in
-    subst P (sym is) (h.0 ∙ same)
-text_found {E} (Err e) found bytes name Q same is h =
-    let P : Option (Bor (List ℕ)) → Type 0 = λ o. MatchOption o (IsName name → ⊥) (λ s. s.now ≡ name) in
+-- the text that bytes are, where they are a name
+pub text_found : {E : Type 0} (r : Result (Bor (List ℕ)) E) (found d : Bor (List ℕ)) (bytes name : List ℕ) (Q : E → Type 0) → bytes ≡ name → found ≡ result_unwrap_or r d
+    → MatchResult r (λ s. (s.now ≡ bytes) × IsUtf8 bytes) (λ e. (IsUtf8 bytes → ⊥) × Q e) → IsName name → found.now ≡ name
+text_found {E} (Ok s) found d bytes name Q same is h named = ap (λ (s : Bor (List ℕ)). s.now) is ∙ h.0 ∙ same
+text_found {E} (Err e) found d bytes name Q same is h named =
     let N : List ℕ → Type 0 = λ bs. IsUtf8 bs in
-    subst P (sym is) (λ named. h.0 (subst N (sym same) (utf8_name name named)))
+    absurd (h.0 (subst N (sym same) (utf8_name name named)))
 
 -- the next of the files
-pub files_in-more : (count i : ℕ) (entries : List ℕ) → i < count → files_in (count - i) (drop (48 * i) entries) ≡ file_in (drop (48 * i) entries) ∷ files_in (count - (i + 1)) (drop (48 * (i + 1)) entries)
-files_in-more count i entries h =
+pub entries_in-more : (count i : ℕ) (entries : List ℕ) → i < count → entries_in (count - i) (drop (48 * i) entries) ≡ file_in (drop (48 * i) entries) ∷ entries_in (count - (i + 1)) (drop (48 * (i + 1)) entries)
+entries_in-more count i entries h =
     let n : count - i ≡ suc (count - (i + 1)) = omega arith in
     let m : 48 * i + 48 ≡ 48 * (i + 1) = omega arith in
-    ap (λ k. files_in k (drop (48 * i) entries)) n
-    ∙ ap (λ (bytes : List ℕ). file_in (drop (48 * i) entries) ∷ files_in (count - (i + 1)) bytes) (drop-drop 48 (48 * i) entries ∙ ap (λ k. drop k entries) m)
-
--- one file more was read
-pub found_more : (done new : List (Bor (List ℕ) × ℕ)) (file : Bor (List ℕ) × ℕ) (count i : ℕ) (entries entry : List ℕ) → i < count
-    → file_specs done ++ files_in (count - i) (drop (48 * i) entries) ≡ files_in count entries → entry ≡ drop (48 * i) entries
-    → (file.0.now ≡ name_in entry) × (file.1 ≡ number_in 8 (drop 32 entry)) → new ≡ done ++ file ∷ []
-    → file_specs new ++ files_in (count - (i + 1)) (drop (48 * (i + 1)) entries) ≡ files_in count entries
-found_more done new file count i entries entry h found at read is =
-    let same : spec file ≡ file_in (drop (48 * i) entries) =
-    ap (λ (name : List ℕ). let f : FileSpec = record { name = name; length = file.1 } in f) read.0
-    ∙ ap (λ (n : ℕ). let f : FileSpec = record { name = name_in entry; length = n } in f) read.1
-    ∙ ap file_in at in
-    let rest = files_in (count - (i + 1)) (drop (48 * (i + 1)) entries) in
-    ap (λ (fs : List (Bor (List ℕ) × ℕ)). file_specs fs ++ rest) is ∙ ap (λ (fs : List FileSpec). fs ++ rest) (map_push spec done file)
-    ∙ append_assoc (file_specs done) (spec file ∷ []) rest ∙ ap (λ (f : FileSpec). file_specs done ++ f ∷ rest) same
-    ∙ ap (λ (fs : List FileSpec). file_specs done ++ fs) (sym (files_in-more count i entries h)) ∙ found
+    ap (λ k. entries_in k (drop (48 * i) entries)) n
+    ∙ ap (λ (bytes : List ℕ). file_in (drop (48 * i) entries) ∷ entries_in (count - (i + 1)) bytes) (drop-drop 48 (48 * i) entries ∙ ap (λ k. drop k entries) m)
 
 among : {X : Type 0} (P : X → Type 0) (xs ys : List X) (x : X) → AllByRecursion P (xs ++ x ∷ ys) → P x
 among P [] ys x h = h.0
 among P (y ∷ xs) ys x h = among P xs ys x h.1
 
--- an entry without a name is none of a table's
-pub damaged_entry : (done : List (Bor (List ℕ) × ℕ)) (count i : ℕ) (entries entry : List ℕ) → i < count
-    → file_specs done ++ files_in (count - i) (drop (48 * i) entries) ≡ files_in count entries → entry ≡ drop (48 * i) entries
-    → (IsName (name_in entry) → ⊥) → AllByRecursion (λ f. IsName f.name) (files_in count entries) → ⊥
-damaged_entry done count i entries entry h found at unnamed each =
-    let P : List FileSpec → Type 0 = λ fs. AllByRecursion (λ f. IsName f.name) fs in
+-- one file more was read
+pub found_more : (done new : List FileSpec) (file : FileSpec) (count i : ℕ) (entries entry : List ℕ) → i < count
+    → (AllByRecursion (λ f. IsName f.name) (entries_in count entries) → files_of done ++ entries_in (count - i) (drop (48 * i) entries) ≡ entries_in count entries)
+    → entry ≡ drop (48 * i) entries → (IsName (name_in entry) → file.name.now ≡ name_in entry) → file.capacity ≡ number_in 8 (drop 32 entry) → new ≡ done ++ file ∷ []
+    → AllByRecursion (λ f. IsName f.name) (entries_in count entries) → files_of new ++ entries_in (count - (i + 1)) (drop (48 * (i + 1)) entries) ≡ entries_in count entries
+found_more done new file count i entries entry h found at read sized is each =
+    let P : List TableFile → Type 0 = λ fs. AllByRecursion (λ f. IsName f.name) fs in
     let N : List ℕ → Type 0 = λ bs. IsName (name_in bs) in
-    let here = subst P (sym found ∙ ap (λ (fs : List FileSpec). file_specs done ++ fs) (files_in-more count i entries h)) each in
-    unnamed (subst N (sym at) (among (λ f. IsName f.name) (file_specs done) _ _ here))
+    let here = subst P (sym (found each) ∙ ap (λ (fs : List TableFile). files_of done ++ fs) (entries_in-more count i entries h)) each in
+    let named = read (subst N (sym at) (among (λ f. IsName f.name) (files_of done) _ _ here)) in
+    let same : file_of file ≡ file_in (drop (48 * i) entries) =
+    ap (λ (name : List ℕ). let f : TableFile = record { name = name; capacity = file.capacity } in f) named
+    ∙ ap (λ (n : ℕ). let f : TableFile = record { name = name_in entry; capacity = n } in f) sized
+    ∙ ap file_in at in
+    let rest = entries_in (count - (i + 1)) (drop (48 * (i + 1)) entries) in
+    ap (λ (fs : List FileSpec). files_of fs ++ rest) is ∙ ap (λ (fs : List TableFile). fs ++ rest) (map_push file_of done file)
+    ∙ append_assoc (files_of done) (file_of file ∷ []) rest ∙ ap (λ (f : TableFile). files_of done ++ f ∷ rest) same
+    ∙ ap (λ (fs : List TableFile). files_of done ++ fs) (sym (entries_in-more count i entries h)) ∙ found each
+
+-- all files were read
+pub all_found : (done : List FileSpec) (count i : ℕ) (entries : List ℕ) → count ≤ i
+    → (AllByRecursion (λ f. IsName f.name) (entries_in count entries) → files_of done ++ entries_in (count - i) (drop (48 * i) entries) ≡ entries_in count entries)
+    → AllByRecursion (λ f. IsName f.name) (entries_in count entries) → files_of done ≡ entries_in count entries
+all_found done count i entries h found each =
+    let n : count - i ≡ 0 = omega arith in
+    sym (append-nil (files_of done)) ∙ ap (λ k. files_of done ++ entries_in k (drop (48 * i) entries)) (sym n) ∙ found each
+
+pub full_push : (files : List FileSpec) (file : FileSpec) → AreFull files → file.length ≡ file.capacity → AreFull (files ++ file ∷ [])
+full_push [] file full is = (is, tt)
+full_push (f ∷ files) file full is = (full.0, full_push files file full.1 is)
 
 -- what `!=` of bytes says
 pub same_by_ne : (r : Bool) (xs ys : List ℕ) → r ≡ not (bytes_eq xs ys) → r ≡ false → xs ≡ ys

@@ -1,9 +1,8 @@
 -- The descriptor block of a journal: the mark that its records commit, and the home block of each record.
 use Rattle.std.specs.Prelude.{◌≡◌, ℕ, ◌+◌, ◌<◌, ◌≤◌, ◌^◌, List, [], ◌∷◌, ◌++◌, length}
 use Rattle.std.specs.List.{flat_map}
-use Rattle.volume_codec.specs.Layout.{Layout, first_home}
+use Rattle.volume_codec.specs.Layout.{GeometryValue, first_home}
 use Rattle.volume_codec.specs.Text.{number_text, zeros, padded}
-use Rattle.volume_codec.specs.Super.{SuperValue, block_count}
 
 -- what a descriptor says: the number of its mark, and the home block of record i at place i
 pub record DescriptorValue : Type 0 where
@@ -21,18 +20,18 @@ RiseWithin low high [] = Unit {0}
 RiseWithin low high (n ∷ ns) = (low ≤ n) × (n < high) × RiseWithin (n + 1) high ns
 
 -- home blocks of a descriptor: 1 to as many as there are slots, rising strictly, all of them home blocks of the volume
-pub record AreHomes (layout : Layout) (v : SuperValue) (homes : List ℕ) : Type 0 where
+pub record AreHomes (g : GeometryValue) (homes : List ℕ) : Type 0 where
   pub some : 0 < length homes
-  pub few : length homes ≤ v.slots
-  pub rising : RiseWithin (first_home layout v.slots) (block_count layout v) homes
+  pub few : length homes ≤ g.slots
+  pub rising : RiseWithin (first_home g.layout g.slots) g.blocks homes
 
 -- the rules of a descriptor's value: a mark from 1 below 2^64, and home blocks
-pub record IsDescribed (layout : Layout) (v : SuperValue) (d : DescriptorValue) : Type 0 where
+pub record IsDescribed (g : GeometryValue) (d : DescriptorValue) : Type 0 where
   pub some_mark : 0 < d.mark
   pub small_mark : d.mark < 2 ^ 64
-  pub homes : AreHomes layout v d.homes
+  pub homes : AreHomes g d.homes
 
--- the grammar of descriptor blocks, in a volume with this super block: this block says this value
-pub record IsDescriptor (layout : Layout) (v : SuperValue) (d : DescriptorValue) (block : List ℕ) : Type 0 where
-  pub described : IsDescribed layout v d
+-- the grammar of descriptor blocks, in a volume of this geometry: this block says this value
+pub record IsDescriptor (g : GeometryValue) (d : DescriptorValue) (block : List ℕ) : Type 0 where
+  pub described : IsDescribed g d
   pub spelled : block ≡ descriptor_text d

@@ -1,31 +1,65 @@
 -- Where the parts of a volume lie. A block is 4,096 bytes, and block i begins at 4,096 times i. Block 0 is the super
 -- block. Each journal follows with a gate block, a descriptor block and its record slots, then come the home blocks.
-use Rattle.std.specs.Prelude.{ℕ, ◌+◌, ◌*◌, List, codes, take, drop}
+use Rattle.std.specs.Prelude.{ℕ, ◌+◌, ◌*◌, ◌<◌, ◌≤◌, ◌^◌, List, codes, take, drop}
+use Rattle.volume_codec.specs.declared.layout.Layout.{Layout}
+use Rattle.volume_codec.specs.declared.layout.Layout.TheVariants.{One, Two}
 
--- a layout: the eight bytes that its super blocks begin with, and its number of journals
-pub record Layout : Type 0 where
-  pub magic : List ℕ
-  pub journals : ℕ
+-- the number by which a layout is asked for
+abbrev pub number_of : Layout → ℕ
+number_of One = 1
+number_of Two = 2
 
--- layout 1 has one journal
-abbrev pub layout_one : Layout
-layout_one = record { magic = codes "FAMSYNC1"; journals = 1 }
+-- the eight bytes that its super blocks begin with
+abbrev pub magic_of : Layout → List ℕ
+magic_of One = codes "FAMSYNC1"
+magic_of Two = codes "FAMSYNC2"
 
--- the gate block of journal i, counted from 0, where each journal has so many slots
+-- how many journals it has, counted from 0
+abbrev pub journals_of : Layout → ℕ
+journals_of One = 1
+journals_of Two = 2
+
+-- the gate block of journal j, where each journal has so many slots
 abbrev pub gate_block : ℕ → ℕ → ℕ
-gate_block slots i = 1 + i * (2 + slots)
+gate_block slots j = 1 + j * (2 + slots)
 
--- the descriptor block of journal i
+-- the descriptor block of journal j
 abbrev pub descriptor_block : ℕ → ℕ → ℕ
-descriptor_block slots i = 2 + i * (2 + slots)
+descriptor_block slots j = 2 + j * (2 + slots)
 
--- record slot s of journal i
+-- record slot i of journal j
 abbrev pub record_block : ℕ → ℕ → ℕ → ℕ
-record_block slots i s = 3 + i * (2 + slots) + s
+record_block slots j i = 3 + j * (2 + slots) + i
 
--- the first home block
+-- the first home block: the first that a descriptor may name
 abbrev pub first_home : Layout → ℕ → ℕ
-first_home layout slots = 1 + layout.journals * (2 + slots)
+first_home layout slots = 1 + journals_of layout * (2 + slots)
+
+-- the first home block of the files; in these layouts nothing else has a home block
+abbrev pub first_file_home : Layout → ℕ → ℕ
+first_file_home layout slots = first_home layout slots
+
+-- the greatest number of frames of a machine: a batch has a record slot for a page of each
+abbrev pub max_frames : Layout → ℕ → ℕ
+max_frames layout slots = slots
+
+-- where a volume has its parts: its layout, the record slots of each journal, and its number of blocks
+pub record GeometryValue : Type 0 where
+  pub layout : Layout
+  pub slots : ℕ
+  pub blocks : ℕ
+
+-- a home block of a volume
+pub record IsHome (g : GeometryValue) (b : ℕ) : Type 0 where
+  pub low : first_home g.layout g.slots ≤ b
+  pub high : b < g.blocks
+
+-- a volume of this geometry may be: 1 to 1,020 slots, a home block at least, below 2^32 blocks
+pub record IsGeometry (g : GeometryValue) : Type 0 where
+  pub some_slots : 0 < g.slots
+  pub few_slots : g.slots ≤ 1020
+  pub some_homes : first_file_home g.layout g.slots < g.blocks
+  pub few_blocks : g.blocks < 2 ^ 32
 
 -- block i of these bytes
 abbrev pub block_at : List ℕ → ℕ → List ℕ

@@ -4,6 +4,5 @@ pub mod Text
 pub mod Super
 pub mod Descriptor
 pub mod Recovery
-pub mod Reading
-pub mod Tables
 pub mod Refusals
+pub mod inside

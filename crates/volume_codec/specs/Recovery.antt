@@ -1,62 +1,109 @@
--- The files that a volume's bytes recover to, and which bytes are no volume.
-use Rattle.std.specs.Prelude.{◌≡◌, ◌≢◌, ℕ, zero, suc, ◌+◌, ◌*◌, ◌<◌, ◌≤◌, ◌==◌, if◌then◌else◌, ◌⊎◌, List, [], ◌∷◌, ◌++◌, length, take, slice_index}
-use Rattle.volume_codec.specs.Files.{File}
-use Rattle.volume_codec.specs.Layout.{Layout, gate_block, descriptor_block, record_block, first_home, block_at}
-use Rattle.volume_codec.specs.Super.{FileSpec, SuperValue, IsSuper, pages_of, block_count}
+-- What the bytes of a volume recover to, and which bytes are no volume. The contents of a volume are a function from a
+-- home block's number to the bytes of that block.
+use Rattle.std.specs.Prelude.{◌≡◌, ◌≢◌, ℕ, zero, suc, ◌+◌, ◌*◌, ◌<◌, ◌≤◌, ◌==◌, if◌then◌else◌, ◌⊎◌, Bool, true, List, [], ◌∷◌, ◌++◌, length, map, take, slice_index}
+use Rattle.std.specs.List.{AllByRecursion, list_any}
+use Rattle.volume_codec.specs.declared.layout.Layout.{Layout}
+use Rattle.volume_codec.specs.Files.{File, TableFile}
+use Rattle.volume_codec.specs.Layout.{GeometryValue, IsHome, magic_of, journals_of, gate_block, descriptor_block, record_block, first_file_home, block_at}
+use Rattle.volume_codec.specs.Super.{SuperValue, IsSuper, pages_of, block_count, geometry_of}
 use Rattle.volume_codec.specs.Descriptor.{IsDescriptor}
 
--- the gate of journal i is open, where its block begins with the byte 0xA7; every other byte closes it
+-- the gate of journal j is open, where its block begins with the byte 0xA7; every other byte closes it
 abbrev pub IsOpen : List ℕ → ℕ → ℕ → Type 0
-IsOpen bytes slots i = slice_index bytes (4096 * gate_block slots i) ≡ 0xA7
+IsOpen bytes slots j = slice_index bytes (4096 * gate_block slots j) ≡ 0xA7
 
--- The block that stands for block b: the record of the place that b has in homes, where records begin at this block,
--- and b itself where it has none.
-abbrev pub standing_block : ℕ → List ℕ → ℕ → ℕ
-standing_block records [] b = b
-standing_block records (home ∷ homes) b = if b == home then records else standing_block (records + 1) homes b
+-- a batch of blocks: the journal that has their records, the mark that commits them, and their home blocks in the order
+-- of their records
+pub record Batch : Type 0 where
+  pub journal : ℕ
+  pub mark : ℕ
+  pub homes : List ℕ
 
--- n blocks from block b on, one after another, where each block's bytes are given
+-- the batch is what an open journal of these bytes says
+pub record IsOpenBatch (g : GeometryValue) (bytes : List ℕ) (batch : Batch) : Type 0 where
+  pub there : batch.journal < journals_of g.layout
+  pub gate : IsOpen bytes g.slots batch.journal
+  pub descriptor : IsDescriptor g (record { mark = batch.mark; homes = batch.homes }) (block_at bytes (descriptor_block g.slots batch.journal))
+
+-- the marks fall strictly: the newest batch comes first
+abbrev pub IsNewer : Batch → List Batch → Type 0
+IsNewer batch [] = Unit {0}
+IsNewer batch (next ∷ older) = next.mark < batch.mark
+
+abbrev pub AreFalling : List Batch → Type 0
+AreFalling [] = Unit {0}
+AreFalling (batch ∷ older) = IsNewer batch older × AreFalling older
+
+-- whether one of the batches lies in this journal
+abbrev pub has_journal : List Batch → ℕ → Bool
+has_journal batches j = list_any (λ batch. batch.journal == j) batches
+
+-- these are the batches of the open journals, each once, the newest first; so there are none where two have one mark
+pub record AreOpen (g : GeometryValue) (batches : List Batch) (bytes : List ℕ) : Type 0 where
+  pub each : AllByRecursion (IsOpenBatch g bytes) batches
+  pub all : (j : ℕ) → j < journals_of g.layout → IsOpen bytes g.slots j → has_journal batches j ≡ true
+  pub falling : AreFalling batches
+
+-- the record block of home block b in a batch whose records begin at this block, and another block where it has none
+abbrev pub record_or : ℕ → ℕ → List ℕ → ℕ → ℕ
+record_or other records [] b = other
+record_or other records (home ∷ homes) b = if b == home then records else record_or other (records + 1) homes b
+
+-- the block that has the recovered bytes of home block b: its record in the newest batch that has one, else b itself
+abbrev pub standing_block : ℕ → List Batch → ℕ → ℕ
+standing_block slots [] b = b
+standing_block slots (batch ∷ older) b = record_or (standing_block slots older b) (record_block slots batch.journal 0) batch.homes b
+
+-- the contents that these bytes recover to, where these are the batches of the open journals
+abbrev pub contents_in : ℕ → List Batch → List ℕ → ℕ → List ℕ
+contents_in slots batches bytes b = block_at bytes (standing_block slots batches b)
+
+-- these bytes hold a volume with this super block, and these are the batches of its open journals
+pub record IsVolume (v : SuperValue) (batches : List Batch) (bytes : List ℕ) : Type 0 where
+  pub super_block : IsSuper v (block_at bytes 0)
+  pub long : 4096 * block_count v ≤ length bytes
+  pub journals : AreOpen (geometry_of v) batches bytes
+
+-- these bytes hold a volume with this super block, which recovers to these contents
+pub record Recovers (v : SuperValue) (contents : ℕ → List ℕ) (bytes : List ℕ) : Type 0 where
+  pub batches : List Batch
+  pub volume : IsVolume v batches bytes
+  pub contents_are : (b : ℕ) → IsHome (geometry_of v) b → contents b ≡ contents_in v.slots batches bytes b
+
+-- n blocks from block b on, one after another
 abbrev pub blocks_from : (ℕ → List ℕ) → ℕ → ℕ → List ℕ
-blocks_from block b zero = []
-blocks_from block b (suc n) = block b ++ blocks_from block (b + 1) n
+blocks_from contents b zero = []
+blocks_from contents b (suc n) = contents b ++ blocks_from contents (b + 1) n
 
--- these files, whose home blocks begin at block b, each cut at its length
-abbrev pub files_from : (ℕ → List ℕ) → ℕ → List FileSpec → List File
-files_from block b [] = []
-files_from block b (f ∷ fs) =
-    record { name = f.name; bytes = take f.length (blocks_from block b (pages_of f.length)) }
-    ∷ files_from block (b + pages_of f.length) fs
+-- the lengths of the files in contents; in these layouts a file is as long as its capacity
+abbrev pub lengths_in : SuperValue → (ℕ → List ℕ) → List ℕ
+lengths_in v contents = map (λ f. f.capacity) v.files
 
--- the files of a volume's bytes, where record i of the first journal stands for the home block at place i of homes
-abbrev pub recovered_files : Layout → SuperValue → List ℕ → List ℕ → List File
-recovered_files layout v homes bytes =
-    files_from (λ b. block_at bytes (standing_block (record_block v.slots 0 0) homes b)) (first_home layout v.slots) v.files
+-- files of these lengths, whose home blocks begin at block b
+abbrev pub files_from : (ℕ → List ℕ) → ℕ → List TableFile → List ℕ → List File
+files_from contents b (f ∷ fs) (n ∷ lengths) =
+    record { name = f.name; bytes = take n (blocks_from contents b (pages_of f.capacity)); capacity = f.capacity }
+    ∷ files_from contents (b + pages_of f.capacity) fs lengths
+files_from contents b fs lengths = []
 
--- the home blocks whose records the journal commits: none where the gate is closed, else those of the descriptor
-abbrev pub Commits : Layout → SuperValue → List ℕ → List ℕ → Type 0
-Commits layout v homes bytes =
-    ((IsOpen bytes v.slots 0 → ⊥) × (homes ≡ []))
-    ⊎ (IsOpen bytes v.slots 0
-    × ((mark : ℕ) × IsDescriptor layout v (record { mark = mark; homes = homes }) (block_at bytes (descriptor_block v.slots 0))))
-
--- these bytes hold a volume with this super block, whose journal has these home blocks
-pub record IsVolume (layout : Layout) (v : SuperValue) (homes bytes : List ℕ) : Type 0 where
-  pub super_block : IsSuper layout v (block_at bytes 0)
-  pub long : 4096 * block_count layout v ≤ length bytes
-  pub commits : Commits layout v homes bytes
+-- the files in contents
+abbrev pub files_in : SuperValue → (ℕ → List ℕ) → List File
+files_in v contents = files_from contents (first_file_home v.layout v.slots) v.files (lengths_in v contents)
 
 -- a device with these bytes recovers to these files
-pub record RecoversTo (layout : Layout) (bytes : List ℕ) (files : List File) : Type 0 where
+pub record RecoversTo (bytes : List ℕ) (files : List File) : Type 0 where
   pub table : SuperValue
-  pub homes : List ℕ
-  pub volume : IsVolume layout table homes bytes
-  pub files_are : files ≡ recovered_files layout table homes bytes
+  pub contents : ℕ → List ℕ
+  pub recovers : Recovers table contents bytes
+  pub files_are : files ≡ files_in table contents
 
--- no volume of this layout: too short for a super block, or without the layout's magic
-abbrev pub IsNotAVolume : Layout → List ℕ → Type 0
-IsNotAVolume layout bytes = (length bytes < 4096) ⊎ (take 8 bytes ≢ layout.magic)
+-- no volume: too short for a super block, or without the magic of any layout
+abbrev pub IsNotAVolume : List ℕ → Type 0
+IsNotAVolume bytes = (length bytes < 4096) ⊎ ((layout : Layout) → take 8 bytes ≢ magic_of layout)
 
 -- a damaged volume: it begins as one and recovers to no files
-abbrev pub IsDamaged : Layout → List ℕ → Type 0
-IsDamaged layout bytes =
-    (4096 ≤ length bytes) × (take 8 bytes ≡ layout.magic) × ((files : List File) → RecoversTo layout bytes files → ⊥)
+pub record IsDamaged (bytes : List ℕ) : Type 0 where
+  pub long : 4096 ≤ length bytes
+  pub layout : Layout
+  pub magic : take 8 bytes ≡ magic_of layout
+  pub lost : (files : List File) → RecoversTo bytes files → ⊥

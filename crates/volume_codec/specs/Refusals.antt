@@ -2,26 +2,28 @@
 use Rattle.std.specs.Prelude.{◌≡◌, ◌≢◌, List, ℕ, take}
 use Rattle.page_entry.specs.declared.refusal.Refusal.{Refusal}
 use Rattle.page_entry.specs.declared.refusal.Refusal.TheVariants.{OutOfMemory, NotAVolume, Damaged, BadShape}
-use Rattle.volume_codec.specs.Layout.{Layout}
-use Rattle.volume_codec.specs.Super.{SuperValue, Fits, IsSuper}
+use Rattle.volume_codec.specs.declared.layout.Layout.{Layout}
+use Rattle.volume_codec.specs.Files.{AskedFile}
+use Rattle.volume_codec.specs.Layout.{GeometryValue, magic_of}
+use Rattle.volume_codec.specs.Super.{SuperValue, IsSuper, IsAsked}
 use Rattle.volume_codec.specs.Descriptor.{DescriptorValue, IsDescriptor}
 
--- A table outside the rules has a bad shape. Memory is asked for only of a table that keeps them.
-abbrev pub RefusesTable : Layout → SuperValue → Refusal → Type 0
-RefusesTable layout v BadShape = Fits layout v → ⊥
-RefusesTable layout v OutOfMemory = Fits layout v
-RefusesTable layout v _ = ⊥
+-- What is asked for has a bad shape where no table is that. Memory is taken only for a table that there is.
+abbrev pub RefusesTable : ℕ → List AskedFile → ℕ → Refusal → Type 0
+RefusesTable layout files slots BadShape = (v : SuperValue) → IsAsked layout files slots v → ⊥
+RefusesTable layout files slots OutOfMemory = (v : SuperValue) × IsAsked layout files slots v
+RefusesTable layout files slots _ = ⊥
 
--- A block without the layout's magic is no volume, and any other that the grammar relates to no value is damaged. Memory
--- may be refused for any block.
-abbrev pub RefusesSuper : Layout → List ℕ → Refusal → Type 0
-RefusesSuper layout block NotAVolume = take 8 block ≢ layout.magic
-RefusesSuper layout block Damaged = (take 8 block ≡ layout.magic) × ((v : SuperValue) → IsSuper layout v block → ⊥)
-RefusesSuper layout block OutOfMemory = Unit {0}
-RefusesSuper layout block _ = ⊥
+-- A block without the magic of a layout is no volume. One that begins with a layout's magic and says no value is damaged.
+-- Memory may be refused for any block.
+abbrev pub RefusesSuper : List ℕ → Refusal → Type 0
+RefusesSuper block NotAVolume = (layout : Layout) → take 8 block ≢ magic_of layout
+RefusesSuper block Damaged = (layout : Layout) × (take 8 block ≡ magic_of layout) × ((v : SuperValue) → IsSuper v block → ⊥)
+RefusesSuper block OutOfMemory = Unit {0}
+RefusesSuper block _ = ⊥
 
--- A block that the grammar relates to no value is damaged. Memory may be refused for any block.
-abbrev pub RefusesDescriptor : Layout → SuperValue → List ℕ → Refusal → Type 0
-RefusesDescriptor layout v block Damaged = (d : DescriptorValue) → IsDescriptor layout v d block → ⊥
-RefusesDescriptor layout v block OutOfMemory = Unit {0}
-RefusesDescriptor layout v block _ = ⊥
+-- A block that says no value in a volume of this geometry is damaged. Memory may be refused for any block.
+abbrev pub RefusesDescriptor : GeometryValue → List ℕ → Refusal → Type 0
+RefusesDescriptor g block Damaged = (d : DescriptorValue) → IsDescriptor g d block → ⊥
+RefusesDescriptor g block OutOfMemory = Unit {0}
+RefusesDescriptor g block _ = ⊥

@@ -1,12 +1,11 @@
 // The descriptor of a journal: which mark its records commit, and which home block each record is for.
 ghost use Rattle.std.specs.Prelude.{◌≡◌, ◌≤◌, ◌+◌, ◌*◌, ◌↔◌, IsTrue, IfOk, IfErr, MatchResult, length, drop};
-ghost use Rattle.volume_codec.specs.Layout.{layout_one};
 ghost use Rattle.volume_codec.specs.Descriptor.{RiseWithin, IsDescribed, IsDescriptor};
-ghost use Rattle.volume_codec.specs.Reading.{numbers_in};
 ghost use Rattle.volume_codec.specs.Refusals.{RefusesDescriptor};
+ghost use Rattle.volume_codec.specs.inside.Reading.{numbers_in};
 
 use crate::block::{BlockWriter, u32_at, u64_at};
-use crate::super_block::Super;
+use crate::geometry::Geometry;
 use page_entry::Refusal;
 use std::alloc::Allocator;
 use std::marker::Model;
@@ -59,15 +58,11 @@ fn rise_within(homes: &[u32], low: u32, high: u32) -> bool
 
 /// The descriptor block of a mark, whose record i is for the home block at place i. The caller owes home blocks of the
 /// volume in rising order, at most as many as there are slots, and a mark from 1. Takes no memory.
-pub fn write_descriptor<A: Allocator + Copy>(
-    table: &Super<A>,
-    mark: u64,
-    homes: &[u32],
-) -> [u8; 4096]
-    requires { IsDescribed layout_one table.now (record { mark = mark; homes = homes.now }) }
-    ensures { IsDescriptor layout_one table.now (record { mark = mark; homes = homes.now }) result }
+pub fn write_descriptor(geometry: &Geometry, mark: u64, homes: &[u32]) -> [u8; 4096]
+    requires { IsDescribed geometry.now (record { mark = mark; homes = homes.now }) }
+    ensures { IsDescriptor geometry.now (record { mark = mark; homes = homes.now }) result }
 {
-    let slots = table.slots();
+    let slots = geometry.slots();
     prove!(homes.len() <= slots as usize);
     let mut block = BlockWriter::new();
     block.push_u64(mark);
@@ -88,7 +83,9 @@ fn homes_at<A: Allocator + Copy>(
     requires { 16 + 4 * count ≤ length block.now }
     ensures { MatchResult result (λ homes. homes.items ≡ numbers_in count (drop 16 block.now)) (λ refusal. refusal ≡ Refusal.OutOfMemory) }
 {
-    let mut homes = Vec::new(alloc);
+    let Ok(mut homes) = Vec::with_capacity(alloc, count) else {
+        return Err(Refusal::OutOfMemory);
+    };
     for i in 0..count {
         if homes.push(u32_at(block, 16 + 4 * i)).is_err() {
             return Err(Refusal::OutOfMemory);
@@ -97,27 +94,27 @@ fn homes_at<A: Allocator + Copy>(
     Ok(homes)
 }
 
-/// What a descriptor block says, in a volume with this table. `Damaged` where the block breaks the grammar, or
+/// What a descriptor block says, in a volume of this geometry. `Damaged` where the block breaks the grammar, or
 /// `OutOfMemory` in its place.
 pub fn read_descriptor<A: Allocator + Copy>(
     alloc: A,
-    table: &Super<A>,
+    geometry: &Geometry,
     block: &[u8; 4096],
 ) -> Result<Descriptor<A>, Refusal>
-    ensures ok { IfOk result (λ d. IsDescriptor layout_one table.now d block.now) }
-    ensures refused { IfErr result (RefusesDescriptor layout_one table.now block.now) }
+    ensures ok { IfOk result (λ d. IsDescriptor geometry.now d block.now) }
+    ensures refused { IfErr result (RefusesDescriptor geometry.now block.now) }
 {
     let mark = u64_at(block, 0);
     let count = u32_at(block, 8);
-    let slots = table.slots();
+    let slots = geometry.slots();
     if mark == 0 || count == 0 || count > slots {
         return Err(Refusal::Damaged);
     }
     let homes = homes_at(alloc, block, count as usize)?;
-    if !rise_within(&homes, table.first_home(0), table.block_count()) {
+    if !rise_within(&homes, geometry.first_home(), geometry.block_count()) {
         return Err(Refusal::Damaged);
     }
-    if write_descriptor(table, mark, &homes) != *block {
+    if write_descriptor(geometry, mark, &homes) != *block {
         return Err(Refusal::Damaged);
     }
     Ok(Descriptor { mark, homes })

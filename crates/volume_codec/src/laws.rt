@@ -1,43 +1,75 @@
-// What follows of the grammar alone.
-ghost use Rattle.std.specs.Prelude.{◌≡◌, ℕ, ◌+◌, ◌*◌, ◌<◌, ◌≤◌, List, length, take, drop, slice_index};
-ghost use Rattle.volume_codec.specs.Files.{File};
-ghost use Rattle.volume_codec.specs.Layout.{Layout, layout_one, block_at, gate_block, descriptor_block, record_block, first_home};
-ghost use Rattle.volume_codec.specs.Super.{SuperValue, Fits, IsSuper, pages_of, block_count};
+// What follows of the definitions alone.
+ghost use Rattle.std.specs.Prelude.{◌≡◌, ◌≢◌, ℕ, ◌+◌, ◌*◌, ◌/◌, ◌%◌, ◌<◌, ◌≤◌, List, ◌∷◌, length, take, drop, slice_index, slice_get, Some};
+ghost use Rattle.std.specs.List.{AllByRecursion};
+ghost use Rattle.volume_codec.specs.declared.layout.Layout.TheVariants.{One, Two};
+ghost use Rattle.volume_codec.specs.Files.{File, TableFile};
+ghost use Rattle.volume_codec.specs.Layout.{GeometryValue, IsGeometry, IsHome, journals_of, gate_block, descriptor_block, record_block, first_home, block_at};
+ghost use Rattle.volume_codec.specs.Super.{SuperValue, IsSuper, pages_of, first_home_of, block_count, geometry_of};
 ghost use Rattle.volume_codec.specs.Descriptor.{DescriptorValue, RiseWithin, IsDescriptor};
-ghost use Rattle.volume_codec.specs.Recovery.{standing_block, blocks_from, recovered_files, IsVolume, RecoversTo};
+ghost use Rattle.volume_codec.specs.Recovery.{Batch, AreOpen, standing_block, blocks_from, contents_in, lengths_in, files_in, Recovers, RecoversTo, IsVolume};
 
-/// In every layout whose magic has eight bytes, a block says at most one table and at most one descriptor, and bytes
-/// recover to at most one list of files. So reading a block that was written gives back the value that was written.
+/// A block says at most one table, and at most one descriptor in a volume of one geometry; bytes have at most one list of
+/// open batches, and recover to at most one table, contents and list of files. So reading a block that was written gives
+/// back the value that was written.
 pub fn one_reading()
-    ensures tables { (layout : Layout) (v w : SuperValue) (block : List ℕ) → length layout.magic ≡ 8
-        → IsSuper layout v block → IsSuper layout w block → v ≡ w }
-    ensures descriptors { (layout : Layout) (v : SuperValue) (d e : DescriptorValue) (block : List ℕ) → Fits layout v
-        → IsDescriptor layout v d block → IsDescriptor layout v e block → d ≡ e }
-    ensures journals { (layout : Layout) (v : SuperValue) (homes others bytes : List ℕ)
-        → IsVolume layout v homes bytes → IsVolume layout v others bytes → homes ≡ others }
-    ensures recovery { (layout : Layout) (bytes : List ℕ) (files others : List File) → length layout.magic ≡ 8
-        → RecoversTo layout bytes files → RecoversTo layout bytes others → files ≡ others }
+    ensures tables { (v w : SuperValue) (block : List ℕ) → IsSuper v block → IsSuper w block → v ≡ w }
+    ensures descriptors { (g : GeometryValue) (d e : DescriptorValue) (block : List ℕ) → IsGeometry g
+        → IsDescriptor g d block → IsDescriptor g e block → d ≡ e }
+    ensures batches { (g : GeometryValue) (batches others : List Batch) (bytes : List ℕ) → IsGeometry g
+        → AreOpen g batches bytes → AreOpen g others bytes → batches ≡ others }
+    ensures contents { (v w : SuperValue) (contents others : ℕ → List ℕ) (bytes : List ℕ)
+        → Recovers v contents bytes → Recovers w others bytes
+        → (v ≡ w) × ((b : ℕ) → IsHome (geometry_of v) b → contents b ≡ others b) }
+    ensures files { (bytes : List ℕ) (files others : List File) → RecoversTo bytes files → RecoversTo bytes others → files ≡ others }
 {}
 
-/// Where layout 1 has its parts: the gate in block 1, the descriptor in block 2, record slot s in block 3 + s, and the
-/// home blocks behind the last slot.
-pub fn places_of_layout_one()
-    ensures gate { (slots : ℕ) → gate_block slots 0 ≡ 1 }
-    ensures descriptor { (slots : ℕ) → descriptor_block slots 0 ≡ 2 }
-    ensures record_slot { (slots s : ℕ) → record_block slots 0 s ≡ 3 + s }
-    ensures homes { (slots : ℕ) → first_home layout_one slots ≡ 3 + slots }
+/// Where layouts 1 and 2 have their parts. Journal 0 has its gate in block 1, its descriptor in block 2 and record i in block
+/// 3 + i. With J slots, journal 1 has its gate in block 3 + J, its descriptor in block 4 + J and record i in block 5 + J + i.
+/// Home blocks follow from 3 + J and from 5 + 2J on. In every volume the parts of its journals lie before the home blocks, and
+/// apart.
+pub fn parts_of_layouts()
+    ensures first_journal { (slots i : ℕ)
+        → (gate_block slots 0 ≡ 1) × (descriptor_block slots 0 ≡ 2) × (record_block slots 0 i ≡ 3 + i) }
+    ensures second_journal { (slots i : ℕ)
+        → (gate_block slots 1 ≡ 3 + slots) × (descriptor_block slots 1 ≡ 4 + slots) × (record_block slots 1 i ≡ 5 + slots + i) }
+    ensures homes { (slots : ℕ) → (first_home One slots ≡ 3 + slots) × (first_home Two slots ≡ 5 + 2 * slots) }
+    ensures in_order { (g : GeometryValue) (j i : ℕ) → j < journals_of g.layout → i < g.slots
+        → (gate_block g.slots j < descriptor_block g.slots j) × (descriptor_block g.slots j < record_block g.slots j i)
+        × (record_block g.slots j i < first_home g.layout g.slots) }
+    ensures apart { (slots j k i : ℕ) → j < k → i < slots → record_block slots j i < gate_block slots k }
+    ensures whole { (g : GeometryValue) → IsGeometry g → first_home g.layout g.slots < g.blocks }
 {}
 
-/// What recovered files are made of: of the blocks that stand for the home blocks alone, of record i for the home block
-/// at place i, and of the device's own bytes where no record replaces a block.
+/// What recovered contents are made of. Record i of the newest batch stands for its home block; for every other block it is
+/// what stands without that batch; a home block without a record stands for itself. A volume's parts all lie in its first
+/// 4,096 x block count bytes, and each home block of its contents has 4,096 bytes.
 pub fn recovered_from()
-    ensures blocks { (layout : Layout) (v : SuperValue) (homes others bytes new : List ℕ)
-        → ((b : ℕ) → first_home layout v.slots ≤ b → b < block_count layout v
-        → block_at bytes (standing_block (record_block v.slots 0 0) homes b)
-        ≡ block_at new (standing_block (record_block v.slots 0 0) others b))
-        → recovered_files layout v homes bytes ≡ recovered_files layout v others new }
-    ensures records { (records low high : ℕ) (homes : List ℕ) (i : ℕ) → RiseWithin low high homes → i < length homes
-        → standing_block records homes (slice_index homes i) ≡ records + i }
-    ensures device { (bytes : List ℕ) (b n : ℕ)
-        → take n (blocks_from (block_at bytes) b (pages_of n)) ≡ take n (drop (4096 * b) bytes) }
+    ensures record_of_newest { (slots low high : ℕ) (batch : Batch) (older : List Batch) (i : ℕ)
+        → RiseWithin low high batch.homes → i < length batch.homes
+        → standing_block slots (batch ∷ older) (slice_index batch.homes i) ≡ record_block slots batch.journal i }
+    ensures no_record { (slots b : ℕ) (batch : Batch) (older : List Batch)
+        → AllByRecursion (λ home. home ≢ b) batch.homes → standing_block slots (batch ∷ older) b ≡ standing_block slots older b }
+    ensures within { (v : SuperValue) (contents : ℕ → List ℕ) (bytes other : List ℕ)
+        → Recovers v contents bytes → take (4096 * block_count v) other ≡ take (4096 * block_count v) bytes → Recovers v contents other }
+    ensures whole { (v : SuperValue) (contents : ℕ → List ℕ) (bytes : List ℕ) (b : ℕ)
+        → Recovers v contents bytes → IsHome (geometry_of v) b → length (contents b) ≡ 4096 }
+{}
+
+/// What files are made of: of the contents of home blocks alone. The bytes of file i are those of its home blocks, one after
+/// another, cut at its length; where the contents are a device's own blocks, they are a range of the device.
+pub fn files_from_contents()
+    ensures same { (v : SuperValue) (contents others : ℕ → List ℕ)
+        → ((b : ℕ) → IsHome (geometry_of v) b → contents b ≡ others b) → files_in v contents ≡ files_in v others }
+    ensures file { (v : SuperValue) (contents : ℕ → List ℕ) (i n : ℕ) (f : TableFile) → slice_get v.files i ≡ Some f → slice_get (lengths_in v contents) i ≡ Some n
+        → slice_get (files_in v contents) i ≡ Some (record {
+          name = f.name;
+          bytes = take n (blocks_from contents (first_home_of v i) (pages_of f.capacity));
+          capacity = f.capacity;
+        }) }
+    ensures lengths { (v : SuperValue) (contents : ℕ → List ℕ) → length (lengths_in v contents) ≡ length v.files }
+    ensures within { (v : SuperValue) (contents : ℕ → List ℕ) (i n : ℕ) (f : TableFile) → slice_get v.files i ≡ Some f
+        → slice_get (lengths_in v contents) i ≡ Some n → n ≤ f.capacity }
+    ensures device { (bytes : List ℕ) (b n : ℕ) → blocks_from (block_at bytes) b n ≡ take (4096 * n) (drop (4096 * b) bytes) }
+    ensures byte { (contents : ℕ → List ℕ) (b n k : ℕ) → ((i : ℕ) → b ≤ i → i < b + n → length (contents i) ≡ 4096) → k < 4096 * n
+        → slice_index (blocks_from contents b n) k ≡ slice_index (contents (b + k / 4096)) (k % 4096) }
 {}

@@ -1,13 +1,6 @@
-// Where the parts of a volume lie: block 0 is the super block, then come the journals, each a gate block, a descriptor
-// block and its record slots, and then the home blocks. A block is 4,096 bytes. These are the numbers of layout 1.
-ghost use Rattle.std.specs.Prelude.{◌≡◌, ◌<◌, ◌≤◌};
-ghost use Rattle.volume_codec.specs.Layout.{layout_one, gate_block as gate, descriptor_block as descriptor, record_block as record_slot, first_home};
-
-/// The bytes that a super block of layout 1 begins with.
-pub const MAGIC: [u8; 8] = *b"FAMSYNC1";
-
-/// How many journals layout 1 has.
-pub const JOURNALS: u64 = 1;
+// The layouts of volumes.
+ghost use Rattle.std.specs.Prelude.{◌≡◌, ◌≢◌, IfSome, IfNone, List};
+ghost use Rattle.volume_codec.specs.Layout.{number_of, magic_of, journals_of};
 
 /// The byte that opens a journal's gate; it is the first of the gate's block, and every other value closes the gate.
 pub const OPEN_GATE: u8 = 0xA7;
@@ -15,38 +8,71 @@ pub const OPEN_GATE: u8 = 0xA7;
 /// The byte that is written to close a gate.
 pub const CLOSED_GATE: u8 = 0;
 
-/// The gate block of a journal, counted from 0, where each journal has so many record slots.
-pub fn gate_block(slots: u32, journal: u32) -> u32
-    requires few { slots ≤ 1020 }
-    requires there { journal < 1 }
-    ensures { result ≡ gate slots journal }
-{
-    1 + journal * (2 + slots)
+/// How a volume is laid out: which magic its super block begins with, and how many journals it has.
+#[derive(Clone, Copy, PartialEq, Eq, Debug)]
+pub enum Layout {
+    /// One journal.
+    One,
+    /// Two journals, so that a batch may be committed while the one before it is still applied.
+    Two,
 }
 
-/// The descriptor block of a journal.
-pub fn descriptor_block(slots: u32, journal: u32) -> u32
-    requires few { slots ≤ 1020 }
-    requires there { journal < 1 }
-    ensures { result ≡ descriptor slots journal }
-{
-    2 + journal * (2 + slots)
-}
+impl Layout {
+    ghost use Rattle.volume_codec.specs.declared.layout.Layout.{Layout};
 
-/// A record slot of a journal, counted from 0.
-pub fn record_block(slots: u32, journal: u32, slot: u32) -> u32
-    requires few { slots ≤ 1020 }
-    requires there { journal < 1 }
-    requires within { slot < slots }
-    ensures { result ≡ record_slot slots journal slot }
-{
-    3 + journal * (2 + slots) + slot
-}
+    /// The layout of this number, if there is one.
+    pub fn from_number(number: u64) -> Option<Layout>
+        ensures some { IfSome result (λ layout. number_of layout ≡ number) }
+        ensures none { IfNone result ((layout : Layout) → number_of layout ≢ number) }
+    {
+        match number {
+            1 => Some(Layout::One),
+            2 => Some(Layout::Two),
+            _ => None,
+        }
+    }
 
-/// The first home block, where journals have so many record slots.
-pub fn first_home_block(slots: u64) -> u64
-    requires { slots ≤ 1020 }
-    ensures { result ≡ first_home layout_one slots }
-{
-    1 + JOURNALS * (2 + slots)
+    /// The layout whose super blocks begin with these bytes, if there is one.
+    pub fn from_magic(magic: [u8; 8]) -> Option<Layout>
+        ensures some { IfSome result (λ layout. magic ≡ magic_of layout) }
+        ensures none { IfNone result ((layout : Layout) → magic ≢ magic_of layout) }
+    {
+        if magic == Layout::One.magic() {
+            return Some(Layout::One);
+        }
+        if magic == Layout::Two.magic() {
+            return Some(Layout::Two);
+        }
+        None
+    }
+
+    /// The number by which it is asked for.
+    pub fn number(self) -> u64
+        ensures { result ≡ number_of self }
+    {
+        match self {
+            Layout::One => 1,
+            Layout::Two => 2,
+        }
+    }
+
+    /// The bytes that its super blocks begin with.
+    pub fn magic(self) -> [u8; 8]
+        ensures { result ≡ magic_of self }
+    {
+        match self {
+            Layout::One => *b"FAMSYNC1",
+            Layout::Two => *b"FAMSYNC2",
+        }
+    }
+
+    /// How many journals it has.
+    pub fn journals(self) -> u32
+        ensures { result ≡ journals_of self }
+    {
+        match self {
+            Layout::One => 1,
+            Layout::Two => 2,
+        }
+    }
 }

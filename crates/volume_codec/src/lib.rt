@@ -1,19 +1,23 @@
-//! The bytes of a volume's super block and of its journal's descriptor, read and written by one grammar, and the
-//! files that a volume's bytes recover to.
+//! The bytes of a volume's super block and of its journals' descriptors, read and written by one grammar over the volume's
+//! layout, where each part of a volume lies, and the files that a volume's bytes recover to.
 #![tactic(auto)]
 
 mod block;
 mod descriptor;
+mod file_spec;
+mod geometry;
 mod laws;
 mod layout;
 mod rules;
 mod super_block;
 
 pub use descriptor::{Descriptor, read_descriptor, write_descriptor};
-pub use laws::{one_reading, places_of_layout_one, recovered_from};
-pub use layout::{CLOSED_GATE, OPEN_GATE, descriptor_block, gate_block, record_block};
-pub use rules::{MAX_FILES, MAX_NAME, MAX_SLOTS, block_count_of};
-pub use super_block::{Super, read_super, write_super};
+pub use file_spec::FileSpec;
+pub use geometry::Geometry;
+pub use laws::{files_from_contents, one_reading, parts_of_layouts, recovered_from};
+pub use layout::{CLOSED_GATE, Layout, OPEN_GATE};
+pub use rules::{MAX_FILES, MAX_NAME, MAX_SLOTS, block_count_as, block_count_of, specs_of};
+pub use super_block::{Super, read_super, write_super, write_super_as};
 
 #[cfg(test)]
 mod tests;

@@ -1,10 +1,12 @@
 // The rules of a volume's table: which files and how many record slots a volume may have.
-ghost use Rattle.std.specs.Prelude.{◌≡◌, ◌≢◌, ◌↔◌, ◌<◌, ◌≤◌, ◌^◌, IsTrue, IfOk, IfErr, All, length};
-ghost use Rattle.volume_codec.specs.Layout.{layout_one};
-ghost use Rattle.volume_codec.specs.Super.{Fits, IsName, AreDistinct, pages_of as pages, total_pages, block_count};
-ghost use Rattle.volume_codec.specs.Tables.{table_of, file_specs, names_of};
+ghost use Rattle.std.specs.Prelude.{◌≡◌, ◌≢◌, ◌↔◌, ◌<◌, ◌≤◌, ◌^◌, IsTrue, IfOk, IfErr, All, ℕ, List, length, take};
+ghost use Rattle.volume_codec.specs.Files.{asked_by, asked_by_pairs};
+ghost use Rattle.volume_codec.specs.Super.{SuperValue, Fits, IsName, IsAsked, AreDistinct, pages_of as pages, total_pages, block_count};
+ghost use Rattle.volume_codec.specs.inside.Tables.{files_of, names_of, table_of, AreFull};
 
-use crate::layout::first_home_block;
+use crate::file_spec::FileSpec;
+use crate::geometry::first_file_home_block;
+use crate::layout::Layout;
 use page_entry::{PAGE, Refusal};
 
 /// A volume has 1 to so many files.
@@ -16,7 +18,7 @@ pub const MAX_NAME: usize = 32;
 /// A journal has 1 to so many record slots, as many as a descriptor has room for.
 pub const MAX_SLOTS: u64 = 1020;
 
-/// The blocks that a file of so many bytes takes.
+/// The blocks that so many bytes take.
 pub fn pages_of(length: u64) -> u64
     ensures value { result ≡ pages length }
     ensures small { result ≤ 2 ^ 52 }
@@ -31,51 +33,49 @@ fn is_name(name: &str) -> bool
     !name.is_empty() && name.len() <= MAX_NAME && name.bytes().all(|b| b.is_ascii_graphic())
 }
 
-/// Whether each file has a name and at least one byte.
-fn are_files(files: &[(&str, u64)]) -> bool
-    ensures { IsTrue result ↔ All (λ f. IsName f.0.now × (0 < f.1)) files.now }
+/// Whether each file has a name, room for at least one byte, and its capacity for its length.
+fn are_files(files: &[FileSpec]) -> bool
+    ensures { IsTrue result ↔ All (λ f. IsName f.name.now × (0 < f.capacity) × (f.length ≡ f.capacity)) files.now }
 {
-    files
-        .iter()
-        .all(|(name, length)| is_name(name) && *length > 0)
+    files.iter().all(|file| is_name(file.name) && file.capacity > 0 && file.length == file.capacity)
 }
 
 /// Whether none of the files has this name.
-fn is_free(files: &[(&str, u64)], name: &str) -> bool
-    ensures { IsTrue result ↔ All (λ f. f.0.now ≢ name.now) files.now }
+fn is_free(files: &[FileSpec], name: &str) -> bool
+    ensures { IsTrue result ↔ All (λ f. f.name.now ≢ name.now) files.now }
 {
-    files.iter().all(|(other, _)| *other != name)
+    files.iter().all(|other| other.name != name)
 }
 
 /// Whether no two files have one name.
-fn are_distinct(files: &[(&str, u64)]) -> bool
+fn are_distinct(files: &[FileSpec]) -> bool
     ensures { IsTrue result ↔ AreDistinct (names_of files.now) }
 {
     match files {
         [] => true,
-        [(name, _), rest @ ..] => is_free(rest, name) && are_distinct(rest),
+        [file, rest @ ..] => is_free(rest, file.name) && are_distinct(rest),
     }
 }
 
 /// The home blocks that these files take.
-fn home_blocks(files: &[(&str, u64)]) -> u64
+fn home_blocks(files: &[FileSpec]) -> u64
     requires { length files.now ≤ 64 }
-    ensures value { result ≡ total_pages (file_specs files.now) }
+    ensures value { result ≡ total_pages (files_of files.now) }
     ensures small { result ≤ 2 ^ 58 }
 {
     let mut total = 0;
-    for (_, length) in files {
-        total += pages_of(*length);
+    for file in files {
+        total += pages_of(file.capacity);
     }
     total
 }
 
-/// The number of blocks of a volume with these files, each with its name and its length in bytes, and with so many
-/// record slots. `BadShape` where no volume has them: 1 to 64 files of distinct names, names of 1 to 32 bytes from
-/// 0x21 to 0x7E, lengths from 1, 1 to 1,020 slots, and a block count of at most 2^32 - 1. Takes no memory.
-pub fn block_count_of(files: &[(&str, u64)], slots: u64) -> Result<u64, Refusal>
-    ensures ok { IfOk result (λ blocks. Fits layout_one (table_of files.now slots) × (blocks ≡ block_count layout_one (table_of files.now slots))) }
-    ensures err { IfErr result (λ refusal. (refusal ≡ Refusal.BadShape) × (Fits layout_one (table_of files.now slots) → ⊥)) }
+/// The number of blocks of a volume in this layout, by the rules of `block_count_as`.
+pub(crate) fn count_blocks(layout: Layout, files: &[FileSpec], slots: u64) -> Result<u64, Refusal>
+    ensures full { IfOk result (λ _. AreFull files.now) }
+    ensures fits { IfOk result (λ _. Fits (table_of layout files.now slots)) }
+    ensures count { IfOk result (λ blocks. blocks ≡ block_count (table_of layout files.now slots)) }
+    ensures err { IfErr result (λ refusal. (refusal ≡ Refusal.BadShape) × (AreFull files.now → Fits (table_of layout files.now slots) → ⊥)) }
 {
     if files.is_empty() || files.len() > MAX_FILES || slots == 0 || slots > MAX_SLOTS {
         return Err(Refusal::BadShape);
@@ -83,9 +83,58 @@ pub fn block_count_of(files: &[(&str, u64)], slots: u64) -> Result<u64, Refusal>
     if !are_files(files) || !are_distinct(files) {
         return Err(Refusal::BadShape);
     }
-    let blocks = first_home_block(slots) + home_blocks(files);
+    let blocks = u64::from(first_file_home_block(layout, slots as u32)) + home_blocks(files);
     if blocks > u64::from(u32::MAX) {
         return Err(Refusal::BadShape);
     }
     Ok(blocks)
+}
+
+/// The number of blocks of a volume in the layout of this number, with these files and with so many record slots for each
+/// journal. `BadShape` where no volume has them: a layout that there is, 1 to 64 files of distinct names, names of 1 to 32
+/// bytes from 0x21 to 0x7E, capacities from 1 that are the lengths, 1 to 1,020 slots, and a block count of at most 2^32 - 1.
+/// Takes no memory.
+pub fn block_count_as(layout: u64, files: &[FileSpec], slots: u64) -> Result<u64, Refusal>
+    ensures ok { IfOk result (λ blocks. (v : SuperValue) × IsAsked layout (asked_by files.now) slots v × (blocks ≡ block_count v)) }
+    ensures err { IfErr result (λ refusal.
+        (refusal ≡ Refusal.BadShape) × ((v : SuperValue) → IsAsked layout (asked_by files.now) slots v → ⊥)) }
+{
+    let Some(layout) = Layout::from_number(layout) else {
+        return Err(Refusal::BadShape);
+    };
+    count_blocks(layout, files, slots)
+}
+
+/// The files of these names and lengths, none of which may grow, in the first places; the caller has at most 64.
+pub fn specs_of<'a>(files: &[(&'a str, u64)]) -> [FileSpec<'a>; 64]
+    requires { length files.now ≤ 64 }
+    ensures { asked_by (take (length files.now) result) ≡ asked_by_pairs files.now }
+{
+    let mut specs = [FileSpec {
+        name: "",
+        length: 0,
+        capacity: 0,
+    }; 64];
+    for (i, (name, length)) in files.iter().enumerate() {
+        specs[i] = FileSpec {
+            name,
+            length: *length,
+            capacity: *length,
+        };
+    }
+    specs
+}
+
+/// The number of blocks of a volume in layout 1 with these files, each with its name and its length in bytes, and with so
+/// many record slots, by the rules of `block_count_as`. Takes no memory.
+pub fn block_count_of(files: &[(&str, u64)], slots: u64) -> Result<u64, Refusal>
+    ensures ok { IfOk result (λ blocks. (v : SuperValue) × IsAsked 1 (asked_by_pairs files.now) slots v × (blocks ≡ block_count v)) }
+    ensures err { IfErr result (λ refusal.
+        (refusal ≡ Refusal.BadShape) × ((v : SuperValue) → IsAsked 1 (asked_by_pairs files.now) slots v → ⊥)) }
+{
+    if files.len() > MAX_FILES {
+        return Err(Refusal::BadShape);
+    }
+    let specs = specs_of(files);
+    block_count_as(1, &specs[..files.len()], slots)
 }

@@ -1,92 +1,137 @@
-// The super block: a volume's table of files, and how many record slots each journal has.
-ghost use Rattle.std.specs.Prelude.{◌≡◌, ◌<◌, ◌≤◌, ◌+◌, ◌*◌, ◌^◌, ◌++◌, IfOk, IfErr, MatchOption, MatchResult, not, ◌==◌, length, slice_get, slice_index, Some, drop};
-ghost use Rattle.std.specs.List.{prefix_len};
-ghost use Rattle.volume_codec.specs.Layout.{layout_one};
-ghost use Rattle.volume_codec.specs.Super.{Fits, IsName, IsSuper, AreDistinct, pages_of as pages, first_home_of, block_count, entry_text, super_text};
-ghost use Rattle.volume_codec.specs.Tables.{table_of, file_specs, names_of, rows_of, lengths_in, names_in};
-ghost use Rattle.volume_codec.specs.Reading.{number_in, name_in, files_in, RefusesEntries, damage_of as damage};
+// The super block: a volume's layout, its table of files, and how many record slots each journal has.
+ghost use Rattle.std.specs.Prelude.{◌≡◌, ◌≢◌, ◌<◌, ◌≤◌, ◌+◌, ◌*◌, ◌^◌, ◌++◌, IfOk, IfErr, IfSome, IfNone, MatchOption, not, ◌==◌, ℕ, List, length, slice_get, slice_index, Some, take, drop};
+ghost use Rattle.std.specs.List.{AllByRecursion, prefix_len};
+ghost use Rattle.volume_codec.specs.Files.{asked_by, asked_by_pairs};
+ghost use Rattle.volume_codec.specs.Layout.{magic_of};
+ghost use Rattle.volume_codec.specs.Super.{SuperValue, Fits, IsName, IsSuper, IsAsked, AreDistinct, pages_of as pages, total_pages, first_home_of, block_count as blocks_of, geometry_of, entry_text, super_text, names_in, capacities_in};
 ghost use Rattle.volume_codec.specs.Refusals.{RefusesTable, RefusesSuper};
+ghost use Rattle.volume_codec.specs.inside.Reading.{number_in, name_in, file_in, entries_in, damage_of as damage};
+ghost use Rattle.volume_codec.specs.inside.Tables.{files_of, names_of, rows_of, homes_of, homes_from, AreFull};
 
 use crate::block::{BlockWriter, u32_at, u64_at};
-use crate::layout::{MAGIC, first_home_block};
-use crate::rules::{MAX_FILES, MAX_NAME, block_count_of, pages_of};
+use crate::file_spec::FileSpec;
+use crate::geometry::{Geometry, first_file_home_block};
+use crate::layout::Layout;
+use crate::rules::{MAX_FILES, MAX_NAME, count_blocks, pages_of, specs_of};
 use indexmap::IndexMap;
 use page_entry::Refusal;
 use std::alloc::{AllocError, Allocator};
 use std::hash::{BuildHasherDefault, FoldHasher};
 use std::marker::Model;
 
-/// The files by name, in the table's order, each with its length.
-type Table<A> = IndexMap<String<A>, u64, BuildHasherDefault<FoldHasher>, A>;
+/// The number of bytes to which a file may grow, and the first of its home blocks.
+#[derive(Clone, Copy)]
+struct Place {
+    capacity: u64,
+    first_home: u32,
+}
 
-/// What a super block says: the files in order, each with its name and its length in bytes, and the number of record
-/// slots of each journal. Files are counted from 0.
+/// The files by name, in the table's order, each with its place.
+type Table<A> = IndexMap<String<A>, Place, BuildHasherDefault<FoldHasher>, A>;
+
+/// What a super block says: the layout, the files in order, each with its name and its capacity in bytes, and the number of
+/// record slots of each journal. Files are counted from 0.
 #[derive(Drop)]
 pub struct Super<A: Allocator + Copy> {
+    layout: Layout,
     files: Table<A>,
     slots: u32,
+    blocks: u32,
 }
 
 impl<A: Allocator + Copy> Model for Super<A> {
-    ghost use Rattle.volume_codec.specs.Layout.{layout_one};
-    ghost use Rattle.volume_codec.specs.Super.{SuperValue, Fits};
-    ghost use Rattle.volume_codec.specs.Tables.{rows_of};
+    ghost use Rattle.volume_codec.specs.Super.{SuperValue};
+    ghost use Rattle.volume_codec.specs.inside.Tables.{rows_of, homes_of, IsKept};
 
     ghost Value = { SuperValue };
 
-    ghost view = { λ s. record { files = rows_of s.files.entries; slots = s.slots } };
+    ghost view = { λ s. record { layout = s.layout; files = rows_of s.files.entries; slots = s.slots } };
 
-    ghost invariant = { λ s. Fits layout_one (record { files = rows_of s.files.entries; slots = s.slots }) };
+    ghost invariant = { λ s. IsKept (record { layout = s.layout; files = rows_of s.files.entries; slots = s.slots }) (homes_of s.files.entries) s.blocks };
 }
 
-/// A table of these files, whose names are distinct.
-fn table<A: Allocator + Copy>(alloc: A, files: &[(&str, u64)]) -> Result<Table<A>, AllocError>
-    requires { AreDistinct (names_of files.now) }
-    ensures { IfOk result (λ table. rows_of table.entries ≡ file_specs files.now) }
+/// A table of these files, whose names are distinct and whose home blocks begin here.
+fn table<A: Allocator + Copy>(
+    alloc: A,
+    files: &[FileSpec],
+    first_home: u32,
+) -> Result<Table<A>, AllocError>
+    requires distinct { AreDistinct (names_of files.now) }
+    requires few { first_home + total_pages (files_of files.now) < 2 ^ 32 }
+    ensures rows { IfOk result (λ table. rows_of table.entries ≡ files_of files.now) }
+    ensures homes { IfOk result (λ table. homes_of table.entries ≡ homes_from first_home (files_of files.now)) }
 {
-    let mut table = IndexMap::new(alloc);
-    for (name, length) in files {
-        table.insert(String::from_str(alloc, name)?, *length)?;
+    let mut table = IndexMap::with_capacity(alloc, files.len())?;
+    let mut home = first_home;
+    for file in files {
+        let place = Place {
+            capacity: file.capacity,
+            first_home: home,
+        };
+        table.insert(String::from_str(alloc, file.name)?, place)?;
+        home += pages_of(file.capacity) as u32;
     }
     Ok(table)
 }
 
 /// Writes the entry of a file next.
-fn push_entry(block: &mut BlockWriter, name: &str, size: u64, home: u32)
+fn push_entry(block: &mut BlockWriter, name: &str, capacity: u64, home: u32)
     requires room { length block.old + 48 ≤ 4096 }
     requires short { length name.now ≤ 32 }
-    requires pages { pages size < 2 ^ 32 }
-    ensures value { block.new ≡ block.old ++ entry_text home (record { name = name.now; length = size }) }
+    requires pages { pages capacity < 2 ^ 32 }
+    ensures value { block.new ≡ block.old ++ entry_text home (record { name = name.now; capacity = capacity }) }
     ensures len { length block.new ≡ length block.old + 48 }
 {
     block.push(name.as_bytes());
     block.skip(MAX_NAME - name.len());
-    block.push_u64(size);
+    block.push_u64(capacity);
     block.push_u32(home);
-    block.push_u32(pages_of(size) as u32);
+    block.push_u32(pages_of(capacity) as u32);
 }
 
 impl<A: Allocator + Copy> Super<A> {
-    /// The table of these files, each with its name and its length in bytes, and of so many record slots. `BadShape`
-    /// where they break the rules of `block_count_of`, found before any memory is taken.
-    pub fn new(alloc: A, files: &[(&str, u64)], slots: u64) -> Result<Super<A>, Refusal>
-        ensures ok { IfOk result (λ v. v ≡ table_of files.now slots) }
-        ensures refused { IfErr result (RefusesTable layout_one (table_of files.now slots)) }
+    /// The table of these files in the layout of this number, with so many record slots for each journal. `BadShape` where
+    /// they break the rules of `block_count_as`, found before any memory is taken.
+    pub fn new(alloc: A, layout: u64, files: &[FileSpec], slots: u64) -> Result<Super<A>, Refusal>
+        ensures ok { IfOk result (IsAsked layout (asked_by files.now) slots) }
+        ensures refused { IfErr result (RefusesTable layout (asked_by files.now) slots) }
     {
-        block_count_of(files, slots)?;
-        match table(alloc, files) {
+        let Some(layout) = Layout::from_number(layout) else {
+            return Err(Refusal::BadShape);
+        };
+        let blocks = count_blocks(layout, files, slots)? as u32;
+        let slots = slots as u32;
+        match table(alloc, files, first_file_home_block(layout, slots)) {
             Ok(files) => Ok(Super {
+                layout,
                 files,
-                slots: slots as u32,
+                slots,
+                blocks,
             }),
             Err(_) => Err(Refusal::OutOfMemory),
         }
     }
 
+    /// The layout.
+    pub fn layout(&self) -> Layout
+        ensures value { result ≡ self.now.layout }
+        ensures fits { Fits self.now }
+    {
+        self.layout
+    }
+
+    /// Where the volume has its parts.
+    pub fn geometry(&self) -> Geometry
+        ensures value { result ≡ geometry_of self.now }
+        ensures fits { Fits self.now }
+    {
+        Geometry::new(self.layout, self.slots, self.blocks)
+    }
+
     /// The number of record slots of each journal, 1 to 1,020.
     pub fn slots(&self) -> u32
         ensures value { result ≡ self.now.slots }
-        ensures fits { Fits layout_one self.now }
+        ensures fits { Fits self.now }
     {
         self.slots
     }
@@ -94,7 +139,7 @@ impl<A: Allocator + Copy> Super<A> {
     /// The number of files, 1 to 64.
     pub fn file_count(&self) -> usize
         ensures value { result ≡ length self.now.files }
-        ensures fits { Fits layout_one self.now }
+        ensures fits { Fits self.now }
     {
         self.files.len()
     }
@@ -108,59 +153,56 @@ impl<A: Allocator + Copy> Super<A> {
         name.as_str()
     }
 
-    /// The length of a file in bytes, from 1.
-    pub fn length(&self, file: usize) -> u64
+    /// The number of bytes to which a file may grow, from 1.
+    pub fn capacity(&self, file: usize) -> u64
         requires { file < length self.now.files }
-        ensures { slice_get (lengths_in self.now) file ≡ Some result }
+        ensures { slice_get (capacities_in self.now) file ≡ Some result }
     {
-        let (_, length) = self.files.get_index(file).unwrap();
-        *length
+        let (_, place) = self.files.get_index(file).unwrap();
+        place.capacity
     }
 
-    /// The number of home blocks of a file: its length divided by 4,096, rounded up.
+    /// The number of home blocks of a file: its capacity divided by 4,096, rounded up.
     pub fn pages(&self, file: usize) -> u32
         requires { file < length self.now.files }
-        ensures { result ≡ pages (slice_index (lengths_in self.now) file) }
+        ensures { result ≡ pages (slice_index (capacities_in self.now) file) }
     {
-        let (_, size) = self.files.get_index(file).unwrap();
-        pages_of(*size) as u32
+        let (_, place) = self.files.get_index(file).unwrap();
+        pages_of(place.capacity) as u32
     }
 
     /// The first home block of a file. A file's home blocks follow each other, and so do the files in the table's order.
     pub fn first_home(&self, file: usize) -> u32
-        requires { file ≤ length self.now.files }
-        ensures { result ≡ first_home_of layout_one self.now file }
+        requires { file < length self.now.files }
+        ensures { result ≡ first_home_of self.now file }
     {
-        let mut home = first_home_block(u64::from(self.slots));
-        for earlier in 0..file {
-            home += pages_of(self.length(earlier));
-        }
-        home as u32
+        let (_, place) = self.files.get_index(file).unwrap();
+        place.first_home
     }
 
     /// The number of blocks of the volume, at most 2^32 - 1.
     pub fn block_count(&self) -> u32
-        ensures value { result ≡ block_count layout_one self.now }
-        ensures fits { Fits layout_one self.now }
+        ensures value { result ≡ blocks_of self.now }
+        ensures fits { Fits self.now }
     {
-        self.first_home(self.file_count())
+        self.blocks
     }
 
     /// The block that says this table.
     pub fn to_block(&self) -> [u8; 4096]
-        ensures { result ≡ super_text layout_one self.now }
+        ensures { result ≡ super_text self.now }
     {
         let mut block = BlockWriter::new();
-        block.push(&MAGIC);
+        block.push(&self.layout().magic());
         block.push_u32(self.file_count() as u32);
-        block.push_u32(self.slots);
+        block.push_u32(self.slots());
         block.push_u32(self.block_count());
         block.skip(12);
         for file in 0..self.file_count() {
             push_entry(
                 &mut block,
                 self.name(file),
-                self.length(file),
+                self.capacity(file),
                 self.first_home(file),
             );
         }
@@ -168,17 +210,35 @@ impl<A: Allocator + Copy> Super<A> {
     }
 }
 
-/// The super block of a volume with these files, each with its name and its length in bytes, and with so many record
-/// slots. `BadShape` where they break the rules of `block_count_of`, found before any memory is taken.
+/// The super block of a volume in the layout of this number, with these files and with so many record slots for each
+/// journal. `BadShape` where they break the rules of `block_count_as`, found before any memory is taken.
+pub fn write_super_as<A: Allocator + Copy>(
+    alloc: A,
+    layout: u64,
+    files: &[FileSpec],
+    slots: u64,
+) -> Result<[u8; 4096], Refusal>
+    ensures ok { IfOk result (λ block. (v : SuperValue) × IsAsked layout (asked_by files.now) slots v × IsSuper v block) }
+    ensures refused { IfErr result (RefusesTable layout (asked_by files.now) slots) }
+{
+    Ok(Super::new(alloc, layout, files, slots)?.to_block())
+}
+
+/// The super block of a volume in layout 1 with these files, each with its name and its length in bytes, and with so many
+/// record slots. `BadShape` where they break the rules of `block_count_of`, found before any memory is taken.
 pub fn write_super<A: Allocator + Copy>(
     alloc: A,
     files: &[(&str, u64)],
     slots: u64,
 ) -> Result<[u8; 4096], Refusal>
-    ensures ok { IfOk result (IsSuper layout_one (table_of files.now slots)) }
-    ensures refused { IfErr result (RefusesTable layout_one (table_of files.now slots)) }
+    ensures ok { IfOk result (λ block. (v : SuperValue) × IsAsked 1 (asked_by_pairs files.now) slots v × IsSuper v block) }
+    ensures refused { IfErr result (RefusesTable 1 (asked_by_pairs files.now) slots) }
 {
-    Ok(Super::new(alloc, files, slots)?.to_block())
+    if files.len() > MAX_FILES {
+        return Err(Refusal::BadShape);
+    }
+    let specs = specs_of(files);
+    write_super_as(alloc, 1, &specs[..files.len()], slots)
 }
 
 /// How many bytes stand before the first zero.
@@ -188,42 +248,46 @@ fn text_len(field: &[u8]) -> usize
     field.iter().take_while(|b| **b != 0).count()
 }
 
-/// The name at the front of an entry, up to the first zero; `None` where it isn't text.
-fn name_at(entry: &[u8]) -> Option<&str>
+/// The name at the front of an entry, up to the first zero; empty where it isn't text.
+fn name_at(entry: &[u8]) -> &str
     requires { 32 ≤ length entry.now }
-    ensures { MatchOption result (IsName (name_in entry.now) → ⊥) (λ name. name.now ≡ name_in entry.now) }
+    ensures { IsName (name_in entry.now) → result.now ≡ name_in entry.now }
 {
     let field = &entry[..MAX_NAME];
-    str::from_utf8(&field[..text_len(field)]).ok()
+    str::from_utf8(&field[..text_len(field)]).unwrap_or("")
 }
 
-/// The name and the length of an entry; `None` where the name isn't text.
-fn file_at(entry: &[u8]) -> Option<(&str, u64)>
+/// The file of an entry, as long as its capacity. Its name is empty where that isn't text.
+fn file_at(entry: &[u8]) -> FileSpec<'_>
     requires { 40 ≤ length entry.now }
-    ensures { MatchOption result (IsName (name_in entry.now) → ⊥) (λ file. (file.0.now ≡ name_in entry.now) × (file.1 ≡ number_in 8 (drop 32 entry.now))) }
+    ensures name { IsName (name_in entry.now) → result.name.now ≡ name_in entry.now }
+    ensures capacity { result.capacity ≡ number_in 8 (drop 32 entry.now) }
+    ensures full { result.length ≡ result.capacity }
 {
-    Some((name_at(entry)?, u64_at(entry, 32)))
+    let capacity = u64_at(entry, 32);
+    FileSpec {
+        name: name_at(entry),
+        length: capacity,
+        capacity,
+    }
 }
 
-/// The names and lengths of so many entries; `Damaged` where a name isn't text.
-fn files_at<A: Allocator + Copy>(
-    alloc: A,
-    entries: &[u8],
-    count: usize,
-) -> Result<Vec<(&str, u64), A>, Refusal>
-    requires { 48 * count ≤ length entries.now }
-    ensures { MatchResult result (λ files. file_specs files.items ≡ files_in count entries.now) (RefusesEntries (files_in count entries.now)) }
+/// The files of so many entries, in the first places.
+fn files_at(entries: &[u8], count: usize) -> [FileSpec<'_>; 64]
+    requires few { count ≤ 64 }
+    requires there { 48 * count ≤ length entries.now }
+    ensures files { AllByRecursion (λ f. IsName f.name) (entries_in count entries.now) → files_of (take count result) ≡ entries_in count entries.now }
+    ensures full { AreFull (take count result) }
 {
-    let mut files = Vec::new(alloc);
+    let mut files = [FileSpec {
+        name: "",
+        length: 0,
+        capacity: 0,
+    }; 64];
     for i in 0..count {
-        let Some(file) = file_at(&entries[48 * i..]) else {
-            return Err(Refusal::Damaged);
-        };
-        if files.push(file).is_err() {
-            return Err(Refusal::OutOfMemory);
-        }
+        files[i] = file_at(&entries[48 * i..]);
     }
-    Ok(files)
+    files
 }
 
 /// What a block is whose table was refused: damaged where the table breaks the rules.
@@ -236,21 +300,32 @@ fn damage_of(refusal: Refusal) -> Refusal
     }
 }
 
-/// The table that a super block says. `NotAVolume` where the block begins with another magic; `Damaged` where it breaks
-/// any other rule of the grammar. Either may be `OutOfMemory`.
-pub fn read_super<A: Allocator + Copy>(alloc: A, block: &[u8; 4096]) -> Result<Super<A>, Refusal>
-    ensures ok { IfOk result (λ v. IsSuper layout_one v block.now) }
-    ensures refused { IfErr result (RefusesSuper layout_one block.now) }
+/// The layout whose magic a block begins with, if there is one.
+fn layout_of(block: &[u8; 4096]) -> Option<Layout>
+    ensures some { IfSome result (λ layout. take 8 block.now ≡ magic_of layout) }
+    ensures none { IfNone result ((layout : Layout) → take 8 block.now ≢ magic_of layout) }
 {
-    if &block[..8] != MAGIC.as_slice() {
+    let mut magic = [0; 8];
+    magic.copy_from_slice(&block[..8]);
+    Layout::from_magic(magic)
+}
+
+/// The table that a super block says, in the layout whose magic it begins with. `NotAVolume` where it begins with none;
+/// `Damaged` where it breaks any other rule of the grammar. Either may be `OutOfMemory`.
+pub fn read_super<A: Allocator + Copy>(alloc: A, block: &[u8; 4096]) -> Result<Super<A>, Refusal>
+    ensures ok { IfOk result (λ v. IsSuper v block.now) }
+    ensures refused { IfErr result (RefusesSuper block.now) }
+{
+    let Some(layout) = layout_of(block) else {
         return Err(Refusal::NotAVolume);
-    }
+    };
     let count = u32_at(block, 8) as usize;
     if count > MAX_FILES {
         return Err(Refusal::Damaged);
     }
-    let files = files_at(alloc, &block[32..], count)?;
-    let table = match Super::new(alloc, &files, u64::from(u32_at(block, 12))) {
+    let files = files_at(&block[32..], count);
+    let slots = u64::from(u32_at(block, 12));
+    let table = match Super::new(alloc, layout.number(), &files[..count], slots) {
         Ok(table) => table,
         Err(refusal) => return Err(damage_of(refusal)),
     };

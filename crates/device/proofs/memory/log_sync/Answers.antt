@@ -1,5 +1,5 @@
 use Rattle.std.proofs.Common.{◌∙◌, ap}
-use Rattle.device.specs.Logged.{changes_of}
+use Rattle.device.specs.inside.Logged.{changes_of}
 use Rattle.device.proofs.Replay.{changes_of-push}
 use Rattle.device.proofs.memory.log_sync.Goals as goal
 

@@ -2,13 +2,13 @@
 use Rattle.std.proofs.Common.{ℕ, List, sym, ap, ◌∙◌, subst, arith}
 use Rattle.device.specs.Device.{LeavesOnly, Only}
 use Rattle.device.proofs.Moments.{leaves_then, leaves_weaker}
-use Rattle.machine.specs.declared.act.Act.TheVariants as acts
-use Rattle.machine.specs.State.{State}
-use Rattle.volume_codec.specs.Layout.{layout_one}
-use Rattle.volume_codec.specs.Super.{SuperValue}
-use Rattle.volume_codec.specs.Recovery.{RecoversTo}
-use Rattle.machine.specs.Rules.{Run}
-use Rattle.machine.specs.Laws.{fresh, IsAtRest, ReadsBack, told_at_start}
+use Rattle.old_machine.specs.declared.act.Act.TheVariants as acts
+use Rattle.old_machine.specs.State.{State}
+use Rattle.old_volume_codec.specs.Layout.{layout_one}
+use Rattle.old_volume_codec.specs.Super.{SuperValue}
+use Rattle.old_volume_codec.specs.Recovery.{RecoversTo}
+use Rattle.old_machine.specs.Rules.{Run}
+use Rattle.old_machine.specs.Laws.{fresh, IsAtRest, ReadsBack, told_at_start}
 use Rattle.famsync.specs.Session.{history_of, ReadsBackAfterSome}
 use Rattle.famsync.proofs.Sessions.{fresh_when_booted, told_when_booted, rest_when_opened, after_some_alike, recovers_at_rest, read_back_first, within_first}
 use Rattle.famsync.proofs.session.run_steps.Goals as goal

@@ -1,5 +1,5 @@
 use Rattle.std.proofs.Common.{◌≡◌, ◌+◌, ◌-◌, ◌*◌, ◌++◌, drop}
-use Rattle.volume_codec.specs.Reading.{numbers_in}
+use Rattle.volume_codec.specs.inside.Reading.{numbers_in}
 use Rattle.volume_codec.proofs.descriptor.homes_at.Given as goal
 
 abbrev pub invariant-loop-i : goal.invariant-loop-i

@@ -1,5 +1,6 @@
-use Rattle.volume_codec.proofs.Recovered.{recovered_files-same, standing_block-at, bytes_from-device}
+use Rattle.volume_codec.proofs.Recovered.{standing_block-at, standing_block-other}
+use Rattle.volume_codec.proofs.Batches.{recovers_front, length-recovered}
 use Rattle.volume_codec.proofs.laws.recovered_from.Goals as goal
 
 pub returns : goal.returns
-returns c = record { blocks = recovered_files-same; records = standing_block-at; device = bytes_from-device }
+returns c = record { record_of_newest = standing_block-at; no_record = standing_block-other; within = recovers_front; whole = length-recovered }

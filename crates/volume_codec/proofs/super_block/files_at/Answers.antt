@@ -1,13 +1,16 @@
-use Rattle.std.proofs.Common.{◌≡◌, ◌++◌, ◌∷◌, [], arith, rules}
-use Rattle.std.proofs.lemmas.List.{take_rest}
-use Rattle.volume_codec.proofs.ReadingLemmas.{found_more, damaged_entry}
+use Rattle.std.proofs.Common.{List, sym, subst, ◌∙◌, arith}
+use Rattle.std.proofs.lemmas.List.{take_rest, take_more_set, length-set}
+use Rattle.volume_codec.specs.inside.Tables.{AreFull}
+use Rattle.volume_codec.specs.declared.file_spec.FileSpec.{FileSpec}
+use Rattle.volume_codec.proofs.ReadingLemmas.{found_more, full_push}
 use Rattle.volume_codec.proofs.super_block.files_at.Goals as goal
 
-pub returns-in_default : goal.returns-in_default
-returns-in_default g c =
-    damaged_entry c.loop-i.files.items c.args.count c.loop-i.i c.args.entries.now _ (omega arith) c.loop-i.invariant (take_rest c.args.entries.now _) c.in_default.ensures
-
 pub loop-i-preserved : goal.loop-i-preserved
-loop-i-preserved g c =
-    let pushed : c.push.new.self.items ≡ c.loop-i.files.items ++ c.in-Some.file ∷ [] = search rules in
-    found_more c.loop-i.files.items _ c.in-Some.file c.args.count c.loop-i.i c.args.entries.now _ (omega arith) c.loop-i.invariant (take_rest c.args.entries.now _) c.in-Some.ensures pushed
+loop-i-preserved c =
+    let new = take_more_set c.loop-i.files c.loop-i.i c.file_at.result (omega (arith, c.loop-i.invariant.whole, c.requires.few)) in
+    let P : List FileSpec → Type 0 = λ fs. AreFull fs in
+    record {
+      found = found_more _ _ c.file_at.result c.args.count c.loop-i.i c.args.entries.now _ (omega arith) c.loop-i.invariant.found (take_rest c.args.entries.now _) c.file_at.ensures.name c.file_at.ensures.capacity new;
+      full = subst P (sym new) (full_push _ _ c.loop-i.invariant.full c.file_at.ensures.full);
+      whole = length-set c.loop-i.files c.loop-i.i c.file_at.result ∙ c.loop-i.invariant.whole;
+    }

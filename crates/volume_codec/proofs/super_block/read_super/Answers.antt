@@ -1,21 +1,27 @@
-use Rattle.std.proofs.Common.{◌≡◌, List, ℕ, length, take, drop, refl, ap, sym, subst, ◌∙◌, arith}
-use Rattle.std.proofs.lemmas.Result.{err_from_is_err_and}
+use Rattle.std.proofs.Common.{◌≡◌, List, ℕ, length, take, drop, ap, sym, subst, ◌∙◌, arith}
 use Rattle.std.proofs.lemmas.List.{take_all, length-drop}
-use Rattle.volume_codec.specs.Layout.{layout_one}
-use Rattle.volume_codec.specs.Super.{super_text}
-use Rattle.volume_codec.specs.Tables.{table_of, file_specs}
-use Rattle.volume_codec.specs.Reading.{files_in, RefusesEntries}
-use Rattle.volume_codec.specs.Refusals.{RefusesSuper}
-use Rattle.volume_codec.proofs.Functional.{reads_block, read_value, refuses_entries, refuses_table, refuses_spelling}
-use Rattle.volume_codec.proofs.ReadingLemmas.{same_by_ne, other_by_ne}
+use Rattle.page_entry.specs.declared.refusal.Refusal.{Refusal}
+use Rattle.page_entry.specs.declared.refusal.Refusal.TheVariants.{OutOfMemory, BadShape}
+use Rattle.std.specs.List.{AllByRecursion}
+use Rattle.volume_codec.specs.declared.layout.Layout.{Layout}
+use Rattle.volume_codec.specs.Files.{TableFile, AskedFile, asked_by}
+use Rattle.volume_codec.specs.Layout.{magic_of}
+use Rattle.volume_codec.specs.Super.{SuperValue, IsSuper, IsName, IsAsked, super_text}
+use Rattle.volume_codec.specs.Refusals.{RefusesTable, RefusesSuper}
+use Rattle.volume_codec.specs.inside.Reading.{entries_in, damage_of}
+use Rattle.volume_codec.specs.inside.Tables.{files_of, table_of}
+use Rattle.volume_codec.proofs.Functional.{reads_block, read_value, refuses_table, refuses_spelling}
+use Rattle.volume_codec.proofs.ReadingLemmas.{other_by_ne}
+use Rattle.volume_codec.proofs.TableLemmas.{asked_table}
 use Rattle.volume_codec.proofs.super_block.read_super.Goals as goal
 
 pub returns-then-count-gt-MAX_FILES-clause-refused :
     goal.returns-then-count-gt-MAX_FILES-clause-refused
 returns-then-count-gt-MAX_FILES-clause-refused g c = (
-  same_by_ne _ _ _ c.ne.ensures c.if-ne.false ∙ c.as_slice.ensures,
+  c.in-Some.layout,
+  c.in-Some.ensures.some,
   λ v is.
-      let r = reads_block layout_one v c.args.block.now refl is in
+      let r = reads_block v c.args.block.now is in
       absurd (omega (arith, r.count, is.fits.few_files, c.u32_at-count.ensures)),
 )
 
@@ -23,30 +29,45 @@ returns-then-count-gt-MAX_FILES-clause-refused g c = (
 whole : (block : List ℕ) → length block ≡ 4096 → take 4064 (drop 32 block) ≡ drop 32 block
 whole block h = take_all 4064 (drop 32 block) (omega (arith, length-drop 32 block))
 
-pub returns-in_err-files-clause-refused : goal.returns-in_err-files-clause-refused
-returns-in_err-files-clause-refused g c =
-    let p = err_from_is_err_and c.from_residual.result c.from_residual.ensures.1 in
-    let P : List ℕ → Type 0 = λ entries. RefusesEntries (files_in c.u32_at-count.result entries) c.in_err-files.field-0.0 in
-    rw (p.1, p.2)
-    (refuses_entries layout_one c.args.block.now c.u32_at-count.result c.in_err-files.field-0.0 refl (same_by_ne _ _ _ c.ne.ensures c.if-ne.false ∙ c.as_slice.ensures) c.u32_at-count.ensures
-    (subst P (whole c.args.block.now c.told-block) c.in_err-files.ensures))
+-- a table that is refused is one of a block that says no value, or memory was refused
+refused : (layout : Layout) (number : ℕ) (block : List ℕ) (files : List AskedFile) (slots : ℕ) (e : Refusal) → take 8 block ≡ magic_of layout
+    → (((v : SuperValue) → IsAsked number files slots v → ⊥) → (v : SuperValue) → IsSuper v block → ⊥) → RefusesTable number files slots e → RefusesSuper block (damage_of e)
+refused layout number block files slots BadShape magic none h = (layout, magic, none h)
+refused layout number block files slots OutOfMemory magic none h = tt
+refused layout number block files slots _ magic none h = absurd h
 
-pub returns-in-Err : goal.returns-in-Err
-returns-in-Err g c =
-    let found : file_specs c.deref.result.now ≡ files_in c.u32_at-count.result (drop 32 c.args.block.now) =
-    ap file_specs c.deref.ensures.value ∙ c.in_ok-files.ensures ∙ ap (files_in c.u32_at-count.result) (whole c.args.block.now c.told-block) in
-    let refused = refuses_table layout_one c.args.block.now (table_of c.deref.result.now c.from.result) c.in-Err.refusal (same_by_ne _ _ _ c.ne.ensures c.if-ne.false ∙ c.as_slice.ensures)
-    (λ v is. read_value layout_one v c.args.block.now c.deref.result.now c.u32_at-count.result c.from.result refl is c.u32_at-count.ensures (c.from.ensures ∙ c.u32_at.ensures) found)
+-- what the entries read as
+found : (block : List ℕ) (files : List TableFile) (count : ℕ) → length block ≡ 4096
+    → (AllByRecursion (λ f. IsName f.name) (entries_in count (take 4064 (drop 32 block))) → files ≡ entries_in count (take 4064 (drop 32 block)))
+    → AllByRecursion (λ f. IsName f.name) (entries_in count (drop 32 block)) → files ≡ entries_in count (drop 32 block)
+found block files count l h =
+    let P : List ℕ → Type 0 = λ entries. AllByRecursion (λ f. IsName f.name) (entries_in count entries) → files ≡ entries_in count entries in
+    subst P (whole block l) h
+
+pub returns-in-Err-clause-refused : goal.returns-in-Err-clause-refused
+returns-in-Err-clause-refused g c =
+    let block = c.args.block.now in
+    let numbered = sym c.number.ensures in
+    let files = take c.u32_at-count.result c.files_at-files.result in
+    let r = refused c.in-Some.layout c.number.result block (asked_by files) c.from-slots.result c.in-Err.refusal c.in-Some.ensures.some
+    (refuses_table c.in-Some.layout c.number.result block files c.from-slots.result numbered c.files_at-files.ensures.full
+    (λ v is. read_value c.in-Some.layout v block files c.u32_at-count.result c.from-slots.result is c.in-Some.ensures.some c.u32_at-count.ensures (c.from-slots.ensures ∙ c.u32_at.ensures)
+    (found block (files_of files) c.u32_at-count.result c.told-block c.files_at-files.ensures.files)))
     c.in-Err.ensures.refused in
-    record { ok = tt; refused = subst (RefusesSuper layout_one c.args.block.now) (sym c.damage_of.ensures) refused }
+    let P : Refusal → Type 0 = λ e. RefusesSuper block e in
+    subst P (sym c.damage_of.ensures) r
 
-pub returns-then-ne-2-clause-refused : goal.returns-then-ne-2-clause-refused
-returns-then-ne-2-clause-refused g c =
-    let found : file_specs c.deref.result.now ≡ files_in c.u32_at-count.result (drop 32 c.args.block.now) =
-    ap file_specs c.deref.ensures.value ∙ c.in_ok-files.ensures ∙ ap (files_in c.u32_at-count.result) (whole c.args.block.now c.told-block) in (
-      same_by_ne _ _ _ c.ne.ensures c.if-ne.false ∙ c.as_slice.ensures,
-      refuses_spelling layout_one c.args.block.now c.to_block.result (table_of c.deref.result.now c.from.result)
-          (λ v is. read_value layout_one v c.args.block.now c.deref.result.now c.u32_at-count.result c.from.result refl is c.u32_at-count.ensures (c.from.ensures ∙ c.u32_at.ensures) found)
-          (c.to_block.ensures ∙ ap (super_text layout_one) c.in-Ok.ensures.ok)
-          (other_by_ne _ _ _ c.ne-2.ensures c.if-ne-2.true),
+pub returns-then-ne-clause-refused : goal.returns-then-ne-clause-refused
+returns-then-ne-clause-refused g c =
+    let block = c.args.block.now in
+    let files = take c.u32_at-count.result c.files_at-files.result in
+    let numbered = sym c.number.ensures in
+    let same = asked_table c.in-Some.layout c.number.result files c.from-slots.result c.in-Ok.table numbered c.in-Ok.ensures.ok in (
+      c.in-Some.layout,
+      c.in-Some.ensures.some,
+      refuses_spelling block c.to_block.result (table_of c.in-Some.layout files c.from-slots.result)
+          (λ v is. read_value c.in-Some.layout v block files c.u32_at-count.result c.from-slots.result is c.in-Some.ensures.some c.u32_at-count.ensures (c.from-slots.ensures ∙ c.u32_at.ensures)
+          (found block (files_of files) c.u32_at-count.result c.told-block c.files_at-files.ensures.files))
+          (c.to_block.ensures ∙ ap super_text same)
+          (other_by_ne _ _ _ c.ne.ensures c.if-ne.true),
     )

@@ -1,58 +1,69 @@
-use Rattle.std.proofs.Common.{rules, ◌≡◌, true, unwrap_or, ◌+◌, sym, ap, subst, arith, refl}
-use Rattle.std.specs.Result.{is_ok}
+use Rattle.std.proofs.Common.{◌+◌, sym, ap, ◌∙◌, subst}
 use Rattle.std.specs.List.{insert}
-use Rattle.std.proofs.lemmas.Bool.Decides.{nat_tests}
-use Rattle.std.proofs.lemmas.Grind.{common_steps}
-use Rattle.page_entry.specs.declared.refusal.Refusal.TheVariants.{OutOfMemory}
-use Rattle.mappings.specs.declared.mapping.Mapping.{Mapping}
-use Rattle.mappings.specs.Places.{allows}
-use Rattle.mappings.specs.Judgement.{is_mappable}
-use Rattle.mappings.specs.Listed.{IsGap, IsOrdered}
-use Rattle.mappings.proofs.Lists.{add_refusal-gap, IsMapping-from_mappable, IsOrdered-insert, places_of-insert, OnOk-always}
+use Rattle.mappings.specs.Places.{with_range}
+use Rattle.mappings.specs.Judgement.{add_refusal, answer}
+use Rattle.mappings.specs.State.{MappingsState}
+use Rattle.mappings.specs.inside.Listed.{places_of, IsFirstAfter}
+use Rattle.mappings.proofs.Calls.{IsKept-merged, places_of-nearly, IsGap-not_mapped, IsNearlyMerged-insert, added}
 use Rattle.mappings.proofs.mappings.Mappings.add.Goals as goal
 
-pub returns-then-is_err-clause-refused : goal.returns-then-is_err-clause-refused
-returns-then-is_err-clause-refused g c =
-    let list = c.self.inside.list.items in
+-- only the new mapping and its neighbours may go on
+pub merge_around-requires-clause-ordered : goal.merge_around-requires-clause-ordered
+merge_around-requires-clause-ordered g c =
+    let ms = c.self.inside.list.items in
     let range = c.args.range in
     let place = c.args.place in
-    let gap : IsGap list range.first (range.first + range.count) c.in-Some.at = rw c.deref.ensures.value at c.in-Some.ensures in
-    let mappable : is_mappable range place.page ≡ true = grind (arith, nat_tests) in
-    let allowed : allows place.access place.rights ≡ true = grind (arith, nat_tests) in
-    rw (← c.self.view_is) (sym (ap (λ r. unwrap_or r OutOfMemory) (add_refusal-gap list range place c.in-Some.at c.self.invariant mappable allowed gap)))
+    let at = c.first_after-at.result in
+    let free = added range place (places_of ms) (ap (λ (s : MappingsState). answer (add_refusal s.places range place)) c.self.view_is ∙ sym c.may_add.ensures ∙ c.in_ok-may_add.was) in
+    let after = subst (λ l. IsFirstAfter l range.first at) (c.deref.ensures.value ∙ c.reserve.ensures.items) c.first_after-at.ensures in
+    let gap = IsGap-not_mapped ms range.first range.count at c.self.invariant.ordered after free.pages free.unmapped in
+    let is = IsNearlyMerged-insert ms c.insert.new.self.items range place at c.self.invariant free.mappable gap (c.in-Ok.ensures.items ∙ ap (λ l. insert l at (record { first = range.first; end = range.first + range.count; place = place })) c.reserve.ensures.items) in
+    is.ordered
+
+pub merge_around-requires-clause-before : goal.merge_around-requires-clause-before
+merge_around-requires-clause-before g c =
+    let ms = c.self.inside.list.items in
+    let range = c.args.range in
+    let place = c.args.place in
+    let at = c.first_after-at.result in
+    let free = added range place (places_of ms) (ap (λ (s : MappingsState). answer (add_refusal s.places range place)) c.self.view_is ∙ sym c.may_add.ensures ∙ c.in_ok-may_add.was) in
+    let after = subst (λ l. IsFirstAfter l range.first at) (c.deref.ensures.value ∙ c.reserve.ensures.items) c.first_after-at.ensures in
+    let gap = IsGap-not_mapped ms range.first range.count at c.self.invariant.ordered after free.pages free.unmapped in
+    let is = IsNearlyMerged-insert ms c.insert.new.self.items range place at c.self.invariant free.mappable gap (c.in-Ok.ensures.items ∙ ap (λ l. insert l at (record { first = range.first; end = range.first + range.count; place = place })) c.reserve.ensures.items) in
+    is.before
+
+pub merge_around-requires-clause-after : goal.merge_around-requires-clause-after
+merge_around-requires-clause-after g c =
+    let ms = c.self.inside.list.items in
+    let range = c.args.range in
+    let place = c.args.place in
+    let at = c.first_after-at.result in
+    let free = added range place (places_of ms) (ap (λ (s : MappingsState). answer (add_refusal s.places range place)) c.self.view_is ∙ sym c.may_add.ensures ∙ c.in_ok-may_add.was) in
+    let after = subst (λ l. IsFirstAfter l range.first at) (c.deref.ensures.value ∙ c.reserve.ensures.items) c.first_after-at.ensures in
+    let gap = IsGap-not_mapped ms range.first range.count at c.self.invariant.ordered after free.pages free.unmapped in
+    let is = IsNearlyMerged-insert ms c.insert.new.self.items range place at c.self.invariant free.mappable gap (c.in-Ok.ensures.items ∙ ap (λ l. insert l at (record { first = range.first; end = range.first + range.count; place = place })) c.reserve.ensures.items) in
+    is.after
 
 pub invariant_of-self-2 : goal.invariant_of-self-2
 invariant_of-self-2 g c =
-    let list = c.self.inside.list.items in
+    let ms = c.self.inside.list.items in
     let range = c.args.range in
     let place = c.args.place in
-    let gap : IsGap list range.first (range.first + range.count) c.in-Some.at = rw c.deref.ensures.value at c.in-Some.ensures in
-    let mappable : is_mappable range place.page ≡ true = grind (arith, nat_tests) in
-    let ok : is_ok c.insert.result ≡ true = search rules in
-    let new : Mapping = record { first = range.first; end = range.first + range.count; place = place } in
-    let items : c.insert.new.self.items ≡ insert list c.in-Some.at new = grind (arith, common_steps) in
-    let pages = IsMapping-from_mappable range place mappable in
-    subst (IsOrdered 0) (sym items) (IsOrdered-insert new pages 0 list c.in-Some.at c.self.invariant (omega arith) gap)
+    let at = c.first_after-at.result in
+    let free = added range place (places_of ms) (ap (λ (s : MappingsState). answer (add_refusal s.places range place)) c.self.view_is ∙ sym c.may_add.ensures ∙ c.in_ok-may_add.was) in
+    let after = subst (λ l. IsFirstAfter l range.first at) (c.deref.ensures.value ∙ c.reserve.ensures.items) c.first_after-at.ensures in
+    let gap = IsGap-not_mapped ms range.first range.count at c.self.invariant.ordered after free.pages free.unmapped in
+    let is = IsNearlyMerged-insert ms c.insert.new.self.items range place at c.self.invariant free.mappable gap (c.in-Ok.ensures.items ∙ ap (λ l. insert l at (record { first = range.first; end = range.first + range.count; place = place })) c.reserve.ensures.items) in
+    IsKept-merged c.merge_around.new.list.items is c.merge_around.ensures.items
 
 pub returns-clause-added : goal.returns-clause-added
 returns-clause-added g c =
-    let list = c.self.inside.list.items in
+    let ms = c.self.inside.list.items in
     let range = c.args.range in
     let place = c.args.place in
-    let gap : IsGap list range.first (range.first + range.count) c.in-Some.at = rw c.deref.ensures.value at c.in-Some.ensures in
-    let mappable : is_mappable range place.page ≡ true = grind (arith, nat_tests) in
-    let ok : is_ok c.insert.result ≡ true = search rules in
-    let new : Mapping = record { first = range.first; end = range.first + range.count; place = place } in
-    let items : c.insert.new.self.items ≡ insert list c.in-Some.at new = grind (arith, common_steps) in
-    let pages = IsMapping-from_mappable range place mappable in
-    OnOk-always c.map_err.result (rw (items, ← c.self.view_is) (places_of-insert new pages 0 list c.in-Some.at range.count c.self.invariant gap refl))
-
-pub returns-clause-allowed : goal.returns-clause-allowed
-returns-clause-allowed g c =
-    let list = c.self.inside.list.items in
-    let range = c.args.range in
-    let place = c.args.place in
-    let gap : IsGap list range.first (range.first + range.count) c.in-Some.at = rw c.deref.ensures.value at c.in-Some.ensures in
-    let mappable : is_mappable range place.page ≡ true = grind (arith, nat_tests) in
-    let allowed : allows place.access place.rights ≡ true = grind (arith, nat_tests) in
-    OnOk-always c.map_err.result (rw (← c.self.view_is) (add_refusal-gap list range place c.in-Some.at c.self.invariant mappable allowed gap))
+    let at = c.first_after-at.result in
+    let free = added range place (places_of ms) (ap (λ (s : MappingsState). answer (add_refusal s.places range place)) c.self.view_is ∙ sym c.may_add.ensures ∙ c.in_ok-may_add.was) in
+    let after = subst (λ l. IsFirstAfter l range.first at) (c.deref.ensures.value ∙ c.reserve.ensures.items) c.first_after-at.ensures in
+    let gap = IsGap-not_mapped ms range.first range.count at c.self.invariant.ordered after free.pages free.unmapped in
+    let is = IsNearlyMerged-insert ms c.insert.new.self.items range place at c.self.invariant free.mappable gap (c.in-Ok.ensures.items ∙ ap (λ l. insert l at (record { first = range.first; end = range.first + range.count; place = place })) c.reserve.ensures.items) in
+    places_of-nearly c.merge_around.new.list.items is c.merge_around.ensures.items ∙ ap (λ (s : MappingsState). with_range s.places range.first range.count place) c.self.view_is

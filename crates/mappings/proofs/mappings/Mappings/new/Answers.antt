@@ -1,5 +1,5 @@
 use Rattle.std.proofs.Common.{refl}
-use Rattle.mappings.specs.Listed.{places_of}
+use Rattle.mappings.specs.inside.Listed.{places_of}
 use Rattle.mappings.proofs.mappings.Mappings.new.Goals as goal
 
 pub returns : goal.returns

@@ -1,32 +1,47 @@
-use Rattle.std.proofs.Common.{◌≡◌, ◌<◌, ◌+◌, ◌++◌, ℕ, List, length, take, drop, sym, ap, ◌∙◌, subst, arith, rules}
-use Rattle.std.proofs.lemmas.List.{length-map}
-use Rattle.std.proofs.lemmas.Grind.{common_steps}
-use Rattle.mappings.specs.declared.mapping.Mapping.{Mapping}
+use Rattle.std.proofs.Common.{◌+◌, sym, ap, ◌∙◌, subst}
 use Rattle.mappings.specs.Places.{Places, with_rights}
-use Rattle.mappings.specs.Listed.{IsOrdered}
-use Rattle.mappings.proofs.Changes.{IsOrdered-with_rights_within, places_of-with_rights_within}
+use Rattle.mappings.specs.State.{MappingsState}
+use Rattle.mappings.specs.inside.Listed.{IsMeeting}
+use Rattle.mappings.proofs.Calls.{IsKept-merged, places_of-nearly, IsNearlyMerged-rights, positive}
 use Rattle.mappings.proofs.mappings.Mappings.protect.Goals as goal
 
--- a slice that was written whole
-written : (n : ℕ) (new old : List Mapping) → length new ≡ n → take n (new ++ drop (length new) old) ≡ new
-written n new old e = rw (← e) (grind (arith, common_steps))
+-- only the mappings of the range and their neighbours may go on
+pub merge_around-requires-clause-ordered : goal.merge_around-requires-clause-ordered
+merge_around-requires-clause-ordered g c =
+    let range = c.args.range in
+    let list = c.split_ends.new.list in
+    let places = c.meeting-places.result in
+    let is = IsNearlyMerged-rights list c.self.inside.list.items c.deref_mut.result.now c.set_rights.new.list range.first range.count places.start places.end c.args.rights (positive range c.args.rights c.args.self.now.places (sym c.may_protect.ensures ∙ c.in_ok-may_protect.was)) c.split_ends.ensures (subst (λ l. IsMeeting l range.first (range.first + range.count) places.start places.end) c.deref.ensures.value c.meeting-places.ensures) c.deref_mut.ensures.value c.set_rights.ensures in
+    is.ordered
+
+pub merge_around-requires-clause-before : goal.merge_around-requires-clause-before
+merge_around-requires-clause-before g c =
+    let range = c.args.range in
+    let list = c.split_ends.new.list in
+    let places = c.meeting-places.result in
+    let is = IsNearlyMerged-rights list c.self.inside.list.items c.deref_mut.result.now c.set_rights.new.list range.first range.count places.start places.end c.args.rights (positive range c.args.rights c.args.self.now.places (sym c.may_protect.ensures ∙ c.in_ok-may_protect.was)) c.split_ends.ensures (subst (λ l. IsMeeting l range.first (range.first + range.count) places.start places.end) c.deref.ensures.value c.meeting-places.ensures) c.deref_mut.ensures.value c.set_rights.ensures in
+    is.before
+
+pub merge_around-requires-clause-after : goal.merge_around-requires-clause-after
+merge_around-requires-clause-after g c =
+    let range = c.args.range in
+    let list = c.split_ends.new.list in
+    let places = c.meeting-places.result in
+    let is = IsNearlyMerged-rights list c.self.inside.list.items c.deref_mut.result.now c.set_rights.new.list range.first range.count places.start places.end c.args.rights (positive range c.args.rights c.args.self.now.places (sym c.may_protect.ensures ∙ c.in_ok-may_protect.was)) c.split_ends.ensures (subst (λ l. IsMeeting l range.first (range.first + range.count) places.start places.end) c.deref.ensures.value c.meeting-places.ensures) c.deref_mut.ensures.value c.set_rights.ensures in
+    is.after
 
 pub invariant_of-self : goal.invariant_of-self
 invariant_of-self g c =
-    let first = c.args.range.first in
-    let count = c.args.range.count in
-    let list = c.split_ends.new.list.items in
-    let whole : length c.set_rights.new.list ≡ c.split_ends.new.list.len = ap length c.set_rights.ensures ∙ length-map c.deref_mut.result.now _ ∙ c.deref_mut.ensures.len in
-    let items = written c.split_ends.new.list.len c.set_rights.new.list list whole ∙ c.set_rights.ensures in
-    subst (IsOrdered 0) (sym items) (rw c.deref_mut.ensures.value (IsOrdered-with_rights_within first count c.args.rights (first + count) 0 list c.split_ends.ensures.ordered))
+    let range = c.args.range in
+    let list = c.split_ends.new.list in
+    let places = c.meeting-places.result in
+    let is = IsNearlyMerged-rights list c.self.inside.list.items c.deref_mut.result.now c.set_rights.new.list range.first range.count places.start places.end c.args.rights (positive range c.args.rights c.args.self.now.places (sym c.may_protect.ensures ∙ c.in_ok-may_protect.was)) c.split_ends.ensures (subst (λ l. IsMeeting l range.first (range.first + range.count) places.start places.end) c.deref.ensures.value c.meeting-places.ensures) c.deref_mut.ensures.value c.set_rights.ensures in
+    IsKept-merged c.merge_around.new.list.items is c.merge_around.ensures.items
 
 pub returns-clause-protected : goal.returns-clause-protected
 returns-clause-protected g c =
-    let first = c.args.range.first in
-    let count = c.args.range.count in
-    let list = c.split_ends.new.list.items in
-    let whole : length c.set_rights.new.list ≡ c.split_ends.new.list.len = ap length c.set_rights.ensures ∙ length-map c.deref_mut.result.now _ ∙ c.deref_mut.ensures.len in
-    let some : 0 < count = search rules in
-    let split = c.split_ends.ensures in
-    let items = written c.split_ends.new.list.len c.set_rights.new.list list whole ∙ c.set_rights.ensures in
-    rw (items, c.deref_mut.ensures.value, ← c.self.view_is) (places_of-with_rights_within first count 0 c.args.rights list some split.ordered split.uncut_first split.uncut_end ∙ ap (λ (p : Places). with_rights p first count c.args.rights) split.same_places)
+    let range = c.args.range in
+    let list = c.split_ends.new.list in
+    let places = c.meeting-places.result in
+    let is = IsNearlyMerged-rights list c.self.inside.list.items c.deref_mut.result.now c.set_rights.new.list range.first range.count places.start places.end c.args.rights (positive range c.args.rights c.args.self.now.places (sym c.may_protect.ensures ∙ c.in_ok-may_protect.was)) c.split_ends.ensures (subst (λ l. IsMeeting l range.first (range.first + range.count) places.start places.end) c.deref.ensures.value c.meeting-places.ensures) c.deref_mut.ensures.value c.set_rights.ensures in
+    places_of-nearly c.merge_around.new.list.items is c.merge_around.ensures.items ∙ ap (λ (p : Places). with_rights p range.first range.count c.args.rights) (ap (λ (s : MappingsState). s.places) c.self.view_is)

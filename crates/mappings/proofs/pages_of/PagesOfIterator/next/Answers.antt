@@ -1,6 +1,6 @@
 use Rattle.std.proofs.Common.{◌≡◌, ◌∷◌, List, false, Option, Some, None, is_some, refl, sym, ◌∙◌, ap, subst, ℕ}
 use Rattle.mappings.specs.declared.mapping.Mapping.{Mapping}
-use Rattle.mappings.specs.Listed.{page_in, pages_listed, IsOrdered}
+use Rattle.mappings.specs.inside.Listed.{page_in, pages_listed, IsOrdered}
 use Rattle.mappings.proofs.Lists.{IsOrdered-rest}
 use Rattle.mappings.proofs.pages_of.PagesOfIterator.next.Goals as goal
 

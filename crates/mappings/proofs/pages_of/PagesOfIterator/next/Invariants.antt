@@ -1,5 +1,5 @@
 use Rattle.std.proofs.Common.{◌≡◌, length}
-use Rattle.mappings.specs.Listed.{pages_listed, IsOrdered}
+use Rattle.mappings.specs.inside.Listed.{pages_listed, IsOrdered}
 use Rattle.mappings.proofs.pages_of.PagesOfIterator.next.Given as goal
 
 -- the mappings that were passed over have no such page

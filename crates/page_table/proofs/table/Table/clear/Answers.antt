@@ -1,21 +1,18 @@
-use Rattle.std.proofs.Common.{map, ap, sym, ◌∙◌, subst, arith}
-use Rattle.std.proofs.lemmas.List.{with_items_is}
+use Rattle.std.proofs.Common.{map, length, sym, ap, ◌∙◌, subst, arith}
+use Rattle.std.proofs.lemmas.List.{with_items_is, length-map}
+use Rattle.page_table.specs.declared.change.Change.TheVariants.{Clear}
 use Rattle.page_table.specs.Table.{TableState, outside_range}
-use Rattle.page_table.specs.Slots.{pages, IsRising, table_of, cleared}
-use Rattle.page_table.proofs.Lookup.{pages-cleared, table_of-cleared}
+use Rattle.page_table.specs.inside.Regions.{IsOrdered, changed_region, table_of}
+use Rattle.page_table.proofs.Edits.{IsOrdered-changed}
+use Rattle.page_table.proofs.Tables.{table_of-cleared}
 use Rattle.page_table.proofs.table.Table.clear.Goals as goal
 
 pub invariant_of-self : goal.invariant_of-self
 invariant_of-self g c =
-    let first = c.args.range.start in
-    let end = c.args.range.end in
-    let new = with_items_is c.self.inside.slots c.clear_range.new.slots (omega arith) ∙ c.clear_range.ensures ∙ ap (map (cleared first end)) c.deref_mut.ensures.value in
-    subst IsRising (sym (ap pages new ∙ pages-cleared first end _)) c.self.invariant
+    let items = with_items_is c.self.inside.regions c.change_within.new.regions (omega (arith, ap length c.change_within.ensures, length-map c.deref_mut.result.now (changed_region Clear c.args.range.start c.args.range.end), ap length c.deref_mut.ensures.value, c.deref_mut.ensures.len)) ∙ c.change_within.ensures ∙ ap (map (changed_region Clear c.args.range.start c.args.range.end)) c.deref_mut.ensures.value in
+    subst (IsOrdered 0) (sym items) (IsOrdered-changed Clear c.args.range.start c.args.range.end 0 _ c.self.invariant)
 
 pub returns : goal.returns
 returns g c =
-    let first = c.args.range.start in
-    let end = c.args.range.end in
-    let new = with_items_is c.self.inside.slots c.clear_range.new.slots (omega arith) ∙ c.clear_range.ensures ∙ ap (map (cleared first end)) c.deref_mut.ensures.value in
-    let clear : TableState → TableState = λ table. record table { entries = outside_range table.entries first end } in
-    ap table_of new ∙ table_of-cleared first end _ c.self.invariant ∙ ap clear c.self.view_is
+    let items = with_items_is c.self.inside.regions c.change_within.new.regions (omega (arith, ap length c.change_within.ensures, length-map c.deref_mut.result.now (changed_region Clear c.args.range.start c.args.range.end), ap length c.deref_mut.ensures.value, c.deref_mut.ensures.len)) ∙ c.change_within.ensures ∙ ap (map (changed_region Clear c.args.range.start c.args.range.end)) c.deref_mut.ensures.value in
+    ap table_of items ∙ table_of-cleared c.args.range.start c.args.range.end _ c.self.invariant ∙ ap (λ (t : TableState). record t { entries = outside_range t.entries c.args.range.start c.args.range.end }) c.self.view_is

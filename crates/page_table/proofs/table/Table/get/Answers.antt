@@ -1,22 +1,25 @@
-use Rattle.std.proofs.Common.{ap, sym, ◌∙◌}
+use Rattle.std.proofs.Common.{◌≡◌, cond, Some, None, sym, ap, ◌∙◌, subst, rules}
 use Rattle.std.specs.FinMap as maps
-use Rattle.page_table.proofs.Lookup.{get_entry, entry_in-at, entry_in-no_slot}
+use Rattle.page_table.specs.Table.{TableState}
+use Rattle.page_table.specs.inside.Regions.{RegionState, IsFirstAfter, covers, entry_in, slot, entry_of_slot}
+use Rattle.page_table.proofs.Lookup.{get_entry, slot_at, slot_past, entry_of_cond}
 use Rattle.page_table.proofs.table.Table.get.Goals as goal
 
--- the page's slot has its entry
-pub returns-in-Some : goal.returns-in-Some
-returns-in-Some g c =
-    let at = rw c.deref.ensures.value at c.in-Some.ensures.found in
-    ap (λ slot. slot.1) c.index.ensures
-    ∙ sym (entry_in-at _ _ _ _ c.self.invariant at)
-    ∙ sym (get_entry _ c.self.invariant c.args.page)
-    ∙ ap (λ table. maps.get table.entries c.args.page) c.self.view_is
+pub returns-then-at-len : goal.returns-then-at-len
+returns-then-at-len g c =
+    let rs = c.self.inside.regions.items in
+    let page = c.args.page in
+    let at = c.first_after-at.result in
+    let after = subst (λ rs. IsFirstAfter rs page at) c.deref.ensures.value c.first_after-at.ensures in
+    let read = c.index.result.now in
+    let found = slot_at 0 rs c.self.invariant page at read after (search rules) in
+    let here : slot rs page ≡ cond (covers read page) (Some (entry_in read page)) None = subst (λ (r : RegionState). slot rs page ≡ cond (covers r page) (Some (entry_in r page)) None) (sym c.index.ensures) found in
+    c.get.ensures ∙ sym (ap entry_of_slot here ∙ entry_of_cond (covers read page) (entry_in read page)) ∙ sym (get_entry rs c.self.invariant page) ∙ ap (λ (t : TableState). maps.get t.entries page) c.self.view_is
 
--- without a slot there is no entry
-pub returns-in-None : goal.returns-in-None
-returns-in-None g c =
-    let none = rw c.deref.ensures.value at c.in-None.ensures.missed in
-    c.absent.ensures
-    ∙ sym (entry_in-no_slot c.self.inside.slots.items c.args.page none)
-    ∙ sym (get_entry _ c.self.invariant c.args.page)
-    ∙ ap (λ table. maps.get table.entries c.args.page) c.self.view_is
+pub returns-else-at-len : goal.returns-else-at-len
+returns-else-at-len g c =
+    let rs = c.self.inside.regions.items in
+    let page = c.args.page in
+    let at = c.first_after-at.result in
+    let after = subst (λ rs. IsFirstAfter rs page at) c.deref.ensures.value c.first_after-at.ensures in
+    c.absent.ensures ∙ sym (ap entry_of_slot (slot_past rs page at after (search rules))) ∙ sym (get_entry rs c.self.invariant page) ∙ ap (λ (t : TableState). maps.get t.entries page) c.self.view_is

@@ -1,5 +1,5 @@
 use Rattle.std.proofs.Common.{Some, slice_get, option_map, ap, sym, ◌∙◌}
-use Rattle.volume_codec.specs.Tables.{names_in}
+use Rattle.volume_codec.specs.Super.{names_in}
 use Rattle.volume_codec.proofs.Rows.{name_at_row}
 use Rattle.volume_codec.proofs.super_block.Super.name.Goals as goal
 

@@ -1,7 +1,5 @@
 use Rattle.std.proofs.Common.{ap, arith}
-use Rattle.volume_codec.specs.Layout.{layout_one}
-use Rattle.volume_codec.specs.Super.{pages_of, super_head}
-use Rattle.volume_codec.specs.Tables.{lengths_in}
+use Rattle.volume_codec.specs.Super.{pages_of, super_head, capacities_in}
 use Rattle.volume_codec.proofs.Rows.{index_by_get}
 use Rattle.volume_codec.proofs.Places.{name_short, pages_of-le}
 use Rattle.volume_codec.proofs.Spelling.{entry_written}
@@ -15,11 +13,11 @@ push_entry-requires-clause-short g c = name_short c.args.self.now.files c.loop-f
 
 pub push_entry-requires-clause-pages : goal.push_entry-requires-clause-pages
 push_entry-requires-clause-pages g c =
-    let e = ap pages_of (index_by_get (lengths_in c.args.self.now) c.loop-file.file c.length.result c.length.ensures) in
-    omega (arith, pages_of-le layout_one c.args.self.now c.loop-file.file (omega arith), c.file_count.ensures.fits.few_blocks)
+    let e = ap pages_of (index_by_get (capacities_in c.args.self.now) c.loop-file.file c.capacity.result c.capacity.ensures) in
+    omega (arith, pages_of-le c.args.self.now c.loop-file.file (omega arith), c.file_count.ensures.fits.few_blocks)
 
 pub loop-file-preserved : goal.loop-file-preserved
 loop-file-preserved g c = record {
-  written = entry_written layout_one c.args.self.now (super_head layout_one c.args.self.now) _ _ _ c.loop-file.file _ _ (omega arith) c.name.ensures c.length.ensures c.first_home.ensures c.loop-file.invariant.written c.push_entry.ensures.value;
+  written = entry_written c.args.self.now (super_head c.args.self.now) _ _ _ c.loop-file.file _ _ (omega arith) c.name.ensures c.capacity.ensures c.first_home.ensures c.loop-file.invariant.written c.push_entry.ensures.value;
   len = omega (arith, c.loop-file.invariant.len, c.push_entry.ensures.len);
 }

@@ -1,0 +1,153 @@
+// Lists of mappings in the order of their pages.
+ghost use Rattle.std.specs.Prelude.{◌≡◌, ◌+◌, ◌-◌, ◌^◌, ◌≤◌, ◌<◌, ◌++◌, if◌then◌else◌, not, take, drop, length, map};
+ghost use Rattle.std.specs.Vec.{vec_capacity, vec_len};
+ghost use Rattle.std.specs.List.{list_any, remove_range};
+ghost use Rattle.mappings.specs.Places.{all_mapped, allows, splits};
+ghost use Rattle.mappings.specs.inside.Edits.{split_at, with_rights, merged, IsSplit};
+ghost use Rattle.mappings.specs.inside.Listed.{places_of, IsOrdered, IsMerged, IsKept, IsFirstAfter, IsMeeting};
+
+use crate::mapping::Mapping;
+use crate::{PageRange, Rights};
+use page_entry::PageNumber;
+use std::alloc::Allocator;
+use std::ops::Range;
+
+/// How many mappings end at the page or before it: the place of the first one that ends after it.
+pub(crate) fn first_after(list: &[Mapping], page: PageNumber) -> usize
+    requires { IsOrdered 0 list.now }
+    ensures { IsFirstAfter list.now page result }
+{
+    list.partition_point(|mapping| mapping.end <= page)
+}
+
+/// The places of the mappings that end after the range begins and begin before it ends: those that have pages of it,
+/// unless it is empty.
+pub(crate) fn meeting(list: &[Mapping], range: PageRange) -> Range<usize>
+    requires { IsOrdered 0 list.now }
+    ensures { IsMeeting list.now range.first (range.first + range.count) result.start result.end }
+{
+    let from = first_after(list, range.first);
+    let to = list.partition_point(|mapping| mapping.begins_before_end(range));
+    from..to.max(from)
+}
+
+/// Whether each page of the range is mapped.
+pub(crate) fn covers_all(list: &[Mapping], range: PageRange) -> bool
+    requires { IsOrdered 0 list.now }
+    ensures { result ≡ all_mapped (places_of list.now) range.first range.count }
+{
+    let places = meeting(list, range);
+    let from = places.start;
+    let inside = &list[places];
+    let mut next = range.first;
+    for mapping in inside {
+        if next < mapping.first {
+            return false;
+        }
+        next = mapping.end;
+    }
+    range.count <= next - range.first
+}
+
+/// Whether one of the mappings has an access that doesn't allow the rights.
+pub(crate) fn any_forbids(list: &[Mapping], rights: Rights) -> bool
+    ensures { result ≡ list_any (λ mapping. not (allows mapping.place.access rights)) list.now }
+{
+    list.iter()
+        .any(|mapping| !mapping.place.access.allows(rights))
+}
+
+// Splits the mapping that has pages on both sides of the page's begin, if there is one, into the part before and the
+// part from the page on. It takes no memory.
+fn split<A: Allocator>(list: &mut Vec<Mapping, A>, page: PageNumber)
+    requires ordered { IsOrdered 0 list.old.items }
+    requires room { length (split_at page list.old.items) ≤ vec_capacity list.old }
+    ensures items { list.new.items ≡ split_at page list.old.items }
+    ensures capacity { vec_capacity list.old ≤ vec_capacity list.new }
+{
+    let at = first_after(list, page);
+    if at >= list.len() {
+        return;
+    }
+    let whole = list[at];
+    if whole.first < page {
+        list[at] = Mapping { end: page, ..whole };
+        let Ok(()) = list.insert(at + 1, whole.from_page(page)) else {
+            unreachable!()
+        };
+    }
+}
+
+/// Splits the mappings that the ends of the range are within, so that each lies within the range or outside. It takes no
+/// memory.
+pub(crate) fn split_ends<A: Allocator>(list: &mut Vec<Mapping, A>, range: PageRange)
+    requires kept { IsKept list.old.items }
+    requires room { splits (places_of list.old.items) range.first range.count ≤ vec_capacity list.old - vec_len list.old }
+    requires fits { range.first + range.count < 2 ^ 64 }
+    ensures { IsSplit list.old.items list.new.items range.first range.count }
+{
+    split(list, range.first + range.count);
+    split(list, range.first);
+}
+
+/// Gives the rights to the mappings.
+pub(crate) fn set_rights(list: &mut [Mapping], rights: Rights)
+    ensures { list.new ≡ map (with_rights rights) list.old }
+{
+    for mapping in list.iter_mut() {
+        *mapping = mapping.with_rights(rights);
+    }
+}
+
+/// Removes the mappings at these places.
+pub(crate) fn remove_range<A: Allocator>(list: &mut Vec<Mapping, A>, places: Range<usize>)
+    requires forward { places.start ≤ places.end }
+    requires within { places.end ≤ vec_len list.old }
+    ensures items { list.new.items ≡ remove_range list.old.items places.start places.end }
+    ensures capacity { vec_capacity list.new ≡ vec_capacity list.old }
+{
+    list.drain(places);
+}
+
+// Makes each two mappings of which the second goes on where the first ends one. The mappings that are left are the first
+// ones of the list; how many.
+fn merge(list: &mut [Mapping]) -> usize
+    requires { IsOrdered 0 list.old }
+    ensures within { result ≤ length list.old }
+    ensures merged { take result list.new ≡ merged list.old }
+{
+    let Some(first) = list.first() else {
+        return 0;
+    };
+    let mut last = *first;
+    let mut kept = 0;
+    for index in 1..list.len() {
+        let next = list[index];
+        if next.goes_on_from(last) {
+            last.end = next.end;
+        } else {
+            list[kept] = last;
+            kept += 1;
+            last = next;
+        }
+    }
+    list[kept] = last;
+    kept + 1
+}
+
+/// Makes each two mappings of which the second goes on where the first ends one, where only those at the places and their
+/// neighbours can. It looks at no others.
+pub(crate) fn merge_around<A: Allocator>(list: &mut Vec<Mapping, A>, places: Range<usize>)
+    requires ordered { IsOrdered 0 list.old.items }
+    requires forward { places.start ≤ places.end }
+    requires within { places.end ≤ vec_len list.old }
+    requires before { IsMerged (take places.start list.old.items) }
+    requires after { IsMerged (drop places.end list.old.items) }
+    ensures items { list.new.items ≡ merged list.old.items }
+    ensures capacity { vec_capacity list.new ≡ vec_capacity list.old }
+{
+    let from = places.start.saturating_sub(1);
+    let to = places.end.saturating_add(1).min(list.len());
+    let kept = merge(&mut list[from..to]);
+    remove_range(list, from + kept..to);
+}

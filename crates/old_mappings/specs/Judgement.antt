@@ -1,0 +1,53 @@
+-- What may be mapped, and why a call is refused (POSIX.1-2024, mmap, munmap, mprotect).
+use Rattle.std.specs.Prelude.{ℕ, ◌+◌, ◌/◌, ◌%◌, ◌^◌, Bool, not, ◌&&◌, ◌==◌, nat_le, nat_lt, if◌then◌else◌, Option, Some, None, Result, Ok, Err}
+use Rattle.std.specs.Int.{div_ceil}
+use Rattle.page_entry.specs.declared.refusal.Refusal.{Refusal}
+use Rattle.page_entry.specs.declared.refusal.Refusal.TheVariants.{Einval, Enomem, Eacces, Overlap}
+use Rattle.old_mappings.specs.declared.place.Place.{Place}
+use Rattle.old_mappings.specs.declared.place.Rights.{Rights}
+use Rattle.old_mappings.specs.declared.page_range.PageRange.{PageRange}
+use Rattle.old_mappings.specs.Places.{Places, allows, any_mapped, all_mapped, any_forbids}
+
+-- the pages that hold the len bytes from va on
+abbrev pub pages_holding : ℕ → ℕ → PageRange
+pages_holding va len = record { first = va / 4096; count = div_ceil len 4096 }
+
+-- whether the range has pages, all within bytes 4,096 to 2^47
+abbrev pub is_user_range : PageRange → Bool
+is_user_range range = nat_lt 0 range.first && nat_lt 0 range.count && nat_le (range.first + range.count) (2 ^ 35)
+
+-- whether it may be mapped from this file page on: of at most 65,536 pages, on file pages below 2^32
+abbrev pub is_mappable : PageRange → ℕ → Bool
+is_mappable range page = is_user_range range && nat_le range.count 65536 && nat_le (page + range.count) (2 ^ 32)
+
+-- the pages of the len bytes from va on
+abbrev pub range_of_bytes : ℕ → ℕ → Result PageRange Refusal
+range_of_bytes va len = if va % 4096 == 0 && is_user_range (pages_holding va len) then Ok (pages_holding va len) else Err Einval
+
+-- these pages, and the page of the file at which the offset stands
+abbrev pub mapped_pages_of : ℕ → ℕ → ℕ → Result (PageRange × ℕ) Refusal
+mapped_pages_of va len offset =
+    if va % 4096 == 0 && offset % 4096 == 0 && is_mappable (pages_holding va len) (offset / 4096) then Ok (pages_holding va len, offset / 4096) else Err Einval
+
+-- why these pages can't be mapped from the place on
+abbrev pub add_refusal : Places → PageRange → Place → Option Refusal
+add_refusal places range place =
+    if not (is_mappable range place.page) then Some Einval
+    else (if not (allows place.access place.rights) then Some Eacces
+    else (if any_mapped places range.first range.count then Some Overlap else None))
+
+-- why these pages can't be unmapped
+abbrev pub remove_refusal : PageRange → Option Refusal
+remove_refusal range = if is_user_range range then None else Some Einval
+
+-- why the mappings of these pages can't be given the rights
+abbrev pub protect_refusal : Places → PageRange → Rights → Option Refusal
+protect_refusal places range rights =
+    if not (is_user_range range) then Some Einval
+    else (if not (all_mapped places range.first range.count) then Some Enomem
+    else (if any_forbids places range.first range.count rights then Some Eacces else None))
+
+-- what a call answers that is refused only for this reason
+abbrev pub answer : Option Refusal → Result (Unit {0}) Refusal
+answer None = Ok tt
+answer (Some why) = Err why

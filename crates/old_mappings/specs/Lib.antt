@@ -1,0 +1,5 @@
+pub mod Places
+pub mod Judgement
+pub mod State
+pub mod Listed
+pub mod Edits

@@ -1,0 +1,218 @@
+// The mappings of one address space.
+ghost use Rattle.std.specs.Prelude.{◌≡◌, ◌<◌, ◌≤◌, Some, None, OnOk, OnErr, IfErr, unwrap_or};
+ghost use Rattle.page_entry.specs.declared.refusal.Refusal.TheVariants.{OutOfMemory};
+ghost use Rattle.std.specs.FinMap as fin_map;
+ghost use Rattle.old_mappings.specs.Places.{with_range, without_range, with_rights, any_mapped, all_mapped, any_forbids, goes_on, splits, pages_mapping};
+ghost use Rattle.old_mappings.specs.Judgement.{add_refusal, remove_refusal, protect_refusal, answer};
+
+use crate::mapping::{
+    Mapping, any_forbids, any_meets, first_after, free_from, gap_for, set_rights, split_ends,
+};
+use crate::{PageRange, PagesOf, Place, Rights};
+use page_entry::{FileNumber, PageIndex, PageNumber, Refusal};
+use std::alloc::Allocator;
+use std::marker::Model;
+
+/// Which pages of an address space map which pages of files, at most one each. A mapping is kept as its range, so the
+/// memory that it takes doesn't depend on its pages.
+#[derive(Drop)]
+pub struct Mappings<A: Allocator + Copy> {
+    list: Vec<Mapping, A>,
+}
+
+impl<A: Allocator + Copy> Model for Mappings<A> {
+    ghost use Rattle.std.specs.Prelude.{◌-◌};
+    ghost use Rattle.std.specs.Vec.{vec_len, vec_capacity};
+    ghost use Rattle.old_mappings.specs.State.{MappingsState, mappings_code};
+    ghost use Rattle.old_mappings.specs.Listed.{places_of, IsOrdered};
+
+    ghost Value = { MappingsState };
+
+    ghost coded = { mappings_code };
+
+    ghost view = { λ m. record { places = places_of m.list.items; spare = vec_capacity m.list - vec_len m.list } };
+
+    ghost invariant = { λ m. IsOrdered 0 m.list.items };
+}
+
+impl<A: Allocator + Copy> Mappings<A> {
+    /// No page is mapped. It takes no memory.
+    pub fn new(alloc: A) -> Self
+        ensures { result.places ≡ fin_map.empty }
+    {
+        Mappings {
+            list: Vec::new(alloc),
+        }
+    }
+
+    /// What the page maps, if it is mapped.
+    pub fn where_is(&self, page: PageNumber) -> Option<Place>
+        ensures { result ≡ fin_map.get self.now.places page }
+    {
+        let at = first_after(&self.list, page);
+        if at < self.list.len() {
+            self.list[at].place_of(page)
+        } else {
+            None
+        }
+    }
+
+    /// Maps the pages of the range to the pages of a file from the place on, one after the other.
+    ///
+    /// `Einval` if the range has no pages or more than 65,536, isn't within bytes 4,096 to 2^47, or a file page is beyond
+    /// 2^32 - 1; `Eacces` if writing is asked with read-only access; `Overlap` if a page of the range is mapped already;
+    /// `OutOfMemory` if memory for one more mapping is refused. After an error nothing has changed.
+    pub fn add(&mut self, range: PageRange, place: Place) -> Result<(), Refusal>
+        ensures added { OnOk result (self.new.places ≡ with_range self.old.places range.first range.count place) }
+        ensures allowed { OnOk result (add_refusal self.old.places range place ≡ None) }
+        ensures refused { IfErr result (λ why. why ≡ unwrap_or (add_refusal self.old.places range place) OutOfMemory) }
+        ensures memory { OnErr result (add_refusal self.old.places range place ≡ None → self.old.spare ≡ 0) }
+        ensures err { OnErr result (self.new ≡ self.old) }
+    {
+        if !range.is_mappable(u64::from(place.page)) {
+            return Err(Refusal::Einval);
+        }
+        if !place.access.allows(place.rights) {
+            return Err(Refusal::Eacces);
+        }
+        let mapping = Mapping {
+            first: range.first,
+            end: range.first + range.count,
+            place,
+        };
+        let Some(at) = gap_for(&self.list, mapping.first, mapping.end) else {
+            return Err(Refusal::Overlap);
+        };
+        if self.list.reserve(1).is_err() {
+            return Err(Refusal::OutOfMemory);
+        }
+        self.list
+            .insert(at, mapping)
+            .map_err(|_| Refusal::OutOfMemory)
+    }
+
+    /// Whether a page of the range is mapped.
+    pub fn has_mapped(&self, range: PageRange) -> bool
+        ensures { result ≡ any_mapped self.now.places range.first range.count }
+    {
+        0 < range.count && any_meets(&self.list, range)
+    }
+
+    /// Whether each page of the range is mapped.
+    pub fn is_mapped(&self, range: PageRange) -> bool
+        ensures { result ≡ all_mapped self.now.places range.first range.count }
+    {
+        range.count <= free_from(&self.list, range.first) - range.first
+    }
+
+    // Whether a mapping of the range's pages has an access that doesn't allow the rights.
+    fn has_forbidden(&self, range: PageRange, rights: Rights) -> bool
+        ensures { result ≡ any_forbids self.now.places range.first range.count rights }
+    {
+        0 < range.count && any_forbids(&self.list, range, rights)
+    }
+
+    // Whether a mapping goes on from the page before this one.
+    fn goes_on(&self, page: PageNumber) -> bool
+        ensures { result ≡ goes_on self.now.places page }
+    {
+        if page == 0 {
+            return false;
+        }
+        match (self.where_is(page - 1), self.where_is(page)) {
+            (Some(before), Some(here)) => here.follows(before),
+            _ => false,
+        }
+    }
+
+    // How many of the two ends of the range are within a mapping.
+    fn splits(&self, range: PageRange) -> usize
+        ensures { result ≡ splits self.now.places range.first range.count }
+    {
+        // No page from 2^35 on is mapped, so where the sum is past the last number, no mapping goes on at the end.
+        let _list = &self.list;
+        let end = range.first.saturating_add(range.count);
+        usize::from(self.goes_on(range.first)) + usize::from(self.goes_on(end))
+    }
+
+    /// Reserves the memory that one later `remove` or `protect` of the range needs: room for one more mapping for each
+    /// end of the range that is within a mapping, which is split there.
+    ///
+    /// `OutOfMemory` if such room is missing and is refused. No mapping changes, whatever the answer.
+    pub fn reserve(&mut self, range: PageRange) -> Result<(), Refusal>
+        ensures reserved { OnOk result (splits self.new.places range.first range.count ≤ self.new.spare) }
+        ensures refused { IfErr result (λ why. why ≡ OutOfMemory) }
+        ensures missing { OnErr result (self.old.spare < splits self.old.places range.first range.count) }
+        ensures places { self.new.places ≡ self.old.places }
+        ensures grows { self.old.spare ≤ self.new.spare }
+    {
+        let splits = self.splits(range);
+        self.list.reserve(splits).map_err(|_| Refusal::OutOfMemory)
+    }
+
+    /// Unmaps each page of the range that is mapped; a mapping of which it takes a part in the middle becomes two. It
+    /// takes no memory.
+    ///
+    /// `Einval` if the range has no pages or isn't within bytes 4,096 to 2^47. After an error nothing has changed.
+    pub fn remove(&mut self, range: PageRange) -> Result<(), Refusal>
+        requires { splits self.old.places range.first range.count ≤ self.old.spare }
+        ensures judged { result ≡ answer (remove_refusal range) }
+        ensures removed { OnOk result (self.new.places ≡ without_range self.old.places range.first range.count) }
+        ensures err { OnErr result (self.new ≡ self.old) }
+    {
+        if !range.is_user() {
+            return Err(Refusal::Einval);
+        }
+        let (first, end) = (range.first, range.first + range.count);
+        split_ends(&mut self.list, range);
+        self.list
+            .retain(|mapping| mapping.end <= first || end <= mapping.first);
+        Ok(())
+    }
+
+    /// Whether the mappings of the range may be given the rights.
+    ///
+    /// `Einval` if the range has no pages or isn't within bytes 4,096 to 2^47; `Enomem` if a page of the range isn't
+    /// mapped; `Eacces` if writing is asked and a mapping of the range has read-only access.
+    pub fn may_protect(&self, range: PageRange, rights: Rights) -> Result<(), Refusal>
+        ensures { result ≡ answer (protect_refusal self.now.places range rights) }
+    {
+        if !range.is_user() {
+            return Err(Refusal::Einval);
+        }
+        if !self.is_mapped(range) {
+            return Err(Refusal::Enomem);
+        }
+        if self.has_forbidden(range, rights) {
+            return Err(Refusal::Eacces);
+        }
+        Ok(())
+    }
+
+    /// Gives the rights to the mappings of the range's pages, and to no others. It takes no memory.
+    ///
+    /// It is refused as `may_protect` says. After an error nothing has changed.
+    pub fn protect(&mut self, range: PageRange, rights: Rights) -> Result<(), Refusal>
+        requires { splits self.old.places range.first range.count ≤ self.old.spare }
+        ensures judged { result ≡ answer (protect_refusal self.old.places range rights) }
+        ensures protected { OnOk result (self.new.places ≡ with_rights self.old.places range.first range.count rights) }
+        ensures err { OnErr result (self.new ≡ self.old) }
+    {
+        self.may_protect(range, rights)?;
+        split_ends(&mut self.list, range);
+        set_rights(
+            &mut self.list,
+            range.first,
+            range.first + range.count,
+            rights,
+        );
+        Ok(())
+    }
+
+    /// The pages that map this page of this file, in rising order. It takes no memory.
+    pub fn pages_of(&self, file: FileNumber, page: PageIndex) -> PagesOf<'_>
+        ensures { result ≡ pages_mapping self.now.places file page }
+    {
+        PagesOf::new(&self.list, file, page)
+    }
+}

@@ -1,0 +1,4 @@
+pub mod Entries
+pub mod Dirty
+mod Lookup
+mod Merge

@@ -1,0 +1,63 @@
+-- A page table as a map from page to entry, with the pages that have grown. A page is the number of 4 KiB of linear
+-- addresses; a range has the pages from `first` up to and without `end`.
+use Rattle.std.specs.Prelude.{ℕ, ◌≡◌, ◌≤◌, ◌<◌, Bool, true, not, ◌&&◌, nat_le, nat_lt, List, map, Option, Some, None, refl}
+use Rattle.std.specs.List.{filter}
+use Rattle.std.specs.Ordering.{nat_cmp}
+use Rattle.std.specs.Coded.{Coded, code_by, coded×, coded_ℕ, coded_bool}
+use Rattle.std.specs.FinMap as maps
+use Rattle.std.specs.FinSet as sets
+use Rattle.page_entry.specs.Entry.{Mapped}
+
+-- the present entries, by their pages; and the pages that have grown, whose entries can be set without memory
+pub record TableState : Type 0 where
+  pub entries : maps.FinMap nat_cmp Mapped
+  pub grown : sets.FinSet nat_cmp
+
+-- an entry is stored as the tuple of its fields
+abbrev pub mapped_code : Coded Mapped
+mapped_code =
+    code_by (ℕ × (Bool × (Bool × Bool))) (coded× coded_ℕ (coded× coded_bool (coded× coded_bool coded_bool)))
+    (λ m. (m.frame, (m.writable, (m.accessed, m.dirty))))
+    (λ p. record { frame = p.0; writable = p.1.0; accessed = p.1.1.0; dirty = p.1.1.1 })
+    (λ _. refl)
+
+-- a table is stored as the pair of its fields
+abbrev pub table_code : Coded TableState
+table_code =
+    code_by (maps.FinMap nat_cmp Mapped × sets.FinSet nat_cmp) (coded× (maps.code coded_ℕ mapped_code) (sets.code coded_ℕ))
+    (λ t. (t.entries, t.grown)) (λ p. record { entries = p.0; grown = p.1 }) (λ _. refl)
+
+-- a table that maps nothing and has grown nowhere
+abbrev pub empty_table : TableState
+empty_table = record { entries = maps.empty; grown = sets.empty }
+
+-- whether the page's entry can be set without memory
+abbrev pub is_grown : TableState → ℕ → Bool
+is_grown table page = sets.contains table.grown page
+
+-- the entries with this one at the page; an absent one leaves the page without an entry
+abbrev pub put_entry : maps.FinMap nat_cmp Mapped → ℕ → Option Mapped → maps.FinMap nat_cmp Mapped
+put_entry entries page None = maps.remove entries page
+put_entry entries page (Some entry) = maps.insert entries page entry
+
+-- whether the page is in the range
+abbrev pub in_range : ℕ → ℕ → ℕ → Bool
+in_range first end page = nat_le first page && nat_lt page end
+
+-- the entries outside the range
+abbrev pub outside_range : maps.FinMap nat_cmp Mapped → ℕ → ℕ → maps.FinMap nat_cmp Mapped
+outside_range entries first end = maps.retain_keys entries (λ page. not (in_range first end page))
+
+-- the pages of the dirty entries of a range, in the order of this list
+abbrev pub dirty_among : List (ℕ × Mapped) → ℕ → ℕ → List ℕ
+dirty_among entries first end = map (λ e. e.0) (filter (λ e. in_range first end e.0 && e.1.dirty) entries)
+
+-- the pages of a range whose entries are dirty, in rising order
+abbrev pub dirty_in : maps.FinMap nat_cmp Mapped → ℕ → ℕ → List ℕ
+dirty_in entries first end = dirty_among (maps.entries entries) first end
+
+-- the same entries, and room: each page of the range has grown, and what had grown still has
+pub record GrowsOver (first end : ℕ) (old new : TableState) : Type 0 where
+  pub same_entries : new.entries ≡ old.entries
+  pub range_grown : (page : ℕ) → first ≤ page → page < end → is_grown new page ≡ true
+  pub still_grown : (page : ℕ) → is_grown old page ≡ true → is_grown new page ≡ true

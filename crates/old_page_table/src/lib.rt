@@ -1,0 +1,13 @@
+//! A page table as a map from page to entry. Its growth is made before entries are set, so that a change of an entry
+//! takes no memory.
+#![tactic(auto)]
+
+mod dirty_pages;
+mod slots;
+mod table;
+
+pub use dirty_pages::DirtyPages;
+pub use table::Table;
+
+#[cfg(test)]
+mod tests;

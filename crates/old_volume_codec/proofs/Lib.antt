@@ -1,0 +1,11 @@
+pub mod Layouts
+pub mod Padding
+pub mod TableLemmas
+pub mod Rows
+pub mod Places
+pub mod Spelling
+pub mod ReadingLemmas
+pub mod Functional
+pub mod Blocks
+pub mod Homes
+pub mod Recovered

@@ -1,0 +1,10 @@
+pub mod SpacesLaws
+pub mod AreSpacesLaws
+pub mod Members
+pub mod ChangeLaws
+pub mod SlotsLemmas
+pub mod SlotEdits
+pub mod Cleared
+pub mod Rooms
+pub mod RequestLaws
+pub mod ListedLaws

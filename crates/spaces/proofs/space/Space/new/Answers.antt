@@ -1,0 +1,5 @@
+use Rattle.spaces.proofs.Rooms.{room_of_none}
+use Rattle.spaces.proofs.space.Space.new.Goals as goal
+
+pub invariant_of-result : goal.invariant_of-result
+invariant_of-result g c = room_of_none c.new.result c.new-2.result c.new-2.ensures

@@ -1,0 +1,74 @@
+use Rattle.std.proofs.Common.{ℕ, ◌≡◌, ◌++◌, ◌∷◌, [], length, cond, Some, Result, Ok, Err, is_ok, is_err, true, false, refl, sym, ap, ◌∙◌, subst, arith}
+use Rattle.spaces.specs.Spaces.{SpacesState, empty_space, with_space, IsLowestFree}
+use Rattle.spaces.specs.inside.Slots.{spaces_of, IsFirstFree, AreSlots}
+use Rattle.spaces.proofs.SlotEdits.{lowest_free, none_free, slots_filled, slots_pushed, set-create, push-create}
+use Rattle.spaces.proofs.spaces.Spaces.create.Goals as goal
+
+pub returns-then-free-eq-PCIDS-clause-refused : goal.returns-then-free-eq-PCIDS-clause-refused
+returns-then-free-eq-PCIDS-clause-refused g c =
+    let slots = c.self.inside.slots.items in
+    let at = c.first_free-free.result in
+    let first = subst (λ l. IsFirstFree l at) c.deref.ensures.value c.first_free-free.ensures in
+    subst (λ (s : SpacesState). (pcid : ℕ) → IsLowestFree s.map pcid → ⊥) c.self.view_is (none_free slots c.self.inside.prepared c.self.invariant at first c.if-free-eq-PCIDS.true)
+
+pub invariant_of-self : goal.invariant_of-self
+invariant_of-self g c =
+    let slots = c.self.inside.slots.items in
+    let at = c.first_free-free.result in
+    let first = subst (λ l. IsFirstFree l at) c.deref.ensures.value c.first_free-free.ensures in
+    slots_filled slots c.self.inside.prepared c.self.invariant at first.free c.new-space.result c.new-space.ensures (omega (arith, c.self.inside.slots.ok.0))
+
+pub returns-then-free-len-clause-lowest : goal.returns-then-free-len-clause-lowest
+returns-then-free-len-clause-lowest g c =
+    let slots = c.self.inside.slots.items in
+    let at = c.first_free-free.result in
+    let first = subst (λ l. IsFirstFree l at) c.deref.ensures.value c.first_free-free.ensures in
+    subst (λ (s : SpacesState). IsLowestFree s.map at) c.self.view_is (lowest_free slots c.self.inside.prepared c.self.invariant at first c.if-free-eq-PCIDS.false)
+
+pub returns-then-free-len-clause-created : goal.returns-then-free-len-clause-created
+returns-then-free-len-clause-created g c =
+    let slots = c.self.inside.slots.items in
+    let at = c.first_free-free.result in
+    let first = subst (λ l. IsFirstFree l at) c.deref.ensures.value c.first_free-free.ensures in
+    let made = set-create slots c.self.inside.prepared c.self.invariant at first.free c.new-space.result c.new-space.ensures (omega (arith, c.self.inside.slots.ok.0)) in
+    (λ i. record { map = made i; prepared = c.self.inside.prepared })
+    ∙ ap (λ (s : SpacesState). record s { map = with_space s.map at empty_space }) c.self.view_is
+
+pub returns-then-is_err-clause-refused : goal.returns-then-is_err-clause-refused
+returns-then-is_err-clause-refused g c =
+    let slots = c.self.inside.slots.items in
+    let at = c.first_free-free.result in
+    let first = subst (λ l. IsFirstFree l at) c.deref.ensures.value c.first_free-free.ensures in
+    (at, subst (λ (s : SpacesState). IsLowestFree s.map at) c.self.view_is (lowest_free slots c.self.inside.prepared c.self.invariant at first c.if-free-eq-PCIDS.false))
+
+-- what isn't refused succeeded
+succeeded : {T E : Type 0} (r : Result T E) → is_err r ≡ false → is_ok r ≡ true
+succeeded (Ok x) h = refl
+succeeded (Err e) h = cc
+
+pub invariant_of-self-2 : goal.invariant_of-self-2
+invariant_of-self-2 g c =
+    let slots = c.self.inside.slots.items in
+    let at = c.first_free-free.result in
+    let first = subst (λ l. IsFirstFree l at) c.deref.ensures.value c.first_free-free.ensures in
+    let pushed : c.push.new.self.items ≡ slots ++ Some c.new-space.result ∷ [] = c.push.ensures.items ∙ ap (λ b. cond b (slots ++ Some c.new-space.result ∷ []) slots) (succeeded c.push.result (sym c.is_err.ensures.value ∙ c.if-is_err.false)) in
+    let last : at ≡ length slots = omega (arith, first.within, c.self.inside.slots.ok.0) in
+    subst (λ l. AreSlots l c.self.inside.prepared) (sym pushed) (slots_pushed slots c.self.inside.prepared c.self.invariant at first.free c.new-space.result c.new-space.ensures last (lowest_free slots c.self.inside.prepared c.self.invariant at first c.if-free-eq-PCIDS.false).small)
+
+pub returns-clause-lowest : goal.returns-clause-lowest
+returns-clause-lowest g c =
+    let slots = c.self.inside.slots.items in
+    let at = c.first_free-free.result in
+    let first = subst (λ l. IsFirstFree l at) c.deref.ensures.value c.first_free-free.ensures in
+    subst (λ (s : SpacesState). IsLowestFree s.map at) c.self.view_is (lowest_free slots c.self.inside.prepared c.self.invariant at first c.if-free-eq-PCIDS.false)
+
+pub returns-clause-created : goal.returns-clause-created
+returns-clause-created g c =
+    let slots = c.self.inside.slots.items in
+    let at = c.first_free-free.result in
+    let first = subst (λ l. IsFirstFree l at) c.deref.ensures.value c.first_free-free.ensures in
+    let pushed : c.push.new.self.items ≡ slots ++ Some c.new-space.result ∷ [] = c.push.ensures.items ∙ ap (λ b. cond b (slots ++ Some c.new-space.result ∷ []) slots) (succeeded c.push.result (sym c.is_err.ensures.value ∙ c.if-is_err.false)) in
+    let last : at ≡ length slots = omega (arith, first.within, c.self.inside.slots.ok.0) in
+    let made = ap spaces_of pushed ∙ push-create slots c.self.inside.prepared c.self.invariant at first.free c.new-space.result c.new-space.ensures last in
+    (λ i. record { map = made i; prepared = c.self.inside.prepared })
+    ∙ ap (λ (s : SpacesState). record s { map = with_space s.map at empty_space }) c.self.view_is

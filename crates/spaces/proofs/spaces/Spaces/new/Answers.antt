@@ -1,0 +1,16 @@
+use Rattle.std.proofs.Common.{◌++◌, ◌∷◌, [], List, Option, Some, None, sym, ap, ◌∙◌, subst}
+use Rattle.spaces.specs.inside.Slots.{SpaceState, spaces_of, AreSlots}
+use Rattle.spaces.proofs.SlotsLemmas.{spaces_of-first}
+use Rattle.spaces.proofs.SlotEdits.{slots_first}
+use Rattle.spaces.proofs.spaces.Spaces.new.Goals as goal
+
+pub invariant_of-result : goal.invariant_of-result
+invariant_of-result g c =
+    let is = c.in_ok-push.ensures.items ∙ ap (λ (l : List (Option SpaceState)). l ++ Some c.new.result ∷ []) c.new-slots.ensures.items in
+    subst (λ l. AreSlots l None) (sym is) (slots_first c.new.result c.new.ensures)
+
+pub returns : goal.returns
+returns g c =
+    let is = c.in_ok-push.ensures.items ∙ ap (λ (l : List (Option SpaceState)). l ++ Some c.new.result ∷ []) c.new-slots.ensures.items in
+    let now = ap spaces_of is ∙ spaces_of-first c.new.result c.new.ensures in
+    λ i. record { map = now i; prepared = None }

@@ -1,0 +1,4 @@
+pub mod Spaces
+pub mod Requests
+pub mod Changes
+pub mod inside

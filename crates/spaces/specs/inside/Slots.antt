@@ -1,0 +1,107 @@
+-- How the spaces are kept: a slot for each PCID, with a space or none.
+use Rattle.std.specs.Prelude.{ℕ, ◌≡◌, ◌+◌, ◌≤◌, ◌<◌, true, false, not, is_some, List, [], ◌∷◌, length, slice_index_or, Option, Some, None, IsSome, refl}
+use Rattle.std.specs.Coded.{Coded, code_by, coded×, coded_ℕ, coded_option}
+use Rattle.std.specs.Ordering.{nat_cmp}
+use Rattle.std.specs.FinMap as maps
+use Rattle.page_entry.specs.Entry.{Mapped}
+use Rattle.page_table.specs.Table.{TableState, is_grown, mapped_code}
+use Rattle.mappings.specs.declared.page_range.PageRange.{PageRange}
+use Rattle.mappings.specs.Places.{Places, splits}
+use Rattle.mappings.specs.State.{MappingsState, place_code}
+use Rattle.mappings.specs.Judgement.{is_user_range}
+use Rattle.spaces.specs.Spaces.{AddressSpace, Spaces, SpacesState, empty_space, has_space, space_at, AreSpaces}
+use Rattle.page_entry.specs.declared.numbers.FilePage.{FilePage}
+use Rattle.spaces.specs.Requests.{is_user_space}
+use Rattle.spaces.specs.Changes.{is_place_of}
+
+-- one space: its entries and places, and for how many further mappings room is reserved
+pub record SpaceState : Type 0 where
+  pub entries : maps.FinMap nat_cmp Mapped
+  pub places : Places
+  pub spare : ℕ
+
+-- what a user of the spaces sees of it
+abbrev pub space_of : SpaceState → AddressSpace
+space_of s = record { entries = s.entries; places = s.places }
+
+-- the entry of each mapped page can be set without memory
+abbrev pub HasRoom : TableState → MappingsState → Type 0
+HasRoom table mappings = (page : ℕ) → IsSome (maps.get mappings.places page) → is_grown table page ≡ true
+
+-- what is in a slot; nothing past the last one
+abbrev pub slot_at : List (Option SpaceState) → ℕ → Option SpaceState
+slot_at slots pcid = slice_index_or slots pcid None
+
+-- a slot's space with its PCID, before others
+abbrev pub with_slot : ℕ → Option SpaceState → List (ℕ × AddressSpace) → List (ℕ × AddressSpace)
+with_slot pcid None rest = rest
+with_slot pcid (Some s) rest = (pcid, space_of s) ∷ rest
+
+-- the spaces in the slots, of which the first is that of this PCID
+abbrev pub listed_from : ℕ → List (Option SpaceState) → List (ℕ × AddressSpace)
+listed_from pcid [] = []
+listed_from pcid (slot ∷ slots) = with_slot pcid slot (listed_from (pcid + 1) slots)
+
+-- the spaces in the slots from PCID 0 on
+unfoldable pub spaces_of : List (Option SpaceState) → Spaces
+spaces_of slots = maps.from_sorted (listed_from 0 slots)
+
+-- the slot's space is that of this PCID
+pub record IsFound (map : Spaces) (pcid : ℕ) (s : SpaceState) : Type 0 where
+  pub there : has_space map pcid ≡ true
+  pub same : space_at map pcid ≡ space_of s
+
+-- there is no space with this PCID
+pub record IsMissing (map : Spaces) (pcid : ℕ) : Type 0 where
+  pub missing : has_space map pcid ≡ false
+  pub nothing : space_at map pcid ≡ empty_space
+
+-- the first slot without a space; there is a space in each of them where it is past the last one
+pub record IsFirstFree (slots : List (Option SpaceState)) (at : ℕ) : Type 0 where
+  pub within : at ≤ length slots
+  pub free : slot_at slots at ≡ None
+  pub taken : (lower : ℕ) → lower < at → is_some (slot_at slots lower) ≡ true
+
+-- a space with other entries
+abbrev pub edited : (SpaceState → maps.FinMap nat_cmp Mapped) → SpaceState → SpaceState
+edited f s = record s { entries = f s }
+
+-- the entries of pages that don't map this page of a file
+abbrev pub without_entries : Places → FilePage → maps.FinMap nat_cmp Mapped → maps.FinMap nat_cmp Mapped
+without_entries places page entries = maps.retain_keys entries (λ q. not (is_place_of page (maps.get places q)))
+
+-- the entries without those of these pages
+abbrev pub without_each : maps.FinMap nat_cmp Mapped → List ℕ → maps.FinMap nat_cmp Mapped
+without_each entries [] = entries
+without_each entries (page ∷ pages) = without_each (maps.remove entries page) pages
+
+-- a user space has room for what one unmap or protect of a range splits
+pub record IsPrepared (slots : List (Option SpaceState)) (pcid : ℕ) (range : PageRange) : Type 0 where
+  pub user_space : is_user_space (spaces_of slots) pcid ≡ true
+  pub user_range : is_user_range range ≡ true
+  pub room : (s : SpaceState) → slot_at slots pcid ≡ Some s → splits s.places range.first range.count ≤ s.spare
+
+-- what the slots always keep
+pub record AreSlots (slots : List (Option SpaceState)) (prepared : Option (ℕ × PageRange)) : Type 0 where
+  pub spaces : AreSpaces (spaces_of slots)
+  pub few : length slots ≤ 4096
+  pub ready : (pcid : ℕ) (range : PageRange) → prepared ≡ Some (pcid, range) → IsPrepared slots pcid range
+
+-- the codes by which a proof tells values apart
+abbrev pub space_code : Coded AddressSpace
+space_code =
+    code_by (maps.FinMap nat_cmp Mapped × Places) (coded× (maps.code coded_ℕ mapped_code) (maps.code coded_ℕ place_code))
+    (λ s. (s.entries, s.places)) (λ p. record { entries = p.0; places = p.1 }) (λ _. refl)
+
+abbrev pub space_state_code : Coded SpaceState
+space_state_code =
+    code_by (AddressSpace × ℕ) (coded× space_code coded_ℕ) (λ s. (space_of s, s.spare))
+    (λ p. record { entries = p.0.entries; places = p.0.places; spare = p.1 }) (λ _. refl)
+
+abbrev pub range_code : Coded PageRange
+range_code = code_by (ℕ × ℕ) (coded× coded_ℕ coded_ℕ) (λ r. (r.first, r.count)) (λ p. record { first = p.0; count = p.1 }) (λ _. refl)
+
+abbrev pub spaces_code : Coded SpacesState
+spaces_code =
+    code_by (Spaces × Option (ℕ × PageRange)) (coded× (maps.code coded_ℕ space_code) (coded_option (coded× coded_ℕ range_code)))
+    (λ s. (s.map, s.prepared)) (λ p. record { map = p.0; prepared = p.1 }) (λ _. refl)

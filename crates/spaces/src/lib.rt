@@ -1,0 +1,17 @@
+//! The address spaces of a machine by their PCIDs: what the pages of each map, and the entries of its page table
+//! (POSIX.1-2024, `mmap`, `munmap`, `mprotect`; Intel SDM volume 3, "Process-Context Identifiers").
+#![tactic(auto)]
+
+mod change;
+mod entries_of;
+mod entry_pages;
+mod pcids;
+mod space;
+mod spaces;
+#[cfg(test)]
+mod tests;
+
+pub use change::Change;
+pub use entries_of::EntriesOf;
+pub use pcids::Pcids;
+pub use spaces::{ALL_PAGES, Spaces};

@@ -1,0 +1,458 @@
+// The spaces of a machine.
+ghost use Rattle.std.specs.Prelude.{◌≡◌, ◌≢◌, ◌+◌, ◌<◌, ◌^◌, ◌/◌, Some, None, map, true, IsSome, IfSome, IfNone, IfOk, OnOk, OnErr, IfErr, IsTrue, unwrap_or};
+ghost use Rattle.std.specs.Option.{option_map};
+ghost use Rattle.std.specs.FinMap as maps;
+ghost use Rattle.page_entry.specs.declared.refusal.Refusal.TheVariants.{OutOfMemory};
+ghost use Rattle.page_table.specs.Table.{dirty_in, is_marked, frames_protected};
+ghost use Rattle.mappings.specs.Places.{splits};
+ghost use Rattle.mappings.specs.Judgement.{is_user_range, add_refusal, protect_refusal};
+ghost use Rattle.spaces.specs.Spaces.{empty_space, has_space, space_at, entry_at, place_at, first_spaces, with_space, with_entry, with_mapping, without_mapping, IsLowestFree, EditsEntries, SetsRights, AreSpaces};
+ghost use Rattle.spaces.specs.Requests.{is_user_space, judged_range, judged_mapping, judged_protection, maps_some, maps_each, CreateRefused};
+ghost use Rattle.spaces.specs.Changes.{is_place_of, affects, touches, entries_of, protected_where, without_entries_of};
+ghost use Rattle.spaces.specs.inside.Slots.{edited, without_entries, IsFound, IsMissing, IsFirstFree};
+
+use crate::space::Space;
+use crate::{Change, EntriesOf, Pcids};
+use mappings::{PageRange, Place, Rights, mapped_pages};
+use page_entry::{Entry, FilePage, PAGE, PageIndex, PageNumber, Pcid, Refusal};
+use page_table::DirtyPages;
+use std::alloc::{AllocError, Allocator, Global};
+use std::marker::Model;
+
+/// How many PCIDs there are (Intel SDM volume 3, "Process-Context Identifiers").
+const PCIDS: usize = 4096;
+
+/// All pages of user addresses, which are below 2^47 (Intel SDM volume 3, canonical addresses).
+pub const ALL_PAGES: PageRange = PageRange {
+    first: 0,
+    count: 1 << 35,
+};
+
+/// The address spaces that there are. Space 0 is always there and maps nothing. Only `new`, `create`, `map` and
+/// `prepare` take memory.
+#[derive(Drop)]
+pub struct Spaces<A: Allocator + Copy = Global> {
+    // By PCID, as many as the highest PCID that was ever in use needs.
+    slots: Vec<Option<Space<A>>, A>,
+    // The pages of a space that one `unmap` or `protect` may change without memory.
+    prepared: Option<(Pcid, PageRange)>,
+}
+
+impl<A: Allocator + Copy> Model for Spaces<A> {
+    ghost use Rattle.spaces.specs.Spaces.{SpacesState};
+    ghost use Rattle.spaces.specs.inside.Slots.{spaces_code, spaces_of, AreSlots};
+
+    ghost Value = { SpacesState };
+
+    ghost coded = { spaces_code };
+
+    ghost view = { λ s. record { map = spaces_of s.slots.items; prepared = s.prepared } };
+
+    ghost invariant = { λ s. AreSlots s.slots.items s.prepared };
+}
+
+// The first slot without a space, or one past the last.
+fn first_free<A: Allocator + Copy>(slots: &[Option<Space<A>>]) -> usize
+    ensures { IsFirstFree slots.now result }
+{
+    for (at, slot) in slots.iter().enumerate() {
+        if slot.is_none() {
+            return at;
+        }
+    }
+    slots.len()
+}
+
+impl<A: Allocator + Copy> Spaces<A> {
+    /// Space 0 alone. Fails where memory is refused.
+    pub fn new(alloc: A) -> Result<Self, AllocError>
+        ensures { IfOk result (λ spaces. spaces ≡ record { map = first_spaces; prepared = None }) }
+    {
+        let mut slots = Vec::new(alloc);
+        slots.push(Some(Space::new(alloc)))?;
+        Ok(Spaces {
+            slots,
+            prepared: None,
+        })
+    }
+
+    // The space with this PCID, if there is one.
+    fn space(&self, pcid: Pcid) -> Option<&Space<A>>
+        ensures found { IfSome result (λ space. IsFound self.now.map pcid space.now) }
+        ensures missing { IfNone result (IsMissing self.now.map pcid) }
+        ensures sound { AreSpaces self.now.map }
+    {
+        if (pcid as usize) < self.slots.len() {
+            self.slots[pcid as usize].as_ref()
+        } else {
+            None
+        }
+    }
+
+    /// Whether there is a space with this PCID.
+    pub fn has(&self, pcid: Pcid) -> bool
+        ensures there { result ≡ has_space self.now.map pcid }
+        ensures sound { AreSpaces self.now.map }
+    {
+        self.space(pcid).is_some()
+    }
+
+    /// What the page maps, if it is mapped.
+    pub fn place(&self, pcid: Pcid, page: PageNumber) -> Option<Place>
+        ensures { result ≡ place_at self.now.map pcid page }
+    {
+        match self.space(pcid) {
+            Some(space) => space.mappings().where_is(page),
+            None => None,
+        }
+    }
+
+    /// The page's entry.
+    pub fn entry(&self, pcid: Pcid, page: PageNumber) -> Entry
+        ensures entry { result ≡ entry_at self.now.map pcid page }
+        ensures sound { AreSpaces self.now.map }
+    {
+        match self.space(pcid) {
+            Some(space) => space.table().get(page),
+            None => Entry::absent(),
+        }
+    }
+
+    /// The PCIDs of which there are spaces, in rising order.
+    pub fn pcids(&self) -> Pcids<'_, A>
+        ensures { result ≡ maps.keys self.now.map }
+    {
+        Pcids {
+            slots: &self.slots,
+            next: 0,
+        }
+    }
+
+    /// The pages of the range whose entries are dirty, in rising order.
+    pub fn dirty_pages(&self, pcid: Pcid, range: PageRange) -> DirtyPages<'_, A>
+        requires there { has_space self.now.map pcid ≡ true }
+        requires fits { range.first + range.count < 2 ^ 64 }
+        ensures { result ≡ dirty_in (space_at self.now.map pcid).entries range.first (range.first + range.count) }
+    {
+        let Some(space) = self.space(pcid) else {
+            unreachable!()
+        };
+        space
+            .table()
+            .dirty_pages(range.first..range.first + range.count)
+    }
+
+    /// The pages of all spaces that map this page of a file by a present entry, by PCID and then by page.
+    pub fn entries_of(&self, page: FilePage) -> EntriesOf<'_, A>
+        ensures { result ≡ entries_of self.now.map page }
+    {
+        let Some((slot, later)) = self.slots.split_first() else {
+            unreachable!()
+        };
+        let Some(first) = slot else { unreachable!() };
+        EntriesOf {
+            page,
+            pcid: 0,
+            here: first.entry_pages(page),
+            later,
+        }
+    }
+
+    /// The pages of the `len` bytes from `va` on of a space, which may be unmapped.
+    ///
+    /// `Einval` if there is no such space or it is space 0, `va` isn't a multiple of 4,096, `len` is 0, or the pages
+    /// aren't within bytes 4,096 to 2^47.
+    pub fn judge_range(&self, pcid: Pcid, va: u64, len: u64) -> Result<PageRange, Refusal>
+        ensures { result ≡ judged_range self.now.map pcid va len }
+    {
+        if pcid != 0 && self.has(pcid) {
+            PageRange::of_bytes(va, len)
+        } else {
+            Err(Refusal::Einval)
+        }
+    }
+
+    /// The pages of the `len` bytes from `va` on of a space, which are to be mapped from `offset` bytes into a file on,
+    /// and the file page of the first.
+    ///
+    /// `Einval` as in `judge_range`, or if `offset` isn't a multiple of 4,096, the pages are more than 65,536, or a
+    /// file page is beyond 2^32 - 1.
+    pub fn judge_mapping(
+        &self,
+        pcid: Pcid,
+        va: u64,
+        len: u64,
+        offset: u64,
+    ) -> Result<(PageRange, PageIndex), Refusal>
+        ensures { result ≡ judged_mapping self.now.map pcid va len offset }
+    {
+        if pcid != 0 && self.has(pcid) {
+            mapped_pages(va, len, offset)
+        } else {
+            Err(Refusal::Einval)
+        }
+    }
+
+    /// The pages of the `len` bytes from `va` on of a space, whose mappings may be given the rights.
+    ///
+    /// `Einval` as in `judge_range`; `Enomem` if a page isn't mapped; `Eacces` if writing is asked and a mapping's file
+    /// was opened for reading alone.
+    pub fn judge_protection(
+        &self,
+        pcid: Pcid,
+        va: u64,
+        len: u64,
+        rights: Rights,
+    ) -> Result<PageRange, Refusal>
+        ensures { result ≡ judged_protection self.now.map pcid va len rights }
+    {
+        let range = self.judge_range(pcid, va, len)?;
+        if let Some(space) = self.space(pcid) {
+            space.mappings().may_protect(range, rights)?;
+        }
+        Ok(range)
+    }
+
+    /// Whether a page of the range is mapped.
+    pub fn maps_some(&self, pcid: Pcid, range: PageRange) -> bool
+        ensures { result ≡ maps_some self.now.map pcid range }
+    {
+        match self.space(pcid) {
+            Some(space) => space.mappings().has_mapped(range),
+            None => false,
+        }
+    }
+
+    /// Whether each page of the `len` bytes from `va` on is mapped; of no bytes it is so.
+    pub fn maps_each(&self, pcid: Pcid, va: u64, len: u64) -> bool
+        ensures { result ≡ maps_each self.now.map pcid va len }
+    {
+        let range = PageRange {
+            first: va / PAGE,
+            count: len.div_ceil(PAGE),
+        };
+        match self.space(pcid) {
+            Some(space) => space.mappings().is_mapped(range),
+            None => range.count == 0,
+        }
+    }
+
+    /// Whether the entry of a page of a space may change with the change.
+    pub fn affects(&self, change: &Change, pcid: Pcid, page: PageNumber) -> bool
+        ensures { result ≡ affects self.now.map change.now pcid page }
+    {
+        match change {
+            Change::Unmap { pcid: of, range }
+            | Change::Protect {
+                pcid: of,
+                range,
+                rights: _,
+            } => { *of == pcid && range.first <= page && page - range.first < range.count }
+            Change::Reclaim { page: of } => {
+                self.entry(pcid, page).present() && is_of(self.place(pcid, page), *of)
+            }
+            Change::Checkpoint => true,
+        }
+    }
+
+    /// Whether the processors that are in a space are stopped before the change is made.
+    pub fn touches(&self, change: &Change, pcid: Pcid) -> bool
+        ensures { result ≡ touches self.now.map change.now pcid }
+    {
+        match change {
+            Change::Unmap { pcid: of, range: _ }
+            | Change::Protect {
+                pcid: of,
+                range: _,
+                rights: _,
+            } => *of == pcid,
+            Change::Reclaim { page } => self.has_entry_of(pcid, *page),
+            Change::Checkpoint => true,
+        }
+    }
+
+    // Whether a page of a space maps this page of a file by a present entry.
+    fn has_entry_of(&self, pcid: Pcid, page: FilePage) -> bool
+        ensures { result ≡ touches self.now.map (Change.Reclaim page) pcid }
+    {
+        match self.space(pcid) {
+            Some(space) => space.entry_pages(page).next().is_some(),
+            None => false,
+        }
+    }
+
+    /// Makes a space that maps nothing, of the lowest PCID from 1 on that is free. After an error nothing has changed.
+    ///
+    /// `Enomem` if no PCID is free, `OutOfMemory` if memory is refused.
+    pub fn create(&mut self) -> Result<Pcid, Refusal>
+        ensures lowest { IfOk result (λ pcid. IsLowestFree self.old.map pcid) }
+        ensures created { IfOk result (λ pcid. self.new
+            ≡ record self.old { map = with_space self.old.map pcid empty_space }) }
+        ensures refused { IfErr result (λ why. CreateRefused self.old.map why) }
+        ensures err { OnErr result (self.new ≡ self.old) }
+    {
+        let free = first_free(&self.slots);
+        if free == PCIDS {
+            return Err(Refusal::Enomem);
+        }
+        let space = Space::new(*self.slots.allocator());
+        if free < self.slots.len() {
+            self.slots[free] = Some(space);
+            return Ok(free as Pcid);
+        }
+        if self.slots.push(Some(space)).is_err() {
+            return Err(Refusal::OutOfMemory);
+        }
+        Ok(free as Pcid)
+    }
+
+    /// Removes a space other than space 0, with its mappings and its entries.
+    pub fn remove(&mut self, pcid: Pcid)
+        requires { is_user_space self.old.map pcid ≡ true }
+        ensures { self.new ≡ record { map = maps.remove self.old.map pcid; prepared = None } }
+    {
+        self.slots[pcid as usize] = None;
+        self.prepared = None;
+    }
+
+    /// Sets the entry of a page that is mapped.
+    pub fn set_entry(&mut self, pcid: Pcid, page: PageNumber, entry: Entry)
+        requires { IsSome (place_at self.old.map pcid page) }
+        ensures { self.new ≡ record self.old { map = with_entry self.old.map pcid page entry } }
+    {
+        let Some(space) = &mut self.slots[pcid as usize] else {
+            unreachable!()
+        };
+        space.set_entry(page, entry);
+    }
+
+    /// Maps the pages of the range to the pages of a file from the place on, one after the other. After an error
+    /// nothing has changed.
+    ///
+    /// `Einval` if the range may not be mapped from that file page on; `Eacces` if writing is asked with read-only
+    /// access; `Overlap` if a page of the range is mapped already; `OutOfMemory` if memory is refused.
+    pub fn map(&mut self, pcid: Pcid, range: PageRange, place: Place) -> Result<(), Refusal>
+        requires { is_user_space self.old.map pcid ≡ true }
+        ensures mapped { OnOk result (self.new
+            ≡ record { map = with_mapping self.old.map pcid range place; prepared = None }) }
+        ensures allowed { OnOk result (add_refusal (space_at self.old.map pcid).places range place ≡ None) }
+        ensures refused { IfErr result
+            (λ why. why ≡ unwrap_or (add_refusal (space_at self.old.map pcid).places range place) OutOfMemory) }
+        ensures err { OnErr result (self.new ≡ self.old) }
+    {
+        let Some(space) = &mut self.slots[pcid as usize] else {
+            unreachable!()
+        };
+        space.map(range, place)?;
+        self.prepared = None;
+        Ok(())
+    }
+
+    /// Reserves the memory that one later `unmap` or `protect` of the pages of a range needs.
+    ///
+    /// `OutOfMemory` if an end of the range is within a mapping, which would be split there, and memory is refused.
+    /// Then nothing has changed.
+    pub fn prepare(&mut self, pcid: Pcid, range: PageRange) -> Result<(), Refusal>
+        requires space { is_user_space self.old.map pcid ≡ true }
+        requires pages { is_user_range range ≡ true }
+        ensures prepared { OnOk result (self.new ≡ record self.old { prepared = Some (pcid, range) }) }
+        ensures refused { IfErr result (λ why. why ≡ OutOfMemory) }
+        ensures splits { OnErr result (0 < splits (space_at self.old.map pcid).places range.first range.count) }
+        ensures err { OnErr result (self.new ≡ self.old) }
+    {
+        let Some(space) = &mut self.slots[pcid as usize] else {
+            unreachable!()
+        };
+        space.prepare(range)?;
+        self.prepared = Some((pcid, range));
+        Ok(())
+    }
+
+    /// Unmaps the pages of the range that was prepared, with their entries.
+    pub fn unmap(&mut self, pcid: Pcid, range: PageRange)
+        requires { self.old.prepared ≡ Some (pcid, range) }
+        ensures { self.new ≡ record { map = without_mapping self.old.map pcid range; prepared = None } }
+    {
+        let Some(space) = &mut self.slots[pcid as usize] else {
+            unreachable!()
+        };
+        space.unmap(range);
+        self.prepared = None;
+    }
+
+    /// Gives the rights to the pages of the range that was prepared. Without the right to write, their entries lose it.
+    pub fn protect(&mut self, pcid: Pcid, range: PageRange, rights: Rights)
+        requires prepared { self.old.prepared ≡ Some (pcid, range) }
+        requires allowed { protect_refusal (space_at self.old.map pcid).places range rights ≡ None }
+        ensures rights { SetsRights pcid range rights self.old.map self.new.map }
+        ensures used { self.new.prepared ≡ None }
+    {
+        let Some(space) = &mut self.slots[pcid as usize] else {
+            unreachable!()
+        };
+        space.protect(range, rights);
+        self.prepared = None;
+    }
+
+    /// Takes the right to write and the dirty bit from every entry of a noted frame, in every space: one whose number
+    /// is below the length of `noted`, with true at its place.
+    pub fn protect_frames(&mut self, noted: &[bool])
+        ensures entries { EditsEntries (λ pcid page entry. protected_where (is_marked noted.now) entry)
+            self.old.map self.new.map }
+        ensures same { self.new.prepared ≡ self.old.prepared }
+    {
+        protect_slots(&mut self.slots, noted);
+    }
+
+    /// Takes away every entry of a page that maps this page of a file, in every space.
+    pub fn clear_entries_of(&mut self, page: FilePage)
+        ensures entries { EditsEntries (without_entries_of page self.old.map) self.old.map self.new.map }
+        ensures same { self.new.prepared ≡ self.old.prepared }
+    {
+        clear_slots(&mut self.slots, page);
+    }
+}
+
+// Takes the right to write and the dirty bit from every entry of a noted frame.
+fn protect_slots<A: Allocator + Copy>(slots: &mut [Option<Space<A>>], noted: &[bool])
+    ensures { slots.new ≡ map (option_map (edited (λ s. frames_protected s.entries noted.now))) slots.old }
+{
+    for slot in slots.iter_mut() {
+        protect_slot(slot, noted);
+    }
+}
+
+fn protect_slot<A: Allocator + Copy>(slot: &mut Option<Space<A>>, noted: &[bool])
+    ensures { slot.new ≡ option_map (edited (λ s. frames_protected s.entries noted.now)) slot.old }
+{
+    if let Some(space) = slot {
+        space.protect_frames(noted);
+    }
+}
+
+// Takes away every entry of a page that maps this page of a file.
+fn clear_slots<A: Allocator + Copy>(slots: &mut [Option<Space<A>>], page: FilePage)
+    ensures { slots.new ≡ map (option_map (edited (λ s. without_entries s.places page s.entries))) slots.old }
+{
+    for slot in slots.iter_mut() {
+        clear_slot(slot, page);
+    }
+}
+
+fn clear_slot<A: Allocator + Copy>(slot: &mut Option<Space<A>>, page: FilePage)
+    ensures { slot.new ≡ option_map (edited (λ s. without_entries s.places page s.entries)) slot.old }
+{
+    if let Some(space) = slot {
+        space.clear_entries_of(page);
+    }
+}
+
+// Whether a place is in this page of a file.
+fn is_of(place: Option<Place>, page: FilePage) -> bool
+    ensures { result ≡ is_place_of page place }
+{
+    match place {
+        Some(place) => place.file == page.file && place.page == page.page,
+        None => false,
+    }
+}

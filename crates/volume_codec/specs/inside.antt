@@ -1,0 +1,3 @@
+-- What ties the private code of this crate to its definitions; no public contract names it.
+pub mod Reading
+pub mod Tables

@@ -1,0 +1,33 @@
+-- What blocks are read as: the numbers, names and entries at their places.
+use Rattle.std.specs.Prelude.{ℕ, zero, suc, not, ◌==◌, List, [], ◌∷◌, take, drop, take_while}
+use Rattle.byteorder.specs.Endian.{big_number}
+use Rattle.page_entry.specs.declared.refusal.Refusal.{Refusal}
+use Rattle.page_entry.specs.declared.refusal.Refusal.TheVariants.{Damaged, BadShape}
+use Rattle.volume_codec.specs.Files.{TableFile}
+
+-- the number in the first n bytes, the highest first (big-endian)
+unfoldable pub number_in : ℕ → List ℕ → ℕ
+number_in n bytes = big_number n bytes
+
+-- the name in the first 32 bytes: what stands before the first zero
+abbrev pub name_in : List ℕ → List ℕ
+name_in entry = take_while (λ b. not (b == 0)) (take 32 entry)
+
+-- the file of an entry
+abbrev pub file_in : List ℕ → TableFile
+file_in entry = record { name = name_in entry; capacity = number_in 8 (drop 32 entry) }
+
+-- the files of so many entries
+abbrev pub entries_in : ℕ → List ℕ → List TableFile
+entries_in zero entries = []
+entries_in (suc n) entries = file_in entries ∷ entries_in n (drop 48 entries)
+
+-- the numbers of 4 bytes, so many of them
+abbrev pub numbers_in : ℕ → List ℕ → List ℕ
+numbers_in zero bytes = []
+numbers_in (suc n) bytes = number_in 4 bytes ∷ numbers_in n (drop 4 bytes)
+
+-- a block whose table breaks the rules is damaged
+abbrev pub damage_of : Refusal → Refusal
+damage_of BadShape = Damaged
+damage_of e = e

@@ -1,0 +1,12 @@
+// A file that a volume is asked for.
+
+/// A file that a volume is asked for: its name, its length in bytes, and the number of bytes to which it may grow.
+#[derive(Clone, Copy, Debug)]
+pub struct FileSpec<'a> {
+    /// 1 to 32 printable ASCII characters, none of them a space.
+    pub name: &'a str,
+    /// In bytes, from 1. In these layouts it is the capacity.
+    pub length: u64,
+    /// In bytes, from 1.
+    pub capacity: u64,
+}

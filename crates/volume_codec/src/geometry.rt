@@ -1,0 +1,144 @@
+// Where a volume has its parts: block 0 is the super block, then come the journals, each a gate block, a descriptor block
+// and its record slots, and then the home blocks. A block is 4,096 bytes. No other place spells a block's number.
+ghost use Rattle.std.specs.Prelude.{◌≡◌, ◌<◌, ◌≤◌, ◌+◌};
+ghost use Rattle.volume_codec.specs.Layout.{IsGeometry, journals_of, gate_block as gate, descriptor_block as descriptor, record_block as record_slot, first_home as home, first_file_home as file_home, max_frames as frames};
+
+use crate::layout::Layout;
+use std::marker::Model;
+
+/// The first home block in a layout whose journals have so many record slots.
+fn first_home_block(layout: Layout, slots: u32) -> u32
+    requires { slots ≤ 1020 }
+    ensures { result ≡ home layout slots }
+{
+    1 + layout.journals() * (2 + slots)
+}
+
+/// The first home block of the files in a layout whose journals have so many record slots.
+pub(crate) fn first_file_home_block(layout: Layout, slots: u32) -> u32
+    requires { slots ≤ 1020 }
+    ensures value { result ≡ file_home layout slots }
+    ensures small { result < 4096 }
+{
+    first_home_block(layout, slots)
+}
+
+/// Where a volume has its parts. Journals, and the record slots of each, are counted from 0.
+#[derive(Clone, Copy, Debug)]
+pub struct Geometry {
+    layout: Layout,
+    slots: u32,
+    blocks: u32,
+}
+
+impl Model for Geometry {
+    ghost use Rattle.volume_codec.specs.Layout.{GeometryValue, IsGeometry};
+
+    ghost Value = { GeometryValue };
+
+    ghost view = { λ g. record { layout = g.layout; slots = g.slots; blocks = g.blocks } };
+
+    ghost invariant = { λ g. IsGeometry (record { layout = g.layout; slots = g.slots; blocks = g.blocks }) };
+
+    ghost inverse = { λ v. record { layout = v.layout; slots = v.slots; blocks = v.blocks } };
+}
+
+impl Geometry {
+    /// Where a volume of so many blocks has its parts.
+    pub(crate) fn new(layout: Layout, slots: u32, blocks: u32) -> Geometry
+        requires { IsGeometry (record { layout = layout; slots = slots; blocks = blocks }) }
+        ensures { result ≡ record { layout = layout; slots = slots; blocks = blocks } }
+    {
+        Geometry {
+            layout,
+            slots,
+            blocks,
+        }
+    }
+
+    /// The volume's layout.
+    pub fn layout(&self) -> Layout
+        ensures value { result ≡ self.now.layout }
+        ensures geometry { IsGeometry self.now }
+    {
+        self.layout
+    }
+
+    /// The number of record slots of each journal, 1 to 1,020.
+    pub fn slots(&self) -> u32
+        ensures value { result ≡ self.now.slots }
+        ensures geometry { IsGeometry self.now }
+    {
+        self.slots
+    }
+
+    /// The number of blocks of the volume, at most 2^32 - 1.
+    pub fn block_count(&self) -> u32
+        ensures value { result ≡ self.now.blocks }
+        ensures geometry { IsGeometry self.now }
+    {
+        self.blocks
+    }
+
+    /// The number of journals.
+    pub fn journals(&self) -> u32
+        ensures value { result ≡ journals_of self.now.layout }
+        ensures geometry { IsGeometry self.now }
+    {
+        self.layout.journals()
+    }
+
+    /// The block of a journal's gate, whose first byte opens and closes it.
+    pub fn gate_block(&self, journal: u32) -> u32
+        requires { journal < journals_of self.now.layout }
+        ensures value { result ≡ gate self.now.slots journal }
+        ensures low { result < home self.now.layout self.now.slots }
+        ensures geometry { IsGeometry self.now }
+    {
+        1 + journal * (2 + self.slots)
+    }
+
+    /// The block of a journal's descriptor.
+    pub fn descriptor_block(&self, journal: u32) -> u32
+        requires { journal < journals_of self.now.layout }
+        ensures value { result ≡ descriptor self.now.slots journal }
+        ensures low { result < home self.now.layout self.now.slots }
+        ensures geometry { IsGeometry self.now }
+    {
+        2 + journal * (2 + self.slots)
+    }
+
+    /// The block of a record slot of a journal.
+    pub fn record_block(&self, journal: u32, slot: u32) -> u32
+        requires there { journal < journals_of self.now.layout }
+        requires within { slot < self.now.slots }
+        ensures value { result ≡ record_slot self.now.slots journal slot }
+        ensures low { result < home self.now.layout self.now.slots }
+        ensures geometry { IsGeometry self.now }
+    {
+        3 + journal * (2 + self.slots) + slot
+    }
+
+    /// The first home block: the first that a descriptor may name.
+    pub fn first_home(&self) -> u32
+        ensures value { result ≡ home self.now.layout self.now.slots }
+        ensures geometry { IsGeometry self.now }
+    {
+        first_home_block(self.layout, self.slots)
+    }
+
+    /// The first home block of the files.
+    pub fn first_file_home(&self) -> u32
+        ensures value { result ≡ file_home self.now.layout self.now.slots }
+        ensures geometry { IsGeometry self.now }
+    {
+        first_file_home_block(self.layout, self.slots)
+    }
+
+    /// The greatest number of frames of a machine over the volume: a batch has a record slot for a page of each.
+    pub fn max_frames(&self) -> u32
+        ensures { result ≡ frames self.now.layout self.now.slots }
+    {
+        self.slots
+    }
+}
