@@ -1,0 +1,71 @@
+-- Where the bytes of a file lie on a device.
+use Rattle.std.proofs.Common.{◌≡◌, ◌<◌, ◌≤◌, ℕ, zero, suc, ◌+◌, ◌-◌, ◌*◌, List, [], ◌∷◌, length, take, drop, map, slice_get, slice_index, slice_index_or, slice_range, Some, refl, sym, ◌∙◌, ap, subst, arith}
+use Rattle.std.proofs.lemmas.List.{drop-drop, take-take}
+use Rattle.volume_codec.specs.Files.{File, TableFile}
+use Rattle.volume_codec.specs.Layout.{block_at}
+use Rattle.volume_codec.specs.Super.{SuperValue, pages_of, first_home_of, block_count, capacities_in}
+use Rattle.volume_codec.specs.Recovery.{lengths_in, files_in, blocks_from}
+use Rattle.volume_codec.proofs.Places.{first_home_of-next, first_home_of-le}
+use Rattle.volume_codec.proofs.Recovered.{file_in-at, blocks_from-device}
+use Rattle.recovery.specs.Volume.{VolumeState, AreLengths, files_of, bytes_of}
+use Rattle.recovery.proofs.BlockRanges.{range-take}
+
+-- the element at a place
+pub some_at : {X : Type 0} (xs : List X) (i : ℕ) → i < length xs → (x : X) × (slice_get xs i ≡ Some x)
+some_at [] i h = absurd (omega arith)
+some_at (x ∷ xs) zero h = (x, refl)
+some_at (x ∷ xs) (suc i) h = some_at xs i (omega arith)
+
+index_at : (xs : List ℕ) (i : ℕ) → i < length xs → slice_get xs i ≡ Some (slice_index xs i)
+index_at [] i h = absurd (omega arith)
+index_at (x ∷ xs) zero h = refl
+index_at (x ∷ xs) (suc i) h = index_at xs i (omega arith)
+
+capacity_of : (fs : List TableFile) (i : ℕ) (f : TableFile) → slice_get fs i ≡ Some f → slice_index (map (λ (f : TableFile). f.capacity) fs) i ≡ f.capacity
+capacity_of [] i f e = cc
+capacity_of (g ∷ fs) zero f e = let same : g ≡ f = cc in ap (λ (x : TableFile). x.capacity) same
+capacity_of (g ∷ fs) (suc i) f e = capacity_of fs i f e
+
+bytes_at : (fs : List File) (i : ℕ) (f : File) → slice_get fs i ≡ Some f → bytes_of fs i ≡ f.bytes
+bytes_at [] i f e = cc
+bytes_at (g ∷ fs) zero f e = let same : g ≡ f = cc in ap (λ (x : File). x.bytes) same
+bytes_at (g ∷ fs) (suc i) f e = bytes_at fs i f e
+
+-- what is asked of one value is asked of an equal one
+pub asked_within : {D : Type 0} (v w : VolumeState D) (file at n : ℕ) → v ≡ w → file < length w.table.files → at + n ≤ slice_index w.lengths file
+    → (file < length v.table.files) × (at + n ≤ slice_index v.lengths file)
+asked_within {D} v w file at n same there within =
+    let P : VolumeState D → Type 0 = λ u. (file < length u.table.files) × (at + n ≤ slice_index u.lengths file) in
+    subst P (sym same) (there, within)
+
+module _ (table : SuperValue) (lengths : List ℕ) (are : AreLengths table lengths) (file at n : ℕ) (there : file < length table.files) (within : at + n ≤ slice_index lengths file) where
+  -- a part of a file lies within the volume
+  pub file_room : (size : ℕ) → 4096 * block_count table ≤ size → 4096 * first_home_of table file + at + n ≤ size
+  file_room size long =
+      let f = some_at table.files file there in
+      let le = are.within file (slice_index lengths file) f.0 f.1 (index_at lengths file (omega (arith, are.count))) in
+      let next = first_home_of-next table file there in
+      let last = first_home_of-le table (file + 1) in
+      omega (arith, next, last, le, capacity_of table.files file f.0 f.1)
+
+  -- a read at the file's first home block gives a part of it
+  pub read_part : (bytes : List ℕ) (home : ℕ) → home ≡ first_home_of table file → lengths ≡ lengths_in table (block_at bytes)
+      → slice_range bytes (4096 * home + at) (4096 * home + at + n) ≡ slice_range (bytes_of (files_of table bytes) file) at (at + n)
+  read_part bytes home is same =
+      let size = slice_index lengths file in
+      let f = some_at table.files file there in
+      let at_length = index_at lengths file (omega (arith, are.count)) in
+      let le = are.within file size f.0 f.1 at_length in
+      let found = file_in-at table (block_at bytes) file size f.0 f.1 (ap (λ (l : List ℕ). slice_get l file) (sym same) ∙ at_length) in
+      let part : 4096 * home + at + n - (4096 * home + at) ≡ n = omega arith in
+      let rest : at + n - at ≡ n = omega arith in
+      let whole : bytes_of (files_of table bytes) file ≡ take size (drop (4096 * home) bytes) =
+      bytes_at (files_of table bytes) file _ found
+      ∙ ap (take size) (blocks_from-device bytes (first_home_of table file) (pages_of f.0.capacity))
+      ∙ take-take size (4096 * pages_of f.0.capacity) (drop (4096 * first_home_of table file) bytes) (omega (arith, le))
+      ∙ ap (λ h. take size (drop (4096 * h) bytes)) (sym is) in
+      ap (λ k. take k (drop (4096 * home + at) bytes)) part
+      ∙ ap (take n) (sym (drop-drop at (4096 * home) bytes))
+      ∙ sym (range-take at n size (drop (4096 * home) bytes) within)
+      ∙ ap (λ k. take k (drop at (take size (drop (4096 * home) bytes)))) (sym rest)
+      ∙ ap (λ (l : List ℕ). slice_range l at (at + n)) (sym whole)

@@ -1,0 +1,133 @@
+-- Reading the open journals one by one, and putting them in the order of their marks.
+use Rattle.std.proofs.Common.{◌≡◌, ◌≢◌, ◌<◌, ◌≤◌, ◌⊎◌, inl, inr, ℕ, zero, suc, ◌+◌, Bool, true, false, ◌==◌, ◌||◌, List, [], ◌∷◌, ◌++◌, length, refl, sym, ◌∙◌, ap, subst, arith}
+use Rattle.std.specs.List.{AllByRecursion}
+use Rattle.std.proofs.lemmas.Bool.{cases_eq, eq-eqb}
+use Rattle.page_entry.specs.declared.refusal.Refusal.{Refusal}
+use Rattle.page_entry.specs.declared.refusal.Refusal.TheVariants.{Device, OutOfMemory, Damaged}
+use Rattle.volume_codec.specs.Layout.{GeometryValue, IsGeometry, journals_of, descriptor_block, block_at}
+use Rattle.volume_codec.specs.Descriptor.{IsDescriptor}
+use Rattle.volume_codec.specs.Recovery.{Batch, IsOpenBatch, IsOpen, AreFalling, has_journal, AreOpen}
+use Rattle.volume_codec.proofs.Batches.{IsAmong, batch_of, each_among, among_open, falling_among}
+use Rattle.recovery.specs.inside.Reading.{AreRising, AreRead, RefusesJournal, RefusesJournals, IsOrdered, HaveOneMark}
+
+-- what holds of each and of one more
+pub each_push : {X : Type 0} (P : X → Type 0) (xs : List X) (x : X) → AllByRecursion P xs → P x → AllByRecursion P (xs ++ x ∷ [])
+each_push P [] x each here = (here, tt)
+each_push P (y ∷ xs) x each here = (each.0, each_push P xs x each.1 here)
+
+pub each_weaker : {X : Type 0} (P Q : X → Type 0) (xs : List X) → ((x : X) → P x → Q x) → AllByRecursion P xs → AllByRecursion Q xs
+each_weaker P Q [] h each = tt
+each_weaker P Q (x ∷ xs) h each = (h x each.0, each_weaker P Q xs h each.1)
+
+or_true : (a b : Bool) → b ≡ true → a || b ≡ true
+or_true true b e = refl
+or_true false b e = e
+
+-- a journal that has a batch still has one
+has_journal-push : (batches : List Batch) (batch : Batch) (j : ℕ) → has_journal batches j ≡ true → has_journal (batches ++ batch ∷ []) j ≡ true
+has_journal-push [] batch j e = cc
+has_journal-push (b ∷ bs) batch j e = by (b.journal == j) e (has_journal-push bs batch j)
+  where
+    by : (t : Bool) → t || has_journal bs j ≡ true → (has_journal bs j ≡ true → has_journal (bs ++ batch ∷ []) j ≡ true) → t || has_journal (bs ++ batch ∷ []) j ≡ true
+    by true e rest = refl
+    by false e rest = rest e
+
+has_journal-last : (batches : List Batch) (batch : Batch) (j : ℕ) → batch.journal ≡ j → has_journal (batches ++ batch ∷ []) j ≡ true
+has_journal-last [] batch j e = let t = eq-eqb batch.journal j e in cc
+has_journal-last (b ∷ bs) batch j e = or_true (b.journal == j) _ (has_journal-last bs batch j e)
+
+rising_push : (batches : List Batch) (batch : Batch) → AreRising batches → AllByRecursion (λ b. b.journal < batch.journal) batches → AreRising (batches ++ batch ∷ [])
+rising_push [] batch rising low = (tt, tt)
+rising_push (b ∷ bs) batch rising low = (each_push (λ other. b.journal < other.journal) bs batch rising.0 low.0, rising_push bs batch rising.1 low.1)
+
+length_more : {X : Type 0} (xs : List X) (x : X) → length (xs ++ x ∷ []) ≡ length xs + 1
+length_more [] x = refl
+length_more (y ∷ xs) x = omega (arith, length_more xs x)
+
+-- no journal is read yet
+pub read_none : (g : GeometryValue) (bytes : List ℕ) → AreRead g bytes 0 []
+read_none g bytes = record { each = tt; low = tt; all = λ j h. absurd (omega arith); few = omega arith; rising = tt }
+
+-- the next journal is closed
+pub read_closed : (g : GeometryValue) (bytes : List ℕ) (n : ℕ) (batches : List Batch) → AreRead g bytes n batches → (IsOpen bytes g.slots n → ⊥) → AreRead g bytes (n + 1) batches
+read_closed g bytes n batches are shut = record {
+  each = are.each;
+  low = each_weaker (λ b. b.journal < n) (λ b. b.journal < n + 1) batches (λ b h. omega arith) are.low;
+  all = λ j h o. elim (cases_eq j n) [
+    | inl same ↦ absurd (let P : ℕ → Type 0 = λ k. IsOpen bytes g.slots k in shut (subst P same o))
+    | inr other ↦ are.all j (omega arith) o
+  ];
+  few = omega (arith, are.few);
+  rising = are.rising;
+}
+
+-- the next journal is open
+pub read_open : (g : GeometryValue) (bytes : List ℕ) (n : ℕ) (batches : List Batch) (batch : Batch) → AreRead g bytes n batches → IsOpenBatch g bytes batch → batch.journal ≡ n → AreRead g bytes (n + 1) (batches ++ batch ∷ [])
+read_open g bytes n batches batch are is at =
+    let P : ℕ → Type 0 = λ k. AllByRecursion (λ (b : Batch). b.journal < k) batches in
+    record {
+      each = each_push (IsOpenBatch g bytes) batches batch are.each is;
+      low = each_push (λ b. b.journal < n + 1) batches batch (each_weaker (λ b. b.journal < n) (λ b. b.journal < n + 1) batches (λ b h. omega arith) are.low) (omega arith);
+      all = λ j h o. elim (cases_eq j n) [
+        | inl same ↦ has_journal-last batches batch j (at ∙ sym same)
+        | inr other ↦ has_journal-push batches batch j (are.all j (omega arith) o)
+      ];
+      few = omega (arith, are.few, length_more batches batch);
+      rising = rising_push batches batch are.rising (subst P (sym at) are.low);
+    }
+
+-- the journals in the order of their marks are the open batches
+pub ordered_open : (g : GeometryValue) (bytes : List ℕ) (old new : List Batch) → AreRead g bytes (journals_of g.layout) old → IsOrdered old new → AreFalling new → AreOpen g new bytes
+ordered_open g bytes old new are (inl same) falling =
+    let P : List Batch → Type 0 = λ batches. AllByRecursion (IsOpenBatch g bytes) batches in
+    record {
+      each = subst P (sym same) are.each;
+      all = λ j there gate. ap (λ (batches : List Batch). has_journal batches j) same ∙ are.all j there gate;
+      falling = falling;
+    }
+ordered_open g bytes old new are (inr swapped) falling =
+    let x = swapped.0 in
+    let y = swapped.1 in
+    let P : List Batch → Type 0 = λ batches. AllByRecursion (IsOpenBatch g bytes) batches in
+    let each = subst P swapped.2 are.each in
+    record {
+      each = subst P (sym swapped.3) (each.1.0, (each.0, tt));
+      all = λ j there gate. ap (λ (batches : List Batch). has_journal batches j) swapped.3
+          ∙ either (y.journal == j) (x.journal == j) (ap (λ (batches : List Batch). has_journal batches j) (sym swapped.2) ∙ are.all j there gate);
+      falling = falling;
+    }
+  where
+    either : (a b : Bool) → b || (a || false) ≡ true → a || (b || false) ≡ true
+    either true b e = refl
+    either false true e = refl
+    either false false e = e
+
+-- of two batches among falling ones with one mark each is the other
+falling_apart : (batches : List Batch) (x y : Batch) → AreFalling batches → IsAmong x batches → IsAmong y batches → x.mark ≡ y.mark → x.journal ≡ y.journal
+falling_apart [] x y falls h k same = absurd h
+falling_apart (b ∷ bs) x y falls (inl e) (inl f) same = ap (λ (z : Batch). z.journal) (sym e ∙ f)
+falling_apart (b ∷ bs) x y falls (inl e) (inr k) same = let m = falling_among b y bs falls k in let n = ap (λ (z : Batch). z.mark) e in absurd (omega arith)
+falling_apart (b ∷ bs) x y falls (inr h) (inl f) same = let m = falling_among b x bs falls h in let n = ap (λ (z : Batch). z.mark) f in absurd (omega arith)
+falling_apart (b ∷ bs) x y falls (inr h) (inr k) same = falling_apart bs x y falls.1 h k same
+
+-- no list of open batches has two with one mark
+pub one_mark_refused : (g : GeometryValue) (bytes : List ℕ) (n : ℕ) (found : List Batch) → IsGeometry g → AreRead g bytes n found → HaveOneMark found → (batches : List Batch) → AreOpen g batches bytes → ⊥
+one_mark_refused g bytes n [] is are same batches o = same
+one_mark_refused g bytes n (x ∷ []) is are same batches o = same
+one_mark_refused g bytes n (x ∷ y ∷ []) is are same batches o =
+    let a = among_open g batches bytes x is o are.each.0 in
+    let b = among_open g batches bytes y is o are.each.1.0 in
+    let j = falling_apart batches x y o.falling a b same in
+    omega (arith, are.rising.0.0, j)
+one_mark_refused g bytes n (x ∷ y ∷ z ∷ found) is are same batches o = same
+
+-- the descriptor of an open journal is refused
+pub refuses_read : (g : GeometryValue) (bytes : List ℕ) (j : ℕ) (e : Refusal) → j < journals_of g.layout → IsOpen bytes g.slots j → RefusesJournal g (block_at bytes (descriptor_block g.slots j)) e → RefusesJournals g bytes e
+refuses_read g bytes j Damaged there gate refuses = λ batches o.
+    let b = batch_of batches j (o.all j there gate) in
+    let is = each_among (IsOpenBatch g bytes) b.0 batches o.each b.1 in
+    let P : ℕ → Type 0 = λ k. IsDescriptor g (record { mark = b.0.mark; homes = b.0.homes }) (block_at bytes (descriptor_block g.slots k)) in
+    refuses (record { mark = b.0.mark; homes = b.0.homes }) (subst P b.2 is.descriptor)
+refuses_read g bytes j OutOfMemory there gate refuses = tt
+refuses_read g bytes j Device there gate refuses = tt
+refuses_read g bytes j _ there gate refuses = absurd refuses

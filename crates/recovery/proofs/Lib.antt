@@ -1,0 +1,16 @@
+pub mod BlockRanges
+pub mod Erased
+pub mod Formatted
+pub mod FileBytes
+pub mod Judged
+pub mod Kept
+pub mod FoundJournals
+pub mod Regions
+pub mod Applied
+pub mod Carried
+pub mod Partly
+pub mod Steps
+pub mod UnderWay
+pub mod Opened
+pub mod Reopened
+pub mod Blank

@@ -1,0 +1,11 @@
+use Rattle.std.proofs.Common.{◌≡◌, length}
+use Rattle.recovery.specs.inside.Erasing.{AreClosed}
+use Rattle.recovery.proofs.formatting.close_gates.Given as goal
+
+abbrev pub invariant-loop-journal : goal.invariant-loop-journal
+invariant-loop-journal g l = record {
+  len : length (g.D.Device.seen l.device) ≡ length (g.D.Device.seen l.initial.device);
+  closed : g.D.Device.is_honest l.initial.device → g.D.Device.is_honest l.device × AreClosed l.geometry.slots l.journal (g.D.Device.seen l.initial.device) (g.D.Device.seen l.device);
+  honest : g.D.Device.is_honest l.device → g.D.Device.is_honest l.initial.device;
+  faults : g.D.Device.faults_met l.device ≡ g.D.Device.faults_met l.initial.device;
+}

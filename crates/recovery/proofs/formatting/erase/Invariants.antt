@@ -1,0 +1,16 @@
+use Rattle.std.proofs.Common.{◌≡◌, ◌≤◌, ◌-◌, ℕ, length}
+use Rattle.recovery.specs.inside.Erasing.{IsErased}
+use Rattle.recovery.proofs.formatting.erase.Given as goal
+
+abbrev pub invariant-loop-at : goal.invariant-loop-at
+invariant-loop-at g l = record {
+  low : l.from ≤ l.at;
+  high : l.at ≤ l.to;
+  len : length (g.D.Device.seen l.device) ≡ length (g.D.Device.seen l.initial.device);
+  erased : g.D.Device.is_honest l.initial.device → g.D.Device.is_honest l.device × IsErased l.from l.at (g.D.Device.seen l.initial.device) (g.D.Device.seen l.device);
+  honest : g.D.Device.is_honest l.device → g.D.Device.is_honest l.initial.device;
+  faults : g.D.Device.faults_met l.device ≡ g.D.Device.faults_met l.initial.device;
+}
+
+abbrev pub decreases-loop-at : goal.decreases-loop-at
+decreases-loop-at g l = l.to - l.at

@@ -1,0 +1,22 @@
+use Rattle.std.proofs.Common.{◌≡◌, inl, ap, sym, subst, ◌∙◌, arith}
+use Rattle.std.proofs.lemmas.Result.{MatchResult-weaker}
+use Rattle.page_entry.specs.declared.refusal.Refusal.{Refusal}
+use Rattle.page_entry.specs.declared.refusal.Refusal.TheVariants.{Device}
+use Rattle.volume_codec.specs.Files.{asked_by}
+use Rattle.volume_codec.specs.Super.{SuperValue, block_count}
+use Rattle.volume_codec.proofs.TableLemmas.{one_asked}
+use Rattle.recovery.specs.Format.{RefusesFormat}
+use Rattle.recovery.proofs.formatting.format_as.Goals as goal
+
+pub returns-clause-refused : goal.returns-clause-refused
+returns-clause-refused g c =
+    let counted = c.in_ok-blocks.ensures.ok in
+    let same = one_asked c.args.layout (asked_by c.args.files.now) c.args.slots counted.0 c.in_ok-table.table counted.1 c.in_ok-table.ensures.ok in
+    let blocks = counted.2 ∙ ap (λ (v : SuperValue). block_count v) same in
+    MatchResult-weaker c.write_table.result c.write_table.ensures.fault (λ x t. t)
+    (λ (e : Refusal) (is : e ≡ Device).
+    let P : Refusal → Type 0 = RefusesFormat c.args.layout (asked_by c.args.files.now) c.args.slots _ in
+    subst P (sym is) (c.in_ok-table.table, record { asked = c.in_ok-table.ensures.ok; long = omega (arith, blocks) }))
+
+pub returns-clause-unchanged : goal.returns-clause-unchanged
+returns-clause-unchanged g c = MatchResult-weaker c.write_table.result c.write_table.ensures.fault (λ x t. t) (λ (e : Refusal) (is : e ≡ Device). inl is)

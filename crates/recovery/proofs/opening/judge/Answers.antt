@@ -1,0 +1,69 @@
+use Rattle.std.proofs.Common.{◌≡◌, ◌≤◌, ◌<◌, ◌+◌, ◌*◌, ℕ, List, Ok, Err, length, ap, sym, subst, ◌∙◌, arith}
+use Rattle.std.proofs.lemmas.Result.{err_from_is_err_and}
+use Rattle.page_entry.specs.declared.refusal.Refusal.{Refusal}
+use Rattle.volume_codec.specs.Layout.{GeometryValue, journals_of}
+use Rattle.volume_codec.specs.Super.{geometry_of}
+use Rattle.volume_codec.specs.Recovery.{AreOpen}
+use Rattle.recovery.specs.inside.Reading.{batches_of, RefusesJournals}
+use Rattle.recovery.proofs.Judged.{refuses_journals}
+use Rattle.recovery.proofs.Kept.{kept_then, kept_ok, kept_err, unwritten_then, synced_after}
+use Rattle.recovery.proofs.opening.judge.Goals as goal
+
+pub returns-in_err-sync-clause-unwritten : goal.returns-in_err-sync-clause-unwritten
+returns-in_err-sync-clause-unwritten g c = λ honest. unwritten_then (c.read_table.ensures.unwritten honest) (c.sync.ensures.unwritten (c.in_ok-table.ensures.kept.honest.1 honest))
+
+pub returns-in_err-sync-clause-kept : goal.returns-in_err-sync-clause-kept
+returns-in_err-sync-clause-kept g c =
+    let p = err_from_is_err_and c.from_residual-in_err-sync.result c.from_residual-in_err-sync.ensures.1 in
+    kept_then c.in_ok-table.ensures.kept (kept_err c.from_residual-in_err-sync.result (p.1 ∙ ap Err p.2) c.in_err-sync.ensures.kept)
+
+pub returns-in_err-found-clause-refused : goal.returns-in_err-found-clause-refused
+returns-in_err-found-clause-refused g c = λ honest.
+    let p = err_from_is_err_and c.from_residual-in_err-found.result c.from_residual-in_err-found.ensures.1 in
+    let honest_1 = c.in_ok-table.ensures.kept.honest.1 honest in
+    let same = (unwritten_then (c.read_table.ensures.unwritten honest) (c.sync.ensures.unwritten honest_1)).same in
+    let P : List ℕ → Type 0 = λ bytes. RefusesJournals c.geometry.result bytes c.in_err-found.field-0.0 in
+    let Q : GeometryValue → Type 0 = λ h. RefusesJournals h (g.D.Device.seen c.args.device.now) c.in_err-found.field-0.0 in
+    rw (p.1, p.2)
+    (refuses_journals c.in_ok-table.table _ _ (c.in_ok-table.ensures.table honest) (omega (arith, c.in_ok-table.ensures.long))
+    (subst Q c.geometry.ensures.value (subst P same (c.in_err-found.ensures.refused (c.in_ok-sync.ensures.kept.honest.1 honest_1)))))
+
+pub returns-in_err-found-clause-unwritten : goal.returns-in_err-found-clause-unwritten
+returns-in_err-found-clause-unwritten g c = λ honest.
+    let honest_1 = c.in_ok-table.ensures.kept.honest.1 honest in
+    unwritten_then (unwritten_then (c.read_table.ensures.unwritten honest) (c.sync.ensures.unwritten honest_1)) (c.read_open.ensures.unwritten (c.in_ok-sync.ensures.kept.honest.1 honest_1))
+
+pub returns-in_err-found-clause-kept : goal.returns-in_err-found-clause-kept
+returns-in_err-found-clause-kept g c =
+    let p = err_from_is_err_and c.from_residual-in_err-found.result c.from_residual-in_err-found.ensures.1 in
+    kept_then (kept_then c.in_ok-table.ensures.kept c.in_ok-sync.ensures.kept) (kept_err c.from_residual-in_err-found.result (p.1 ∙ ap Err p.2) c.in_err-found.ensures.kept)
+
+pub returns-clause-volume : goal.returns-clause-volume
+returns-clause-volume g c = λ honest.
+    let honest_1 = c.in_ok-table.ensures.kept.honest.1 honest in
+    let same = (unwritten_then (c.read_table.ensures.unwritten honest) (c.sync.ensures.unwritten honest_1)).same in
+    let P : List ℕ → Type 0 = λ bytes. AreOpen c.geometry.result (batches_of c.in_ok-found.found.items) bytes in
+    let Q : GeometryValue → Type 0 = λ h. AreOpen h (batches_of c.in_ok-found.found.items) (g.D.Device.seen c.args.device.now) in
+    record {
+      super_block = c.in_ok-table.ensures.table honest;
+      long = c.in_ok-table.ensures.long;
+      journals = subst Q c.geometry.ensures.value (subst P same (c.in_ok-found.ensures.found (c.in_ok-sync.ensures.kept.honest.1 honest_1)));
+    }
+
+pub returns-clause-synced : goal.returns-clause-synced
+returns-clause-synced g c = λ honest.
+    let honest_1 = c.in_ok-table.ensures.kept.honest.1 honest in
+    synced_after {disk = g.D.Device} (c.read_open.ensures.unwritten (c.in_ok-sync.ensures.kept.honest.1 honest_1)) (c.in_ok-sync.ensures.durable honest_1)
+
+pub returns-clause-unwritten : goal.returns-clause-unwritten
+returns-clause-unwritten g c = λ honest.
+    let honest_1 = c.in_ok-table.ensures.kept.honest.1 honest in
+    unwritten_then (unwritten_then (c.read_table.ensures.unwritten honest) (c.sync.ensures.unwritten honest_1)) (c.read_open.ensures.unwritten (c.in_ok-sync.ensures.kept.honest.1 honest_1))
+
+pub returns-clause-kept : goal.returns-clause-kept
+returns-clause-kept g c = kept_then (kept_then c.in_ok-table.ensures.kept c.in_ok-sync.ensures.kept) (kept_ok _ c.in_ok-found.ensures.kept)
+
+pub returns-clause-calls : goal.returns-clause-calls
+returns-clause-calls g c = λ small.
+    let journals = ap (λ (h : GeometryValue). journals_of h.layout) c.geometry.ensures.value in
+    omega (arith, journals, c.in_ok-table.ensures.calls, c.sync.ensures.calls, c.in_ok-found.ensures.calls)

@@ -1,0 +1,42 @@
+-- What formatting makes of a device.
+use Rattle.std.specs.Prelude.{◌≡◌, ℕ, ◌*◌, ◌<◌, ◌≤◌, List, length, map, replicate, slice_index}
+use Rattle.device.specs.Device.{Only}
+use Rattle.device.specs.declared.device.Device.{Ghosts}
+use Rattle.page_entry.specs.declared.refusal.Refusal.{Refusal}
+use Rattle.page_entry.specs.declared.refusal.Refusal.TheVariants.{Device, OutOfMemory, BadShape}
+use Rattle.volume_codec.specs.Files.{File, AskedFile}
+use Rattle.volume_codec.specs.Layout.{IsHome, journals_of, gate_block, block_at}
+use Rattle.volume_codec.specs.Text.{zeros}
+use Rattle.volume_codec.specs.Super.{SuperValue, IsSuper, IsAsked, geometry_of, block_count}
+
+-- the files that are asked for, with all their bytes zero
+abbrev pub zero_files : List AskedFile → List File
+zero_files files = map (λ f. record { name = f.name; bytes = replicate f.length 0; capacity = f.capacity }) files
+
+-- a volume as formatting makes it: its table in block 0, each gate byte 0, each home block zeros
+pub record IsBlank (table : SuperValue) (bytes : List ℕ) : Type 0 where
+  pub super_block : IsSuper table (block_at bytes 0)
+  pub long : 4096 * block_count table ≤ length bytes
+  pub gates : (j : ℕ) → j < journals_of table.layout → slice_index bytes (4096 * gate_block table.slots j) ≡ 0
+  pub homes : (b : ℕ) → IsHome (geometry_of table) b → block_at bytes b ≡ zeros 4096
+
+-- the table that is asked for, and a device of so many bytes is long enough for it
+pub record HasShape (layout : ℕ) (files : List AskedFile) (slots bytes : ℕ) (table : SuperValue) : Type 0 where
+  pub asked : IsAsked layout files slots table
+  pub long : 4096 * block_count table ≤ bytes
+
+-- an honest device was formatted: it is a volume with the table that was asked for and nothing in its files, all of it is
+-- synced, and what lies past the volume is as before
+pub record HasFormatted {D : Type 0} (disk : Ghosts D) (layout : ℕ) (files : List AskedFile) (slots : ℕ) (old new : D) : Type 0 where
+  pub table : SuperValue
+  pub shape : HasShape layout files slots (length (disk.seen old)) table
+  pub blank : IsBlank table (disk.seen new)
+  pub synced : Only (disk.may_leave new) (disk.seen new)
+  pub past : (i : ℕ) → 4096 * block_count table ≤ i → slice_index (disk.seen new) i ≡ slice_index (disk.seen old) i
+
+-- why formatting is refused: by the shape alone, or in spite of it
+abbrev pub RefusesFormat : ℕ → List AskedFile → ℕ → ℕ → Refusal → Type 0
+RefusesFormat layout files slots bytes BadShape = (table : SuperValue) → HasShape layout files slots bytes table → ⊥
+RefusesFormat layout files slots bytes OutOfMemory = (table : SuperValue) × HasShape layout files slots bytes table
+RefusesFormat layout files slots bytes Device = (table : SuperValue) × HasShape layout files slots bytes table
+RefusesFormat layout files slots bytes _ = ⊥

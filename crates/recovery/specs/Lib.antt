@@ -1,0 +1,6 @@
+pub mod Counts
+pub mod Volume
+pub mod Format
+pub mod Opening
+pub mod Openings
+pub mod inside

@@ -1,0 +1,15 @@
+-- What erasing does to a device's bytes.
+use Rattle.std.specs.Prelude.{◌≡◌, ◌≢◌, ◌⊎◌, ℕ, ◌*◌, ◌<◌, ◌≤◌, List, length, slice_index}
+use Rattle.volume_codec.specs.Layout.{gate_block}
+
+-- as many bytes, zeros from one place to before another, and the same elsewhere
+pub record IsErased (from to : ℕ) (old new : List ℕ) : Type 0 where
+  pub same_length : length new ≡ length old
+  pub zero : (i : ℕ) → from ≤ i → i < to → slice_index new i ≡ 0
+  pub others : (i : ℕ) → (i < from) ⊎ (to ≤ i) → slice_index new i ≡ slice_index old i
+
+-- as many bytes, 0 in the gate bytes of the first n journals, and the same elsewhere
+pub record AreClosed (slots n : ℕ) (old new : List ℕ) : Type 0 where
+  pub same_length : length new ≡ length old
+  pub gates : (j : ℕ) → j < n → slice_index new (4096 * gate_block slots j) ≡ 0
+  pub others : (i : ℕ) → ((j : ℕ) → j < n → i ≢ 4096 * gate_block slots j) → slice_index new i ≡ slice_index old i

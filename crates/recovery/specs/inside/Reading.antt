@@ -1,0 +1,61 @@
+-- How the code's list of open journals reads as batches, and what reading them finds.
+use Rattle.std.specs.Prelude.{◌≡◌, ◌⊎◌, ◌+◌, ◌*◌, ◌<◌, ◌≤◌, ℕ, true, List, [], ◌∷◌, map, length, sum_by}
+use Rattle.std.specs.List.{AllByRecursion}
+use Rattle.page_entry.specs.declared.refusal.Refusal.{Refusal}
+use Rattle.page_entry.specs.declared.refusal.Refusal.TheVariants.{Device, OutOfMemory, Damaged}
+use Rattle.volume_codec.specs.Layout.{GeometryValue, journals_of}
+use Rattle.volume_codec.specs.Descriptor.{DescriptorValue, AreHomes, IsDescriptor}
+use Rattle.volume_codec.specs.Recovery.{Batch, IsOpenBatch, IsOpen, has_journal, AreOpen}
+use Rattle.recovery.specs.declared.opening.OpenJournal.{OpenJournal}
+
+-- the batch of an open journal
+abbrev pub batch_of : {Z : Type 0} → OpenJournal Z → Batch
+batch_of found = record { journal = found.journal; mark = found.descriptor.mark; homes = found.descriptor.homes }
+
+-- their batches
+abbrev pub batches_of : {Z : Type 0} → List (OpenJournal Z) → List Batch
+batches_of found = map (λ journal. batch_of journal) found
+
+-- a batch that can be carried out in a volume of this geometry
+abbrev pub CanCarry : GeometryValue → Batch → Type 0
+CanCarry g batch = (batch.journal < journals_of g.layout) × AreHomes g batch.homes
+
+-- how many device calls carry out these batches
+abbrev pub carry_calls : List Batch → ℕ
+carry_calls batches = sum_by (λ batch. 2 * length batch.homes + 3) batches
+
+-- each journal comes after those before it in the list
+abbrev pub AreRising : List Batch → Type 0
+AreRising [] = Unit {0}
+AreRising (batch ∷ batches) = AllByRecursion (λ other. batch.journal < other.journal) batches × AreRising batches
+
+-- these are the batches of the open journals below this one, in the order of their journals
+pub record AreRead (g : GeometryValue) (bytes : List ℕ) (below : ℕ) (batches : List Batch) : Type 0 where
+  pub each : AllByRecursion (IsOpenBatch g bytes) batches
+  pub low : AllByRecursion (λ batch. batch.journal < below) batches
+  pub all : (j : ℕ) → j < below → IsOpen bytes g.slots j → has_journal batches j ≡ true
+  pub few : length batches ≤ below
+  pub rising : AreRising batches
+
+-- an open journal is damaged where its descriptor says no value
+abbrev pub RefusesJournal : GeometryValue → List ℕ → Refusal → Type 0
+RefusesJournal g block Damaged = (d : DescriptorValue) → IsDescriptor g d block → ⊥
+RefusesJournal g block Device = Unit {0}
+RefusesJournal g block OutOfMemory = Unit {0}
+RefusesJournal g block _ = ⊥
+
+-- journals are damaged where there is no list of the open batches
+abbrev pub RefusesJournals : GeometryValue → List ℕ → Refusal → Type 0
+RefusesJournals g bytes Damaged = (batches : List Batch) → AreOpen g batches bytes → ⊥
+RefusesJournals g bytes Device = Unit {0}
+RefusesJournals g bytes OutOfMemory = Unit {0}
+RefusesJournals g bytes _ = ⊥
+
+-- a list of two in the other order, or the same list
+abbrev pub IsOrdered : List Batch → List Batch → Type 0
+IsOrdered old new = (new ≡ old) ⊎ ((x : Batch) × (y : Batch) × (old ≡ x ∷ y ∷ []) × (new ≡ y ∷ x ∷ []))
+
+-- two batches with one mark
+abbrev pub HaveOneMark : List Batch → Type 0
+HaveOneMark (x ∷ y ∷ []) = x.mark ≡ y.mark
+HaveOneMark batches = ⊥

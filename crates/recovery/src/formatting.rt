@@ -1,0 +1,146 @@
+// A volume is made on a device.
+ghost use Rattle.std.specs.Prelude.{◌≡◌, ◌⊎◌, ◌+◌, ◌*◌, ◌<◌, ◌≤◌, List, ℕ, length, slice_index, IfOk, IfErr, OnOk};
+ghost use Rattle.device.specs.Device.{Only};
+ghost use Rattle.volume_codec.specs.Files.{asked_by, asked_by_pairs};
+ghost use Rattle.volume_codec.specs.Layout.{GeometryValue, IsGeometry, journals_of, gate_block, first_home, block_at};
+ghost use Rattle.volume_codec.specs.Text.{zeros};
+ghost use Rattle.volume_codec.specs.Super.{SuperValue, IsAsked, Fits, block_count, geometry_of};
+ghost use Rattle.recovery.specs.Counts.{IsKept};
+ghost use Rattle.recovery.specs.Format.{IsBlank, HasFormatted, RefusesFormat};
+ghost use Rattle.recovery.specs.inside.Erasing.{IsErased, AreClosed};
+
+use crate::calls::{sync, write, write_synced};
+use device::Device;
+use page_entry::{PAGE, Refusal};
+use std::alloc::Allocator;
+use volume_codec::{
+    CLOSED_GATE, FileSpec, Geometry, MAX_FILES, Super, block_count_as, block_count_of, specs_of,
+};
+
+/// How many bytes are erased by one device call.
+const PIECE: usize = 32_768;
+
+/// The number of blocks of a volume in the layout of this number, with these files and with so many record slots for each
+/// journal. `BadShape` where no volume has them. Takes no memory.
+pub fn blocks_as(layout: u64, files: &[FileSpec], slots: u64) -> Result<u64, Refusal>
+    ensures ok { IfOk result (λ blocks. (v : SuperValue) × IsAsked layout (asked_by files.now) slots v × (blocks ≡ block_count v)) }
+    ensures err { IfErr result (λ refusal.
+        (refusal ≡ Refusal.BadShape) × ((v : SuperValue) → IsAsked layout (asked_by files.now) slots v → ⊥)) }
+{
+    block_count_as(layout, files, slots)
+}
+
+/// The number of blocks of a volume in layout 1 with these files, each with its name and its length in bytes, and with so
+/// many record slots. `BadShape` where no volume has them. Takes no memory.
+pub fn blocks(files: &[(&str, u64)], slots: u64) -> Result<u64, Refusal>
+    ensures ok { IfOk result (λ blocks. (v : SuperValue) × IsAsked 1 (asked_by_pairs files.now) slots v × (blocks ≡ block_count v)) }
+    ensures err { IfErr result (λ refusal.
+        (refusal ≡ Refusal.BadShape) × ((v : SuperValue) → IsAsked 1 (asked_by_pairs files.now) slots v → ⊥)) }
+{
+    block_count_of(files, slots)
+}
+
+/// As many zeros as one device call erases.
+fn zero_piece() -> [u8; PIECE]
+    ensures { result ≡ zeros PIECE }
+{
+    [0; PIECE]
+}
+
+/// Writes zeros from one place to before another.
+fn erase<D: Device>(device: &mut D, from: u64, to: u64) -> Result<(), Refusal>
+    requires order { from ≤ to }
+    requires room { to ≤ length (D.seen device.old) }
+    ensures erased { D.is_honest device.old → OnOk result (IsErased from to (D.seen device.old) (D.seen device.new)) }
+    ensures kept { IsKept D.Device device.old result device.new }
+    ensures fault { IfErr result (λ refusal. refusal ≡ Refusal.Device) }
+{
+    let zeros = zero_piece();
+    let mut at = from;
+    while at < to {
+        let piece = (to - at).min(PIECE as u64);
+        write(device, at, &zeros[..piece as usize])?;
+        at += piece;
+    }
+    Ok(())
+}
+
+/// Closes the gates of all journals.
+fn close_gates<D: Device>(device: &mut D, geometry: &Geometry) -> Result<(), Refusal>
+    requires { 4096 * geometry.now.blocks ≤ length (D.seen device.old) }
+    ensures closed { D.is_honest device.old → OnOk result
+        (AreClosed geometry.now.slots (journals_of geometry.now.layout) (D.seen device.old) (D.seen device.new)) }
+    ensures kept { IsKept D.Device device.old result device.new }
+    ensures fault { IfErr result (λ refusal. refusal ≡ Refusal.Device) }
+{
+    for journal in 0..geometry.journals() {
+        let gate = geometry.gate_block(journal);
+        write(device, PAGE * u64::from(gate), &[CLOSED_GATE])?;
+    }
+    Ok(())
+}
+
+/// Writes a table over a device that is long enough: zeros in all home blocks and the gates closed, both synced before the
+/// super block is written.
+fn write_table<D: Device, A: Allocator + Copy>(
+    device: &mut D,
+    table: &Super<A>,
+) -> Result<(), Refusal>
+    requires { 4096 * block_count table.now ≤ length (D.seen device.old) }
+    ensures blank { D.is_honest device.old → OnOk result (IsBlank table.now (D.seen device.new)) }
+    ensures synced { D.is_honest device.old → OnOk result (Only (D.may_leave device.new) (D.seen device.new)) }
+    ensures past { D.is_honest device.old → OnOk result ((i : ℕ) → 4096 * block_count table.now ≤ i
+        → slice_index (D.seen device.new) i ≡ slice_index (D.seen device.old) i) }
+    ensures kept { IsKept D.Device device.old result device.new }
+    ensures fault { IfErr result (λ refusal. refusal ≡ Refusal.Device) }
+{
+    let geometry = table.geometry();
+    let homes = PAGE * u64::from(geometry.first_home());
+    erase(device, homes, PAGE * u64::from(geometry.block_count()))?;
+    close_gates(device, &geometry)?;
+    sync(device)?;
+    write_synced(device, 0, &table.to_block())
+}
+
+/// Makes a volume in the layout of this number, with these files, all their bytes zero, and with so many record slots for
+/// each journal. `BadShape`, before any memory is taken and any device call is made, where no volume has them or the device
+/// is shorter than its blocks. `Device` where a device call failed. What lies past the volume stays.
+pub fn format_as<D: Device, A: Allocator + Copy>(
+    alloc: A,
+    device: &mut D,
+    layout: u64,
+    files: &[FileSpec],
+    slots: u64,
+) -> Result<(), Refusal>
+    ensures formatted { D.is_honest device.old → OnOk result (HasFormatted D.Device layout (asked_by files.now) slots device.old device.new) }
+    ensures refused { IfErr result (RefusesFormat layout (asked_by files.now) slots (length (D.seen device.old))) }
+    ensures unchanged { IfErr result (λ refusal. (refusal ≡ Refusal.Device) ⊎ (device.new ≡ device.old)) }
+    ensures kept { IsKept D.Device device.old result device.new }
+{
+    let blocks = block_count_as(layout, files, slots)?;
+    if device.len() < PAGE * blocks {
+        return Err(Refusal::BadShape);
+    }
+    let table = Super::new(alloc, layout, files, slots)?;
+    write_table(device, &table)
+}
+
+/// Makes a volume in layout 1 with these files, each with its name and its length in bytes, all their bytes zero, and with so
+/// many record slots, by the rules of `format_as`.
+pub fn format<D: Device, A: Allocator + Copy>(
+    alloc: A,
+    device: &mut D,
+    files: &[(&str, u64)],
+    slots: u64,
+) -> Result<(), Refusal>
+    ensures formatted { D.is_honest device.old → OnOk result (HasFormatted D.Device 1 (asked_by_pairs files.now) slots device.old device.new) }
+    ensures refused { IfErr result (RefusesFormat 1 (asked_by_pairs files.now) slots (length (D.seen device.old))) }
+    ensures unchanged { IfErr result (λ refusal. (refusal ≡ Refusal.Device) ⊎ (device.new ≡ device.old)) }
+    ensures kept { IsKept D.Device device.old result device.new }
+{
+    if files.len() > MAX_FILES {
+        return Err(Refusal::BadShape);
+    }
+    let specs = specs_of(files);
+    format_as(alloc, device, 1, &specs[..files.len()], slots)
+}

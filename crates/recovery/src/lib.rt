@@ -1,0 +1,16 @@
+//! Making a volume on a device, opening one again, whatever a crash left of it, and reading its files.
+#![tactic(auto)]
+
+mod calls;
+mod formatting;
+mod laws;
+mod opening;
+mod volume;
+
+pub use formatting::{blocks, blocks_as, format, format_as};
+pub use laws::{
+    crashed_since_opening, kinds_of_bytes, opened_after_formatting, opened_again,
+    opened_as_recovered,
+};
+pub use opening::open;
+pub use volume::Volume;

@@ -1,0 +1,333 @@
+// A volume is opened, whatever a crash left of it: the batches of open journals are carried out first.
+ghost use Rattle.std.specs.Prelude.{◌≡◌, ◌↔◌, ◌+◌, ◌*◌, ◌≤◌, ◌<◌, List, [], ◌∷◌, ℕ, true, false, length, slice_index_or, IfOk, IfErr, OnOk};
+ghost use Rattle.std.specs.List.{AllByRecursion};
+ghost use Rattle.device.specs.Device.{written, TornFrom, Only, LeavesOnly};
+ghost use Rattle.volume_codec.specs.Layout.{IsGeometry, journals_of, gate_block, descriptor_block, record_block, block_at};
+ghost use Rattle.volume_codec.specs.Super.{IsSuper, Fits, block_count, geometry_of, capacities_in};
+ghost use Rattle.volume_codec.specs.Descriptor.{AreHomes, IsDescriptor};
+ghost use Rattle.volume_codec.specs.Recovery.{AreFalling, AreOpen, IsOpen, IsVolume};
+ghost use Rattle.recovery.specs.Counts.{Rises, IsKept};
+ghost use Rattle.recovery.specs.Opening.{IsUnwritten, IsOpened, IsBeingOpened, RefusesOpening, Opens, opened_table, device_after};
+ghost use Rattle.recovery.specs.Volume.{IsSettled};
+ghost use Rattle.recovery.specs.inside.Carrying.{IsTornAt, IsApplied, IsBeingCarried};
+ghost use Rattle.recovery.specs.inside.Reading.{batch_of, batches_of, CanCarry, carry_calls, AreRead, RefusesJournal, RefusesJournals, IsOrdered, HaveOneMark};
+
+use crate::Volume;
+use crate::calls::{apply, close, read, read_block, sync};
+use device::Device;
+use page_entry::{PAGE, Refusal};
+use std::alloc::Allocator;
+use volume_codec::{Descriptor, Geometry, OPEN_GATE, Super, read_descriptor, read_super};
+
+/// A journal whose gate is open, counted from 0, and what its descriptor says.
+#[derive(Drop)]
+struct OpenJournal<A: Allocator + Copy> {
+    journal: u32,
+    descriptor: Descriptor<A>,
+}
+
+/// The table of a device's super block. `NotAVolume` and `Damaged` judge the device's length and its block 0.
+fn read_table<D: Device, A: Allocator + Copy>(alloc: A, device: &mut D) -> Result<Super<A>, Refusal>
+    ensures table { IfOk result (λ table. D.is_honest device.old → IsSuper table (block_at (D.seen device.old) 0)) }
+    ensures fits { IfOk result Fits }
+    ensures long { IfOk result (λ table. 4096 * block_count table ≤ length (D.seen device.old)) }
+    ensures refused { D.is_honest device.old → IfErr result (RefusesOpening (D.seen device.old)) }
+    ensures unwritten { D.is_honest device.old → IsUnwritten D.Device device.old device.new }
+    ensures kept { IsKept D.Device device.old result device.new }
+    ensures calls { OnOk result (Rises 1 (D.calls_made device.old) (D.calls_made device.new)) }
+{
+    if device.len() < PAGE {
+        return Err(Refusal::NotAVolume);
+    }
+    let block = read_block(device, 0)?;
+    let table = read_super(alloc, &block)?;
+    if device.len() < PAGE * u64::from(table.block_count()) {
+        return Err(Refusal::Damaged);
+    }
+    Ok(table)
+}
+
+/// Whether the gate of each journal is open.
+fn read_gates<D: Device>(device: &mut D, geometry: &Geometry) -> Result<[bool; 2], Refusal>
+    requires { 4096 * geometry.now.blocks ≤ length (D.seen device.old) }
+    ensures gates { D.is_honest device.old → IfOk result (λ gates. (j : ℕ) → j < journals_of geometry.now.layout
+        → ((slice_index_or gates j false ≡ true) ↔ IsOpen (D.seen device.old) geometry.now.slots j)) }
+    ensures unwritten { D.is_honest device.old → IsUnwritten D.Device device.old device.new }
+    ensures kept { IsKept D.Device device.old result device.new }
+    ensures fault { IfErr result (λ refusal. refusal ≡ Refusal.Device) }
+    ensures calls { OnOk result (Rises (journals_of geometry.now.layout) (D.calls_made device.old) (D.calls_made device.new)) }
+{
+    let mut gates = [false; 2];
+    for journal in 0..geometry.journals() {
+        let block = geometry.gate_block(journal);
+        let mut gate = [0];
+        read(device, PAGE * u64::from(block), &mut gate)?;
+        gates[journal as usize] = gate[0] == OPEN_GATE;
+    }
+    Ok(gates)
+}
+
+/// What the descriptor of a journal says. `Damaged` where it breaks the grammar.
+fn read_journal<D: Device, A: Allocator + Copy>(
+    alloc: A,
+    device: &mut D,
+    geometry: &Geometry,
+    journal: u32,
+) -> Result<Descriptor<A>, Refusal>
+    requires there { journal < journals_of geometry.now.layout }
+    requires long { 4096 * geometry.now.blocks ≤ length (D.seen device.old) }
+    ensures descriptor { D.is_honest device.old → IfOk result
+        (λ d. IsDescriptor geometry.now d (block_at (D.seen device.old) (descriptor_block geometry.now.slots journal))) }
+    ensures homes { IfOk result (λ d. AreHomes geometry.now d.homes) }
+    ensures refused { D.is_honest device.old → IfErr result
+        (RefusesJournal geometry.now (block_at (D.seen device.old) (descriptor_block geometry.now.slots journal))) }
+    ensures unwritten { D.is_honest device.old → IsUnwritten D.Device device.old device.new }
+    ensures kept { IsKept D.Device device.old result device.new }
+    ensures calls { Rises 1 (D.calls_made device.old) (D.calls_made device.new) }
+{
+    let block = read_block(device, geometry.descriptor_block(journal))?;
+    read_descriptor(alloc, geometry, &block)
+}
+
+/// Reads the descriptor of a journal if its gate is open, and adds the journal to those found before it. `Damaged` where the
+/// descriptor breaks the grammar.
+fn read_if_open<D: Device, A: Allocator + Copy>(
+    alloc: A,
+    device: &mut D,
+    geometry: &Geometry,
+    journal: u32,
+    is_open: bool,
+    found: &mut Vec<OpenJournal<A>, A>,
+) -> Result<(), Refusal>
+    requires there { journal < journals_of geometry.now.layout }
+    requires long { 4096 * geometry.now.blocks ≤ length (D.seen device.old) }
+    requires gate { D.is_honest device.old → ((is_open ≡ true) ↔ IsOpen (D.seen device.old) geometry.now.slots journal) }
+    ensures found { D.is_honest device.old → AreRead geometry.now (D.seen device.old) journal (batches_of found.old.items)
+        → OnOk result (AreRead geometry.now (D.seen device.old) (journal + 1) (batches_of found.new.items)) }
+    ensures carry { AllByRecursion (CanCarry geometry.now) (batches_of found.old.items)
+        → OnOk result (AllByRecursion (CanCarry geometry.now) (batches_of found.new.items)) }
+    ensures calls { OnOk result ((n : ℕ) × (n ≤ 1) × (length found.new.items ≡ length found.old.items + n)
+        × Rises n (D.calls_made device.old) (D.calls_made device.new)) }
+    ensures refused { D.is_honest device.old → IfErr result (RefusesJournals geometry.now (D.seen device.old)) }
+    ensures unwritten { D.is_honest device.old → IsUnwritten D.Device device.old device.new }
+    ensures kept { IsKept D.Device device.old result device.new }
+{
+    if !is_open {
+        return Ok(());
+    }
+    let descriptor = read_journal(alloc, device, geometry, journal)?;
+    if found
+        .push(OpenJournal {
+            journal,
+            descriptor,
+        })
+        .is_err()
+    {
+        return Err(Refusal::OutOfMemory);
+    }
+    Ok(())
+}
+
+/// The open journals, in their order. `Damaged` where the descriptor of one breaks the grammar.
+fn read_journals<D: Device, A: Allocator + Copy>(
+    alloc: A,
+    device: &mut D,
+    geometry: &Geometry,
+    gates: &[bool; 2],
+) -> Result<Vec<OpenJournal<A>, A>, Refusal>
+    requires long { 4096 * geometry.now.blocks ≤ length (D.seen device.old) }
+    requires gates { D.is_honest device.old → (j : ℕ) → j < journals_of geometry.now.layout
+        → ((slice_index_or gates.now j false ≡ true) ↔ IsOpen (D.seen device.old) geometry.now.slots j) }
+    ensures found { D.is_honest device.old → IfOk result
+        (λ found. AreRead geometry.now (D.seen device.old) (journals_of geometry.now.layout) (batches_of found.items)) }
+    ensures carry { IfOk result (λ found. AllByRecursion (CanCarry geometry.now) (batches_of found.items)) }
+    ensures few { IfOk result (λ found. length found.items ≤ 2) }
+    ensures geometry { IsGeometry geometry.now }
+    ensures refused { D.is_honest device.old → IfErr result (RefusesJournals geometry.now (D.seen device.old)) }
+    ensures unwritten { D.is_honest device.old → IsUnwritten D.Device device.old device.new }
+    ensures kept { IsKept D.Device device.old result device.new }
+    ensures calls { IfOk result (λ found. Rises (length found.items) (D.calls_made device.old) (D.calls_made device.new)) }
+{
+    let journals = geometry.journals();
+    let Ok(mut found) = Vec::with_capacity(alloc, 2) else {
+        return Err(Refusal::OutOfMemory);
+    };
+    for journal in 0..journals {
+        let is_open = gates[journal as usize];
+        read_if_open(alloc, device, geometry, journal, is_open, &mut found)?;
+    }
+    Ok(found)
+}
+
+/// Puts the journals in the order of their marks, the newest first. `Damaged` where two have one mark.
+fn put_newest_first<A: Allocator + Copy>(found: &mut Vec<OpenJournal<A>, A>) -> Result<(), Refusal>
+    requires { length found.old.items ≤ 2 }
+    ensures ordered { OnOk result (IsOrdered (batches_of found.old.items) (batches_of found.new.items)) }
+    ensures falling { OnOk result (AreFalling (batches_of found.new.items)) }
+    ensures equal { IfErr result (λ refusal. (refusal ≡ Refusal.Damaged) × HaveOneMark (batches_of found.old.items)) }
+{
+    if found.len() < 2 {
+        return Ok(());
+    }
+    let first = found[0].descriptor.mark();
+    let second = found[1].descriptor.mark();
+    if first == second {
+        return Err(Refusal::Damaged);
+    }
+    if first < second {
+        found.swap(0, 1);
+    }
+    Ok(())
+}
+
+/// The open journals, the newest first. `Damaged` where the descriptor of one breaks the grammar, or two have one mark.
+fn read_open<D: Device, A: Allocator + Copy>(
+    alloc: A,
+    device: &mut D,
+    geometry: &Geometry,
+) -> Result<Vec<OpenJournal<A>, A>, Refusal>
+    requires { 4096 * geometry.now.blocks ≤ length (D.seen device.old) }
+    ensures found { D.is_honest device.old → IfOk result (λ found. AreOpen geometry.now (batches_of found.items) (D.seen device.old)) }
+    ensures carry { IfOk result (λ found. AllByRecursion (CanCarry geometry.now) (batches_of found.items)) }
+    ensures refused { D.is_honest device.old → IfErr result (RefusesJournals geometry.now (D.seen device.old)) }
+    ensures unwritten { D.is_honest device.old → IsUnwritten D.Device device.old device.new }
+    ensures kept { IsKept D.Device device.old result device.new }
+    ensures calls { IfOk result (λ found. Rises (journals_of geometry.now.layout + length found.items)
+        (D.calls_made device.old) (D.calls_made device.new)) }
+{
+    let gates = read_gates(device, geometry)?;
+    let mut found = read_journals(alloc, device, geometry, &gates)?;
+    put_newest_first(&mut found)?;
+    Ok(found)
+}
+
+/// The table of a device's volume, and its open journals, the newest first. What was written before is made sure of. Nothing
+/// is written, and all memory that an opening needs is taken.
+fn judge<D: Device, A: Allocator + Copy>(
+    alloc: A,
+    device: &mut D,
+) -> Result<(Super<A>, Vec<OpenJournal<A>, A>), Refusal>
+    ensures volume { D.is_honest device.old → IfOk result (λ judged. IsVolume judged.0 (batches_of judged.1.items) (D.seen device.old)) }
+    ensures synced { D.is_honest device.old → OnOk result (Only (D.may_leave device.new) (D.seen device.new)) }
+    ensures fits { IfOk result (λ judged. Fits judged.0) }
+    ensures long { IfOk result (λ judged. 4096 * block_count judged.0 ≤ length (D.seen device.old)) }
+    ensures carry { IfOk result (λ judged. AllByRecursion (CanCarry (geometry_of judged.0)) (batches_of judged.1.items)) }
+    ensures refused { D.is_honest device.old → IfErr result (RefusesOpening (D.seen device.old)) }
+    ensures unwritten { D.is_honest device.old → IsUnwritten D.Device device.old device.new }
+    ensures kept { IsKept D.Device device.old result device.new }
+    ensures calls { IfOk result (λ judged. Rises (2 + journals_of judged.0.layout + length judged.1.items)
+        (D.calls_made device.old) (D.calls_made device.new)) }
+{
+    let table = read_table(alloc, device)?;
+    sync(device)?;
+    let found = read_open(alloc, device, &table.geometry())?;
+    Ok((table, found))
+}
+
+/// Writes the records of a journal to their home blocks.
+fn apply_records<D: Device, A: Allocator + Copy>(
+    device: &mut D,
+    geometry: &Geometry,
+    found: &OpenJournal<A>,
+) -> Result<(), Refusal>
+    requires carry { CanCarry geometry.now (batch_of found.now) }
+    requires long { 4096 * geometry.now.blocks ≤ length (D.seen device.old) }
+    ensures applied { D.is_honest device.old → OnOk result
+        (IsApplied geometry.now (batch_of found.now) (D.seen device.old) (D.seen device.new)) }
+    ensures left { D.is_honest device.old → Only (D.may_leave device.old) (D.seen device.old)
+        → (c : List ℕ) → D.may_leave device.new c → IsTornAt found.now.descriptor.homes (D.seen device.old) c }
+    ensures time { D.is_honest device.old → Only (D.may_leave device.old) (D.seen device.old)
+        → LeavesOnly D.moment D.left_since device.old device.new (IsTornAt found.now.descriptor.homes (D.seen device.old)) }
+    ensures geometry { IsGeometry geometry.now }
+    ensures kept { IsKept D.Device device.old result device.new }
+    ensures fault { IfErr result (λ refusal. refusal ≡ Refusal.Device) }
+    ensures calls { OnOk result (Rises (2 * length found.now.descriptor.homes) (D.calls_made device.old) (D.calls_made device.new)) }
+{
+    let homes = found.descriptor.homes();
+    let slots = geometry.slots();
+    prove!(homes.len() <= slots as usize);
+    for (slot, home) in homes.iter().enumerate() {
+        apply(device, geometry, found.journal, slot as u32, *home)?;
+    }
+    Ok(())
+}
+
+/// Writes the records of a journal to their home blocks, and closes its gate when they are synced.
+fn carry_out<D: Device, A: Allocator + Copy>(
+    device: &mut D,
+    geometry: &Geometry,
+    found: &OpenJournal<A>,
+) -> Result<(), Refusal>
+    requires carry { CanCarry geometry.now (batch_of found.now) }
+    requires long { 4096 * geometry.now.blocks ≤ length (D.seen device.old) }
+    ensures opened { D.is_honest device.old → OnOk result
+        (IsOpened geometry.now (batch_of found.now ∷ []) (D.seen device.old) (D.seen device.new)) }
+    ensures synced { D.is_honest device.old → OnOk result (Only (D.may_leave device.new) (D.seen device.new)) }
+    ensures time { D.is_honest device.old → Only (D.may_leave device.old) (D.seen device.old)
+        → LeavesOnly D.moment D.left_since device.old device.new (IsBeingCarried geometry.now (batch_of found.now) (D.seen device.old)) }
+    ensures kept { IsKept D.Device device.old result device.new }
+    ensures fault { IfErr result (λ refusal. refusal ≡ Refusal.Device) }
+    ensures calls { OnOk result (Rises (2 * length found.now.descriptor.homes + 3) (D.calls_made device.old) (D.calls_made device.new)) }
+{
+    apply_records(device, geometry, found)?;
+    sync(device)?;
+    close(device, geometry, found.journal)
+}
+
+/// Carries out all open journals, the oldest first: each gate is closed before the next journal's records are written.
+fn carry_out_all<D: Device, A: Allocator + Copy>(
+    device: &mut D,
+    geometry: &Geometry,
+    found: Vec<OpenJournal<A>, A>,
+) -> Result<(), Refusal>
+    requires carry { AllByRecursion (CanCarry geometry.now) (batches_of found.items) }
+    requires long { 4096 * geometry.now.blocks ≤ length (D.seen device.old) }
+    requires journals { D.is_honest device.old → AreOpen geometry.now (batches_of found.items) (D.seen device.old) }
+    requires synced { D.is_honest device.old → Only (D.may_leave device.old) (D.seen device.old) }
+    requires geometry { IsGeometry geometry.now }
+    ensures opened { D.is_honest device.old → OnOk result
+        (IsOpened geometry.now (batches_of found.items) (D.seen device.old) (D.seen device.new)) }
+    ensures durable { D.is_honest device.old → OnOk result (Only (D.may_leave device.new) (D.seen device.new)) }
+    ensures time { D.is_honest device.old → LeavesOnly D.moment D.left_since device.old device.new
+        (IsBeingOpened geometry.now (batches_of found.items) (D.seen device.old)) }
+    ensures kept { IsKept D.Device device.old result device.new }
+    ensures fault { IfErr result (λ refusal. refusal ≡ Refusal.Device) }
+    ensures calls { OnOk result (Rises (carry_calls (batches_of found.items)) (D.calls_made device.old) (D.calls_made device.new)) }
+{
+    let mut waiting = found;
+    while let Some(oldest) = waiting.pop() {
+        carry_out(device, geometry, &oldest)?;
+    }
+    Ok(())
+}
+
+/// Makes a device ready, and gives its table: the rules of `open`.
+fn recover<D: Device, A: Allocator + Copy>(alloc: A, device: &mut D) -> Result<Super<A>, Refusal>
+    ensures opens { Opens D.Device device.old result device.new }
+    ensures settled { IfOk result (λ table. IsSettled D.Device (record { table = table; lengths = capacities_in table; device = device.new })) }
+{
+    let (table, found) = judge(alloc, device)?;
+    carry_out_all(device, &table.geometry(), found)?;
+    Ok(table)
+}
+
+/// Opens the volume of a device. The device's length and its block 0 are judged; what was written before is made sure of; the
+/// gate of each journal is read, and the descriptors of the open ones are judged. Then each open journal, the one with the
+/// lower mark first, is carried out: its records are written to their home blocks and synced, its gate is closed and synced.
+/// `NotAVolume` where the device is shorter than a block or begins with no layout's magic; `Damaged` where its super block or
+/// the descriptor of an open journal breaks the grammar, two open journals have one mark, or the device is shorter than its
+/// volume; nothing is written then. `Device` where a device call failed. `OutOfMemory` may come in the place of these, and
+/// nothing is written then either. An `Err` hands the device back. With no open journal it makes 3 device calls in layout 1
+/// and 4 in layout 2, and 2k + 4 more for each open journal of k records.
+pub fn open<D: Device, A: Allocator + Copy>(
+    alloc: A,
+    mut device: D,
+) -> Result<Volume<D, A>, (Refusal, D)>
+    ensures opens { Opens D.Device device (opened_table result) (device_after result) }
+    ensures settled { IfOk result (λ volume. IsSettled D.Device volume) }
+{
+    match recover(alloc, &mut device) {
+        Ok(table) => Ok(Volume::new(table, device)),
+        Err(refusal) => Err((refusal, device)),
+    }
+}

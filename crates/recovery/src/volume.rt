@@ -1,0 +1,135 @@
+// A volume that was opened, and its files.
+ghost use Rattle.std.specs.Prelude.{◌≡◌, ◌==◌, ◌+◌, ◌≤◌, ◌<◌, if◌then◌else◌, length, slice_get, slice_index, slice_range, Some, OnOk, IfErr};
+ghost use Rattle.volume_codec.specs.Super.{names_in, capacities_in};
+ghost use Rattle.recovery.specs.Counts.{Rises, IsKept};
+ghost use Rattle.recovery.specs.Opening.{IsUnwritten};
+ghost use Rattle.recovery.specs.Volume.{IsSettled, files_of, bytes_of};
+
+use crate::calls::read;
+use device::Device;
+use page_entry::{PAGE, Refusal};
+use std::alloc::Allocator;
+use std::marker::Model;
+use volume_codec::{Layout, Super};
+
+/// A volume on a device, as `open` made it: the table of its files and their lengths, with the gates closed and the device
+/// synced. Files are counted from 0, in the table's order.
+#[derive(Drop)]
+pub struct Volume<D: Device, A: Allocator + Copy> {
+    table: Super<A>,
+    device: D,
+}
+
+impl<D: Device, A: Allocator + Copy> Model for Volume<D, A> {
+    ghost use Rattle.volume_codec.specs.Super.{capacities_in};
+    ghost use Rattle.recovery.specs.Volume.{VolumeState, IsSettled};
+
+    ghost Value = { VolumeState D };
+
+    // In these layouts a file is as long as its capacity.
+    ghost view = { λ v. record { table = v.table; lengths = capacities_in v.table; device = v.device } };
+
+    ghost invariant = { λ v. IsSettled D.Device (record { table = v.table; lengths = capacities_in v.table; device = v.device }) };
+}
+
+impl<D: Device, A: Allocator + Copy> Volume<D, A> {
+    /// The volume of a device that was made ready.
+    pub(crate) fn new(table: Super<A>, device: D) -> Self
+        requires { IsSettled D.Device (record { table = table; lengths = capacities_in table; device = device }) }
+        ensures { result ≡ record { table = table; lengths = capacities_in table; device = device } }
+    {
+        Volume { table, device }
+    }
+
+    /// The volume's layout.
+    pub fn layout(&self) -> Layout
+        ensures { result ≡ self.now.table.layout }
+    {
+        self.table.layout()
+    }
+
+    /// The number of files, 1 to 64.
+    pub fn file_count(&self) -> usize
+        ensures value { result ≡ length self.now.table.files }
+        ensures settled { IsSettled D.Device self.now }
+    {
+        self.table.file_count()
+    }
+
+    /// The name of a file.
+    pub fn name(&self, file: usize) -> &str
+        requires { file < length self.now.table.files }
+        ensures { slice_get (names_in self.now.table) file ≡ Some result.now }
+    {
+        self.table.name(file)
+    }
+
+    /// The length of a file in bytes.
+    pub fn length(&self, file: usize) -> u64
+        requires { file < length self.now.table.files }
+        ensures { slice_get self.now.lengths file ≡ Some result }
+    {
+        self.table.capacity(file)
+    }
+
+    /// The number of bytes to which a file may grow, from 1.
+    pub fn capacity(&self, file: usize) -> u64
+        requires { file < length self.now.table.files }
+        ensures { slice_get (capacities_in self.now.table) file ≡ Some result }
+    {
+        self.table.capacity(file)
+    }
+
+    /// Reads as many bytes of a file as the buffer has, from an offset on. The caller stays within the file's length.
+    /// One device call where bytes are asked, none else; `Device` where it failed.
+    pub fn read_file(&mut self, file: usize, at: u64, buffer: &mut [u8]) -> Result<(), Refusal>
+        requires there { file < length self.old.table.files }
+        requires within { at + length buffer.old ≤ slice_index self.old.lengths file }
+
+        ensures bytes { D.is_honest self.old.device → OnOk result
+            (buffer.new ≡ slice_range (bytes_of (files_of self.old.table (D.seen self.old.device)) file) at (at + length buffer.old)) }
+
+        // Nothing is written, and the volume stays.
+        ensures table { self.new.table ≡ self.old.table }
+        ensures lengths { self.new.lengths ≡ self.old.lengths }
+        ensures unwritten { D.is_honest self.old.device → IsUnwritten D.Device self.old.device self.new.device }
+
+        ensures kept { IsKept D.Device self.old.device result self.new.device }
+        ensures fault { IfErr result (λ refusal. refusal ≡ Refusal.Device) }
+        ensures calls { Rises (if length buffer.old == 0 then 0 else 1) (D.calls_made self.old.device) (D.calls_made self.new.device) }
+    {
+        if buffer.is_empty() {
+            return Ok(());
+        }
+        let home = u64::from(self.table.first_home(file));
+        read(&mut self.device, PAGE * home + at, buffer)
+    }
+
+    /// The table of the files.
+    pub fn table(&self) -> &Super<A>
+        ensures table { result.now ≡ self.now.table }
+        ensures settled { IsSettled D.Device self.now }
+    {
+        &self.table
+    }
+
+    /// The device, which holds the volume with its gates closed, all of it synced.
+    pub fn into_device(self) -> D
+        ensures device { result ≡ self.device }
+        ensures settled { IsSettled D.Device self }
+    {
+        let Volume { table, device } = self;
+        drop(table);
+        device
+    }
+
+    /// The table and the device.
+    pub fn into_parts(self) -> (Super<A>, D)
+        ensures table { result.0 ≡ self.table }
+        ensures device { result.1 ≡ self.device }
+        ensures settled { IsSettled D.Device self }
+    {
+        let Volume { table, device } = self;
+        (table, device)
+    }
+}
