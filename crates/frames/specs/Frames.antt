@@ -1,0 +1,120 @@
+-- What callers see of the frames of a machine: which are in use, for which page of which file, and with what bytes.
+use Rattle.std.specs.Prelude.{◌≡◌, ◌≢◌, ◌+◌, ◌<◌, ◌⊎◌, ◌↔◌, ℕ, Bool, List, [], ◌++◌, length, map, take, drop, replicate, Option, Some, None, is_none, is_some, IsSome, slice_index_or, slice_set, Contains}
+use Rattle.std.specs.List.{list_any, All, AllPairs}
+use Rattle.page_entry.specs.declared.numbers.FilePage.{FilePage}
+
+-- a frame in use: the page of a file whose bytes it has
+pub record Frame : Type 0 where
+  pub page : FilePage
+  pub bytes : List ℕ
+
+-- the frame or nothing at each frame number from 0 on, and at each copy number; a copy keeps the page and the bytes
+-- of the frame that it was made of
+pub record FramesState : Type 0 where
+  pub frames : List (Option Frame)
+  pub copies : List (Option Frame)
+
+-- the frame in use under a number
+abbrev pub frame_at : FramesState → ℕ → Option Frame
+frame_at s frame = slice_index_or s.frames frame None
+
+-- the copy in use under a number
+abbrev pub copy_at : FramesState → ℕ → Option Frame
+copy_at s copy = slice_index_or s.copies copy None
+
+-- the page of a frame in use
+abbrev pub page_of : Option Frame → Option FilePage
+page_of None = None
+page_of (Some f) = Some f.page
+
+-- the bytes of a frame in use
+abbrev pub bytes_of : Option Frame → List ℕ
+bytes_of None = []
+bytes_of (Some f) = f.bytes
+
+-- whether something is free
+abbrev pub has_free : {X : Type 0} → List (Option X) → Bool
+has_free xs = list_any is_none xs
+
+-- whether something is in use
+abbrev pub has_used : {X : Type 0} → List (Option X) → Bool
+has_used xs = list_any is_some xs
+
+-- this many zeros
+unfoldable pub zeros : ℕ → List ℕ
+zeros n = replicate n 0
+
+-- a page of zeros, under a name of its own so that nobody computes all 4,096
+unfoldable pub zero_page : List ℕ
+zero_page = zeros 4096
+
+-- a page with these bytes written from a place on
+abbrev pub overwrite : List ℕ → ℕ → List ℕ → List ℕ
+overwrite page at bytes = take at page ++ bytes ++ drop (at + length bytes) page
+
+-- a frame in use with these bytes written from a place on
+abbrev pub overwrite_frame : Option Frame → ℕ → List ℕ → Option Frame
+overwrite_frame None at bytes = None
+overwrite_frame (Some f) at bytes = Some (record f { bytes = overwrite f.bytes at bytes })
+
+-- so many frames and copies, each free
+abbrev pub all_free : ℕ → ℕ → FramesState
+all_free frames copies = record { frames = replicate frames None; copies = replicate copies None }
+
+-- with a frame for this page, with these bytes
+abbrev pub with_page : FramesState → ℕ → FilePage → List ℕ → FramesState
+with_page s frame page bytes = record s { frames = slice_set s.frames frame (Some (record { page = page; bytes = bytes })) }
+
+-- with a frame free
+abbrev pub without_frame : FramesState → ℕ → FramesState
+without_frame s frame = record s { frames = slice_set s.frames frame None }
+
+-- with bytes written into a frame from a place on
+abbrev pub with_bytes : FramesState → ℕ → ℕ → List ℕ → FramesState
+with_bytes s frame at bytes = record s { frames = slice_set s.frames frame (overwrite_frame (frame_at s frame) at bytes) }
+
+-- with a copy of a frame
+abbrev pub with_copy : FramesState → ℕ → ℕ → FramesState
+with_copy s copy frame = record s { copies = slice_set s.copies copy (frame_at s frame) }
+
+-- with a copy free
+abbrev pub without_copy : FramesState → ℕ → FramesState
+without_copy s copy = record s { copies = slice_set s.copies copy None }
+
+-- with each copy free
+abbrev pub without_copies : FramesState → FramesState
+without_copies s = record s { copies = map (λ copy. None) s.copies }
+
+-- no frame has the page
+abbrev pub HasNoFrame : FramesState → FilePage → Type 0
+HasNoFrame s page = (frame : ℕ) → page_of (frame_at s frame) ≢ Some page
+
+-- no copy has the page
+abbrev pub HasNoCopy : FramesState → FilePage → Type 0
+HasNoCopy s page = (copy : ℕ) → page_of (copy_at s copy) ≢ Some page
+
+-- the bytes of a whole page
+pub record IsPage (bytes : List ℕ) : Type 0 where
+  pub size : length bytes ≡ 4096
+  pub small : All (λ byte. byte < 256) bytes
+
+-- What holds of all frames: what is in use has the bytes of a whole page, and a page is in one frame and one copy at
+-- most.
+pub record AreFrames (s : FramesState) : Type 0 where
+  pub frames : (frame : ℕ) → IsSome (frame_at s frame) → IsPage (bytes_of (frame_at s frame))
+  pub copies : (copy : ℕ) → IsSome (copy_at s copy) → IsPage (bytes_of (copy_at s copy))
+  pub one_frame : (a b : ℕ) (page : FilePage) → page_of (frame_at s a) ≡ Some page → page_of (frame_at s b) ≡ Some page → a ≡ b
+  pub one_copy : (a b : ℕ) (page : FilePage) → page_of (copy_at s a) ≡ Some page → page_of (copy_at s b) ≡ Some page → a ≡ b
+
+-- a page comes before another in the order of home blocks: by file, then by page
+abbrev pub IsBefore : FilePage → FilePage → Type 0
+IsBefore a b = (a.file < b.file) ⊎ ((a.file ≡ b.file) × (a.page < b.page))
+
+-- the page of a frame comes before that of another
+abbrev pub HasPageBefore : FramesState → ℕ → ℕ → Type 0
+HasPageBefore s frame other = (a b : FilePage) → page_of (frame_at s frame) ≡ Some a → page_of (frame_at s other) ≡ Some b → IsBefore a b
+
+-- the frames in use, in rising order of their pages
+pub record AreInOrder (s : FramesState) (order : List ℕ) : Type 0 where
+  pub used : (frame : ℕ) → Contains order frame ↔ IsSome (frame_at s frame)
+  pub rising : AllPairs (HasPageBefore s) order

@@ -1,0 +1,342 @@
+//! The frames of memory that hold pages of files, and the copy frames that keep a frame's bytes as they were. All memory
+//! is taken when they are made, so that no later call can fail for want of it.
+#![tactic(auto)]
+
+ghost use Rattle.std.specs.Prelude.{◌≡◌, ◌&&◌, not, nat_lt, ◌+◌, ◌≤◌, length, Some, None, IfOk, IfErr, IfSome, IfNone, IsSome, is_ok, is_none, slice_get, count_by};
+ghost use Rattle.page_entry.specs.declared.numbers.FilePage.{FilePage};
+ghost use Rattle.frames.specs.Frames.{frame_at, copy_at, page_of, bytes_of, has_free, has_used, zero_page, all_free, with_page, without_frame, with_bytes, with_copy, without_copy, HasNoFrame, HasNoCopy, AreFrames, AreInOrder};
+
+mod order;
+mod pages;
+
+use order::{insert_at, place_of};
+use page_entry::{FilePage, FrameNumber, Refusal};
+use pages::{Pages, zero_bytes};
+use std::alloc::{AllocError, Allocator, Global};
+use std::marker::Model;
+
+/// A copy frame, counted from 0.
+pub type CopyNumber = u32;
+
+/// Frames of 4,096 bytes, each free or in use for one page of a file, and copy frames of 4,096 bytes, each free or with
+/// the page and the bytes that a frame had. A page is in one frame at most, and in one copy frame at most. No two numbers
+/// share memory: a write to a frame leaves every other frame and every copy.
+#[derive(Drop)]
+pub struct Frames<A: Allocator + Copy = Global> {
+    frames: Pages<A>,
+    // The frames in use, in the order of their pages. There is room for each frame.
+    order: Vec<FrameNumber, A>,
+    copies: Pages<A>,
+}
+
+impl<A: Allocator + Copy> Model for Frames<A> {
+    ghost use Rattle.std.specs.Vec.{vec_capacity};
+    ghost use Rattle.frames.specs.Frames.{FramesState};
+    ghost use Rattle.frames.specs.inside.Order.{IsListed};
+
+    ghost Value = { FramesState };
+
+    ghost view = { λ f. record { frames = f.frames; copies = f.copies } };
+
+    ghost invariant = { λ f. IsListed (record { frames = f.frames; copies = f.copies }) f.order.items (vec_capacity f.order) };
+}
+
+impl<A: Allocator + Copy> Frames<A> {
+    /// So many frames, numbered from 0, and so many copy frames, each free. Fails where memory is refused.
+    pub fn new(alloc: A, frames: FrameNumber, copies: CopyNumber) -> Result<Self, AllocError>
+        ensures { IfOk result (λ made. made ≡ all_free frames copies) }
+    {
+        Ok(Frames {
+            frames: Pages::new(alloc, frames)?,
+            order: Vec::with_capacity(alloc, frames as usize)?,
+            copies: Pages::new(alloc, copies)?,
+        })
+    }
+
+    /// How many frames there are.
+    pub fn count(&self) -> FrameNumber
+        ensures count { result ≡ length self.now.frames }
+        ensures are { AreFrames self.now }
+    {
+        self.frames.count()
+    }
+
+    /// How many copy frames there are.
+    pub fn copy_count(&self) -> CopyNumber
+        ensures { result ≡ length self.now.copies }
+    {
+        self.copies.count()
+    }
+
+    /// How many frames are free.
+    pub fn free_count(&self) -> FrameNumber
+        ensures count { result ≡ count_by is_none self.now.frames }
+        ensures any { nat_lt 0 result ≡ has_free self.now.frames }
+    {
+        self.frames.count() - self.order.len() as FrameNumber
+    }
+
+    /// Whether every frame and every copy frame is free.
+    pub fn is_unused(&self) -> bool
+        ensures { result ≡ (not (has_used self.now.frames) && not (has_used self.now.copies)) }
+    {
+        self.order.is_empty() && self.copies.is_unused()
+    }
+
+    /// The frames in use, in the order of their pages' home blocks: by file, then by page.
+    pub fn in_order(&self) -> &[FrameNumber]
+        ensures order { AreInOrder self.now result.now }
+        ensures few { length result.now ≤ length self.now.frames }
+    {
+        &self.order
+    }
+
+    /// The frame that has a page; none where no frame has it.
+    pub fn find(&self, page: FilePage) -> Option<FrameNumber>
+        ensures found { IfSome result (λ frame. page_of (frame_at self.now frame) ≡ Some page) }
+        ensures none { IfNone result (HasNoFrame self.now page) }
+        ensures are { AreFrames self.now }
+    {
+        let place = place_of(&self.frames, &self.order, page);
+        let frame = *self.order.get(place)?;
+        if self.frames.page(frame) == Some(page) {
+            Some(frame)
+        } else {
+            None
+        }
+    }
+
+    /// Gives a free frame to a page that no frame has, its bytes all 0; `NoFrame` exactly where none is free. Which of
+    /// the free frames it is stays open.
+    pub fn take(&mut self, page: FilePage) -> Result<FrameNumber, Refusal>
+        requires { HasNoFrame self.old page }
+        ensures was_free { IfOk result (λ frame. slice_get self.old.frames frame ≡ Some None) }
+        ensures taken { IfOk result (λ frame. self.new ≡ with_page self.old frame page zero_page) }
+        ensures ok { is_ok result ≡ has_free self.old.frames }
+        ensures no_frame { IfErr result (λ refusal. refusal ≡ Refusal.NoFrame) }
+        ensures unchanged { IfErr result (λ _. self.new ≡ self.old) }
+    {
+        self.take_with(page, &zero_bytes())
+    }
+
+    /// Gives a free frame to a page that no frame has, with these bytes; `NoFrame` exactly where none is free. Which of
+    /// the free frames it is stays open.
+    pub fn take_with(&mut self, page: FilePage, bytes: &[u8; 4096]) -> Result<FrameNumber, Refusal>
+        requires { HasNoFrame self.old page }
+        ensures was_free { IfOk result (λ frame. slice_get self.old.frames frame ≡ Some None) }
+        ensures taken { IfOk result (λ frame. self.new ≡ with_page self.old frame page bytes.now) }
+        ensures ok { is_ok result ≡ has_free self.old.frames }
+        ensures no_frame { IfErr result (λ refusal. refusal ≡ Refusal.NoFrame) }
+        ensures unchanged { IfErr result (λ _. self.new ≡ self.old) }
+    {
+        let place = place_of(&self.frames, &self.order, page);
+        let Some(frame) = self.frames.insert(page, bytes) else {
+            return Err(Refusal::NoFrame);
+        };
+        insert_at(&mut self.order, place, frame);
+        Ok(frame)
+    }
+
+    /// Makes a frame free.
+    pub fn give(&mut self, frame: FrameNumber)
+        requires { IsSome (frame_at self.old frame) }
+        ensures { self.new ≡ without_frame self.old frame }
+    {
+        let page = self.frames.page(frame).unwrap();
+        let place = place_of(&self.frames, &self.order, page);
+        self.order.remove(place);
+        self.frames.give(frame);
+    }
+
+    /// The page of a file that a frame is in use for; none for a free frame, or a number that no frame has.
+    pub fn page(&self, frame: FrameNumber) -> Option<FilePage>
+        ensures page { result ≡ page_of (frame_at self.now frame) }
+        ensures are { AreFrames self.now }
+    {
+        self.frames.page(frame)
+    }
+
+    /// The bytes of a frame.
+    pub fn bytes(&self, frame: FrameNumber) -> &[u8; 4096]
+        requires { IsSome (frame_at self.now frame) }
+        ensures bytes { result.now ≡ bytes_of (frame_at self.now frame) }
+        ensures are { AreFrames self.now }
+    {
+        self.frames.bytes(frame)
+    }
+
+    /// Writes bytes into a frame, from the byte `at` on.
+    pub fn write(&mut self, frame: FrameNumber, at: usize, bytes: &[u8])
+        requires in_use { IsSome (frame_at self.old frame) }
+        requires within { at + length bytes.now ≤ 4096 }
+        ensures { self.new ≡ with_bytes self.old frame at bytes.now }
+    {
+        self.frames.write(frame, at, bytes);
+    }
+
+    /// Copies a frame, whose page no copy has, to one free copy frame; `Held` exactly where no copy frame is free. Which
+    /// of the free copy frames it is stays open.
+    pub fn copy_out(&mut self, frame: FrameNumber) -> Result<CopyNumber, Refusal>
+        requires in_use { IsSome (frame_at self.old frame) }
+        requires uncopied { (page : FilePage) → page_of (frame_at self.old frame) ≡ Some page → HasNoCopy self.old page }
+        ensures was_free { IfOk result (λ copy. slice_get self.old.copies copy ≡ Some None) }
+        ensures copied { IfOk result (λ copy. self.new ≡ with_copy self.old copy frame) }
+        ensures ok { is_ok result ≡ has_free self.old.copies }
+        ensures held { IfErr result (λ refusal. refusal ≡ Refusal.Held) }
+        ensures unchanged { IfErr result (λ _. self.new ≡ self.old) }
+    {
+        let page = self.frames.page(frame).unwrap();
+        self.copies
+            .insert(page, self.frames.bytes(frame))
+            .ok_or(Refusal::Held)
+    }
+
+    /// The copy that has a page; none where no copy has it.
+    pub fn copy_of(&self, page: FilePage) -> Option<CopyNumber>
+        ensures found { IfSome result (λ copy. page_of (copy_at self.now copy) ≡ Some page) }
+        ensures none { IfNone result (HasNoCopy self.now page) }
+        ensures are { AreFrames self.now }
+    {
+        self.copies.find(page)
+    }
+
+    /// The bytes of a copy.
+    pub fn copy_bytes(&self, copy: CopyNumber) -> &[u8; 4096]
+        requires { IsSome (copy_at self.now copy) }
+        ensures bytes { result.now ≡ bytes_of (copy_at self.now copy) }
+        ensures are { AreFrames self.now }
+    {
+        self.copies.bytes(copy)
+    }
+
+    /// Makes a copy frame free.
+    pub fn give_copy(&mut self, copy: CopyNumber)
+        requires { IsSome (copy_at self.old copy) }
+        ensures { self.new ≡ without_copy self.old copy }
+    {
+        self.copies.give(copy);
+    }
+}
+
+#[cfg(test)]
+mod tests {
+    use super::{CopyNumber, Frames};
+    use page_entry::{FilePage, FrameNumber, Refusal};
+    use std::alloc::Allocator;
+    use std::test::Fail;
+
+    const FIRST: FilePage = FilePage { file: 1, page: 7 };
+
+    // Takes a frame for a page; `Overlap` where a frame has it.
+    fn take_new<A: Allocator + Copy>(
+        frames: &mut Frames<A>,
+        page: FilePage,
+    ) -> Result<FrameNumber, Refusal> {
+        if frames.find(page).is_some() {
+            return Err(Refusal::Overlap);
+        }
+        frames.take(page)
+    }
+
+    // Copies the frame of a page; `NoFile` where none has it, and `Overlap` where a copy has it.
+    fn copy_new<A: Allocator + Copy>(
+        frames: &mut Frames<A>,
+        page: FilePage,
+    ) -> Result<CopyNumber, Refusal> {
+        let Some(frame) = frames.find(page) else {
+            return Err(Refusal::NoFile);
+        };
+        if frames.copy_of(page).is_some() {
+            return Err(Refusal::Overlap);
+        }
+        frames.copy_out(frame)
+    }
+
+    #[test]
+    fn takes_each_frame_once(rt: HostRuntime) -> Result<(), Fail> {
+        let mut frames = Frames::new(rt.alloc(), 2, 0)?;
+        assert_eq!(rt;
+            (frames.count(), frames.copy_count(), frames.free_count()),
+            (2, 0, 2)
+        );
+        let first = take_new(&mut frames, FIRST)?;
+        let second = take_new(&mut frames, FilePage { file: 0, page: 9 })?;
+        assert_ne!(rt; first, second);
+        assert_eq!(rt; frames.free_count(), 0);
+        assert_eq!(rt;
+            take_new(&mut frames, FilePage { file: 0, page: 0 }),
+            Err(Refusal::NoFrame)
+        );
+        assert_eq!(rt; frames.page(first), Some(FIRST));
+        assert_eq!(rt; frames.find(FIRST), Some(first));
+        assert_eq!(rt; frames.in_order(), [second, first].as_slice());
+        assert_eq!(rt; copy_new(&mut frames, FIRST), Err(Refusal::Held));
+        if frames.page(second).is_some() {
+            frames.give(second);
+        }
+        assert_eq!(rt; frames.page(second), None);
+        assert_eq!(rt; frames.find(FilePage { file: 0, page: 9 }), None);
+        assert_eq!(rt; frames.in_order(), [first].as_slice());
+        assert_eq!(rt;
+            take_new(&mut frames, FilePage { file: 2, page: 0 }),
+            Ok(second)
+        );
+        Ok(())
+    }
+
+    #[test]
+    fn copy_keeps_what_was_written(rt: HostRuntime) -> Result<(), Fail> {
+        let mut frames = Frames::new(rt.alloc(), 1, 1)?;
+        assert!(rt; frames.is_unused());
+        let frame = frames.take_with(FIRST, &[64; 4096])?;
+        frames.write(frame, 4094, &[65, 66]);
+        let copy = frames.copy_out(frame)?;
+        frames.write(frame, 4095, &[67]);
+        assert_eq!(rt; &frames.copy_bytes(copy)[4093..], [64, 65, 66].as_slice());
+        assert_eq!(rt; &frames.bytes(frame)[4093..], [64, 65, 67].as_slice());
+        assert_eq!(rt; frames.copy_of(FIRST), Some(copy));
+        frames.give_copy(copy);
+        assert_eq!(rt; frames.copy_of(FIRST), None);
+        assert!(rt; !frames.is_unused());
+        Ok(())
+    }
+
+    // The n-th page of 20 files of 51 pages each.
+    fn nth_page(n: u16) -> FilePage {
+        FilePage {
+            file: n / 51,
+            page: u32::from(n % 51),
+        }
+    }
+
+    #[test]
+    fn frames_of_1020_pages_in_order(rt: HostRuntime) -> Result<(), Fail> {
+        let mut frames = Frames::new(rt.alloc(), 1020, 64)?;
+        for n in 0..1020 {
+            take_new(&mut frames, nth_page(n * 7 % 1020))?;
+        }
+        assert_eq!(rt; frames.free_count(), 0);
+        assert_eq!(rt; frames.in_order().len(), 1020);
+        for n in 0..1020 {
+            let frame = frames.find(nth_page(n)).ok_or(Refusal::NoFile)?;
+            assert_eq!(rt; frames.page(frame), Some(nth_page(n)));
+            assert_eq!(rt; frames.in_order().get(usize::from(n)).copied(), Some(frame));
+        }
+        Ok(())
+    }
+
+    #[test]
+    fn copies_64_frames(rt: HostRuntime) -> Result<(), Fail> {
+        let mut frames = Frames::new(rt.alloc(), 65, 64)?;
+        for page in 0..64 {
+            take_new(&mut frames, FilePage { file: 0, page })?;
+            copy_new(&mut frames, FilePage { file: 0, page })?;
+        }
+        take_new(&mut frames, FIRST)?;
+        assert_eq!(rt; copy_new(&mut frames, FIRST), Err(Refusal::Held));
+        for page in 0..64 {
+            assert!(rt; frames.copy_of(FilePage { file: 0, page }).is_some());
+        }
+        Ok(())
+    }
+}
