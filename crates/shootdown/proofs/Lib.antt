@@ -1,0 +1,9 @@
+mod Flags
+mod Queues
+mod Told
+mod Each
+mod Sent
+pub mod Narrowing
+pub mod ProcessorLaws
+pub mod ShootdownLaws
+pub mod CoherenceLaws
