@@ -1,11 +1,12 @@
 -- The program's status.
 use Rattle.std.specs.Prelude.{ℕ}
 use Rattle.famsync.specs.declared.fault.Fault.{Fault}
-use Rattle.famsync.specs.declared.fault.Fault.TheVariants.{CommandLine, Slots, FileSpec, Script, File, Disk, Step, Output, Memory}
+use Rattle.famsync.specs.declared.fault.Fault.TheVariants.{CommandLine, Layout, Slots, FileSpec, Script, File, Disk, Step, Output, Memory}
 
 -- 1 for a script that is refused, 2 for a bad command line, 3 for everything else
 abbrev pub status_of : Fault → ℕ
 status_of (CommandLine text) = 2
+status_of (Layout word) = 2
 status_of (Slots word) = 2
 status_of (FileSpec word) = 2
 status_of (Script path cause) = 1

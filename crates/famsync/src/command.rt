@@ -7,15 +7,17 @@ use clap::error::ErrorKind;
 use clap::{Arg, ArgAction, ArgMatches, Command, Error};
 use std::alloc::{AllocError, Allocator, Global};
 use std::convert::AsStr;
+use volume_codec::FileSpec;
 
 /// What the words ask for.
 #[derive(Drop)]
 pub enum Job<'a, A: Allocator + Copy> {
-    /// Make a volume with these files, each a name and a length in bytes.
+    /// Make a volume in the layout of this number, with these files.
     Format {
+        layout: u64,
         disk: &'a str,
         slots: u64,
-        files: Vec<(&'a str, u64), A>,
+        files: Vec<FileSpec<'a>, A>,
     },
     /// Run a script on a volume.
     Run {
@@ -63,6 +65,8 @@ fn format_job<'a, A: Allocator + Copy>(
     alloc: A,
     words: &ArgMatches<'a>,
 ) -> Result<Job<'a, A>, Fault<'a>> {
+    let layout = text(words, "layout");
+    let layout = decimal(layout).ok_or(Fault::Layout(layout))?;
     let slots = text(words, "SLOTS");
     let slots = decimal(slots).ok_or(Fault::Slots(slots))?;
     let mut files = Vec::new(alloc);
@@ -70,6 +74,7 @@ fn format_job<'a, A: Allocator + Copy>(
         files.push(file_spec(word).ok_or(Fault::FileSpec(word))?)?;
     }
     Ok(Job::Format {
+        layout,
         disk: text(words, "DISK"),
         slots,
         files,
@@ -96,11 +101,12 @@ fn program<'a>(alloc: Global) -> Result<Command<'a>, AllocError> {
 fn format_command<'a>(alloc: Global) -> Result<Command<'a>, AllocError> {
     Command::new(alloc, "format")
         .about("Makes or replaces the file DISK by a volume whose files are all zeros")
+        .arg(layout_option(alloc))?
         .arg(word(alloc, "DISK", "The file to make"))?
         .arg(word(
             alloc,
             "SLOTS",
-            "Record slots, 1 to 1020: the most pages that one commit can have",
+            "Record slots of each journal, 1 to 1020: the most pages that one commit can have",
         ))?
         .arg(
             word(
@@ -111,6 +117,14 @@ fn format_command<'a>(alloc: Global) -> Result<Command<'a>, AllocError> {
             .action(ArgAction::Append)
             .num_args(1..),
         )
+}
+
+fn layout_option<'a>(alloc: Global) -> Arg<'a> {
+    Arg::new(alloc, "layout")
+        .long("layout")
+        .value_name("LAYOUT")
+        .default_value("1")
+        .help("The number of the volume's layout: 1 has one journal, 2 has two")
 }
 
 fn run_command<'a>(alloc: Global) -> Result<Command<'a>, AllocError> {

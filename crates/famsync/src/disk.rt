@@ -8,13 +8,15 @@ use std::fs::File;
 use std::io;
 use std::io::{Read, Write};
 use std::rt::Files;
+use volume_codec::FileSpec;
 
-/// Makes or replaces a file by a volume with these files, and says how many blocks it has.
+/// Makes or replaces a file by a volume in the layout of this number, with these files, and says how many blocks it has.
 pub fn format<'a, R, A, W>(
     rt: &R,
     alloc: A,
     path: &'a str,
-    files: &[(&str, u64)],
+    layout: u64,
+    files: &[FileSpec<'_>],
     slots: u64,
     out: &mut W,
 ) -> Result<(), Fault<'a>>
@@ -24,11 +26,11 @@ where
     W: Write,
 {
     let refused = |cause| Fault::Disk { path, cause };
-    let blocks = old_recovery::blocks(files, slots).map_err(refused)?;
+    let blocks = recovery::blocks_as(layout, files, slots).map_err(refused)?;
     let mut disk = FileDisk::create(rt, path, blocks.saturating_mul(PAGE)).map_err(
         |cause| Fault::File { path, cause },
     )?;
-    old_recovery::format(alloc, &mut disk, files, slots).map_err(refused)?;
+    recovery::format_as(alloc, &mut disk, layout, files, slots).map_err(refused)?;
     writeln!(out, "formatted {blocks} blocks")?;
     Ok(())
 }
@@ -41,7 +43,7 @@ where
     W: Write,
 {
     let disk = MemDisk::from_bytes(alloc, read_file(rt, alloc, path)?)?;
-    match old_recovery::open(alloc, disk) {
+    match recovery::open(alloc, disk) {
         Ok(mut volume) => write_files(path, &mut volume, out),
         Err((cause, _)) => Err(Fault::Disk { path, cause }),
     }

@@ -1,12 +1,11 @@
 // The dump of a volume: the name and length of each file, and its rows of 16 bytes in hexadecimal.
 ghost use Rattle.std.specs.Prelude.{◌≡◌, ◌<◌, length, slice_get, Some};
-ghost use Rattle.old_volume_codec.specs.Tables.{lengths_in};
 ghost use Rattle.famsync.specs.Dump.{row_text};
 
 use crate::fault::Fault;
 use device::Device;
-use old_recovery::Volume;
 use page_entry::PAGE;
+use recovery::Volume;
 use std::alloc::Allocator;
 use std::{fmt, io};
 
@@ -20,7 +19,7 @@ pub struct Row<'a> {
 impl fmt::Display for Row<'_> {
     ghost output = { λ row. Some (row_text row.at row.bytes.now) };
 
-    /// The offset in 12 hexadecimal digits, and behind it each byte in two, after a space.
+    /// The offset in 12 hexadecimal digits, and after it each byte in two, after a space.
     fn fmt<W: fmt::Write>(&self, f: &mut fmt::Formatter<W>) -> fmt::Result {
         let at = self.at;
         write!(f, "{at:012x}")?;
@@ -73,8 +72,9 @@ fn write_bytes<'a, D: Device + Drop, A: Allocator + Copy, W: io::Write>(
     out: &mut W,
 ) -> Result<(), Fault<'a>>
     requires there { file < length volume.old.table.files }
-    requires long { slice_get (lengths_in volume.old.table) file ≡ Some bytes }
-    ensures { volume.new.table ≡ volume.old.table }
+    requires long { slice_get volume.old.lengths file ≡ Some bytes }
+    ensures table { volume.new.table ≡ volume.old.table }
+    ensures lengths { volume.new.lengths ≡ volume.old.lengths }
 {
     let mut buffer = [0; PAGE as usize];
     for page in 0..bytes.div_ceil(PAGE) {

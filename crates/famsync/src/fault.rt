@@ -14,10 +14,13 @@ pub enum Fault<'a> {
     /// The words aren't of the forms that the help shows.
     #[error("{0}")]
     CommandLine(String),
-    /// The word that stands for the number of record slots is no number.
+    /// The word for the layout is no number.
+    #[error("LAYOUT is {0:?}, which isn't a decimal number up to 2^64 - 1")]
+    Layout(&'a str),
+    /// The word for the number of record slots is no number.
     #[error("SLOTS is {0:?}, which isn't a decimal number up to 2^64 - 1")]
     Slots(&'a str),
-    /// A word that stands for a file isn't a name with a length.
+    /// A word for a file isn't a name with a length.
     #[error("FILE is {0:?}, which isn't a name, `=` and a decimal length up to 2^64 - 1")]
     FileSpec(&'a str),
     /// The script was refused, before anything was opened.
@@ -47,7 +50,7 @@ impl Fault<'_> {
     {
         match self {
             Fault::Script { .. } => 1,
-            Fault::CommandLine(_) | Fault::Slots(_) | Fault::FileSpec(_) => 2,
+            Fault::CommandLine(_) | Fault::Layout(_) | Fault::Slots(_) | Fault::FileSpec(_) => 2,
             _ => 3,
         }
     }

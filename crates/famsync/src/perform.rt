@@ -64,7 +64,12 @@ where
     O: io::Write,
 {
     match read_words(rt.alloc(), alloc, words)? {
-        Job::Format { disk, slots, files } => disk::format(rt, alloc, disk, &files, slots, out),
+        Job::Format {
+            layout,
+            disk,
+            slots,
+            files,
+        } => disk::format(rt, alloc, disk, layout, &files, slots, out),
         Job::Run { disk, script } => run(rt, alloc, disk, script, out),
         Job::Dump { disk } => disk::dump(rt, alloc, disk, out),
         Job::Show(text) => Ok(out.write_all(text.as_bytes())?),

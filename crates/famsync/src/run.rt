@@ -6,7 +6,7 @@ use crate::disk::read_file;
 use crate::fault::Fault;
 use crate::script::{Script, ScriptFault};
 use crate::session::run_steps;
-use device::FileDisk;
+use device::{Device, FileDisk};
 use old_machine::Reply;
 use page_entry::Refusal;
 use std::alloc::Allocator;
@@ -33,7 +33,20 @@ where
     let disk = FileDisk::open(rt, path).map_err(|cause| Fault::File { path, cause })?;
     match run_steps(alloc, disk, shape, &steps, &mut replies) {
         Ok(_) => write_replies(script, &replies, out),
+        Err((Refusal::NotAVolume, disk)) => Err(Fault::Disk {
+            path,
+            cause: refusal_of_other_layout(alloc, disk),
+        }),
         Err((cause, _)) => Err(Fault::Disk { path, cause }),
+    }
+}
+
+// Why there is no run on a device that is no volume of layout 1: no machine has a volume of another layout yet. Such a volume
+// is opened.
+fn refusal_of_other_layout<D: Device + Drop, A: Allocator + Copy>(alloc: A, disk: D) -> Refusal {
+    match recovery::open(alloc, disk) {
+        Ok(_) => Refusal::BadShape,
+        Err((cause, _)) => cause,
     }
 }
 

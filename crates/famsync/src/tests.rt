@@ -43,7 +43,7 @@ fn prints(rt: &HostRuntime, line: &str, status: u8, out: &str, err: &str) -> io:
     Ok(ran.status == status && ran.out() == out && ran.err() == err)
 }
 
-// Whether a run ends with this status, prints nothing, and says one line that begins with this behind the program's name.
+// Whether a run ends with this status, prints nothing, and says one line that begins with this after the program's name.
 fn complains(rt: &HostRuntime, line: &str, status: u8, cause: &str) -> io::Result<bool> {
     let ran = famsync(rt, line)?;
     let err = ran.err();
@@ -422,6 +422,9 @@ fn bad_words_are_refused(rt: HostRuntime) -> Result<(), Fail> {
             "unexpected argument '--all' found",
         ),
         ("format|bad.img|-4|a=1", "unexpected argument '-4' found"),
+        ("format|--layout|two|bad.img|4|a=1", "LAYOUT is \"two\""),
+        ("format|--layout=+2|bad.img|4|a=1", "LAYOUT is \"+2\""),
+        ("format|--layout=|bad.img|4|a=1", "LAYOUT is \"\""),
         ("format|bad.img|4x|a=1", "SLOTS is \"4x\""),
         ("format|bad.img||a=1", "SLOTS is \"\""),
         ("format|bad.img|+4|a=1", "SLOTS is \"+4\""),
@@ -472,6 +475,14 @@ fn faults_are_told(rt: HostRuntime) -> Result<(), Fail> {
             "format|fault.img|4|a=18446744073709551615",
             "disk \"fault.img\": badshape",
         ),
+        (
+            "format|--layout|3|fault.img|4|a=1",
+            "disk \"fault.img\": badshape",
+        ),
+        (
+            "format|--layout=0|fault.img|4|a=1",
+            "disk \"fault.img\": badshape",
+        ),
         ("format|none/x.img|4|a=1", "file \"none/x.img\": "),
         ("format|none/x\n.img|4|a=1", "file \"none/x\\n.img\": "),
         ("run|none.img|none.json", "file \"none.json\": "),
@@ -491,6 +502,68 @@ fn faults_are_told(rt: HostRuntime) -> Result<(), Fail> {
     Ok(())
 }
 
+// An image of the volume of layout 2 with the same files and as many slots, and with these bytes at these offsets changed.
+fn image_of_two(rt: &HostRuntime, changes: &[(usize, u8)]) -> io::Result<Vec<u8>> {
+    let mut image = vec![in rt.alloc(); 0; 65_536]?;
+    put(&mut image, 0, b"FAMSYNC2");
+    put(&mut image, 8, &[0, 0, 0, 2, 0, 0, 0, 4, 0, 0, 0, 16]);
+    put(&mut image, 32, b"a");
+    put(
+        &mut image,
+        64,
+        &[0, 0, 0, 0, 0, 0, 0x13, 0x88, 0, 0, 0, 13, 0, 0, 0, 2],
+    );
+    put(&mut image, 80, b"b");
+    put(
+        &mut image,
+        112,
+        &[0, 0, 0, 0, 0, 0, 0x10, 0, 0, 0, 0, 15, 0, 0, 0, 1],
+    );
+    for (at, byte) in changes {
+        put(&mut image, *at, &[*byte]);
+    }
+    Ok(image)
+}
+
+// A volume of layout 2 is made and printed, with what open journals have, the newer one over the older. No machine runs on it
+// yet, and a run leaves it opened.
+#[test]
+fn a_volume_has_two_journals(rt: HostRuntime) -> Result<(), Fail> {
+    let made = famsync(&rt, "format|--layout|2|two.img|4|a=5000|b=4096")?;
+    assert_eq!(rt; made.out(), "formatted 16 blocks\n");
+    assert!(rt; made.status == 0 && holds(&rt, "two.img", &image_of_two(&rt, &[])?)?);
+    assert!(rt; prints(&rt, "dump|two.img", 0, "a 5000\nb 4096\n", "")?);
+
+    // Mark 1 has 65 in the first page of `a`, mark 2 has 66 there.
+    let journals = [
+        (4096, 0xA7),
+        (8199, 1),
+        (8203, 1),
+        (8211, 13),
+        (12_288, 65),
+        (28_672, 0xA7),
+        (32_775, 2),
+        (32_779, 1),
+        (32_787, 13),
+        (36_864, 66),
+    ];
+    let open = image_of_two(&rt, &journals)?;
+    fs::write(&rt, "two.img", open.as_slice())?;
+    let dump = "a 5000\n000000000000 42 00 00 00 00 00 00 00 00 00 00 00 00 00 00 00\nb 4096\n";
+    assert!(rt; prints(&rt, "dump|two.img", 0, dump, "")? && holds(&rt, "two.img", &open)?);
+
+    fs::write(&rt, "two.json", script(rt.alloc(), "")?)?;
+    let err = "famsync: disk \"two.img\": badshape\n";
+    assert!(rt; prints(&rt, "run|two.img|two.json", 3, "", err)?);
+    let mut opened = open;
+    put(&mut opened, 4096, &[0]);
+    put(&mut opened, 28_672, &[0]);
+    put(&mut opened, 53_248, &[66]);
+    assert!(rt; holds(&rt, "two.img", &opened)?);
+    remove(&rt, &["two.img", "two.json"])?;
+    Ok(())
+}
+
 // Help and the version are printed with status 0.
 #[test]
 fn help_is_printed(rt: HostRuntime) -> Result<(), Fail> {
@@ -499,7 +572,7 @@ fn help_is_printed(rt: HostRuntime) -> Result<(), Fail> {
         ("help|run", "Usage: famsync run <DISK> <SCRIPT>"),
         (
             "format|--help",
-            "Usage: famsync format <DISK> <SLOTS> <FILE>...",
+            "Usage: famsync format [OPTIONS] <DISK> <SLOTS> <FILE>...",
         ),
         ("dump|-h", "Usage: famsync dump <DISK>"),
         ("--version", "famsync 0.1.0\n"),
@@ -552,9 +625,10 @@ fn files_are_made_anew(rt: HostRuntime) -> Result<(), Fail> {
 #[test]
 fn images_are_refused(rt: HostRuntime) -> Result<(), Fail> {
     fs::write(&rt, "images.json", FIRST_SCRIPT)?;
-    let rows: [(&[(usize, u8)], bool); 25] = [
+    let rows: [(&[(usize, u8)], bool); 26] = [
         (&[(0, b'G')], true),
-        (&[(7, b'2')], true),
+        (&[(7, b'2')], false),
+        (&[(7, b'5')], true),
         // The count of files.
         (&[(11, 0)], false),
         (&[(11, 65)], false),

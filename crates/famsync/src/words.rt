@@ -1,7 +1,9 @@
 // Numbers and files, as words of the command line.
-ghost use Rattle.std.specs.Prelude.{SomeIff, MatchOption};
+ghost use Rattle.std.specs.Prelude.{◌≡◌, SomeIff, MatchOption};
 ghost use Rattle.std.specs.Str.Parse.{digits_value};
 ghost use Rattle.famsync.specs.Words.{IsDecimal, IsFile, IsNoFile};
+
+use volume_codec::FileSpec;
 
 /// The number that one or more decimal digits write, and nothing else, up to 2^64 - 1. Leading zeros are digits.
 pub fn decimal(word: &str) -> Option<u64>
@@ -13,10 +15,15 @@ pub fn decimal(word: &str) -> Option<u64>
     word.parse().ok()
 }
 
-/// The name and the length of `name=length`, cut at the last `=`.
-pub fn file_spec(word: &str) -> Option<(&str, u64)>
-    ensures { MatchOption result (IsNoFile word.now) (λ file. IsFile word.now file.0.now file.1) }
+/// The file of `name=length`, cut at the last `=`, which is as long as its capacity.
+pub fn file_spec(word: &str) -> Option<FileSpec<'_>>
+    ensures { MatchOption result (IsNoFile word.now) (λ file. IsFile word.now file.name.now file.length × (file.capacity ≡ file.length)) }
 {
     let (name, length) = word.rsplit_once('=')?;
-    Some((name, decimal(length)?))
+    let length = decimal(length)?;
+    Some(FileSpec {
+        name,
+        length,
+        capacity: length,
+    })
 }

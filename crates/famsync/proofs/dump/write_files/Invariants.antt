@@ -2,4 +2,4 @@ use Rattle.std.proofs.Common.{◌≡◌}
 use Rattle.famsync.proofs.dump.write_files.Given as goal
 
 abbrev pub invariant-loop-file : goal.invariant-loop-file
-invariant-loop-file g l = l.volume.table ≡ l.initial.volume.table
+invariant-loop-file g l = (l.volume.table ≡ l.initial.volume.table) × (l.volume.lengths ≡ l.initial.volume.lengths)
