@@ -1,0 +1,2 @@
+pub mod FixLaws
+pub mod ServedLaws

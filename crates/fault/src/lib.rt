@@ -1,0 +1,12 @@
+//! Page faults: where the address of a fault leads, and how the fault is served (POSIX.1-2024, `mmap`, "References
+//! within the address range"; Park, Kelly and Shen 2013, failure-atomic msync).
+#![tactic(auto)]
+
+mod bring;
+mod home;
+mod page_fault;
+mod plan;
+mod serve;
+
+pub use page_fault::PageFault;
+pub use serve::{fix, place};

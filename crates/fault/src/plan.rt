@@ -1,0 +1,104 @@
+// What is decided of a fault, before anything is done.
+ghost use Rattle.std.specs.Prelude.{◌≡◌, true, Some, not, Ok, Err, MatchResult, if◌then◌else◌};
+ghost use Rattle.std.specs.List.{All};
+ghost use Rattle.frames.specs.Frames.{has_free};
+ghost use Rattle.checkpoint.specs.Backing.{page_at};
+ghost use Rattle.fault.specs.Fault.{is_in_memory, copies_out};
+ghost use Rattle.fault.specs.Fixing.{refusal_of};
+ghost use Rattle.fault.specs.inside.Frame.{IsPlanned};
+
+use crate::PageFault;
+use checkpoint::Checkpoint;
+use frames::Frames;
+use mappings::Place;
+use page_entry::{FilePage, FrameNumber, PAGE, Refusal};
+use std::alloc::Allocator;
+
+/// What is to be done so that the page of a fault is in a frame.
+#[derive(Clone, Copy, Debug, PartialEq, Eq)]
+pub(crate) enum Plan {
+    /// Nothing: this frame has it.
+    Keep(FrameNumber),
+    /// This frame has it, and its bytes are copied to a free copy frame.
+    Copy(FrameNumber),
+    /// It is read into a free frame.
+    Read,
+}
+
+/// The page of a file that a place is.
+pub(crate) fn page_at(place: Place) -> FilePage
+    ensures { result ≡ page_at place }
+{
+    FilePage {
+        file: place.file,
+        page: place.page,
+    }
+}
+
+// Whether a frame is free.
+fn has_free_frame<A: Allocator + Copy>(frames: &Frames<A>) -> bool
+    ensures { result ≡ has_free frames.now.frames }
+{
+    frames.free_count() > 0
+}
+
+// Whether an access to a page takes a copy of its bytes: a store to a held page does.
+fn copies_out<A: Allocator + Copy>(
+    frames: &Frames<A>,
+    checkpoint: &Checkpoint<A>,
+    page: FilePage,
+    write: bool,
+) -> bool
+    ensures { result ≡ copies_out frames.now checkpoint.now page write }
+{
+    write && checkpoint.is_held(frames, page)
+}
+
+/// Decides what is to be done for the page of a fault, or why the fault isn't served, in the order of the reasons. Two
+/// come later: no copy frame is free, and the read fails.
+pub(crate) fn decide<A: Allocator + Copy>(
+    frames: &Frames<A>,
+    checkpoint: &Checkpoint<A>,
+    fault: PageFault,
+) -> Result<Plan, Refusal>
+    requires { All (λ page. is_in_memory frames.now page ≡ true) checkpoint.now.frozen }
+    ensures { MatchResult result (IsPlanned frames.now checkpoint.now fault)
+        (λ why. refusal_of frames.now checkpoint.now fault ≡ Some why) }
+{
+    if fault.length <= PAGE * u64::from(fault.place.page) {
+        return Err(Refusal::BusAdrErr);
+    }
+    let page = page_at(fault.place);
+    match frames.find(page) {
+        Some(frame) => {
+            let copies = copies_out(frames, checkpoint, page, fault.write);
+            Ok(plan_for(frame, copies))
+        }
+        None => plan_to_read(frames, fault.broken),
+    }
+}
+
+// What is to be done for a page that is in a frame, where its bytes are copied or aren't.
+fn plan_for(frame: FrameNumber, copies: bool) -> Plan
+    ensures { result ≡ (if copies then Plan.Copy frame else Plan.Keep frame) }
+{
+    if copies {
+        Plan::Copy(frame)
+    } else {
+        Plan::Keep(frame)
+    }
+}
+
+// What is to be done for a page that is in no frame, or why it can't be read.
+fn plan_to_read<A: Allocator + Copy>(frames: &Frames<A>, broken: bool) -> Result<Plan, Refusal>
+    ensures { result ≡ (if not (has_free frames.now.frames) then Err Refusal.NoFrame
+        else (if broken then Err Refusal.Device else Ok Plan.Read)) }
+{
+    if !has_free_frame(frames) {
+        return Err(Refusal::NoFrame);
+    }
+    if broken {
+        return Err(Refusal::Device);
+    }
+    Ok(Plan::Read)
+}
