@@ -1,0 +1,4 @@
+pub mod Uses
+pub mod Translations
+pub mod Refusals
+mod Mapping

@@ -1,0 +1,46 @@
+// What a TLB caches and drops unasked: a processor may cache a translation, or drop a cached one, at any time.
+ghost use Rattle.std.specs.Prelude.{◌≡◌};
+ghost use Rattle.frames.specs.Frames.{FramesState};
+ghost use Rattle.spaces.specs.Spaces.{Spaces as AddressSpaces};
+ghost use Rattle.shootdown.specs.Coherence.{Coheres, KeepsCoherence};
+ghost use Rattle.cpu.specs.Access.{hardware, Fills, Evicts};
+ghost use Rattle.cpu.specs.Keeping.{OnlyUses};
+
+use crate::translation::walk;
+use page_entry::{PageNumber, ProcessorNumber, Refusal};
+use shootdown::Shootdown;
+use spaces::Spaces;
+use std::alloc::Allocator;
+
+/// Caches the entry of a page of a processor's current space, in whatever state the processor is, and notes the entry as
+/// accessed; false where the page has none, and then nothing changes. `Einval` where there is no processor with this
+/// number.
+pub fn fill<A: Allocator + Copy>(
+    shootdown: &mut Shootdown<A>,
+    spaces: &mut Spaces<A>,
+    p: ProcessorNumber,
+    page: PageNumber,
+) -> Result<bool, Refusal>
+    ensures filled { (memory : FramesState) → Fills (hardware shootdown.old spaces.old.map memory) p page result
+        (hardware shootdown.new spaces.new.map memory) }
+    ensures uses { OnlyUses spaces.old spaces.new }
+    ensures coherent { Coheres spaces.old.map shootdown.old → Coheres spaces.new.map shootdown.new }
+{
+    shootdown.state(p)?;
+    Ok(walk(shootdown, spaces, p, page, false).is_ok())
+}
+
+/// Drops the entry in a slot of a processor's TLB, counted from 0, the oldest, in whatever state the processor is; false
+/// where there is no such slot. `Einval` where there is no processor with this number.
+pub fn evict<A: Allocator + Copy>(
+    shootdown: &mut Shootdown<A>,
+    p: ProcessorNumber,
+    slot: usize,
+) -> Result<bool, Refusal>
+    ensures evicted { (spaces : AddressSpaces) (memory : FramesState)
+        → Evicts (hardware shootdown.old spaces memory) p slot result (hardware shootdown.new spaces memory) }
+    ensures coherent { KeepsCoherence shootdown.old shootdown.new }
+{
+    shootdown.state(p)?;
+    Ok(shootdown.evict(p, slot))
+}

@@ -1,0 +1,12 @@
+//! Loads and stores of processors, through their TLBs and the page tables, and the fills and evictions that a TLB makes
+//! unasked (Intel SDM volume 3, "4-Level Paging", "Caching Translation Information").
+#![tactic(auto)]
+
+mod access;
+mod caching;
+#[cfg(test)]
+mod tests;
+mod translation;
+
+pub use access::{load, store};
+pub use caching::{evict, fill};
