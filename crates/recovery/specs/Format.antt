@@ -25,9 +25,10 @@ pub record HasShape (layout : ℕ) (files : List AskedFile) (slots bytes : ℕ) 
   pub asked : IsAsked layout files slots table
   pub long : 4096 * block_count table ≤ bytes
 
--- an honest device was formatted: it is a volume with the table that was asked for and nothing in its files, all of it is
--- synced, and what lies past the volume is as before
-pub record HasFormatted {D : Type 0} (disk : Ghosts D) (layout : ℕ) (files : List AskedFile) (slots : ℕ) (old new : D) : Type 0 where
+-- an honest device was formatted: it is a volume with the table that was asked for and nothing in its files, all of
+-- it is synced, and what lies past the volume is as before
+pub record HasFormatted {D : Type 0} (disk : Ghosts D) (layout : ℕ) (files : List AskedFile) (slots : ℕ) (old new : D)
+    : Type 0 where
   pub table : SuperValue
   pub shape : HasShape layout files slots (length (disk.seen old)) table
   pub blank : IsBlank table (disk.seen new)

@@ -11,8 +11,8 @@ use Rattle.volume_codec.specs.Recovery.{Batch, AreOpen, contents_in, IsVolume, I
 use Rattle.recovery.specs.Counts.{Rises, IsKept}
 use Rattle.recovery.specs.Volume.{VolumeState}
 
--- nothing was written, at no moment: a read gives what it gave, and a crash now, or at any moment since old, leaves no more
--- than it might have left then
+-- nothing was written, at no moment: a read gives what it gave, and a crash now, or at any moment since old, leaves
+-- no more than it might have left then
 pub record IsUnwritten {D : Type 0} (disk : Ghosts D) (old new : D) : Type 0 where
   pub same : disk.seen new ≡ disk.seen old
   pub left : (c : List ℕ) → disk.may_leave new c → disk.may_leave old c
@@ -26,20 +26,21 @@ IsOutside g i = (i < 4096 * first_home g.layout g.slots) ⊎ (4096 * g.blocks �
 abbrev pub gate_byte : ℕ → Batch → ℕ
 gate_byte slots batch = 4096 * gate_block slots batch.journal
 
--- These batches were carried out: each home block has what stood for it, the gates of their journals are closed by the byte
--- 0, and every other byte is as before.
+-- These batches were carried out: each home block has what stood for it, the gates of their journals are closed by
+-- the byte 0, and every other byte is as before.
 pub record IsOpened (g : GeometryValue) (batches : List Batch) (old new : List ℕ) : Type 0 where
   pub same_length : length new ≡ length old
   pub homes : (b : ℕ) → IsHome g b → block_at new b ≡ contents_in g.slots batches old b
   pub gates : AllByRecursion (λ batch. slice_index new (gate_byte g.slots batch) ≡ 0) batches
-  pub others : (i : ℕ) → IsOutside g i → AllByRecursion (λ batch. i ≢ gate_byte g.slots batch) batches → slice_index new i ≡ slice_index old i
+  pub others : (i : ℕ) → IsOutside g i → AllByRecursion (λ batch. i ≢ gate_byte g.slots batch) batches
+      → slice_index new i ≡ slice_index old i
 
 -- none of these batches has a record for home block b
 abbrev pub HaveNoRecord : List Batch → ℕ → Type 0
 HaveNoRecord batches b = AllByRecursion (λ batch. AllByRecursion (λ home. home ≢ b) batch.homes) batches
 
--- Some of these batches were carried out, the oldest first. The newest of them wait: their journals alone are open, with
--- their records as they were; each home block for which none of these has a record has what stood for it.
+-- Some of these batches were carried out, the oldest first. The newest of them wait: their journals alone are open,
+-- with their records as they were; each home block for which none of these has a record has what stood for it.
 pub record IsBeingOpened (g : GeometryValue) (batches : List Batch) (old c : List ℕ) : Type 0 where
   pub waiting : List Batch
   pub done : List Batch
@@ -56,14 +57,15 @@ pub record IsBeingOpened (g : GeometryValue) (batches : List Batch) (old c : Lis
 abbrev pub HoldsVolume : List ℕ → Type 0
 HoldsVolume bytes = (table : SuperValue) × (batches : List Batch) × IsVolume table batches bytes
 
--- what a crash leaves of an opening: what it might have left before it, or, where a read then gave a volume, that volume
--- while its open batches are carried out
+-- what a crash leaves of an opening: what it might have left before it, or, where a read then gave a volume, that
+-- volume while its open batches are carried out
 abbrev pub LeftWithin : {D : Type 0} → Ghosts D → D → List ℕ → Type 0
 LeftWithin disk before c = disk.may_leave before c
-    ⊎ ((table : SuperValue) × (batches : List Batch) × IsVolume table batches (disk.seen before) × IsBeingOpened (geometry_of table) batches (disk.seen before) c)
+    ⊎ ((table : SuperValue) × (batches : List Batch) × IsVolume table batches (disk.seen before)
+    × IsBeingOpened (geometry_of table) batches (disk.seen before) c)
 
--- how many device calls an opening makes: it reads block 0, syncs and reads each gate byte; for each open batch it reads the
--- descriptor, reads and writes each record, syncs, closes the gate and syncs
+-- how many device calls an opening makes: it reads block 0, syncs and reads each gate byte; for each open batch it
+-- reads the descriptor, reads and writes each record, syncs, closes the gate and syncs
 abbrev pub opening_calls : SuperValue → List Batch → ℕ
 opening_calls table batches = 2 + journals_of table.layout + sum_by (λ batch. 2 * length batch.homes + 4) batches
 
@@ -98,10 +100,13 @@ pub record HasRefused {D : Type 0} (disk : Ghosts D) (before : D) (refusal : Ref
   pub reason : RefusesOpening (disk.seen before) refusal
   pub unwritten : IsUnwritten disk before after ⊎ ((refusal ≡ Device) × HoldsVolume (disk.seen before))
 
--- An opening of a device, which came to this result and left the device so. What is said of its bytes is said of an honest
--- device.
-pub record Opens {D : Type 0} (disk : Ghosts D) (before : D) (result : Result SuperValue Refusal) (after : D) : Type 0 where
+-- An opening of a device, which came to this result and left the device so. What is said of its bytes is said of an
+-- honest device.
+pub record Opens {D : Type 0} (disk : Ghosts D) (before : D) (result : Result SuperValue Refusal) (after : D)
+    : Type 0 where
   pub kept : IsKept disk before result after
-  pub ended : disk.is_honest before → MatchResult result (λ table. HasOpened disk before table after) (λ refusal. HasRefused disk before refusal after)
+  pub ended : disk.is_honest before
+      → MatchResult result (λ table. HasOpened disk before table after)
+      (λ refusal. HasRefused disk before refusal after)
   -- a crash at any moment since it began
   pub within : disk.is_honest before → LeavesOnly disk.moment disk.left_since before after (LeftWithin disk before)

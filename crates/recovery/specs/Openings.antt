@@ -23,14 +23,16 @@ pub record FollowsOpening {D : Type 0} (disk : Ghosts D) (before device : D) : T
   pub opens : Opens disk before result after
   pub then : (device ≡ after) ⊎ IsRestarted disk (disk.left_since after (disk.moment before)) device
 
--- the first device, or one after a crash of it, was opened so many times, with a crash or none within or after each opening
+-- the first device, or one after a crash of it, was opened so many times, with a crash or none within or after each
+-- opening
 abbrev pub IsLater : {D : Type 0} → Ghosts D → ℕ → D → D → Type 0
 IsLater disk zero first device = (device ≡ first) ⊎ IsRestarted disk (disk.may_leave first) device
 IsLater {D} disk (suc n) first device = (before : D) × IsLater disk n first before × FollowsOpening disk before device
 
 -- this list recovers to what some list among these recovers to
 abbrev pub RecoversAs : (List ℕ → Type 0) → List ℕ → Type 0
-RecoversAs lists c = (d : List ℕ) × lists d × ((table : SuperValue) (contents : ℕ → List ℕ) → Recovers table contents d → Recovers table contents c)
+RecoversAs lists c = (d : List ℕ) × lists d
+    × ((table : SuperValue) (contents : ℕ → List ℕ) → Recovers table contents d → Recovers table contents c)
 
 -- each of these lists recovers to files that pass this test
 abbrev pub AllRecover : (List File → Bool) → (List ℕ → Type 0) → Type 0

@@ -16,9 +16,11 @@ pub record VolumeState (D : Type 0) : Type 0 where
 -- each file has a length, and none is above its file's capacity
 pub record AreLengths (table : SuperValue) (lengths : List ℕ) : Type 0 where
   pub count : length lengths ≡ length table.files
-  pub within : (i n : ℕ) (f : TableFile) → slice_get table.files i ≡ Some f → slice_get lengths i ≡ Some n → n ≤ f.capacity
+  pub within : (i n : ℕ) (f : TableFile) → slice_get table.files i ≡ Some f → slice_get lengths i ≡ Some n
+      → n ≤ f.capacity
 
--- an honest device that holds a volume with its gates closed, all of it synced, so that a crash leaves what a read gives
+-- an honest device that holds a volume with its gates closed, all of it synced, so that a crash leaves what a read
+-- gives
 pub record IsAtRest {D : Type 0} (disk : Ghosts D) (volume : VolumeState D) : Type 0 where
   pub holds : IsVolume volume.table [] (disk.seen volume.device)
   pub lengths_are : volume.lengths ≡ lengths_in volume.table (block_at (disk.seen volume.device))

@@ -12,7 +12,7 @@ use page_entry::{PAGE, Refusal};
 use volume_codec::Geometry;
 
 /// A block of zeros.
-pub fn zero_block() -> [u8; 4096]
+fn zero_block() -> [u8; 4096]
     ensures { result ≡ zeros 4096 }
 {
     [0; 4096]
@@ -22,7 +22,8 @@ pub fn zero_block() -> [u8; 4096]
 pub fn read<D: Device>(device: &mut D, at: u64, buffer: &mut [u8]) -> Result<(), Refusal>
     requires { at + length buffer.old ≤ length (D.seen device.old) }
 
-    ensures bytes { D.is_honest device.old → OnOk result (buffer.new ≡ slice_range (D.seen device.old) at (at + length buffer.old)) }
+    ensures bytes { D.is_honest device.old
+        → OnOk result (buffer.new ≡ slice_range (D.seen device.old) at (at + length buffer.old)) }
     ensures unwritten { D.is_honest device.old → IsUnwritten D.Device device.old device.new }
     ensures kept { IsKept D.Device device.old result device.new }
     ensures fault { IfErr result (λ refusal. refusal ≡ Refusal.Device) }
@@ -53,9 +54,11 @@ pub fn read_block<D: Device>(device: &mut D, block: u32) -> Result<[u8; 4096], R
 pub fn write<D: Device>(device: &mut D, at: u64, bytes: &[u8]) -> Result<(), Refusal>
     requires { at + length bytes.now ≤ length (D.seen device.old) }
 
-    ensures written { D.is_honest device.old → OnOk result (D.seen device.new ≡ written (D.seen device.old) at bytes.now) }
+    ensures written { D.is_honest device.old
+        → OnOk result (D.seen device.new ≡ written (D.seen device.old) at bytes.now) }
     ensures left { (c : List ℕ) → D.may_leave device.new c → TornFrom at (length bytes.now) (D.may_leave device.old) c }
-    ensures time { LeavesOnly D.moment D.left_since device.old device.new (TornFrom at (length bytes.now) (D.may_leave device.old)) }
+    ensures time { LeavesOnly D.moment D.left_since device.old device.new
+        (TornFrom at (length bytes.now) (D.may_leave device.old)) }
     ensures kept { IsKept D.Device device.old result device.new }
     ensures fault { IfErr result (λ refusal. refusal ≡ Refusal.Device) }
     ensures calls { Rises 1 (D.calls_made device.old) (D.calls_made device.new) }
@@ -84,9 +87,11 @@ pub fn sync<D: Device>(device: &mut D) -> Result<(), Refusal>
 pub fn write_synced<D: Device>(device: &mut D, at: u64, bytes: &[u8]) -> Result<(), Refusal>
     requires { at + length bytes.now ≤ length (D.seen device.old) }
 
-    ensures written { D.is_honest device.old → OnOk result (D.seen device.new ≡ written (D.seen device.old) at bytes.now) }
+    ensures written { D.is_honest device.old
+        → OnOk result (D.seen device.new ≡ written (D.seen device.old) at bytes.now) }
     ensures durable { D.is_honest device.old → OnOk result (Only (D.may_leave device.new) (D.seen device.new)) }
-    ensures time { D.is_honest device.old → LeavesOnly D.moment D.left_since device.old device.new (TornFrom at (length bytes.now) (D.may_leave device.old)) }
+    ensures time { D.is_honest device.old → LeavesOnly D.moment D.left_since device.old device.new
+        (TornFrom at (length bytes.now) (D.may_leave device.old)) }
     ensures kept { IsKept D.Device device.old result device.new }
     ensures fault { IfErr result (λ refusal. refusal ≡ Refusal.Device) }
     ensures calls { OnOk result (Rises 2 (D.calls_made device.old) (D.calls_made device.new)) }
@@ -109,9 +114,11 @@ pub fn apply<D: Device>(
     requires home { IsHome geometry.now home }
 
     ensures written { D.is_honest device.old → OnOk result (D.seen device.new
-        ≡ written (D.seen device.old) (4096 * home) (block_at (D.seen device.old) (record_block geometry.now.slots journal slot))) }
+        ≡ written (D.seen device.old) (4096 * home)
+        (block_at (D.seen device.old) (record_block geometry.now.slots journal slot))) }
     ensures left { (c : List ℕ) → D.may_leave device.new c → TornFrom (4096 * home) 4096 (D.may_leave device.old) c }
-    ensures time { LeavesOnly D.moment D.left_since device.old device.new (TornFrom (4096 * home) 4096 (D.may_leave device.old)) }
+    ensures time { LeavesOnly D.moment D.left_since device.old device.new
+        (TornFrom (4096 * home) 4096 (D.may_leave device.old)) }
     ensures kept { IsKept D.Device device.old result device.new }
     ensures fault { IfErr result (λ refusal. refusal ≡ Refusal.Device) }
     ensures calls { OnOk result (Rises 2 (D.calls_made device.old) (D.calls_made device.new)) }

@@ -20,20 +20,22 @@ use volume_codec::{
 /// How many bytes are erased by one device call.
 const PIECE: usize = 32_768;
 
-/// The number of blocks of a volume in the layout of this number, with these files and with so many record slots for each
-/// journal. `BadShape` where no volume has them. Takes no memory.
+/// The number of blocks of a volume in the layout of this number, with these files and with so many record slots for
+/// each journal. `BadShape` where no volume has them. Takes no memory.
 pub fn blocks_as(layout: u64, files: &[FileSpec], slots: u64) -> Result<u64, Refusal>
-    ensures ok { IfOk result (λ blocks. (v : SuperValue) × IsAsked layout (asked_by files.now) slots v × (blocks ≡ block_count v)) }
+    ensures ok { IfOk result (λ blocks.
+        (v : SuperValue) × IsAsked layout (asked_by files.now) slots v × (blocks ≡ block_count v)) }
     ensures err { IfErr result (λ refusal.
         (refusal ≡ Refusal.BadShape) × ((v : SuperValue) → IsAsked layout (asked_by files.now) slots v → ⊥)) }
 {
     block_count_as(layout, files, slots)
 }
 
-/// The number of blocks of a volume in layout 1 with these files, each with its name and its length in bytes, and with so
-/// many record slots. `BadShape` where no volume has them. Takes no memory.
+/// The number of blocks of a volume in layout 1 with these files, each with its name and its length in bytes, and
+/// with so many record slots. `BadShape` where no volume has them. Takes no memory.
 pub fn blocks(files: &[(&str, u64)], slots: u64) -> Result<u64, Refusal>
-    ensures ok { IfOk result (λ blocks. (v : SuperValue) × IsAsked 1 (asked_by_pairs files.now) slots v × (blocks ≡ block_count v)) }
+    ensures ok { IfOk result (λ blocks.
+        (v : SuperValue) × IsAsked 1 (asked_by_pairs files.now) slots v × (blocks ≡ block_count v)) }
     ensures err { IfErr result (λ refusal.
         (refusal ≡ Refusal.BadShape) × ((v : SuperValue) → IsAsked 1 (asked_by_pairs files.now) slots v → ⊥)) }
 {
@@ -80,8 +82,8 @@ fn close_gates<D: Device>(device: &mut D, geometry: &Geometry) -> Result<(), Ref
     Ok(())
 }
 
-/// Writes a table over a device that is long enough: zeros in all home blocks and the gates closed, both synced before the
-/// super block is written.
+/// Writes a table over a device that is long enough: zeros in all home blocks and the gates closed, both synced
+/// before the super block is written.
 fn write_table<D: Device, A: Allocator + Copy>(
     device: &mut D,
     table: &Super<A>,
@@ -102,9 +104,9 @@ fn write_table<D: Device, A: Allocator + Copy>(
     write_synced(device, 0, &table.to_block())
 }
 
-/// Makes a volume in the layout of this number, with these files, all their bytes zero, and with so many record slots for
-/// each journal. `BadShape`, before any memory is taken and any device call is made, where no volume has them or the device
-/// is shorter than its blocks. `Device` where a device call failed. What lies past the volume stays.
+/// Makes a volume in the layout of this number, with these files, all their bytes zero, and with so many record slots
+/// for each journal. `BadShape`, before any memory is taken and any device call is made, where no volume has them or
+/// the device is shorter than its blocks. `Device` where a device call failed. What lies past the volume stays.
 pub fn format_as<D: Device, A: Allocator + Copy>(
     alloc: A,
     device: &mut D,
@@ -112,7 +114,8 @@ pub fn format_as<D: Device, A: Allocator + Copy>(
     files: &[FileSpec],
     slots: u64,
 ) -> Result<(), Refusal>
-    ensures formatted { D.is_honest device.old → OnOk result (HasFormatted D.Device layout (asked_by files.now) slots device.old device.new) }
+    ensures formatted { D.is_honest device.old
+        → OnOk result (HasFormatted D.Device layout (asked_by files.now) slots device.old device.new) }
     ensures refused { IfErr result (RefusesFormat layout (asked_by files.now) slots (length (D.seen device.old))) }
     ensures unchanged { IfErr result (λ refusal. (refusal ≡ Refusal.Device) ⊎ (device.new ≡ device.old)) }
     ensures kept { IsKept D.Device device.old result device.new }
@@ -125,15 +128,16 @@ pub fn format_as<D: Device, A: Allocator + Copy>(
     write_table(device, &table)
 }
 
-/// Makes a volume in layout 1 with these files, each with its name and its length in bytes, all their bytes zero, and with so
-/// many record slots, by the rules of `format_as`.
+/// Makes a volume in layout 1 with these files, each with its name and its length in bytes, all their bytes zero, and
+/// with so many record slots, by the rules of `format_as`.
 pub fn format<D: Device, A: Allocator + Copy>(
     alloc: A,
     device: &mut D,
     files: &[(&str, u64)],
     slots: u64,
 ) -> Result<(), Refusal>
-    ensures formatted { D.is_honest device.old → OnOk result (HasFormatted D.Device 1 (asked_by_pairs files.now) slots device.old device.new) }
+    ensures formatted { D.is_honest device.old
+        → OnOk result (HasFormatted D.Device 1 (asked_by_pairs files.now) slots device.old device.new) }
     ensures refused { IfErr result (RefusesFormat 1 (asked_by_pairs files.now) slots (length (D.seen device.old))) }
     ensures unchanged { IfErr result (λ refusal. (refusal ≡ Refusal.Device) ⊎ (device.new ≡ device.old)) }
     ensures kept { IsKept D.Device device.old result device.new }

@@ -14,7 +14,8 @@ use device::Device;
 
 /// Bytes are a volume that recovers to files, or no volume, or a damaged one, and not two of these.
 pub fn kinds_of_bytes()
-    ensures volume { (bytes : List ℕ) (files : List File) → RecoversTo bytes files → IsNotAVolume bytes ⊎ IsDamaged bytes → ⊥ }
+    ensures volume { (bytes : List ℕ) (files : List File) → RecoversTo bytes files
+        → IsNotAVolume bytes ⊎ IsDamaged bytes → ⊥ }
     ensures refused { (bytes : List ℕ) → IsNotAVolume bytes → IsDamaged bytes → ⊥ }
 {}
 
@@ -26,39 +27,45 @@ pub fn opened_as_recovered<D: Device>(device: &D)
         → RecoversTo (D.seen before) (files_of table (D.seen after)) }
 {}
 
-/// What a crash leaves while open batches are carried out recovers to the same contents. So a crash at any moment since an
-/// opening of an honest device began leaves a list that recovers to what one left before recovers to: each test of files that
-/// all those before pass, all these pass.
+/// What a crash leaves while open batches are carried out recovers to the same contents. So a crash at any moment
+/// since an opening of an honest device began leaves a list that recovers to what one left before recovers to: each
+/// test of files that all those before pass, all these pass.
 pub fn crashed_since_opening<D: Device>(device: &D)
     ensures contents { (table : SuperValue) (batches : List Batch) (old c : List ℕ) → IsVolume table batches old
         → IsBeingOpened (geometry_of table) batches old c → Recovers table (contents_in table.slots batches old) c }
     ensures left { (before after : D) (result : Result SuperValue Refusal) (c : List ℕ) → D.is_honest before
-        → Opens D.Device before result after → D.left_since after (D.moment before) c → RecoversAs (D.may_leave before) c }
-    ensures tested { (before after : D) (result : Result SuperValue Refusal) (test : List File → Bool) → D.is_honest before
-        → Opens D.Device before result after → AllRecover test (D.may_leave before)
+        → Opens D.Device before result after → D.left_since after (D.moment before) c
+        → RecoversAs (D.may_leave before) c }
+    ensures tested { (before after : D) (result : Result SuperValue Refusal) (test : List File → Bool)
+        → D.is_honest before → Opens D.Device before result after → AllRecover test (D.may_leave before)
         → AllRecover test (D.left_since after (D.moment before)) }
 {}
 
-/// After any number of openings of an honest device, each with a crash or none within it or after it, what a crash may leave
-/// recovers to what the first device might have recovered to. Where all that the first device might leave recovers, each
-/// later opening finds one of these, or meets a device call that failed, or no memory: none finds a damaged volume or none.
+/// After any number of openings of an honest device, each with a crash or none within it or after it, what a crash
+/// may leave recovers to what the first device might have recovered to. Where all that the first device might leave
+/// recovers, each later opening finds one of these, or meets a device call that failed, or no memory: none finds a
+/// damaged volume or none.
 pub fn opened_again<D: Device>(device: &D)
-    ensures honest { (n : ℕ) (first later : D) → D.is_honest first → IsLater D.Device n first later → D.is_honest later }
+    ensures honest { (n : ℕ) (first later : D) → D.is_honest first → IsLater D.Device n first later
+        → D.is_honest later }
     ensures left { (n : ℕ) (first later : D) (c : List ℕ) → D.is_honest first → IsLater D.Device n first later
         → D.may_leave later c → RecoversAs (D.may_leave first) c }
-    ensures tested { (n : ℕ) (first later : D) (test : List File → Bool) → D.is_honest first → IsLater D.Device n first later
-        → AllRecover test (D.may_leave first) → AllRecover test (D.may_leave later) }
+    ensures tested { (n : ℕ) (first later : D) (test : List File → Bool) → D.is_honest first
+        → IsLater D.Device n first later → AllRecover test (D.may_leave first) → AllRecover test (D.may_leave later) }
     ensures finds { (n : ℕ) (first later after : D) (result : Result SuperValue Refusal) (test : List File → Bool)
         → D.is_honest first → IsLater D.Device n first later → AllRecover test (D.may_leave first)
         → Opens D.Device later result after
-        → FindsAmong (D.may_leave first) result (D.seen after) × IfOk result (λ table. test (files_of table (D.seen after)) ≡ true) }
+        → FindsAmong (D.may_leave first) result (D.seen after)
+        × IfOk result (λ table. test (files_of table (D.seen after)) ≡ true) }
 {}
 
-/// After a device was formatted, each later opening, to any depth, finds the files that were asked for, all their bytes zero,
-/// or meets a device call that failed, or no memory.
+/// After a device was formatted, each later opening, to any depth, finds the files that were asked for, all their
+/// bytes zero, or meets a device call that failed, or no memory.
 pub fn opened_after_formatting<D: Device>(device: &D)
-    ensures { (layout slots n : ℕ) (files : List AskedFile) (old new later after : D) (result : Result SuperValue Refusal)
-        → D.is_honest new → HasFormatted D.Device layout files slots old new → IsLater D.Device n new later → Opens D.Device later result after
-        → MatchResult result (λ table. IsAsked layout files slots table × (files_of table (D.seen after) ≡ zero_files files))
+    ensures { (layout slots n : ℕ) (files : List AskedFile) (old new later after : D)
+        (result : Result SuperValue Refusal) → D.is_honest new → HasFormatted D.Device layout files slots old new
+        → IsLater D.Device n new later → Opens D.Device later result after
+        → MatchResult result
+        (λ table. IsAsked layout files slots table × (files_of table (D.seen after) ≡ zero_files files))
         (λ refusal. (refusal ≡ Refusal.Device) ⊎ (refusal ≡ Refusal.OutOfMemory)) }
 {}

@@ -14,3 +14,6 @@ pub use laws::{
 };
 pub use opening::open;
 pub use volume::Volume;
+
+#[cfg(test)]
+mod tests;

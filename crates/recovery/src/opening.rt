@@ -55,7 +55,8 @@ fn read_gates<D: Device>(device: &mut D, geometry: &Geometry) -> Result<[bool; 2
     ensures unwritten { D.is_honest device.old → IsUnwritten D.Device device.old device.new }
     ensures kept { IsKept D.Device device.old result device.new }
     ensures fault { IfErr result (λ refusal. refusal ≡ Refusal.Device) }
-    ensures calls { OnOk result (Rises (journals_of geometry.now.layout) (D.calls_made device.old) (D.calls_made device.new)) }
+    ensures calls { OnOk result
+        (Rises (journals_of geometry.now.layout) (D.calls_made device.old) (D.calls_made device.new)) }
 {
     let mut gates = [false; 2];
     for journal in 0..geometry.journals() {
@@ -77,7 +78,8 @@ fn read_journal<D: Device, A: Allocator + Copy>(
     requires there { journal < journals_of geometry.now.layout }
     requires long { 4096 * geometry.now.blocks ≤ length (D.seen device.old) }
     ensures descriptor { D.is_honest device.old → IfOk result
-        (λ d. IsDescriptor geometry.now d (block_at (D.seen device.old) (descriptor_block geometry.now.slots journal))) }
+        (λ d. IsDescriptor geometry.now d
+        (block_at (D.seen device.old) (descriptor_block geometry.now.slots journal))) }
     ensures homes { IfOk result (λ d. AreHomes geometry.now d.homes) }
     ensures refused { D.is_honest device.old → IfErr result
         (RefusesJournal geometry.now (block_at (D.seen device.old) (descriptor_block geometry.now.slots journal))) }
@@ -89,8 +91,8 @@ fn read_journal<D: Device, A: Allocator + Copy>(
     read_descriptor(alloc, geometry, &block)
 }
 
-/// Reads the descriptor of a journal if its gate is open, and adds the journal to those found before it. `Damaged` where the
-/// descriptor breaks the grammar.
+/// Reads the descriptor of a journal if its gate is open, and adds the journal to those found before it. `Damaged`
+/// where the descriptor breaks the grammar.
 fn read_if_open<D: Device, A: Allocator + Copy>(
     alloc: A,
     device: &mut D,
@@ -101,8 +103,10 @@ fn read_if_open<D: Device, A: Allocator + Copy>(
 ) -> Result<(), Refusal>
     requires there { journal < journals_of geometry.now.layout }
     requires long { 4096 * geometry.now.blocks ≤ length (D.seen device.old) }
-    requires gate { D.is_honest device.old → ((is_open ≡ true) ↔ IsOpen (D.seen device.old) geometry.now.slots journal) }
-    ensures found { D.is_honest device.old → AreRead geometry.now (D.seen device.old) journal (batches_of found.old.items)
+    requires gate { D.is_honest device.old
+        → ((is_open ≡ true) ↔ IsOpen (D.seen device.old) geometry.now.slots journal) }
+    ensures found { D.is_honest device.old
+        → AreRead geometry.now (D.seen device.old) journal (batches_of found.old.items)
         → OnOk result (AreRead geometry.now (D.seen device.old) (journal + 1) (batches_of found.new.items)) }
     ensures carry { AllByRecursion (CanCarry geometry.now) (batches_of found.old.items)
         → OnOk result (AllByRecursion (CanCarry geometry.now) (batches_of found.new.items)) }
@@ -146,7 +150,8 @@ fn read_journals<D: Device, A: Allocator + Copy>(
     ensures refused { D.is_honest device.old → IfErr result (RefusesJournals geometry.now (D.seen device.old)) }
     ensures unwritten { D.is_honest device.old → IsUnwritten D.Device device.old device.new }
     ensures kept { IsKept D.Device device.old result device.new }
-    ensures calls { IfOk result (λ found. Rises (length found.items) (D.calls_made device.old) (D.calls_made device.new)) }
+    ensures calls { IfOk result (λ found.
+        Rises (length found.items) (D.calls_made device.old) (D.calls_made device.new)) }
 {
     let journals = geometry.journals();
     let Ok(mut found) = Vec::with_capacity(alloc, 2) else {
@@ -187,7 +192,8 @@ fn read_open<D: Device, A: Allocator + Copy>(
     geometry: &Geometry,
 ) -> Result<Vec<OpenJournal<A>, A>, Refusal>
     requires { 4096 * geometry.now.blocks ≤ length (D.seen device.old) }
-    ensures found { D.is_honest device.old → IfOk result (λ found. AreOpen geometry.now (batches_of found.items) (D.seen device.old)) }
+    ensures found { D.is_honest device.old
+        → IfOk result (λ found. AreOpen geometry.now (batches_of found.items) (D.seen device.old)) }
     ensures carry { IfOk result (λ found. AllByRecursion (CanCarry geometry.now) (batches_of found.items)) }
     ensures refused { D.is_honest device.old → IfErr result (RefusesJournals geometry.now (D.seen device.old)) }
     ensures unwritten { D.is_honest device.old → IsUnwritten D.Device device.old device.new }
@@ -201,17 +207,19 @@ fn read_open<D: Device, A: Allocator + Copy>(
     Ok(found)
 }
 
-/// The table of a device's volume, and its open journals, the newest first. What was written before is made sure of. Nothing
-/// is written, and all memory that an opening needs is taken.
+/// The table of a device's volume, and its open journals, the newest first. What was written before is made sure of.
+/// Nothing is written, and all memory that an opening needs is taken.
 fn judge<D: Device, A: Allocator + Copy>(
     alloc: A,
     device: &mut D,
 ) -> Result<(Super<A>, Vec<OpenJournal<A>, A>), Refusal>
-    ensures volume { D.is_honest device.old → IfOk result (λ judged. IsVolume judged.0 (batches_of judged.1.items) (D.seen device.old)) }
+    ensures volume { D.is_honest device.old
+        → IfOk result (λ judged. IsVolume judged.0 (batches_of judged.1.items) (D.seen device.old)) }
     ensures synced { D.is_honest device.old → OnOk result (Only (D.may_leave device.new) (D.seen device.new)) }
     ensures fits { IfOk result (λ judged. Fits judged.0) }
     ensures long { IfOk result (λ judged. 4096 * block_count judged.0 ≤ length (D.seen device.old)) }
-    ensures carry { IfOk result (λ judged. AllByRecursion (CanCarry (geometry_of judged.0)) (batches_of judged.1.items)) }
+    ensures carry { IfOk result (λ judged.
+        AllByRecursion (CanCarry (geometry_of judged.0)) (batches_of judged.1.items)) }
     ensures refused { D.is_honest device.old → IfErr result (RefusesOpening (D.seen device.old)) }
     ensures unwritten { D.is_honest device.old → IsUnwritten D.Device device.old device.new }
     ensures kept { IsKept D.Device device.old result device.new }
@@ -237,11 +245,13 @@ fn apply_records<D: Device, A: Allocator + Copy>(
     ensures left { D.is_honest device.old → Only (D.may_leave device.old) (D.seen device.old)
         → (c : List ℕ) → D.may_leave device.new c → IsTornAt found.now.descriptor.homes (D.seen device.old) c }
     ensures time { D.is_honest device.old → Only (D.may_leave device.old) (D.seen device.old)
-        → LeavesOnly D.moment D.left_since device.old device.new (IsTornAt found.now.descriptor.homes (D.seen device.old)) }
+        → LeavesOnly D.moment D.left_since device.old device.new
+        (IsTornAt found.now.descriptor.homes (D.seen device.old)) }
     ensures geometry { IsGeometry geometry.now }
     ensures kept { IsKept D.Device device.old result device.new }
     ensures fault { IfErr result (λ refusal. refusal ≡ Refusal.Device) }
-    ensures calls { OnOk result (Rises (2 * length found.now.descriptor.homes) (D.calls_made device.old) (D.calls_made device.new)) }
+    ensures calls { OnOk result
+        (Rises (2 * length found.now.descriptor.homes) (D.calls_made device.old) (D.calls_made device.new)) }
 {
     let homes = found.descriptor.homes();
     let slots = geometry.slots();
@@ -264,10 +274,12 @@ fn carry_out<D: Device, A: Allocator + Copy>(
         (IsOpened geometry.now (batch_of found.now ∷ []) (D.seen device.old) (D.seen device.new)) }
     ensures synced { D.is_honest device.old → OnOk result (Only (D.may_leave device.new) (D.seen device.new)) }
     ensures time { D.is_honest device.old → Only (D.may_leave device.old) (D.seen device.old)
-        → LeavesOnly D.moment D.left_since device.old device.new (IsBeingCarried geometry.now (batch_of found.now) (D.seen device.old)) }
+        → LeavesOnly D.moment D.left_since device.old device.new
+        (IsBeingCarried geometry.now (batch_of found.now) (D.seen device.old)) }
     ensures kept { IsKept D.Device device.old result device.new }
     ensures fault { IfErr result (λ refusal. refusal ≡ Refusal.Device) }
-    ensures calls { OnOk result (Rises (2 * length found.now.descriptor.homes + 3) (D.calls_made device.old) (D.calls_made device.new)) }
+    ensures calls { OnOk result
+        (Rises (2 * length found.now.descriptor.homes + 3) (D.calls_made device.old) (D.calls_made device.new)) }
 {
     apply_records(device, geometry, found)?;
     sync(device)?;
@@ -292,7 +304,8 @@ fn carry_out_all<D: Device, A: Allocator + Copy>(
         (IsBeingOpened geometry.now (batches_of found.items) (D.seen device.old)) }
     ensures kept { IsKept D.Device device.old result device.new }
     ensures fault { IfErr result (λ refusal. refusal ≡ Refusal.Device) }
-    ensures calls { OnOk result (Rises (carry_calls (batches_of found.items)) (D.calls_made device.old) (D.calls_made device.new)) }
+    ensures calls { OnOk result
+        (Rises (carry_calls (batches_of found.items)) (D.calls_made device.old) (D.calls_made device.new)) }
 {
     let mut waiting = found;
     while let Some(oldest) = waiting.pop() {
@@ -304,21 +317,23 @@ fn carry_out_all<D: Device, A: Allocator + Copy>(
 /// Makes a device ready, and gives its table: the rules of `open`.
 fn recover<D: Device, A: Allocator + Copy>(alloc: A, device: &mut D) -> Result<Super<A>, Refusal>
     ensures opens { Opens D.Device device.old result device.new }
-    ensures settled { IfOk result (λ table. IsSettled D.Device (record { table = table; lengths = capacities_in table; device = device.new })) }
+    ensures settled { IfOk result (λ table.
+        IsSettled D.Device (record { table = table; lengths = capacities_in table; device = device.new })) }
 {
     let (table, found) = judge(alloc, device)?;
     carry_out_all(device, &table.geometry(), found)?;
     Ok(table)
 }
 
-/// Opens the volume of a device. The device's length and its block 0 are judged; what was written before is made sure of; the
-/// gate of each journal is read, and the descriptors of the open ones are judged. Then each open journal, the one with the
-/// lower mark first, is carried out: its records are written to their home blocks and synced, its gate is closed and synced.
-/// `NotAVolume` where the device is shorter than a block or begins with no layout's magic; `Damaged` where its super block or
-/// the descriptor of an open journal breaks the grammar, two open journals have one mark, or the device is shorter than its
-/// volume; nothing is written then. `Device` where a device call failed. `OutOfMemory` may come in the place of these, and
-/// nothing is written then either. An `Err` hands the device back. With no open journal it makes 3 device calls in layout 1
-/// and 4 in layout 2, and 2k + 4 more for each open journal of k records.
+/// Opens the volume of a device. The device's length and its block 0 are judged; what was written before is made sure
+/// of; the gate of each journal is read, and the descriptors of the open ones are judged. Then each open journal, the
+/// one with the lower mark first, is carried out: its records are written to their home blocks and synced, its gate
+/// is closed and synced. `NotAVolume` where the device is shorter than a block or begins with no layout's magic;
+/// `Damaged` where its super block or the descriptor of an open journal breaks the grammar, two open journals have
+/// one mark, or the device is shorter than its volume; nothing is written then. `Device` where a device call failed.
+/// `OutOfMemory` may come in the place of these, and nothing is written then either. An `Err` hands the device back.
+/// With no open journal it makes 3 device calls in layout 1 and 4 in layout 2, and 2k + 4 more for each open journal
+/// of k records.
 pub fn open<D: Device, A: Allocator + Copy>(
     alloc: A,
     mut device: D,

@@ -12,8 +12,8 @@ use std::alloc::Allocator;
 use std::marker::Model;
 use volume_codec::{Layout, Super};
 
-/// A volume on a device, as `open` made it: the table of its files and their lengths, with the gates closed and the device
-/// synced. Files are counted from 0, in the table's order.
+/// A volume on a device, as `open` made it: the table of its files and their lengths, with the gates closed and the
+/// device synced. Files are counted from 0, in the table's order.
 #[derive(Drop)]
 pub struct Volume<D: Device, A: Allocator + Copy> {
     table: Super<A>,
@@ -29,7 +29,8 @@ impl<D: Device, A: Allocator + Copy> Model for Volume<D, A> {
     // In these layouts a file is as long as its capacity.
     ghost view = { λ v. record { table = v.table; lengths = capacities_in v.table; device = v.device } };
 
-    ghost invariant = { λ v. IsSettled D.Device (record { table = v.table; lengths = capacities_in v.table; device = v.device }) };
+    ghost invariant = { λ v.
+        IsSettled D.Device (record { table = v.table; lengths = capacities_in v.table; device = v.device }) };
 }
 
 impl<D: Device, A: Allocator + Copy> Volume<D, A> {
@@ -69,7 +70,9 @@ impl<D: Device, A: Allocator + Copy> Volume<D, A> {
         requires { file < length self.now.table.files }
         ensures { slice_get self.now.lengths file ≡ Some result }
     {
-        self.table.capacity(file)
+        // In these layouts a file is as long as its capacity.
+        let table = &self.table;
+        table.capacity(file)
     }
 
     /// The number of bytes to which a file may grow, from 1.
@@ -86,8 +89,9 @@ impl<D: Device, A: Allocator + Copy> Volume<D, A> {
         requires there { file < length self.old.table.files }
         requires within { at + length buffer.old ≤ slice_index self.old.lengths file }
 
-        ensures bytes { D.is_honest self.old.device → OnOk result
-            (buffer.new ≡ slice_range (bytes_of (files_of self.old.table (D.seen self.old.device)) file) at (at + length buffer.old)) }
+        ensures bytes { D.is_honest self.old.device → OnOk result (buffer.new
+            ≡ slice_range (bytes_of (files_of self.old.table (D.seen self.old.device)) file)
+            at (at + length buffer.old)) }
 
         // Nothing is written, and the volume stays.
         ensures table { self.new.table ≡ self.old.table }
@@ -96,7 +100,8 @@ impl<D: Device, A: Allocator + Copy> Volume<D, A> {
 
         ensures kept { IsKept D.Device self.old.device result self.new.device }
         ensures fault { IfErr result (λ refusal. refusal ≡ Refusal.Device) }
-        ensures calls { Rises (if length buffer.old == 0 then 0 else 1) (D.calls_made self.old.device) (D.calls_made self.new.device) }
+        ensures calls { Rises (if length buffer.old == 0 then 0 else 1)
+            (D.calls_made self.old.device) (D.calls_made self.new.device) }
     {
         if buffer.is_empty() {
             return Ok(());

@@ -31,4 +31,5 @@ pub record IsPartly (g : GeometryValue) (waiting done : List Batch) (old new : L
   pub same_length : length new ≡ length old
   pub homes : (b : ℕ) → IsHome g b → HaveNoRecord waiting b → block_at new b ≡ contents_in g.slots done old b
   pub gates : AllByRecursion (λ batch. slice_index new (gate_byte g.slots batch) ≢ 0xA7) done
-  pub others : (i : ℕ) → IsOutside g i → AllByRecursion (λ batch. i ≢ gate_byte g.slots batch) done → slice_index new i ≡ slice_index old i
+  pub others : (i : ℕ) → IsOutside g i → AllByRecursion (λ batch. i ≢ gate_byte g.slots batch) done
+      → slice_index new i ≡ slice_index old i
