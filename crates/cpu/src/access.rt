@@ -47,11 +47,12 @@ fn admit<A: Allocator + Copy>(
 }
 
 /// Reads `count` bytes, 1 to 8 inside one page below 2^47, from an address of a processor's current space: through the
-/// entry that it caches of the page, or else by a walk of the page table, which notes the entry as accessed and caches it.
+/// entry that it caches of the page, or else by a walk of the page table, which notes the entry as accessed and caches
+/// it.
 ///
-/// `Einval` where there is no processor with this number, `Stalled` where it is neither active nor interrupted, `Einval`
-/// for another address or count, and `Fault` with the error code of the page fault where nothing is cached and the page
-/// has no entry, in this order. A fault drops what the processor caches of the page.
+/// `Einval` where there is no processor with this number, `Stalled` where it is neither active nor interrupted,
+/// `Einval` for another address or count, and `Fault` with the error code of the page fault where nothing is cached and
+/// the page has no entry, in this order. A fault drops what the processor caches of the page.
 pub fn load<'f, A: Allocator + Copy>(
     shootdown: &mut Shootdown<A>,
     spaces: &mut Spaces<A>,
@@ -77,14 +78,14 @@ pub fn load<'f, A: Allocator + Copy>(
     Ok(&frames.bytes(frame)[at..at + count])
 }
 
-/// Writes bytes, 1 to 8 inside one page below 2^47, to an address of a processor's current space: through the entry that
-/// it caches of the page, where that is writable and dirty, or else by a walk of the page table, which notes the entry as
-/// accessed and dirty and caches it.
+/// Writes bytes, 1 to 8 inside one page below 2^47, to an address of a processor's current space: through the entry
+/// that it caches of the page, where that is writable and dirty, or else by a walk of the page table, which notes the
+/// entry as accessed and dirty and caches it.
 ///
-/// `Einval` where there is no processor with this number, `Stalled` where it is neither active nor interrupted, `Einval`
-/// for another address or number of bytes, and `Fault` with the error code of the page fault where nothing that serves is
-/// cached and the page has no entry or one that isn't writable, in this order. A fault drops what the processor caches of
-/// the page.
+/// `Einval` where there is no processor with this number, `Stalled` where it is neither active nor interrupted,
+/// `Einval` for another address or number of bytes, and `Fault` with the error code of the page fault where nothing
+/// that serves is cached and the page has no entry or one that isn't writable, in this order. A fault drops what the
+/// processor caches of the page.
 pub fn store<A: Allocator + Copy>(
     shootdown: &mut Shootdown<A>,
     spaces: &mut Spaces<A>,

@@ -12,8 +12,8 @@ use shootdown::Shootdown;
 use spaces::Spaces;
 use std::alloc::Allocator;
 
-/// Caches the entry of a page of a processor's current space, in whatever state the processor is, and notes the entry as
-/// accessed; false where the page has none, and then nothing changes. `Einval` where there is no processor with this
+/// Caches the entry of a page of a processor's current space, in whatever state the processor is, and notes the entry
+/// as accessed; false where the page has none, and then nothing changes. `Einval` where there is no processor with this
 /// number.
 pub fn fill<A: Allocator + Copy>(
     shootdown: &mut Shootdown<A>,
@@ -30,8 +30,8 @@ pub fn fill<A: Allocator + Copy>(
     Ok(walk(shootdown, spaces, p, page, false).is_ok())
 }
 
-/// Drops the entry in a slot of a processor's TLB, counted from 0, the oldest, in whatever state the processor is; false
-/// where there is no such slot. `Einval` where there is no processor with this number.
+/// Drops the entry in a slot of a processor's TLB, counted from 0, the oldest, in whatever state the processor is;
+/// false where there is no such slot. `Einval` where there is no processor with this number.
 pub fn evict<A: Allocator + Copy>(
     shootdown: &mut Shootdown<A>,
     p: ProcessorNumber,

@@ -50,9 +50,9 @@ fn used(entry: Entry, write: bool) -> Result<Entry, u8>
     Ok(entry.with_accessed(true).with_dirty(entry.dirty() || write))
 }
 
-/// Walks the page table of a processor's current space. An entry that allows the access is noted as accessed, and as dirty
-/// by a store, and is cached; its frame is answered. Otherwise nothing changes, and the error code of the page fault is
-/// answered.
+/// Walks the page table of a processor's current space. An entry that allows the access is noted as accessed, and as
+/// dirty by a store, and is cached; its frame is answered. Otherwise nothing changes, and the error code of the page
+/// fault is answered.
 pub(crate) fn walk<A: Allocator + Copy>(
     shootdown: &mut Shootdown<A>,
     spaces: &mut Spaces<A>,
