@@ -5,5 +5,7 @@
 mod checkpoint;
 mod copies;
 mod notes;
+#[cfg(test)]
+mod tests;
 
 pub use checkpoint::Checkpoint;
