@@ -1,2 +1,3 @@
 pub mod FixLaws
 pub mod ServedLaws
+pub mod FixKept
