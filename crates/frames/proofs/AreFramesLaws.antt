@@ -1,8 +1,8 @@
 -- That every change of the frames leaves whole pages, and a page in one frame and one copy at most.
-use Rattle.std.proofs.Common.{◌≡◌, ◌≢◌, ◌⊎◌, ◌+◌, ◌<◌, ◌≤◌, ℕ, zero, suc, List, [], ◌∷◌, length, map, get_or, set, replicate, Option, Some, None, IsSome, refl, sym, ap, subst, ◌∙◌, inl, inr, ⊎_elim, arith, All}
+use Rattle.std.proofs.Common.{◌≡◌, ◌≢◌, ◌⊎◌, ◌+◌, ◌<◌, ◌≤◌, ℕ, zero, suc, List, [], ◌∷◌, length, map, get_or, set, replicate, Option, Some, None, IsSome, refl, sym, ap, subst, ◌∙◌, inl, inr, ⊎_elim, All}
 use Rattle.std.proofs.lemmas.Bool.{cases_eq}
 use Rattle.page_entry.specs.declared.numbers.FilePage.{FilePage}
-use Rattle.frames.specs.Frames.{Frame, FramesState, frame_at, copy_at, page_of, bytes_of, overwrite, overwrite_frame, all_free, with_page, without_frame, with_bytes, with_copy, without_copy, without_copies, HasNoFrame, HasNoCopy, IsPage, AreFrames}
+use Rattle.frames.specs.Frames.{Frame, FramesState, frame_at, page_of, bytes_of, overwrite_frame, all_free, with_page, without_frame, with_bytes, with_copy, without_copy, without_copies, HasNoFrame, HasNoCopy, IsPage, AreFrames}
 use Rattle.frames.proofs.WholePages.{IsPage-overwrite}
 
 -- whole pages, and each page once

@@ -1,4 +1,4 @@
-use Rattle.std.proofs.Common.{◌≡◌, Option, Some, None, set, IfSome, IfNone, subst, sym, ap, ◌∙◌}
+use Rattle.std.proofs.Common.{◌≡◌, Some, subst, sym, ◌∙◌}
 use Rattle.frames.specs.Frames.{FramesState, HasNoCopy, frame_at, page_of}
 use Rattle.frames.proofs.Listing.{IsListed-copied}
 use Rattle.frames.proofs.Frames.copy_out.Goals as goal

@@ -1,4 +1,4 @@
-use Rattle.std.proofs.Common.{◌≡◌, subst, sym, ◌∙◌, ap, Some, None, get_or, rules}
+use Rattle.std.proofs.Common.{◌≡◌, subst, ◌∙◌, ap, Some, None, get_or, rules}
 use Rattle.frames.specs.Frames.{FramesState, HasNoFrame, page_of}
 use Rattle.frames.specs.inside.Order.{IsPlaceOf}
 use Rattle.frames.proofs.Listing.{no_frame_elsewhere}

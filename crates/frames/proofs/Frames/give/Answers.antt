@@ -1,5 +1,5 @@
-use Rattle.std.proofs.Common.{◌≡◌, Some, subst, sym, ◌∙◌}
-use Rattle.frames.specs.Frames.{FramesState, frame_at, page_of}
+use Rattle.std.proofs.Common.{subst, sym, ◌∙◌}
+use Rattle.frames.specs.Frames.{FramesState}
 use Rattle.frames.specs.inside.Order.{IsPlaceOf}
 use Rattle.frames.proofs.Listing.{IsListed-without_frame}
 use Rattle.frames.proofs.Frames.give.Goals as goal

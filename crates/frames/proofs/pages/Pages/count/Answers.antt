@@ -1,4 +1,4 @@
-use Rattle.std.proofs.Common.{length, sym, ap, ◌∙◌, arith}
+use Rattle.std.proofs.Common.{length, ap, arith}
 use Rattle.slab.specs.Slab.{get}
 use Rattle.frames.proofs.PageLemmas.{length-frames_by}
 use Rattle.frames.proofs.pages.Pages.count.Goals as goal
