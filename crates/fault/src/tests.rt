@@ -1,7 +1,6 @@
 // Faults over a volume of 10 blocks: file 0 has 5,000 bytes and home blocks 7 and 8, file 1 has 4,096 and home block 9.
-ghost use Rattle.std.specs.Prelude.{◌≡◌, ℕ, ◌≤◌, ◌^◌, true, Some, None, length, IfOk};
+ghost use Rattle.std.specs.Prelude.{◌≡◌, ℕ, ◌≤◌, ◌^◌, true, None, length, IfOk};
 ghost use Rattle.std.specs.List.{All};
-ghost use Rattle.mappings.specs.Places.{may_write};
 ghost use Rattle.spaces.specs.Spaces.{entry_at};
 ghost use Rattle.checkpoint.specs.Backing.{AreBacked};
 ghost use Rattle.fault.specs.Fault.{is_in_memory};
