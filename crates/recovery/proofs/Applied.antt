@@ -1,14 +1,13 @@
 -- What writing the records of a batch to their home blocks, one by one, leaves.
-use Rattle.std.proofs.Common.{◌≡◌, ◌≢◌, ◌<◌, ◌≤◌, ◌⊎◌, inl, inr, Bool, false, cond, ◌==◌, ℕ, zero, suc, ◌+◌, ◌*◌, List, [], ◌∷◌, ◌++◌, length, take, get_or, refl, sym, ◌∙◌, ap, subst, arith}
-use Rattle.std.specs.List.{AllByRecursion}
+use Rattle.std.proofs.Common.{◌≡◌, ◌≢◌, ◌<◌, ◌≤◌, inl, inr, Bool, false, cond, ◌==◌, ℕ, zero, suc, ◌+◌, ◌*◌, List, [], ◌∷◌, ◌++◌, length, take, get_or, refl, sym, ◌∙◌, ap, subst, arith}
 use Rattle.std.proofs.lemmas.Bool.{cases_eq}
 use Rattle.std.proofs.lemmas.Bool.Decides.{nat_tests}
 use Rattle.std.proofs.lemmas.List.{take_more, take_all, length-take-le, get_or-take}
-use Rattle.device.specs.Device.{written, Torn, TornFrom, Only}
+use Rattle.device.specs.Device.{written, Torn, TornFrom}
 use Rattle.device.proofs.Ranges.{length-written, torn_by_write}
-use Rattle.volume_codec.specs.Layout.{GeometryValue, IsGeometry, IsHome, record_block, first_home, block_at}
-use Rattle.volume_codec.specs.Descriptor.{RiseWithin, AreHomes}
-use Rattle.volume_codec.specs.Recovery.{Batch, record_or, contents_in}
+use Rattle.volume_codec.specs.Layout.{GeometryValue, IsHome, record_block, first_home, block_at}
+use Rattle.volume_codec.specs.Descriptor.{RiseWithin}
+use Rattle.volume_codec.specs.Recovery.{Batch, record_or}
 use Rattle.volume_codec.proofs.Layouts.{record_block-low}
 use Rattle.volume_codec.proofs.Recovered.{record_or-at}
 use Rattle.recovery.specs.inside.Carrying.{IsTornAt, IsApplied}

@@ -1,15 +1,14 @@
 -- What was formatted recovers to files of zeros, and so after any number of openings.
-use Rattle.std.proofs.Common.{◌≡◌, ◌<◌, ◌≤◌, ◌⊎◌, inl, inr, true, ℕ, ◌+◌, ◌*◌, List, [], ◌∷◌, length, map, replicate, Result, Ok, Err, MatchResult, refl, sym, ◌∙◌, ap, subst, arith}
+use Rattle.std.proofs.Common.{◌≡◌, ◌<◌, ◌≤◌, ◌⊎◌, true, ℕ, ◌+◌, List, [], ◌∷◌, map, replicate, Result, Ok, Err, MatchResult, refl, sym, ◌∙◌, ap, subst, arith}
 use Rattle.std.specs.List.{AllByRecursion}
-use Rattle.device.specs.Device.{Only}
 use Rattle.device.specs.declared.device.Device.{Ghosts}
 use Rattle.page_entry.specs.declared.refusal.Refusal.{Refusal}
 use Rattle.page_entry.specs.declared.refusal.Refusal.TheVariants.{Device, OutOfMemory}
 use Rattle.volume_codec.specs.Files.{File, TableFile, AskedFile}
-use Rattle.volume_codec.specs.Layout.{IsHome, first_file_home, block_at}
+use Rattle.volume_codec.specs.Layout.{first_file_home, block_at}
 use Rattle.volume_codec.specs.Text.{zeros}
-use Rattle.volume_codec.specs.Super.{SuperValue, IsAsked, pages_of, total_pages, geometry_of}
-use Rattle.volume_codec.specs.Recovery.{IsVolume, Recovers, RecoversTo, blocks_from, files_from, files_in}
+use Rattle.volume_codec.specs.Super.{SuperValue, IsAsked, pages_of, total_pages}
+use Rattle.volume_codec.specs.Recovery.{Recovers, RecoversTo, files_from, files_in}
 use Rattle.volume_codec.proofs.Batches.{one_contents}
 use Rattle.volume_codec.proofs.Places.{file_block-home}
 use Rattle.volume_codec.proofs.Recovered.{blank_file, files_in-same}

@@ -1,5 +1,5 @@
 -- The blocks of a list that was written or torn in a range.
-use Rattle.std.proofs.Common.{◌≡◌, ◌≢◌, ◌≤◌, ℕ, ◌+◌, ◌-◌, ◌*◌, List, [], ◌∷◌, ◌++◌, length, take, drop, slice_range, inl, inr, sym, ◌∙◌, ap, arith, append_assoc, length-take, length-drop}
+use Rattle.std.proofs.Common.{◌≡◌, ◌≢◌, ◌≤◌, ℕ, ◌+◌, ◌-◌, ◌*◌, List, ◌++◌, length, take, drop, slice_range, inl, inr, sym, ◌∙◌, ap, arith, append_assoc, length-take}
 use Rattle.std.proofs.lemmas.List.{take_at, drop_at, drop-take, take-take, drop-drop}
 use Rattle.std.proofs.lemmas.Bool.{cases_lt}
 use Rattle.device.specs.Device.{written, Torn}

@@ -1,17 +1,16 @@
 -- A batch is carried out: its records are home, and then its gate is closed.
-use Rattle.std.proofs.Common.{◌≡◌, ◌≢◌, ◌<◌, ◌≤◌, ◌⊎◌, inl, inr, ℕ, ◌+◌, ◌-◌, ◌*◌, List, [], ◌∷◌, length, get_or, refl, sym, ◌∙◌, ap, subst, arith}
-use Rattle.std.proofs.lemmas.Bool.{cases_lt}
+use Rattle.std.proofs.Common.{◌≡◌, ◌≢◌, ◌<◌, ◌≤◌, inl, inr, ℕ, ◌+◌, ◌-◌, ◌*◌, List, [], ◌∷◌, length, get_or, refl, sym, ◌∙◌, ap, subst, arith}
 use Rattle.device.specs.Device.{written, Torn, TornFrom, Only, LeavesOnly}
 use Rattle.device.specs.declared.device.Device.{Ghosts}
 use Rattle.device.proofs.Moments.{leaves_on, leaves_weaker}
-use Rattle.device.proofs.Ranges.{length-written, written_within, torn_by_write}
-use Rattle.volume_codec.specs.Layout.{GeometryValue, IsGeometry, IsHome, journals_of, gate_block, first_home, block_at}
-use Rattle.volume_codec.specs.Recovery.{Batch, contents_in}
+use Rattle.device.proofs.Ranges.{written_within, torn_by_write}
+use Rattle.volume_codec.specs.Layout.{GeometryValue, IsGeometry, IsHome, journals_of, gate_block}
+use Rattle.volume_codec.specs.Recovery.{Batch}
 use Rattle.volume_codec.proofs.Layouts.{gate_block-low, first_home-within}
-use Rattle.recovery.specs.Opening.{IsUnwritten, IsOutside, IsOpened, gate_byte}
+use Rattle.recovery.specs.Opening.{IsUnwritten, IsOpened, gate_byte}
 use Rattle.recovery.specs.inside.Carrying.{IsTornAt, IsApplied, IsClosing, IsBeingCarried}
 use Rattle.recovery.proofs.BlockRanges.{block_at-other}
-use Rattle.recovery.proofs.Regions.{written_apart, torn_apart, byte_apart}
+use Rattle.recovery.proofs.Regions.{torn_apart, byte_apart}
 
 module _ (g : GeometryValue) (batch : Batch) (is : IsGeometry g) (there : batch.journal < journals_of g.layout) where
   -- the gate lies before each home block

@@ -1,9 +1,9 @@
 -- What erasing a range piece by piece leaves.
-use Rattle.std.proofs.Common.{◌≡◌, ◌≢◌, ◌≤◌, ◌<◌, ◌⊎◌, inl, inr, ℕ, zero, suc, ◌+◌, ◌-◌, ◌*◌, List, [], ◌∷◌, length, take, get_or, refl, sym, ◌∙◌, ap, subst, arith}
+use Rattle.std.proofs.Common.{◌≡◌, ◌≢◌, ◌≤◌, inl, inr, ℕ, zero, suc, ◌+◌, ◌-◌, ◌*◌, List, [], ◌∷◌, length, take, get_or, refl, sym, ◌∙◌, ap, arith}
 use Rattle.std.proofs.lemmas.Bool.{cases_lt, cases_eq}
 use Rattle.device.specs.Device.{written}
 use Rattle.device.proofs.Ranges.{length-written, written_before, written_within, written_after}
-use Rattle.volume_codec.specs.Layout.{block_at, gate_block}
+use Rattle.volume_codec.specs.Layout.{gate_block}
 use Rattle.volume_codec.specs.Text.{zeros}
 use Rattle.volume_codec.proofs.Padding.{length-zeros, take-zeros}
 use Rattle.recovery.specs.inside.Erasing.{IsErased, AreClosed}

@@ -1,10 +1,10 @@
 -- Where the bytes of a file lie on a device.
-use Rattle.std.proofs.Common.{◌≡◌, ◌<◌, ◌≤◌, ℕ, zero, suc, ◌+◌, ◌-◌, ◌*◌, List, [], ◌∷◌, length, take, drop, map, slice_get, slice_index, slice_index_or, slice_range, Some, refl, sym, ◌∙◌, ap, subst, arith}
+use Rattle.std.proofs.Common.{◌≡◌, ◌<◌, ◌≤◌, ℕ, zero, suc, ◌+◌, ◌-◌, ◌*◌, List, [], ◌∷◌, length, take, drop, map, slice_get, slice_index, slice_range, Some, refl, sym, ◌∙◌, ap, subst, arith}
 use Rattle.std.proofs.lemmas.List.{drop-drop, take-take}
 use Rattle.volume_codec.specs.Files.{File, TableFile}
 use Rattle.volume_codec.specs.Layout.{block_at}
-use Rattle.volume_codec.specs.Super.{SuperValue, pages_of, first_home_of, block_count, capacities_in}
-use Rattle.volume_codec.specs.Recovery.{lengths_in, files_in, blocks_from}
+use Rattle.volume_codec.specs.Super.{SuperValue, pages_of, first_home_of, block_count}
+use Rattle.volume_codec.specs.Recovery.{lengths_in}
 use Rattle.volume_codec.proofs.Places.{first_home_of-next, first_home_of-le}
 use Rattle.volume_codec.proofs.Recovered.{file_in-at, blocks_from-device}
 use Rattle.recovery.specs.Volume.{VolumeState, AreLengths, files_of, bytes_of}

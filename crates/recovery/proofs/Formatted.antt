@@ -1,9 +1,9 @@
 -- A device that was erased, its gates closed and its table written is a blank volume.
-use Rattle.std.proofs.Common.{◌≡◌, ◌≢◌, ◌≤◌, ◌<◌, ◌⊎◌, inl, inr, ℕ, ◌+◌, ◌*◌, List, ◌++◌, length, get_or, length-append, refl, sym, ◌∙◌, ap, subst, arith}
+use Rattle.std.proofs.Common.{◌≡◌, ◌≢◌, ◌≤◌, ◌<◌, inr, ℕ, ◌+◌, ◌*◌, List, ◌++◌, length, get_or, length-append, sym, ◌∙◌, ap, subst, arith}
 use Rattle.std.proofs.lemmas.List.{ext_get_or}
 use Rattle.device.specs.Device.{written}
 use Rattle.device.proofs.Ranges.{length-written, written_after}
-use Rattle.volume_codec.specs.Layout.{GeometryValue, IsHome, journals_of, gate_block, first_home, first_file_home, block_at}
+use Rattle.volume_codec.specs.Layout.{GeometryValue, journals_of, gate_block, first_home, first_file_home, block_at}
 use Rattle.volume_codec.specs.Text.{zeros}
 use Rattle.volume_codec.specs.Super.{SuperValue, Fits, IsSuper, super_head, entries_text, super_text, geometry_of, block_count}
 use Rattle.volume_codec.proofs.Blocks.{length-block_at, get_or-block_at}

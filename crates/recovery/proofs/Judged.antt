@@ -1,11 +1,11 @@
 -- Which bytes are refused.
-use Rattle.std.proofs.Common.{◌≡◌, ◌<◌, ◌≤◌, ℕ, ◌*◌, List, length, take, inl, inr, sym, ◌∙◌, ap, subst, arith}
+use Rattle.std.proofs.Common.{◌≡◌, ◌<◌, ◌≤◌, ℕ, ◌*◌, List, length, take, inr, sym, ◌∙◌, ap, subst, arith}
 use Rattle.std.proofs.lemmas.List.{take-take}
 use Rattle.page_entry.specs.declared.refusal.Refusal.{Refusal}
 use Rattle.page_entry.specs.declared.refusal.Refusal.TheVariants.{Device, OutOfMemory, NotAVolume, Damaged}
-use Rattle.volume_codec.specs.Layout.{GeometryValue, magic_of, block_at}
+use Rattle.volume_codec.specs.Layout.{magic_of, block_at}
 use Rattle.volume_codec.specs.Super.{SuperValue, IsSuper, block_count, geometry_of}
-use Rattle.volume_codec.specs.Recovery.{Batch, AreOpen, RecoversTo, IsDamaged}
+use Rattle.volume_codec.specs.Recovery.{AreOpen, IsDamaged}
 use Rattle.volume_codec.specs.Refusals.{RefusesSuper}
 use Rattle.volume_codec.proofs.Functional.{one_table, reads_block}
 use Rattle.recovery.specs.Opening.{RefusesOpening}

@@ -1,5 +1,5 @@
 -- A volume whose open batches were carried out is at rest.
-use Rattle.std.proofs.Common.{◌≡◌, ◌≤◌, ◌<◌, ◌⊎◌, inl, inr, ℕ, ◌+◌, ◌*◌, ◌^◌, List, [], ◌∷◌, ◌++◌, length, Result, Ok, Err, refl, sym, ◌∙◌, ap, subst, arith}
+use Rattle.std.proofs.Common.{◌≡◌, ◌≤◌, inl, inr, ℕ, ◌+◌, ◌*◌, List, [], ◌∷◌, length, refl, sym, subst, arith}
 use Rattle.std.specs.List.{sum_by}
 use Rattle.std.proofs.lemmas.List.Sums.{sum_by-append}
 use Rattle.device.specs.Device.{Only, LeavesOnly}
@@ -9,15 +9,14 @@ use Rattle.page_entry.specs.declared.refusal.Refusal.{Refusal}
 use Rattle.page_entry.specs.declared.refusal.Refusal.TheVariants.{Device}
 use Rattle.volume_codec.specs.Layout.{GeometryValue, journals_of, block_at}
 use Rattle.volume_codec.specs.Super.{SuperValue, Fits, IsSuper, block_count, geometry_of, capacities_in}
-use Rattle.volume_codec.specs.Recovery.{Batch, AreOpen, IsVolume}
+use Rattle.volume_codec.specs.Recovery.{Batch, IsVolume}
 use Rattle.volume_codec.proofs.Layouts.{first_home-within}
 use Rattle.volume_codec.proofs.Places.{fits_geometry}
 use Rattle.volume_codec.proofs.Recovered.{length-lengths_in, lengths_in-le}
-use Rattle.recovery.specs.Counts.{Rises, IsKept}
+use Rattle.recovery.specs.Counts.{Rises}
 use Rattle.recovery.specs.Volume.{IsSettled}
 use Rattle.recovery.specs.Opening.{IsUnwritten, IsOpened, IsBeingOpened, LeftWithin, opening_calls, HasOpened, HasRefused, RefusesOpening}
 use Rattle.recovery.specs.inside.Reading.{carry_calls}
-use Rattle.recovery.proofs.Kept.{synced_after}
 use Rattle.recovery.proofs.Partly.{opened_partly, kept_block, still_waiting}
 
 -- each open batch takes one call to read its descriptor

@@ -1,16 +1,15 @@
 -- Some of the open batches are carried out, the oldest first, and one perhaps in part.
-use Rattle.std.proofs.Common.{◌≡◌, ◌≢◌, ◌<◌, ◌≤◌, ◌⊎◌, inl, inr, Bool, true, false, ◌==◌, ◌||◌, ℕ, zero, suc, ◌+◌, ◌*◌, List, [], ◌∷◌, ◌++◌, length, get_or, refl, sym, ◌∙◌, ap, subst, arith}
+use Rattle.std.proofs.Common.{◌≡◌, ◌≢◌, ◌<◌, ◌≤◌, ◌⊎◌, inl, inr, Bool, true, false, ◌==◌, ◌||◌, ℕ, ◌*◌, List, [], ◌∷◌, ◌++◌, length, get_or, refl, sym, ◌∙◌, ap, subst, arith}
 use Rattle.std.specs.List.{AllByRecursion}
 use Rattle.std.proofs.lemmas.Bool.{cases_eq, eqb-true}
-use Rattle.std.proofs.lemmas.List.{append_assoc}
-use Rattle.volume_codec.specs.Layout.{GeometryValue, IsGeometry, IsHome, journals_of, gate_block, descriptor_block, record_block, first_home, block_at}
+use Rattle.volume_codec.specs.Layout.{GeometryValue, IsGeometry, journals_of, gate_block, descriptor_block, record_block, first_home, block_at}
 use Rattle.volume_codec.specs.Descriptor.{IsDescriptor}
-use Rattle.volume_codec.specs.Recovery.{Batch, IsOpen, IsOpenBatch, AreFalling, has_journal, AreOpen, record_or, standing_block, contents_in}
+use Rattle.volume_codec.specs.Recovery.{Batch, IsOpen, IsOpenBatch, AreFalling, has_journal, AreOpen, standing_block}
 use Rattle.volume_codec.proofs.Layouts.{gate_block-low, descriptor_block-low, record_block-low, first_home-within, gates_apart, gate_not_descriptor, gate_not_record}
-use Rattle.volume_codec.proofs.Recovered.{record_or-cases, record_or-other}
+use Rattle.volume_codec.proofs.Recovered.{record_or-other}
 use Rattle.volume_codec.proofs.Batches.{IsAmong, one_batch, each_among, falling_among}
-use Rattle.recovery.specs.Opening.{IsOutside, IsOpened, HaveNoRecord, IsBeingOpened, gate_byte}
-use Rattle.recovery.specs.inside.Carrying.{IsTornAt, IsClosing, IsBeingCarried, IsPartly}
+use Rattle.recovery.specs.Opening.{IsOpened, HaveNoRecord, IsBeingOpened, gate_byte}
+use Rattle.recovery.specs.inside.Carrying.{IsPartly}
 use Rattle.recovery.proofs.FoundJournals.{each_weaker}
 use Rattle.recovery.proofs.Regions.{low_block}
 

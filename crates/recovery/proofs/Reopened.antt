@@ -1,19 +1,16 @@
 -- What a crash within an opening leaves recovers to the same, and so to any depth.
-use Rattle.std.proofs.Common.{◌≡◌, ◌≢◌, ◌<◌, ◌≤◌, ◌⊎◌, inl, inr, Bool, true, ℕ, zero, suc, ◌+◌, ◌*◌, List, [], ◌∷◌, ◌++◌, length, map, replicate, Result, Ok, Err, MatchResult, IfOk, refl, sym, ◌∙◌, ap, subst, arith}
+use Rattle.std.proofs.Common.{◌≡◌, ◌≢◌, ◌<◌, ◌≤◌, ◌⊎◌, inl, inr, Bool, true, ℕ, zero, suc, ◌+◌, List, [], ◌∷◌, ◌++◌, length, Result, Ok, Err, MatchResult, IfOk, refl, sym, ◌∙◌, ap, subst, arith}
 use Rattle.std.specs.List.{AllByRecursion}
-use Rattle.device.specs.Device.{Only}
 use Rattle.device.specs.declared.device.Device.{Ghosts}
 use Rattle.page_entry.specs.declared.refusal.Refusal.{Refusal}
 use Rattle.page_entry.specs.declared.refusal.Refusal.TheVariants.{Device, OutOfMemory, NotAVolume, Damaged}
-use Rattle.volume_codec.specs.Files.{File, TableFile, AskedFile}
+use Rattle.volume_codec.specs.Files.{File}
 use Rattle.volume_codec.specs.Layout.{GeometryValue, IsHome, record_block, block_at}
-use Rattle.volume_codec.specs.Super.{SuperValue, IsSuper, IsAsked, block_count, geometry_of}
-use Rattle.volume_codec.specs.Recovery.{Batch, AreOpen, standing_block, contents_in, files_in, IsVolume, Recovers, RecoversTo, IsNotAVolume, IsDamaged}
+use Rattle.volume_codec.specs.Super.{SuperValue, IsSuper, block_count, geometry_of}
+use Rattle.volume_codec.specs.Recovery.{Batch, AreOpen, standing_block, contents_in, IsVolume, Recovers, RecoversTo, IsNotAVolume, IsDamaged}
 use Rattle.volume_codec.proofs.Batches.{IsAmong, each_among, one_list, one_contents, one_recovery}
 use Rattle.volume_codec.proofs.Functional.{one_table}
-use Rattle.volume_codec.proofs.Layouts.{magic_of-injective}
 use Rattle.volume_codec.proofs.Places.{fits_geometry}
-use Rattle.recovery.specs.Counts.{IsKept}
 use Rattle.recovery.specs.Volume.{files_of}
 use Rattle.recovery.specs.Opening.{HaveNoRecord, IsBeingOpened, HasOpened, HasRefused, RefusesOpening, LeftWithin, Opens}
 use Rattle.recovery.specs.Openings.{IsRestarted, FollowsOpening, IsLater, RecoversAs, AllRecover, FindsAmong}

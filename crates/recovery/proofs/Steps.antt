@@ -1,18 +1,18 @@
 -- One batch more is carried out, after older ones.
 use Rattle.std.proofs.Common.{◌≡◌, ◌≢◌, ◌<◌, ◌≤◌, ◌⊎◌, inl, inr, Bool, true, false, cond, ◌==◌, ℕ, ◌+◌, ◌*◌, ◌/◌, ◌%◌, List, [], ◌∷◌, ◌++◌, length, get_or, refl, sym, ◌∙◌, ap, subst, arith}
 use Rattle.std.specs.List.{AllByRecursion}
-use Rattle.std.proofs.lemmas.Bool.{cases_eq, cases_lt}
+use Rattle.std.proofs.lemmas.Bool.{cases_eq}
 use Rattle.std.proofs.lemmas.Bool.Decides.{eqb_tells}
 use Rattle.std.proofs.lemmas.List.{append_assoc}
-use Rattle.volume_codec.specs.Layout.{GeometryValue, IsGeometry, IsHome, journals_of, gate_block, record_block, first_home, block_at}
+use Rattle.volume_codec.specs.Layout.{GeometryValue, IsGeometry, IsHome, record_block, first_home, block_at}
 use Rattle.volume_codec.specs.Descriptor.{RiseWithin}
 use Rattle.volume_codec.specs.Recovery.{Batch, IsOpenBatch, AreOpen, record_or, standing_block, contents_in}
 use Rattle.volume_codec.proofs.Blocks.{get_or-block_at}
 use Rattle.volume_codec.proofs.Layouts.{gate_block-low, record_block-low, gate_not_record, gates_apart}
 use Rattle.volume_codec.proofs.Recovered.{record_or-other}
 use Rattle.volume_codec.proofs.Batches.{IsAmong, each_among}
-use Rattle.recovery.specs.Opening.{IsOutside, IsOpened, HaveNoRecord, IsBeingOpened, gate_byte}
-use Rattle.recovery.specs.inside.Carrying.{IsTornAt, IsClosing, IsBeingCarried, IsPartly}
+use Rattle.recovery.specs.Opening.{IsOutside, IsOpened, IsBeingOpened, gate_byte}
+use Rattle.recovery.specs.inside.Carrying.{IsTornAt, IsClosing, IsBeingCarried}
 use Rattle.recovery.proofs.Partly.{among_back, opened_partly, being_opened, kept_block, apart, each_from_among, no_record_push}
 
 -- a block has the same record whatever stands where there is none

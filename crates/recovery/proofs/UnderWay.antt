@@ -1,11 +1,11 @@
 -- The open batches are carried out one after another, the oldest first.
-use Rattle.std.proofs.Common.{◌≡◌, ◌<◌, ◌≤◌, ℕ, ◌+◌, ◌*◌, ◌^◌, List, [], ◌∷◌, ◌++◌, length, refl, sym, ◌∙◌, ap, subst, arith}
+use Rattle.std.proofs.Common.{◌≡◌, ◌≤◌, ℕ, ◌*◌, List, [], ◌∷◌, ◌++◌, length, refl, sym, subst}
 use Rattle.std.specs.List.{AllByRecursion}
-use Rattle.std.proofs.lemmas.List.{append_assoc, append-nil}
+use Rattle.std.proofs.lemmas.List.{append-nil}
 use Rattle.device.specs.Device.{Only, LeavesOnly}
 use Rattle.device.specs.declared.device.Device.{Ghosts}
 use Rattle.device.proofs.Moments.{leaves_at_start, leaves_on}
-use Rattle.volume_codec.specs.Layout.{GeometryValue, IsGeometry, IsHome, block_at}
+use Rattle.volume_codec.specs.Layout.{GeometryValue, IsGeometry}
 use Rattle.volume_codec.specs.Recovery.{Batch, AreOpen}
 use Rattle.recovery.specs.Opening.{IsOpened, IsBeingOpened}
 use Rattle.recovery.specs.inside.Carrying.{IsBeingCarried}

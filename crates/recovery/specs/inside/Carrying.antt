@@ -1,5 +1,5 @@
 -- What carrying out a batch does to a device's bytes, step by step.
-use Rattle.std.specs.Prelude.{◌≡◌, ◌≢◌, ◌⊎◌, ℕ, List, [], ◌∷◌, ◌++◌, length, slice_index}
+use Rattle.std.specs.Prelude.{◌≡◌, ◌≢◌, ◌⊎◌, ℕ, List, [], ◌∷◌, length, slice_index}
 use Rattle.std.specs.List.{AllByRecursion}
 use Rattle.volume_codec.specs.Layout.{GeometryValue, IsHome, block_at}
 use Rattle.volume_codec.specs.Recovery.{Batch, contents_in}

@@ -1,6 +1,6 @@
-use Rattle.std.proofs.Common.{◌≡◌, ◌≤◌, ◌+◌, length, refl, ◌∙◌, arith}
+use Rattle.std.proofs.Common.{refl, ◌∙◌, arith}
 use Rattle.volume_codec.proofs.Layouts.{first_home-within}
-use Rattle.recovery.proofs.Erased.{close_none, close_more}
+use Rattle.recovery.proofs.Erased.{close_more}
 use Rattle.recovery.proofs.formatting.close_gates.Goals as goal
 
 pub write-requires : goal.write-requires

@@ -1,5 +1,5 @@
-use Rattle.std.proofs.Common.{◌≡◌, ◌≤◌, ◌+◌, length, ◌∙◌, arith}
-use Rattle.recovery.proofs.Erased.{erase_none, erase_more}
+use Rattle.std.proofs.Common.{◌∙◌, arith}
+use Rattle.recovery.proofs.Erased.{erase_more}
 use Rattle.recovery.proofs.formatting.erase.Goals as goal
 
 pub loop-at-preserved : goal.loop-at-preserved

@@ -1,4 +1,4 @@
-use Rattle.std.proofs.Common.{◌≡◌, ◌≤◌, ◌-◌, ℕ, length}
+use Rattle.std.proofs.Common.{◌≡◌, ◌≤◌, ◌-◌, length}
 use Rattle.recovery.specs.inside.Erasing.{IsErased}
 use Rattle.recovery.proofs.formatting.erase.Given as goal
 

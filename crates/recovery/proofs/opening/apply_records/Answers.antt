@@ -1,12 +1,12 @@
-use Rattle.std.proofs.Common.{◌≡◌, ◌≤◌, ◌<◌, ◌+◌, ◌*◌, ℕ, List, length, get_or, ap, sym, subst, ◌∙◌, refl, arith}
-use Rattle.device.specs.Device.{Only, LeavesOnly}
+use Rattle.std.proofs.Common.{◌≤◌, ◌<◌, ◌+◌, ◌*◌, ℕ, List, length, get_or, ap, sym, subst, refl, arith}
+use Rattle.device.specs.Device.{Only}
 use Rattle.device.proofs.Moments.{leaves_at_start, leaves_on}
 use Rattle.volume_codec.specs.Layout.{record_block}
 use Rattle.volume_codec.proofs.Blocks.{length-block_at}
 use Rattle.volume_codec.proofs.Layouts.{record_block-low, first_home-within}
-use Rattle.recovery.specs.inside.Carrying.{IsTornAt, IsApplied}
+use Rattle.recovery.specs.inside.Carrying.{IsTornAt}
 use Rattle.recovery.specs.inside.Reading.{batch_of}
-use Rattle.recovery.proofs.Applied.{applied_none, applied_more, applied_all, torn_at_none, left_more}
+use Rattle.recovery.proofs.Applied.{applied_none, applied_more, torn_at_none, left_more}
 use Rattle.recovery.proofs.Kept.{kept_none, kept_then, kept_ok}
 use Rattle.recovery.proofs.Regions.{home_at}
 use Rattle.recovery.proofs.opening.apply_records.Goals as goal

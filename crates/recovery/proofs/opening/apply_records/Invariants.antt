@@ -1,4 +1,4 @@
-use Rattle.std.proofs.Common.{◌≡◌, ◌*◌, ℕ, List, Ok}
+use Rattle.std.proofs.Common.{◌*◌, ℕ, List, Ok}
 use Rattle.device.specs.Device.{Only, LeavesOnly}
 use Rattle.recovery.specs.Counts.{Rises, IsKept}
 use Rattle.recovery.specs.inside.Carrying.{IsTornAt, IsApplied}

@@ -1,4 +1,4 @@
-use Rattle.std.proofs.Common.{◌≡◌, ◌++◌, ℕ, List, Ok, length}
+use Rattle.std.proofs.Common.{◌≡◌, ◌++◌, List, Ok, length}
 use Rattle.std.specs.List.{AllByRecursion}
 use Rattle.volume_codec.specs.Recovery.{Batch}
 use Rattle.recovery.specs.Counts.{Rises, IsKept}

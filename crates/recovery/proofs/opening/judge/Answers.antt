@@ -1,8 +1,6 @@
-use Rattle.std.proofs.Common.{◌≡◌, ◌≤◌, ◌<◌, ◌+◌, ◌*◌, ℕ, List, Ok, Err, length, ap, sym, subst, ◌∙◌, arith}
+use Rattle.std.proofs.Common.{ℕ, List, Err, ap, subst, ◌∙◌, arith}
 use Rattle.std.proofs.lemmas.Result.{err_from_is_err_and}
-use Rattle.page_entry.specs.declared.refusal.Refusal.{Refusal}
 use Rattle.volume_codec.specs.Layout.{GeometryValue, journals_of}
-use Rattle.volume_codec.specs.Super.{geometry_of}
 use Rattle.volume_codec.specs.Recovery.{AreOpen}
 use Rattle.recovery.specs.inside.Reading.{batches_of, RefusesJournals}
 use Rattle.recovery.proofs.Judged.{refuses_journals}

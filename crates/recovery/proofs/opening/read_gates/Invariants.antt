@@ -1,5 +1,4 @@
 use Rattle.std.proofs.Common.{◌≡◌, ◌↔◌, ◌<◌, ℕ, true, false, length, slice_index_or}
-use Rattle.volume_codec.specs.Layout.{journals_of}
 use Rattle.volume_codec.specs.Recovery.{IsOpen}
 use Rattle.recovery.specs.Counts.{Rises}
 use Rattle.recovery.specs.Opening.{IsUnwritten}

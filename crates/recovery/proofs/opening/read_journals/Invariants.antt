@@ -1,4 +1,4 @@
-use Rattle.std.proofs.Common.{◌≡◌, ◌≤◌, Ok, length}
+use Rattle.std.proofs.Common.{◌≤◌, Ok, length}
 use Rattle.std.specs.List.{AllByRecursion}
 use Rattle.recovery.specs.Counts.{Rises, IsKept}
 use Rattle.recovery.specs.Opening.{IsUnwritten}

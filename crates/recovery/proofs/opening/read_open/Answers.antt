@@ -1,8 +1,8 @@
-use Rattle.std.proofs.Common.{ℕ, List, subst, arith}
+use Rattle.std.proofs.Common.{ℕ, List, subst}
 use Rattle.std.proofs.lemmas.Result.{err_from_is_err_and}
 use Rattle.volume_codec.specs.Layout.{journals_of}
 use Rattle.recovery.specs.inside.Reading.{batches_of, AreRead}
-use Rattle.recovery.proofs.FoundJournals.{ordered_open, one_mark_refused}
+use Rattle.recovery.proofs.FoundJournals.{one_mark_refused}
 use Rattle.recovery.proofs.opening.read_open.Goals as goal
 
 pub returns-in_err-put_newest_first-clause-refused : goal.returns-in_err-put_newest_first-clause-refused

@@ -1,10 +1,8 @@
-use Rattle.std.proofs.Common.{◌≡◌, ◌≤◌, ◌*◌, ◌∙◌, ℕ, Ok, Err, List, length, ap, sym, subst, arith}
+use Rattle.std.proofs.Common.{◌∙◌, Err, length, ap, sym, subst, arith}
 use Rattle.std.proofs.lemmas.List.{length-map}
 use Rattle.std.proofs.lemmas.Result.{err_from_is_err_and}
-use Rattle.page_entry.specs.declared.refusal.Refusal.{Refusal}
 use Rattle.volume_codec.specs.Layout.{GeometryValue}
-use Rattle.volume_codec.specs.Super.{block_count, geometry_of}
-use Rattle.recovery.specs.Opening.{HasOpened, HasRefused, IsOpened}
+use Rattle.recovery.specs.Opening.{HasOpened, IsOpened}
 use Rattle.recovery.specs.inside.Reading.{batch_of, batches_of}
 use Rattle.recovery.proofs.Kept.{kept_then, kept_ok, kept_err}
 use Rattle.recovery.proofs.Opened.{left_within, has_opened, has_failed, is_settled}

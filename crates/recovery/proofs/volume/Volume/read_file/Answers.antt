@@ -1,6 +1,6 @@
-use Rattle.std.proofs.Common.{◌≡◌, ◌≤◌, ◌<◌, ◌+◌, ◌*◌, List, ℕ, length, slice_index, slice_range, sym, ap, subst, ◌∙◌, arith}
+use Rattle.std.proofs.Common.{◌≡◌, ◌+◌, ◌*◌, length, slice_range, sym, ap, subst, ◌∙◌, arith}
 use Rattle.std.proofs.lemmas.Result.{on_ok_weaker}
-use Rattle.volume_codec.specs.Super.{SuperValue, block_count, capacities_in}
+use Rattle.volume_codec.specs.Super.{block_count, capacities_in}
 use Rattle.recovery.specs.Volume.{VolumeState, files_of, bytes_of}
 use Rattle.recovery.proofs.FileBytes.{asked_within, file_room, read_part}
 use Rattle.recovery.proofs.volume.Volume.read_file.Goals as goal
