@@ -132,6 +132,13 @@ impl<A: Allocator + Copy> WriteOuts<A> {
         })
     }
 
+    /// Whether they are as `new` leaves them.
+    pub fn is_fresh(&self) -> bool
+        ensures { IsTrue result ↔ (self.now ≡ none_of self.now.geometry) }
+    {
+        self.next == 0 && self.flushes.is_empty() && !self.broken
+    }
+
     /// Whether every batch is done.
     pub fn is_empty(&self) -> bool
         ensures { IsTrue result ↔ (self.now.batches ≡ []) }
@@ -243,6 +250,7 @@ impl<A: Allocator + Copy> WriteOuts<A> {
 
         ensures answer { (result ≡ next_answer self.old) ⊎ (result ≡ Flushed.Device) }
         ensures broken { self.old.broken ≡ true → (result ≡ Flushed.Broken) × (device.new ≡ device.old) }
+        ensures whole { self.old.broken ≡ false → result ≢ Flushed.Broken }
         ensures value { self.new ≡ outs_after self.old result }
 
         // With the same Old and New they stand after the step, and a crash at any moment of it leaves what it may.

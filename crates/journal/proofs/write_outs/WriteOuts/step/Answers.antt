@@ -106,6 +106,9 @@ invariant_of-self g c =
 pub returns-clause-value : goal.returns-clause-value
 returns-clause-value g c = value g c ∙ ap (λ o. outs_after o c.step-answer.result) c.self.view_is
 
+pub returns-clause-whole : goal.returns-clause-whole
+returns-clause-whole g c sane = not_broken g c
+
 pub returns-clause-answer : goal.returns-clause-answer
 returns-clause-answer g c = ⊎_elim (λ is. inl (is ∙ same_answer g c ∙ ap next_answer c.self.view_is)) (λ is. inr is) c.step-answer.ensures.answer
 

@@ -1,0 +1,124 @@
+-- Each step of a tracked machine keeps it tracked, so a run that began on a volume at rest stays on track.
+use Rattle.std.proofs.Common.{ℕ, ◌≡◌, ◌≤◌, List, [], ◌∷◌, ◌++◌, length, map, get_or, refl, sym, ap, ◌∙◌, subst, arith}
+use Rattle.volume_codec.specs.Files.{File, TableFile}
+use Rattle.volume_codec.specs.Layout.{block_at}
+use Rattle.volume_codec.specs.Super.{Fits}
+use Rattle.volume_codec.specs.Recovery.{lengths_in}
+use Rattle.volume_codec.proofs.Recovered.{length-lengths_in}
+use Rattle.machine.specs.declared.act.Act.{Act}
+use Rattle.machine.specs.declared.act.Reply.{Reply}
+use Rattle.machine.specs.declared.act.Step.{Step}
+use Rattle.machine.specs.State.{State, Whole, length_of}
+use Rattle.machine.specs.Told.{Told, tell, tell_all}
+use Rattle.machine.specs.Laws.{EachStep}
+use Rattle.machine.specs.OnTrack.{StepMade, IsLawful, IsOnTrack, told_first}
+use Rattle.machine.specs.Crashes.{Begins, StepIsSafe, Throughout}
+use Rattle.machine.specs.Sound.{IsSound, capacity_of}
+use Rattle.machine.specs.Tracking.{IsTracked}
+use Rattle.machine.proofs.sound.Kept.{sound_kept}
+use Rattle.machine.proofs.sound.AtBoot.{fresh_sound}
+use Rattle.machine.proofs.durable.PagesRead.{page_read}
+use Rattle.machine.proofs.durable.Steps.{durable_kept, step_is_safe}
+use Rattle.machine.proofs.durable.AtStart.{durable_at_start}
+use Rattle.machine.proofs.track.Together.{as_told_after, as_told_first, lawful_step}
+
+-- ---- lists of steps and replies, one longer
+
+module _ {D : Type 0} (seen : D → List ℕ) (may_leave : D → List ℕ → Type 0) (moment : D → ℕ) (left_since : D → ℕ → List ℕ → Type 0) (files : List File) where
+  abbrev Through : Told → Whole D → List Step → List Reply → Whole D → Type 0
+  Through = Throughout seen may_leave moment left_since files
+
+  -- one step more is told last
+  pub tell_more : (told : Told) (old : Whole D) (steps : List Step) (replies : List Reply) (now : Whole D) (step : Step) (reply : Reply) → Through told old steps replies now
+      → tell_all told (steps ++ step ∷ []) (replies ++ reply ∷ []) ≡ tell (tell_all told steps replies) step reply
+  tell_more told old [] [] now step reply run = refl
+  tell_more told old (first ∷ steps) (answer ∷ replies) now step reply run = tell_more (tell told first answer) run.0 steps replies now step reply run.2
+  tell_more told old [] (answer ∷ replies) now step reply run = absurd run
+  tell_more told old (first ∷ steps) [] now step reply run = absurd run
+
+  pub through_more : (told : Told) (old : Whole D) (steps : List Step) (replies : List Reply) (now : Whole D) (step : Step) (reply : Reply) (new : Whole D) → Through told old steps replies now
+      → StepIsSafe seen may_leave moment left_since files (tell_all told steps replies) now step reply new → Through told old (steps ++ step ∷ []) (replies ++ reply ∷ []) new
+  through_more told old [] [] now step reply new run safe = (new, subst (λ (x : Whole D). StepIsSafe seen may_leave moment left_since files told x step reply new) run safe, refl)
+  through_more told old (first ∷ steps) (answer ∷ replies) now step reply new run safe = (run.0, run.1, through_more (tell told first answer) run.0 steps replies now step reply new run.2 safe)
+  through_more told old [] (answer ∷ replies) now step reply new run safe = absurd run
+  through_more told old (first ∷ steps) [] now step reply new run safe = absurd run
+
+  pub each_more : (P : Told → ℕ → Act → Reply → Type 0) (told : Told) (old : Whole D) (steps : List Step) (replies : List Reply) (now : Whole D) (step : Step) (reply : Reply) → Through told old steps replies now → EachStep P told steps replies
+      → P (tell_all told steps replies) step.p step.act reply → EachStep P told (steps ++ step ∷ []) (replies ++ reply ∷ [])
+  each_more P told old [] [] now step reply run each here = (here, tt)
+  each_more P told old (first ∷ steps) (answer ∷ replies) now step reply run each here = (each.0, each_more P (tell told first answer) run.0 steps replies now step reply run.2 each.1 here)
+  each_more P told old [] (answer ∷ replies) now step reply run each here = absurd run
+  each_more P told old (first ∷ steps) [] now step reply run each here = absurd run
+
+-- ---- one step
+
+module _ {D : Type 0} (seen : D → List ℕ) (may_leave : D → List ℕ → Type 0) (moment : D → ℕ) (left_since : D → ℕ → List ℕ → Type 0) (is_honest : D → Type 0)
+    (files : List File) (told : Told) (old : Whole D) (step : Step) (reply : Reply) (new : Whole D) (t : IsTracked files told old.state (seen old.device) (may_leave old.device)) (made : StepMade seen may_leave moment left_since is_honest old step reply new) where
+  sound_after : IsSound new.state
+  sound_after = sound_kept old.state (seen old.device) step reply new.state (seen new.device) t.sound made.answered
+
+  pub tracked_kept : IsTracked files (tell told step reply) new.state (seen new.device) (may_leave new.device)
+  tracked_kept =
+      let d = durable_kept seen may_leave moment left_since is_honest files told old step reply new t made sound_after in
+      let a = as_told_after t step reply new.state (seen new.device) made.answered (page_read files told old.state (seen old.device) (may_leave old.device) t) in
+      record {
+        sound = sound_after;
+        files_are = a.pages.files_are;
+        arranged = a.arranged;
+        latest = a.pages.latest;
+        touched = a.pages.touched;
+        plain = a.pages.plain;
+        old = d.old;
+        new = d.new;
+        stands = d.stands;
+        written = d.written;
+      }
+
+  pub step_safe : StepIsSafe seen may_leave moment left_since files told old step reply new
+  step_safe = step_is_safe seen may_leave moment left_since is_honest files told old step reply new t made sound_after tracked_kept.files_are
+
+-- ---- runs
+
+module _ {D : Type 0} (seen : D → List ℕ) (may_leave : D → List ℕ → Type 0) (moment : D → ℕ) (left_since : D → ℕ → List ℕ → Type 0) (is_honest : D → Type 0) (files : List File) (start : Whole D) where
+  -- a start is on the track of no steps
+  pub on_track_first : Begins seen may_leave is_honest files start → IsOnTrack seen may_leave moment left_since is_honest files start [] [] start
+  on_track_first begins =
+      let s = start.state in
+      let capacities : s.lengths ≡ map (λ (f : TableFile). f.capacity) s.table.files = begins.lengths_are in
+      let sound = fresh_sound s begins.fresh begins.volume.super_block.fits (ap length capacities ∙ length-lengths_in s.table (block_at (seen start.device)))
+      (λ file. let same : length_of s file ≡ capacity_of s file = ap (λ (l : List ℕ). get_or l file 0) capacities in omega (arith, same)) in
+      let a = as_told_first seen may_leave is_honest files start begins in
+      let d = durable_at_start seen may_leave is_honest files start sound begins in
+      record {
+        begins = begins;
+        honest = begins.honest;
+        through = refl;
+        lawful = tt;
+        tracked = record {
+          sound = sound;
+          files_are = a.pages.files_are;
+          arranged = a.arranged;
+          latest = a.pages.latest;
+          touched = a.pages.touched;
+          plain = a.pages.plain;
+          old = d.old;
+          new = d.new;
+          stands = d.stands;
+          written = d.written;
+        };
+      }
+
+  -- and a step leads on
+  pub on_track_more : (steps : List Step) (replies : List Reply) (now : Whole D) (step : Step) (reply : Reply) (new : Whole D) → IsOnTrack seen may_leave moment left_since is_honest files start steps replies now
+      → StepMade seen may_leave moment left_since is_honest now step reply new → IsOnTrack seen may_leave moment left_since is_honest files start (steps ++ step ∷ []) (replies ++ reply ∷ []) new
+  on_track_more steps replies now step reply new on made =
+      let first = told_first files start.state in
+      let told = tell_all first steps replies in
+      let t = tracked_kept seen may_leave moment left_since is_honest files told now step reply new on.tracked made in
+      record {
+        begins = on.begins;
+        honest = made.honest;
+        through = through_more seen may_leave moment left_since files first start steps replies now step reply new on.through (step_safe seen may_leave moment left_since is_honest files told now step reply new on.tracked made);
+        lawful = each_more seen may_leave moment left_since files (IsLawful files) first start steps replies now step reply on.through on.lawful (lawful_step on.tracked step reply new.state (seen new.device) made.answered);
+        tracked = subst (λ (x : Told). IsTracked files x new.state (seen new.device) (may_leave new.device)) (sym (tell_more seen may_leave moment left_since files first start steps replies now step reply on.through)) t;
+      }

@@ -1,0 +1,15 @@
+pub mod Reserved
+pub mod Hardware
+pub mod Refused
+pub mod InMemory
+pub mod Mapping
+pub mod Table
+pub mod Reclaims
+pub mod Holders
+pub mod Marks
+pub mod Records
+pub mod Flushes
+pub mod Fixes
+pub mod Acting
+pub mod Stepping
+pub mod Runs

@@ -1,0 +1,111 @@
+-- Steps of the write-outs, by what the journal answers.
+use Rattle.std.proofs.Common.{ℕ, ◌≡◌, ◌≢◌, ◌⊎◌, Bool, true, false, not, cond, List, [], Option, Some, None, is_some, refl, sym, ap, ◌∙◌, subst, ⊎_elim}
+use Rattle.device.specs.Device.{Torn}
+use Rattle.device.specs.declared.device.Device.{Ghosts}
+use Rattle.device.proofs.Moments.{leaves_at_start}
+use Rattle.page_entry.specs.declared.refusal.Refusal.{Refusal}
+use Rattle.page_entry.specs.declared.refusal.Refusal.TheVariants as refusals
+use Rattle.journal.specs.declared.flushed.Flushed.{Flushed}
+use Rattle.journal.specs.declared.flushed.Flushed.TheVariants as flushed
+use Rattle.journal.specs.Work.{Work, WriteAt, CopyBlock, Sync, Nothing, worked, TornByWork}
+use Rattle.journal.specs.WriteOuts.{WriteOutsValue, next_answer, outs_after, outs_record}
+use Rattle.shootdown.specs.Processors.{is_running}
+use Rattle.shootdown.specs.Shootdown.{ShootdownState, is_there, state_of, not_running}
+use Rattle.machine.specs.declared.act.Reply.{Reply}
+use Rattle.machine.specs.declared.act.Reply.TheVariants as replies
+use Rattle.machine.specs.State.{State}
+use Rattle.machine.specs.Refusals.{flush_refusal}
+use Rattle.machine.specs.Rules.{reply_to, after_record, after_failure, work_asked, FlushMade, Flushes}
+use Rattle.machine.specs.inside.Layers.{AnswersBy, reply_to as reply_by}
+use Rattle.machine.specs.inside.Flushing.{FlushesDevice, reply_of_flush, memory_after, checkpoint_after, released_memory, released_pages}
+
+-- the state after a step that the journal answers so
+abbrev pub stepped : State → Flushed → State
+stepped s answer = record s {
+  hardware = record s.hardware { memory = memory_after answer (is_some (outs_record s.write_outs)) s.checkpoint s.hardware.memory };
+  checkpoint = checkpoint_after answer (is_some (outs_record s.write_outs)) s.checkpoint;
+  write_outs = outs_after s.write_outs answer;
+}
+
+-- the same where a record was written or wasn't
+with_record : (s : State) (writes : Bool) (outs new : WriteOutsValue) → outs ≡ new
+    → record s { hardware = record s.hardware { memory = released_memory writes s.checkpoint s.hardware.memory }; checkpoint = released_pages writes s.checkpoint; write_outs = outs }
+    ≡ record (cond writes (after_record s) s) { write_outs = new }
+with_record s true outs new is = ap (λ (o : WriteOutsValue). record (after_record s) { write_outs = o }) is
+with_record s false outs new is = ap (λ (o : WriteOutsValue). record s { write_outs = o }) is
+
+not_torn : (at n : ℕ) (disk : List ℕ) → Torn at n disk disk
+not_torn at n disk = record { before = refl; after = refl; same_length = refl }
+
+nothing_torn : (work : Work) → TornByWork work [] []
+nothing_torn (WriteAt at bytes) = not_torn at _ []
+nothing_torn (CopyBlock from to) = not_torn _ _ []
+nothing_torn Sync = refl
+nothing_torn Nothing = refl
+
+module _ (honest : Type 0) (s : State) (disk disk' : List ℕ) (p : ℕ) (allowed : flush_refusal s p ≡ None) (some : s.write_outs.batches ≢ []) where
+  made : (answer : Flushed) (reply : Reply) (new : State) → reply ≡ reply_to answer → answer ≡ next_answer s.write_outs
+      → new ≡ record (cond (is_some (outs_record s.write_outs)) (after_record s) s) { write_outs = outs_after s.write_outs (next_answer s.write_outs) }
+      → (d : List ℕ) → FlushMade s d p reply new (worked d (work_asked s))
+  made answer reply new replied is done d = record { allowed = allowed; some = some; answered = replied ∙ ap reply_to is; done = done; disk_done = refl }
+
+  own : (reply : Reply) (new : State) → ((d : List ℕ) → FlushMade s d p reply new (worked d (work_asked s))) → disk' ≡ worked disk (work_asked s) → FlushMade s disk p reply new disk'
+  own reply new all is = subst (FlushMade s disk p reply new) (sym is) (all disk)
+
+  -- by the journal's answer, which isn't that it was broken before
+  pub flushes_by : (answer : Flushed) → (answer ≡ next_answer s.write_outs) ⊎ (answer ≡ flushed.Device) → answer ≢ flushed.Broken
+      → (honest → answer ≢ flushed.Device → disk' ≡ worked disk (work_asked s)) → (honest → answer ≡ flushed.Device → TornByWork (work_asked s) disk disk')
+      → AnswersBy honest (λ d d'. Flushes s d p (reply_by (reply_of_flush answer)) (stepped s answer) d') disk disk'
+  flushes_by flushed.Going answered whole worked_so torn =
+      let is : flushed.Going ≡ next_answer s.write_outs = ⊎_elim (λ e. e) (λ e. absurd (cc)) answered in
+      let all = made flushed.Going replies.Going (stepped s flushed.Going) refl is (with_record s (is_some (outs_record s.write_outs)) _ _ (ap (outs_after s.write_outs) is)) in
+      record { some_disk = ([], worked [] (work_asked s), all []); own_disk = λ h. own replies.Going (stepped s flushed.Going) all (worked_so h (λ e. cc)) }
+  flushes_by (flushed.Committed mark) answered whole worked_so torn =
+      let is : flushed.Committed mark ≡ next_answer s.write_outs = ⊎_elim (λ e. e) (λ e. absurd (cc)) answered in
+      let new = stepped s (flushed.Committed mark) in
+      let all = made (flushed.Committed mark) (replies.Committed mark) new refl is (with_record s (is_some (outs_record s.write_outs)) _ _ (ap (outs_after s.write_outs) is)) in
+      record { some_disk = ([], worked [] (work_asked s), all []); own_disk = λ h. own (replies.Committed mark) new all (worked_so h (λ e. cc)) }
+  flushes_by (flushed.Done mark) answered whole worked_so torn =
+      let is : flushed.Done mark ≡ next_answer s.write_outs = ⊎_elim (λ e. e) (λ e. absurd (cc)) answered in
+      let new = stepped s (flushed.Done mark) in
+      let all = made (flushed.Done mark) (replies.Done mark) new refl is (with_record s (is_some (outs_record s.write_outs)) _ _ (ap (outs_after s.write_outs) is)) in
+      record { some_disk = ([], worked [] (work_asked s), all []); own_disk = λ h. own (replies.Done mark) new all (worked_so h (λ e. cc)) }
+  flushes_by flushed.Device answered whole worked_so torn = record {
+    some_disk = ([], [], record { allowed = allowed; some = some; done = refl; disk_torn = nothing_torn (work_asked s) });
+    own_disk = λ h. record { allowed = allowed; some = some; done = refl; disk_torn = torn h refl };
+  }
+  flushes_by flushed.Broken answered whole worked_so torn = absurd (whole refl)
+
+-- ---- refused before the device is asked
+
+abbrev pub IsCalm : Refusal → Type 0
+IsCalm refusals.Device = ⊥
+IsCalm why = Unit {0}
+
+pub flushes_refused : (s : State) (p : ℕ) (why : Refusal) (d : List ℕ) → IsCalm why → flush_refusal s p ≡ Some why → Flushes s d p (replies.Refused why) s d
+flushes_refused s p refusals.Device d calm is = absurd calm
+flushes_refused s p why d calm is = (record { reason_is = is; unchanged = refl }, refl)
+
+-- nothing is asked of the device then
+pub flush_untouched : {D : Type 0} (disk : Ghosts D) (since_now : (device : D) (c : List ℕ) → disk.left_since device (disk.moment device) c → disk.may_leave device c) (s : State) (why : Refusal) (device : D) → IsCalm why
+    → FlushesDevice disk s (replies.Refused why) device device
+flush_untouched disk since_now s refusals.Device device calm = absurd calm
+flush_untouched disk since_now s why device calm = record {
+  left = λ c may. may;
+  sure = λ honest other sync. absurd (cc);
+  time = leaves_at_start (λ c left. since_now device c left);
+  honest = ((λ h. h), (λ h. h));
+  len = refl;
+  calls = (refl, refl);
+}
+
+pub calm-not_running : (s : ShootdownState) (p : ℕ) (why : Refusal) → not_running s p ≡ Some why → IsCalm why
+calm-not_running s p why is = by (is_there s p) (is_running (state_of s p)) is
+  where
+    calm_as : (known : Refusal) → IsCalm known → ◌≡◌ {A = Option Refusal} (Some known) (Some why) → IsCalm why
+    calm_as known calm e = let same : known ≡ why = cc in subst IsCalm same calm
+
+    by : (there running : Bool) → cond (not there) (Some refusals.Einval) (cond running None (Some refusals.Stalled)) ≡ Some why → IsCalm why
+    by false running e = calm_as refusals.Einval tt e
+    by true false e = calm_as refusals.Stalled tt e
+    by true true e = absurd (cc)

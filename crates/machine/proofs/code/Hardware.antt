@@ -1,0 +1,20 @@
+-- Loads, stores, fills and evictions leave the lock as it is.
+use Rattle.std.proofs.Common.{ℕ, ◌≡◌, Bool, true, false, Option, Some, None, Result, Ok, Err, refl, ap, ◌∙◌}
+use Rattle.page_entry.specs.declared.refusal.Refusal.{Refusal}
+use Rattle.page_entry.specs.Entry.{Mapped}
+use Rattle.spaces.specs.Spaces.{entry_at}
+use Rattle.shootdown.specs.Shootdown.{current}
+use Rattle.cpu.specs.Access.{Hardware, Fills, Evicts, filled_by}
+
+lock-filled_by : (h : Hardware) (p page : ℕ) (entry : Option Mapped) → (filled_by h p page entry).1.shootdown.lock ≡ h.shootdown.lock
+lock-filled_by h p page None = refl
+lock-filled_by h p page (Some entry) = refl
+
+pub lock-fills : (h : Hardware) (p page : ℕ) (answer : Result Bool Refusal) (new : Hardware) → Fills h p page answer new → new.shootdown.lock ≡ h.shootdown.lock
+lock-fills h p page (Ok there) new fills =
+    ap (λ (x : Bool × Hardware). x.1.shootdown.lock) fills.1 ∙ lock-filled_by h p page (entry_at h.spaces (current h.shootdown p) page)
+lock-fills h p page (Err why) new fills = ap (λ (x : Hardware). x.shootdown.lock) fills.2
+
+pub lock-evicts : (h : Hardware) (p slot : ℕ) (answer : Result Bool Refusal) (new : Hardware) → Evicts h p slot answer new → new.shootdown.lock ≡ h.shootdown.lock
+lock-evicts h p slot (Ok there) new evicts = ap (λ (x : Hardware). x.shootdown.lock) evicts.2
+lock-evicts h p slot (Err why) new evicts = ap (λ (x : Hardware). x.shootdown.lock) evicts.2

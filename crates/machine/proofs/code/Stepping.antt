@@ -1,0 +1,38 @@
+-- One step of a machine, by what its layers did.
+use Rattle.std.proofs.Common.{ℕ, ◌≡◌, ◌≢◌, ◌*◌, ◌≤◌, List, length, sym, ap, subst, arith}
+use Rattle.device.specs.declared.device.Device.{Ghosts}
+use Rattle.page_entry.specs.declared.refusal.Refusal.TheVariants as refusals
+use Rattle.volume_codec.specs.Super.{SuperValue, block_count}
+use Rattle.machine.specs.declared.act.Reply.{Reply}
+use Rattle.machine.specs.declared.act.Reply.TheVariants as replies
+use Rattle.machine.specs.declared.act.Step.{Step}
+use Rattle.machine.specs.declared.layers.Layers.{Layers}
+use Rattle.machine.specs.State.{Whole}
+use Rattle.machine.specs.Rules.{Rules}
+use Rattle.machine.specs.Calls.{CallsOf}
+use Rattle.machine.specs.OnTrack.{StepMade}
+use Rattle.machine.specs.inside.Layers.{state_in, whole_in, AreLayers}
+use Rattle.machine.specs.inside.Acting.{ActDone}
+use Rattle.machine.proofs.sound.Kept.{sound_kept}
+use Rattle.machine.proofs.sound.Replies.{reply_not_full}
+
+module _ {D Z : Type 0} (disk : Ghosts D) (old new : Layers D Z) (step : Step) (reply : Reply) (done : ActDone disk old step reply new) where
+  -- what holds of every machine still does
+  pub layers_kept : AreLayers disk.seen old → AreLayers disk.seen new
+  layers_kept are = record {
+    sound = sound_kept (state_in old) done.rules.some_disk.0 step reply (state_in new) done.rules.some_disk.1 are.sound done.rules.some_disk.2;
+    long = omega (arith, are.long, done.len, ap (λ (table : SuperValue). block_count table) done.kept.same_table);
+    reserved = done.kept.still_reserved are.reserved;
+  }
+
+  pub step_made : disk.is_honest old.device → StepMade disk.seen disk.may_leave disk.moment disk.left_since disk.is_honest (whole_in old) step reply (whole_in new)
+  step_made honest = record {
+    answered = done.rules.own_disk honest;
+    left = done.left;
+    sure = done.sure honest;
+    within = done.time;
+    honest = done.honest.1 honest;
+  }
+
+  pub not_full : reply ≢ replies.Refused refusals.TraceFull
+  not_full = reply_not_full (state_in old) done.rules.some_disk.0 step reply (state_in new) done.rules.some_disk.1 done.rules.some_disk.2

@@ -1,0 +1,136 @@
+-- Contents that have the parts of files have these files.
+use Rattle.std.proofs.Common.{◌≡◌, ℕ, zero, suc, ◌+◌, ◌-◌, ◌*◌, ◌<◌, ◌≤◌, List, [], ◌∷◌, ◌++◌, length, map, take, get_or, refl, sym, ap, ◌∙◌, subst, inl, inr, arith}
+use Rattle.std.proofs.lemmas.Bool.{cases_lt}
+use Rattle.std.proofs.lemmas.List.{take-append-le, take_all, length-take, get_or-map, length-map}
+use Rattle.volume_codec.specs.Files.{File, TableFile}
+use Rattle.volume_codec.specs.Layout.{first_file_home}
+use Rattle.volume_codec.specs.Super.{pages_of, total_pages}
+use Rattle.volume_codec.specs.Recovery.{blocks_from, files_from, files_in}
+use Rattle.volume_codec.proofs.Padding.{take-past}
+use Rattle.machine.specs.History.{Memory, bytes_of_pages, files_from_memory}
+use Rattle.machine.specs.History.{files_in as files_of}
+use Rattle.machine.specs.State.{State, home_of, length_of}
+use Rattle.machine.specs.Sound.{IsInFile, IsSound}
+use Rattle.machine.specs.Tracking.{HasParts, HasFiles}
+
+-- ---- the bytes of one file
+
+nothing : (r : ℕ) (xs ys : List ℕ) → r ≡ 0 → take r xs ≡ take r ys
+nothing r xs ys e = subst (λ k. take k xs ≡ take k ys) (sym e) refl
+
+-- the first page's block, where the file goes on after it
+first_block : (r : ℕ) (block page : List ℕ) → 4096 < r → length page ≡ 4096 → take r block ≡ take r page → block ≡ page
+first_block r block page lt size e =
+    let whole : take r page ≡ page = take_all r page (omega arith) in
+    let same : length (take r block) ≡ 4096 = ap length (e ∙ whole) ∙ size in
+    sym (take_all r block (omega (arith, same, length-take r block))) ∙ e ∙ whole
+
+-- where the parts of a file's pages are there, so are its first bytes
+pub same_bytes : (contents pages : ℕ → List ℕ) (m n b q r : ℕ) → ((page : ℕ) → length (pages page) ≡ 4096) → ((page : ℕ) → 4096 * page < r → take (r - 4096 * page) (contents (b + page)) ≡ take (r - 4096 * page) (pages (q + page)))
+    → r ≤ 4096 * m → r ≤ 4096 * n → take r (blocks_from pages q m) ≡ take r (blocks_from contents b n)
+same_bytes contents pages zero n b q r whole parts le_m le_n = nothing r (blocks_from pages q zero) (blocks_from contents b n) (omega arith)
+same_bytes contents pages (suc m) zero b q r whole parts le_m le_n = nothing r (blocks_from pages q (suc m)) (blocks_from contents b zero) (omega arith)
+same_bytes contents pages (suc m) (suc n) b q r whole parts le_m le_n = elim (cases_lt 0 r) [
+  | inr none ↦ nothing r (blocks_from pages q (suc m)) (blocks_from contents b (suc n)) (omega arith)
+  | inl some ↦
+      (let size = whole q in
+      let first : take r (contents b) ≡ take r (pages q) =
+      (let start : r - 4096 * 0 ≡ r = omega arith in
+      let block : b + 0 ≡ b = omega arith in
+      let page : q + 0 ≡ q = omega arith in
+      sym (λ i. take (start i) (contents (block i))) ∙ parts 0 (omega arith) ∙ (λ i. take (start i) (pages (page i)))) in
+      elim (cases_lt 4096 r) [
+        | inr last ↦
+            (let long : length (take r (contents b)) ≡ r = ap length first ∙ omega (arith, length-take r (pages q)) in
+            take-append-le r (pages q) (blocks_from pages (q + 1) m) (omega arith) ∙ sym first
+            ∙ sym (take-append-le r (contents b) (blocks_from contents (b + 1) n) (omega (arith, long, length-take r (contents b)))))
+        | inl more ↦
+            (let same : contents b ≡ pages q = first_block r (contents b) (pages q) more size first in
+            let split : 4096 + (r - 4096) ≡ r = omega arith in
+            let rest : take (r - 4096) (blocks_from pages (q + 1) m) ≡ take (r - 4096) (blocks_from contents (b + 1) n) =
+            same_bytes contents pages m n (b + 1) (q + 1) (r - 4096) whole (next r b q parts) (omega arith) (omega arith) in
+            sym (ap (λ k. take k (pages q ++ blocks_from pages (q + 1) m)) split)
+            ∙ take-past (pages q) (blocks_from pages (q + 1) m) 4096 (r - 4096) size
+            ∙ (λ i. sym same i ++ rest i)
+            ∙ sym (take-past (contents b) (blocks_from contents (b + 1) n) 4096 (r - 4096) (ap length same ∙ size))
+            ∙ ap (λ k. take k (contents b ++ blocks_from contents (b + 1) n)) split)
+      ])
+]
+  where
+    next : (r b q : ℕ) → ((page : ℕ) → 4096 * page < r → take (r - 4096 * page) (contents (b + page)) ≡ take (r - 4096 * page) (pages (q + page)))
+        → (page : ℕ) → 4096 * page < r - 4096 → take (r - 4096 - 4096 * page) (contents (b + 1 + page)) ≡ take (r - 4096 - 4096 * page) (pages (q + 1 + page))
+    next r b q parts page lt =
+        let left : r - 4096 * suc page ≡ r - 4096 - 4096 * page = omega arith in
+        let block : b + suc page ≡ b + 1 + page = omega arith in
+        let place : q + suc page ≡ q + 1 + page = omega arith in
+        sym (λ i. take (left i) (contents (block i))) ∙ parts (suc page) (omega arith) ∙ (λ i. take (left i) (pages (place i)))
+
+-- ---- all files
+
+abbrev pub in_table : File → TableFile
+in_table f = record { name = f.name; capacity = f.capacity }
+
+-- the contents have the parts of these files, of which the first has this number and begins at this home block
+pub record HasPartsFrom (contents : ℕ → List ℕ) (memory : Memory) (k b : ℕ) (fs : List File) : Type 0 where
+  pub parts : (i page : ℕ) (d : File) → i < length fs → 4096 * page < length (get_or fs i d).bytes
+      → take (length (get_or fs i d).bytes - 4096 * page) (contents (b + total_pages (take i (map in_table fs)) + page)) ≡ take (length (get_or fs i d).bytes - 4096 * page) (memory (k + i) page)
+  pub fits : (i : ℕ) (d : File) → i < length fs → length (get_or fs i d).bytes ≤ (get_or fs i d).capacity
+
+pub same_files : (contents : ℕ → List ℕ) (memory : Memory) (k b : ℕ) (fs : List File) → ((file page : ℕ) → length (memory file page) ≡ 4096) → HasPartsFrom contents memory k b fs
+    → files_from_memory k fs memory ≡ files_from contents b (map in_table fs) (map (λ f. length f.bytes) fs)
+same_files contents memory k b [] whole are = refl
+same_files contents memory k b (f ∷ fs) whole are =
+    let fits = are.fits 0 f (omega arith) in
+    let bytes : bytes_of_pages (memory k) (length f.bytes) ≡ take (length f.bytes) (blocks_from contents b (pages_of f.capacity)) =
+    same_bytes contents (memory k) (pages_of (length f.bytes)) (pages_of f.capacity) b 0 (length f.bytes) (whole k) first (omega arith) (omega (arith, fits)) in
+    let rest : files_from_memory (k + 1) fs memory ≡ files_from contents (b + pages_of f.capacity) (map in_table fs) (map (λ f. length f.bytes) fs) =
+    same_files contents memory (k + 1) (b + pages_of f.capacity) fs whole (record { parts = later; fits = λ i d lt. are.fits (suc i) d (omega arith) }) in
+    λ i. record { name = f.name; bytes = bytes i; capacity = f.capacity } ∷ rest i
+  where
+    first : (page : ℕ) → 4096 * page < length f.bytes → take (length f.bytes - 4096 * page) (contents (b + page)) ≡ take (length f.bytes - 4096 * page) (memory k (0 + page))
+    first page lt =
+        let block : b + 0 + page ≡ b + page = omega arith in
+        let file : k + 0 ≡ k = omega arith in
+        let place : page ≡ 0 + page = omega arith in
+        sym (ap (λ j. take (length f.bytes - 4096 * page) (contents j)) block) ∙ are.parts 0 page f (omega arith) lt ∙ (λ i. take (length f.bytes - 4096 * page) (memory (file i) (place i)))
+
+    later : (i page : ℕ) (d : File) → i < length fs → 4096 * page < length (get_or fs i d).bytes
+        → take (length (get_or fs i d).bytes - 4096 * page) (contents (b + pages_of f.capacity + total_pages (take i (map in_table fs)) + page)) ≡ take (length (get_or fs i d).bytes - 4096 * page) (memory (k + 1 + i) page)
+    later i page d lt inside =
+        let block : b + (pages_of f.capacity + total_pages (take i (map in_table fs))) + page ≡ b + pages_of f.capacity + total_pages (take i (map in_table fs)) + page = omega arith in
+        let file : k + suc i ≡ k + 1 + i = omega arith in
+        sym (ap (λ j. take (length (get_or fs i d).bytes - 4096 * page) (contents j)) block) ∙ are.parts (suc i) page d (omega arith) inside ∙ ap (λ j. take (length (get_or fs i d).bytes - 4096 * page) (memory j page)) file
+
+-- ---- the files of a machine
+
+module _ (files : List File) (s : State) (sound : IsSound s) (has : HasFiles files s) where
+  length_is : (i : ℕ) (d : File) → i < length files → length_of s i ≡ length (get_or files i d).bytes
+  length_is i d lt = sym (ap (λ (l : List ℕ). get_or l i 0) has.lengths) ∙ get_or-map (λ (f : File). length f.bytes) files i d 0 lt
+
+  there : (i : ℕ) → i < length files → i < length s.table.files
+  there i lt = omega (arith, lt, ap length has.named, length-map files in_table)
+
+  capacity_is : (i : ℕ) (d : File) → i < length files → get_or (map (λ (f : TableFile). f.capacity) s.table.files) i 0 ≡ (get_or files i d).capacity
+  capacity_is i d lt =
+      sym (ap (λ (l : List TableFile). get_or (map (λ (f : TableFile). f.capacity) l) i 0) has.named)
+      ∙ get_or-map (λ (f : TableFile). f.capacity) (map in_table files) i (in_table d) 0 (omega (arith, lt, length-map files in_table))
+      ∙ ap (λ (f : TableFile). f.capacity) (get_or-map in_table files i d (in_table d) lt)
+
+  pub parts_from : (contents : ℕ → List ℕ) (memory : Memory) → HasParts s contents memory → HasPartsFrom contents memory 0 (first_file_home s.table.layout s.table.slots) files
+  parts_from contents memory parts = record {
+    parts = λ i page d lt inside.
+        let len = length_is i d lt in
+        let file : i ≡ 0 + i = omega arith in
+        let is : IsInFile s (record { file = i; page = page }) = record { there = there i lt; inside = omega (arith, len, inside) } in
+        let home : home_of s.table (record { file = i; page = page }) ≡ first_file_home s.table.layout s.table.slots + total_pages (take i (map in_table files)) + page =
+        ap (λ (l : List TableFile). first_file_home s.table.layout s.table.slots + total_pages (take i l) + page) (sym has.named) in
+        sym (λ k. take (len k - 4096 * page) (contents (home k))) ∙ parts (record { file = i; page = page }) is ∙ (λ k. take (len k - 4096 * page) (memory (file k) page));
+    fits = λ i d lt. let low = sound.within i in omega (arith, low, length_is i d lt, capacity_is i d lt);
+  }
+
+  -- contents that have the parts of a memory have its files
+  pub files_have : (contents : ℕ → List ℕ) (memory : Memory) → ((file page : ℕ) → length (memory file page) ≡ 4096) → HasParts s contents memory → files_of files memory ≡ files_in s.table contents
+  files_have contents memory whole parts =
+      same_files contents memory 0 (first_file_home s.table.layout s.table.slots) files whole (parts_from contents memory parts)
+      ∙ ap (λ (l : List TableFile). files_from contents (first_file_home s.table.layout s.table.slots) l (map (λ (f : File). length f.bytes) files)) has.named
+      ∙ ap (files_from contents (first_file_home s.table.layout s.table.slots) s.table.files) (has.lengths ∙ sym (has.fixed contents))

@@ -1,0 +1,252 @@
+-- A step of the write-outs: Old and New stay, until the batch that wasn't committed is; then what was New is Old, too.
+use Rattle.std.proofs.Common.{◌≡◌, ◌<◌, ◌==◌, ℕ, zero, suc, cond, Bool, true, false, List, [], ◌∷◌, ◌++◌, length, drop, get_or, Option, Some, None, inl, inr, refl, sym, ap, ◌∙◌, subst, arith}
+use Rattle.std.specs.Option.{option_map_or}
+use Rattle.std.specs.List.{Contains, All}
+use Rattle.std.proofs.lemmas.Bool.{cond-false, both_ways, or_parts}
+use Rattle.std.proofs.lemmas.List.Elements.{Contains-get_or, Contains-push_cases, All-contains}
+use Rattle.page_entry.specs.declared.numbers.FilePage.{FilePage}
+use Rattle.volume_codec.specs.Files.{File}
+use Rattle.volume_codec.specs.Layout.{journals_of}
+use Rattle.volume_codec.specs.Descriptor.{AreHomes}
+use Rattle.volume_codec.specs.Recovery.{Batch}
+use Rattle.volume_codec.specs.Super.{SuperValue, geometry_of}
+use Rattle.frames.specs.Frames.{IsBefore}
+use Rattle.checkpoint.specs.Checkpoint.{AreRising}
+use Rattle.journal.specs.declared.flushed.Flushed.{Flushed}
+use Rattle.journal.specs.declared.flushed.Flushed.TheVariants as flushed
+use Rattle.journal.specs.Work.{Sync, worked, TornFromWork}
+use Rattle.journal.specs.WriteOut.{WriteOut, broken_after, answer_of}
+use Rattle.journal.specs.WriteOuts.{WriteOutsValue, has_uncommitted, current, next_answer, outs_after, outs_home, current_stage, batches_after}
+use Rattle.journal.specs.Crash.{Stands, LeftWithin}
+use Rattle.journal.proofs.Batches.{batch_before}
+use Rattle.journal.proofs.StandsKept.{stands_within, stands_after, stands_failed, stands_other}
+use Rattle.spaces.specs.declared.change.Change.TheVariants.{Checkpoint}
+use Rattle.shootdown.specs.declared.lock.Lock.{Lock}
+use Rattle.shootdown.specs.Shootdown.{not_running}
+use Rattle.page_entry.specs.declared.refusal.Refusal.TheVariants as refusals
+use Rattle.machine.specs.History.{Event, Mark, Acknowledge, memory_of, after, is_touched}
+use Rattle.machine.specs.State.{State, home_of, cut_at_end}
+use Rattle.machine.specs.Refusals.{flush_refusal}
+use Rattle.machine.specs.Rules.{next_page, next_record, work_asked, after_record, after_failure, bytes_with, bytes_at_mark}
+use Rattle.machine.specs.Sound.{IsInFile, IsSound, IsPrepared}
+use Rattle.machine.specs.Told.{Told}
+use Rattle.machine.specs.Tracking.{change_in, within_file, AreContentsOf, HasAcknowledged, IsWritten}
+use Rattle.machine.proofs.durable.Lists.{some_same, none_some}
+use Rattle.machine.proofs.durable.Histories.{IsUntouched, quiet_untouched, touched-append, after-append, acknowledge_same, acknowledged_more}
+use Rattle.machine.proofs.durable.Pages.{bytes_with-freed}
+use Rattle.machine.proofs.durable.Leaves.{SameFiles, in_file_as, part_as, contents_more, record_as, AreFrozenRecords}
+use Rattle.machine.proofs.durable.Marks.{IsDurable}
+use Rattle.machine.proofs.durable.Quiet.{second_not_refused}
+use Rattle.machine.proofs.durable.Records.{size_of_record, record_is_new, commits}
+
+-- ---- what is told grows by events that touch no page
+
+-- events that touch no page and change none
+abbrev pub AreCalm : List File → List Event → List Event → Type 0
+AreCalm files history events = (file page : ℕ) → is_touched (history ++ events) file page ≡ false → IsUntouched (memory_of files) history events file page
+
+pub calm_none : (files : List File) (history : List Event) → AreCalm files history []
+calm_none files history file page is = quiet_untouched (memory_of files) history [] file page (inl refl) is
+
+pub calm_acknowledge : (files : List File) (history : List Event) (number : ℕ) → AreCalm files history (Acknowledge number ∷ [])
+calm_acknowledge files history number file page is = record {
+  before = sym (touched-append file page false history (Acknowledge number ∷ [])) ∙ is;
+  same = ap (λ (m : ℕ → ℕ → List ℕ). m file page) (after-append (memory_of files) history (Acknowledge number ∷ []));
+}
+
+module _ (files : List File) (told : Told) (s x : State) (old new : ℕ → List ℕ) (w : IsWritten files told s old new) (events : List Event) (calm : AreCalm files told.history events) (same : SameFiles s x)
+    (acks : (n : ℕ) → Contains events (Acknowledge n) → Contains w.marked (Mark n)) (marks : All (λ (y : WriteOut). Contains w.marked (Mark y.batch.mark)) x.write_outs.batches)
+    (ready : x.write_outs.broken ≡ true → change_in x.hardware.shootdown.lock ≡ Some Checkpoint → has_uncommitted x.write_outs.batches ≡ false) (whole : s.write_outs.broken ≡ false) (frozen : AreFrozenRecords x new) where
+  abbrev now : Told
+  now = record told { history = told.history ++ events }
+
+  -- with another Old
+  pub written_on : (other : ℕ → List ℕ) (before : List Event) → AreContentsOf files (told.history ++ events) x other before → HasAcknowledged before (told.history ++ events) → IsWritten files now x other new
+  written_on other before are acknowledged = record {
+    before = before;
+    old_are = are;
+    acknowledged = acknowledged;
+    marked = w.marked;
+    new_are = contents_more files told.history events s x same new w.marked w.new_are;
+    grown = acknowledged_more w.marked told.history events acks w.grown;
+    marks = marks;
+    ready = ready;
+    clean = inr (λ owner is untouched.
+        let still = calm owner.file owner.page untouched in
+        part_as s x same owner new (after (memory_of files) (told.history ++ events) owner.file owner.page)
+        (clean owner (in_file_as s x same owner is) still.before ∙ sym (ap (within_file s owner) still.same)));
+    frozen = frozen;
+  }
+    where
+      clean : (owner : FilePage) → IsInFile s owner → is_touched told.history owner.file owner.page ≡ false → within_file s owner (new (home_of s.table owner)) ≡ within_file s owner (after (memory_of files) told.history owner.file owner.page)
+      clean owner is untouched = elim w.clean [ inl lost ↦ absurd (both_ways s.write_outs.broken whole lost.broken) | inr are ↦ are owner is untouched ]
+
+  -- with the same Old
+  pub written_same : ((n : ℕ) → Contains events (Acknowledge n) → Contains w.before (Mark n)) → IsWritten files now x old new
+  written_same old_acks = written_on old w.before (contents_more files told.history events s x same old w.before w.old_are) (acknowledged_more w.before told.history events old_acks w.acknowledged)
+
+  -- where New is Old, too
+  pub written_new : IsWritten files now x new new
+  written_new = written_on new w.marked (contents_more files told.history events s x same new w.marked w.new_are) (acknowledged_more w.marked told.history events acks w.grown)
+
+-- ---- what the state is after a step
+
+before_itself : (a b : FilePage) → IsBefore a b → b ≡ a → ⊥
+before_itself a b (inl less) e = let same : b.file ≡ a.file = ap (λ (o : FilePage). o.file) e in absurd (omega arith)
+before_itself a b (inr less) e = let same : b.page ≡ a.page = ap (λ (o : FilePage). o.page) e in absurd (omega (arith, less.1))
+
+before_trans : (a b c : FilePage) → IsBefore a b → IsBefore b c → IsBefore a c
+before_trans a b c (inl x) (inl y) = inl (omega arith)
+before_trans a b c (inl x) (inr y) = inl (omega (arith, y.0))
+before_trans a b c (inr x) (inl y) = inl (omega (arith, x.0))
+before_trans a b c (inr x) (inr y) = inr (x.0 ∙ y.0, omega (arith, x.1, y.1))
+
+-- the first frozen page comes before each other
+before_each : (owner : FilePage) (owners : List FilePage) → AreRising (owner ∷ owners) → (k : ℕ) (d : FilePage) → k < length owners → IsBefore owner (get_or owners k d)
+before_each owner [] rising k d within = absurd (omega arith)
+before_each owner (next ∷ owners) rising zero d within = rising.0
+before_each owner (next ∷ owners) rising (suc k) d within = before_trans owner next (get_or owners k d) rising.0 (before_each next owners rising.1 k d (omega arith))
+
+later_differs : (pages : List FilePage) (first d : FilePage) (k : ℕ) → AreRising pages → k < length (drop 1 pages) → get_or (drop 1 pages) k d ≡ get_or pages 0 first → ⊥
+later_differs [] first d k rising lt e = absurd (omega arith)
+later_differs (owner ∷ owners) first d k rising lt e = before_itself owner (get_or owners k d) (before_each owner owners rising k d lt) e
+
+later_at : (pages : List FilePage) (k : ℕ) (d : FilePage) → get_or (drop 1 pages) k d ≡ get_or pages (suc k) d
+later_at [] k d = refl
+later_at (owner ∷ owners) k d = refl
+
+-- the records of the other frozen pages stay
+released_records : (s : State) (new : ℕ → List ℕ) → IsSound s → AreFrozenRecords s new → AreFrozenRecords (after_record s) new
+released_records s new sound are k d lt =
+    let owner = get_or (drop 1 s.checkpoint.frozen) k d in
+    let was : new (home_of s.table owner) ≡ cut_at_end s owner (bytes_at_mark s.hardware.memory owner) =
+    subst (λ (o : FilePage). new (home_of s.table o) ≡ cut_at_end s o (bytes_at_mark s.hardware.memory o)) (sym (later_at s.checkpoint.frozen k d)) (are (suc k) d (shorter s.checkpoint.frozen lt)) in
+    record_as s (after_record s) (record { table = refl; lengths = refl }) owner new
+    (bytes_with-freed owner (next_page s) s.hardware.memory.copies (bytes_with owner s.hardware.memory.frames []) (later_differs s.checkpoint.frozen (record { file = 0; page = 0 }) d k sound.memory.rising lt)) was
+  where
+    shorter : (pages : List FilePage) → k < length (drop 1 pages) → suc k < length pages
+    shorter [] lt = absurd (omega arith)
+    shorter (owner ∷ owners) lt = omega arith
+
+-- of the state after a step, whether a record was written in it or not
+abbrev stepped : State → Bool → WriteOutsValue → State
+stepped s records outs = record (cond records (after_record s) s) { write_outs = outs }
+
+module _ (s : State) (outs : WriteOutsValue) where
+  same_files : (records : Bool) → SameFiles s (stepped s records outs)
+  same_files true = record { table = refl; lengths = refl }
+  same_files false = record { table = refl; lengths = refl }
+
+  same_lock : (records : Bool) → (stepped s records outs).hardware.shootdown.lock ≡ s.hardware.shootdown.lock
+  same_lock true = refl
+  same_lock false = refl
+
+  same_outs : (records : Bool) → (stepped s records outs).write_outs ≡ outs
+  same_outs true = refl
+  same_outs false = refl
+
+  stepped_records : (records : Bool) (new : ℕ → List ℕ) → IsSound s → AreFrozenRecords s new → AreFrozenRecords (stepped s records outs) new
+  stepped_records true new sound are = released_records s new sound are
+  stepped_records false new sound are = are
+
+-- each batch after a step was there before it
+marks_after : (answer : Flushed) (batches : List WriteOut) (prefix : List Event) → All (λ (y : WriteOut). Contains prefix (Mark y.batch.mark)) batches → All (λ (y : WriteOut). Contains prefix (Mark y.batch.mark)) (batches_after answer batches)
+marks_after answer batches prefix all k d lt =
+    let w = get_or (batches_after answer batches) k d in
+    let was = batch_before answer batches w (Contains-get_or (batches_after answer batches) k d lt) in
+    subst (λ (b : Batch). Contains prefix (Mark b.mark)) was.2 (All-contains (λ (y : WriteOut). Contains prefix (Mark y.batch.mark)) batches was.0 all was.1)
+
+-- ---- the step
+
+module _ (files : List File) (told : Told) (s : State) (seen : List ℕ) (may : List ℕ → Type 0) (old new : ℕ → List ℕ) (sound : IsSound s) (stands : Stands s.table s.write_outs old new seen may) (w : IsWritten files told s old new)
+    (p : ℕ) (allowed : flush_refusal s p ≡ None) (some : s.write_outs.batches ≡ [] → ⊥) where
+  pub flush_whole : s.write_outs.broken ≡ false
+  flush_whole = second_not_refused (not_running s.hardware.shootdown p) s.write_outs.broken refusals.Broken [] allowed
+
+  is_new : (home : ℕ) → outs_home s.write_outs ≡ Some home → next_record s ≡ new home
+  is_new home e = record_is_new s new sound stands.sound.ordered flush_whole w.frozen home e
+
+  -- what a crash within it leaves
+  pub flush_within : (c : List ℕ) → TornFromWork (work_asked s) may c → LeftWithin s.table old new (current_stage s.write_outs) c
+  flush_within c torn = stands_within s.table old new s.write_outs seen may (next_record s) (size_of_record s sound) stands flush_whole some is_new c torn
+
+  -- a device call failed
+  not_busy : change_in s.hardware.shootdown.lock ≡ Some Checkpoint → has_uncommitted s.write_outs.batches ≡ false
+  not_busy held = by s.hardware.shootdown.lock refl held
+    where
+      by : (o : Option Lock) → s.hardware.shootdown.lock ≡ o → change_in o ≡ Some Checkpoint → has_uncommitted s.write_outs.batches ≡ false
+      by None at e = absurd (none_some Checkpoint e)
+      by (Some lock) at e =
+          let is : IsPrepared s Checkpoint = subst (IsPrepared s) (some_same lock.change Checkpoint e) (sound.spaces.prepared lock at) in
+          (or_parts (has_uncommitted s.write_outs.batches) (length s.write_outs.batches == journals_of s.write_outs.geometry.layout) (is.1 flush_whole)).0
+
+  pub flush_failed : (x : State) (seen' : List ℕ) (may' : List ℕ → Type 0) → x ≡ after_failure s → ((c : List ℕ) → may' c → TornFromWork (work_asked s) may c) → IsDurable files (record told { history = told.history ++ [] }) x seen' may'
+  flush_failed x seen' may' is left = subst (λ (y : State). IsDurable files (record told { history = told.history ++ [] }) y seen' may') (sym is) (record {
+    old = old;
+    new = new;
+    stands = stands_failed s.table old new s.write_outs seen may (next_record s) (size_of_record s sound) stands flush_whole some is_new seen' may' left;
+    written = written_same files told s (after_failure s) old new w [] (calm_none files told.history) (record { table = refl; lengths = refl }) (λ n has. absurd (omega (arith, has.1))) w.marks (λ broken held. not_busy held) flush_whole (λ k d lt. absurd (omega arith))
+        (λ n has. absurd (omega (arith, has.1)));
+  })
+
+  -- all its device calls succeeded
+  module _ (records : Bool) (may' : List ℕ → Type 0) (left : (c : List ℕ) → may' c → TornFromWork (work_asked s) may c) (sure : work_asked s ≡ Sync → (c : List ℕ) → may' c → c ≡ seen) where
+    abbrev outs : WriteOutsValue
+    outs = outs_after s.write_outs (next_answer s.write_outs)
+
+    abbrev after_it : State
+    after_it = stepped s records outs
+
+    stands_now : Stands s.table outs old new (worked seen (work_asked s)) may'
+    stands_now = stands_after s.table old new s.write_outs seen may (next_record s) (size_of_record s sound) stands flush_whole some is_new may' left sure
+
+    stands_as : (other : ℕ → List ℕ) → Stands s.table outs other new (worked seen (work_asked s)) may' → Stands after_it.table after_it.write_outs other new (worked seen (work_asked s)) may'
+    stands_as other is =
+        subst (λ (o : WriteOutsValue). Stands after_it.table o other new (worked seen (work_asked s)) may') (sym (same_outs s outs records))
+        (subst (λ (t : SuperValue). Stands t outs other new (worked seen (work_asked s)) may') (sym (same_files s outs records).table) is)
+
+    marks_now : All (λ (y : WriteOut). Contains w.marked (Mark y.batch.mark)) after_it.write_outs.batches
+    marks_now = subst (λ (o : WriteOutsValue). All (λ (y : WriteOut). Contains w.marked (Mark y.batch.mark)) o.batches) (sym (same_outs s outs records)) (marks_after (next_answer s.write_outs) s.write_outs.batches w.marked w.marks)
+
+    still_whole : (answer : Flushed) → (answer ≡ flushed.Device → ⊥) → broken_after answer s.write_outs.broken ≡ false
+    still_whole flushed.Going other = flush_whole
+    still_whole (flushed.Committed mark) other = flush_whole
+    still_whole (flushed.Done mark) other = flush_whole
+    still_whole flushed.Device other = absurd (other refl)
+    still_whole flushed.Broken other = flush_whole
+
+    ready_now : (next_answer s.write_outs ≡ flushed.Device → ⊥) → after_it.write_outs.broken ≡ true → change_in after_it.hardware.shootdown.lock ≡ Some Checkpoint → has_uncommitted after_it.write_outs.batches ≡ false
+    ready_now other broken held = absurd (both_ways after_it.write_outs.broken (ap (λ (o : WriteOutsValue). o.broken) (same_outs s outs records) ∙ still_whole (next_answer s.write_outs) other) broken)
+
+    -- the batch isn't committed by it, or was before
+    pub flush_goes_on : (next_answer s.write_outs ≡ flushed.Device → ⊥) → IsDurable files (record told { history = told.history ++ [] }) after_it (worked seen (work_asked s)) may'
+    flush_goes_on other = record {
+      old = old;
+      new = new;
+      stands = stands_as old stands_now;
+      written = written_same files told s after_it old new w [] (calm_none files told.history) (same_files s outs records) (λ n has. absurd (omega (arith, has.1))) marks_now (ready_now other) flush_whole (stepped_records s outs records new sound w.frozen)
+          (λ n has. absurd (omega (arith, has.1)));
+    }
+
+    -- it is
+    pub flush_commits : (number : ℕ) → next_answer s.write_outs ≡ flushed.Committed number → IsDurable files (record told { history = told.history ++ Acknowledge number ∷ [] }) after_it (worked seen (work_asked s)) may'
+    flush_commits number is =
+        let answer : option_map_or answer_of (current s.write_outs.batches) flushed.Broken ≡ flushed.Committed number = sym (cond-false s.write_outs.broken flushed.Broken (option_map_or answer_of (current s.write_outs.batches) flushed.Broken) flush_whole) ∙ is in
+        let at = commits s.write_outs.batches number stands.sound.ordered (λ y there. (All-contains (λ (y : WriteOut). AreHomes (geometry_of s.table) y.batch.homes) s.write_outs.batches y sound.write_outs.homes there).some) answer in
+        let none : has_uncommitted outs.batches ≡ false = ap (λ (a : Flushed). has_uncommitted (batches_after a s.write_outs.batches)) is ∙ at.none in
+        let in_new : Contains w.marked (Mark number) = subst (λ n. Contains w.marked (Mark n)) at.mark (All-contains (λ (y : WriteOut). Contains w.marked (Mark y.batch.mark)) s.write_outs.batches at.w w.marks at.there) in
+        record {
+          old = new;
+          new = new;
+          stands = stands_as new (stands_other s.table old new new outs (worked seen (work_asked s)) may' none stands_now);
+          written = written_new files told s after_it old new w (Acknowledge number ∷ []) (calm_acknowledge files told.history number) (same_files s outs records) (acknowledges in_new) marks_now (ready_now (λ e. never number (sym is ∙ e))) flush_whole (stepped_records s outs records new sound w.frozen);
+        }
+      where
+        never : (n : ℕ) → flushed.Committed n ≡ flushed.Device → ⊥
+        never n e = cc
+
+        acknowledges : Contains w.marked (Mark number) → (n : ℕ) → Contains (Acknowledge number ∷ []) (Acknowledge n) → Contains w.marked (Mark n)
+        acknowledges has n there = elim (Contains-push_cases [] (Acknowledge number) (Acknowledge n) there) [
+          | inl none ↦ absurd (omega (arith, none.1))
+          | inr e ↦ subst (λ k. Contains w.marked (Mark k)) (acknowledge_same number n e) has
+        ]

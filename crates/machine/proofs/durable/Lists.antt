@@ -1,0 +1,67 @@
+-- Lists and options: what is in them, and what isn't.
+use Rattle.std.proofs.Common.{◌≡◌, ℕ, zero, suc, Bool, true, List, [], ◌∷◌, ◌++◌, map, drop, Some, None, inl, inr, refl, sym, ap, ◌∙◌, arith, append_assoc}
+use Rattle.std.specs.List.{Contains, flat_map, find}
+use Rattle.std.proofs.lemmas.Bool.{cond-true, cond-false, cases_Bool}
+use Rattle.std.proofs.lemmas.List.Elements.{Contains-append_cases}
+
+-- ---- options
+
+pub some_same : {X : Type 0} (x y : X) → Some x ≡ Some y → x ≡ y
+some_same x y e = cc
+
+pub none_some : {X : Type 0} (x : X) → None ≡ Some x → ⊥
+none_some x e = cc
+
+pub some_none : {X : Type 0} (x : X) → Some x ≡ None → ⊥
+some_none x e = cc
+
+-- ---- what is in a list
+
+pub contains_none : {X : Type 0} (x : X) → Contains [] x → ⊥
+contains_none x has = absurd (omega (arith, has.1))
+
+pub contains_head : {X : Type 0} (x : X) (xs : List X) → Contains (x ∷ xs) x
+contains_head x xs = (0, omega arith, refl)
+
+pub contains_cons : {X : Type 0} (y : X) (xs : List X) (x : X) → Contains xs x → Contains (y ∷ xs) x
+contains_cons y xs x has = (suc has.0, omega (arith, has.1), has.2)
+
+pub contains_map : {X Y : Type 0} (f : X → Y) (xs : List X) (x : X) → Contains xs x → Contains (map f xs) (f x)
+contains_map f [] x has = absurd (omega (arith, has.1))
+contains_map f (y ∷ ys) x (zero, lt, is) = (0, omega arith, ap f is)
+contains_map f (y ∷ ys) x (suc k, lt, is) = contains_cons (f y) (map f ys) (f x) (contains_map f ys x (k, omega arith, is))
+
+pub contains_unmapped : {X Y : Type 0} (f : X → Y) (xs : List X) (y : Y) → Contains (map f xs) y → (x : X) × Contains xs x × (f x ≡ y)
+contains_unmapped f [] y has = absurd (omega (arith, has.1))
+contains_unmapped f (x ∷ xs) y (zero, lt, is) = (x, contains_head x xs, is)
+contains_unmapped f (x ∷ xs) y (suc k, lt, is) = let r = contains_unmapped f xs y (k, omega arith, is) in (r.0, contains_cons x xs r.0 r.1, r.2)
+
+pub contains_drop : {X : Type 0} (n : ℕ) (xs : List X) (x : X) → Contains (drop n xs) x → Contains xs x
+contains_drop zero xs x has = has
+contains_drop (suc n) [] x has = has
+contains_drop (suc n) (y ∷ ys) x has = contains_cons y ys x (contains_drop n ys x has)
+
+pub contains_flat_map : {X Y : Type 0} (f : X → List Y) (xs : List X) (y : Y) → Contains (flat_map f xs) y → (x : X) × Contains xs x × Contains (f x) y
+contains_flat_map f [] y has = absurd (omega (arith, has.1))
+contains_flat_map f (x ∷ xs) y has = elim (Contains-append_cases (f x) (flat_map f xs) y has) [
+  | inl here ↦ (x, contains_head x xs, here)
+  | inr later ↦ (let r = contains_flat_map f xs y later in (r.0, contains_cons x xs r.0 r.1, r.2))
+]
+
+-- what a search finds is in the list and passes
+pub found : {X : Type 0} (test : X → Bool) (xs : List X) (x : X) → find test xs ≡ Some x → Contains xs x × (test x ≡ true)
+found test [] x e = absurd (none_some x e)
+found test (y ∷ ys) x e = elim (cases_Bool (test y)) [
+  | inl passes ↦ (let same : y ≡ x = some_same y x (sym (cond-true (test y) (Some y) (find test ys) passes) ∙ e) in ((0, omega arith, same), ap test (sym same) ∙ passes))
+  | inr fails ↦ (let later = found test ys x (sym (cond-false (test y) (Some y) (find test ys) fails) ∙ e) in (contains_cons y ys x later.0, later.1))
+]
+
+-- ---- lists made of others
+
+pub nothing_mapped : {X Y : Type 0} (f : X → Y) (xs : List X) → map f xs ≡ [] → xs ≡ []
+nothing_mapped f [] e = refl
+nothing_mapped f (x ∷ xs) e = cc
+
+pub flat_map-append : {X Y : Type 0} (f : X → List Y) (xs ys : List X) → flat_map f (xs ++ ys) ≡ flat_map f xs ++ flat_map f ys
+flat_map-append f [] ys = refl
+flat_map-append f (x ∷ xs) ys = ap (λ rest. f x ++ rest) (flat_map-append f xs ys) ∙ sym (append_assoc (f x) (flat_map f xs) (flat_map f ys))

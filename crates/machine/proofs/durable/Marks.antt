@@ -1,0 +1,285 @@
+-- A mark: what was New becomes Old, and New gets the gathered pages; where nothing was stored both stay and Old plays no part; of a broken machine both stay and the mark is lost.
+use Rattle.std.proofs.Common.{◌≡◌, ◌<◌, ◌≤◌, ◌+◌, ◌^◌, ◌==◌, ◌⊎◌, ℕ, cond, Bool, true, false, not, List, [], ◌∷◌, ◌++◌, length, map, get_or, Some, None, inl, inr, refl, sym, ap, ◌∙◌, subst, arith, append_assoc}
+use Rattle.std.specs.List.{Contains, All, AllByRecursion}
+use Rattle.std.proofs.lemmas.Bool.{cond-true, cond-false, cases_Bool, both_ways, or_parts, not_from_true, not_from_false, false_from_ne_true}
+use Rattle.std.proofs.lemmas.List.Elements.{Contains-append_left, Contains-append_cases, Contains-push, Contains-get_or, All-push, All-weaker, recursion_from_All}
+use Rattle.page_entry.specs.declared.numbers.FilePage.{FilePage}
+use Rattle.volume_codec.specs.Files.{File}
+use Rattle.volume_codec.specs.Layout.{GeometryValue, journals_of}
+use Rattle.volume_codec.specs.Super.{geometry_of}
+use Rattle.volume_codec.specs.Descriptor.{AreHomes}
+use Rattle.journal.specs.WriteOut.{WriteOut, begun_of}
+use Rattle.journal.specs.WriteOuts.{WriteOutsValue, has_uncommitted, is_busy, next_batch, begun}
+use Rattle.journal.specs.Crash.{Stands}
+use Rattle.journal.proofs.StandsKept.{stands_begun, stands_other}
+use Rattle.spaces.specs.declared.change.Change.TheVariants.{Checkpoint}
+use Rattle.spaces.specs.Spaces.{Spaces}
+use Rattle.checkpoint.specs.Checkpoint.{CheckpointState, Gathers, without_notes}
+use Rattle.machine.specs.History.{Event, Memory, Mark, Acknowledge, memory_of, after, has_unmarked, is_touched}
+use Rattle.machine.specs.State.{State, home_of, cut_at_end}
+use Rattle.machine.specs.Rules.{MarkMade, end_change, with_batch, bytes_at_mark}
+use Rattle.machine.specs.Sound.{IsInFile, IsSound}
+use Rattle.machine.specs.Told.{Told}
+use Rattle.machine.specs.Tracking.{change_in, within_file, HasParts, AreContentsOf, HasAcknowledged, IsLost, IsWritten, IsLatest, AreTouched}
+use Rattle.machine.proofs.durable.Histories.{marked_by, after_mark, after_marked, only_itself, unmarked_by_touched, in_history, acknowledged_more}
+use Rattle.machine.proofs.durable.Waiting.{committed_frozen}
+use Rattle.machine.proofs.durable.Leaves.{contents_more}
+use Rattle.machine.proofs.durable.Overlays.{within_cut, overlaid, overlaid-other, overlaid-at, overlaid-elsewhere, bytes_at_mark-held}
+
+-- what the device recovers to goes with what is told
+pub record IsDurable (files : List File) (told : Told) (s : State) (seen : List ℕ) (may_leave : List ℕ → Type 0) : Type 0 where
+  pub old : ℕ → List ℕ
+  pub new : ℕ → List ℕ
+  pub stands : Stands s.table s.write_outs old new seen may_leave
+  pub written : IsWritten files told s old new
+
+-- of what is told the history alone counts
+pub written_as : (files : List File) (told told' : Told) (s : State) (old new : ℕ → List ℕ) → told'.history ≡ told.history → IsWritten files told s old new → IsWritten files told' s old new
+written_as files told told' s old new same w =
+    let moved : (P : List Event → Type 0) → P told.history → P told'.history = λ P p. subst P (sym same) p in
+    record {
+      before = w.before;
+      old_are = moved (λ h. AreContentsOf files h s old w.before) w.old_are;
+      acknowledged = moved (HasAcknowledged w.before) w.acknowledged;
+      marked = w.marked;
+      new_are = moved (λ h. AreContentsOf files h s new w.marked) w.new_are;
+      grown = moved (HasAcknowledged w.marked) w.grown;
+      marks = w.marks;
+      ready = w.ready;
+      clean = moved (λ h. IsLost s ⊎ ((owner : FilePage) → IsInFile s owner → is_touched h owner.file owner.page ≡ false → within_file s owner (new (home_of s.table owner)) ≡ within_file s owner (after (memory_of files) h owner.file owner.page))) w.clean;
+      frozen = w.frozen;
+    }
+
+abbrev no_pages : List FilePage
+no_pages = []
+
+module _ (files : List File) (told : Told) (s : State) (p number : ℕ) (seen : List ℕ) (may : List ℕ → Type 0) (old new : ℕ → List ℕ) (sound : IsSound s) (latest : IsLatest files told s) (touched : AreTouched told s)
+    (stands : Stands s.table s.write_outs old new seen may) (w : IsWritten files told s old new) (next : number ≡ s.marks + 1) (lock : s.hardware.shootdown.lock ≡ Some (record { holder = p; change = Checkpoint })) where
+  abbrev history : List Event
+  history = told.history
+
+  abbrev memory : Memory
+  memory = after (memory_of files) history
+
+  -- the history up to the mark, and all of it
+  abbrev made : List Event
+  made = history ++ Mark number ∷ []
+
+  abbrev longer : List Event
+  longer = history ++ marked_by history number
+
+  abbrev now : Told
+  now = record told { history = longer }
+
+  under_checkpoint : change_in s.hardware.shootdown.lock ≡ Some Checkpoint
+  under_checkpoint = ap change_in lock
+
+  prepared : (s.marks + 1 < 2 ^ 32) × (s.write_outs.broken ≡ false → is_busy s.write_outs ≡ false)
+  prepared = sound.spaces.prepared (record { holder = p; change = Checkpoint }) lock
+
+  -- each batch is committed
+  pub committed : has_uncommitted s.write_outs.batches ≡ false
+  committed = elim (cases_Bool s.write_outs.broken) [
+    | inl broken ↦ w.ready broken under_checkpoint
+    | inr whole ↦ (or_parts (has_uncommitted s.write_outs.batches) (length s.write_outs.batches == journals_of s.write_outs.geometry.layout) (prepared.1 whole)).0
+  ]
+
+  none_frozen : s.checkpoint.frozen ≡ []
+  none_frozen = committed_frozen s sound committed
+
+  -- no mark was lost
+  pub clean : (owner : FilePage) → IsInFile s owner → is_touched history owner.file owner.page ≡ false → within_file s owner (new (home_of s.table owner)) ≡ within_file s owner (memory owner.file owner.page)
+  clean owner is untouched = elim w.clean [ inl lost ↦ absurd (lost.no_mark under_checkpoint) | inr are ↦ are owner is untouched ]
+
+  -- what was in the second prefix is in the history up to the mark
+  in_made : (e : Event) → Contains w.marked e → Contains made e
+  in_made e has = Contains-append_left history (Mark number ∷ []) e (in_history w.marked w.new_are.rest history e w.new_are.begins has)
+
+  -- that prefix has every acknowledged mark
+  made_acknowledged : HasAcknowledged made longer
+  made_acknowledged n has = elim (Contains-append_cases history (marked_by history number) (Acknowledge n) has) [
+    | inl before ↦ in_made (Mark n) (w.grown n before)
+    | inr this ↦ subst (λ k. Contains made (Mark k)) (only_itself history number n this).1 (Contains-push history (Mark number))
+  ]
+
+  same_made : (file page : ℕ) → after (memory_of files) made file page ≡ memory file page
+  same_made file page = ap (λ (m : Memory). m file page) (after_mark (memory_of files) history number)
+
+  same_longer : (file page : ℕ) → after (memory_of files) longer file page ≡ memory file page
+  same_longer file page = ap (λ (m : Memory). m file page) (after_marked (memory_of files) history number)
+
+  -- the state after it, with these write-outs
+  abbrev marked_with : CheckpointState → Spaces → WriteOutsValue → State
+  marked_with noted spaces outs = record (end_change s p spaces s.hardware.memory (without_notes noted)) { write_outs = outs; marks = number }
+
+  module _ (noted : CheckpointState) (spaces : Spaces) where
+    in_file : (outs : WriteOutsValue) (owner : FilePage) → IsInFile (marked_with noted spaces outs) owner → IsInFile s owner
+    in_file outs owner is = record { there = is.there; inside = is.inside }
+
+    -- contents that have the memory of now
+    made_contents : (outs : WriteOutsValue) (contents : ℕ → List ℕ) → HasParts s contents memory → AreContentsOf files longer (marked_with noted spaces outs) contents made
+    made_contents outs contents parts = record {
+      rest = cond (has_unmarked history) [] (Acknowledge number ∷ []);
+      begins = append_assoc history (Mark number ∷ []) (cond (has_unmarked history) [] (Acknowledge number ∷ []));
+      marked = inr (history, number, refl);
+      whole = λ file page. ap length (same_made file page) ∙ latest.whole file page;
+      parts = λ owner is. parts owner (in_file outs owner is) ∙ sym (ap (within_file s owner) (same_made owner.file owner.page));
+    }
+
+    -- such contents have what a page has that got no store
+    made_clean : (outs : WriteOutsValue) (contents : ℕ → List ℕ) → HasParts s contents memory → (owner : FilePage) → IsInFile (marked_with noted spaces outs) owner → is_touched longer owner.file owner.page ≡ false
+        → within_file s owner (contents (home_of s.table owner)) ≡ within_file s owner (after (memory_of files) longer owner.file owner.page)
+    made_clean outs contents parts owner is untouched = parts owner (in_file outs owner is) ∙ sym (ap (within_file s owner) (same_longer owner.file owner.page))
+
+    none_now : (change_in None ≡ Some Checkpoint) → ⊥
+    none_now e = cc
+
+    -- ---- nothing was stored
+
+    module _ (gathers : Gathers s.hardware.spaces s.hardware.memory s.checkpoint noted (not s.write_outs.broken) []) where
+      untouched : (owner : FilePage) → is_touched history owner.file owner.page ≡ false
+      untouched owner = false_from_ne_true (is_touched history owner.file owner.page) (λ is.
+          let there = (gathers.gathered.dirty owner).1 ((touched owner).0 is) in absurd (omega (arith, there.1)))
+
+      nothing_frozen : noted.frozen ≡ []
+      nothing_frozen = gathers.frozen ∙ by (not s.write_outs.broken)
+        where
+          by : (freezes : Bool) → cond freezes no_pages no_pages ≡ no_pages
+          by true = refl
+          by false = refl
+
+      all_parts : HasParts s new memory
+      all_parts owner is = clean owner is (untouched owner)
+
+      pub marked_nothing : IsDurable files now (marked_with noted spaces s.write_outs) seen may
+      marked_nothing = record {
+        old = new;
+        new = new;
+        stands = stands_other s.table old new new s.write_outs seen may committed stands;
+        written = record {
+          before = made;
+          old_are = made_contents s.write_outs new all_parts;
+          acknowledged = made_acknowledged;
+          marked = made;
+          new_are = made_contents s.write_outs new all_parts;
+          grown = made_acknowledged;
+          marks = All-weaker (λ (x : WriteOut). Contains w.marked (Mark x.batch.mark)) (λ (x : WriteOut). Contains made (Mark x.batch.mark)) (λ x has. in_made (Mark x.batch.mark) has) s.write_outs.batches w.marks;
+          ready = λ broken held. absurd (none_now held);
+          clean = inr (made_clean s.write_outs new all_parts);
+          frozen = subst (λ (pages : List FilePage). All (λ owner. new (home_of s.table owner) ≡ cut_at_end s owner (bytes_at_mark s.hardware.memory owner)) pages) (sym nothing_frozen) (λ k d lt. absurd (omega arith));
+        };
+      }
+
+    -- ---- something was
+
+    module _ (first : FilePage) (others : List FilePage) (gathers : Gathers s.hardware.spaces s.hardware.memory s.checkpoint noted (not s.write_outs.broken) (first ∷ others)) where
+      abbrev pages : List FilePage
+      pages = first ∷ others
+
+      is_stored : (owner : FilePage) → Contains pages owner → is_touched history owner.file owner.page ≡ true
+      is_stored owner has = (touched owner).1 ((gathers.gathered.dirty owner).0 has)
+
+      is_gathered : (owner : FilePage) → is_touched history owner.file owner.page ≡ true → Contains pages owner
+      is_gathered owner is = (gathers.gathered.dirty owner).1 ((touched owner).0 is)
+
+      -- so the mark isn't acknowledged at once
+      waits : (n : ℕ) → Contains (marked_by history number) (Acknowledge n) → ⊥
+      waits n has = both_ways (has_unmarked history) (only_itself history number n has).0 (unmarked_by_touched first.file first.page false false history (λ e. e) (is_stored first (0, omega arith, refl)))
+
+      -- of a broken machine the mark is lost
+      pub marked_lost : s.write_outs.broken ≡ true → IsDurable files now (marked_with noted spaces s.write_outs) seen may
+      marked_lost broken =
+          let x = marked_with noted spaces s.write_outs in
+          record {
+            old = old;
+            new = new;
+            stands = stands;
+            written = record {
+              before = w.before;
+              old_are = contents_more files history (marked_by history number) s x (record { table = refl; lengths = refl }) old w.before w.old_are;
+              acknowledged = acknowledged_more w.before history (marked_by history number) (λ n has. absurd (waits n has)) w.acknowledged;
+              marked = w.marked;
+              new_are = contents_more files history (marked_by history number) s x (record { table = refl; lengths = refl }) new w.marked w.new_are;
+              grown = acknowledged_more w.marked history (marked_by history number) (λ n has. absurd (waits n has)) w.grown;
+              marks = w.marks;
+              ready = λ broken held. absurd (none_now held);
+              clean = inl (record { broken = broken; no_mark = λ held. none_now held });
+              frozen = subst (λ (pages : List FilePage). All (λ owner. new (home_of s.table owner) ≡ cut_at_end s owner (bytes_at_mark s.hardware.memory owner)) pages) (sym (gathers.frozen ∙ cond-false (not s.write_outs.broken) pages [] (not_from_true s.write_outs.broken broken))) (λ k d lt. absurd (omega arith));
+            };
+          }
+
+      -- ---- a batch begins
+
+      in_files : (owner : FilePage) → Contains pages owner → IsInFile s owner
+      in_files owner has = let dirty = (gathers.gathered.dirty owner).0 has in sound.memory.in_files dirty.0 owner dirty.1
+
+      -- a gathered page has its latest bytes
+      gathered_bytes : (owner : FilePage) → Contains pages owner → bytes_at_mark s.hardware.memory owner ≡ memory owner.file owner.page
+      gathered_bytes owner has =
+          let dirty = (gathers.gathered.dirty owner).0 has in
+          bytes_at_mark-held s sound none_frozen dirty.0 owner dirty.1 ∙ latest.latest dirty.0 owner dirty.1
+
+      abbrev next_contents : ℕ → List ℕ
+      next_contents = overlaid s pages new
+
+      next_parts : HasParts s next_contents memory
+      next_parts owner is = elim (cases_Bool (is_touched history owner.file owner.page)) [
+        | inl stored ↦
+            (let has = is_gathered owner stored in
+            ap (within_file s owner) (overlaid-at s sound new pages owner in_files has ∙ ap (cut_at_end s owner) (gathered_bytes owner has)) ∙ within_cut s owner (memory owner.file owner.page) (latest.whole owner.file owner.page))
+        | inr untouched ↦
+            ap (within_file s owner) (overlaid-elsewhere s sound new pages owner in_files is (λ has. both_ways (is_touched history owner.file owner.page) untouched (is_stored owner has)))
+            ∙ clean owner is untouched
+      ]
+
+      small_mark : number < 2 ^ 64
+      small_mark = let few = prepared.0 in omega (arith, few)
+
+      below : AllByRecursion (λ (x : WriteOut). x.batch.mark < number) s.write_outs.batches
+      below =
+          recursion_from_All (λ (x : WriteOut). x.batch.mark < number) s.write_outs.batches
+          (All-weaker (λ (x : WriteOut). (0 < x.batch.mark) × (x.batch.mark ≤ s.marks)) (λ (x : WriteOut). x.batch.mark < number) (λ x is. omega (arith, is.1)) s.write_outs.batches sound.write_outs.marked)
+
+      pub marked_pages : s.write_outs.broken ≡ false → AreHomes (geometry_of s.table) (map (home_of s.table) pages) → IsDurable files now (marked_with noted spaces (begun s.write_outs number (map (home_of s.table) pages))) seen may
+      marked_pages whole fits =
+          let homes = map (home_of s.table) pages in
+          let outs = begun s.write_outs number homes in
+          let x = marked_with noted spaces outs in
+          record {
+            old = new;
+            new = next_contents;
+            stands = stands_begun s.table s.write_outs old new next_contents number homes seen may whole (prepared.1 whole) (omega arith) small_mark
+                (subst (λ (g : GeometryValue). AreHomes g homes) (sym sound.write_outs.geometry) fits) below (λ b none. overlaid-other s pages new b none) stands;
+            written = record {
+              before = w.marked;
+              old_are = contents_more files history (marked_by history number) s x (record { table = refl; lengths = refl }) new w.marked w.new_are;
+              acknowledged = acknowledged_more w.marked history (marked_by history number) (λ n has. absurd (waits n has)) w.grown;
+              marked = made;
+              new_are = made_contents outs next_contents next_parts;
+              grown = made_acknowledged;
+              marks = All-push (λ (y : WriteOut). Contains made (Mark y.batch.mark)) s.write_outs.batches (begun_of (next_batch s.write_outs number homes))
+                  (All-weaker (λ (y : WriteOut). Contains w.marked (Mark y.batch.mark)) (λ (y : WriteOut). Contains made (Mark y.batch.mark)) (λ y has. in_made (Mark y.batch.mark) has) s.write_outs.batches w.marks)
+                  (Contains-push history (Mark number));
+              ready = λ broken held. absurd (none_now held);
+              clean = inr (made_clean outs next_contents next_parts);
+              frozen = subst (λ (l : List FilePage). All (λ owner. next_contents (home_of s.table owner) ≡ cut_at_end s owner (bytes_at_mark s.hardware.memory owner)) l) (sym (gathers.frozen ∙ cond-true (not s.write_outs.broken) pages [] (not_from_false s.write_outs.broken whole)))
+                  (λ k d lt. overlaid-at s sound new pages (get_or pages k d) in_files (Contains-get_or pages k d lt));
+            };
+          }
+
+    -- whatever was gathered
+    by_pages : (pages : List FilePage) → Gathers s.hardware.spaces s.hardware.memory s.checkpoint noted (not s.write_outs.broken) pages → (s.write_outs.broken ≡ false → 0 < length pages → AreHomes (geometry_of s.table) (map (home_of s.table) pages))
+        → IsDurable files now (marked_with noted spaces (with_batch s number pages)) seen may
+    by_pages [] gathers fits = marked_nothing gathers
+    by_pages (first ∷ others) gathers fits = elim (cases_Bool s.write_outs.broken) [
+      | inl broken ↦
+          subst (λ (outs : WriteOutsValue). IsDurable files now (marked_with noted spaces outs) seen may) (sym (cond-true s.write_outs.broken s.write_outs (begun s.write_outs number (map (home_of s.table) (first ∷ others))) broken))
+          (marked_lost first others gathers broken)
+      | inr whole ↦
+          subst (λ (outs : WriteOutsValue). IsDurable files now (marked_with noted spaces outs) seen may) (sym (cond-false s.write_outs.broken s.write_outs (begun s.write_outs number (map (home_of s.table) (first ∷ others))) whole))
+          (marked_pages first others gathers whole (fits whole (omega arith)))
+    ]
+
+  -- after a mark; that a batch's home blocks fit is a fact of the state after it
+  pub marked_durable : (new_state : State) (is : MarkMade s p number new_state) → (s.write_outs.broken ≡ false → 0 < length is.pages → AreHomes (geometry_of s.table) (map (home_of s.table) is.pages)) → IsDurable files now new_state seen may
+  marked_durable new_state is fits = subst (λ (x : State). IsDurable files now x seen may) (sym is.done) (by_pages is.noted is.spaces is.pages is.gathered fits)

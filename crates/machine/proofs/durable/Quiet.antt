@@ -1,0 +1,99 @@
+-- Steps that neither make a mark nor go on with the write-outs.
+use Rattle.std.proofs.Common.{◌≡◌, ℕ, Bool, true, false, List, [], ◌∷◌, Option, Some, None, inl, refl, sym, ap, ◌∙◌, subst}
+use Rattle.std.specs.List.{Contains}
+use Rattle.std.specs.Option.{option_or}
+use Rattle.page_entry.specs.declared.numbers.FilePage.{FilePage}
+use Rattle.page_entry.specs.declared.refusal.Refusal.{Refusal}
+use Rattle.frames.specs.Frames.{FramesState}
+use Rattle.journal.specs.Work.{Nothing}
+use Rattle.cpu.specs.Access.{Hardware}
+use Rattle.checkpoint.specs.Checkpoint.{CheckpointState}
+use Rattle.spaces.specs.Spaces.{Spaces}
+use Rattle.spaces.specs.declared.change.Change.{Change}
+use Rattle.spaces.specs.declared.change.Change.TheVariants.{Checkpoint}
+use Rattle.machine.specs.declared.act.Act.{Act}
+use Rattle.machine.specs.declared.act.Reply.{Reply}
+use Rattle.machine.specs.State.{State}
+use Rattle.machine.specs.Refusals.{first_of, refuse_if}
+use Rattle.machine.specs.Rules.{with_hardware, end_change, begin_change, bytes_at_mark}
+use Rattle.machine.specs.OnTrack.{step_work}
+use Rattle.machine.specs.Told.{Told, events_of}
+use Rattle.machine.specs.Tracking.{change_in}
+use Rattle.machine.proofs.durable.Lists.{some_same, none_some}
+use Rattle.machine.proofs.durable.Histories.{IsQuiet}
+use Rattle.machine.proofs.durable.Leaves.{Leaves}
+
+pub record QuietStep (told : Told) (s : State) (p : ℕ) (act : Act) (reply : Reply) (new : State) (disk disk' : List ℕ) : Type 0 where
+  pub quiet : IsQuiet (events_of told p act reply)
+  pub work : step_work s act reply ≡ Nothing
+  pub leaves : Leaves s new
+  pub same_disk : disk' ≡ disk
+
+pub leaves_itself : (s : State) → Leaves s s
+leaves_itself s = record { files = record { table = refl; lengths = refl }; write_outs = refl; lock = λ broken held. held; frozen = refl; bytes = λ owner has. refl }
+
+-- a change of the hardware that leaves the lock, and the bytes of frozen pages
+pub leaves_hardware : (s : State) (hardware : Hardware) → hardware.shootdown.lock ≡ s.hardware.shootdown.lock
+    → ((owner : FilePage) → Contains s.checkpoint.frozen owner → bytes_at_mark hardware.memory owner ≡ bytes_at_mark s.hardware.memory owner) → Leaves s (with_hardware s hardware)
+leaves_hardware s hardware lock bytes = record {
+  files = record { table = refl; lengths = refl };
+  write_outs = refl;
+  lock = λ broken held. sym (ap change_in lock) ∙ held;
+  frozen = refl;
+  bytes = bytes;
+}
+
+-- a change ends
+pub leaves_change : (s : State) (p : ℕ) (spaces : Spaces) (memory : FramesState) (checkpoint : CheckpointState) → checkpoint.frozen ≡ s.checkpoint.frozen
+    → ((owner : FilePage) → Contains s.checkpoint.frozen owner → bytes_at_mark memory owner ≡ bytes_at_mark s.hardware.memory owner) → Leaves s (end_change s p spaces memory checkpoint)
+leaves_change s p spaces memory checkpoint frozen bytes = record {
+  files = record { table = refl; lengths = refl };
+  write_outs = refl;
+  lock = λ broken held. absurd (none_some Checkpoint held);
+  frozen = frozen;
+  bytes = bytes;
+}
+
+-- a change begins; a checkpoint only of a machine that isn't broken
+pub leaves_begun : (s : State) (p : ℕ) (change : Change) → (s.write_outs.broken ≡ true → change ≡ Checkpoint → ⊥) → Leaves s (begin_change s p change)
+leaves_begun s p change other = record {
+  files = record { table = refl; lengths = refl };
+  write_outs = refl;
+  lock = λ broken held. absurd (other broken (some_same change Checkpoint held));
+  frozen = refl;
+  bytes = λ owner has. refl;
+}
+
+module _ (told : Told) (s : State) (disk : List ℕ) (p : ℕ) (new : State) (disk' : List ℕ) where
+  pub quiet_as : (x : State) (act : Act) (reply : Reply) → Leaves s x → events_of told p act reply ≡ [] → step_work s act reply ≡ Nothing → new ≡ x → disk' ≡ disk → QuietStep told s p act reply new disk disk'
+  quiet_as x act reply leaves events work same same_disk = record { quiet = inl events; work = work; leaves = subst (Leaves s) (sym same) leaves; same_disk = same_disk }
+
+  pub unchanged : (act : Act) (reply : Reply) → events_of told p act reply ≡ [] → step_work s act reply ≡ Nothing → new ≡ s → disk' ≡ disk → QuietStep told s p act reply new disk disk'
+  unchanged act reply events work same same_disk = quiet_as s act reply (leaves_itself s) events work same same_disk
+
+  -- the hardware changes without its frames and its lock
+  pub by_hardware : (act : Act) (reply : Reply) (hardware : Hardware) → hardware.memory ≡ s.hardware.memory → hardware.shootdown.lock ≡ s.hardware.shootdown.lock
+      → events_of told p act reply ≡ [] → step_work s act reply ≡ Nothing → new ≡ with_hardware s hardware → disk' ≡ disk → QuietStep told s p act reply new disk disk'
+  by_hardware act reply hardware memory lock events work same same_disk =
+      quiet_as (with_hardware s hardware) act reply (leaves_hardware s hardware lock (λ owner has. ap (λ (m : FramesState). bytes_at_mark m owner) memory)) events work same same_disk
+
+-- ---- refusals
+
+none_or : (a b : Option Refusal) → option_or a b ≡ None → (a ≡ None) × (b ≡ None)
+none_or None b e = (refl, e)
+none_or (Some why) b e = cc
+
+-- where nothing is refused, the first reason isn't and none of the others is
+pub none_first : (reason : Option Refusal) (reasons : List (Option Refusal)) → first_of (reason ∷ reasons) ≡ None → (reason ≡ None) × (first_of reasons ≡ None)
+none_first reason reasons e = none_or reason (first_of reasons) e
+
+pub not_refused : (b : Bool) (why : Refusal) → refuse_if b why ≡ None → b ≡ false
+not_refused true why e = cc
+not_refused false why e = refl
+
+-- the second and the fourth of some reasons, where nothing is refused
+pub second_not_refused : (a : Option Refusal) (b : Bool) (why : Refusal) (reasons : List (Option Refusal)) → first_of (a ∷ refuse_if b why ∷ reasons) ≡ None → b ≡ false
+second_not_refused a b why reasons e = not_refused b why (none_first (refuse_if b why) reasons (none_first a (refuse_if b why ∷ reasons) e).1).0
+
+pub fourth_not_refused : (a b c : Option Refusal) (d : Bool) (why : Refusal) (reasons : List (Option Refusal)) → first_of (a ∷ b ∷ c ∷ refuse_if d why ∷ reasons) ≡ None → d ≡ false
+fourth_not_refused a b c d why reasons e = second_not_refused c d why reasons (none_first b (c ∷ refuse_if d why ∷ reasons) (none_first a (b ∷ c ∷ refuse_if d why ∷ reasons) e).1).1

@@ -1,0 +1,25 @@
+use Rattle.std.proofs.Common.{[], ◌∷◌}
+use Rattle.std.proofs.lemmas.Result.{err_from_is_err_and}
+use Rattle.page_entry.specs.declared.refusal.Refusal.TheVariants as refusals
+use Rattle.shootdown.specs.Shootdown.{not_running}
+use Rattle.machine.specs.Refusals.{refuse_if}
+use Rattle.machine.specs.inside.Layers.{state_in}
+use Rattle.machine.proofs.code.Refused.{found}
+use Rattle.machine.proofs.code.Flushes.{flushes_refused, flush_untouched, calm-not_running}
+use Rattle.machine.proofs.layers.Layers.flush.Goals as goal
+
+pub returns-in_err-admit-clause-rules : goal.returns-in_err-admit-clause-rules
+returns-in_err-admit-clause-rules g c =
+    let s = state_in c.args.self.now in
+    let why = c.in_err-admit.ensures.err in
+    let calm = calm-not_running s.hardware.shootdown c.args.p _ why in
+    let first = found (not_running s.hardware.shootdown c.args.p) (refuse_if s.write_outs.broken refusals.Broken ∷ []) _ why in
+    let p = err_from_is_err_and c.from_residual.result c.from_residual.ensures.1 in
+    rw (p.1, p.2) (record { some_disk = ([], [], flushes_refused s c.args.p _ [] calm first); own_disk = λ h. flushes_refused s c.args.p _ _ calm first })
+
+pub returns-in_err-admit-clause-device : goal.returns-in_err-admit-clause-device
+returns-in_err-admit-clause-device g c =
+    let s = state_in c.args.self.now in
+    let calm = calm-not_running s.hardware.shootdown c.args.p _ c.in_err-admit.ensures.err in
+    let p = err_from_is_err_and c.from_residual.result c.from_residual.ensures.1 in
+    rw (p.1, p.2) (flush_untouched g.D.Device g.met.D.Device.since_now s _ c.args.self.now.device calm)

@@ -1,0 +1,61 @@
+use Rattle.std.proofs.Common.{ℕ, ◌≡◌, ◌<◌, ◌≤◌, ◌+◌, not, List, length, map, refl, sym, ap, ◌∙◌, subst}
+use Rattle.std.specs.List.{All}
+use Rattle.page_entry.specs.declared.numbers.FilePage.{FilePage}
+use Rattle.spaces.specs.declared.change.Change.TheVariants.{Checkpoint}
+use Rattle.shootdown.specs.Shootdown.{finished}
+use Rattle.checkpoint.specs.Checkpoint.{CheckpointState, Gathers}
+use Rattle.machine.specs.declared.layers.Layers.{Layers}
+use Rattle.machine.specs.State.{State, home_of}
+use Rattle.machine.specs.Rules.{MarkMade}
+use Rattle.machine.specs.inside.Layers.{state_in, HasPage, MayBegin}
+use Rattle.machine.proofs.code.Holders.{may_change}
+use Rattle.machine.proofs.code.Marks.{few_frozen, frozen_there, may_begin, with_homes-batch}
+use Rattle.machine.proofs.layers.Layers.mark.Goals as goal
+
+pub write_out-requires-clause-few : goal.write_out-requires-clause-few
+write_out-requires-clause-few g c =
+    let s = state_in c.args.self.now in
+    let pages = c.gather.ensures.gathered.0 in
+    let gathers = subst (λ b. Gathers s.hardware.spaces s.hardware.memory s.checkpoint c.gather.new.self (not b) pages) c.is_broken-freezes.ensures c.gather.ensures.gathered.2 in
+    subst (λ (owners : List FilePage). length owners ≤ 1020) (ap (λ (x : CheckpointState). x.frozen) (sym c.protect_all.ensures.notes)) (few_frozen s c.requires.sound c.gather.new.self pages gathers)
+
+pub write_out-requires-clause-pages : goal.write_out-requires-clause-pages
+write_out-requires-clause-pages g c =
+    let s = state_in c.args.self.now in
+    let pages = c.gather.ensures.gathered.0 in
+    let gathers = subst (λ b. Gathers s.hardware.spaces s.hardware.memory s.checkpoint c.gather.new.self (not b) pages) c.is_broken-freezes.ensures c.gather.ensures.gathered.2 in
+    subst (All (HasPage s.table)) (ap (λ (x : CheckpointState). x.frozen) (sym c.protect_all.ensures.notes)) (frozen_there s c.requires.sound c.gather.new.self pages gathers)
+
+pub write_out-requires-clause-batch : goal.write_out-requires-clause-batch
+write_out-requires-clause-batch g c =
+    let s = state_in c.args.self.now in
+    let pages = c.gather.ensures.gathered.0 in
+    let gathers = subst (λ b. Gathers s.hardware.spaces s.hardware.memory s.checkpoint c.gather.new.self (not b) pages) c.is_broken-freezes.ensures c.gather.ensures.gathered.2 in
+    subst (λ (owners : List FilePage). 0 < length owners → MayBegin s.write_outs (s.marks + 1) (map (home_of s.table) owners)) (ap (λ (x : CheckpointState). x.frozen) (sym c.protect_all.ensures.notes))
+    (may_begin s c.requires.sound c.gather.new.self pages gathers (c.requires.sound.spaces.prepared (record { holder = c.args.p; change = Checkpoint }) c.requires.held.1).1)
+
+pub returns-clause-rules : goal.returns-clause-rules
+returns-clause-rules g c =
+    let s = state_in c.args.self.now in
+    let number = s.marks + 1 in
+    let pages = c.gather.ensures.gathered.0 in
+    let gathers = subst (λ b. Gathers s.hardware.spaces s.hardware.memory s.checkpoint c.gather.new.self (not b) pages) c.is_broken-freezes.ensures c.gather.ensures.gathered.2 in
+    let frozen = ap (λ (x : CheckpointState). x.frozen) c.protect_all.ensures.notes in
+    let outs = ap (λ (owners : List FilePage). Rattle.machine.specs.inside.Layers.with_homes s.write_outs number (map (home_of s.table) owners)) frozen ∙ with_homes-batch s c.requires.sound c.gather.new.self pages gathers number in
+    let shootdown = c.finish.ensures.finished ∙ ap (λ (w : Layers g.row.D.Denot g.row.A.Denot). finished w.shootdown c.args.p) c.write_out.ensures in
+    subst (λ (w : Layers g.row.D.Denot g.row.A.Denot). MarkMade s c.args.p w.marks (state_in (record w { shootdown = c.finish.new.self }))) (sym c.write_out.ensures)
+    (record {
+      may = may_change s c.args.p Checkpoint c.requires.held;
+      next = refl;
+      pages = pages;
+      noted = c.gather.new.self;
+      gathered = gathers;
+      spaces = c.protect_all.new.spaces.map;
+      protected = c.protect_all.ensures.protected;
+      done = λ i. record s {
+        hardware = record { shootdown = shootdown i; spaces = c.protect_all.new.spaces.map; memory = s.hardware.memory };
+        checkpoint = c.protect_all.ensures.notes i;
+        write_outs = outs i;
+        marks = number;
+      };
+    })

@@ -1,0 +1,29 @@
+use Rattle.std.proofs.Common.{◌≡◌, ◌<◌, ◌*◌, List, length, get_or, true, sym, ap, subst, arith}
+use Rattle.page_entry.specs.declared.numbers.FilePage.{FilePage}
+use Rattle.fault.specs.Fault.{is_in_memory}
+use Rattle.machine.specs.inside.Layers.{state_in}
+use Rattle.machine.proofs.code.Records.{is_next_page}
+use Rattle.machine.proofs.layers.Layers.next_record.Goals as goal
+
+pub bounds-frozen-0 : goal.bounds-frozen-0
+bounds-frozen-0 g c =
+    subst (λ (pages : List FilePage). 0 < length pages) (sym c.frozen.ensures.frozen) (is_next_page (state_in c.args.self.now) c.requires.sound c.requires.some).some
+
+pub file_length-requires : goal.file_length-requires
+file_length-requires g c =
+    subst (λ (pages : List FilePage). (get_or pages 0 (record { file = 0; page = 0 })).file < length c.args.self.now.table.files) (sym c.frozen.ensures.frozen) (is_next_page (state_in c.args.self.now) c.requires.sound c.requires.some).file.there
+
+pub overflow_mul-from : goal.overflow_mul-from
+overflow_mul-from g c =
+    let first : List FilePage → FilePage = λ pages. get_or pages 0 (record { file = 0; page = 0 }) in
+    let pages = c.frozen.ensures.frozen in
+    let file = ap (λ (x : List FilePage). (first x).file) pages in
+    let page = ap (λ (x : List FilePage). (first x).page) pages in
+    let inside = (is_next_page (state_in c.args.self.now) c.requires.sound c.requires.some).file.inside in
+    let length_is = c.file_length.ensures in
+    let same = ap (λ n. get_or (Rattle.volume_codec.specs.Super.capacities_in c.args.self.now.table) n 0) file in
+    omega (arith, c.from.ensures, page, inside, length_is, same, c.file_length.type_inv)
+
+pub bytes_at_mark-requires-clause-there : goal.bytes_at_mark-requires-clause-there
+bytes_at_mark-requires-clause-there g c =
+    subst (λ (pages : List FilePage). is_in_memory c.args.self.now.frames (get_or pages 0 (record { file = 0; page = 0 })) ≡ true) (sym c.frozen.ensures.frozen) (is_next_page (state_in c.args.self.now) c.requires.sound c.requires.some).there

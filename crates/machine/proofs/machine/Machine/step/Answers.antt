@@ -1,0 +1,30 @@
+use Rattle.std.proofs.Common.{ℕ, List, sym, subst}
+use Rattle.machine.specs.declared.act.Reply.{Reply}
+use Rattle.machine.specs.State.{Whole}
+use Rattle.machine.specs.Rules.{Rules}
+use Rattle.machine.specs.OnTrack.{StepMade}
+use Rattle.machine.specs.inside.Layers.{state_in, whole_in}
+use Rattle.machine.specs.inside.Acting.{ActDone}
+use Rattle.machine.proofs.code.Stepping.{layers_kept, step_made, not_full}
+use Rattle.machine.proofs.machine.Machine.step.Goals as goal
+
+pub invariant_of-self : goal.invariant_of-self
+invariant_of-self g c = layers_kept g.D.Device c.self.inside.layers c.act.new.self c.args.step.now _ c.act.ensures c.self.invariant
+
+module _ (g : _) (c : goal.After-reply_to g) where
+  -- the layers did what was replied
+  done : ActDone g.D.Device c.self.inside.layers c.args.step.now c.reply_to.result c.act.new.self
+  done = subst (λ (r : Reply). ActDone g.D.Device c.self.inside.layers c.args.step.now r c.act.new.self) (sym c.reply_to.ensures) c.act.ensures
+
+pub returns-clause-rules : goal.returns-clause-rules
+returns-clause-rules g c =
+    subst (λ (w : Whole g.row.D.Denot). (disk : List ℕ) × (disk' : List ℕ) × Rules w.state disk c.args.step.now c.reply_to.result (state_in c.act.new.self) disk') c.self.view_is (done g c).rules.some_disk
+
+pub returns-clause-made : goal.returns-clause-made
+returns-clause-made g c =
+    subst (λ (w : Whole g.row.D.Denot). g.D.Device.is_honest w.device
+    → StepMade g.D.Device.seen g.D.Device.may_leave g.D.Device.moment g.D.Device.left_since g.D.Device.is_honest w c.args.step.now c.reply_to.result (whole_in c.act.new.self)) c.self.view_is
+    (step_made g.D.Device c.self.inside.layers c.act.new.self c.args.step.now c.reply_to.result (done g c))
+
+pub returns-clause-not_full : goal.returns-clause-not_full
+returns-clause-not_full g c = not_full g.D.Device c.self.inside.layers c.act.new.self c.args.step.now c.reply_to.result (done g c)

@@ -1,0 +1,182 @@
+-- A mark keeps a machine sound: the dirty pages are gathered, protected and frozen, and a batch of them begins.
+use Rattle.std.proofs.Common.{ℕ, ◌≡◌, ◌+◌, ◌^◌, ◌<◌, ◌≤◌, eqb, not, Bool, true, false, cond, List, [], ◌∷◌, ◌++◌, length, map, get_or, refl, sym, ap, ◌∙◌, subst, ⊎_elim, arith}
+use Rattle.std.specs.List.{All, list_any}
+use Rattle.std.proofs.lemmas.Bool.{cases_Bool, or_parts, eqb-false, false≢true, cond-true, cond-false}
+use Rattle.std.proofs.lemmas.List.{length-replicate, length-append, flat_map_more}
+use Rattle.std.proofs.lemmas.List.Elements.{All-push, All-map, Contains-get_or}
+use Rattle.page_entry.specs.declared.numbers.FilePage.{FilePage}
+use Rattle.frames.specs.Frames.{FramesState}
+use Rattle.volume_codec.specs.Layout.{GeometryValue, journals_of}
+use Rattle.volume_codec.specs.Super.{geometry_of}
+use Rattle.volume_codec.specs.Descriptor.{AreHomes}
+use Rattle.journal.specs.WriteOut.{WriteOut, begun_of}
+use Rattle.journal.specs.WriteOuts.{WriteOutsValue, has_uncommitted, is_busy, next_batch, begun as outs_begun}
+use Rattle.spaces.specs.declared.change.Change.TheVariants as changes
+use Rattle.spaces.specs.Spaces.{Spaces}
+use Rattle.spaces.specs.Changes.{protected_where}
+use Rattle.spaces.proofs.SpacesLaws.{place_at-EditsEntries}
+use Rattle.spaces.proofs.AreSpacesLaws.{AreSpaces-EditsEntries}
+use Rattle.spaces.proofs.ChangeLaws.{ChangesOnlyAffected-checkpoint}
+use Rattle.checkpoint.specs.Checkpoint.{CheckpointState, is_noted, same_page, AreRising, Gathers, ProtectsNoted, without_notes}
+use Rattle.checkpoint.proofs.ReleaseLaws.{AreBacked-protected}
+use Rattle.fault.specs.Fault.{is_in_memory}
+use Rattle.cpu.specs.Access.{Hardware}
+use Rattle.machine.specs.State.{State, home_of}
+use Rattle.machine.specs.Rules.{end_change, with_batch, MarkMade}
+use Rattle.machine.specs.Sound.{IsInFile, IsPrepared, waiting_homes, frozen_homes, IsMemorySound, AreWriteOutsSound, IsSound}
+use Rattle.machine.proofs.sound.Lists.{get_or-replicate-same}
+use Rattle.machine.proofs.sound.Groups.{unchanged_sound}
+use Rattle.machine.proofs.sound.Frames.{in_memory_held}
+use Rattle.machine.proofs.sound.Ended.{prepared_change, ended_spaces}
+use Rattle.machine.proofs.sound.Waiting.{waits_of, waiting, waiting-none, older-push}
+use Rattle.machine.proofs.sound.Homes.{gathered_homes}
+
+-- ---- before the mark nothing is frozen
+
+-- write-outs that aren't busy: each batch is committed, and a journal is free
+pub not_busy : (s : State) → AreWriteOutsSound s → is_busy s.write_outs ≡ false → (has_uncommitted s.write_outs.batches ≡ false) × (length s.write_outs.batches < journals_of s.table.layout)
+not_busy s is free =
+    let parts = or_parts (has_uncommitted s.write_outs.batches) (eqb (length s.write_outs.batches) (journals_of s.write_outs.geometry.layout)) free in
+    let other = eqb-false (length s.write_outs.batches) (journals_of s.write_outs.geometry.layout) parts.1 in
+    let same = ap (λ (g : GeometryValue). journals_of g.layout) is.geometry in
+    (parts.0, smaller (length s.write_outs.batches) (journals_of s.write_outs.geometry.layout) (journals_of s.table.layout) is.few_batches same other)
+  where
+    smaller : (a b c : ℕ) → a ≤ c → b ≡ c → (a ≡ b → ⊥) → a < c
+    smaller a b c le same other = omega arith
+
+nil_from_map : {X Y : Type 0} (f : X → Y) (xs : List X) → map f xs ≡ [] → xs ≡ []
+nil_from_map f [] e = refl
+nil_from_map f (x ∷ xs) e = absurd (cc)
+
+pub nothing_frozen : (s : State) → AreWriteOutsSound s → (s.write_outs.broken ≡ false → is_busy s.write_outs ≡ false) → s.checkpoint.frozen ≡ []
+nothing_frozen s is free = nil_from_map (home_of s.table) s.checkpoint.frozen (is.frozen ∙ by s.write_outs.broken refl)
+  where
+    by : (b : Bool) → s.write_outs.broken ≡ b → cond b [] (waiting_homes s.write_outs) ≡ []
+    by true broken = refl
+    by false whole = waiting-none s.write_outs.batches (not_busy s is (free whole)).0
+
+-- ---- what is gathered
+
+-- each gathered page is in memory, and one of a file's
+pub gathered_there : (s : State) (noted : CheckpointState) (freezes : Bool) (pages : List FilePage) → IsMemorySound s → Gathers s.hardware.spaces s.hardware.memory s.checkpoint noted freezes pages
+    → All (λ owner. is_in_memory s.hardware.memory owner ≡ true) pages × All (IsInFile s) pages
+gathered_there s noted freezes pages is gathers = (
+  λ k d within. let dirty = (gathers.gathered.dirty (get_or pages k d)).0 (Contains-get_or pages k d within) in in_memory_held s.hardware.memory dirty.0 (get_or pages k d) dirty.1,
+  λ k d within. let dirty = (gathers.gathered.dirty (get_or pages k d)).0 (Contains-get_or pages k d within) in is.in_files dirty.0 (get_or pages k d) dirty.1,
+)
+
+memory_marked : (s : State) (p : ℕ) (noted : CheckpointState) (freezes : Bool) (pages : List FilePage) (spaces : Spaces) (outs : WriteOutsValue) (number : ℕ)
+    → Gathers s.hardware.spaces s.hardware.memory s.checkpoint noted freezes pages → ProtectsNoted noted s.hardware.spaces spaces → s.checkpoint.frozen ≡ [] → IsMemorySound s
+    → IsMemorySound (record (end_change s p spaces s.hardware.memory (without_notes noted)) { write_outs = outs; marks = number })
+memory_marked s p noted freezes pages spaces outs number gathers protects none is = record {
+  memory = is.memory;
+  few_frames = is.few_frames;
+  in_files = λ frame owner holds. let file = is.in_files frame owner holds in record { there = file.there; inside = file.inside };
+  backed = AreBacked-protected s.hardware.spaces spaces s.hardware.memory s.checkpoint noted freezes pages gathers is.memory.one_frame protects is.backed;
+  notes = length-replicate (length noted.notes) false ∙ gathers.same_length ∙ is.notes;
+  noted = λ frame here. absurd (false≢true (sym (get_or-replicate-same (length noted.notes) frame false) ∙ here));
+  frozen = subst (All (λ owner. is_in_memory s.hardware.memory owner ≡ true)) (sym gathers.frozen) (in_memory freezes);
+  rising = subst AreRising (sym gathers.frozen) (rising freezes);
+  copied = λ copy kept there. absurd (false≢true (sym (ap (list_any (same_page kept.page)) none) ∙ is.copied copy kept there));
+}
+  where
+    in_memory : (b : Bool) → All (λ owner. is_in_memory s.hardware.memory owner ≡ true) (cond b pages [])
+    in_memory true = (gathered_there s noted freezes pages is gathers).0
+    in_memory false = λ k d within. absurd (omega arith)
+
+    rising : (b : Bool) → AreRising (cond b pages [])
+    rising true = gathers.gathered.rising
+    rising false = tt
+
+-- ---- the batch of a mark
+
+-- one more mark, of which no batch is made
+marks_more : (s : State) (hardware : Hardware) (checkpoint : CheckpointState) → hardware.memory ≡ s.hardware.memory → s.marks + 1 < 2 ^ 32 → map (home_of s.table) checkpoint.frozen ≡ frozen_homes s → AreWriteOutsSound s
+    → AreWriteOutsSound (record s { hardware = hardware; checkpoint = checkpoint; marks = s.marks + 1 })
+marks_more s hardware checkpoint same few frozen is = record {
+  geometry = is.geometry;
+  few_batches = is.few_batches;
+  older = is.older;
+  homes = is.homes;
+  in_memory = λ k d within i e below. let was = is.in_memory k d within i e below in (was.0, was.1, ap (λ (m : FramesState). is_in_memory m was.0) same ∙ was.2);
+  marked = λ k d within. let was = is.marked k d within in (was.0, omega (arith, was.1));
+  few_marks = few;
+  frozen = frozen;
+}
+
+-- one more mark, and a batch of its pages
+batch_more : (s : State) (hardware : Hardware) (checkpoint : CheckpointState) (pages : List FilePage) → hardware.memory ≡ s.hardware.memory → s.marks + 1 < 2 ^ 32 → s.write_outs.broken ≡ false → is_busy s.write_outs ≡ false
+    → checkpoint.frozen ≡ pages → AreHomes (geometry_of s.table) (map (home_of s.table) pages) → All (λ owner. is_in_memory s.hardware.memory owner ≡ true) pages → AreWriteOutsSound s
+    → AreWriteOutsSound (record s { hardware = hardware; checkpoint = checkpoint; write_outs = outs_begun s.write_outs (s.marks + 1) (map (home_of s.table) pages); marks = s.marks + 1 })
+batch_more s hardware checkpoint pages same few whole free frozen homes there is =
+    let outs = s.write_outs in
+    let home_list = map (home_of s.table) pages in
+    let w : WriteOut = begun_of (next_batch outs (s.marks + 1) home_list) in
+    let fine = not_busy s is free in
+    let in_mem : ℕ → Type 0 = λ home. (owner : FilePage) × (home ≡ home_of s.table owner) × (is_in_memory hardware.memory owner ≡ true) in
+    let of_pages : All in_mem home_list = All-map in_mem (home_of s.table) pages (λ k d within. (get_or pages k d, refl, ap (λ (m : FramesState). is_in_memory m (get_or pages k d)) same ∙ there k d within)) in
+    let old_in_memory : All (λ (x : WriteOut). All in_mem x.batch.homes) outs.batches = λ k d within i e below.
+    let was = is.in_memory k d within i e below in (was.0, was.1, ap (λ (m : FramesState). is_in_memory m was.0) same ∙ was.2) in
+    let old_marked : All (λ (x : WriteOut). (0 < x.batch.mark) × (x.batch.mark ≤ s.marks + 1)) outs.batches = λ k d within. let was = is.marked k d within in (was.0, omega (arith, was.1)) in
+    let waits : waiting (outs.batches ++ w ∷ []) ≡ home_list = sym (flat_map_more waits_of [] outs.batches w) ∙ ap (λ (l : List ℕ). l ++ home_list) (waiting-none outs.batches fine.0) in
+    record {
+      geometry = is.geometry;
+      few_batches = omega (arith, fine.1, length-append outs.batches (w ∷ []));
+      older = older-push outs.batches w fine.0;
+      homes = All-push (λ (x : WriteOut). AreHomes (geometry_of s.table) x.batch.homes) outs.batches w is.homes homes;
+      in_memory = All-push (λ (x : WriteOut). All in_mem x.batch.homes) outs.batches w old_in_memory of_pages;
+      marked = All-push (λ (x : WriteOut). (0 < x.batch.mark) × (x.batch.mark ≤ s.marks + 1)) outs.batches w old_marked (omega arith, omega arith);
+      few_marks = few;
+      frozen = ap (map (home_of s.table)) frozen ∙ sym waits ∙ sym (cond-false outs.broken [] (waiting (outs.batches ++ w ∷ [])) whole);
+    }
+
+write_outs_marked : (s : State) (hardware : Hardware) (checkpoint : CheckpointState) (pages : List FilePage) → hardware.memory ≡ s.hardware.memory → IsPrepared s changes.Checkpoint
+    → checkpoint.frozen ≡ cond (not s.write_outs.broken) pages [] → AreRising pages → All (λ owner. is_in_memory s.hardware.memory owner ≡ true) pages → All (IsInFile s) pages → IsSound s
+    → AreWriteOutsSound (record s { hardware = hardware; checkpoint = checkpoint; write_outs = with_batch s (s.marks + 1) pages; marks = s.marks + 1 })
+write_outs_marked s hardware checkpoint [] same prepared frozen rising there in_files sound =
+    let nothing : checkpoint.frozen ≡ [] = frozen ∙ either (not s.write_outs.broken) in
+    let before = nothing_frozen s sound.write_outs prepared.1 in
+    marks_more s hardware checkpoint same prepared.0 (ap (map (home_of s.table)) (nothing ∙ sym before) ∙ sound.write_outs.frozen) sound.write_outs
+  where
+    either : (b : Bool) → ◌≡◌ {A = List FilePage} (cond b [] []) []
+    either true = refl
+    either false = refl
+write_outs_marked s hardware checkpoint (owner ∷ owners) same prepared frozen rising there in_files sound =
+    ⊎_elim
+    (λ broken.
+    let nothing : checkpoint.frozen ≡ [] = frozen ∙ ap (λ b. cond (not b) (owner ∷ owners) []) broken in
+    let before = nothing_frozen s sound.write_outs prepared.1 in
+    subst (λ (outs : WriteOutsValue). AreWriteOutsSound (record s { hardware = hardware; checkpoint = checkpoint; write_outs = outs; marks = s.marks + 1 }))
+    (sym (cond-true s.write_outs.broken s.write_outs (outs_begun s.write_outs (s.marks + 1) (map (home_of s.table) (owner ∷ owners))) broken))
+    (marks_more s hardware checkpoint same prepared.0 (ap (map (home_of s.table)) (nothing ∙ sym before) ∙ sound.write_outs.frozen) sound.write_outs))
+    (λ whole.
+    subst (λ (outs : WriteOutsValue). AreWriteOutsSound (record s { hardware = hardware; checkpoint = checkpoint; write_outs = outs; marks = s.marks + 1 }))
+    (sym (cond-false s.write_outs.broken s.write_outs (outs_begun s.write_outs (s.marks + 1) (map (home_of s.table) (owner ∷ owners))) whole))
+    (batch_more s hardware checkpoint (owner ∷ owners) same prepared.0 whole (prepared.1 whole) (frozen ∙ ap (λ b. cond (not b) (owner ∷ owners) []) whole)
+    (gathered_homes s (owner ∷ owners) sound rising (omega arith) in_files there) there sound.write_outs))
+    (cases_Bool s.write_outs.broken)
+
+-- ---- the mark
+
+pub marked_sound : (s : State) (p number : ℕ) (new : State) → MarkMade s p number new → IsSound s → IsSound new
+marked_sound s p number new rule sound =
+    let old = s.hardware.spaces in
+    let gathers = rule.gathered in
+    let prepared = prepared_change s p changes.Checkpoint sound rule.may in
+    let none = nothing_frozen s sound.write_outs prepared.1 in
+    let there = gathered_there s rule.noted (not s.write_outs.broken) rule.pages sound.memory gathers in
+    let checkpoint = without_notes rule.noted in
+    let hardware = (end_change s p rule.spaces s.hardware.memory checkpoint).hardware in
+    let outs = with_batch s (s.marks + 1) rule.pages in
+    unchanged_sound (record s { hardware = hardware; checkpoint = checkpoint; write_outs = outs; marks = s.marks + 1 }) new
+    (rule.done ∙ (λ i. record s { hardware = hardware; checkpoint = checkpoint; write_outs = with_batch s (rule.next i) rule.pages; marks = rule.next i })) (record {
+      fits = sound.fits;
+      lengths = sound.lengths;
+      within = sound.within;
+      spaces = ended_spaces s p changes.Checkpoint rule.spaces s.hardware.memory checkpoint outs (s.marks + 1) rule.may (ChangesOnlyAffected-checkpoint old rule.spaces)
+          (record { affected = λ pcid page now. now; touched = λ pcid now. now })
+          (AreSpaces-EditsEntries (λ pcid page entry. protected_where (is_noted rule.noted) entry) old rule.spaces sound.spaces.spaces rule.protected (λ q at. refl)) rule.protected.same_spaces
+          (λ q page place is. sound.spaces.in_table q page place (sym (place_at-EditsEntries (λ pcid at entry. protected_where (is_noted rule.noted) entry) old rule.spaces rule.protected q page) ∙ is)) sound;
+      memory = memory_marked s p rule.noted (not s.write_outs.broken) rule.pages rule.spaces outs (s.marks + 1) gathers rule.protected none sound.memory;
+      write_outs = write_outs_marked s hardware checkpoint rule.pages refl prepared gathers.frozen gathers.gathered.rising there.0 there.1 sound;
+    })

@@ -1,0 +1,105 @@
+-- What the end of a change leaves of the processors and the page tables.
+use Rattle.std.proofs.Common.{ℕ, ◌≡◌, ◌+◌, ◌-◌, ◌<◌, eqb, Bool, true, false, cond, List, [], ◌∷◌, length, drop, map, Contains, Some, None, refl, sym, ap, ◌∙◌, subst, arith}
+use Rattle.std.proofs.lemmas.Bool.{eqb-true, eq-eqb}
+use Rattle.std.proofs.lemmas.List.{get_or-drop, length-drop}
+use Rattle.page_entry.specs.declared.numbers.FilePage.{FilePage}
+use Rattle.page_entry.specs.declared.refusal.Refusal.TheVariants as refusals
+use Rattle.mappings.specs.declared.place.Place.{Place}
+use Rattle.frames.specs.Frames.{FramesState}
+use Rattle.journal.specs.WriteOut.{WriteOut}
+use Rattle.journal.specs.WriteOuts.{WriteOutsValue, HasBlock}
+use Rattle.spaces.specs.declared.change.Change.{Change}
+use Rattle.spaces.specs.Spaces.{Spaces, AreSpaces, has_space, place_at}
+use Rattle.spaces.specs.Changes.{ChangesOnlyAffected}
+use Rattle.spaces.proofs.Members.{Contains-map, in_flat_map}
+use Rattle.shootdown.specs.declared.lock.Lock.{Lock}
+use Rattle.shootdown.specs.Processors.{woken}
+use Rattle.shootdown.specs.Shootdown.{processor_at, interrupted}
+use Rattle.shootdown.specs.Coherence.{IsUnused, IsNoWider}
+use Rattle.shootdown.proofs.ShootdownLaws.{at-with_processor, IsShootdown-finished}
+use Rattle.shootdown.proofs.CoherenceLaws.{IsUnused-from_Coheres, Coheres-finished, Coheres-changed}
+use Rattle.checkpoint.specs.Checkpoint.{CheckpointState}
+use Rattle.machine.specs.State.{State, home_of}
+use Rattle.machine.specs.Refusals.{not_there, lock_refusal}
+use Rattle.machine.specs.Rules.{MayChange, end_change}
+use Rattle.machine.specs.Sound.{IsPrepared, waiting_homes, AreSpacesSound, AreWriteOutsSound, IsSound}
+use Rattle.machine.proofs.sound.Admitted.{first_none, there_below}
+
+-- ---- who changes
+
+-- the processor is there, holds the lock for the change, and nobody is interrupted any more
+pub record IsHolder (s : State) (p : ℕ) (change : Change) : Type 0 where
+  pub there : p < length s.hardware.shootdown.processors
+  pub held : s.hardware.shootdown.lock ≡ Some (record { holder = p; change = change })
+  pub quiet : interrupted s.hardware.shootdown ≡ 0
+
+pub holder : (s : State) (p : ℕ) (change : Change) → MayChange s p change → IsHolder s p change
+holder s p change may =
+    let sd = s.hardware.shootdown in
+    let waits = lock_refusal p (interrupted sd) sd.lock in
+    let parts = first_none (not_there s p) (waits ∷ []) may.allowed in
+    let fine : lock_refusal p (interrupted sd) (Some (record { holder = p; change = change })) ≡ None = ap (lock_refusal p (interrupted sd)) (sym may.lock) ∙ (first_none waits [] parts.1).0 in
+    record {
+      there = there_below s p parts.0;
+      held = may.lock;
+      quiet = eqb-true (interrupted sd) 0 (quiet (eqb p p) (eq-eqb p p refl) (eqb (interrupted sd) 0) (interrupted sd) fine);
+    }
+  where
+    quiet : (own : Bool) → own ≡ true → (none : Bool) (waiting : ℕ) → cond own (cond none None (Some (refusals.NotYet waiting))) (Some refusals.Locked) ≡ None → none ≡ true
+    quiet true is true waiting e = refl
+    quiet true is false waiting e = absurd (cc)
+    quiet false is none waiting e = absurd (cc)
+
+-- the change was judged, and nobody uses what it affects
+pub prepared_change : (s : State) (p : ℕ) (change : Change) → IsSound s → MayChange s p change → IsPrepared s change
+prepared_change s p change sound may = sound.spaces.prepared (record { holder = p; change = change }) may.lock
+
+pub unused_change : (s : State) (p : ℕ) (change : Change) → IsSound s → MayChange s p change → IsUnused s.hardware.spaces change s.hardware.shootdown
+unused_change s p change sound may =
+    let is = holder s p change may in
+    IsUnused-from_Coheres s.hardware.spaces change s.hardware.shootdown (record { holder = p; change = change }) sound.spaces.shootdown sound.spaces.coheres is.held refl is.quiet
+
+-- ---- processors and page tables after the change
+
+pub ended_spaces : (s : State) (p : ℕ) (change : Change) (spaces : Spaces) (memory : FramesState) (checkpoint : CheckpointState) (outs : WriteOutsValue) (marks : ℕ) → MayChange s p change
+    → ChangesOnlyAffected change s.hardware.spaces spaces → IsNoWider change s.hardware.spaces spaces → AreSpaces spaces → ((q : ℕ) → has_space spaces q ≡ has_space s.hardware.spaces q)
+    → ((pcid page : ℕ) (place : Place) → place_at spaces pcid page ≡ Some place → place.file < length s.table.files)
+    → IsSound s → AreSpacesSound (record (end_change s p spaces memory checkpoint) { write_outs = outs; marks = marks })
+ended_spaces s p change spaces memory checkpoint outs marks may only wider are same in_table sound =
+    let sd = s.hardware.shootdown in
+    let is = holder s p change may in
+    let its_change : (lock : Lock) → sd.lock ≡ Some lock → change ≡ lock.change = λ lock held. one lock (sym is.held ∙ held) in
+    let now = Coheres-changed change s.hardware.spaces spaces sd only (unused_change s p change sound may)
+    (λ lock held. subst (λ (c : Change). IsNoWider c s.hardware.spaces spaces) (its_change lock held) wider) sound.spaces.coheres in
+    record {
+      spaces = are;
+      shootdown = IsShootdown-finished sd p (record { holder = p; change = change }) sound.spaces.shootdown is.held refl is.quiet;
+      coheres = Coheres-finished sd p is.there spaces now;
+      current = at-with_processor (λ q y. has_space spaces y.space ≡ true) sd p (woken (processor_at sd p)) is.there
+          (same _ ∙ sound.spaces.current p is.there) (λ q within other. same _ ∙ sound.spaces.current q within);
+      in_table = in_table;
+      prepared = λ lock held. absurd (cc);
+    }
+  where
+    one : (lock : Lock) → Some (record { holder = p; change = change }) ≡ Some lock → change ≡ lock.change
+    one lock e = cc
+
+-- ---- frozen pages
+
+Contains-drop : {X : Type 0} (n : ℕ) (xs : List X) (x : X) → Contains (drop n xs) x → Contains xs x
+Contains-drop n xs x (k, within, is) =
+    let low : k < length xs - n = omega (arith, within, length-drop n xs) in
+    (n + k, omega arith, sym (get_or-drop n xs k x) ∙ is)
+
+-- a home block that waits for its record is one of a batch
+pub waiting_has_block : (outs : WriteOutsValue) (home : ℕ) → Contains (waiting_homes outs) home → HasBlock outs home
+waiting_has_block outs home there =
+    let found = in_flat_map (λ (w : WriteOut). drop w.steps w.batch.homes) outs.batches home there in
+    (found.0, found.1, Contains-drop found.0.steps found.0.batch.homes home found.2)
+
+-- the home block of a frozen page is one of a batch
+pub frozen_has_block : (s : State) (owner : FilePage) → AreWriteOutsSound s → s.write_outs.broken ≡ false → Contains s.checkpoint.frozen owner → HasBlock s.write_outs (home_of s.table owner)
+frozen_has_block s owner is whole there =
+    let homes : map (home_of s.table) s.checkpoint.frozen ≡ waiting_homes s.write_outs = is.frozen ∙ ap (λ b. cond b [] (waiting_homes s.write_outs)) whole in
+    waiting_has_block s.write_outs (home_of s.table owner)
+    (subst (λ (l : List ℕ). Contains l (home_of s.table owner)) homes (Contains-map (home_of s.table) s.checkpoint.frozen owner there))

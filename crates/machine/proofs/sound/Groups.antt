@@ -1,0 +1,125 @@
+-- The groups of facts of a sound machine by what they depend on, so that an act that leaves a group alone keeps it.
+use Rattle.std.proofs.Common.{ℕ, ◌≡◌, ◌+◌, ◌^◌, ◌<◌, true, false, length, map, get_or, Contains, Option, Some, refl, sym, ap, ◌∙◌, subst}
+use Rattle.std.proofs.lemmas.List.Elements.{Contains-get_or}
+use Rattle.page_entry.specs.declared.numbers.FilePage.{FilePage}
+use Rattle.page_entry.specs.declared.refusal.Refusal.{Refusal}
+use Rattle.mappings.specs.Judgement.{protect_refusal}
+use Rattle.mappings.specs.Places.{Places}
+use Rattle.volume_codec.specs.Super.{SuperValue}
+use Rattle.journal.specs.WriteOuts.{WriteOutsValue, is_busy, HasBlock}
+use Rattle.spaces.specs.declared.change.Change.{Change}
+use Rattle.spaces.specs.declared.change.Change.TheVariants.{Unmap, Protect, Reclaim, Checkpoint}
+use Rattle.spaces.specs.Spaces.{has_space, space_at}
+use Rattle.spaces.specs.Requests.{is_user_space}
+use Rattle.shootdown.specs.declared.lock.Lock.{Lock}
+use Rattle.shootdown.specs.Shootdown.{ShootdownState, IsShootdown, current}
+use Rattle.shootdown.specs.Coherence.{Coheres}
+use Rattle.checkpoint.specs.Checkpoint.{CheckpointState}
+use Rattle.fault.specs.Fault.{is_in_memory}
+use Rattle.cpu.specs.Access.{Hardware}
+use Rattle.machine.specs.State.{State, home_of}
+use Rattle.machine.specs.Refusals.{pages_in_file}
+use Rattle.machine.specs.Rules.{IsRefused, with_shootdown}
+use Rattle.machine.specs.Sound.{IsPrepared, IsMemorySound, AreWriteOutsSound, IsSound}
+
+pub unchanged_sound : (s new : State) → new ≡ s → IsSound s → IsSound new
+unchanged_sound s new same sound = subst IsSound (sym same) sound
+
+-- what was refused leaves the machine as it was
+pub refused_sound : (reason : Option Refusal) (why : Refusal) (s new : State) → IsRefused reason why s new → IsSound s → IsSound new
+refused_sound reason why s new rule sound = unchanged_sound s new rule.unchanged sound
+
+-- ---- frames
+
+-- their facts don't depend on processors, write-outs and marks
+pub memory_same : (s : State) (shootdown : ShootdownState) (outs : WriteOutsValue) (marks : ℕ) → IsMemorySound s
+    → IsMemorySound (record s { hardware = record s.hardware { shootdown = shootdown }; write_outs = outs; marks = marks })
+memory_same s shootdown outs marks is = record {
+  memory = is.memory;
+  few_frames = is.few_frames;
+  in_files = λ frame owner holds. let file = is.in_files frame owner holds in record { there = file.there; inside = file.inside };
+  backed = is.backed;
+  notes = is.notes;
+  noted = is.noted;
+  frozen = is.frozen;
+  rising = is.rising;
+  copied = is.copied;
+}
+
+-- ---- write-outs
+
+-- their facts don't depend on processors, spaces and notes, and need only that pages of their batches stay in memory
+pub write_outs_kept : (s : State) (hardware : Hardware) (checkpoint : CheckpointState) → checkpoint.frozen ≡ s.checkpoint.frozen
+    → ((owner : FilePage) → HasBlock s.write_outs (home_of s.table owner) → is_in_memory s.hardware.memory owner ≡ true → is_in_memory hardware.memory owner ≡ true)
+    → AreWriteOutsSound s → AreWriteOutsSound (record s { hardware = hardware; checkpoint = checkpoint })
+write_outs_kept s hardware checkpoint same stays is = record {
+  geometry = is.geometry;
+  few_batches = is.few_batches;
+  older = is.older;
+  homes = is.homes;
+  in_memory = λ k d within i e below.
+      let was = is.in_memory k d within i e below in
+      let w = get_or s.write_outs.batches k d in
+      let has : HasBlock s.write_outs (home_of s.table was.0) =
+      (w, Contains-get_or s.write_outs.batches k d within, subst (Contains w.batch.homes) was.1 (Contains-get_or w.batch.homes i e below)) in
+      (was.0, was.1, stays was.0 has was.2);
+  marked = is.marked;
+  few_marks = is.few_marks;
+  frozen = ap (map (home_of s.table)) same ∙ is.frozen;
+}
+
+-- where each page stays in memory
+pub write_outs_moved : (s : State) (hardware : Hardware) (checkpoint : CheckpointState) → checkpoint.frozen ≡ s.checkpoint.frozen
+    → ((owner : FilePage) → is_in_memory s.hardware.memory owner ≡ true → is_in_memory hardware.memory owner ≡ true)
+    → AreWriteOutsSound s → AreWriteOutsSound (record s { hardware = hardware; checkpoint = checkpoint })
+write_outs_moved s hardware checkpoint same stays = write_outs_kept s hardware checkpoint same (λ owner has. stays owner)
+
+-- ---- a change that is under way
+
+-- what a change relies on stays
+pub record StaysPrepared (s new : State) : Type 0 where
+  pub users : (pcid : ℕ) → is_user_space s.hardware.spaces pcid ≡ true → is_user_space new.hardware.spaces pcid ≡ true
+  pub places : (pcid : ℕ) → (space_at new.hardware.spaces pcid).places ≡ (space_at s.hardware.spaces pcid).places
+  pub table : new.table ≡ s.table
+  pub in_memory : (owner : FilePage) → is_in_memory s.hardware.memory owner ≡ true → is_in_memory new.hardware.memory owner ≡ true
+  pub marks : new.marks ≡ s.marks
+  pub free : (s.write_outs.broken ≡ false → is_busy s.write_outs ≡ false) → new.write_outs.broken ≡ false → is_busy new.write_outs ≡ false
+
+pub prepared_moved : (s new : State) (change : Change) → StaysPrepared s new → IsPrepared s change → IsPrepared new change
+prepared_moved s new (Unmap pcid range) stays is = (stays.users pcid is.0, is.1)
+prepared_moved s new (Protect pcid range rights) stays is =
+    (stays.users pcid is.0, is.1, ap (λ (places : Places). protect_refusal places range rights) (stays.places pcid) ∙ is.2)
+prepared_moved s new (Reclaim owner) stays is = (
+  subst (λ (table : SuperValue). owner.file < length table.files) (sym stays.table) is.0,
+  subst (λ (table : SuperValue). owner.page < pages_in_file table.files owner.file) (sym stays.table) is.1,
+  stays.in_memory owner is.2,
+)
+prepared_moved s new Checkpoint stays is = (subst (λ n. n + 1 < 2 ^ 32) (sym stays.marks) is.0, stays.free is.1)
+
+-- ---- processors
+
+-- it depends on no processor
+pub prepared_same : (s : State) (shootdown : ShootdownState) (change : Change) → IsPrepared s change → IsPrepared (with_shootdown s shootdown) change
+prepared_same s shootdown change =
+    prepared_moved s (with_shootdown s shootdown) change
+    (record { users = λ pcid user. user; places = λ pcid. refl; table = refl; in_memory = λ owner there. there; marks = refl; free = λ free. free })
+
+-- other processors that cohere with the page tables, each in a space that is there
+pub shootdown_sound : (s : State) (shootdown : ShootdownState) → IsShootdown shootdown → Coheres s.hardware.spaces shootdown
+    → ((p : ℕ) → p < length shootdown.processors → has_space s.hardware.spaces (current shootdown p) ≡ true)
+    → ((lock : Lock) → shootdown.lock ≡ Some lock → IsPrepared s lock.change) → IsSound s → IsSound (with_shootdown s shootdown)
+shootdown_sound s shootdown is coheres current prepared sound = record {
+  fits = sound.fits;
+  lengths = sound.lengths;
+  within = sound.within;
+  spaces = record {
+    spaces = sound.spaces.spaces;
+    shootdown = is;
+    coheres = coheres;
+    current = current;
+    in_table = sound.spaces.in_table;
+    prepared = λ lock held. prepared_same s shootdown lock.change (prepared lock held);
+  };
+  memory = memory_same s shootdown s.write_outs s.marks sound.memory;
+  write_outs = write_outs_moved s (record s.hardware { shootdown = shootdown }) s.checkpoint refl (λ owner there. there) sound.write_outs;
+}

@@ -1,0 +1,118 @@
+-- What holds of whole runs, by what their steps and replies tell.
+use Rattle.std.specs.Prelude.{ℕ, ◌≡◌, ◌≢◌, ◌*◌, ◌/◌, ◌%◌, ◌<◌, ◌≤◌, ◌^◌, Bool, true, false, not, ◌||◌, ◌⊎◌, List, [], ◌∷◌, length, take, drop, map, replicate, Option, Some, None, slice_index_or}
+use Rattle.std.specs.FinMap as maps
+use Rattle.page_entry.specs.declared.refusal.Refusal.TheVariants as refusals
+use Rattle.mappings.specs.declared.place.Place.{Place}
+use Rattle.mappings.specs.Places.{may_write}
+use Rattle.volume_codec.specs.Files.{File}
+use Rattle.volume_codec.specs.Recovery.{RecoversTo}
+use Rattle.machine.specs.declared.act.Act.{Act}
+use Rattle.machine.specs.declared.act.Act.TheVariants as acts
+use Rattle.machine.specs.declared.act.Reply.{Reply}
+use Rattle.machine.specs.declared.act.Reply.TheVariants as replies
+use Rattle.machine.specs.declared.act.Step.{Step}
+use Rattle.cpu.specs.Access.{IsAccess}
+use Rattle.machine.specs.History.{Event, memory_of, after, files_after, IsDurablePrefix}
+use Rattle.machine.specs.Told.{Told, place_told, length_told, tell}
+
+-- what is told at the start of a run with these files and so many processors: each is in space 0, which maps nothing
+abbrev pub told_at_start : List File → ℕ → Told
+told_at_start files cpus = record {
+  spaces = maps.insert maps.empty 0 maps.empty;
+  current = replicate cpus 0;
+  running = replicate cpus true;
+  locked = false;
+  lengths = map (λ f. length f.bytes) files;
+  pending = None;
+  history = [];
+}
+
+-- a fact of each step of a run, by what was told before it
+abbrev pub EachStep : (Told → ℕ → Act → Reply → Type 0) → Told → List Step → List Reply → Type 0
+EachStep P told [] replies = Unit {0}
+EachStep P told (step ∷ steps) [] = Unit {0}
+EachStep P told (step ∷ steps) (reply ∷ replies) = P told step.p step.act reply × EachStep P (tell told step reply) steps replies
+
+-- ---- coherence
+
+-- a load that answers gives, for each of its bytes, the latest answered store, over the files' bytes and zeros past their ends
+pub record LoadsLatest (files : List File) (told : Told) (p va count : ℕ) (bytes : List ℕ) : Type 0 where
+  pub as_many : length bytes ≡ count
+  pub place : Place
+  pub leads : place_told told p va ≡ Some place
+  pub latest : bytes ≡ take count (drop (va % 4096) (after (memory_of files) told.history place.file place.page))
+
+abbrev pub LoadLaw : List File → Told → ℕ → Act → Reply → Type 0
+LoadLaw files told p (acts.Load va count) (replies.Bytes bytes) = LoadsLatest files told p va count bytes
+LoadLaw files told p act reply = Unit {0}
+
+-- the page of a place begins before the end of its file
+abbrev pub IsInside : Told → Place → Type 0
+IsInside told place = 4096 * place.page < length_told told place.file
+
+-- a store that answers stands at a place whose rights allow it, in a page that begins before the file's end
+pub record StoresAtPlace (told : Told) (p va : ℕ) : Type 0 where
+  pub place : Place
+  pub leads : place_told told p va ≡ Some place
+  pub allowed : may_write place.rights ≡ true
+  pub inside : IsInside told place
+
+abbrev pub StoreLaw : Told → ℕ → Act → Reply → Type 0
+StoreLaw told p (acts.Store va bytes) replies.Stored = StoresAtPlace told p va
+StoreLaw told p act reply = Unit {0}
+
+-- a fault's address leads to a place that allows the access
+pub record LeadsTo (told : Told) (p va : ℕ) (write : Bool) (place : Place) : Type 0 where
+  pub leads : place_told told p va ≡ Some place
+  pub allowed : (not write || may_write place.rights) ≡ true
+
+-- the processor is there, goes on with loads and stores, and the lock is free
+pub record IsFreeToAct (told : Told) (p : ℕ) : Type 0 where
+  pub there : p < length told.running
+  pub running : slice_index_or told.running p false ≡ true
+  pub free : told.locked ≡ false
+
+-- Which of the three address refusals a fault gets: the first leads nowhere, the second isn't allowed, the third is past the file's end. Every answer that comes after these in the order of
+-- refusals comes of none of them; and those that come before have a cause of their own.
+abbrev pub AddressLaw : Told → ℕ → Act → Reply → Type 0
+AddressLaw told p (acts.Fix va write) (replies.Refused refusals.Einval) = (length told.running ≤ p) ⊎ (IsFreeToAct told p × (2 ^ 47 ≤ va))
+AddressLaw told p (acts.Fix va write) (replies.Refused refusals.Stalled) = (p < length told.running) × (slice_index_or told.running p false ≡ false)
+AddressLaw told p (acts.Fix va write) (replies.Refused refusals.Locked) = told.locked ≡ true
+AddressLaw told p (acts.Fix va write) (replies.Refused refusals.SegvMapErr) = (va < 2 ^ 47) × (place_told told p va ≡ None)
+AddressLaw told p (acts.Fix va write) (replies.Refused refusals.SegvAccErr) =
+    (place : Place) × (place_told told p va ≡ Some place) × (write ≡ true) × (may_write place.rights ≡ false)
+AddressLaw told p (acts.Fix va write) (replies.Refused refusals.BusAdrErr) = (place : Place) × LeadsTo told p va write place × (IsInside told place → ⊥)
+AddressLaw told p (acts.Fix va write) reply = (place : Place) × LeadsTo told p va write place × IsInside told place
+AddressLaw told p act reply = Unit {0}
+
+-- the reply of a load or a store that was made
+abbrev pub IsAnswered : Act → Reply → Type 0
+IsAnswered (acts.Load va count) (replies.Bytes bytes) = Unit {0}
+IsAnswered (acts.Store va bytes) replies.Stored = Unit {0}
+IsAnswered act reply = ⊥
+
+-- an access of the page of an address, a store only where writing was asked
+abbrev pub IsAccessOf : ℕ → Bool → Act → Type 0
+IsAccessOf va write (acts.Load at count) = IsAccess at count × (at / 4096 ≡ va / 4096)
+IsAccessOf va write (acts.Store at bytes) = IsAccess at (length bytes) × (at / 4096 ≡ va / 4096) × (write ≡ true)
+IsAccessOf va write act = ⊥
+
+-- what the step after a served fault is answered, if it is the same processor's access of that page
+abbrev pub ServesNext : ℕ → Act → Reply → List Step → List Reply → Type 0
+ServesNext p (acts.Fix va write) replies.Fixed (next ∷ steps) (reply ∷ replies) =
+    next.p ≡ p → IsAccessOf va write next.act → IsAnswered next.act reply
+ServesNext p act reply steps replies = Unit {0}
+
+-- a served fault is served: the access that follows at once answers
+abbrev pub FaultsAreServed : List Step → List Reply → Type 0
+FaultsAreServed [] replies = Unit {0}
+FaultsAreServed (step ∷ steps) [] = Unit {0}
+FaultsAreServed (step ∷ steps) (reply ∷ replies) = ServesNext step.p step.act reply steps replies × FaultsAreServed steps replies
+
+-- ---- durability
+
+-- these bytes recover to the files after a durable prefix of the history: one that is empty or ends with a mark, and has every mark that was acknowledged
+pub record ReadsBack (files : List File) (history : List Event) (disk : List ℕ) : Type 0 where
+  pub prefix : List Event
+  pub durable : IsDurablePrefix prefix history
+  pub recovers : RecoversTo disk (files_after files prefix)

@@ -1,0 +1,133 @@
+-- Why an act is refused: of the reasons that hold, the first in this order is answered (POSIX.1-2024 for the calls on mappings; the order is this project's own).
+use Rattle.std.specs.Prelude.{ℕ, ◌+◌, ◌-◌, ◌*◌, ◌/◌, ◌%◌, ◌^◌, ◌==◌, ◌&&◌, ◌||◌, not, nat_le, nat_lt, Bool, true, false, is_some, List, [], ◌∷◌, length, Option, Some, None, Result, Ok, Err, slice_index_or, if◌then◌else◌}
+use Rattle.std.specs.Option.{option_or}
+use Rattle.std.specs.List.{list_any}
+use Rattle.page_entry.specs.declared.refusal.Refusal.{Refusal}
+use Rattle.page_entry.specs.declared.refusal.Refusal.TheVariants as refusals
+use Rattle.page_entry.specs.declared.numbers.FilePage.{FilePage}
+use Rattle.mappings.specs.declared.place.Place.{Place}
+use Rattle.mappings.specs.declared.place.Rights.{Rights}
+use Rattle.mappings.specs.declared.page_range.PageRange.{PageRange}
+use Rattle.mappings.specs.Judgement.{add_refusal}
+use Rattle.volume_codec.specs.Files.{TableFile}
+use Rattle.volume_codec.specs.Super.{pages_of}
+use Rattle.spaces.specs.Spaces.{Spaces, has_space, space_at}
+use Rattle.spaces.specs.Requests.{is_user_space, judged_range, judged_mapping, judged_protection, maps_each}
+use Rattle.shootdown.specs.declared.lock.Lock.{Lock}
+use Rattle.shootdown.specs.declared.proc_state.ProcState.{ProcState}
+use Rattle.shootdown.specs.declared.proc_state.ProcState.TheVariants.{Active, Interrupted, Stalled, Initiating, Idle}
+use Rattle.shootdown.specs.Shootdown.{ShootdownState, is_there, state_of, current, not_running, not_free, interrupted, is_current}
+use Rattle.fault.specs.Fault.{place_of_fault, fault_refusal}
+use Rattle.journal.specs.WriteOuts.{is_busy}
+use Rattle.machine.specs.State.{State, length_of}
+
+-- this reason, if this holds
+abbrev pub refuse_if : Bool → Refusal → Option Refusal
+refuse_if true why = Some why
+refuse_if false why = None
+
+-- the first of these reasons
+abbrev pub first_of : List (Option Refusal) → Option Refusal
+first_of [] = None
+first_of (reason ∷ reasons) = option_or reason (first_of reasons)
+
+-- the reason why something was judged so, if it was refused
+abbrev pub why_not : {X : Type 0} → Result X Refusal → Option Refusal
+why_not (Ok x) = None
+why_not (Err why) = Some why
+
+abbrev pub switch_refusal : State → ℕ → ℕ → Option Refusal
+switch_refusal s p pcid =
+    first_of (not_free s.hardware.shootdown p ∷ refuse_if (not (has_space s.hardware.spaces pcid)) refusals.Einval ∷ [])
+
+abbrev pub destroy_refusal : State → ℕ → ℕ → Option Refusal
+destroy_refusal s p pcid =
+    first_of (not_free s.hardware.shootdown p ∷ refuse_if (not (is_user_space s.hardware.spaces pcid)) refusals.Einval
+    ∷ refuse_if (is_current s.hardware.shootdown pcid) refusals.Busy ∷ [])
+
+-- of pages of a file that may be mapped as far as their numbers go, or aren't
+abbrev pub mapping_refusal : State → ℕ → ℕ → Rights → Rights → Result (PageRange × ℕ) Refusal → Option Refusal
+mapping_refusal s pcid file prot access (Err why) = Some why
+mapping_refusal s pcid file prot access (Ok pages) =
+    first_of (refuse_if (nat_le (length s.table.files) file) refusals.NoFile
+    ∷ add_refusal (space_at s.hardware.spaces pcid).places pages.0 (record { file = file; page = pages.1; rights = prot; access = access }) ∷ [])
+
+abbrev pub map_refusal : State → ℕ → ℕ → ℕ → ℕ → ℕ → ℕ → Rights → Rights → Option Refusal
+map_refusal s p pcid va len file offset prot access =
+    first_of (not_free s.hardware.shootdown p
+    ∷ mapping_refusal s pcid file prot access (judged_mapping s.hardware.spaces pcid va len offset) ∷ [])
+
+abbrev pub unmap_refusal : State → ℕ → ℕ → ℕ → ℕ → Option Refusal
+unmap_refusal s p pcid va len =
+    first_of (not_free s.hardware.shootdown p ∷ why_not (judged_range s.hardware.spaces pcid va len) ∷ [])
+
+abbrev pub protect_refusal_of : State → ℕ → ℕ → ℕ → ℕ → Rights → Option Refusal
+protect_refusal_of s p pcid va len prot =
+    first_of (not_free s.hardware.shootdown p ∷ why_not (judged_protection s.hardware.spaces pcid va len prot) ∷ [])
+
+-- how many pages the file with this number has
+abbrev pub pages_in_file : List TableFile → ℕ → ℕ
+pages_in_file [] file = 0
+pages_in_file (f ∷ fs) file = if file == 0 then pages_of f.capacity else pages_in_file fs (file - 1)
+
+abbrev pub reclaim_refusal : State → ℕ → FilePage → Option Refusal
+reclaim_refusal s p owner =
+    first_of (not_free s.hardware.shootdown p ∷ refuse_if (nat_le (length s.table.files) owner.file) refusals.NoFile
+    ∷ refuse_if (nat_le (pages_in_file s.table.files owner.file) owner.page) refusals.Einval ∷ [])
+
+-- exactly one of MS_ASYNC (1) and MS_SYNC (4), with MS_INVALIDATE (2) or without; from a page's begin, and not past 2^47
+abbrev pub is_msync : ℕ → ℕ → ℕ → Bool
+is_msync va len flags =
+    (flags == 1 || flags == 3 || flags == 4 || flags == 6) && va % 4096 == 0 && nat_le (va + len) (2 ^ 47)
+
+abbrev pub msync_refusal : State → ℕ → ℕ → ℕ → ℕ → Option Refusal
+msync_refusal s p va len flags =
+    first_of (not_free s.hardware.shootdown p ∷ refuse_if (not (is_msync va len flags)) refusals.Einval
+    ∷ refuse_if (not (maps_each s.hardware.spaces (current s.hardware.shootdown p) va len)) refusals.Enomem
+    ∷ refuse_if s.write_outs.broken refusals.Broken
+    ∷ refuse_if (is_busy s.write_outs || nat_le (2 ^ 32 - 1) s.marks) refusals.Busy ∷ [])
+
+-- an act of any processor that there is
+abbrev pub not_there : State → ℕ → Option Refusal
+not_there s p = refuse_if (not (is_there s.hardware.shootdown p)) refusals.Einval
+
+-- a processor that waits for the lock to be free
+abbrev pub waits_in : ProcState → ProcState → Bool
+waits_in Stalled Stalled = true
+waits_in Idle Idle = true
+waits_in Interrupted Interrupted = true
+waits_in state other = false
+
+-- a stalled processor that would resume, or an idle one that would wake, while the lock is held
+abbrev pub wait_refusal : State → ℕ → ProcState → Option Refusal
+wait_refusal s p state =
+    first_of (not_there s p
+    ∷ refuse_if (waits_in state (state_of s.hardware.shootdown p) && is_some s.hardware.shootdown.lock) refusals.Locked ∷ [])
+
+abbrev pub idle_refusal : State → ℕ → Option Refusal
+idle_refusal s p =
+    first_of (not_running s.hardware.shootdown p ∷ refuse_if (waits_in Interrupted (state_of s.hardware.shootdown p)) refusals.Locked ∷ [])
+
+-- of the change that was begun: others wait for the lock, and its holder for the processors that are still interrupted
+abbrev pub lock_refusal : ℕ → ℕ → Option Lock → Option Refusal
+lock_refusal p waiting None = None
+lock_refusal p waiting (Some lock) =
+    if lock.holder == p then (if waiting == 0 then None else Some (refusals.NotYet waiting)) else Some refusals.Locked
+
+abbrev pub change_refusal : State → ℕ → Option Refusal
+change_refusal s p =
+    first_of (not_there s p ∷ lock_refusal p (interrupted s.hardware.shootdown) s.hardware.shootdown.lock ∷ [])
+
+-- a fault that leads to a place, or doesn't
+abbrev pub served_refusal : State → Bool → Result Place Refusal → Option Refusal
+served_refusal s write (Err why) = Some why
+served_refusal s write (Ok place) =
+    fault_refusal s.hardware.memory s.checkpoint s.write_outs.broken place (length_of s place.file) write
+
+abbrev pub fix_refusal : State → ℕ → ℕ → Bool → Option Refusal
+fix_refusal s p va write =
+    first_of (not_free s.hardware.shootdown p
+    ∷ served_refusal s write (place_of_fault s.hardware.spaces (current s.hardware.shootdown p) va write) ∷ [])
+
+abbrev pub flush_refusal : State → ℕ → Option Refusal
+flush_refusal s p = first_of (not_running s.hardware.shootdown p ∷ refuse_if s.write_outs.broken refusals.Broken ∷ [])

@@ -1,0 +1,117 @@
+-- What holds of every machine's state: the facts of its layers, and those that tie them to each other.
+use Rattle.std.specs.Prelude.{ℕ, ◌≡◌, ◌≢◌, ◌+◌, ◌*◌, ◌^◌, ◌<◌, ◌≤◌, Bool, true, false, List, [], ◌∷◌, length, map, drop, Option, Some, None, IsSome, Contains, slice_index_or, if◌then◌else◌, Ok}
+use Rattle.std.specs.List.{flat_map, All}
+use Rattle.page_entry.specs.declared.numbers.FilePage.{FilePage}
+use Rattle.mappings.specs.declared.place.Place.{Place}
+use Rattle.mappings.specs.declared.place.Rights.{Rights}
+use Rattle.mappings.specs.declared.page_range.PageRange.{PageRange}
+use Rattle.mappings.specs.Judgement.{is_user_range, protect_refusal}
+use Rattle.frames.specs.Frames.{FramesState, Frame, frame_at, bytes_of}
+use Rattle.volume_codec.specs.Layout.{max_frames, journals_of}
+use Rattle.volume_codec.specs.Files.{TableFile}
+use Rattle.volume_codec.specs.Super.{SuperValue, Fits, geometry_of}
+use Rattle.volume_codec.specs.Descriptor.{AreHomes}
+use Rattle.journal.specs.WriteOut.{WriteOut, has_committed}
+use Rattle.journal.specs.WriteOuts.{WriteOutsValue, is_busy}
+use Rattle.spaces.specs.declared.change.Change.{Change}
+use Rattle.spaces.specs.declared.change.Change.TheVariants.{Unmap, Protect, Reclaim, Checkpoint}
+use Rattle.spaces.specs.Spaces.{Spaces, AreSpaces, has_space, space_at, place_at}
+use Rattle.spaces.specs.Requests.{is_user_space}
+use Rattle.shootdown.specs.declared.lock.Lock.{Lock}
+use Rattle.shootdown.specs.Shootdown.{ShootdownState, IsShootdown, current}
+use Rattle.shootdown.specs.Coherence.{Coheres}
+use Rattle.checkpoint.specs.Checkpoint.{CheckpointState, Holds, is_noted, is_frozen, AreRising}
+use Rattle.checkpoint.specs.Backing.{AreBacked}
+use Rattle.fault.specs.Fault.{is_in_memory}
+use Rattle.machine.specs.State.{State, length_of, home_of}
+use Rattle.machine.specs.Refusals.{pages_in_file}
+
+-- a page of a file that begins before the file's end
+pub record IsInFile (s : State) (owner : FilePage) : Type 0 where
+  pub there : owner.file < length s.table.files
+  pub inside : 4096 * owner.page < length_of s owner.file
+
+-- the capacity of the file with this number
+abbrev pub capacity_of : State → ℕ → ℕ
+capacity_of s file = slice_index_or (map (λ f. f.capacity) s.table.files) file 0
+
+-- frames and copies in use have whole pages, and each page of a file is in one frame and one copy at most
+pub record IsMemory (memory : FramesState) : Type 0 where
+  pub frames_whole : (frame : ℕ) → IsSome (frame_at memory frame) → length (bytes_of (frame_at memory frame)) ≡ 4096
+  pub copies_whole : (copy : ℕ) (kept : Frame) → slice_index_or memory.copies copy None ≡ Some kept → length kept.bytes ≡ 4096
+  pub one_frame : (a b : ℕ) (owner : FilePage) → Holds memory a owner → Holds memory b owner → a ≡ b
+  pub one_copy : (a b : ℕ) (x y : Frame) → slice_index_or memory.copies a None ≡ Some x → slice_index_or memory.copies b None ≡ Some y → x.page ≡ y.page → a ≡ b
+
+-- each of these batches but the newest is committed
+abbrev pub AreOlderCommitted : List WriteOut → Type 0
+AreOlderCommitted [] = Unit {0}
+AreOlderCommitted (w ∷ []) = Unit {0}
+AreOlderCommitted (w ∷ next ∷ newer) = (has_committed w ≡ true) × AreOlderCommitted (next ∷ newer)
+
+-- the home blocks whose records aren't written yet
+abbrev pub waiting_homes : WriteOutsValue → List ℕ
+waiting_homes outs = flat_map (λ w. drop w.steps w.batch.homes) outs.batches
+
+-- the home blocks of the frozen pages are those that wait for their records; a broken machine freezes none
+abbrev pub frozen_homes : State → List ℕ
+frozen_homes s = if s.write_outs.broken then [] else waiting_homes s.write_outs
+
+-- what a change that is under way may rely on
+abbrev pub IsPrepared : State → Change → Type 0
+IsPrepared s (Unmap pcid range) = (is_user_space s.hardware.spaces pcid ≡ true) × (is_user_range range ≡ true)
+IsPrepared s (Protect pcid range rights) =
+    (is_user_space s.hardware.spaces pcid ≡ true) × (is_user_range range ≡ true)
+    × (protect_refusal (space_at s.hardware.spaces pcid).places range rights ≡ None)
+IsPrepared s (Reclaim owner) =
+    (owner.file < length s.table.files) × (owner.page < pages_in_file s.table.files owner.file) × (is_in_memory s.hardware.memory owner ≡ true)
+IsPrepared s Checkpoint = (s.marks + 1 < 2 ^ 32) × (s.write_outs.broken ≡ false → is_busy s.write_outs ≡ false)
+
+-- ---- facts that depend on the processors and the page tables
+pub record AreSpacesSound (s : State) : Type 0 where
+  pub spaces : AreSpaces s.hardware.spaces
+  pub shootdown : IsShootdown s.hardware.shootdown
+  pub coheres : Coheres s.hardware.spaces s.hardware.shootdown
+  -- each processor is in a space that is there
+  pub current : (p : ℕ) → p < length s.hardware.shootdown.processors → has_space s.hardware.spaces (current s.hardware.shootdown p) ≡ true
+  -- only files of the table are mapped
+  pub in_table : (pcid page : ℕ) (place : Place) → place_at s.hardware.spaces pcid page ≡ Some place → place.file < length s.table.files
+  -- a change that is under way was judged
+  pub prepared : (lock : Lock) → s.hardware.shootdown.lock ≡ Some lock → IsPrepared s lock.change
+
+-- ---- facts that depend on the frames
+pub record IsMemorySound (s : State) : Type 0 where
+  pub memory : IsMemory s.hardware.memory
+  pub few_frames : length s.hardware.memory.frames ≤ max_frames s.table.layout s.table.slots
+  -- each page in memory begins before its file's end
+  pub in_files : (frame : ℕ) (owner : FilePage) → Holds s.hardware.memory frame owner → IsInFile s owner
+  -- entries of the page tables map frames that hold their pages, and let no store reach a held one
+  pub backed : AreBacked s.hardware.memory s.checkpoint s.hardware.spaces
+  -- notes are of frames in use
+  pub notes : length s.checkpoint.notes ≡ length s.hardware.memory.frames
+  pub noted : (frame : ℕ) → is_noted s.checkpoint frame ≡ true → IsSome (frame_at s.hardware.memory frame)
+  -- frozen pages are in memory, and only they are copied
+  pub frozen : All (λ owner. is_in_memory s.hardware.memory owner ≡ true) s.checkpoint.frozen
+  pub rising : AreRising s.checkpoint.frozen
+  pub copied : (copy : ℕ) (kept : Frame) → slice_index_or s.hardware.memory.copies copy None ≡ Some kept → is_frozen s.checkpoint kept.page ≡ true
+
+-- ---- facts that depend on the write-outs
+pub record AreWriteOutsSound (s : State) : Type 0 where
+  pub geometry : s.write_outs.geometry ≡ geometry_of s.table
+  -- a batch in each journal at most
+  pub few_batches : length s.write_outs.batches ≤ journals_of s.table.layout
+  pub older : AreOlderCommitted s.write_outs.batches
+  pub homes : All (λ w. AreHomes (geometry_of s.table) w.batch.homes) s.write_outs.batches
+  -- their pages are in memory
+  pub in_memory : All (λ w. All (λ home. (owner : FilePage) × (home ≡ home_of s.table owner) × (is_in_memory s.hardware.memory owner ≡ true)) w.batch.homes) s.write_outs.batches
+  pub marked : All (λ w. (0 < w.batch.mark) × (w.batch.mark ≤ s.marks)) s.write_outs.batches
+  pub few_marks : s.marks < 2 ^ 32
+  pub frozen : map (home_of s.table) s.checkpoint.frozen ≡ frozen_homes s
+
+pub record IsSound (s : State) : Type 0 where
+  pub fits : Fits s.table
+  -- a length for each file, up to its capacity
+  pub lengths : length s.lengths ≡ length s.table.files
+  pub within : (file : ℕ) → length_of s file ≤ capacity_of s file
+  pub spaces : AreSpacesSound s
+  pub memory : IsMemorySound s
+  pub write_outs : AreWriteOutsSound s

@@ -1,0 +1,48 @@
+-- What contracts see of a machine: the states of its layers.
+use Rattle.std.specs.Prelude.{ℕ, ◌≡◌, ◌-◌, ◌*◌, ◌+◌, ◌<◌, ◌==◌, Bool, true, false, List, [], ◌∷◌, length, take, Option, Some, None, slice_index_or, if◌then◌else◌}
+use Rattle.page_entry.specs.declared.numbers.FilePage.{FilePage}
+use Rattle.volume_codec.specs.Super.{SuperValue, first_home_of}
+use Rattle.volume_codec.specs.Text.{padded}
+use Rattle.volume_codec.specs.Layout.{block_at}
+use Rattle.cpu.specs.Access.{Hardware}
+use Rattle.checkpoint.specs.Checkpoint.{CheckpointState}
+use Rattle.journal.specs.WriteOuts.{WriteOutsValue}
+
+-- a machine without its device
+pub record State : Type 0 where
+  -- the volume's table of files, and the length of each in bytes
+  pub table : SuperValue
+  pub lengths : List ℕ
+  -- the processors with their TLBs and the lock, the address spaces, and the frames
+  pub hardware : Hardware
+  -- which pages are dirty by notes, and which are frozen
+  pub checkpoint : CheckpointState
+  -- the batches that aren't done
+  pub write_outs : WriteOutsValue
+  -- how many marks were made since boot
+  pub marks : ℕ
+
+-- a machine and its device
+pub record Whole (D : Type 0) : Type 0 where
+  pub state : State
+  pub device : D
+
+-- the length of a file in bytes
+abbrev pub length_of : State → ℕ → ℕ
+length_of s file = slice_index_or s.lengths file 0
+
+-- the home block of a page of a file
+abbrev pub home_of : SuperValue → FilePage → ℕ
+home_of table owner = first_home_of table owner.file + owner.page
+
+-- what has a home block: a page of a file
+pub data Source : Type 0 where
+  PageOf : FilePage → Source
+
+-- what the record of a page has, and what a frame has when the page is read in: its bytes up to the file's end, then zeros
+abbrev pub cut_at_end : State → FilePage → List ℕ → List ℕ
+cut_at_end s owner bytes = padded 4096 (take (length_of s owner.file - 4096 * owner.page) bytes)
+
+-- a page as it is read in from its home block
+abbrev pub page_from : State → List ℕ → FilePage → List ℕ
+page_from s disk owner = cut_at_end s owner (block_at disk (home_of s.table owner))

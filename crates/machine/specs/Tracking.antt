@@ -1,0 +1,131 @@
+-- How a machine's state and its device go with what its run tells.
+use Rattle.std.specs.Prelude.{ℕ, ◌≡◌, ◌≢◌, ◌+◌, ◌-◌, ◌*◌, ◌<◌, ◌≤◌, ◌↔◌, ◌⊎◌, Bool, true, false, List, [], ◌++◌, length, map, take, Option, Some, None, is_some, Contains, slice_index_or, if◌then◌else◌}
+use Rattle.std.specs.List.{All}
+use Rattle.std.specs.FinMap as maps
+use Rattle.page_entry.specs.declared.numbers.FilePage.{FilePage}
+use Rattle.frames.specs.Frames.{frame_at, bytes_of}
+use Rattle.volume_codec.specs.Files.{File}
+use Rattle.volume_codec.specs.Recovery.{lengths_in}
+use Rattle.journal.specs.WriteOuts.{has_uncommitted}
+use Rattle.journal.specs.Crash.{Stands}
+use Rattle.spaces.specs.declared.change.Change.{Change}
+use Rattle.spaces.specs.declared.change.Change.TheVariants.{Unmap, Protect, Reclaim, Checkpoint}
+use Rattle.spaces.specs.Spaces.{has_space, space_at}
+use Rattle.shootdown.specs.declared.lock.Lock.{Lock}
+use Rattle.shootdown.specs.Processors.{is_running}
+use Rattle.shootdown.specs.Shootdown.{processor_at, state_of, current}
+use Rattle.checkpoint.specs.Checkpoint.{Holds, IsDirty}
+use Rattle.fault.specs.Fault.{is_in_memory}
+use Rattle.machine.specs.History.{Event, Memory, memory_of, after, is_touched, Mark, Acknowledge, IsMarked}
+use Rattle.machine.specs.State.{State, length_of, home_of, cut_at_end}
+use Rattle.machine.specs.Rules.{bytes_at_mark}
+use Rattle.machine.specs.Sound.{IsInFile, IsSound}
+use Rattle.machine.specs.Told.{Told, Pending, Unmapping, Protecting, places_in}
+
+-- the unmap or protect that a lock is held for
+abbrev pub pending_in : Option Change → Option Pending
+pending_in None = None
+pending_in (Some (Unmap pcid range)) = Some (Unmapping pcid range)
+pending_in (Some (Protect pcid range rights)) = Some (Protecting pcid range rights)
+pending_in (Some (Reclaim owner)) = None
+pending_in (Some Checkpoint) = None
+
+abbrev pub change_in : Option Lock → Option Change
+change_in None = None
+change_in (Some lock) = Some lock.change
+
+-- the machine's spaces and processors are as told
+pub record IsArranged (told : Told) (s : State) : Type 0 where
+  pub same_spaces : (pcid : ℕ) → maps.contains_key told.spaces pcid ≡ has_space s.hardware.spaces pcid
+  pub same_places : (pcid : ℕ) → places_in told pcid ≡ (space_at s.hardware.spaces pcid).places
+  pub processors : length told.current ≡ length s.hardware.shootdown.processors
+  pub same_current : (p : ℕ) → p < length told.current → slice_index_or told.current p 0 ≡ current s.hardware.shootdown p
+  pub as_many : length told.running ≡ length s.hardware.shootdown.processors
+  pub same_running : (p : ℕ) → p < length told.running → slice_index_or told.running p false ≡ is_running (state_of s.hardware.shootdown p)
+  pub same_locked : told.locked ≡ is_some s.hardware.shootdown.lock
+  pub same_pending : told.pending ≡ pending_in (change_in s.hardware.shootdown.lock)
+  pub same_lengths : told.lengths ≡ s.lengths
+
+-- the machine's table has these files
+pub record HasFiles (files : List File) (s : State) : Type 0 where
+  pub named : map (λ f. record { name = f.name; capacity = f.capacity }) files ≡ s.table.files
+  pub lengths : map (λ f. length f.bytes) files ≡ s.lengths
+  -- in these layouts a file's length is told by the table alone
+  pub fixed : (contents : ℕ → List ℕ) → lengths_in s.table contents ≡ s.lengths
+
+-- the memory after the history has whole pages, and frames have it
+pub record IsLatest (files : List File) (told : Told) (s : State) : Type 0 where
+  pub whole : (file page : ℕ) → length (after (memory_of files) told.history file page) ≡ 4096
+  pub latest : (frame : ℕ) (owner : FilePage) → Holds s.hardware.memory frame owner
+      → bytes_of (frame_at s.hardware.memory frame) ≡ after (memory_of files) told.history owner.file owner.page
+
+-- the dirty pages are those that got a store since the last mark
+abbrev pub AreTouched : Told → State → Type 0
+AreTouched told s = (owner : FilePage) → (is_touched told.history owner.file owner.page ≡ true)
+    ↔ ((frame : ℕ) × Holds s.hardware.memory frame owner × IsDirty s.hardware.spaces s.checkpoint frame)
+
+-- a page that isn't in memory has zeros past its file's end
+abbrev pub ArePlain : List File → Told → State → Type 0
+ArePlain files told s = (owner : FilePage) → IsInFile s owner → is_in_memory s.hardware.memory owner ≡ false
+    → after (memory_of files) told.history owner.file owner.page ≡ cut_at_end s owner (after (memory_of files) told.history owner.file owner.page)
+
+-- ---- what the device recovers to
+
+-- the bytes of a page up to its file's end
+abbrev pub within_file : State → FilePage → List ℕ → List ℕ
+within_file s owner bytes = take (length_of s owner.file - 4096 * owner.page) bytes
+
+-- the contents have the parts of the files in this memory
+abbrev pub HasParts : State → (ℕ → List ℕ) → Memory → Type 0
+HasParts s contents memory = (owner : FilePage) → IsInFile s owner
+    → within_file s owner (contents (home_of s.table owner)) ≡ within_file s owner (memory owner.file owner.page)
+
+-- the contents are those after a marked prefix of the history
+pub record AreContentsOf (files : List File) (history : List Event) (s : State) (contents : ℕ → List ℕ) (prefix : List Event) : Type 0 where
+  pub rest : List Event
+  pub begins : prefix ++ rest ≡ history
+  pub marked : IsMarked prefix
+  pub whole : (file page : ℕ) → length (after (memory_of files) prefix file page) ≡ 4096
+  pub parts : HasParts s contents (after (memory_of files) prefix)
+
+-- every mark that the history acknowledges is in the prefix
+abbrev pub HasAcknowledged : List Event → List Event → Type 0
+HasAcknowledged prefix history = (number : ℕ) → Contains history (Acknowledge number) → Contains prefix (Mark number)
+
+-- A mark was made of a broken machine, so that its pages weren't written; no later mark comes.
+pub record IsLost (s : State) : Type 0 where
+  pub broken : s.write_outs.broken ≡ true
+  pub no_mark : change_in s.hardware.shootdown.lock ≢ Some Checkpoint
+
+-- Contents before the batch that isn't committed yet and with it, each those after a marked prefix of the history that has every acknowledged mark. Where each batch is committed, the second
+-- alone count.
+pub record IsWritten (files : List File) (told : Told) (s : State) (old new : ℕ → List ℕ) : Type 0 where
+  pub before : List Event
+  pub old_are : AreContentsOf files told.history s old before
+  pub acknowledged : HasAcknowledged before told.history
+  pub marked : List Event
+  pub new_are : AreContentsOf files told.history s new marked
+  pub grown : HasAcknowledged marked told.history
+  -- what the uncommitted batch will acknowledge is in the second prefix
+  pub marks : All (λ w. Contains marked (Mark w.batch.mark)) s.write_outs.batches
+  -- a machine that broke while a mark was under way has no batch that isn't committed
+  pub ready : s.write_outs.broken ≡ true → change_in s.hardware.shootdown.lock ≡ Some Checkpoint → has_uncommitted s.write_outs.batches ≡ false
+  -- a page that got no store since the last mark has its bytes there, unless a mark was lost
+  pub clean : IsLost s ⊎ ((owner : FilePage) → IsInFile s owner → is_touched told.history owner.file owner.page ≡ false
+      → within_file s owner (new (home_of s.table owner)) ≡ within_file s owner (after (memory_of files) told.history owner.file owner.page))
+  -- the records of frozen pages are what was gathered
+  pub frozen : All (λ owner. new (home_of s.table owner) ≡ cut_at_end s owner (bytes_at_mark s.hardware.memory owner)) s.checkpoint.frozen
+
+-- a machine over a device that reads `seen`, and of which a crash may leave these lists, goes with what was told
+pub record IsTracked (files : List File) (told : Told) (s : State) (seen : List ℕ) (may_leave : List ℕ → Type 0) : Type 0 where
+  pub sound : IsSound s
+  pub files_are : HasFiles files s
+  pub arranged : IsArranged told s
+  pub latest : IsLatest files told s
+  pub touched : AreTouched told s
+  pub plain : ArePlain files told s
+  -- what the device recovers to
+  pub old : ℕ → List ℕ
+  pub new : ℕ → List ℕ
+  pub stands : Stands s.table s.write_outs old new seen may_leave
+  pub written : IsWritten files told s old new

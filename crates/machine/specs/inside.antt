@@ -1,0 +1,5 @@
+pub mod Layers
+pub mod Flushing
+pub mod Acting
+pub mod Codes
+pub mod Booting

@@ -1,0 +1,27 @@
+-- The memory that a machine takes when it is made.
+use Rattle.std.specs.Prelude.{ℕ, ◌≡◌, ◌<◌, ◌≤◌, None}
+use Rattle.volume_codec.specs.Layout.{GeometryValue}
+use Rattle.frames.specs.Frames.{all_free}
+use Rattle.spaces.specs.Spaces.{first_spaces}
+use Rattle.shootdown.specs.Shootdown.{fresh_shootdown}
+use Rattle.checkpoint.specs.Checkpoint.{fresh_checkpoint}
+use Rattle.journal.specs.WriteOuts.{none_of}
+use Rattle.machine.specs.declared.act.Shape.{Shape}
+use Rattle.machine.specs.declared.booting.Room.{Room}
+
+-- the numbers of a shape that a machine can have
+pub record IsFit (shape : Shape) : Type 0 where
+  pub some_processors : 0 < shape.cpus
+  pub few_processors : shape.cpus ≤ 16
+  pub some_entries : 0 < shape.tlb
+  pub few_entries : shape.tlb ≤ 64
+  pub few_frames : shape.frames ≤ 1020
+  pub few_copies : shape.copies ≤ 64
+
+-- room of a machine that was just made
+pub record IsRoom {Z : Type 0} (g : GeometryValue) (shape : Shape) (room : Room Z) : Type 0 where
+  pub shootdown : room.shootdown ≡ fresh_shootdown shape.cpus shape.tlb
+  pub spaces : room.spaces ≡ record { map = first_spaces; prepared = None }
+  pub frames : room.frames ≡ all_free shape.frames shape.copies
+  pub checkpoint : room.checkpoint ≡ fresh_checkpoint shape.frames
+  pub write_outs : room.write_outs ≡ none_of g

@@ -1,0 +1,221 @@
+// What a processor does in one step, and what it is answered.
+use crate::FewBytes;
+use mappings::Rights;
+use page_entry::{FileNumber, PageIndex, Pcid, ProcessorNumber, Refusal};
+use std::fmt;
+
+/// The size of a machine.
+#[derive(Clone, Copy, Debug, PartialEq, Eq)]
+pub struct Shape {
+    /// Processors, 1 to 16.
+    pub cpus: u64,
+    /// Entries of each processor's TLB, 1 to 64.
+    pub tlb: u64,
+    /// Frames for pages of files, 1 to the greatest number that the volume's layout and slots allow.
+    pub frames: u64,
+    /// Copy frames, 0 to 64, for pages that are stored to before their records are written.
+    pub copies: u64,
+}
+
+/// One act of one processor.
+#[derive(Clone, Copy, Debug, PartialEq, Eq)]
+pub enum Act {
+    /// Reads `count` bytes, 1 to 8 inside one page below 2^47.
+    Load {
+        va: u64,
+        count: u8,
+    },
+    /// Writes bytes, 1 to 8 inside one page below 2^47.
+    Store {
+        va: u64,
+        bytes: FewBytes,
+    },
+    /// The TLB is filled with a page of the current space, which hardware may do at any time.
+    Fill {
+        page: u64,
+    },
+    /// The TLB drops the entry in a slot, which hardware may do at any time.
+    Evict {
+        slot: u8,
+    },
+    /// Makes a space the current one; `keep` keeps the TLB's entries of its PCID.
+    Switch {
+        space: Pcid,
+        keep: bool,
+    },
+    /// Goes to sleep: no shootdown has to wait for it.
+    Idle,
+    /// Ends its sleep, once no change is under way.
+    Wake,
+    /// Serves a page fault at an address of the current space, for a write or a read.
+    Fix {
+        va: u64,
+        write: bool,
+    },
+    /// Makes a space.
+    Create,
+    /// Takes a space away.
+    Destroy {
+        space: Pcid,
+    },
+    /// Maps `len` bytes from `va` on to a file from `offset` on (POSIX.1-2024, `mmap` with `MAP_SHARED`).
+    Map {
+        space: Pcid,
+        va: u64,
+        len: u64,
+        file: FileNumber,
+        offset: u64,
+        prot: Rights,
+        access: Rights,
+    },
+    /// Begins to unmap `len` bytes from `va` on (POSIX.1-2024, `munmap`).
+    Unmap {
+        space: Pcid,
+        va: u64,
+        len: u64,
+    },
+    /// Begins to give `len` bytes from `va` on these rights (POSIX.1-2024, `mprotect`).
+    Protect {
+        space: Pcid,
+        va: u64,
+        len: u64,
+        prot: Rights,
+    },
+    /// Begins to take a page of a file out of memory.
+    Reclaim {
+        file: FileNumber,
+        page: PageIndex,
+    },
+    /// Begins a commit of all stores (POSIX.1-2024, `msync`). `flags`: 1 `MS_ASYNC`, 2 `MS_INVALIDATE`, 4 `MS_SYNC`.
+    Msync {
+        va: u64,
+        len: u64,
+        flags: u8,
+    },
+    /// Stalls, if the processor was interrupted.
+    Ack,
+    /// Makes the change that the processor began.
+    Change,
+    /// Goes on after a stall, once no change is under way.
+    Resume,
+    /// Does the next step of the write-outs.
+    Flush,
+}
+
+/// An act, and the processor that does it.
+#[derive(Clone, Copy, Debug, PartialEq, Eq)]
+pub struct Step {
+    pub p: ProcessorNumber,
+    pub act: Act,
+}
+
+/// What a step is answered.
+#[derive(Clone, Copy, Debug, PartialEq, Eq)]
+pub enum Reply {
+    /// The bytes that a load read.
+    Bytes(FewBytes),
+    /// A store was made.
+    Stored,
+    /// The page was cached.
+    Filled,
+    /// The entry was dropped.
+    Evicted,
+    /// The space is current.
+    Switched,
+    /// The processor sleeps.
+    Idled,
+    /// The processor sleeps no longer.
+    Woken,
+    /// The fault was served.
+    Fixed,
+    /// A space was made, with this number.
+    Space(Pcid),
+    /// The space is gone.
+    Destroyed,
+    /// The range was mapped.
+    Mapped,
+    /// The change was begun, and takes place at `Change`.
+    Begun,
+    /// Nothing was mapped in the range, so there is nothing to unmap.
+    Fine,
+    /// The range isn't mapped any more.
+    Unmapped,
+    /// The range has the rights that were asked for.
+    Protected,
+    /// The page isn't in memory any more.
+    Reclaimed,
+    /// The page couldn't leave memory.
+    Kept,
+    /// All stores so far belong to the mark of this number, counted from 1 since boot.
+    Marked(u32),
+    /// The processor stalls until the change is made.
+    Acked,
+    /// The processor goes on.
+    Resumed,
+    /// A step of a write-out was made, and more follow.
+    Going,
+    /// The mark of this number is durable.
+    Committed(u32),
+    /// The write-out of the mark of this number is over.
+    Done(u32),
+    /// There was nothing to do.
+    Nothing,
+    /// The step was refused.
+    Refused(Refusal),
+}
+
+impl fmt::Display for Reply {
+    ghost use Rattle.std.specs.Prelude.{Some};
+    ghost use Rattle.machine.specs.Words.{reply_text};
+
+    ghost output = { λ reply. Some (reply_text reply) };
+
+    /// The reply's word in lower case, and after it its bytes or number in decimal, each after one space.
+    fn fmt<W: fmt::Write>(&self, f: &mut fmt::Formatter<W>) -> fmt::Result {
+        match self {
+            Reply::Bytes(bytes) => write!(f, "bytes{}", Numbers(bytes.as_slice())),
+            Reply::Stored => write!(f, "stored"),
+            Reply::Filled => write!(f, "filled"),
+            Reply::Evicted => write!(f, "evicted"),
+            Reply::Switched => write!(f, "switched"),
+            Reply::Idled => write!(f, "idled"),
+            Reply::Woken => write!(f, "woken"),
+            Reply::Fixed => write!(f, "fixed"),
+            Reply::Space(space) => write!(f, "space {space}"),
+            Reply::Destroyed => write!(f, "destroyed"),
+            Reply::Mapped => write!(f, "mapped"),
+            Reply::Begun => write!(f, "begun"),
+            Reply::Fine => write!(f, "fine"),
+            Reply::Unmapped => write!(f, "unmapped"),
+            Reply::Protected => write!(f, "protected"),
+            Reply::Reclaimed => write!(f, "reclaimed"),
+            Reply::Kept => write!(f, "kept"),
+            Reply::Marked(mark) => write!(f, "marked {mark}"),
+            Reply::Acked => write!(f, "acked"),
+            Reply::Resumed => write!(f, "resumed"),
+            Reply::Going => write!(f, "going"),
+            Reply::Committed(mark) => write!(f, "committed {mark}"),
+            Reply::Done(mark) => write!(f, "done {mark}"),
+            Reply::Nothing => write!(f, "nothing"),
+            Reply::Refused(refusal) => write!(f, "{refusal}"),
+        }
+    }
+}
+
+// Numbers in decimal, each after one space.
+#[derive(Clone, Copy)]
+struct Numbers<'a>(&'a [u8]);
+
+impl fmt::Display for Numbers<'_> {
+    ghost use Rattle.std.specs.Prelude.{Some};
+    ghost use Rattle.machine.specs.Words.{numbers_text};
+
+    ghost output = { λ numbers. Some (numbers_text numbers.0.now) };
+
+    fn fmt<W: fmt::Write>(&self, f: &mut fmt::Formatter<W>) -> fmt::Result {
+        for number in self.0 {
+            write!(f, " {number}")?;
+        }
+        Ok(())
+    }
+}

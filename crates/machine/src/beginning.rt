@@ -1,0 +1,130 @@
+// Changes that are begun: they take place once nobody uses what they affect.
+ghost use Rattle.std.specs.Prelude.{◌≡◌, ◌-◌, ◌^◌, ◌||◌, nat_le};
+ghost use Rattle.journal.specs.WriteOuts.{is_busy};
+ghost use Rattle.machine.specs.Refusals.{is_msync};
+ghost use Rattle.machine.specs.Rules.{Unmaps, Protects, Reclaims, Msyncs};
+ghost use Rattle.machine.specs.inside.Layers.{state_in, reply_to, IsQuiet};
+
+use crate::Reply;
+use crate::layers::Layers;
+use crate::paging::pages_in_file;
+use device::Device;
+use mappings::Rights;
+use page_entry::{FilePage, PAGE, Pcid, ProcessorNumber, Refusal};
+use spaces::Change;
+use std::alloc::Allocator;
+
+// The end of the user addresses, 2^47 (Intel SDM volume 3, canonical addresses).
+const END: u64 = 1 << 47;
+
+// Whether a commit may be asked for so: exactly one of `MS_ASYNC` (1) and `MS_SYNC` (4), with `MS_INVALIDATE` (2) or
+// without, from a page's begin, and not past 2^47 (POSIX.1-2024, `msync`).
+fn is_msync(va: u64, len: u64, flags: u8) -> bool
+    ensures { result ≡ is_msync va len flags }
+{
+    matches!(flags, 1 | 3 | 4 | 6) && va % PAGE == 0 && va <= END && len <= END - va
+}
+
+impl<D: Device, A: Allocator + Copy> Layers<D, A> {
+    // An unmap is begun, if a page of the range is mapped.
+    pub(crate) fn unmap(
+        &mut self,
+        p: ProcessorNumber,
+        space: Pcid,
+        va: u64,
+        len: u64,
+    ) -> Result<Reply, Refusal>
+        ensures rules { Unmaps (state_in self.old) p space va len (reply_to result) (state_in self.new) }
+        ensures quiet { IsQuiet self.old self.new }
+    {
+        self.shootdown.admit_free(p)?;
+        let range = self.spaces.judge_range(space, va, len)?;
+        if !self.spaces.maps_some(space, range) {
+            return Ok(Reply::Fine);
+        }
+        self.spaces.prepare(space, range)?;
+        let change = Change::Unmap { pcid: space, range };
+        self.shootdown.begin(p, &self.spaces, change);
+        Ok(Reply::Begun)
+    }
+
+    // A change of rights is begun.
+    pub(crate) fn protect(
+        &mut self,
+        p: ProcessorNumber,
+        space: Pcid,
+        va: u64,
+        len: u64,
+        prot: Rights,
+    ) -> Result<Reply, Refusal>
+        ensures rules { Protects (state_in self.old) p space va len prot (reply_to result) (state_in self.new) }
+        ensures quiet { IsQuiet self.old self.new }
+    {
+        self.shootdown.admit_free(p)?;
+        let range = self.spaces.judge_protection(space, va, len, prot)?;
+        self.spaces.prepare(space, range)?;
+        let change = Change::Protect {
+            pcid: space,
+            range,
+            rights: prot,
+        };
+        self.shootdown.begin(p, &self.spaces, change);
+        Ok(Reply::Begun)
+    }
+
+    // It is begun to take a page of a file out of memory, if it is there.
+    pub(crate) fn reclaim(&mut self, p: ProcessorNumber, page: FilePage) -> Result<Reply, Refusal>
+        ensures rules { Reclaims (state_in self.old) p page (reply_to result) (state_in self.new) }
+        ensures quiet { IsQuiet self.old self.new }
+    {
+        self.shootdown.admit_free(p)?;
+        if page.file as usize >= self.table.file_count() {
+            return Err(Refusal::NoFile);
+        }
+        if page.page >= pages_in_file(&self.table, page.file) {
+            return Err(Refusal::Einval);
+        }
+        if self.frames.find(page).is_none() {
+            return Ok(Reply::Nothing);
+        }
+        self.shootdown
+            .begin(p, &self.spaces, Change::Reclaim { page });
+        Ok(Reply::Begun)
+    }
+
+    // Whether no further commit may begin: no journal is free for it, or the marks' numbers are used up.
+    fn is_busy(&self) -> bool
+        ensures { result ≡ (is_busy self.now.write_outs || nat_le (2 ^ 32 - 1) self.now.marks) }
+    {
+        self.write_outs.is_busy() || self.marks == u32::MAX
+    }
+
+    // A commit of all stores is begun.
+    pub(crate) fn msync(
+        &mut self,
+        p: ProcessorNumber,
+        va: u64,
+        len: u64,
+        flags: u8,
+    ) -> Result<Reply, Refusal>
+        ensures rules { Msyncs (state_in self.old) p va len flags (reply_to result) (state_in self.new) }
+        ensures quiet { IsQuiet self.old self.new }
+    {
+        self.shootdown.admit_free(p)?;
+        if !is_msync(va, len, flags) {
+            return Err(Refusal::Einval);
+        }
+        let space = self.shootdown.space(p);
+        if !self.spaces.maps_each(space, va, len) {
+            return Err(Refusal::Enomem);
+        }
+        if self.write_outs.is_broken() {
+            return Err(Refusal::Broken);
+        }
+        if self.is_busy() {
+            return Err(Refusal::Busy);
+        }
+        self.shootdown.begin(p, &self.spaces, Change::Checkpoint);
+        Ok(Reply::Begun)
+    }
+}

@@ -1,0 +1,55 @@
+// How a machine is made.
+ghost use Rattle.std.specs.Prelude.{◌≡◌, ◌↔◌, ◌<◌, ◌≤◌, IsTrue, IfOk};
+ghost use Rattle.volume_codec.specs.Layout.{GeometryValue};
+ghost use Rattle.machine.specs.Fresh.{IsShape};
+ghost use Rattle.machine.specs.inside.Booting.{IsFit, IsRoom};
+
+use crate::Shape;
+use checkpoint::Checkpoint;
+use frames::Frames;
+use journal::WriteOuts;
+use shootdown::Shootdown;
+use spaces::Spaces;
+use std::alloc::{AllocError, Allocator};
+use volume_codec::{Geometry, Super};
+
+impl Shape {
+    // Whether a machine over a volume with this table can have it.
+    pub(crate) fn fits<A: Allocator + Copy>(self, table: &Super<A>) -> bool
+        ensures { IsTrue result ↔ IsShape table.now self }
+    {
+        1 <= self.cpus
+            && self.cpus <= 16
+            && 1 <= self.tlb
+            && self.tlb <= 64
+            && 1 <= self.frames
+            && self.frames <= u64::from(table.geometry().max_frames())
+            && self.copies <= 64
+    }
+}
+
+/// The memory that a machine takes when it is made.
+#[derive(Drop)]
+pub(crate) struct Room<A: Allocator + Copy> {
+    pub(crate) shootdown: Shootdown<A>,
+    pub(crate) spaces: Spaces<A>,
+    pub(crate) frames: Frames<A>,
+    pub(crate) checkpoint: Checkpoint<A>,
+    pub(crate) write_outs: WriteOuts<A>,
+}
+
+impl<A: Allocator + Copy> Room<A> {
+    /// Room for a machine of this shape over a volume of this geometry.
+    pub(crate) fn new(alloc: A, geometry: Geometry, shape: Shape) -> Result<Self, AllocError>
+        requires { IsFit shape }
+        ensures { IfOk result (IsRoom geometry shape) }
+    {
+        Ok(Room {
+            shootdown: Shootdown::new(alloc, shape.cpus as u8, shape.tlb as usize)?,
+            spaces: Spaces::new(alloc)?,
+            frames: Frames::new(alloc, shape.frames as u32, shape.copies as u32)?,
+            checkpoint: Checkpoint::new(alloc, shape.frames as u32)?,
+            write_outs: WriteOuts::new(alloc, geometry)?,
+        })
+    }
+}

@@ -1,0 +1,135 @@
+// Steps of write-outs.
+ghost use Rattle.std.specs.Prelude.{◌≡◌, ◌≢◌, ◌*◌, ◌≤◌, ◌<◌, ℕ, List, [], length, IsSome, is_some, true, false, None, Err};
+ghost use Rattle.volume_codec.specs.Super.{block_count};
+ghost use Rattle.volume_codec.specs.Text.{zeros};
+ghost use Rattle.journal.specs.WriteOuts.{next_work, outs_record};
+ghost use Rattle.checkpoint.specs.Checkpoint.{AreCopiesOfFrozen};
+ghost use Rattle.fault.specs.Fault.{is_in_memory};
+ghost use Rattle.machine.specs.Refusals.{flush_refusal};
+ghost use Rattle.machine.specs.Sound.{IsSound};
+ghost use Rattle.machine.specs.Rules.{bytes_at_mark, next_record, work_asked, Flushes};
+ghost use Rattle.machine.specs.inside.Layers.{state_in, reply_to, AnswersBy, KeepsReserved};
+ghost use Rattle.machine.specs.inside.Flushing.{HasSmallMark, reply_of_flush, memory_after, checkpoint_after, FlushesDevice};
+
+use crate::Reply;
+use crate::layers::Layers;
+use crate::paging::{cut, file_length};
+use device::Device;
+use journal::Flushed;
+use page_entry::{FilePage, PAGE, ProcessorNumber, Refusal};
+use std::alloc::Allocator;
+
+// What a step of a write-out is answered.
+fn reply_to_flush(answer: Flushed) -> Result<Reply, Refusal>
+    requires { HasSmallMark answer }
+    ensures { result ≡ reply_of_flush answer }
+{
+    match answer {
+        Flushed::Going => Ok(Reply::Going),
+        Flushed::Committed(mark) => Ok(Reply::Committed(mark as u32)),
+        Flushed::Done(mark) => Ok(Reply::Done(mark as u32)),
+        Flushed::Device => Err(Refusal::Device),
+        Flushed::Broken => Err(Refusal::Broken),
+    }
+}
+
+// A block of zeros.
+fn blank_block() -> [u8; 4096] {
+    [0; 4096]
+}
+
+impl<D: Device, A: Allocator + Copy> Layers<D, A> {
+    // The bytes of a page in memory as they were at its mark: those of its copy, or of its frame if it wasn't copied.
+    fn bytes_at_mark(&self, page: FilePage) -> &[u8; 4096]
+        requires sound { IsSound (state_in self.now) }
+        requires there { is_in_memory self.now.frames page ≡ true }
+        ensures { result.now ≡ bytes_at_mark self.now.frames page }
+    {
+        match self.frames.copy_of(page) {
+            Some(copy) => self.frames.copy_bytes(copy),
+            None => {
+                let frame = self.frames.find(page).unwrap();
+                self.frames.bytes(frame)
+            }
+        }
+    }
+
+    // The record of the first frozen page: its bytes at its mark up to the file's end, then zeros.
+    fn next_record(&self) -> [u8; 4096]
+        requires sound { IsSound (state_in self.now) }
+        requires some { IsSome (outs_record self.now.write_outs) }
+        ensures { result ≡ next_record (state_in self.now) }
+    {
+        let page = self.checkpoint.frozen()[0];
+        let left = file_length(&self.table, page.file).saturating_sub(PAGE * u64::from(page.page));
+        cut(self.bytes_at_mark(page), left)
+    }
+
+    // The bytes for the next step of the write-outs: where it writes a record, those of the record.
+    fn next_bytes(&self) -> [u8; 4096]
+        requires { IsSound (state_in self.now) }
+        ensures { next_work self.now.write_outs result ≡ work_asked (state_in self.now) }
+    {
+        if self.write_outs.next_record().is_some() {
+            self.next_record()
+        } else {
+            blank_block()
+        }
+    }
+
+    // What becomes of frozen pages by a step of a write-out: one whose record was written is released, and all are
+    // where a device call failed.
+    fn settle(&mut self, writes_record: bool, answer: Flushed)
+        requires some { writes_record ≡ true → 0 < length self.old.checkpoint.frozen }
+        requires copies { AreCopiesOfFrozen self.old.frames self.old.checkpoint }
+        ensures { self.new ≡ record self.old {
+          frames = memory_after answer writes_record self.old.checkpoint self.old.frames;
+          checkpoint = checkpoint_after answer writes_record self.old.checkpoint;
+        } }
+    {
+        match answer {
+            Flushed::Device => self.checkpoint.release_all(&mut self.frames),
+            _ if writes_record => self.checkpoint.release(&mut self.frames),
+            _ => {}
+        }
+    }
+
+    // The next step of the write-outs, of which some aren't done.
+    fn step_write_outs(&mut self) -> Result<Reply, Refusal>
+        requires sound { IsSound (state_in self.old) }
+        requires long { 4096 * block_count self.old.table ≤ length (D.seen self.old.device) }
+        requires whole { self.old.write_outs.broken ≡ false }
+        requires some { self.old.write_outs.batches ≢ [] }
+        ensures rules { (p : ℕ) → flush_refusal (state_in self.old) p ≡ None → AnswersBy (D.is_honest self.old.device)
+            (λ d d'. Flushes (state_in self.old) d p (reply_to result) (state_in self.new) d')
+            (D.seen self.old.device) (D.seen self.new.device) }
+        ensures device { FlushesDevice D.Device (state_in self.old) (reply_to result) self.old.device self.new.device }
+        ensures kept { KeepsReserved self.old self.new }
+    {
+        let bytes = self.next_bytes();
+        let writes_record = self.write_outs.next_record().is_some();
+        let answer = self.write_outs.step(&mut self.device, &bytes);
+        self.settle(writes_record, answer);
+        reply_to_flush(answer)
+    }
+
+    // The next step of the write-outs, if there are any.
+    pub(crate) fn flush(&mut self, p: ProcessorNumber) -> Result<Reply, Refusal>
+        requires sound { IsSound (state_in self.old) }
+        requires long { 4096 * block_count self.old.table ≤ length (D.seen self.old.device) }
+        ensures rules { AnswersBy (D.is_honest self.old.device)
+            (λ d d'. Flushes (state_in self.old) d p (reply_to result) (state_in self.new) d')
+            (D.seen self.old.device) (D.seen self.new.device) }
+        ensures device { FlushesDevice D.Device (state_in self.old) (reply_to result) self.old.device self.new.device }
+        ensures kept { KeepsReserved self.old self.new }
+    {
+        self.shootdown.admit(p)?;
+        if self.write_outs.is_broken() {
+            return Err(Refusal::Broken);
+        }
+        if self.write_outs.is_empty() {
+            return Ok(Reply::Nothing);
+        }
+        self.step_write_outs()
+    }
+}

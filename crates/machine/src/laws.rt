@@ -1,0 +1,25 @@
+// What openings after a run find.
+ghost use Rattle.std.specs.Prelude.{ℕ, List, Result};
+ghost use Rattle.page_entry.specs.declared.refusal.Refusal.{Refusal};
+ghost use Rattle.volume_codec.specs.Files.{File};
+ghost use Rattle.volume_codec.specs.Super.{SuperValue};
+ghost use Rattle.recovery.specs.Opening.{Opens};
+ghost use Rattle.recovery.specs.Openings.{IsLater};
+ghost use Rattle.machine.specs.History.{Event};
+ghost use Rattle.machine.specs.Laws.{ReadsBack};
+ghost use Rattle.machine.specs.Later.{FindsDurable};
+
+use device::Device;
+use recovery::opened_again;
+
+/// Where all that a crash may leave of a device reads back as the files after a durable prefix of a history, each opening
+/// later, to any depth, with a crash or none within and after each before it, gives exactly such files, or meets a device
+/// call that failed, or no memory.
+pub fn opened_later<D: Device>(device: &D)
+    ensures { (files : List File) (history : List Event) (n : ℕ) (first later after : D) (result : Result SuperValue Refusal)
+        → D.is_honest first → ((c : List ℕ) → D.may_leave first c → ReadsBack files history c)
+        → IsLater D.Device n first later → Opens D.Device later result after
+        → FindsDurable files history result (D.seen after) }
+{
+    opened_again(device);
+}

@@ -1,0 +1,25 @@
+//! Processors with TLBs over address spaces, frames and a volume: one step, one reply.
+#![tactic(auto)]
+
+mod access;
+mod act;
+mod beginning;
+mod booting;
+mod changing;
+mod faults;
+mod few_bytes;
+mod flushing;
+mod laws;
+mod layers;
+mod machine;
+mod mapping;
+mod marking;
+mod paging;
+mod running;
+mod stepping;
+mod switching;
+
+pub use act::{Act, Reply, Shape, Step};
+pub use few_bytes::FewBytes;
+pub use laws::opened_later;
+pub use machine::Machine;

@@ -1,0 +1,165 @@
+// The machine: how it is made, what can be asked of it, and one step of it.
+ghost use Rattle.std.specs.Prelude.{◌≡◌, ◌≢◌, ◌↔◌, ℕ, List, length, false, IsTrue, IfOk, IfErr, OnOk};
+ghost use Rattle.volume_codec.specs.Super.{geometry_of};
+ghost use Rattle.shootdown.specs.Shootdown.{is_there, state_of};
+ghost use Rattle.machine.specs.Fresh.{IsShape, fresh};
+ghost use Rattle.machine.specs.Booting.{RefusesShape};
+ghost use Rattle.machine.specs.Calls.{CallsOf};
+ghost use Rattle.machine.specs.Rules.{Rules, Run};
+ghost use Rattle.machine.specs.Runs.{StepsTaken};
+ghost use Rattle.machine.specs.OnTrack.{StepMade};
+ghost use Rattle.machine.specs.inside.Layers.{reply_to};
+ghost use Rattle.machine.specs.inside.Booting.{IsRoom};
+
+use crate::booting::Room;
+use crate::layers::Layers;
+use crate::{Reply, Shape, Step};
+use device::Device;
+use page_entry::{ProcessorNumber, Refusal};
+use recovery::Volume;
+use shootdown::ProcState;
+use std::alloc::Allocator;
+use std::marker::Model;
+
+/// A machine over a volume: processors with TLBs, address spaces, frames, and the write-outs that aren't done.
+#[derive(Drop)]
+pub struct Machine<D: Device, A: Allocator + Copy> {
+    layers: Layers<D, A>,
+}
+
+impl<D: Device, A: Allocator + Copy> Model for Machine<D, A> {
+    ghost use Rattle.std.specs.Coded.{codes};
+    ghost use Rattle.machine.specs.State.{Whole};
+    ghost use Rattle.machine.specs.inside.Codes.{map_code};
+
+    ghost Value = { Whole D };
+
+    ghost coded = { Prim.hlevel (codes, map_code, D.code) };
+
+    ghost use Rattle.machine.specs.inside.Layers.{whole_in, AreLayers};
+
+    ghost view = { λ m. whole_in m.layers };
+
+    ghost invariant = { λ m. AreLayers D.seen m.layers };
+}
+
+// The reply to what an act is answered.
+fn reply_to(answer: Result<Reply, Refusal>) -> Reply
+    ensures { result ≡ reply_to answer }
+{
+    match answer {
+        Ok(reply) => reply,
+        Err(refusal) => Reply::Refused(refusal),
+    }
+}
+
+impl<D: Device, A: Allocator + Copy> Machine<D, A> {
+    /// A machine over an opened volume: each processor is active in space 0, which maps nothing, with an empty TLB; no
+    /// page is in memory, and nothing was begun.
+    ///
+    /// `BadShape` where the shape's numbers aren't within their limits, which is judged before memory is taken;
+    /// `OutOfMemory` where memory is refused. A refusal hands the volume back. No device call is made.
+    pub fn boot(
+        alloc: A,
+        volume: Volume<D, A>,
+        shape: Shape,
+    ) -> Result<Self, (Refusal, Volume<D, A>)>
+        ensures booted { IfOk result (λ machine. machine
+            ≡ record { state = fresh volume.table volume.lengths shape; device = volume.device }) }
+        ensures shaped { OnOk result (IsShape volume.table shape) }
+        ensures refused { IfErr result (λ e. RefusesShape volume.table shape e.0) }
+        ensures volume { IfErr result (λ e. e.1 ≡ volume) }
+    {
+        if !shape.fits(volume.table()) {
+            return Err((Refusal::BadShape, volume));
+        }
+        match Room::new(alloc, volume.table().geometry(), shape) {
+            Ok(room) => Ok(Machine::over(volume, room, shape)),
+            Err(_) => Err((Refusal::OutOfMemory, volume)),
+        }
+    }
+
+    // A machine of this shape over a volume, in its room.
+    fn over(volume: Volume<D, A>, room: Room<A>, shape: Shape) -> Self
+        requires shaped { IsShape volume.table shape }
+        requires room { IsRoom (geometry_of volume.table) shape room }
+        ensures { result ≡ record { state = fresh volume.table volume.lengths shape; device = volume.device } }
+    {
+        let Room {
+            shootdown,
+            spaces,
+            frames,
+            checkpoint,
+            write_outs,
+        } = room;
+        let (table, device) = volume.into_parts();
+        Machine {
+            layers: Layers {
+                table,
+                shootdown,
+                spaces,
+                frames,
+                checkpoint,
+                write_outs,
+                marks: 0,
+                device,
+            },
+        }
+    }
+
+    /// How many processors the machine has, 1 to 16; they are numbered from 0.
+    pub fn processors(&self) -> u8
+        ensures { result ≡ length self.now.state.hardware.shootdown.processors }
+    {
+        self.layers.shootdown.processors()
+    }
+
+    /// What a processor is doing. `Einval` where there is none with this number.
+    pub fn state(&self, p: ProcessorNumber) -> Result<ProcState, Refusal>
+        ensures ok { IfOk result (λ state. IsTrue (is_there self.now.state.hardware.shootdown p)
+            × (state ≡ state_of self.now.state.hardware.shootdown p)) }
+        ensures err { IfErr result (λ why. (is_there self.now.state.hardware.shootdown p ≡ false)
+            × (why ≡ Refusal.Einval)) }
+    {
+        self.layers.shootdown.state(p)
+    }
+
+    /// One act of one processor. Whatever act it is, it returns, and what it refuses changes nothing but what the rules
+    /// say.
+    pub fn step(&mut self, step: &Step) -> Reply
+        // Over any device there are bytes for which the rules hold.
+        ensures rules { (disk disk' : List ℕ) × Rules self.old.state disk step.now result self.new.state disk' }
+        ensures made { D.is_honest self.old.device
+            → StepMade D.seen D.may_leave D.moment D.left_since D.is_honest self.old step.now result self.new }
+        ensures calls { CallsOf self.old.state step.now.p step.now.act result (D.calls_made self.old.device)
+            (D.calls_made self.new.device) (D.faults_met self.old.device) (D.faults_met self.new.device) }
+        ensures honest { D.is_honest self.new.device ↔ D.is_honest self.old.device }
+        ensures len { length (D.seen self.new.device) ≡ length (D.seen self.old.device) }
+        ensures not_full { result ≢ Reply.Refused Refusal.TraceFull }
+    {
+        reply_to(self.layers.act(step))
+    }
+
+    // Makes the steps one after the other, and puts each one's reply into its place.
+    pub(crate) fn make_all(&mut self, steps: &[Step], replies: &mut [Reply])
+        requires { length replies.old ≡ length steps.now }
+        ensures steps { StepsTaken D.Device self.old steps.now replies.new self.new }
+        ensures run { D.is_honest self.old.device → Run self.old.state (D.seen self.old.device) steps.now replies.new
+            self.new.state (D.seen self.new.device) }
+        ensures honest { D.is_honest self.new.device ↔ D.is_honest self.old.device }
+        ensures len { length (D.seen self.new.device) ≡ length (D.seen self.old.device) }
+    {
+        for (i, step) in steps.iter().enumerate() {
+            replies[i] = self.step(step);
+        }
+    }
+
+    /// The machine's device, as it is.
+    pub fn into_device(self) -> D
+        ensures { result ≡ self.device }
+    {
+        let Machine { layers } = self;
+        let Layers { device, .. } = layers;
+        device
+    }
+}

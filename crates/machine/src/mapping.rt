@@ -1,0 +1,71 @@
+// Spaces and mappings: acts that take effect at once.
+ghost use Rattle.std.specs.Prelude.{ℕ, List, length};
+ghost use Rattle.checkpoint.specs.Backing.{HasNotes};
+ghost use Rattle.machine.specs.Rules.{Acts, Creates, Destroys};
+ghost use Rattle.machine.specs.inside.Layers.{state_in, reply_to, IsQuiet};
+ghost use Rattle.machine.specs.inside.Acting.{IsMap};
+
+use crate::layers::Layers;
+use crate::{Act, Reply};
+use device::Device;
+use mappings::Place;
+use page_entry::{Pcid, ProcessorNumber, Refusal};
+use std::alloc::Allocator;
+
+impl<D: Device, A: Allocator + Copy> Layers<D, A> {
+    // A space is made, of the lowest PCID that is free.
+    pub(crate) fn create(&mut self, p: ProcessorNumber) -> Result<Reply, Refusal>
+        ensures rules { Creates (state_in self.old) p (reply_to result) (state_in self.new) }
+        ensures quiet { IsQuiet self.old self.new }
+    {
+        self.shootdown.admit_free(p)?;
+        let space = self.spaces.create()?;
+        Ok(Reply::Space(space))
+    }
+
+    // A space that no processor is in goes, with its mappings and its entries.
+    pub(crate) fn destroy(&mut self, p: ProcessorNumber, space: Pcid) -> Result<Reply, Refusal>
+        requires { HasNotes self.old.spaces.map (length self.old.checkpoint.notes) }
+        ensures rules { Destroys (state_in self.old) p space (reply_to result) (state_in self.new) }
+        ensures quiet { IsQuiet self.old self.new }
+    {
+        self.shootdown.admit_free(p)?;
+        self.shootdown.may_destroy(&self.spaces, space)?;
+        self.shootdown.forget(space);
+        self.checkpoint.destroy(&mut self.spaces, space);
+        Ok(Reply::Destroyed)
+    }
+
+    // Pages of a space are mapped to pages of a file, as the act asks.
+    pub(crate) fn map(&mut self, p: ProcessorNumber, act: &Act) -> Result<Reply, Refusal>
+        requires { IsMap act.now }
+        ensures rules { (disk : List ℕ) → Acts (state_in self.old) disk p act.now (reply_to result) (state_in self.new) disk }
+        ensures quiet { IsQuiet self.old self.new }
+    {
+        let Act::Map {
+            space,
+            va,
+            len,
+            file,
+            offset,
+            prot,
+            access,
+        } = act
+        else {
+            unreachable!()
+        };
+        self.shootdown.admit_free(p)?;
+        let (range, page) = self.spaces.judge_mapping(*space, *va, *len, *offset)?;
+        if *file as usize >= self.table.file_count() {
+            return Err(Refusal::NoFile);
+        }
+        let place = Place {
+            file: *file,
+            page,
+            rights: *prot,
+            access: *access,
+        };
+        self.spaces.map(*space, range, place)?;
+        Ok(Reply::Mapped)
+    }
+}

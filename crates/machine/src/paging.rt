@@ -1,0 +1,63 @@
+// Pages of files: their home blocks, and how many of their bytes are the file's.
+ghost use Rattle.std.specs.Prelude.{◌≡◌, ◌↔◌, ◌<◌, length, take, replicate, slice_index_or, IsTrue};
+ghost use Rattle.volume_codec.specs.Super.{block_count, capacities_in};
+ghost use Rattle.volume_codec.specs.Text.{padded};
+ghost use Rattle.machine.specs.State.{home_of};
+ghost use Rattle.machine.specs.Refusals.{pages_in_file};
+
+use page_entry::{FileNumber, FilePage, PAGE};
+use std::alloc::Allocator;
+use volume_codec::Super;
+
+/// How many pages a file of the table has.
+pub(crate) fn pages_in_file<A: Allocator + Copy>(table: &Super<A>, file: FileNumber) -> u32
+    requires { file < length table.now.files }
+    ensures { result ≡ pages_in_file table.now.files file }
+{
+    table.pages(file as usize)
+}
+
+/// The length of a file of the table. In these layouts it is as long as its capacity.
+pub(crate) fn file_length<A: Allocator + Copy>(table: &Super<A>, file: FileNumber) -> u64
+    requires { file < length table.now.files }
+    ensures { result ≡ slice_index_or (capacities_in table.now) file 0 }
+{
+    table.capacity(file as usize)
+}
+
+/// The home block of a page of a file.
+pub(crate) fn home_block<A: Allocator + Copy>(table: &Super<A>, page: FilePage) -> u32
+    requires file { page.file < length table.now.files }
+    requires page { page.page < pages_in_file table.now.files page.file }
+    ensures home { result ≡ home_of table.now page }
+    ensures within { result < block_count table.now }
+{
+    let _blocks = table.block_count();
+    table.first_home(page.file as usize) + page.page
+}
+
+// Makes every byte zero.
+fn clear(bytes: &mut [u8])
+    ensures { bytes.new ≡ replicate (length bytes.old) 0 }
+{
+    bytes.fill(0);
+}
+
+/// A page's first bytes, and zeros after them.
+#[tactic(auto, unfolding(volume_codec::specs::Text::zeros))]
+pub(crate) fn cut(page: &[u8; 4096], left: u64) -> [u8; 4096]
+    ensures { result ≡ padded 4096 (take left page.now) }
+{
+    let mut bytes = *page;
+    if left < PAGE {
+        clear(&mut bytes[left as usize..]);
+    }
+    bytes
+}
+
+/// Whether a page has zeros after its first bytes.
+pub(crate) fn is_cut(page: &[u8; 4096], left: u64) -> bool
+    ensures { IsTrue result ↔ (page.now ≡ padded 4096 (take left page.now)) }
+{
+    cut(page, left) == *page
+}

@@ -1,0 +1,72 @@
+// Runs: steps one at a time, and what holds of all of them together.
+ghost use Rattle.std.specs.Prelude.{◌≡◌, ◌↔◌, ◌++◌, ◌≤◌, List, [], ◌∷◌, length};
+ghost use Rattle.device.specs.Device.{Only};
+ghost use Rattle.machine.specs.declared.act.Reply.{Reply};
+ghost use Rattle.machine.specs.declared.act.Step.{Step};
+ghost use Rattle.volume_codec.specs.Files.{File};
+ghost use Rattle.machine.specs.State.{Whole};
+ghost use Rattle.machine.specs.Crashes.{Begins, Throughout};
+ghost use Rattle.machine.specs.Laws.{EachStep, FaultsAreServed};
+ghost use Rattle.machine.specs.OnTrack.{IsOnTrack, IsLawful, told_first};
+ghost use Rattle.machine.specs.Runs.{StepTaken, StepsTaken};
+
+use crate::{Machine, Reply, Step};
+use device::Device;
+use std::alloc::Allocator;
+
+impl<D: Device, A: Allocator + Copy> Machine<D, A> {
+    /// A machine as it was booted over a volume at rest is on the track of a run that has made no step yet.
+    pub fn begin(&self)
+        ensures { (files : List File) → Begins D.seen D.may_leave D.is_honest files self.now
+            → IsOnTrack D.seen D.may_leave D.moment D.left_since D.is_honest files self.now [] [] self.now }
+    {}
+
+    /// A step of a machine that is on the track of a run keeps it there, with the step and its reply added. For a caller that makes one step
+    /// at a time: what is on the track has the laws of the run, and a crash at any moment leaves what reads back.
+    pub fn enter(&mut self, step: &Step) -> Reply
+        ensures taken { StepTaken D.Device self.old step.now result self.new }
+        ensures on_track { (files : List File) (start : Whole D) (steps : List Step) (replies : List Reply)
+            → IsOnTrack D.seen D.may_leave D.moment D.left_since D.is_honest files start steps replies self.old
+            → IsOnTrack D.seen D.may_leave D.moment D.left_since D.is_honest files start
+            (steps ++ step.now ∷ []) (replies ++ result ∷ []) self.new }
+    {
+        self.step(step)
+    }
+
+    /// On the track of a run, a fault that is served is served: the access that follows it at once answers.
+    pub fn serves(&self)
+        ensures { (files : List File) (start : Whole D) (steps : List Step) (replies : List Reply)
+            → IsOnTrack D.seen D.may_leave D.moment D.left_since D.is_honest files start steps replies self.now
+            → FaultsAreServed steps replies }
+    {}
+
+    /// Makes the steps one after the other, and puts each one's reply into its place.
+    ///
+    /// On a machine as it was booted over a volume at rest, on an honest device: each reply is by the rules (`headline`) and by what was told
+    /// before it (`lawful`, `served`); and whatever the steps are, also where device calls fail, a crash at any moment of any step, and
+    /// after it, leaves what recovers to the files after a durable prefix of the history up to that moment (`headline`).
+    pub fn run(&mut self, steps: &[Step], replies: &mut [Reply])
+        requires { length replies.old ≡ length steps.now }
+        ensures sized { length replies.new ≡ length steps.now }
+        // Over any device.
+        ensures taken { StepsTaken D.Device self.old steps.now replies.new self.new }
+        ensures honest { D.is_honest self.new.device ↔ D.is_honest self.old.device }
+        ensures len { length (D.seen self.new.device) ≡ length (D.seen self.old.device) }
+        ensures headline { (files : List File) → Begins D.seen D.may_leave D.is_honest files self.old
+            → Throughout D.seen D.may_leave D.moment D.left_since files (told_first files self.old.state)
+            self.old steps.now replies.new self.new }
+        ensures lawful { (files : List File) → Begins D.seen D.may_leave D.is_honest files self.old
+            → EachStep (IsLawful files) (told_first files self.old.state) steps.now replies.new }
+        ensures served { (files : List File) → Begins D.seen D.may_leave D.is_honest files self.old
+            → FaultsAreServed steps.now replies.new }
+        // Also in the middle of a run.
+        ensures on_track { (files : List File) (start : Whole D) (earlier : List Step) (told : List Reply)
+            → IsOnTrack D.seen D.may_leave D.moment D.left_since D.is_honest files start earlier told self.old
+            → IsOnTrack D.seen D.may_leave D.moment D.left_since D.is_honest files start
+            (earlier ++ steps.now) (told ++ replies.new) self.new }
+    {
+        self.begin();
+        self.make_all(steps, replies);
+        self.serves();
+    }
+}
