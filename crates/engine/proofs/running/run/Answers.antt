@@ -1,0 +1,27 @@
+use Rattle.std.proofs.Common.{sym, subst}
+use Rattle.machine.specs.State.{Whole}
+use Rattle.engine.specs.Engine.{HasRun}
+use Rattle.engine.proofs.Runs.{taken_few}
+use Rattle.engine.proofs.Starts.{run_of}
+use Rattle.engine.proofs.running.run.Goals as goal
+
+pub returns-in-Ok-clause-ran : goal.returns-in-Ok-clause-ran
+returns-in-Ok-clause-ran g c =
+    let replies = c.make_steps.ensures.0 in
+    let made = c.make_steps.ensures.2 in
+    let start : Whole g.row.D.Denot = c.in-Ok.machine in
+    let last : Whole g.row.D.Denot = c.make_steps.new.machine in
+    let started = c.in-Ok.ensures.started in
+    let steps = c.args.steps.now in
+    let P : g.row.D.Denot → Type 0 = λ device. HasRun g.D.Device c.args.device c.args.shape steps replies device in (
+      replies,
+      c.make_steps.ensures.1,
+      subst P (sym c.into_device.ensures) (record {
+        start = start;
+        started = started;
+        few = taken_few g.D.Device start steps replies last made.taken;
+        state = last.state;
+        made = made;
+        run = run_of g.D.Device c.args.device c.args.shape start steps replies last started c.begin.ensures made c.serves.ensures;
+      }),
+    )

@@ -1,0 +1,84 @@
+// The main job over any disk: a volume is opened, a machine is booted, and steps are made one at a time.
+ghost use Rattle.std.specs.Prelude.{◌↔◌, ◌≡◌, List, length, take, IfOk, IfErr};
+ghost use Rattle.machine.specs.declared.act.Reply.{Reply};
+ghost use Rattle.engine.specs.Listening.{HasListened};
+ghost use Rattle.engine.specs.Engine.{HasStarted, HasRefused, AreMade, HasRun};
+
+use crate::Listener;
+use device::Device;
+use machine::{Machine, Shape, Step};
+use page_entry::Refusal;
+use std::alloc::Allocator;
+
+/// Opens the volume of a device, and boots a machine of this shape over it. A refusal hands the device back.
+///
+/// `NotAVolume`, `Damaged` and `Device` as `recovery::open`, `BadShape` as `Machine::boot`, and `OutOfMemory` where
+/// memory was refused.
+pub fn start<D: Device, A: Allocator + Copy>(
+    alloc: A,
+    device: D,
+    shape: Shape,
+) -> Result<Machine<D, A>, (Refusal, D)>
+    ensures started { IfOk result (λ machine. HasStarted D.Device device shape machine) }
+    ensures refused { IfErr result (λ refused. HasRefused D.Device device shape refused.1 refused.0) }
+{
+    let volume = match recovery::open(alloc, device) {
+        Ok(volume) => volume,
+        Err(refused) => return Err(refused),
+    };
+    match Machine::boot(alloc, volume, shape) {
+        Ok(machine) => Ok(machine),
+        Err((refusal, volume)) => Err((refusal, volume.into_device())),
+    }
+}
+
+// Makes one step after the other, and tells each reply before the next step, until the listener says to stop.
+fn make_steps<D: Device, A: Allocator + Copy, L: Listener>(
+    machine: &mut Machine<D, A>,
+    steps: &[Step],
+    listener: &mut L,
+)
+    ensures { (replies : List Reply) × HasListened L.hears (length steps.now) listener.old replies listener.new
+        × AreMade D.Device machine.old (take (length replies) steps.now) replies machine.new }
+{
+    for step in steps {
+        let reply = machine.enter(step);
+        if !listener.hear(&reply) {
+            return;
+        }
+    }
+}
+
+/// Opens the volume of a device, boots a machine of this shape, makes the steps one at a time, tells each reply to the
+/// listener before the next step, and hands the device back. It ends after the last step, or where the listener says to
+/// stop.
+///
+/// On an honest device each reply is by the rules and the laws of the machine; and whatever the steps are, also where
+/// device calls fail, what a crash at any moment leaves recovers to the volume's files after a prefix of the answered
+/// stores that is empty or ends at a mark and has every mark that was acknowledged. The same can be done again on the
+/// device that comes back, and on what a crash left of it.
+///
+/// A refusal as of `start`; nothing was told then.
+pub fn run<D: Device, A: Allocator + Copy, L: Listener>(
+    alloc: A,
+    device: D,
+    shape: Shape,
+    steps: &[Step],
+    listener: &mut L,
+) -> Result<D, (Refusal, D)>
+    ensures ran { IfOk result (λ after. (replies : List Reply)
+        × HasListened L.hears (length steps.now) listener.old replies listener.new
+        × HasRun D.Device device shape steps.now replies after) }
+    ensures refused { IfErr result (λ refused. HasRefused D.Device device shape refused.1 refused.0) }
+    ensures untold { IfErr result (λ refused. listener.new ≡ listener.old) }
+{
+    match start(alloc, device, shape) {
+        Ok(mut machine) => {
+            machine.begin();
+            make_steps(&mut machine, steps, listener);
+            machine.serves();
+            Ok(machine.into_device())
+        }
+        Err(refused) => Err(refused),
+    }
+}
