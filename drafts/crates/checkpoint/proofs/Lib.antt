@@ -1,0 +1,12 @@
+pub mod Lists
+pub mod Noting
+pub mod Listed
+pub mod Gathering
+pub mod Searches
+pub mod PagesInUse
+pub mod FreedCopies
+pub mod BackingLaws
+pub mod ReleaseLaws
+pub mod SpacesLaws
+pub mod Dirtiness
+pub mod Fresh

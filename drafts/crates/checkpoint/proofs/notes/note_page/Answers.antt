@@ -1,0 +1,45 @@
+use Rattle.std.proofs.Common.{◌≡◌, false, set, true, sym, ap, ◌∙◌, arith}
+use Rattle.page_entry.specs.Entry.{frame_of, is_dirty}
+use Rattle.spaces.specs.Spaces.{entry_at}
+use Rattle.spaces.specs.Changes.{entries_of}
+use Rattle.checkpoint.proofs.Noting.{is_dirty-at, AreNoted-came, AreNoted-passed}
+use Rattle.checkpoint.proofs.Listed.{entries_of-next, walk-end, AreNoted-mappings}
+use Rattle.checkpoint.proofs.notes.note_page.Goals as goal
+
+pub note-requires : goal.note-requires
+note-requires g c =
+    let d = is_dirty-at c.args.spaces.now.map c.in-Some.pcid c.in-Some.q (sym (c.dirty.ensures ∙ ap is_dirty c.entry-entry.ensures.entry) ∙ c.if-dirty.true) in
+    let frame = ap frame_of (c.entry-entry.ensures.entry ∙ d.present) in
+    let below = c.requires c.in-Some.pcid c.in-Some.q d.entry d.present in
+    omega (arith, frame, below, c.loop-pcid.auto.notes)
+
+pub loop-pcid-preserved-then-dirty : goal.loop-pcid-preserved-then-dirty
+loop-pcid-preserved-then-dirty g c =
+    let spaces = c.args.spaces.now.map in
+    let next = entries_of-next spaces c.args.page c.loop-pcid.yielded c.loop-pcid.pcid-iterator (c.in-Some.pcid, c.in-Some.q) c.next.new.self c.loop-pcid.invariant.listed c.in-Some.ensures.steps in
+    let d = is_dirty-at spaces c.in-Some.pcid c.in-Some.q (sym (c.dirty.ensures ∙ ap is_dirty c.entry-entry.ensures.entry) ∙ c.if-dirty.true) in
+    let frame = ap frame_of (c.entry-entry.ensures.entry ∙ d.present) in
+    let below = c.requires c.in-Some.pcid c.in-Some.q d.entry d.present in
+    record {
+      can = tt;
+      finite = tt;
+      listed = next.1;
+      noted = AreNoted-came spaces c.loop-pcid.yielded c.in-Some.pcid c.in-Some.q c.args.notes.now c.loop-pcid.notes c.note.new.notes c.loop-pcid.invariant.noted d (omega (arith, below, c.loop-pcid.auto.notes)) (c.note.ensures ∙ ap (λ f. set c.loop-pcid.notes f true) frame);
+    }
+
+pub loop-pcid-preserved : goal.loop-pcid-preserved
+loop-pcid-preserved g c =
+    let spaces = c.args.spaces.now.map in
+    let next = entries_of-next spaces c.args.page c.loop-pcid.yielded c.loop-pcid.pcid-iterator (c.in-Some.pcid, c.in-Some.q) c.next.new.self c.loop-pcid.invariant.listed c.in-Some.ensures.steps in
+    let clean : is_dirty (entry_at spaces c.in-Some.pcid c.in-Some.q) ≡ false = sym (c.dirty.ensures ∙ ap is_dirty c.entry-entry.ensures.entry) ∙ c.if-dirty.false in
+    record {
+      can = tt;
+      finite = tt;
+      listed = next.1;
+      noted = AreNoted-passed spaces c.loop-pcid.yielded c.in-Some.pcid c.in-Some.q c.args.notes.now c.loop-pcid.notes c.loop-pcid.invariant.noted clean;
+    }
+
+pub returns : goal.returns
+returns g c =
+    let all = walk-end (entries_of c.args.spaces.now.map c.args.page) c.loop-pcid.yielded c.loop-pcid.pcid-iterator c.loop-pcid.invariant.listed c.in-None.ensures.steps.0 in
+    AreNoted-mappings c.args.spaces.now.map c.args.page c.loop-pcid.yielded c.args.notes.now c.loop-pcid.notes all c.loop-pcid.invariant.noted

@@ -1,0 +1,42 @@
+-- How notes are taken, and what is gathered of them.
+use Rattle.std.specs.Prelude.{ℕ, ◌≡◌, ◌⊎◌, ◌↔◌, ◌≤◌, Bool, true, false, List, [], ◌∷◌, length, Option, None, slice_index_or, Contains, if◌then◌else◌}
+use Rattle.page_entry.specs.declared.numbers.FilePage.{FilePage}
+use Rattle.frames.specs.Frames.{FramesState, frame_at, page_of}
+use Rattle.spaces.specs.Spaces.{Spaces}
+use Rattle.checkpoint.specs.Checkpoint.{HasDirtyEntry, Holds, AreRising, without_copy_of}
+
+-- whether a note says that the frame is dirty
+abbrev pub noted_in : List Bool → ℕ → Bool
+noted_in notes frame = slice_index_or notes frame false
+
+-- The frames of the dirty entries of these pages are noted, and what was noted still is.
+pub record AreNoted (spaces : Spaces) (among : ℕ → ℕ → Type 0) (old new : List Bool) : Type 0 where
+  pub same_length : length new ≡ length old
+  pub noted : (frame : ℕ) → (noted_in new frame ≡ true)
+      ↔ ((noted_in old frame ≡ true) ⊎ HasDirtyEntry spaces among frame)
+
+-- any page of any space
+abbrev pub IsAnyPage : ℕ → ℕ → Type 0
+IsAnyPage pcid page = Unit {0}
+
+-- the page in a frame, if it is noted
+abbrev pub noted_page : FramesState → List Bool → ℕ → Option FilePage
+noted_page memory notes frame = if noted_in notes frame then page_of (frame_at memory frame) else None
+
+-- exactly the pages of the frames that are noted, in the order of home blocks
+pub record AreNotedPages (memory : FramesState) (notes : List Bool) (pages : List FilePage) : Type 0 where
+  pub rising : AreRising pages
+  pub noted : (owner : FilePage) → Contains pages owner
+      ↔ ((frame : ℕ) × Holds memory frame owner × (noted_in notes frame ≡ true))
+
+-- the copy frames with the bytes of these pages are free, one after the other
+abbrev pub without_copies_of : FramesState → List FilePage → FramesState
+without_copies_of memory [] = memory
+without_copies_of memory (owner ∷ owners) = without_copies_of (without_copy_of memory owner) owners
+
+-- What a checkpoint keeps: the gathered pages rise, there is room for as many as there are frames, and no more of
+-- them are released than there are.
+pub record IsKept (notes : List Bool) (pages : List FilePage) (room released : ℕ) : Type 0 where
+  pub rising : AreRising pages
+  pub ample : length notes ≤ room
+  pub some_left : released ≤ length pages

@@ -1,0 +1,237 @@
+// The dirty and the frozen pages of a machine.
+ghost use Rattle.std.specs.Prelude.{◌≡◌, ◌<◌, ◌↔◌, ℕ, Bool, List, Some, None, [], length, IfOk, IsTrue, true, false, slice_index_or};
+ghost use Rattle.std.specs.FinMap as maps;
+ghost use Rattle.page_entry.specs.declared.numbers.FilePage.{FilePage};
+ghost use Rattle.frames.specs.Frames.{FramesState, without_copies};
+ghost use Rattle.mappings.specs.Judgement.{is_user_range};
+ghost use Rattle.spaces.specs.Spaces.{Spaces as AddressSpaces, without_mapping, EditsEntries};
+ghost use Rattle.spaces.specs.Requests.{is_user_space};
+ghost use Rattle.spaces.specs.Changes.{without_entries_of};
+ghost use Rattle.checkpoint.specs.Checkpoint.{CheckpointState, fresh_checkpoint, is_frozen, is_held, is_copied, AreRising, Gathers, ProtectsNoted, without_notes, NotesTaken, IsInRange, IsInSpace, IsMappingOf, IsDirty, Holds, is_noted, without_copy_of, without_frozen_copies, AreCopiesOfFrozen, released, thawed};
+ghost use Rattle.checkpoint.specs.Backing.{AreBacked, AreDistinct, HasNotes};
+
+use crate::copies::{free_copies, free_copy, has_copy};
+use crate::notes::{has_dirty_entry, has_note, list_noted, note_all, note_page, note_range, note_space};
+use frames::Frames;
+use mappings::PageRange;
+use page_entry::{FilePage, FrameNumber, Pcid};
+use spaces::Spaces;
+use std::alloc::{AllocError, Allocator, Global};
+use std::marker::Model;
+
+/// Which pages are dirty beyond what entries of page tables say, and which are frozen until their records are written.
+#[derive(Drop)]
+pub struct Checkpoint<A: Allocator + Copy = Global> {
+    // For each frame, whether a dirty entry of it was taken away since the last mark.
+    notes: Vec<bool, A>,
+    // The pages that the last mark gathered, in the order of their home blocks.
+    pages: Vec<FilePage, A>,
+    // How many of them aren't frozen any more.
+    released: usize,
+}
+
+impl<A: Allocator + Copy> Model for Checkpoint<A> {
+    ghost use Rattle.std.specs.Prelude.{drop};
+    ghost use Rattle.std.specs.Vec.{vec_capacity};
+    ghost use Rattle.checkpoint.specs.Checkpoint.{CheckpointState};
+    ghost use Rattle.checkpoint.specs.inside.Notes.{IsKept};
+
+    ghost Value = { CheckpointState };
+
+    ghost view = { λ c. record { notes = c.notes.items; frozen = drop c.released c.pages.items } };
+
+    ghost invariant = { λ c. IsKept c.notes.items c.pages.items (vec_capacity c.pages) c.released };
+}
+
+impl<A: Allocator + Copy> Checkpoint<A> {
+    /// Of so many frames none is noted, and no page is frozen. No other call takes memory. Fails where memory is
+    /// refused.
+    pub fn new(alloc: A, frames: FrameNumber) -> Result<Self, AllocError>
+        ensures { IfOk result (λ made. made ≡ fresh_checkpoint frames) }
+    {
+        Ok(Checkpoint {
+            notes: vec![in alloc; false; frames as usize]?,
+            pages: Vec::with_capacity(alloc, frames as usize)?,
+            released: 0,
+        })
+    }
+
+    /// Whether it is as `new` leaves it.
+    pub fn is_fresh(&self) -> bool
+        ensures { IsTrue result ↔ (self.now ≡ fresh_checkpoint (length self.now.notes)) }
+    {
+        self.frozen().is_empty() && !has_note(&self.notes)
+    }
+
+    /// Gathers the dirty pages in the order of their home blocks and answers how many there are. Their frames are
+    /// noted, and no other; the pages are frozen if `freezes` says so, which it does unless the machine is broken.
+    pub fn gather(&mut self, spaces: &Spaces<A>, frames: &Frames<A>, freezes: bool) -> usize
+        requires sized { length self.old.notes ≡ length frames.now.frames }
+        requires backed { AreBacked frames.now self.old spaces.now.map }
+        ensures gathered { (pages : List FilePage) × (length pages ≡ result)
+            × Gathers spaces.now.map frames.now self.old self.new freezes pages }
+
+        // Where nothing is frozen any more when it is called, no copy is left, and so it stays.
+        ensures copies { self.old.frozen ≡ [] → AreCopiesOfFrozen frames.now self.old
+            → AreCopiesOfFrozen frames.now self.new }
+    {
+        note_all(&mut self.notes, spaces);
+        list_noted(&mut self.pages, &self.notes, frames);
+        let count = self.pages.len();
+        self.released = if freezes { 0 } else { count };
+        count
+    }
+
+    /// Takes the right to write and the dirty bit from every entry of a noted frame, dirty or not, in every space;
+    /// then no frame is noted.
+    pub fn protect_all(&mut self, spaces: &mut Spaces<A>)
+        ensures protected { ProtectsNoted self.old spaces.old.map spaces.new.map }
+        ensures prepared { spaces.new.prepared ≡ spaces.old.prepared }
+        ensures notes { self.new ≡ without_notes self.old }
+
+        // After gathering, no entry of a page that is newly frozen is writable any more.
+        ensures backed { (memory : FramesState) (before : CheckpointState) (freezes : Bool) (pages : List FilePage)
+            → Gathers spaces.old.map memory before self.old freezes pages → AreDistinct memory
+            → AreBacked memory before spaces.old.map → AreBacked memory self.new spaces.new.map }
+    {
+        spaces.protect_frames(&self.notes);
+        self.notes.fill(false);
+    }
+
+    /// The frozen pages, in the order of their home blocks.
+    pub fn frozen(&self) -> &[FilePage]
+        ensures frozen { result.now ≡ self.now.frozen }
+        ensures rising { AreRising result.now }
+    {
+        &self.pages[self.released..]
+    }
+
+    /// Whether a page is frozen.
+    pub fn is_frozen(&self, page: FilePage) -> bool
+        ensures { result ≡ is_frozen self.now page }
+    {
+        self.frozen().binary_search(&page).is_ok()
+    }
+
+    /// Whether a copy frame keeps the page's bytes.
+    pub fn copied(&self, frames: &Frames<A>, page: FilePage) -> bool
+        ensures { result ≡ is_copied frames.now page }
+    {
+        has_copy(frames, page)
+    }
+
+    /// Whether a store to the page has to wait: it is frozen, and its bytes aren't copied.
+    pub fn is_held(&self, frames: &Frames<A>, page: FilePage) -> bool
+        ensures { result ≡ is_held frames.now self.now page }
+    {
+        self.is_frozen(page) && !has_copy(frames, page)
+    }
+
+    // The first frozen page, which isn't frozen any more.
+    fn take_first(&mut self) -> FilePage
+        requires { 0 < length self.old.frozen }
+        ensures first { (page : FilePage) → result ≡ slice_index_or self.old.frozen 0 page }
+        ensures released { self.new ≡ released self.old }
+        ensures rising { AreRising self.old.frozen }
+    {
+        let page = self.pages[self.released];
+        self.released += 1;
+        page
+    }
+
+    /// The first frozen page's record is written: the page isn't frozen any more, and the copy frame with its bytes
+    /// is free.
+    pub fn release(&mut self, frames: &mut Frames<A>)
+        requires { 0 < length self.old.frozen }
+        ensures released { self.new ≡ released self.old }
+        ensures freed { (page : FilePage)
+            → frames.new ≡ without_copy_of frames.old (slice_index_or self.old.frozen 0 page) }
+        ensures backed { (spaces : AddressSpaces)
+            → AreBacked frames.old self.old spaces → AreBacked frames.new self.new spaces }
+        ensures copies { AreCopiesOfFrozen frames.old self.old → AreCopiesOfFrozen frames.new self.new }
+    {
+        let page = self.take_first();
+        free_copy(frames, page);
+    }
+
+    /// No page is frozen any more, and the copy frames with their bytes are free.
+    pub fn release_all(&mut self, frames: &mut Frames<A>)
+        ensures thawed { self.new ≡ thawed self.old }
+        ensures freed { frames.new ≡ without_frozen_copies frames.old self.old }
+        ensures all { AreCopiesOfFrozen frames.old self.old → frames.new ≡ without_copies frames.old }
+        ensures backed { (spaces : AddressSpaces)
+            → AreBacked frames.old self.old spaces → AreBacked frames.new self.new spaces }
+    {
+        free_copies(frames, self.frozen());
+        self.released = self.pages.len();
+    }
+
+    /// Unmaps a range for which room was prepared, and notes the frames of its dirty entries.
+    pub fn unmap(&mut self, spaces: &mut Spaces<A>, pcid: Pcid, range: PageRange)
+        requires prepared { spaces.old.prepared ≡ Some (pcid, range) }
+        requires space { is_user_space spaces.old.map pcid ≡ true }
+        requires pages { is_user_range range ≡ true }
+        requires notes { HasNotes spaces.old.map (length self.old.notes) }
+        ensures spaces { spaces.new ≡ record { map = without_mapping spaces.old.map pcid range; prepared = None } }
+        ensures noted { NotesTaken spaces.old.map (IsInRange pcid range) self.old self.new }
+        ensures backed { (memory : FramesState) → AreBacked memory self.old spaces.old.map
+            → AreBacked memory self.new spaces.new.map }
+    {
+        note_range(&mut self.notes, spaces, pcid, range);
+        spaces.unmap(pcid, range);
+    }
+
+    /// Destroys a space other than space 0, and notes the frames of its dirty entries.
+    pub fn destroy(&mut self, spaces: &mut Spaces<A>, pcid: Pcid)
+        requires space { is_user_space spaces.old.map pcid ≡ true }
+        requires notes { HasNotes spaces.old.map (length self.old.notes) }
+        ensures spaces { spaces.new ≡ record { map = maps.remove spaces.old.map pcid; prepared = None } }
+        ensures noted { NotesTaken spaces.old.map (IsInSpace pcid) self.old self.new }
+        ensures backed { (memory : FramesState) → AreBacked memory self.old spaces.old.map
+            → AreBacked memory self.new spaces.new.map }
+    {
+        note_space(&mut self.notes, spaces, pcid);
+        spaces.remove(pcid);
+    }
+
+    /// Takes away the entries of every page that maps this page of a file, in every space, and notes the frames of
+    /// those that were dirty.
+    pub fn clear(&mut self, spaces: &mut Spaces<A>, page: FilePage)
+        requires { HasNotes spaces.old.map (length self.old.notes) }
+        ensures cleared { EditsEntries (without_entries_of page spaces.old.map) spaces.old.map spaces.new.map }
+        ensures prepared { spaces.new.prepared ≡ spaces.old.prepared }
+        ensures noted { NotesTaken spaces.old.map (IsMappingOf spaces.old.map page) self.old self.new }
+
+        // Where the page is clean, nothing is noted.
+        ensures clean { (memory : FramesState) (frame : ℕ)
+            → AreBacked memory self.old spaces.old.map → AreDistinct memory → Holds memory frame page
+            → (IsDirty spaces.old.map self.old frame → ⊥) → self.new ≡ self.old }
+        ensures backed { (memory : FramesState) → AreBacked memory self.old spaces.old.map
+            → AreBacked memory self.new spaces.new.map }
+    {
+        note_page(&mut self.notes, spaces, page);
+        spaces.clear_entries_of(page);
+    }
+
+    /// Whether the page in a frame is dirty: it got a store since the last mark.
+    pub fn is_dirty(&self, spaces: &Spaces<A>, frames: &Frames<A>, frame: FrameNumber) -> bool
+        requires { AreBacked frames.now self.now spaces.now.map }
+        ensures { IsTrue result ↔ IsDirty spaces.now.map self.now frame }
+    {
+        if self.is_noted(frame) {
+            return true;
+        }
+        match frames.page(frame) {
+            Some(page) => has_dirty_entry(spaces, page),
+            None => false,
+        }
+    }
+
+    // Whether the frame is noted.
+    fn is_noted(&self, frame: FrameNumber) -> bool
+        ensures { result ≡ is_noted self.now frame }
+    {
+        let at = frame as usize;
+        at < self.notes.len() && self.notes[at]
+    }
+}

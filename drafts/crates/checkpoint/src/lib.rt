@@ -1,0 +1,9 @@
+//! Which pages are dirty, which are frozen until their records are written, and the calls that take entries of page
+//! tables away and note what was dirty (Park, Kelly and Shen 2013, failure-atomic msync).
+#![tactic(auto)]
+
+mod checkpoint;
+mod copies;
+mod notes;
+
+pub use checkpoint::Checkpoint;

@@ -1,0 +1,13 @@
+use Rattle.std.proofs.Common.{◌≡◌, suc, true, length, ap, ◌∙◌, sym, subst, arith}
+use Rattle.journal.specs.WriteOuts.{has_uncommitted}
+use Rattle.journal.specs.inside.Room.{write_outs_in, IsCurrent}
+use Rattle.journal.proofs.Rooms.{last_is_current, length-write_outs}
+use Rattle.journal.proofs.write_outs.WriteOuts.current_place.Goals as goal
+
+pub returns-then-has_uncommitted-clause-some : goal.returns-then-has_uncommitted-clause-some
+returns-then-has_uncommitted-clause-some g c =
+    let flushes = c.self.inside.flushes.items in
+    let size = c.self.inside.flushes.ok.0 in
+    let end : suc c.in_ok-last.last ≡ length (write_outs_in flushes) = omega (arith, c.in_ok-last.ensures, c.len.ensures, size, length-write_outs flushes) in
+    let has : has_uncommitted (write_outs_in flushes) ≡ true = ap (λ o. has_uncommitted o.batches) c.self.view_is ∙ sym c.if-has_uncommitted.ensures in
+    subst (λ o. IsCurrent o.batches c.in_ok-last.last) c.self.view_is (last_is_current (write_outs_in flushes) c.in_ok-last.last end c.self.invariant.sound.ordered has)

@@ -1,0 +1,186 @@
+use Rattle.std.proofs.Common.{◌≡◌, ℕ, ◌<◌, ◌+◌, List, [], true, false, Option, Some, length, map, ap, ◌∙◌, sym, subst, inl, inr, ⊎_elim, arith, refl}
+use Rattle.std.specs.Prelude.{IfSome}
+use Rattle.std.specs.Option.{option_map_or}
+use Rattle.std.specs.Vec.{vec_capacity}
+use Rattle.std.proofs.lemmas.Bool.{cond-false}
+use Rattle.device.specs.Device.{LeavesOnly}
+use Rattle.volume_codec.specs.Layout.{GeometryValue}
+use Rattle.journal.specs.declared.flushed.Flushed.{Flushed}
+use Rattle.journal.specs.declared.flushed.Flushed.TheVariants.{Done, Device, Broken}
+use Rattle.journal.specs.Work.{Work, Nothing, worked, TornByWork, TornFromWork, calls_of, HasFailed}
+use Rattle.journal.specs.WriteOut.{WriteOut, has_committed, work_of, answer_of}
+use Rattle.journal.specs.WriteOut.{FlushValue, flush_work, flush_answer}
+use Rattle.journal.specs.WriteOuts.{WriteOutsValue, current, current_stage, outs_home, next_work, next_answer, outs_after}
+use Rattle.volume_codec.specs.Super.{SuperValue}
+use Rattle.device.proofs.Moments.{leaves_weaker, leaves_at_start}
+use Rattle.journal.specs.Crash.{LeftWithin, Stands}
+use Rattle.journal.specs.inside.Sound.{IsSound, IsWriteOut}
+use Rattle.journal.specs.inside.Room.{write_outs_in, IsCurrent, IsOneOf, HasRoom}
+use Rattle.journal.proofs.Alls.{all_at}
+use Rattle.journal.proofs.Answering.{sound_of, sound_after, answer_same, step_sound, failed_sound, done_committed}
+use Rattle.journal.proofs.StandsKept.{stands_left, stands_within, stands_after, stands_failed}
+use Rattle.journal.proofs.Rooms.{at_place, length-write_outs, stepped_view, stepped_room}
+use Rattle.journal.proofs.write_outs.WriteOuts.step.Goals as goal
+
+pub step-answer-requires-clause-going : goal.step-answer-requires-clause-going
+step-answer-requires-clause-going g c =
+    let flushes = c.self.inside.flushes.items in
+    let w = c.index_mut-flush.result.now.write_out in
+    let is : IsCurrent (write_outs_in flushes) c.unwrap-at.result = subst (λ o. IsCurrent o.batches c.unwrap-at.result) (sym c.self.view_is) (subst (λ o. IfSome o (IsCurrent c.args.self.now.batches)) c.unwrap-at.ensures c.current_place.ensures.some) in
+    let lt : c.unwrap-at.result < length flushes = omega (arith, is.within, length-write_outs flushes) in
+    let here = at_place flushes c.unwrap-at.result c.index_mut-flush.result.now lt c.index_mut-flush.ensures.value w in
+    (all_at (IsWriteOut c.self.inside.geometry) (write_outs_in flushes) w c.self.invariant.sound.each (c.unwrap-at.result, is.within, here)).going
+
+module _ (g : _) (c : goal.After-settle g) where
+  abbrev outs : WriteOutsValue
+  outs = record { geometry = c.self.inside.geometry; next = c.self.inside.next; batches = write_outs_in c.self.inside.flushes.items; broken = c.self.inside.broken }
+
+  abbrev f : FlushValue
+  f = c.index_mut-flush.result.now
+
+  abbrev bytes : List ℕ
+  bytes = c.args.bytes.now
+
+  current_at : IsCurrent outs.batches c.unwrap-at.result
+  current_at = subst (λ o. IsCurrent o.batches c.unwrap-at.result) (sym c.self.view_is) (subst (λ o. IfSome o (IsCurrent c.args.self.now.batches)) c.unwrap-at.ensures c.current_place.ensures.some)
+
+  within : c.unwrap-at.result < length c.self.inside.flushes.items
+  within = omega (arith, current_at.within, length-write_outs c.self.inside.flushes.items)
+
+  current_is : current outs.batches ≡ Some f.write_out
+  current_is = current_at.current f.write_out ∙ ap Some (at_place c.self.inside.flushes.items c.unwrap-at.result f within c.index_mut-flush.ensures.value f.write_out)
+
+  one : IsOneOf outs f
+  one = all_at (IsOneOf outs) c.self.inside.flushes.items f c.self.invariant.flushes_are (c.unwrap-at.result, within, sym c.index_mut-flush.ensures.value)
+
+  whole : f.broken ≡ false
+  whole = one.whole c.if-self.false
+
+  some : outs.batches ≡ [] → ⊥
+  some e = let none = ap length e in let lt = current_at.within in absurd (omega arith)
+
+  same_work : flush_work f bytes ≡ next_work c.args.self.now bytes
+  same_work =
+      cond-false f.broken Nothing (work_of f.geometry bytes f.write_out) whole ∙ ap (λ (x : GeometryValue). work_of x bytes f.write_out) one.geometry
+      ∙ sym (cond-false outs.broken Nothing (option_map_or (work_of outs.geometry bytes) (current outs.batches) Nothing) c.if-self.false ∙ ap (λ (o : Option WriteOut). option_map_or (work_of outs.geometry bytes) o Nothing) current_is)
+      ∙ ap (λ o. next_work o bytes) c.self.view_is
+
+  own_answer : flush_answer f ≡ answer_of f.write_out
+  own_answer = cond-false f.broken Broken (answer_of f.write_out) whole
+
+  same_answer : flush_answer f ≡ next_answer outs
+  same_answer =
+      own_answer ∙ sym (cond-false outs.broken Broken (option_map_or answer_of (current outs.batches) Broken) c.if-self.false ∙ ap (λ (o : Option WriteOut). option_map_or answer_of o Broken) current_is)
+
+  not_broken : c.step-answer.result ≡ Broken → ⊥
+  not_broken e = ⊎_elim (λ is. (sound_after outs.geometry outs.next outs.batches some (sound_of outs c.self.invariant.sound)).not_broken (sym (answer_same outs c.self.invariant.sound c.if-self.false some) ∙ sym same_answer ∙ sym is ∙ e)) (λ is. differ (sym is ∙ e)) c.step-answer.ensures.answer
+    where
+      differ : Device ≡ Broken → ⊥
+      differ e = cc
+
+  ends : (mark : ℕ) → c.step-answer.result ≡ Done mark → has_committed f.write_out ≡ true
+  ends mark e = ⊎_elim (λ is. done_committed f.write_out mark (sym own_answer ∙ sym is ∙ e)) (λ is. absurd (differ (sym is ∙ e))) c.step-answer.ensures.answer
+    where
+      differ : Device ≡ Done mark → ⊥
+      differ e = cc
+
+  sound : IsSound (outs_after outs c.step-answer.result)
+  sound = ⊎_elim
+      (λ is. subst (λ (a : Flushed). IsSound (outs_after outs a)) (sym (is ∙ same_answer)) (step_sound outs c.self.invariant.sound c.if-self.false some))
+      (λ is. subst (λ (a : Flushed). IsSound (outs_after outs a)) (sym is) (failed_sound outs c.self.invariant.sound))
+      c.step-answer.ensures.answer
+
+  value : record outs { batches = write_outs_in c.settle.new.flushes.items; broken = c.settle.new.broken } ≡ outs_after outs c.step-answer.result
+  value =
+      (λ i. record outs { batches = write_outs_in (c.settle.ensures.flushes i); broken = c.settle.ensures.broken i })
+      ∙ stepped_view outs c.self.inside.flushes.items c.unwrap-at.result f c.step-answer.new.self refl current_at c.index_mut-flush.ensures.value c.step-answer.result c.step-answer.ensures.value not_broken ends
+
+pub invariant_of-self : goal.invariant_of-self
+invariant_of-self g c =
+    let has = stepped_room (outs g c) c.self.inside.flushes.items c.unwrap-at.result (f g c) c.step-answer.new.self refl (current_at g c) c.index_mut-flush.ensures.value c.step-answer.result
+    (map (λ list. vec_capacity list) c.self.inside.spare.items) (map (λ list. vec_capacity list) c.settle.new.spare.items) (vec_capacity c.self.inside.flushes) (vec_capacity c.settle.new.flushes) (vec_capacity c.self.inside.spare) (vec_capacity c.settle.new.spare)
+    c.self.invariant (sound g c) (not_broken g c) c.if-self.false c.step-answer.ensures.value c.settle.ensures.spare (omega (arith, c.settle.ensures.capacity)) c.settle.ensures.spare_capacity in
+    subst (λ o. HasRoom o c.settle.new.flushes.items (vec_capacity c.settle.new.flushes) (map (λ list. vec_capacity list) c.settle.new.spare.items) (vec_capacity c.settle.new.spare)) (sym (value g c))
+    (subst (λ l. HasRoom (outs_after (outs g c) c.step-answer.result) l (vec_capacity c.settle.new.flushes) (map (λ list. vec_capacity list) c.settle.new.spare.items) (vec_capacity c.settle.new.spare)) (sym c.settle.ensures.flushes) has)
+
+pub returns-clause-value : goal.returns-clause-value
+returns-clause-value g c = value g c ∙ ap (λ o. outs_after o c.step-answer.result) c.self.view_is
+
+pub returns-clause-whole : goal.returns-clause-whole
+returns-clause-whole g c sane = not_broken g c
+
+pub returns-clause-answer : goal.returns-clause-answer
+returns-clause-answer g c = ⊎_elim (λ is. inl (is ∙ same_answer g c ∙ ap next_answer c.self.view_is)) (λ is. inr is) c.step-answer.ensures.answer
+
+pub returns-clause-worked : goal.returns-clause-worked
+returns-clause-worked g c honest fine = c.step-answer.ensures.worked honest fine ∙ ap (worked (g.D.Device.seen c.args.device.now)) (same_work g c)
+
+pub returns-clause-torn : goal.returns-clause-torn
+returns-clause-torn g c honest failed =
+    subst (λ (w : Work). TornByWork w (g.D.Device.seen c.args.device.now) (g.D.Device.seen c.step-answer.new.device)) (same_work g c) (c.step-answer.ensures.torn honest failed)
+
+pub returns-clause-left : goal.returns-clause-left
+returns-clause-left g c d left = subst (λ (w : Work). TornFromWork w (g.D.Device.may_leave c.args.device.now) d) (same_work g c) (c.step-answer.ensures.left d left)
+
+pub returns-clause-sure : goal.returns-clause-sure
+returns-clause-sure g c honest fine sync = c.step-answer.ensures.sure honest fine (same_work g c ∙ sync)
+
+pub returns-clause-time : goal.returns-clause-time
+returns-clause-time g c =
+    subst (λ (w : Work). LeavesOnly g.D.Device.moment g.D.Device.left_since c.args.device.now c.step-answer.new.device (TornFromWork w (g.D.Device.may_leave c.args.device.now))) (same_work g c) c.step-answer.ensures.time
+
+pub returns-clause-calls : goal.returns-clause-calls
+returns-clause-calls g c small fine = c.step-answer.ensures.calls small fine ∙ ap (λ (w : Work). g.D.Device.calls_made c.args.device.now + calls_of w) (same_work g c)
+
+pub returns-clause-failed_calls : goal.returns-clause-failed_calls
+returns-clause-failed_calls g c small failed =
+    subst (λ (w : Work). HasFailed w (g.D.Device.calls_made c.args.device.now) (g.D.Device.calls_made c.step-answer.new.device)) (same_work g c) (c.step-answer.ensures.failed_calls small failed)
+
+pub returns-clause-failed_read : goal.returns-clause-failed_read
+returns-clause-failed_read g c small honest failed from to copy = c.step-answer.ensures.failed_read small honest failed from to (same_work g c ∙ copy)
+
+module _ (g : _) (c : goal.After-settle g) (v : SuperValue) (old new : ℕ → List ℕ) (s : Stands v c.args.self.now old new (g.D.Device.seen c.args.device.now) (g.D.Device.may_leave c.args.device.now))
+    (is_new : (home : ℕ) → outs_home c.args.self.now ≡ Some home → c.args.bytes.now ≡ new home) where
+  here : Stands v (outs g c) old new (g.D.Device.seen c.args.device.now) (g.D.Device.may_leave c.args.device.now)
+  here = subst (λ o. Stands v o old new (g.D.Device.seen c.args.device.now) (g.D.Device.may_leave c.args.device.now)) (sym c.self.view_is) s
+
+  is_new_here : (home : ℕ) → outs_home (outs g c) ≡ Some home → bytes g c ≡ new home
+  is_new_here home e = is_new home (sym (ap outs_home c.self.view_is) ∙ e)
+
+  same_next : next_work (outs g c) (bytes g c) ≡ flush_work (f g c) (bytes g c)
+  same_next = ap (λ o. next_work o (bytes g c)) c.self.view_is ∙ sym (same_work g c)
+
+  left_here : (d : List ℕ) → g.D.Device.may_leave c.step-answer.new.device d → TornFromWork (next_work (outs g c) (bytes g c)) (g.D.Device.may_leave c.args.device.now) d
+  left_here d left = subst (λ (w : Work). TornFromWork w (g.D.Device.may_leave c.args.device.now) d) (sym same_next) (c.step-answer.ensures.left d left)
+
+  fine : c.step-answer.result ≡ flush_answer (f g c) → c.step-answer.result ≡ Device → ⊥
+  fine is e = (sound_after (outs g c).geometry (outs g c).next (outs g c).batches (some g c) (sound_of (outs g c) c.self.invariant.sound)).no_device
+      (sym (answer_same (outs g c) c.self.invariant.sound c.if-self.false (some g c)) ∙ sym (same_answer g c) ∙ sym is ∙ e)
+
+  pub kept : g.D.Device.is_honest c.args.device.now → Stands v (outs_after (outs g c) c.step-answer.result) old new (g.D.Device.seen c.step-answer.new.device) (g.D.Device.may_leave c.step-answer.new.device)
+  kept honest = ⊎_elim
+      (λ is. subst (λ (a : Flushed). Stands v (outs_after (outs g c) a) old new (g.D.Device.seen c.step-answer.new.device) (g.D.Device.may_leave c.step-answer.new.device)) (sym (is ∙ same_answer g c))
+      (subst (λ (l : List ℕ). Stands v (outs_after (outs g c) (next_answer (outs g c))) old new l (g.D.Device.may_leave c.step-answer.new.device)) (sym (c.step-answer.ensures.worked honest (fine is) ∙ ap (worked (g.D.Device.seen c.args.device.now)) (sym same_next)))
+      (stands_after v old new (outs g c) (g.D.Device.seen c.args.device.now) (g.D.Device.may_leave c.args.device.now) (bytes g c) c.told-bytes here c.if-self.false (some g c) is_new_here
+      (g.D.Device.may_leave c.step-answer.new.device) left_here (λ sync. c.step-answer.ensures.sure honest (fine is) (sym same_next ∙ sync)))))
+      (λ is. subst (λ (a : Flushed). Stands v (outs_after (outs g c) a) old new (g.D.Device.seen c.step-answer.new.device) (g.D.Device.may_leave c.step-answer.new.device)) (sym is)
+      (stands_failed v old new (outs g c) (g.D.Device.seen c.args.device.now) (g.D.Device.may_leave c.args.device.now) (bytes g c) c.told-bytes here c.if-self.false (some g c) is_new_here
+      (g.D.Device.seen c.step-answer.new.device) (g.D.Device.may_leave c.step-answer.new.device) left_here))
+      c.step-answer.ensures.answer
+
+  pub crashes : LeavesOnly g.D.Device.moment g.D.Device.left_since c.args.device.now c.step-answer.new.device (LeftWithin v old new (current_stage c.args.self.now))
+  crashes =
+      subst (λ o. LeavesOnly g.D.Device.moment g.D.Device.left_since c.args.device.now c.step-answer.new.device (LeftWithin v old new (current_stage o))) c.self.view_is
+      (leaves_weaker c.step-answer.ensures.time (λ d torn. stands_within v old new (outs g c) (g.D.Device.seen c.args.device.now) (g.D.Device.may_leave c.args.device.now) (bytes g c) c.told-bytes here c.if-self.false (some g c) is_new_here
+      d (subst (λ (w : Work). TornFromWork w (g.D.Device.may_leave c.args.device.now) d) (sym same_next) torn)))
+
+pub returns-clause-stands : goal.returns-clause-stands
+returns-clause-stands g c v old new honest s is_new =
+    subst (λ o. Stands v o old new (g.D.Device.seen c.step-answer.new.device) (g.D.Device.may_leave c.step-answer.new.device)) (sym (value g c)) (kept g c v old new s is_new honest)
+
+pub returns-clause-crash : goal.returns-clause-crash
+returns-clause-crash g c v old new s is_new = crashes g c v old new s is_new
+
+pub returns-then-self-clause-crash : goal.returns-then-self-clause-crash
+returns-then-self-clause-crash g c v old new s is_new =
+    leaves_at_start (λ d left. stands_left v old new c.args.self.now (g.D.Device.seen c.args.device.now) (g.D.Device.may_leave c.args.device.now) s d (g.met.D.Device.since_now c.args.device.now d left))

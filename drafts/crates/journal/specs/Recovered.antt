@@ -1,0 +1,18 @@
+-- What bytes recover to, with the batches of their open journals told, and which blocks recovery doesn't read.
+use Rattle.std.specs.Prelude.{ℕ, ◌≡◌, ◌≢◌, ◌<◌, List}
+use Rattle.std.specs.List.{AllByRecursion}
+use Rattle.volume_codec.specs.Layout.{IsHome, journals_of, gate_block, descriptor_block}
+use Rattle.volume_codec.specs.Super.{SuperValue, geometry_of}
+use Rattle.volume_codec.specs.Recovery.{Batch, IsVolume, standing_block, contents_in}
+
+-- these bytes hold a volume with this super block, whose open journals have these batches, and recover to these contents
+pub record RecoversBy (v : SuperValue) (opened : List Batch) (contents : ℕ → List ℕ) (bytes : List ℕ) : Type 0 where
+  pub volume : IsVolume v opened bytes
+  pub contents_are : (b : ℕ) → IsHome (geometry_of v) b → contents b ≡ contents_in v.slots opened bytes b
+
+-- recovery doesn't read this block of such a volume
+pub record IsUnread (v : SuperValue) (opened : List Batch) (block : ℕ) : Type 0 where
+  pub not_super : block ≢ 0
+  pub not_gate : (j : ℕ) → j < journals_of v.layout → block ≢ gate_block v.slots j
+  pub not_descriptor : AllByRecursion (λ batch. block ≢ descriptor_block v.slots batch.journal) opened
+  pub not_standing : (b : ℕ) → IsHome (geometry_of v) b → block ≢ standing_block v.slots opened b

@@ -1,0 +1,108 @@
+-- A write-out: a batch on its way to its home blocks. And the value of a `Flush`, which is one by itself.
+use Rattle.std.specs.Prelude.{ℕ, zero, suc, ◌+◌, ◌<◌, if◌then◌else◌, Bool, true, false, List, [], length, slice_index, Option, Some, None}
+use Rattle.std.specs.Option.{option_map, option_map_or, option_and_then}
+use Rattle.volume_codec.specs.Layout.{GeometryValue, journals_of}
+use Rattle.volume_codec.specs.Descriptor.{IsDescribed}
+use Rattle.volume_codec.specs.Recovery.{Batch}
+use Rattle.journal.specs.declared.stage.Stage.{Stage}
+use Rattle.journal.specs.declared.stage.Stage.TheVariants.{Recording}
+use Rattle.journal.specs.declared.flushed.Flushed.{Flushed}
+use Rattle.journal.specs.declared.flushed.Flushed.TheVariants.{Device, Broken}
+use Rattle.journal.specs.Stage.{stage_at, is_committed, answer_at}
+use Rattle.journal.specs.Work.{Work, Nothing, work_at, calls_of}
+
+-- a batch of a volume of this geometry: its journal is there, and a descriptor can say it
+pub record IsBatch (g : GeometryValue) (batch : Batch) : Type 0 where
+  pub there : batch.journal < journals_of g.layout
+  pub described : IsDescribed g (record { mark = batch.mark; homes = batch.homes })
+
+-- a batch, and how many steps of its write-out were made
+pub record WriteOut : Type 0 where
+  pub batch : Batch
+  pub steps : ℕ
+
+-- the write-out of a batch before its first step
+abbrev pub begun_of : Batch → WriteOut
+begun_of batch = record { batch = batch; steps = 0 }
+
+-- the write-out after one more step
+abbrev pub advanced_of : WriteOut → WriteOut
+advanced_of w = record w { steps = w.steps + 1 }
+
+-- the stage of its next step, unless it is done
+abbrev pub next_stage : WriteOut → Option Stage
+next_stage w = stage_at (length w.batch.homes) w.steps
+
+-- its batch is committed
+abbrev pub has_committed : WriteOut → Bool
+has_committed w = option_map_or is_committed (next_stage w) true
+
+-- the place of the record that its next step writes, if it writes one, and the home block of that record
+abbrev pub record_at : Stage → Option ℕ
+record_at (Recording i) = Some i
+record_at stage = None
+
+abbrev pub next_record : WriteOut → Option ℕ
+next_record w = option_and_then record_at (next_stage w)
+
+abbrev pub next_home : WriteOut → Option ℕ
+next_home w = option_map (slice_index w.batch.homes) (next_record w)
+
+-- what its next step asks of the device, in a volume of this geometry, where it is given these bytes as a record
+abbrev pub work_of : GeometryValue → List ℕ → WriteOut → Work
+work_of g bytes w = option_map_or (work_at g w.batch bytes) (next_stage w) Nothing
+
+-- what its next step answers where its device calls succeed
+abbrev pub answer_of : WriteOut → Flushed
+answer_of w = option_map_or (answer_at w.batch.mark) (next_stage w) Broken
+
+-- the write-out, and whether a device call failed, after a step that answers so
+abbrev pub write_out_after : Flushed → WriteOut → WriteOut
+write_out_after Device w = w
+write_out_after Broken w = w
+write_out_after answer w = advanced_of w
+
+abbrev pub broken_after : Flushed → Bool → Bool
+broken_after Device broken = true
+broken_after answer broken = broken
+
+-- how many device calls the first steps of a batch's write-out make together, where none fails
+abbrev pub calls_in_steps : GeometryValue → Batch → ℕ → ℕ
+calls_in_steps g batch zero = 0
+calls_in_steps g batch (suc steps) =
+    calls_in_steps g batch steps + calls_of (work_of g [] (record { batch = batch; steps = steps }))
+
+-- ---- a `Flush`
+
+pub record FlushValue : Type 0 where
+  -- where the volume has its parts
+  pub geometry : GeometryValue
+  pub write_out : WriteOut
+  -- a call of the device failed in a step
+  pub broken : Bool
+  -- how many home blocks its list has memory for
+  pub room : ℕ
+
+-- before its first step
+abbrev pub flush_of : GeometryValue → Batch → ℕ → FlushValue
+flush_of g batch room = record { geometry = g; write_out = begun_of batch; broken = false; room = room }
+
+-- the record and its home block, the work and the answer of its next step
+abbrev pub flush_record : FlushValue → Option ℕ
+flush_record flush = if flush.broken then None else next_record flush.write_out
+
+abbrev pub flush_home : FlushValue → Option ℕ
+flush_home flush = if flush.broken then None else next_home flush.write_out
+
+abbrev pub flush_work : FlushValue → List ℕ → Work
+flush_work flush bytes = if flush.broken then Nothing else work_of flush.geometry bytes flush.write_out
+
+abbrev pub flush_answer : FlushValue → Flushed
+flush_answer flush = if flush.broken then Broken else answer_of flush.write_out
+
+-- the value after a step that answers so
+abbrev pub flush_after : FlushValue → Flushed → FlushValue
+flush_after flush answer = record flush {
+  write_out = write_out_after answer flush.write_out;
+  broken = broken_after answer flush.broken;
+}

@@ -1,0 +1,284 @@
+// One write-out.
+ghost use Rattle.std.specs.Prelude.{◌≡◌, ◌≢◌, ◌↔◌, ◌⊎◌, ℕ, ◌+◌, ◌-◌, ◌*◌, ◌^◌, ◌<◌, ◌≤◌, false, true, IsTrue, IsSome, List, length, slice_index, Contains, Some, IfSome, OnOk, IsOk, IsErr};
+ghost use Rattle.std.specs.Vec.{vec_capacity};
+ghost use Rattle.device.specs.Device.{Only, LeavesOnly};
+ghost use Rattle.volume_codec.specs.Layout.{IsHome};
+ghost use Rattle.journal.specs.Work.{CopyBlock, Sync, worked, TornByWork, TornFromWork, calls_of, HasFailed, faults_of};
+ghost use Rattle.journal.specs.inside.Sound.{stage_work};
+ghost use Rattle.journal.specs.WriteOut.{next_stage, has_committed};
+ghost use Rattle.journal.specs.WriteOut.{IsBatch, flush_of, flush_record, flush_home, flush_work, flush_answer, flush_after};
+
+use crate::gate::open_gate;
+use crate::{Flushed, Stage, apply_record, close_gate, stage_at};
+use device::{Device, DeviceFault};
+use std::alloc::Allocator;
+use std::marker::Model;
+use volume_codec::{Geometry, write_descriptor};
+
+/// A write-out: a batch of blocks on its way through a journal to its home blocks, one step at a time.
+#[derive(Drop)]
+pub struct Flush<A: Allocator + Copy> {
+    geometry: Geometry,
+    journal: u32,
+    mark: u64,
+    homes: Vec<u32, A>,
+    steps: u32,
+    broken: bool,
+}
+
+impl<A: Allocator + Copy> Model for Flush<A> {
+    ghost use Rattle.std.specs.Vec.{vec_capacity};
+    ghost use Rattle.journal.specs.WriteOut.{FlushValue};
+
+    ghost Value = { FlushValue };
+
+    ghost use Rattle.journal.specs.inside.Sound.{IsFlush};
+
+    ghost view = { λ f. record {
+      geometry = f.geometry;
+      write_out = record {
+        batch = record { journal = f.journal; mark = f.mark; homes = f.homes.items };
+        steps = f.steps;
+      };
+      broken = f.broken;
+      room = vec_capacity f.homes;
+    } };
+
+    ghost invariant = { λ f.
+        IsFlush f.geometry (record { journal = f.journal; mark = f.mark; homes = f.homes.items }) };
+}
+
+impl<A: Allocator + Copy> Flush<A> {
+    /// A write-out of a batch, before its first step: of these home blocks, in rising order, through this journal,
+    /// committed under this mark. It takes no memory.
+    pub fn new(geometry: Geometry, journal: u32, mark: u64, homes: Vec<u32, A>) -> Self
+        requires { IsBatch geometry (record { journal = journal; mark = mark; homes = homes.items }) }
+        ensures { result ≡ flush_of geometry
+            (record { journal = journal; mark = mark; homes = homes.items }) (vec_capacity homes) }
+    {
+        prove!(geometry.slots() <= 1020);
+        Flush {
+            geometry,
+            journal,
+            mark,
+            homes,
+            steps: 0,
+            broken: false,
+        }
+    }
+
+    /// The journal, counted from 0.
+    pub fn journal(&self) -> u32
+        ensures { result ≡ self.now.write_out.batch.journal }
+    {
+        self.journal
+    }
+
+    /// The mark that the batch is committed under.
+    pub fn mark(&self) -> u64
+        ensures { result ≡ self.now.write_out.batch.mark }
+    {
+        self.mark
+    }
+
+    /// The home blocks, in rising order. Record i is for the block at place i.
+    pub fn homes(&self) -> &[u32]
+        ensures { result.now ≡ self.now.write_out.batch.homes }
+    {
+        &self.homes
+    }
+
+    /// The stage of the next step; `None` once the write-out is done.
+    pub fn stage(&self) -> Option<Stage>
+        ensures { result ≡ next_stage self.now.write_out }
+    {
+        stage_at(self.homes.len() as u32, self.steps)
+    }
+
+    /// Whether a device call failed in a step.
+    pub fn is_broken(&self) -> bool
+        ensures { result ≡ self.now.broken }
+    {
+        self.broken
+    }
+
+    /// Whether the batch is committed.
+    pub fn is_committed(&self) -> bool
+        ensures { result ≡ has_committed self.now.write_out }
+    {
+        match self.stage() {
+            Some(stage) => stage.is_committed(),
+            None => true,
+        }
+    }
+
+    /// The place of the record that the next step writes; `None` where that step is another, or no device call will
+    /// be made.
+    pub fn next_record(&self) -> Option<u32>
+        ensures place { result ≡ flush_record self.now }
+        ensures within { IfSome result (λ place. place < length self.now.write_out.batch.homes) }
+    {
+        if self.broken {
+            return None;
+        }
+        match self.stage() {
+            Some(Stage::Recording(record)) => Some(record),
+            _ => None,
+        }
+    }
+
+    /// The home block of that record: the next step is given its new bytes.
+    pub fn next_home(&self) -> Option<u32>
+        ensures { result ≡ flush_home self.now }
+    {
+        let record = self.next_record()?;
+        Some(self.home_at(record))
+    }
+
+    // The home block at a place.
+    fn home_at(&self, place: u32) -> u32
+        requires { place < length self.now.write_out.batch.homes }
+        ensures value { result ≡ slice_index self.now.write_out.batch.homes place }
+        ensures home { IsHome self.now.geometry result }
+        ensures slot { place < self.now.geometry.slots }
+    {
+        self.homes[place as usize]
+    }
+
+    /// Whether the home block belongs to the batch.
+    pub fn has_block(&self, home: u32) -> bool
+        ensures { IsTrue result ↔ Contains self.now.write_out.batch.homes home }
+    {
+        self.homes.binary_search(&home).is_ok()
+    }
+
+    // Does what the step of this stage asks of the device.
+    fn carry_out<D: Device>(
+        &self,
+        device: &mut D,
+        stage: Stage,
+        bytes: &[u8; 4096],
+    ) -> Result<(), DeviceFault>
+        requires long { 4096 * self.now.geometry.blocks ≤ length (D.seen device.old) }
+        requires stage { next_stage self.now.write_out ≡ Some stage }
+
+        ensures worked { D.is_honest device.old → OnOk result
+            (D.seen device.new ≡ worked (D.seen device.old) (stage_work self.now bytes.now stage)) }
+        ensures torn { IsErr result → D.is_honest device.old
+            → TornByWork (stage_work self.now bytes.now stage) (D.seen device.old) (D.seen device.new) }
+        ensures left { (c : List ℕ) → D.may_leave device.new c
+            → TornFromWork (stage_work self.now bytes.now stage) (D.may_leave device.old) c }
+        ensures sure { D.is_honest device.old → stage_work self.now bytes.now stage ≡ Sync
+            → OnOk result (Only (D.may_leave device.new) (D.seen device.old)) }
+        ensures time { LeavesOnly D.moment D.left_since device.old device.new
+            (TornFromWork (stage_work self.now bytes.now stage) (D.may_leave device.old)) }
+
+        ensures honest { D.is_honest device.new ↔ D.is_honest device.old }
+        ensures len { length (D.seen device.new) ≡ length (D.seen device.old) }
+        ensures calls { D.calls_made device.old < 2 ^ 64 - 2 → OnOk result
+            (D.calls_made device.new ≡ D.calls_made device.old + calls_of (stage_work self.now bytes.now stage)) }
+        ensures failed_calls { IsErr result → D.calls_made device.old < 2 ^ 64 - 2
+            → HasFailed (stage_work self.now bytes.now stage) (D.calls_made device.old) (D.calls_made device.new) }
+        ensures failed_read { IsErr result → D.calls_made device.old < 2 ^ 64 - 2 → D.is_honest device.old
+            → (from to : ℕ) → stage_work self.now bytes.now stage ≡ CopyBlock from to
+            → D.calls_made device.new ≡ D.calls_made device.old + 1 → D.seen device.new ≡ D.seen device.old }
+        ensures failed { IsErr result → D.faults_met device.old < 2 ^ 64 - 1
+            → D.faults_met device.new ≡ D.faults_met device.old + 1 }
+        ensures done { IsOk result → D.faults_met device.new ≡ D.faults_met device.old }
+        ensures faults_stay { 2 ^ 64 - 1 ≤ D.faults_met device.old → D.faults_met device.new ≡ D.faults_met device.old }
+    {
+        match stage {
+            Stage::Recording(slot) => {
+                let block = self.geometry.record_block(self.journal, slot);
+                prove!(block < self.geometry.block_count());
+                device.write(4096 * u64::from(block), bytes)
+            }
+            Stage::Describing => {
+                let block = self.geometry.descriptor_block(self.journal);
+                prove!(block < self.geometry.block_count());
+                let descriptor = write_descriptor(&self.geometry, self.mark, &self.homes);
+                device.write(4096 * u64::from(block), &descriptor)
+            }
+            Stage::Opening => open_gate(device, &self.geometry, self.journal),
+            Stage::Applying(slot) => {
+                let home = self.home_at(slot);
+                apply_record(device, &self.geometry, self.journal, slot, home)
+            }
+            Stage::Closing => close_gate(device, &self.geometry, self.journal),
+            Stage::SyncingRecords | Stage::Committing | Stage::SyncingHomes | Stage::Finishing =>
+                device.sync(),
+        }
+    }
+
+    /// The next step: what its stage asks is done. It answers what the stage does, or `Device` where a device call
+    /// failed; then the write-out is broken, and every later step answers `Broken`, makes no call and changes nothing.
+    /// `bytes` are the new ones of the block `next_home`, where there is one. It takes no memory.
+    pub fn step<D: Device>(&mut self, device: &mut D, bytes: &[u8; 4096]) -> Flushed
+        requires long { 4096 * self.old.geometry.blocks ≤ length (D.seen device.old) }
+        requires going { IsSome (next_stage self.old.write_out) }
+
+        ensures answer { (result ≡ flush_answer self.old) ⊎ (result ≡ Flushed.Device) }
+        ensures broken { self.old.broken ≡ true → (result ≡ Flushed.Broken) × (device.new ≡ device.old) }
+        ensures value { self.new ≡ flush_after self.old result }
+
+        // What is on the device.
+        ensures worked { D.is_honest device.old → result ≢ Flushed.Device
+            → D.seen device.new ≡ worked (D.seen device.old) (flush_work self.old bytes.now) }
+        ensures torn { D.is_honest device.old → result ≡ Flushed.Device
+            → TornByWork (flush_work self.old bytes.now) (D.seen device.old) (D.seen device.new) }
+
+        // What a crash may leave after the step, and at any moment of it.
+        ensures left { (c : List ℕ) → D.may_leave device.new c
+            → TornFromWork (flush_work self.old bytes.now) (D.may_leave device.old) c }
+        ensures sure { D.is_honest device.old → result ≢ Flushed.Device → flush_work self.old bytes.now ≡ Sync
+            → Only (D.may_leave device.new) (D.seen device.old) }
+        ensures time { LeavesOnly D.moment D.left_since device.old device.new
+            (TornFromWork (flush_work self.old bytes.now) (D.may_leave device.old)) }
+
+        ensures honest { D.is_honest device.new ↔ D.is_honest device.old }
+        ensures len { length (D.seen device.new) ≡ length (D.seen device.old) }
+
+        // How many device calls were made and how many failed.
+        ensures calls { D.calls_made device.old < 2 ^ 64 - 2 → result ≢ Flushed.Device
+            → D.calls_made device.new ≡ D.calls_made device.old + calls_of (flush_work self.old bytes.now) }
+        ensures failed_calls { D.calls_made device.old < 2 ^ 64 - 2 → result ≡ Flushed.Device
+            → HasFailed (flush_work self.old bytes.now) (D.calls_made device.old) (D.calls_made device.new) }
+        ensures failed_read { D.calls_made device.old < 2 ^ 64 - 2 → D.is_honest device.old → result ≡ Flushed.Device
+            → (from to : ℕ) → flush_work self.old bytes.now ≡ CopyBlock from to
+            → D.calls_made device.new ≡ D.calls_made device.old + 1 → D.seen device.new ≡ D.seen device.old }
+        ensures faults { D.faults_met device.old < 2 ^ 64 - 1
+            → D.faults_met device.new ≡ D.faults_met device.old + faults_of result }
+        ensures faults_stay { 2 ^ 64 - 1 ≤ D.faults_met device.old → D.faults_met device.new ≡ D.faults_met device.old }
+    {
+        if self.broken {
+            return Flushed::Broken;
+        }
+        let stage = self.stage().unwrap();
+        match self.carry_out(device, stage, bytes) {
+            Ok(()) => {
+                self.steps += 1;
+                stage.answer(self.mark)
+            }
+            Err(_) => {
+                self.broken = true;
+                Flushed::Device
+            }
+        }
+    }
+
+    /// The list of home blocks, so that its memory serves again.
+    pub fn into_homes(self) -> Vec<u32, A>
+        ensures items { result.items ≡ self.write_out.batch.homes }
+        ensures room { vec_capacity result ≡ self.room }
+    {
+        let Flush {
+            geometry: _,
+            journal: _,
+            mark: _,
+            homes,
+            steps: _,
+            broken: _,
+        } = self;
+        homes
+    }
+}

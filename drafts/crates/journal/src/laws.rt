@@ -1,0 +1,99 @@
+// What follows of the definitions alone.
+ghost use Rattle.std.specs.Prelude.{◌≡◌, ◌↔◌, ℕ, ◌+◌, ◌*◌, ◌^◌, ◌<◌, ◌≤◌, false, List, [], ◌∷◌, ◌++◌, length, slice_index, Contains, Some, None};
+ghost use Rattle.std.specs.List.{AllByRecursion};
+ghost use Rattle.device.specs.Device.{Torn, Only};
+ghost use Rattle.volume_codec.specs.Layout.{GeometryValue, IsHome, journals_of, gate_block, descriptor_block, record_block, block_at};
+ghost use Rattle.volume_codec.specs.Super.{SuperValue, geometry_of};
+ghost use Rattle.volume_codec.specs.Descriptor.{descriptor_text, AreHomes};
+ghost use Rattle.volume_codec.specs.Recovery.{Batch, IsOpen, IsNewer, has_journal, IsVolume};
+ghost use Rattle.journal.specs.declared.stage.Stage.TheVariants.{Committing, Finishing};
+ghost use Rattle.journal.specs.Stage.{stage_at};
+ghost use Rattle.journal.specs.declared.flushed.Flushed.{Flushed};
+ghost use Rattle.journal.specs.WriteOut.{WriteOut, IsBatch, calls_in_steps};
+ghost use Rattle.journal.specs.WriteOuts.{WriteOutsValue, none_of, has_uncommitted, is_busy, begun, outs_after};
+ghost use Rattle.journal.specs.Recovered.{RecoversBy, IsUnread};
+ghost use Rattle.journal.specs.Crash.{Stands};
+
+use device::Device;
+
+/// Which steps the stages are, of a write-out of k blocks: step k + 4 commits the batch, step 2k + 7 is the last one, and
+/// all steps together make 3k + 7 device calls.
+pub fn steps_of_a_write_out()
+    ensures commits { (k : ℕ) → stage_at k (k + 3) ≡ Some Committing }
+    ensures finishes { (k : ℕ) → stage_at k (2 * k + 6) ≡ Some Finishing }
+    ensures ends { (k n : ℕ) → (stage_at k n ≡ None) ↔ (2 * k + 7 ≤ n) }
+    ensures calls { (g : GeometryValue) (batch : Batch) → let k = length batch.homes in
+        calls_in_steps g batch (2 * k + 7) ≡ 3 * k + 7 }
+{}
+
+/// A step makes no batch: each that isn't done after it was there before it.
+pub fn no_step_makes_a_batch()
+    ensures { (outs : WriteOutsValue) (answer : Flushed) (w : WriteOut) → Contains (outs_after outs answer).batches w
+        → (before : WriteOut) × Contains outs.batches before × (before.batch ≡ w.batch) }
+{}
+
+/// Write-outs of which none has begun stand with an opened volume all of which is on the disk: Old and New are its home
+/// blocks.
+pub fn stands_at_first<D: Device>(device: &D)
+    ensures { (v : SuperValue) → IsVolume v [] (D.seen device.now) → Only (D.may_leave device.now) (D.seen device.now)
+        → Stands v (none_of (geometry_of v)) (block_at (D.seen device.now)) (block_at (D.seen device.now))
+        (D.seen device.now) (D.may_leave device.now) }
+{}
+
+/// A batch that begins turns what was New into Old, and each contents that agree with it outside the batch into New.
+pub fn stands_once_begun<D: Device>(device: &D)
+    ensures { (v : SuperValue) (outs : WriteOutsValue) (old new next : ℕ → List ℕ) (mark : ℕ) (homes : List ℕ)
+        → outs.broken ≡ false → is_busy outs ≡ false → 0 < mark → mark < 2 ^ 64 → AreHomes outs.geometry homes
+        → AllByRecursion (λ w. w.batch.mark < mark) outs.batches
+        → ((b : ℕ) → (Contains homes b → ⊥) → next b ≡ new b)
+        → Stands v outs old new (D.seen device.now) (D.may_leave device.now)
+        → Stands v (begun outs mark homes) new next (D.seen device.now) (D.may_leave device.now) }
+{}
+
+/// Where each batch is committed, Old plays no part.
+pub fn stands_without_old<D: Device>(device: &D)
+    ensures { (v : SuperValue) (outs : WriteOutsValue) (old other new : ℕ → List ℕ) → has_uncommitted outs.batches ≡ false
+        → Stands v outs old new (D.seen device.now) (D.may_leave device.now)
+        → Stands v outs other new (D.seen device.now) (D.may_leave device.now) }
+{}
+
+/// Bytes recover to the same contents, by the same batches, whatever becomes of a block that recovery doesn't read: a
+/// record slot or the descriptor of a closed journal, or a home block that has a record in an open one.
+pub fn unread_blocks()
+    ensures kept { (v : SuperValue) (opened : List Batch) (contents : ℕ → List ℕ) (c torn : List ℕ) (block n : ℕ)
+        → RecoversBy v opened contents c → IsUnread v opened block → n ≤ 4096 → Torn (4096 * block) n c torn
+        → RecoversBy v opened contents torn }
+    ensures record_slot { (v : SuperValue) (opened : List Batch) (c : List ℕ) (j i : ℕ) → IsVolume v opened c
+        → j < journals_of v.layout → i < v.slots → has_journal opened j ≡ false
+        → IsUnread v opened (record_block v.slots j i) }
+    ensures descriptor { (v : SuperValue) (opened : List Batch) (c : List ℕ) (j : ℕ) → IsVolume v opened c
+        → j < journals_of v.layout → has_journal opened j ≡ false → IsUnread v opened (descriptor_block v.slots j) }
+    ensures home { (v : SuperValue) (opened : List Batch) (c : List ℕ) (batch : Batch) (b : ℕ) → IsVolume v opened c
+        → Contains opened batch → Contains batch.homes b → IsHome (geometry_of v) b → IsUnread v opened b }
+{}
+
+/// What becomes of recovered contents where a gate's byte is torn. While the gate is open as it was, or closed as it was,
+/// they stay. Where it opens over a descriptor and records that are there, the batch's blocks get the records. Where the
+/// gate of the oldest batch closes, whose records are all at home, they stay.
+pub fn torn_gates()
+    ensures kept { (v : SuperValue) (opened : List Batch) (contents : ℕ → List ℕ) (c torn : List ℕ) (j : ℕ)
+        → RecoversBy v opened contents c → j < journals_of v.layout → Torn (4096 * gate_block v.slots j) 1 c torn
+        → (IsOpen torn v.slots j → IsOpen c v.slots j) → (IsOpen c v.slots j → IsOpen torn v.slots j)
+        → RecoversBy v opened contents torn }
+    ensures opens { (v : SuperValue) (opened : List Batch) (old new : ℕ → List ℕ) (batch : Batch) (c torn : List ℕ)
+        → RecoversBy v opened old c → IsBatch (geometry_of v) batch → IsNewer batch opened
+        → has_journal opened batch.journal ≡ false
+        → block_at c (descriptor_block v.slots batch.journal)
+        ≡ descriptor_text (record { mark = batch.mark; homes = batch.homes })
+        → ((i : ℕ) → i < length batch.homes
+        → block_at c (record_block v.slots batch.journal i) ≡ new (slice_index batch.homes i))
+        → ((b : ℕ) → (Contains batch.homes b → ⊥) → new b ≡ old b)
+        → Torn (4096 * gate_block v.slots batch.journal) 1 c torn → IsOpen torn v.slots batch.journal
+        → RecoversBy v (batch ∷ opened) new torn }
+    ensures closes { (v : SuperValue) (newer : List Batch) (oldest : Batch) (contents : ℕ → List ℕ) (c torn : List ℕ)
+        → RecoversBy v (newer ++ oldest ∷ []) contents c → has_journal newer oldest.journal ≡ false
+        → ((i : ℕ) → i < length oldest.homes
+        → block_at c (slice_index oldest.homes i) ≡ block_at c (record_block v.slots oldest.journal i))
+        → Torn (4096 * gate_block v.slots oldest.journal) 1 c torn → (IsOpen torn v.slots oldest.journal → ⊥)
+        → RecoversBy v newer contents torn }
+{}

@@ -1,0 +1,23 @@
+//! The journal of a volume: a redo log (Park, Kelly and Shen 2013, failure-atomic msync). The blocks of a batch are
+//! recorded beside their homes, committed together by one byte, and then written home. What a crash leaves at any moment
+//! is said by the contents that a volume's bytes recover to.
+#![tactic(auto)]
+
+mod copying;
+mod flush;
+mod flushed;
+mod gate;
+mod laws;
+mod stage;
+mod write_outs;
+
+pub use copying::apply_record;
+pub use flush::Flush;
+pub use flushed::Flushed;
+pub use gate::close_gate;
+pub use laws::{
+    no_step_makes_a_batch, stands_at_first, stands_once_begun, stands_without_old,
+    steps_of_a_write_out, torn_gates, unread_blocks,
+};
+pub use stage::{Stage, stage_at};
+pub use write_outs::WriteOuts;

@@ -1,0 +1,304 @@
+// The write-outs of a volume that aren't done.
+ghost use Rattle.std.specs.Prelude.{◌≡◌, ◌≢◌, ◌↔◌, ◌⊎◌, ℕ, ◌+◌, ◌-◌, ◌*◌, ◌^◌, ◌<◌, ◌≤◌, false, true, not, IsTrue, IsSome, List, [], length, map, Contains, Some, IfSome, IfNone, IfOk, OnOk, IsOk, IsErr, slice_get};
+ghost use Rattle.std.specs.List.{AllByRecursion};
+ghost use Rattle.std.specs.Vec.{vec_len, vec_capacity};
+ghost use Rattle.device.specs.Device.{Only, LeavesOnly};
+ghost use Rattle.volume_codec.specs.Layout.{IsGeometry, journals_of};
+ghost use Rattle.volume_codec.specs.Descriptor.{AreHomes};
+ghost use Rattle.volume_codec.specs.Super.{SuperValue};
+ghost use Rattle.journal.specs.Work.{CopyBlock, Sync, worked, TornByWork, TornFromWork, calls_of, HasFailed, faults_of};
+ghost use Rattle.journal.specs.WriteOut.{broken_after};
+ghost use Rattle.journal.specs.WriteOuts.{none_of, has_uncommitted, current, current_stage, outs_record, outs_home, next_work, next_answer, outs_after, is_busy, following, begun, HasBlock};
+ghost use Rattle.journal.specs.inside.Room.{IsCurrent, kept_after, spare_after};
+ghost use Rattle.journal.specs.Crash.{LeftWithin, Stands};
+
+use crate::{Flush, Flushed, Stage};
+use device::Device;
+use std::alloc::{AllocError, Allocator};
+use std::marker::Model;
+use volume_codec::Geometry;
+
+/// The write-outs of a volume that aren't done: at most one for each journal. A batch may be recorded and committed while
+/// an older one is still applied; its own application waits until the older one is done.
+#[derive(Drop)]
+pub struct WriteOuts<A: Allocator + Copy> {
+    geometry: Geometry,
+    next: u32,
+    // The oldest first. There is room for one in each journal.
+    flushes: Vec<Flush<A>, A>,
+    // Lists with room for the home blocks of a batch, for the journals that have none.
+    spare: Vec<Vec<u32, A>, A>,
+    broken: bool,
+}
+
+impl<A: Allocator + Copy> Model for WriteOuts<A> {
+    ghost use Rattle.std.specs.Prelude.{map};
+    ghost use Rattle.std.specs.Vec.{vec_capacity};
+    ghost use Rattle.journal.specs.WriteOuts.{WriteOutsValue};
+
+    ghost Value = { WriteOutsValue };
+
+    ghost use Rattle.journal.specs.inside.Room.{outs_of, HasRoom};
+
+    ghost view = { λ o. outs_of o.geometry o.next o.flushes.items o.broken };
+
+    ghost invariant = { λ o. HasRoom (outs_of o.geometry o.next o.flushes.items o.broken)
+        o.flushes.items (vec_capacity o.flushes)
+        (map (λ list. vec_capacity list) o.spare.items) (vec_capacity o.spare) };
+}
+
+// The journal whose turn it is after this one.
+fn journal_after(geometry: &Geometry, journal: u32) -> u32
+    requires { journal < journals_of geometry.now.layout }
+    ensures { result ≡ following geometry.now.layout journal }
+{
+    if journal + 1 == geometry.journals() {
+        0
+    } else {
+        journal + 1
+    }
+}
+
+// Lists of home blocks, as many as journals, each with room for as many blocks as there are slots.
+fn spare_lists<A: Allocator + Copy>(
+    alloc: A,
+    journals: usize,
+    slots: usize,
+) -> Result<Vec<Vec<u32, A>, A>, AllocError>
+    ensures lists { IfOk result (λ lists.
+        AllByRecursion (λ room. slots ≤ room) (map (λ list. vec_capacity list) lists.items)) }
+    ensures count { IfOk result (λ lists. vec_len lists ≡ journals) }
+    ensures room { IfOk result (λ lists. journals ≤ vec_capacity lists) }
+{
+    let mut lists = Vec::with_capacity(alloc, journals)?;
+    for _journal in 0..journals {
+        lists.push(Vec::with_capacity(alloc, slots)?)?;
+    }
+    Ok(lists)
+}
+
+// A list of these home blocks, in the memory of another.
+fn refilled<A: Allocator + Copy>(mut list: Vec<u32, A>, homes: &[u32]) -> Vec<u32, A>
+    requires { length homes.now ≤ vec_capacity list }
+    ensures items { result.items ≡ homes.now }
+    ensures room { vec_capacity list ≤ vec_capacity result }
+{
+    list.clear();
+    // There is room for them.
+    let _ = list.extend_from_slice(homes);
+    list
+}
+
+// What follows of a step's answer: the oldest leaves where it is done, and its list is spare again; or a device call has
+// failed.
+fn settle<A: Allocator + Copy>(
+    flushes: &mut Vec<Flush<A>, A>,
+    spare: &mut Vec<Vec<u32, A>, A>,
+    broken: &mut bool,
+    answer: Flushed,
+)
+    requires some { 0 < vec_len flushes.old }
+    requires room { vec_len spare.old < vec_capacity spare.old }
+    ensures flushes { flushes.new.items ≡ kept_after answer flushes.old.items }
+    ensures spare { map (λ list. vec_capacity list) spare.new.items
+        ≡ spare_after answer flushes.old.items (map (λ list. vec_capacity list) spare.old.items) }
+    ensures broken { broken.new ≡ broken_after answer broken.old }
+    ensures capacity { vec_capacity flushes.new ≡ vec_capacity flushes.old }
+    ensures spare_capacity { vec_capacity spare.old ≤ vec_capacity spare.new }
+{
+    match answer {
+        Flushed::Device => *broken = true,
+        Flushed::Done(_) => {
+            let done = flushes.remove(0);
+            let _ = spare.push(done.into_homes());
+        }
+        _ => {}
+    }
+}
+
+impl<A: Allocator + Copy> WriteOuts<A> {
+    /// No write-outs yet, with memory for one batch in each journal, of as many blocks as a journal has record slots.
+    pub fn new(alloc: A, geometry: Geometry) -> Result<Self, AllocError>
+        ensures { IfOk result (λ outs. outs ≡ none_of geometry) }
+    {
+        let journals = geometry.journals() as usize;
+        let slots = geometry.slots() as usize;
+        Ok(WriteOuts {
+            geometry,
+            next: 0,
+            flushes: Vec::with_capacity(alloc, journals)?,
+            spare: spare_lists(alloc, journals, slots)?,
+            broken: false,
+        })
+    }
+
+    /// Whether they are as `new` leaves them.
+    pub fn is_fresh(&self) -> bool
+        ensures { IsTrue result ↔ (self.now ≡ none_of self.now.geometry) }
+    {
+        self.next == 0 && self.flushes.is_empty() && !self.broken
+    }
+
+    /// Whether every batch is done.
+    pub fn is_empty(&self) -> bool
+        ensures { IsTrue result ↔ (self.now.batches ≡ []) }
+    {
+        self.flushes.is_empty()
+    }
+
+    /// Whether a device call failed in a step. Then no further step is made.
+    pub fn is_broken(&self) -> bool
+        ensures { result ≡ self.now.broken }
+    {
+        self.broken
+    }
+
+    // Whether a batch isn't committed: then it is the newest.
+    fn has_uncommitted(&self) -> bool
+        ensures { result ≡ has_uncommitted self.now.batches }
+    {
+        match self.flushes.len().checked_sub(1) {
+            Some(last) => !self.flushes[last].is_committed(),
+            None => false,
+        }
+    }
+
+    /// Whether no further batch may begin: one isn't committed, or as many aren't done as there are journals.
+    pub fn is_busy(&self) -> bool
+        ensures { result ≡ is_busy self.now }
+    {
+        self.has_uncommitted() || self.flushes.len() == self.geometry.journals() as usize
+    }
+
+    /// Whether a home block belongs to a batch that isn't done.
+    pub fn has_block(&self, home: u32) -> bool
+        ensures { IsTrue result ↔ HasBlock self.now home }
+    {
+        for flush in &self.flushes {
+            if flush.has_block(home) {
+                return true;
+            }
+        }
+        false
+    }
+
+    // The place of the write-out whose step comes next.
+    fn current_place(&self) -> Option<usize>
+        ensures some { IfSome result (IsCurrent self.now.batches) }
+        ensures none { IfNone result (self.now.batches ≡ []) }
+    {
+        let last = self.flushes.len().checked_sub(1)?;
+        Some(if self.has_uncommitted() { last } else { 0 })
+    }
+
+    /// The stage of the next step; `None` where every batch is done.
+    pub fn stage(&self) -> Option<Stage>
+        ensures { result ≡ current_stage self.now }
+    {
+        let at = self.current_place()?;
+        self.flushes[at].stage()
+    }
+
+    /// The place, in its batch, of the record that the next step writes; `None` where that step is another, or no device
+    /// call will be made.
+    pub fn next_record(&self) -> Option<u32>
+        ensures { result ≡ outs_record self.now }
+    {
+        if self.broken {
+            return None;
+        }
+        let at = self.current_place()?;
+        self.flushes[at].next_record()
+    }
+
+    /// The home block of that record: the next step is given its new bytes.
+    pub fn next_home(&self) -> Option<u32>
+        ensures { result ≡ outs_home self.now }
+    {
+        if self.broken {
+            return None;
+        }
+        let at = self.current_place()?;
+        self.flushes[at].next_home()
+    }
+
+    /// Begins the write-out of a batch of these home blocks, in rising order, under a mark above those of all that aren't
+    /// done. It goes through the journal whose turn it is: journals take turns by batches, from journal 0 on, and that one
+    /// is free since the write-outs aren't busy. It takes no memory and makes no device call.
+    pub fn begin(&mut self, mark: u64, homes: &[u32])
+        requires whole { self.old.broken ≡ false }
+        requires free { is_busy self.old ≡ false }
+        requires some_mark { 0 < mark }
+        requires homes { AreHomes self.old.geometry homes.now }
+        requires newest { AllByRecursion (λ w. w.batch.mark < mark) self.old.batches }
+        ensures { self.new ≡ begun self.old mark homes.now }
+    {
+        let list = refilled(self.spare.pop().unwrap(), homes);
+        let flush = Flush::new(self.geometry, self.next, mark, list);
+        // There is room for a write-out in each journal.
+        let _ = self.flushes.push(flush);
+        self.next = journal_after(&self.geometry, self.next);
+    }
+
+    /// The next step: of the batch that isn't committed, or if there is none of the oldest. What its stage asks is done.
+    /// It answers what the stage does, or `Device` where a device call failed; then the write-outs are broken, and every
+    /// later step answers `Broken`, makes no call and changes nothing. `bytes` are the new ones of the block
+    /// `next_home`, where there is one. It takes no memory.
+    pub fn step<D: Device>(&mut self, device: &mut D, bytes: &[u8; 4096]) -> Flushed
+        requires long { 4096 * self.old.geometry.blocks ≤ length (D.seen device.old) }
+        requires some { self.old.batches ≢ [] }
+
+        ensures answer { (result ≡ next_answer self.old) ⊎ (result ≡ Flushed.Device) }
+        ensures broken { self.old.broken ≡ true → (result ≡ Flushed.Broken) × (device.new ≡ device.old) }
+        ensures whole { self.old.broken ≡ false → result ≢ Flushed.Broken }
+        ensures value { self.new ≡ outs_after self.old result }
+
+        // With the same Old and New they stand after the step, and a crash at any moment of it leaves what it may.
+        ensures stands { (v : SuperValue) (old new : ℕ → List ℕ) → D.is_honest device.old
+            → Stands v self.old old new (D.seen device.old) (D.may_leave device.old)
+            → ((home : ℕ) → outs_home self.old ≡ Some home → bytes.now ≡ new home)
+            → Stands v self.new old new (D.seen device.new) (D.may_leave device.new) }
+        ensures crash { (v : SuperValue) (old new : ℕ → List ℕ)
+            → Stands v self.old old new (D.seen device.old) (D.may_leave device.old)
+            → ((home : ℕ) → outs_home self.old ≡ Some home → bytes.now ≡ new home)
+            → LeavesOnly D.moment D.left_since device.old device.new (LeftWithin v old new (current_stage self.old)) }
+
+        // What is on the device.
+        ensures worked { D.is_honest device.old → result ≢ Flushed.Device
+            → D.seen device.new ≡ worked (D.seen device.old) (next_work self.old bytes.now) }
+        ensures torn { D.is_honest device.old → result ≡ Flushed.Device
+            → TornByWork (next_work self.old bytes.now) (D.seen device.old) (D.seen device.new) }
+
+        // What a crash may leave after the step, and at any moment of it.
+        ensures left { (c : List ℕ) → D.may_leave device.new c
+            → TornFromWork (next_work self.old bytes.now) (D.may_leave device.old) c }
+        ensures sure { D.is_honest device.old → result ≢ Flushed.Device → next_work self.old bytes.now ≡ Sync
+            → Only (D.may_leave device.new) (D.seen device.old) }
+        ensures time { LeavesOnly D.moment D.left_since device.old device.new
+            (TornFromWork (next_work self.old bytes.now) (D.may_leave device.old)) }
+
+        ensures honest { D.is_honest device.new ↔ D.is_honest device.old }
+        ensures len { length (D.seen device.new) ≡ length (D.seen device.old) }
+
+        // How many device calls were made and how many failed.
+        ensures calls { D.calls_made device.old < 2 ^ 64 - 2 → result ≢ Flushed.Device
+            → D.calls_made device.new ≡ D.calls_made device.old + calls_of (next_work self.old bytes.now) }
+        ensures failed_calls { D.calls_made device.old < 2 ^ 64 - 2 → result ≡ Flushed.Device
+            → HasFailed (next_work self.old bytes.now) (D.calls_made device.old) (D.calls_made device.new) }
+        ensures failed_read { D.calls_made device.old < 2 ^ 64 - 2 → D.is_honest device.old → result ≡ Flushed.Device
+            → (from to : ℕ) → next_work self.old bytes.now ≡ CopyBlock from to
+            → D.calls_made device.new ≡ D.calls_made device.old + 1 → D.seen device.new ≡ D.seen device.old }
+        ensures faults { D.faults_met device.old < 2 ^ 64 - 1
+            → D.faults_met device.new ≡ D.faults_met device.old + faults_of result }
+        ensures faults_stay { 2 ^ 64 - 1 ≤ D.faults_met device.old → D.faults_met device.new ≡ D.faults_met device.old }
+    {
+        if self.broken {
+            return Flushed::Broken;
+        }
+        let at = self.current_place().unwrap();
+        let flush = &mut self.flushes[at];
+        let answer = flush.step(device, bytes);
+        settle(&mut self.flushes, &mut self.spare, &mut self.broken, answer);
+        answer
+    }
+}

@@ -1,0 +1,33 @@
+use Rattle.std.proofs.Common.{◌≡◌, ◌==◌, ◌⊎◌, inl, inr, ℕ, ◌<◌, Bool, true, false, not, ◌||◌, ◌&&◌, eqb, List, refl, ap, ◌∙◌, arith, get_or, length}
+use Rattle.std.proofs.lemmas.Bool.{or_right}
+use Rattle.std.proofs.lemmas.Bool.Decides.{nat_tests}
+use Rattle.pcid_tlb.specs.declared.Invpcid.{Invpcid}
+use Rattle.pcid_tlb.specs.declared.Invpcid.TheVariants.{AllContextsAndGlobals, AllContexts}
+use Rattle.shootdown.specs.Processors.{flags_kept, drops_pcid}
+use Rattle.shootdown.proofs.Flags.{flags_kept_all, set-flags_kept, flags_kept-from_each}
+use Rattle.shootdown.proofs.processor.forget.Goals.{else-pcid-space-via-then-pcid-space+else-pcid-may_cache, else-pcid-space-via-else-pcid-space}
+use Rattle.shootdown.proofs.processor.forget.Goals as goal
+
+or_false : (b : Bool) → b ≡ (b || false)
+or_false true = refl
+or_false false = refl
+
+pub returns-in-IndividualAddress : goal.returns-in-IndividualAddress
+returns-in-IndividualAddress c = rw c.in-IndividualAddress.is (flags_kept_all _ _ (λ k within. or_right (eqb k c.args.space) true refl))
+
+pub returns-then-pcid-may_cache : goal.returns-then-pcid-may_cache
+returns-then-pcid-may_cache c =
+    rw c.in-SingleContext.is (set-flags_kept _ _ _ (omega arith) (grind (arith, nat_tests)) (λ k other. grind (arith, nat_tests)))
+
+pub returns-else-pcid-space : goal.returns-else-pcid-space
+returns-else-pcid-space c = rw c.in-SingleContext.is (elim c.else-pcid-space.branch [
+  | else-pcid-space-via-then-pcid-space+else-pcid-may_cache w ↦ flags_kept_all _ _ (λ k within. grind (arith, nat_tests))
+  | else-pcid-space-via-else-pcid-space w ↦ flags_kept_all _ _ (λ k within. grind (arith, nat_tests))
+])
+
+all_cleared : (action : Invpcid) (space : ℕ) (flags new : List Bool) → (action ≡ AllContextsAndGlobals) ⊎ (action ≡ AllContexts) → length new ≡ length flags → ((k : ℕ) → k < length flags → get_or new k false ≡ (get_or flags k false && (k == space))) → new ≡ flags_kept (λ pcid. pcid == space || not (drops_pcid action pcid)) 0 flags
+all_cleared action space flags new (inl is) same each = rw is (flags_kept-from_each _ flags new same (λ k within. each k within ∙ ap (λ b. get_or flags k false && b) (or_false (k == space))))
+all_cleared action space flags new (inr is) same each = rw is (flags_kept-from_each _ flags new same (λ k within. each k within ∙ ap (λ b. get_or flags k false && b) (or_false (k == space))))
+
+pub returns-after-loop-pcid : goal.returns-after-loop-pcid
+returns-after-loop-pcid c = all_cleared c.args.action c.args.space _ _ c.in-AllContextsAndGlobals.is (omega arith) (λ k within. c.loop-pcid.invariant.0 k (omega arith))

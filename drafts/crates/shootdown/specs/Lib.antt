@@ -1,0 +1,5 @@
+pub mod Processors
+pub mod Shootdown
+pub mod Calls
+pub mod Coherence
+pub mod inside

@@ -1,0 +1,14 @@
+//! The shootdown of translations: processors with their TLBs, and the lock under which what they may have cached is
+//! changed (Black, Rashid, Golub, Hill and Baron 1989, "Translation Lookaside Buffer Consistency").
+#![tactic(auto)]
+
+mod lock;
+mod proc_state;
+mod processor;
+mod shootdown;
+#[cfg(test)]
+mod tests;
+
+pub use lock::Lock;
+pub use proc_state::ProcState;
+pub use shootdown::Shootdown;

@@ -1,0 +1,269 @@
+// One processor: its TLB, and the invalidations that it still has to carry out.
+ghost use Rattle.std.specs.Prelude.{◌≡◌, ◌==◌, ◌||◌, ◌<◌, not, false, length, nat_lt, slice_index_or, ◌↔◌, IsTrue, IfOk};
+ghost use Rattle.std.specs.List.{list_any};
+ghost use Rattle.pcid_tlb.specs.Tlb.{cached, filled, evicted, without_page, keep_entries};
+ghost use Rattle.shootdown.specs.Processors.{first_flags, fresh_processor, is_concerned, told, drained, woken, loaded, flags_kept, drops_pcid, queue_drops, pcids, IsProcessor};
+ghost use Rattle.shootdown.specs.Shootdown.{is_interrupted};
+
+use crate::ProcState;
+use page_entry::{PageNumber, Pcid};
+use pcid_tlb::{CachedEntry, Invpcid, Tlb};
+use std::alloc::{AllocError, Allocator};
+use std::marker::Model;
+
+// How many invalidations a queue holds.
+const QUEUE: usize = 8;
+
+// How many PCIDs there are (Intel SDM volume 3, "Process-Context Identifiers").
+const PCIDS: usize = 4096;
+
+/// A processor. It takes its memory when it is made.
+#[derive(Drop)]
+pub(crate) struct Processor<A: Allocator + Copy> {
+    state: ProcState,
+    space: Pcid,
+    tlb: Tlb<A>,
+    // What it still has to invalidate, in order.
+    queue: Vec<Invpcid, A>,
+    // For each PCID, whether it may cache entries of it.
+    may_cache: Vec<bool, A>,
+}
+
+impl<A: Allocator + Copy> Model for Processor<A> {
+    ghost use Rattle.std.specs.Prelude.{◌≤◌, vec_capacity};
+    ghost use Rattle.shootdown.specs.Processors.{Processor, IsProcessor, queue_len};
+
+    ghost Value = { Processor };
+
+    ghost view = { λ p.
+        record { state = p.state; space = p.space; tlb = p.tlb; queue = p.queue.items; may_cache = p.may_cache.items } };
+
+    ghost invariant = { λ p. IsProcessor (record {
+      state = p.state;
+      space = p.space;
+      tlb = p.tlb;
+      queue = p.queue.items;
+      may_cache = p.may_cache.items;
+    })
+        × (queue_len ≤ vec_capacity p.queue) };
+}
+
+impl<A: Allocator + Copy> Processor<A> {
+    // A processor at boot, whose TLB has room for so many entries, at least 1.
+    pub(crate) fn new(alloc: A, tlb: usize) -> Result<Self, AllocError>
+        requires { 0 < tlb }
+        ensures { IfOk result (λ p. p ≡ fresh_processor tlb) }
+    {
+        Ok(Processor {
+            state: ProcState::Active,
+            space: 0,
+            tlb: Tlb::new(alloc, tlb)?,
+            queue: Vec::with_capacity(alloc, QUEUE)?,
+            may_cache: first_flags(alloc)?,
+        })
+    }
+
+    // What it is doing.
+    pub(crate) fn state(&self) -> ProcState
+        ensures state { result ≡ self.now.state }
+        ensures kept { IsProcessor self.now }
+    {
+        self.state
+    }
+
+    // How many entries its TLB can cache.
+    pub(crate) fn tlb_size(&self) -> usize
+        ensures { result ≡ self.now.tlb.capacity }
+    {
+        self.tlb.capacity()
+    }
+
+    // Whether it is as at boot, with a TLB of this size.
+    pub(crate) fn is_fresh(&self, tlb: usize) -> bool
+        ensures { IsTrue result ↔ (self.now ≡ fresh_processor tlb) }
+    {
+        self.state == ProcState::Active
+            && self.space == 0
+            && self.tlb.capacity() == tlb
+            && self.tlb.is_empty()
+            && self.queue.is_empty()
+            && are_first_flags(&self.may_cache)
+    }
+
+    // Whether it was interrupted.
+    pub(crate) fn is_interrupted(&self) -> bool
+        ensures { result ≡ is_interrupted self.now.state }
+    {
+        self.state == ProcState::Interrupted
+    }
+
+    // The PCID of its current space.
+    pub(crate) fn space(&self) -> Pcid
+        ensures space { result ≡ self.now.space }
+        ensures kept { IsProcessor self.now }
+    {
+        self.space
+    }
+
+    // Whether it may cache entries of a PCID.
+    pub(crate) fn may_cache(&self, pcid: Pcid) -> bool
+        ensures { result ≡ slice_index_or self.now.may_cache pcid false }
+    {
+        self.may_cache.get(pcid as usize).copied().unwrap_or(false)
+    }
+
+    // Whether it may cache what an invalidation drops.
+    fn is_concerned(&self, action: Invpcid) -> bool
+        ensures { result ≡ is_concerned self.now action }
+    {
+        match action {
+            Invpcid::IndividualAddress(pcid, _) | Invpcid::SingleContext(pcid) => {
+                self.may_cache(pcid)
+            }
+            Invpcid::AllContextsAndGlobals | Invpcid::AllContexts => true,
+        }
+    }
+
+    // Tells it of an invalidation, if it may cache what that drops. In a full queue the invalidation of everything
+    // takes the place of all.
+    pub(crate) fn tell(&mut self, action: Invpcid)
+        ensures { self.new ≡ told self.old action }
+    {
+        if !self.is_concerned(action) {
+            return;
+        }
+        if self.queue.len() < QUEUE {
+            self.queue.push_reserved(action);
+        } else {
+            self.queue.clear();
+            self.queue.push_reserved(Invpcid::AllContexts);
+        }
+    }
+
+    // Carries out the queue.
+    pub(crate) fn drain(&mut self)
+        ensures { self.new ≡ drained self.old }
+    {
+        carry_out(&self.queue, &mut self.tlb, &mut self.may_cache, self.space);
+        self.queue.clear();
+    }
+
+    // Carries out the queue, and goes on.
+    pub(crate) fn wake(&mut self)
+        ensures { self.new ≡ woken self.old }
+    {
+        self.drain();
+        self.state = ProcState::Active;
+    }
+
+    // Loads another PCID, whose entries it keeps or drops.
+    pub(crate) fn load(&mut self, pcid: Pcid, keep: bool)
+        requires { pcid < pcids }
+        ensures { self.new ≡ loaded self.old pcid keep }
+    {
+        self.space = pcid;
+        self.tlb.load_cr3(pcid, keep);
+        self.may_cache[pcid as usize] = true;
+    }
+
+    // Gives it another state.
+    pub(crate) fn set_state(&mut self, state: ProcState)
+        ensures { self.new ≡ record self.old { state = state } }
+    {
+        self.state = state;
+    }
+
+    // The cached entry of a page of its current space, if there is one.
+    pub(crate) fn cached(&self, page: PageNumber) -> Option<CachedEntry>
+        ensures { result ≡ cached self.now.tlb self.now.space page }
+    {
+        self.tlb.lookup(self.space, page)
+    }
+
+    // Caches an entry of its current space.
+    pub(crate) fn fill(&mut self, entry: CachedEntry)
+        requires { entry.pcid ≡ self.old.space }
+        ensures { self.new ≡ record self.old { tlb = filled self.old.tlb entry } }
+    {
+        self.tlb.fill(entry);
+    }
+
+    // Drops the cached entry of a page of its current space.
+    pub(crate) fn drop_page(&mut self, page: PageNumber)
+        ensures { self.new ≡ record self.old { tlb = without_page self.old.tlb self.old.space page } }
+    {
+        self.tlb.invlpg(self.space, page);
+    }
+
+    // Drops the cached entry in a slot, counted from the oldest; false where there is no such slot.
+    pub(crate) fn evict(&mut self, slot: usize) -> bool
+        ensures evicted { result ≡ nat_lt slot (length self.old.tlb.entries) }
+        ensures rest { self.new ≡ record self.old { tlb = evicted self.old.tlb slot } }
+    {
+        self.tlb.evict(slot)
+    }
+}
+
+// The flags of a processor that may cache entries of PCID 0 alone.
+fn first_flags<A: Allocator + Copy>(alloc: A) -> Result<Vec<bool, A>, AllocError>
+    ensures { IfOk result (λ flags. flags.items ≡ first_flags) }
+{
+    let mut flags = vec![in alloc; false; PCIDS]?;
+    flags[0] = true;
+    Ok(flags)
+}
+
+// Whether the flags are those of a processor that may cache entries of PCID 0 alone.
+fn are_first_flags(flags: &[bool]) -> bool
+    requires { length flags.now ≡ pcids }
+    ensures { IsTrue result ↔ (flags.now ≡ first_flags) }
+{
+    flags[0] && !has_set(&flags[1..])
+}
+
+// Whether one of the flags is set.
+fn has_set(flags: &[bool]) -> bool
+    ensures { result ≡ list_any (λ flag. flag) flags.now }
+{
+    flags.iter().any(|flag| *flag)
+}
+
+// Carries out invalidations, in order, with PCID `space` current: what one drops is cached no more, and of a PCID that
+// one drops whole nothing may be cached, unless it is the current one.
+fn carry_out<A: Allocator + Copy>(
+    queue: &[Invpcid],
+    tlb: &mut Tlb<A>,
+    may_cache: &mut [bool],
+    space: Pcid,
+)
+    ensures cached { tlb.new ≡ keep_entries (λ e. not (queue_drops queue.now e.pcid e.page)) tlb.old }
+    ensures flags { may_cache.new
+        ≡ flags_kept (λ pcid. pcid == space || not (list_any (λ a. drops_pcid a pcid) queue.now)) 0 may_cache.old }
+{
+    for action in queue {
+        tlb.invpcid(*action);
+        forget(may_cache, *action, space);
+    }
+}
+
+// Notes that nothing is cached any more of a PCID that an invalidation drops whole, unless it is the current one.
+fn forget(may_cache: &mut [bool], action: Invpcid, space: Pcid)
+    ensures { may_cache.new ≡ flags_kept (λ pcid. pcid == space || not (drops_pcid action pcid)) 0 may_cache.old }
+{
+    match action {
+        Invpcid::IndividualAddress(..) => {}
+        Invpcid::SingleContext(pcid) => {
+            if pcid != space && (pcid as usize) < may_cache.len() {
+                may_cache[pcid as usize] = false;
+            }
+        }
+        Invpcid::AllContextsAndGlobals | Invpcid::AllContexts => {
+            for (pcid, flag) in may_cache.iter_mut().enumerate() {
+                *flag = *flag && pcid == space as usize;
+            }
+        }
+    }
+}
+
+#[cfg(test)]
+mod tests;
