@@ -1,0 +1,6 @@
+mod AllOf
+mod DumpRows
+mod Names
+mod Cuts
+mod Printing
+mod Dumped

@@ -1,0 +1,70 @@
+-- The arguments of an act in a script.
+use Rattle.std.specs.Prelude.{ℕ, ◌-◌, ◌^◌, nat_le, if◌then◌else◌, Bool, true, false, List, [], ◌∷◌, length, find, codes, Option, Some, None, option_map, option_and_then}
+use Rattle.std.specs.Str.{bytes_eq}
+use Rattle.serde_json.specs.Data.{Data, Items, no_items, item}
+use Rattle.serde_json.specs.Find.{as_u64, as_number, as_str, as_array}
+use Rattle.mappings.specs.declared.place.Rights.{Rights}
+use Rattle.mappings.specs.declared.place.Rights.TheVariants.{Read, ReadWrite}
+
+-- what f makes of the value, if there is one
+abbrev pub if_some : {A B : Type 0} → Option A → (A → Option B) → Option B
+if_some o f = option_and_then f o
+
+-- n where it is at most most
+abbrev pub up_to : ℕ → ℕ → Option ℕ
+up_to most n = if nat_le n most then Some n else None
+
+-- a whole number that isn't negative, written without a point and an exponent, and at most most
+abbrev pub whole_number : ℕ → Data → Option ℕ
+whole_number most value = if_some (if_some (as_number value) as_u64) (up_to most)
+
+-- numbers of 8, 16, 32 and 64 bits
+abbrev pub byte_of : Data → Option ℕ
+byte_of = whole_number 255
+
+abbrev pub short_of : Data → Option ℕ
+short_of = whole_number 65535
+
+abbrev pub page_of : Data → Option ℕ
+page_of = whole_number 4294967295
+
+abbrev pub long_of : Data → Option ℕ
+long_of = whole_number (2 ^ 64 - 1)
+
+-- what the row of a table whose word this is has beside the word
+abbrev pub one_of : {X : Type 0} → List (List ℕ × X) → Data → Option X
+one_of table value = if_some (as_str value) (λ text. option_map (λ row. row.1) (find (λ row. bytes_eq text row.0) table))
+
+-- rights of a mapping: writing alone counts as both
+abbrev pub prot_of : Data → Option Rights
+prot_of = one_of ((codes "r", Read) ∷ (codes "w", ReadWrite) ∷ (codes "rw", ReadWrite) ∷ [])
+
+-- the access with which a file was opened
+abbrev pub access_of : Data → Option Rights
+access_of = one_of ((codes "r", Read) ∷ (codes "rw", ReadWrite) ∷ [])
+
+-- whether cached entries are kept
+abbrev pub keep_of : Data → Option Bool
+keep_of = one_of ((codes "keep", true) ∷ (codes "drop", false) ∷ [])
+
+-- whether a fault is of a write
+abbrev pub write_of : Data → Option Bool
+write_of = one_of ((codes "read", false) ∷ (codes "write", true) ∷ [])
+
+-- a list's items
+abbrev pub list_of : Items → List Data
+list_of no_items = []
+list_of (item d ds) = d ∷ list_of ds
+
+-- what f makes of each, where it makes something of all
+abbrev pub all_of : {A B : Type 0} → (A → Option B) → List A → Option (List B)
+all_of f [] = Some []
+all_of f (x ∷ xs) = if_some (f x) (λ y. if_some (all_of f xs) (λ ys. Some (y ∷ ys)))
+
+-- at most 8 bytes
+abbrev pub few_of : List Data → Option (List ℕ)
+few_of items = if nat_le (length items) 8 then all_of byte_of items else None
+
+-- a list of at most 8 bytes
+abbrev pub bytes_of : Data → Option (List ℕ)
+bytes_of value = if_some (as_array value) (λ items. few_of (list_of items))

@@ -1,0 +1,8 @@
+pub mod Arguments
+pub mod Dump
+pub mod Words
+pub mod Fault
+pub mod Replies
+pub mod Script
+pub mod ScriptFault
+pub mod Acts

@@ -1,0 +1,46 @@
+//! `famsync`: makes volumes, runs scripts of a machine that maps their files, and prints the files.
+#![tactic(auto)]
+
+mod act;
+mod argument;
+mod cause;
+mod command;
+mod disk;
+mod dump;
+mod fault;
+mod perform;
+mod printer;
+mod run;
+mod script;
+mod session;
+mod step;
+#[cfg(test)]
+mod tests;
+mod words;
+
+use perform::perform;
+use std::io::{BufWriter, ErrorKind};
+use std::process::ExitCode;
+use std::{env, io};
+
+fn main(rt: HostRuntime) -> ExitCode {
+    match started(&rt) {
+        Ok(status) => ExitCode::from(status),
+        Err(fault) => {
+            let _ = eprintln!(rt; "famsync: {fault}");
+            match fault.kind() {
+                ErrorKind::InvalidData => ExitCode::from(2),
+                _ => ExitCode::from(3),
+            }
+        }
+    }
+}
+
+// A word that isn't UTF-8 is invalid data, and want of memory is the only other fault.
+fn started(rt: &HostRuntime) -> io::Result<u8> {
+    let alloc = rt.alloc();
+    let words: Vec<String> = env::args(rt)?.collect(alloc)?;
+    let mut out = BufWriter::new(alloc, rt.stdout())?;
+    let mut err = rt.stderr();
+    Ok(perform(rt, alloc, &words, &mut out, &mut err))
+}

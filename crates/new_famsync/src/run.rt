@@ -1,0 +1,72 @@
+// Running a script on the volume in a file.
+ghost use Rattle.std.specs.Prelude.{◌↔◌, IsOk, IfErr, IsNone, IfSome};
+ghost use Rattle.famsync.specs.Fault.{IsFailedStep};
+
+use crate::cause::refused_to_run;
+use crate::disk::read_file;
+use crate::fault::Fault;
+use crate::printer::Printer;
+use crate::script::{Script, ScriptFault};
+use crate::session::run_script;
+use device::FileDisk;
+use std::alloc::Allocator;
+use std::fs::File;
+use std::io;
+use std::rt::Files;
+
+/// Runs a script on the volume in a file, and prints the reply of each step before the next one is made. The script is
+/// read whole before the disk is opened; `path` and `script` are the names of the two files.
+pub fn run<'a, R, A, W>(
+    rt: &R,
+    alloc: A,
+    path: &'a str,
+    script: &'a str,
+    out: &mut W,
+) -> Result<(), Fault<'a>>
+where
+    R: Files<File = File> + AllocGlobal,
+    A: Allocator + Copy,
+    W: io::Write,
+{
+    let steps = read_script(rt, alloc, script)?;
+    let disk = FileDisk::open(rt, path).map_err(|cause| Fault::File { path, cause })?;
+    let mut printer = Printer::new(out);
+    match run_script(alloc, disk, &steps, &mut printer) {
+        Ok(_) => outcome(script, printer),
+        Err((refusal, mut disk)) => Err(Fault::Disk {
+            path,
+            cause: refused_to_run(alloc, refusal, &mut disk, steps.shape),
+        }),
+    }
+}
+
+fn read_script<'a, R, A>(rt: &R, alloc: A, path: &'a str) -> Result<Script<A>, Fault<'a>>
+where
+    R: Files<File = File> + AllocGlobal,
+    A: Allocator + Copy,
+{
+    let text = read_file(rt, alloc, path)?;
+    match Script::read(rt.alloc(), alloc, &text) {
+        Ok(script) => Ok(script),
+        Err(ScriptFault::Memory(cause)) => Err(Fault::Memory(cause)),
+        Err(cause) => Err(Fault::Script { path, cause }),
+    }
+}
+
+// How a run ended that was printed: the output failed, a step was answered that the device failed, or neither.
+fn outcome<W: io::Write + Drop>(path: &str, printer: Printer<W>) -> Result<(), Fault<'_>>
+    ensures ok { IsOk result ↔ (IsNone printer.fault × IsNone printer.failure) }
+    ensures failed { IfErr result (λ fault. IsNone printer.fault → IfSome printer.failure (IsFailedStep fault)) }
+{
+    let Printer {
+        out: _,
+        count: _,
+        failure,
+        fault,
+    } = printer;
+    match (fault, failure) {
+        (Some(fault), _) => Err(Fault::Output(fault)),
+        (None, Some(step)) => Err(Fault::Step { path, step }),
+        (None, None) => Ok(()),
+    }
+}
