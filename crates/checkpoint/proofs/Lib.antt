@@ -9,3 +9,4 @@ pub mod BackingLaws
 pub mod ReleaseLaws
 pub mod SpacesLaws
 pub mod Dirtiness
+pub mod Fresh

@@ -11,7 +11,9 @@ ghost use Rattle.checkpoint.specs.Checkpoint.{CheckpointState, fresh_checkpoint,
 ghost use Rattle.checkpoint.specs.Backing.{AreBacked, AreDistinct, HasNotes};
 
 use crate::copies::{free_copies, free_copy, has_copy};
-use crate::notes::{has_dirty_entry, list_noted, note_all, note_page, note_range, note_space};
+use crate::notes::{
+    has_dirty_entry, has_note, list_noted, note_all, note_page, note_range, note_space,
+};
 use frames::Frames;
 use mappings::PageRange;
 use page_entry::{FilePage, FrameNumber, Pcid};
@@ -54,6 +56,13 @@ impl<A: Allocator + Copy> Checkpoint<A> {
             pages: Vec::with_capacity(alloc, frames as usize)?,
             released: 0,
         })
+    }
+
+    /// Whether it is as `new` leaves it.
+    pub fn is_fresh(&self) -> bool
+        ensures { IsTrue result ↔ (self.now ≡ fresh_checkpoint (length self.now.notes)) }
+    {
+        self.frozen().is_empty() && !has_note(&self.notes)
     }
 
     /// Gathers the dirty pages in the order of their home blocks and answers how many there are. Their frames are

@@ -1,5 +1,6 @@
 // Noting the frames of dirty entries, and the pages of the frames that are noted.
 ghost use Rattle.std.specs.Prelude.{◌≡◌, ◌≤◌, ◌<◌, ◌+◌, ◌^◌, true, length, ℕ, slice_set, IsTrue, ◌↔◌};
+ghost use Rattle.std.specs.List.{list_any};
 ghost use Rattle.std.specs.Vec.{vec_capacity};
 ghost use Rattle.page_entry.specs.Entry.{frame_of};
 ghost use Rattle.spaces.specs.Spaces.{has_space};
@@ -19,6 +20,13 @@ fn note(notes: &mut [bool], entry: Entry)
     ensures { notes.new ≡ slice_set notes.old (frame_of entry) true }
 {
     notes[entry.frame() as usize] = true;
+}
+
+/// Whether a frame is noted.
+pub(crate) fn has_note(notes: &[bool]) -> bool
+    ensures { result ≡ list_any (λ noted. noted) notes.now }
+{
+    notes.iter().any(|noted| *noted)
 }
 
 /// Notes the frame of each dirty entry of a range of pages of a space.

@@ -20,7 +20,8 @@ abbrev pub Only : (List ℕ → Type 0) → List ℕ → Type 0
 Only lists only = (c : List ℕ) → lists c → c ≡ only
 
 -- A crash at any moment from the state old to the state new leaves a list that has P.
-pub record LeavesOnly {D : Type 0} (moment : D → ℕ) (left_since : D → ℕ → List ℕ → Type 0) (old new : D) (P : List ℕ → Type 0) : Type 0 where
+pub record LeavesOnly {D : Type 0} (moment : D → ℕ) (left_since : D → ℕ → List ℕ → Type 0) (old new : D)
+    (P : List ℕ → Type 0) : Type 0 where
   -- time doesn't go back
   pub later : moment old ≤ moment new
   -- what a crash since old might have left

@@ -26,7 +26,8 @@ after_call disk inner done = record disk {
 }
 
 -- The call was passed on: the inner disk counts one call, and a fault where it failed.
-pub record IsPassedOn {D T E : Type 0} (calls_made faults_met : D → ℕ) (old new : D) (result : Result T E) : Type 0 where
+pub record IsPassedOn {D T E : Type 0} (calls_made faults_met : D → ℕ) (old new : D)
+    (result : Result T E) : Type 0 where
   pub calls : calls_made old < 2 ^ 64 - 1 → calls_made new ≡ calls_made old + 1
   pub failed : IsErr result → faults_met old < 2 ^ 64 - 1 → faults_met new ≡ faults_met old + 1
   pub done : IsOk result → faults_met new ≡ faults_met old

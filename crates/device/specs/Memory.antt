@@ -49,7 +49,8 @@ moment_of disk = disk.start + length disk.changes
 
 -- without the newest changes, as many as there were no earlier than t
 abbrev pub left_since_of : Recorded → ℕ → List ℕ → Type 0
-left_since_of disk t c = (newer : ℕ) × (newer ≤ length disk.changes) × (t + newer ≤ moment_of disk) × MayBeLeft disk.first (drop newer disk.changes) c
+left_since_of disk t c = (newer : ℕ) × (newer ≤ length disk.changes) × (t + newer ≤ moment_of disk)
+    × MayBeLeft disk.first (drop newer disk.changes) c
 
 -- after a call that changes nothing
 abbrev pub after_read : Recorded → Recorded

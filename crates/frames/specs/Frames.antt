@@ -63,7 +63,10 @@ all_free frames copies = record { frames = replicate frames None; copies = repli
 
 -- with a frame for this page, with these bytes
 abbrev pub with_page : FramesState → ℕ → FilePage → List ℕ → FramesState
-with_page s frame page bytes = record s { frames = slice_set s.frames frame (Some (record { page = page; bytes = bytes })) }
+with_page s frame page bytes = record s {
+  frames = slice_set s.frames frame
+      (Some (record { page = page; bytes = bytes }));
+}
 
 -- with a frame free
 abbrev pub without_frame : FramesState → ℕ → FramesState
@@ -71,7 +74,10 @@ without_frame s frame = record s { frames = slice_set s.frames frame None }
 
 -- with bytes written into a frame from a place on
 abbrev pub with_bytes : FramesState → ℕ → ℕ → List ℕ → FramesState
-with_bytes s frame at bytes = record s { frames = slice_set s.frames frame (overwrite_frame (frame_at s frame) at bytes) }
+with_bytes s frame at bytes = record s {
+  frames = slice_set s.frames frame
+      (overwrite_frame (frame_at s frame) at bytes);
+}
 
 -- with a copy of a frame
 abbrev pub with_copy : FramesState → ℕ → ℕ → FramesState
@@ -103,8 +109,10 @@ pub record IsPage (bytes : List ℕ) : Type 0 where
 pub record AreFrames (s : FramesState) : Type 0 where
   pub frames : (frame : ℕ) → IsSome (frame_at s frame) → IsPage (bytes_of (frame_at s frame))
   pub copies : (copy : ℕ) → IsSome (copy_at s copy) → IsPage (bytes_of (copy_at s copy))
-  pub one_frame : (a b : ℕ) (page : FilePage) → page_of (frame_at s a) ≡ Some page → page_of (frame_at s b) ≡ Some page → a ≡ b
-  pub one_copy : (a b : ℕ) (page : FilePage) → page_of (copy_at s a) ≡ Some page → page_of (copy_at s b) ≡ Some page → a ≡ b
+  pub one_frame : (a b : ℕ) (page : FilePage) → page_of (frame_at s a) ≡ Some page → page_of (frame_at s b) ≡ Some page
+      → a ≡ b
+  pub one_copy : (a b : ℕ) (page : FilePage) → page_of (copy_at s a) ≡ Some page → page_of (copy_at s b) ≡ Some page
+      → a ≡ b
 
 -- a page comes before another in the order of home blocks: by file, then by page
 abbrev pub IsBefore : FilePage → FilePage → Type 0
@@ -112,7 +120,8 @@ IsBefore a b = (a.file < b.file) ⊎ ((a.file ≡ b.file) × (a.page < b.page))
 
 -- the page of a frame comes before that of another
 abbrev pub HasPageBefore : FramesState → ℕ → ℕ → Type 0
-HasPageBefore s frame other = (a b : FilePage) → page_of (frame_at s frame) ≡ Some a → page_of (frame_at s other) ≡ Some b → IsBefore a b
+HasPageBefore s frame other = (a b : FilePage) → page_of (frame_at s frame) ≡ Some a
+    → page_of (frame_at s other) ≡ Some b → IsBefore a b
 
 -- the frames in use, in rising order of their pages
 pub record AreInOrder (s : FramesState) (order : List ℕ) : Type 0 where

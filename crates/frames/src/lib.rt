@@ -1,5 +1,5 @@
-//! The frames of memory that hold pages of files, and the copy frames that keep a frame's bytes as they were. All memory
-//! is taken when they are made, so that no later call can fail for want of it.
+//! The frames of memory that hold pages of files, and the copy frames that keep a frame's bytes as they were. All
+//! memory is taken when they are made, so that no later call can fail for want of it.
 #![tactic(auto)]
 
 ghost use Rattle.std.specs.Prelude.{◌≡◌, ◌&&◌, not, nat_lt, ◌+◌, ◌≤◌, length, Some, None, IfOk, IfErr, IfSome, IfNone, IsSome, is_ok, is_none, slice_get, count_by};
@@ -19,8 +19,8 @@ use std::marker::Model;
 pub type CopyNumber = u32;
 
 /// Frames of 4,096 bytes, each free or in use for one page of a file, and copy frames of 4,096 bytes, each free or with
-/// the page and the bytes that a frame had. A page is in one frame at most, and in one copy frame at most. No two numbers
-/// share memory: a write to a frame leaves every other frame and every copy.
+/// the page and the bytes that a frame had. A page is in one frame at most, and in one copy frame at most. No two
+/// numbers share memory: a write to a frame leaves every other frame and every copy.
 #[derive(Drop)]
 pub struct Frames<A: Allocator + Copy = Global> {
     frames: Pages<A>,
@@ -38,7 +38,8 @@ impl<A: Allocator + Copy> Model for Frames<A> {
 
     ghost view = { λ f. record { frames = f.frames; copies = f.copies } };
 
-    ghost invariant = { λ f. IsListed (record { frames = f.frames; copies = f.copies }) f.order.items (vec_capacity f.order) };
+    ghost invariant = { λ f. IsListed (record { frames = f.frames; copies = f.copies }) f.order.items
+        (vec_capacity f.order) };
 }
 
 impl<A: Allocator + Copy> Frames<A> {
@@ -174,11 +175,12 @@ impl<A: Allocator + Copy> Frames<A> {
         self.frames.write(frame, at, bytes);
     }
 
-    /// Copies a frame, whose page no copy has, to one free copy frame; `Held` exactly where no copy frame is free. Which
-    /// of the free copy frames it is stays open.
+    /// Copies a frame, whose page no copy has, to one free copy frame; `Held` exactly where no copy frame is free.
+    /// Which of the free copy frames it is stays open.
     pub fn copy_out(&mut self, frame: FrameNumber) -> Result<CopyNumber, Refusal>
         requires in_use { IsSome (frame_at self.old frame) }
-        requires uncopied { (page : FilePage) → page_of (frame_at self.old frame) ≡ Some page → HasNoCopy self.old page }
+        requires uncopied { (page : FilePage) → page_of (frame_at self.old frame) ≡ Some page
+            → HasNoCopy self.old page }
         ensures was_free { IfOk result (λ copy. slice_get self.old.copies copy ≡ Some None) }
         ensures copied { IfOk result (λ copy. self.new ≡ with_copy self.old copy frame) }
         ensures ok { is_ok result ≡ has_free self.old.copies }

@@ -5,7 +5,8 @@ use Rattle.volume_codec.specs.Layout.{IsHome, journals_of, gate_block, descripto
 use Rattle.volume_codec.specs.Super.{SuperValue, geometry_of}
 use Rattle.volume_codec.specs.Recovery.{Batch, IsVolume, standing_block, contents_in}
 
--- these bytes hold a volume with this super block, whose open journals have these batches, and recover to these contents
+-- these bytes hold a volume with this super block, whose open journals have these batches, and recover to these
+-- contents
 pub record RecoversBy (v : SuperValue) (opened : List Batch) (contents : ℕ → List ℕ) (bytes : List ℕ) : Type 0 where
   pub volume : IsVolume v opened bytes
   pub contents_are : (b : ℕ) → IsHome (geometry_of v) b → contents b ≡ contents_in v.slots opened bytes b

@@ -25,7 +25,8 @@ pub fn apply_record<D: Device>(
     requires within { slot < geometry.now.slots }
     requires home { IsHome geometry.now home }
 
-    ensures applied { D.is_honest device.old → OnOk result (D.seen device.new ≡ written (D.seen device.old) (4096 * home)
+    ensures applied { D.is_honest device.old
+        → OnOk result (D.seen device.new ≡ written (D.seen device.old) (4096 * home)
         (block_at (D.seen device.old) (record_block geometry.now.slots journal slot))) }
     ensures torn { IsErr result → D.is_honest device.old
         → Torn (4096 * home) 4096 (D.seen device.old) (D.seen device.new) }

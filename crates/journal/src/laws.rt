@@ -16,8 +16,8 @@ ghost use Rattle.journal.specs.Crash.{Stands};
 
 use device::Device;
 
-/// Which steps the stages are, of a write-out of k blocks: step k + 4 commits the batch, step 2k + 7 is the last one, and
-/// all steps together make 3k + 7 device calls.
+/// Which steps the stages are, of a write-out of k blocks: step k + 4 commits the batch, step 2k + 7 is the last one,
+/// and all steps together make 3k + 7 device calls.
 pub fn steps_of_a_write_out()
     ensures commits { (k : ℕ) → stage_at k (k + 3) ≡ Some Committing }
     ensures finishes { (k : ℕ) → stage_at k (2 * k + 6) ≡ Some Finishing }
@@ -52,7 +52,8 @@ pub fn stands_once_begun<D: Device>(device: &D)
 
 /// Where each batch is committed, Old plays no part.
 pub fn stands_without_old<D: Device>(device: &D)
-    ensures { (v : SuperValue) (outs : WriteOutsValue) (old other new : ℕ → List ℕ) → has_uncommitted outs.batches ≡ false
+    ensures { (v : SuperValue) (outs : WriteOutsValue) (old other new : ℕ → List ℕ)
+        → has_uncommitted outs.batches ≡ false
         → Stands v outs old new (D.seen device.now) (D.may_leave device.now)
         → Stands v outs other new (D.seen device.now) (D.may_leave device.now) }
 {}
@@ -72,9 +73,9 @@ pub fn unread_blocks()
         → Contains opened batch → Contains batch.homes b → IsHome (geometry_of v) b → IsUnread v opened b }
 {}
 
-/// What becomes of recovered contents where a gate's byte is torn. While the gate is open as it was, or closed as it was,
-/// they stay. Where it opens over a descriptor and records that are there, the batch's blocks get the records. Where the
-/// gate of the oldest batch closes, whose records are all at home, they stay.
+/// What becomes of recovered contents where a gate's byte is torn. While the gate is open as it was, or closed as it
+/// was, they stay. Where it opens over a descriptor and records that are there, the batch's blocks get the records.
+/// Where the gate of the oldest batch closes, whose records are all at home, they stay.
 pub fn torn_gates()
     ensures kept { (v : SuperValue) (opened : List Batch) (contents : ℕ → List ℕ) (c torn : List ℕ) (j : ℕ)
         → RecoversBy v opened contents c → j < journals_of v.layout → Torn (4096 * gate_block v.slots j) 1 c torn

@@ -1,6 +1,6 @@
 //! The journal of a volume: a redo log (Park, Kelly and Shen 2013, failure-atomic msync). The blocks of a batch are
-//! recorded beside their homes, committed together by one byte, and then written home. What a crash leaves at any moment
-//! is said by the contents that a volume's bytes recover to.
+//! recorded beside their homes, committed together by one byte, and then written home. What a crash leaves at any
+//! moment is said by the contents that a volume's bytes recover to.
 #![tactic(auto)]
 
 mod copying;

@@ -18,8 +18,8 @@ use std::alloc::{AllocError, Allocator};
 use std::marker::Model;
 use volume_codec::Geometry;
 
-/// The write-outs of a volume that aren't done: at most one for each journal. A batch may be recorded and committed while
-/// an older one is still applied; its own application waits until the older one is done.
+/// The write-outs of a volume that aren't done: at most one for each journal. A batch may be recorded and committed
+/// while an older one is still applied; its own application waits until the older one is done.
 #[derive(Drop)]
 pub struct WriteOuts<A: Allocator + Copy> {
     geometry: Geometry,
@@ -89,8 +89,8 @@ fn refilled<A: Allocator + Copy>(mut list: Vec<u32, A>, homes: &[u32]) -> Vec<u3
     list
 }
 
-// What follows of a step's answer: the oldest leaves where it is done, and its list is spare again; or a device call has
-// failed.
+// What follows of a step's answer: the oldest leaves where it is done, and its list is spare again; or a device call
+// has failed.
 fn settle<A: Allocator + Copy>(
     flushes: &mut Vec<Flush<A>, A>,
     spare: &mut Vec<Vec<u32, A>, A>,
@@ -199,8 +199,8 @@ impl<A: Allocator + Copy> WriteOuts<A> {
         self.flushes[at].stage()
     }
 
-    /// The place, in its batch, of the record that the next step writes; `None` where that step is another, or no device
-    /// call will be made.
+    /// The place, in its batch, of the record that the next step writes; `None` where that step is another, or no
+    /// device call will be made.
     pub fn next_record(&self) -> Option<u32>
         ensures { result ≡ outs_record self.now }
     {
@@ -222,9 +222,9 @@ impl<A: Allocator + Copy> WriteOuts<A> {
         self.flushes[at].next_home()
     }
 
-    /// Begins the write-out of a batch of these home blocks, in rising order, under a mark above those of all that aren't
-    /// done. It goes through the journal whose turn it is: journals take turns by batches, from journal 0 on, and that one
-    /// is free since the write-outs aren't busy. It takes no memory and makes no device call.
+    /// Begins the write-out of a batch of these home blocks, in rising order, under a mark above those of all that
+    /// aren't done. It goes through the journal whose turn it is: journals take turns by batches, from journal 0 on,
+    /// and that one is free since the write-outs aren't busy. It takes no memory and makes no device call.
     pub fn begin(&mut self, mark: u64, homes: &[u32])
         requires whole { self.old.broken ≡ false }
         requires free { is_busy self.old ≡ false }
@@ -240,9 +240,9 @@ impl<A: Allocator + Copy> WriteOuts<A> {
         self.next = journal_after(&self.geometry, self.next);
     }
 
-    /// The next step: of the batch that isn't committed, or if there is none of the oldest. What its stage asks is done.
-    /// It answers what the stage does, or `Device` where a device call failed; then the write-outs are broken, and every
-    /// later step answers `Broken`, makes no call and changes nothing. `bytes` are the new ones of the block
+    /// The next step: of the batch that isn't committed, or if there is none of the oldest. What its stage asks is
+    /// done. It answers what the stage does, or `Device` where a device call failed; then the write-outs are broken,
+    /// and every later step answers `Broken`, makes no call and changes nothing. `bytes` are the new ones of the block
     /// `next_home`, where there is one. It takes no memory.
     pub fn step<D: Device>(&mut self, device: &mut D, bytes: &[u8; 4096]) -> Flushed
         requires long { 4096 * self.old.geometry.blocks ≤ length (D.seen device.old) }

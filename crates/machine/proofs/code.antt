@@ -13,3 +13,5 @@ pub mod Fixes
 pub mod Acting
 pub mod Stepping
 pub mod Runs
+pub mod FirstSpace
+pub mod Freshness

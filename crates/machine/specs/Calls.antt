@@ -1,5 +1,5 @@
--- How many device calls a step makes, and how many of them fail: a fault that is served makes one read where the page isn't in memory, a step of a write-out
--- makes the calls of its work, and no other act makes any.
+-- How many device calls a step makes, and how many of them fail: a fault that is served makes one read where the page
+-- isn't in memory, a step of a write-out makes the calls of its work, and no other act makes any.
 use Rattle.std.specs.Prelude.{ℕ, ◌≡◌, ◌+◌, ◌-◌, ◌^◌, ◌<◌, ◌&&◌, not, Bool, true, false, is_none, Result, Ok, Err, if◌then◌else◌}
 use Rattle.page_entry.specs.declared.refusal.Refusal.{Refusal}
 use Rattle.page_entry.specs.declared.refusal.Refusal.TheVariants as refusals
@@ -25,7 +25,8 @@ is_absent s (Err why) = false
 -- whether serving a fault reads the device: nothing is refused before, and the page isn't in memory
 abbrev pub reads_page : State → ℕ → ℕ → Bool → Bool
 reads_page s p va write =
-    is_none (fix_refusal s p va write) && is_absent s (place_of_fault s.hardware.spaces (current s.hardware.shootdown p) va write)
+    is_none (fix_refusal s p va write)
+    && is_absent s (place_of_fault s.hardware.spaces (current s.hardware.shootdown p) va write)
 
 -- whether a read failed, where one was made
 abbrev pub has_failed : Reply → Bool
@@ -50,6 +51,7 @@ FlushCalls s (replies.Refused refusals.Device) calls calls' faults faults' =
 FlushCalls s reply calls calls' faults faults' = (calls' ≡ calls) × (faults' ≡ faults)
 
 abbrev pub CallsOf : State → ℕ → Act → Reply → ℕ → ℕ → ℕ → ℕ → Type 0
-CallsOf s p (acts.Fix va write) reply calls calls' faults faults' = FixCalls (reads_page s p va write) reply calls calls' faults faults'
+CallsOf s p (acts.Fix va write) reply calls calls' faults faults' =
+    FixCalls (reads_page s p va write) reply calls calls' faults faults'
 CallsOf s p acts.Flush reply calls calls' faults faults' = FlushCalls s reply calls calls' faults faults'
 CallsOf s p act reply calls calls' faults faults' = (calls' ≡ calls) × (faults' ≡ faults)

@@ -28,8 +28,8 @@ memory_of files file page = page_of (file_bytes files file) page
 abbrev pub bytes_of_pages : (ℕ → List ℕ) → ℕ → List ℕ
 bytes_of_pages pages n = take n (blocks_from pages 0 (pages_of n))
 
--- these files, the first of them with this number, with the bytes that a memory has for them, up to their lengths (POSIX: bytes after the end of
--- the last page aren't part of the file)
+-- these files, the first of them with this number, with the bytes that a memory has for them, up to their lengths
+-- (POSIX: bytes after the end of the last page aren't part of the file)
 abbrev pub files_from_memory : ℕ → List File → Memory → List File
 files_from_memory file [] memory = []
 files_from_memory file (f ∷ fs) memory =
@@ -79,7 +79,8 @@ has_unmarked history = unmarked_after false history
 -- whether the page of a file got a store after the last mark, where this says whether it had one before
 abbrev pub touched_after : ℕ → ℕ → Bool → List Event → Bool
 touched_after file page before [] = before
-touched_after file page before (Store f offset bytes ∷ events) = touched_after file page (if f == file && page == offset / 4096 then true else before) events
+touched_after file page before (Store f offset bytes ∷ events) =
+    touched_after file page (if f == file && page == offset / 4096 then true else before) events
 touched_after file page before (Mark number ∷ events) = touched_after file page false events
 touched_after file page before (Acknowledge number ∷ events) = touched_after file page before events
 

@@ -31,11 +31,13 @@ told_at_start files cpus = record {
 abbrev pub EachStep : (Told → ℕ → Act → Reply → Type 0) → Told → List Step → List Reply → Type 0
 EachStep P told [] replies = Unit {0}
 EachStep P told (step ∷ steps) [] = Unit {0}
-EachStep P told (step ∷ steps) (reply ∷ replies) = P told step.p step.act reply × EachStep P (tell told step reply) steps replies
+EachStep P told (step ∷ steps) (reply ∷ replies) =
+    P told step.p step.act reply × EachStep P (tell told step reply) steps replies
 
 -- ---- coherence
 
--- a load that answers gives, for each of its bytes, the latest answered store, over the files' bytes and zeros past their ends
+-- a load that answers gives, for each of its bytes, the latest answered store, over the files' bytes and zeros past
+-- their ends
 pub record LoadsLatest (files : List File) (told : Told) (p va count : ℕ) (bytes : List ℕ) : Type 0 where
   pub as_many : length bytes ≡ count
   pub place : Place
@@ -72,16 +74,21 @@ pub record IsFreeToAct (told : Told) (p : ℕ) : Type 0 where
   pub running : slice_index_or told.running p false ≡ true
   pub free : told.locked ≡ false
 
--- Which of the three address refusals a fault gets: the first leads nowhere, the second isn't allowed, the third is past the file's end. Every answer that comes after these in the order of
--- refusals comes of none of them; and those that come before have a cause of their own.
+-- Which of the three address refusals a fault gets: the first leads nowhere, the second isn't allowed, the third is
+-- past the file's end. Every answer that comes after these in the order of refusals comes of none of them; and those
+-- that come before have a cause of their own.
 abbrev pub AddressLaw : Told → ℕ → Act → Reply → Type 0
-AddressLaw told p (acts.Fix va write) (replies.Refused refusals.Einval) = (length told.running ≤ p) ⊎ (IsFreeToAct told p × (2 ^ 47 ≤ va))
-AddressLaw told p (acts.Fix va write) (replies.Refused refusals.Stalled) = (p < length told.running) × (slice_index_or told.running p false ≡ false)
+AddressLaw told p (acts.Fix va write) (replies.Refused refusals.Einval) =
+    (length told.running ≤ p) ⊎ (IsFreeToAct told p × (2 ^ 47 ≤ va))
+AddressLaw told p (acts.Fix va write) (replies.Refused refusals.Stalled) =
+    (p < length told.running) × (slice_index_or told.running p false ≡ false)
 AddressLaw told p (acts.Fix va write) (replies.Refused refusals.Locked) = told.locked ≡ true
-AddressLaw told p (acts.Fix va write) (replies.Refused refusals.SegvMapErr) = (va < 2 ^ 47) × (place_told told p va ≡ None)
+AddressLaw told p (acts.Fix va write) (replies.Refused refusals.SegvMapErr) =
+    (va < 2 ^ 47) × (place_told told p va ≡ None)
 AddressLaw told p (acts.Fix va write) (replies.Refused refusals.SegvAccErr) =
     (place : Place) × (place_told told p va ≡ Some place) × (write ≡ true) × (may_write place.rights ≡ false)
-AddressLaw told p (acts.Fix va write) (replies.Refused refusals.BusAdrErr) = (place : Place) × LeadsTo told p va write place × (IsInside told place → ⊥)
+AddressLaw told p (acts.Fix va write) (replies.Refused refusals.BusAdrErr) =
+    (place : Place) × LeadsTo told p va write place × (IsInside told place → ⊥)
 AddressLaw told p (acts.Fix va write) reply = (place : Place) × LeadsTo told p va write place × IsInside told place
 AddressLaw told p act reply = Unit {0}
 
@@ -107,11 +114,13 @@ ServesNext p act reply steps replies = Unit {0}
 abbrev pub FaultsAreServed : List Step → List Reply → Type 0
 FaultsAreServed [] replies = Unit {0}
 FaultsAreServed (step ∷ steps) [] = Unit {0}
-FaultsAreServed (step ∷ steps) (reply ∷ replies) = ServesNext step.p step.act reply steps replies × FaultsAreServed steps replies
+FaultsAreServed (step ∷ steps) (reply ∷ replies) =
+    ServesNext step.p step.act reply steps replies × FaultsAreServed steps replies
 
 -- ---- durability
 
--- these bytes recover to the files after a durable prefix of the history: one that is empty or ends with a mark, and has every mark that was acknowledged
+-- these bytes recover to the files after a durable prefix of the history: one that is empty or ends with a mark, and
+-- has every mark that was acknowledged
 pub record ReadsBack (files : List File) (history : List Event) (disk : List ℕ) : Type 0 where
   pub prefix : List Event
   pub durable : IsDurablePrefix prefix history

@@ -16,3 +16,4 @@ pub mod Runs
 pub mod Words
 pub mod inside
 pub mod Later
+pub mod Durability

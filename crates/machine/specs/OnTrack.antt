@@ -1,4 +1,5 @@
--- A machine over a device that is on the track of a run: it began on a volume at rest, its device is honest, and all its steps so far were answered and left so.
+-- A machine over a device that is on the track of a run: it began on a volume at rest, its device is honest, and all
+-- its steps so far were answered and left so.
 use Rattle.std.specs.Prelude.{ℕ, ◌≡◌, ◌≢◌, List, [], ◌∷◌, length}
 use Rattle.page_entry.specs.declared.refusal.Refusal.TheVariants as refusals
 use Rattle.device.specs.Device.{Only, LeavesOnly}
@@ -25,13 +26,17 @@ step_work s acts.Flush (replies.Refused refusals.Device) = work_asked s
 step_work s act reply = Nothing
 
 -- One step of a machine over an honest device.
-pub record StepMade {D : Type 0} (seen : D → List ℕ) (may_leave : D → List ℕ → Type 0) (moment : D → ℕ) (left_since : D → ℕ → List ℕ → Type 0) (is_honest : D → Type 0)
+pub record StepMade {D : Type 0} (seen : D → List ℕ) (may_leave : D → List ℕ → Type 0) (moment : D → ℕ)
+    (left_since : D → ℕ → List ℕ → Type 0) (is_honest : D → Type 0)
     (old : Whole D) (step : Step) (reply : Reply) (new : Whole D) : Type 0 where
   pub answered : Rules old.state (seen old.device) step reply new.state (seen new.device)
   -- what a crash may leave after it, and within it
-  pub left : (c : List ℕ) → may_leave new.device c → TornFromWork (step_work old.state step.act reply) (may_leave old.device) c
-  pub sure : reply ≢ replies.Refused refusals.Device → step_work old.state step.act reply ≡ Sync → Only (may_leave new.device) (seen old.device)
-  pub within : LeavesOnly moment left_since old.device new.device (TornFromWork (step_work old.state step.act reply) (may_leave old.device))
+  pub left : (c : List ℕ) → may_leave new.device c
+      → TornFromWork (step_work old.state step.act reply) (may_leave old.device) c
+  pub sure : reply ≢ replies.Refused refusals.Device → step_work old.state step.act reply ≡ Sync
+      → Only (may_leave new.device) (seen old.device)
+  pub within : LeavesOnly moment left_since old.device new.device
+      (TornFromWork (step_work old.state step.act reply) (may_leave old.device))
   pub honest : is_honest new.device
 
 -- loads, stores and faults are answered by what was told
@@ -45,7 +50,8 @@ abbrev pub told_first : List File → State → Told
 told_first files start = told_at_start files (length start.hardware.shootdown.processors)
 
 -- A run of these steps, answered so, has led from the start to this machine.
-pub record IsOnTrack {D : Type 0} (seen : D → List ℕ) (may_leave : D → List ℕ → Type 0) (moment : D → ℕ) (left_since : D → ℕ → List ℕ → Type 0) (is_honest : D → Type 0)
+pub record IsOnTrack {D : Type 0} (seen : D → List ℕ) (may_leave : D → List ℕ → Type 0) (moment : D → ℕ)
+    (left_since : D → ℕ → List ℕ → Type 0) (is_honest : D → Type 0)
     (files : List File) (start : Whole D) (steps : List Step) (replies : List Reply) (now : Whole D) : Type 0 where
   -- the start is fresh, over a volume at rest with these files
   pub begins : Begins seen may_leave is_honest files start
@@ -55,4 +61,5 @@ pub record IsOnTrack {D : Type 0} (seen : D → List ℕ) (may_leave : D → Lis
   -- and by what was told before it
   pub lawful : EachStep (IsLawful files) (told_first files start.state) steps replies
   -- what ties the machine and its device to what was told; a reader may skip it
-  pub tracked : IsTracked files (tell_all (told_first files start.state) steps replies) now.state (seen now.device) (may_leave now.device)
+  pub tracked : IsTracked files (tell_all (told_first files start.state) steps replies) now.state (seen now.device)
+      (may_leave now.device)

@@ -1,4 +1,5 @@
--- Why an act is refused: of the reasons that hold, the first in this order is answered (POSIX.1-2024 for the calls on mappings; the order is this project's own).
+-- Why an act is refused: of the reasons that hold, the first in this order is answered (POSIX.1-2024 for the calls on
+-- mappings; the order is this project's own).
 use Rattle.std.specs.Prelude.{ℕ, ◌+◌, ◌-◌, ◌*◌, ◌/◌, ◌%◌, ◌^◌, ◌==◌, ◌&&◌, ◌||◌, not, nat_le, nat_lt, Bool, true, false, is_some, List, [], ◌∷◌, length, Option, Some, None, Result, Ok, Err, slice_index_or, if◌then◌else◌}
 use Rattle.std.specs.Option.{option_or}
 use Rattle.std.specs.List.{list_any}
@@ -50,7 +51,8 @@ abbrev pub mapping_refusal : State → ℕ → ℕ → Rights → Rights → Res
 mapping_refusal s pcid file prot access (Err why) = Some why
 mapping_refusal s pcid file prot access (Ok pages) =
     first_of (refuse_if (nat_le (length s.table.files) file) refusals.NoFile
-    ∷ add_refusal (space_at s.hardware.spaces pcid).places pages.0 (record { file = file; page = pages.1; rights = prot; access = access }) ∷ [])
+    ∷ add_refusal (space_at s.hardware.spaces pcid).places pages.0
+    (record { file = file; page = pages.1; rights = prot; access = access }) ∷ [])
 
 abbrev pub map_refusal : State → ℕ → ℕ → ℕ → ℕ → ℕ → ℕ → Rights → Rights → Option Refusal
 map_refusal s p pcid va len file offset prot access =
@@ -75,7 +77,8 @@ reclaim_refusal s p owner =
     first_of (not_free s.hardware.shootdown p ∷ refuse_if (nat_le (length s.table.files) owner.file) refusals.NoFile
     ∷ refuse_if (nat_le (pages_in_file s.table.files owner.file) owner.page) refusals.Einval ∷ [])
 
--- exactly one of MS_ASYNC (1) and MS_SYNC (4), with MS_INVALIDATE (2) or without; from a page's begin, and not past 2^47
+-- exactly one of MS_ASYNC (1) and MS_SYNC (4), with MS_INVALIDATE (2) or without; from a page's begin, and not past
+-- 2^47
 abbrev pub is_msync : ℕ → ℕ → ℕ → Bool
 is_msync va len flags =
     (flags == 1 || flags == 3 || flags == 4 || flags == 6) && va % 4096 == 0 && nat_le (va + len) (2 ^ 47)
@@ -102,11 +105,13 @@ waits_in state other = false
 abbrev pub wait_refusal : State → ℕ → ProcState → Option Refusal
 wait_refusal s p state =
     first_of (not_there s p
-    ∷ refuse_if (waits_in state (state_of s.hardware.shootdown p) && is_some s.hardware.shootdown.lock) refusals.Locked ∷ [])
+    ∷ refuse_if (waits_in state (state_of s.hardware.shootdown p) && is_some s.hardware.shootdown.lock) refusals.Locked
+    ∷ [])
 
 abbrev pub idle_refusal : State → ℕ → Option Refusal
 idle_refusal s p =
-    first_of (not_running s.hardware.shootdown p ∷ refuse_if (waits_in Interrupted (state_of s.hardware.shootdown p)) refusals.Locked ∷ [])
+    first_of (not_running s.hardware.shootdown p
+    ∷ refuse_if (waits_in Interrupted (state_of s.hardware.shootdown p)) refusals.Locked ∷ [])
 
 -- of the change that was begun: others wait for the lock, and its holder for the processors that are still interrupted
 abbrev pub lock_refusal : ℕ → ℕ → Option Lock → Option Refusal

@@ -1,5 +1,6 @@
--- What a machine may reply to each act and what state it then has, by cases on the reply; what never comes is ⊥. Left open are only whether a device call succeeds, what a failed
--- write leaves in its range, which free frame is taken, and whether a growth of memory is refused. Sources: POSIX.1-2024 (mmap, munmap, mprotect, msync), Intel SDM volume 3
+-- What a machine may reply to each act and what state it then has, by cases on the reply; what never comes is ⊥. Left
+-- open are only whether a device call succeeds, what a failed write leaves in its range, which free frame is taken, and
+-- whether a growth of memory is refused. Sources: POSIX.1-2024 (mmap, munmap, mprotect, msync), Intel SDM volume 3
 -- (4-level paging, TLBs, PCIDs), Black and others 1989 (shootdown), Park, Kelly and Shen 2013 (failure-atomic msync).
 use Rattle.std.specs.Prelude.{ℕ, ◌≡◌, ◌≢◌, ◌+◌, ◌/◌, ◌<◌, ◌⊎◌, Bool, true, false, not, List, [], ◌∷◌, map, Option, Some, None, is_some, Result, Ok, Err, slice_index_or, if◌then◌else◌}
 use Rattle.std.specs.FinMap as maps
@@ -88,21 +89,26 @@ Switches s p pcid keep reply new = ⊥
 
 abbrev pub Acknowledges : State → ℕ → Reply → State → Type 0
 Acknowledges s p replies.Acked new =
-    (not_there s p ≡ None) × (state_of s.hardware.shootdown p ≡ Interrupted) × (new ≡ with_shootdown s (stalled s.hardware.shootdown p))
-Acknowledges s p replies.Nothing new = (not_there s p ≡ None) × (state_of s.hardware.shootdown p ≢ Interrupted) × (new ≡ s)
+    (not_there s p ≡ None) × (state_of s.hardware.shootdown p ≡ Interrupted)
+    × (new ≡ with_shootdown s (stalled s.hardware.shootdown p))
+Acknowledges s p replies.Nothing new =
+    (not_there s p ≡ None) × (state_of s.hardware.shootdown p ≢ Interrupted) × (new ≡ s)
 Acknowledges s p (replies.Refused why) new = IsRefused (not_there s p) why s new
 Acknowledges s p reply new = ⊥
 
 abbrev pub Resumes : State → ℕ → Reply → State → Type 0
 Resumes s p replies.Resumed new =
-    (wait_refusal s p Stalled ≡ None) × (state_of s.hardware.shootdown p ≡ Stalled) × (new ≡ with_shootdown s (resumed s.hardware.shootdown p))
-Resumes s p replies.Nothing new = (wait_refusal s p Stalled ≡ None) × (state_of s.hardware.shootdown p ≢ Stalled) × (new ≡ s)
+    (wait_refusal s p Stalled ≡ None) × (state_of s.hardware.shootdown p ≡ Stalled)
+    × (new ≡ with_shootdown s (resumed s.hardware.shootdown p))
+Resumes s p replies.Nothing new =
+    (wait_refusal s p Stalled ≡ None) × (state_of s.hardware.shootdown p ≢ Stalled) × (new ≡ s)
 Resumes s p (replies.Refused why) new = IsRefused (wait_refusal s p Stalled) why s new
 Resumes s p reply new = ⊥
 
 abbrev pub Wakes : State → ℕ → Reply → State → Type 0
 Wakes s p replies.Woken new =
-    (wait_refusal s p Idle ≡ None) × (state_of s.hardware.shootdown p ≡ Idle) × (new ≡ with_shootdown s (resumed s.hardware.shootdown p))
+    (wait_refusal s p Idle ≡ None) × (state_of s.hardware.shootdown p ≡ Idle)
+    × (new ≡ with_shootdown s (resumed s.hardware.shootdown p))
 Wakes s p replies.Nothing new = (wait_refusal s p Idle ≡ None) × (state_of s.hardware.shootdown p ≢ Idle) × (new ≡ s)
 Wakes s p (replies.Refused why) new = IsRefused (wait_refusal s p Idle) why s new
 Wakes s p reply new = ⊥
@@ -132,7 +138,10 @@ pub record SpaceDestroyed (s : State) (p pcid : ℕ) (new : State) : Type 0 wher
   pub noted : NotesTaken s.hardware.spaces (IsInSpace pcid) s.checkpoint checkpoint
   -- whoever may cache the PCID is told
   pub done : new ≡ record s {
-    hardware = record s.hardware { shootdown = destroyed s.hardware.shootdown pcid; spaces = maps.remove s.hardware.spaces pcid };
+    hardware = record s.hardware {
+      shootdown = destroyed s.hardware.shootdown pcid;
+      spaces = maps.remove s.hardware.spaces pcid;
+    };
     checkpoint = checkpoint;
   }
 
@@ -146,13 +155,16 @@ pub record MapMade (s : State) (p pcid va len file offset : ℕ) (prot access : 
   -- the pages, and the page of the file at which they begin
   pub pages : PageRange × ℕ
   pub judged : judged_mapping s.hardware.spaces pcid va len offset ≡ Ok pages
-  pub done : new ≡ with_spaces s (with_mapping s.hardware.spaces pcid pages.0 (record { file = file; page = pages.1; rights = prot; access = access }))
+  pub done : new ≡ with_spaces s
+      (with_mapping s.hardware.spaces pcid pages.0
+      (record { file = file; page = pages.1; rights = prot; access = access }))
 
 abbrev pub Maps : State → ℕ → ℕ → ℕ → ℕ → ℕ → ℕ → Rights → Rights → Reply → State → Type 0
 Maps s p pcid va len file offset prot access replies.Mapped new = MapMade s p pcid va len file offset prot access new
 Maps s p pcid va len file offset prot access (replies.Refused refusals.OutOfMemory) new =
     (map_refusal s p pcid va len file offset prot access ≡ None) × (new ≡ s)
-Maps s p pcid va len file offset prot access (replies.Refused why) new = IsRefused (map_refusal s p pcid va len file offset prot access) why s new
+Maps s p pcid va len file offset prot access (replies.Refused why) new =
+    IsRefused (map_refusal s p pcid va len file offset prot access) why s new
 Maps s p pcid va len file offset prot access reply new = ⊥
 
 -- ---- changes begin
@@ -167,36 +179,44 @@ may_split spaces pcid range = 0 < splits (space_at spaces pcid).places range.fir
 
 abbrev pub Unmaps : State → ℕ → ℕ → ℕ → ℕ → Reply → State → Type 0
 Unmaps s p pcid va len replies.Begun new =
-    (unmap_refusal s p pcid va len ≡ None) × (range : PageRange) × (judged_range s.hardware.spaces pcid va len ≡ Ok range)
+    (unmap_refusal s p pcid va len ≡ None) × (range : PageRange)
+    × (judged_range s.hardware.spaces pcid va len ≡ Ok range)
     × (maps_some s.hardware.spaces pcid range ≡ true) × (new ≡ begin_change s p (changes.Unmap pcid range))
 Unmaps s p pcid va len replies.Fine new =
-    (unmap_refusal s p pcid va len ≡ None) × (range : PageRange) × (judged_range s.hardware.spaces pcid va len ≡ Ok range)
+    (unmap_refusal s p pcid va len ≡ None) × (range : PageRange)
+    × (judged_range s.hardware.spaces pcid va len ≡ Ok range)
     × (maps_some s.hardware.spaces pcid range ≡ false) × (new ≡ s)
 Unmaps s p pcid va len (replies.Refused refusals.OutOfMemory) new =
-    (unmap_refusal s p pcid va len ≡ None) × (range : PageRange) × (judged_range s.hardware.spaces pcid va len ≡ Ok range)
+    (unmap_refusal s p pcid va len ≡ None) × (range : PageRange)
+    × (judged_range s.hardware.spaces pcid va len ≡ Ok range)
     × may_split s.hardware.spaces pcid range × (new ≡ s)
 Unmaps s p pcid va len (replies.Refused why) new = IsRefused (unmap_refusal s p pcid va len) why s new
 Unmaps s p pcid va len reply new = ⊥
 
 abbrev pub Protects : State → ℕ → ℕ → ℕ → ℕ → Rights → Reply → State → Type 0
 Protects s p pcid va len prot replies.Begun new =
-    (protect_refusal_of s p pcid va len prot ≡ None) × (range : PageRange) × (judged_protection s.hardware.spaces pcid va len prot ≡ Ok range)
+    (protect_refusal_of s p pcid va len prot ≡ None) × (range : PageRange)
+    × (judged_protection s.hardware.spaces pcid va len prot ≡ Ok range)
     × (new ≡ begin_change s p (changes.Protect pcid range prot))
 Protects s p pcid va len prot (replies.Refused refusals.OutOfMemory) new =
-    (protect_refusal_of s p pcid va len prot ≡ None) × (range : PageRange) × (judged_protection s.hardware.spaces pcid va len prot ≡ Ok range)
+    (protect_refusal_of s p pcid va len prot ≡ None) × (range : PageRange)
+    × (judged_protection s.hardware.spaces pcid va len prot ≡ Ok range)
     × may_split s.hardware.spaces pcid range × (new ≡ s)
 Protects s p pcid va len prot (replies.Refused why) new = IsRefused (protect_refusal_of s p pcid va len prot) why s new
 Protects s p pcid va len prot reply new = ⊥
 
 abbrev pub Reclaims : State → ℕ → FilePage → Reply → State → Type 0
 Reclaims s p owner replies.Begun new =
-    (reclaim_refusal s p owner ≡ None) × (is_in_memory s.hardware.memory owner ≡ true) × (new ≡ begin_change s p (changes.Reclaim owner))
-Reclaims s p owner replies.Nothing new = (reclaim_refusal s p owner ≡ None) × (is_in_memory s.hardware.memory owner ≡ false) × (new ≡ s)
+    (reclaim_refusal s p owner ≡ None) × (is_in_memory s.hardware.memory owner ≡ true)
+    × (new ≡ begin_change s p (changes.Reclaim owner))
+Reclaims s p owner replies.Nothing new =
+    (reclaim_refusal s p owner ≡ None) × (is_in_memory s.hardware.memory owner ≡ false) × (new ≡ s)
 Reclaims s p owner (replies.Refused why) new = IsRefused (reclaim_refusal s p owner) why s new
 Reclaims s p owner reply new = ⊥
 
 abbrev pub Msyncs : State → ℕ → ℕ → ℕ → ℕ → Reply → State → Type 0
-Msyncs s p va len flags replies.Begun new = (msync_refusal s p va len flags ≡ None) × (new ≡ begin_change s p changes.Checkpoint)
+Msyncs s p va len flags replies.Begun new =
+    (msync_refusal s p va len flags ≡ None) × (new ≡ begin_change s p changes.Checkpoint)
 Msyncs s p va len flags (replies.Refused why) new = IsRefused (msync_refusal s p va len flags) why s new
 Msyncs s p va len flags reply new = ⊥
 
@@ -232,12 +252,14 @@ pub record ProtectMade (s : State) (p : ℕ) (new : State) : Type 0 where
   pub rights_set : SetsRights pcid range rights s.hardware.spaces spaces
   pub done : new ≡ end_change s p spaces s.hardware.memory s.checkpoint
 
--- the page in a frame may leave memory: it is clean, its batches are done, its home block has its bytes (nothing was stored past the file's end), and the machine isn't broken
+-- the page in a frame may leave memory: it is clean, its batches are done, its home block has its bytes (nothing was
+-- stored past the file's end), and the machine isn't broken
 pub record MayLeave (s : State) (owner : FilePage) (frame : ℕ) : Type 0 where
   pub held : Holds s.hardware.memory frame owner
   pub clean : IsDirty s.hardware.spaces s.checkpoint frame → ⊥
   pub written : HasBlock s.write_outs (home_of s.table owner) → ⊥
-  pub plain : bytes_of (frame_at s.hardware.memory frame) ≡ cut_at_end s owner (bytes_of (frame_at s.hardware.memory frame))
+  pub plain : bytes_of (frame_at s.hardware.memory frame)
+      ≡ cut_at_end s owner (bytes_of (frame_at s.hardware.memory frame))
   pub whole : s.write_outs.broken ≡ false
 
 pub record ReclaimMade (s : State) (p : ℕ) (new : State) : Type 0 where
@@ -297,7 +319,8 @@ pub record FixMade (s : State) (disk : List ℕ) (p va : ℕ) (write : Bool) (ne
   pub leads : place_of_fault s.hardware.spaces (current s.hardware.shootdown p) va write ≡ Ok place
   pub spaces : Spaces
   pub memory : FramesState
-  pub served : FaultServed s.hardware.spaces s.hardware.memory s.checkpoint (current s.hardware.shootdown p) (va / 4096) place write
+  pub served : FaultServed s.hardware.spaces s.hardware.memory s.checkpoint (current s.hardware.shootdown p)
+      (va / 4096) place write
       (page_from s disk (page_at place)) spaces memory
   pub done : new ≡ with_hardware s (record s.hardware { spaces = spaces; memory = memory })
 
@@ -326,7 +349,8 @@ next_page s = slice_index_or s.checkpoint.frozen 0 (record { file = 0; page = 0 
 abbrev pub bytes_with : FilePage → List (Option Frame) → List ℕ → List ℕ
 bytes_with owner [] other = other
 bytes_with owner (None ∷ frames) other = bytes_with owner frames other
-bytes_with owner (Some frame ∷ frames) other = if same_page owner frame.page then frame.bytes else bytes_with owner frames other
+bytes_with owner (Some frame ∷ frames) other =
+    if same_page owner frame.page then frame.bytes else bytes_with owner frames other
 
 abbrev pub bytes_at_mark : FramesState → FilePage → List ℕ
 bytes_at_mark memory owner = bytes_with owner memory.copies (bytes_with owner memory.frames [])
@@ -366,7 +390,8 @@ pub record FlushMade (s : State) (disk : List ℕ) (p : ℕ) (reply : Reply) (ne
   pub allowed : flush_refusal s p ≡ None
   pub some : s.write_outs.batches ≢ []
   pub answered : reply ≡ reply_to (next_answer s.write_outs)
-  pub done : new ≡ record (if is_some (outs_record s.write_outs) then after_record s else s) { write_outs = outs_after s.write_outs (next_answer s.write_outs) }
+  pub done : new ≡ record (if is_some (outs_record s.write_outs) then after_record s else s)
+      { write_outs = outs_after s.write_outs (next_answer s.write_outs) }
   pub disk_done : disk' ≡ worked disk (work_asked s)
 
 pub record FlushFailed (s : State) (disk : List ℕ) (p : ℕ) (new : State) (disk' : List ℕ) : Type 0 where
@@ -378,7 +403,8 @@ pub record FlushFailed (s : State) (disk : List ℕ) (p : ℕ) (new : State) (di
 abbrev pub Flushes : State → List ℕ → ℕ → Reply → State → List ℕ → Type 0
 Flushes s disk p (replies.Refused refusals.Device) new disk' = FlushFailed s disk p new disk'
 Flushes s disk p (replies.Refused why) new disk' = IsRefused (flush_refusal s p) why s new × (disk' ≡ disk)
-Flushes s disk p replies.Nothing new disk' = (flush_refusal s p ≡ None) × (s.write_outs.batches ≡ []) × (new ≡ s) × (disk' ≡ disk)
+Flushes s disk p replies.Nothing new disk' =
+    (flush_refusal s p ≡ None) × (s.write_outs.batches ≡ []) × (new ≡ s) × (disk' ≡ disk)
 Flushes s disk p replies.Going new disk' = FlushMade s disk p replies.Going new disk'
 Flushes s disk p (replies.Committed number) new disk' = FlushMade s disk p (replies.Committed number) new disk'
 Flushes s disk p (replies.Done number) new disk' = FlushMade s disk p (replies.Done number) new disk'
@@ -388,8 +414,10 @@ Flushes s disk p reply new disk' = ⊥
 
 -- one act of a processor, with what a read of the disk gives before it and after it; only write-outs write
 abbrev pub Acts : State → List ℕ → ℕ → Act → Reply → State → List ℕ → Type 0
-Acts s disk p (acts.Load va count) reply new disk' = Reaches s (LoadAnswers s.hardware p va count reply) new × (disk' ≡ disk)
-Acts s disk p (acts.Store va bytes) reply new disk' = Reaches s (StoreAnswers s.hardware p va bytes reply) new × (disk' ≡ disk)
+Acts s disk p (acts.Load va count) reply new disk' =
+    Reaches s (LoadAnswers s.hardware p va count reply) new × (disk' ≡ disk)
+Acts s disk p (acts.Store va bytes) reply new disk' =
+    Reaches s (StoreAnswers s.hardware p va bytes reply) new × (disk' ≡ disk)
 Acts s disk p (acts.Fill page) reply new disk' = Reaches s (FillAnswers s.hardware p page reply) new × (disk' ≡ disk)
 Acts s disk p (acts.Evict slot) reply new disk' = Reaches s (EvictAnswers s.hardware p slot reply) new × (disk' ≡ disk)
 Acts s disk p (acts.Switch space keep) reply new disk' = Switches s p space keep reply new × (disk' ≡ disk)
@@ -401,8 +429,10 @@ Acts s disk p (acts.Destroy space) reply new disk' = Destroys s p space reply ne
 Acts s disk p (acts.Map space va len file offset prot access) reply new disk' =
     Maps s p space va len file offset prot access reply new × (disk' ≡ disk)
 Acts s disk p (acts.Unmap space va len) reply new disk' = Unmaps s p space va len reply new × (disk' ≡ disk)
-Acts s disk p (acts.Protect space va len prot) reply new disk' = Protects s p space va len prot reply new × (disk' ≡ disk)
-Acts s disk p (acts.Reclaim file page) reply new disk' = Reclaims s p (record { file = file; page = page }) reply new × (disk' ≡ disk)
+Acts s disk p (acts.Protect space va len prot) reply new disk' =
+    Protects s p space va len prot reply new × (disk' ≡ disk)
+Acts s disk p (acts.Reclaim file page) reply new disk' =
+    Reclaims s p (record { file = file; page = page }) reply new × (disk' ≡ disk)
 Acts s disk p (acts.Msync va len flags) reply new disk' = Msyncs s p va len flags reply new × (disk' ≡ disk)
 Acts s disk p acts.Ack reply new disk' = Acknowledges s p reply new × (disk' ≡ disk)
 Acts s disk p acts.Change reply new disk' = Changes s p reply new × (disk' ≡ disk)

@@ -8,18 +8,23 @@ use Rattle.machine.specs.Rules.{Rules}
 use Rattle.machine.specs.Calls.{CallsOf}
 use Rattle.machine.specs.OnTrack.{StepMade}
 
-pub record StepTaken {D : Type 0} (disk : Ghosts D) (old : Whole D) (step : Step) (reply : Reply) (new : Whole D) : Type 0 where
+pub record StepTaken {D : Type 0} (disk : Ghosts D) (old : Whole D) (step : Step) (reply : Reply)
+    (new : Whole D) : Type 0 where
   -- there are bytes for which the rules hold, whatever the device is
   pub answered : (d d' : List ℕ) × Rules old.state d step reply new.state d'
   -- and of an honest device they are its own
-  pub made : disk.is_honest old.device → StepMade disk.seen disk.may_leave disk.moment disk.left_since disk.is_honest old step reply new
+  pub made : disk.is_honest old.device
+      → StepMade disk.seen disk.may_leave disk.moment disk.left_since disk.is_honest old step reply new
   -- its device calls, and those that failed
-  pub calls : CallsOf old.state step.p step.act reply (disk.calls_made old.device) (disk.calls_made new.device) (disk.faults_met old.device) (disk.faults_met new.device)
+  pub calls : CallsOf old.state step.p step.act reply (disk.calls_made old.device) (disk.calls_made new.device)
+      (disk.faults_met old.device) (disk.faults_met new.device)
   pub honest : disk.is_honest new.device ↔ disk.is_honest old.device
   pub len : length (disk.seen new.device) ≡ length (disk.seen old.device)
 
--- these replies to these steps, with a machine between any two of them; so the device calls of a run are the sum of its steps' calls
+-- these replies to these steps, with a machine between any two of them; so the device calls of a run are the sum of its
+-- steps' calls
 abbrev pub StepsTaken : {D : Type 0} → Ghosts D → Whole D → List Step → List Reply → Whole D → Type 0
 StepsTaken disk old [] [] new = new ≡ old
-StepsTaken {D} disk old (step ∷ steps) (reply ∷ replies) new = (mid : Whole D) × StepTaken disk old step reply mid × StepsTaken disk mid steps replies new
+StepsTaken {D} disk old (step ∷ steps) (reply ∷ replies) new =
+    (mid : Whole D) × StepTaken disk old step reply mid × StepsTaken disk mid steps replies new
 StepsTaken disk old steps replies new = ⊥

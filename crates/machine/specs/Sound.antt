@@ -38,9 +38,11 @@ capacity_of s file = slice_index_or (map (λ f. f.capacity) s.table.files) file 
 -- frames and copies in use have whole pages, and each page of a file is in one frame and one copy at most
 pub record IsMemory (memory : FramesState) : Type 0 where
   pub frames_whole : (frame : ℕ) → IsSome (frame_at memory frame) → length (bytes_of (frame_at memory frame)) ≡ 4096
-  pub copies_whole : (copy : ℕ) (kept : Frame) → slice_index_or memory.copies copy None ≡ Some kept → length kept.bytes ≡ 4096
+  pub copies_whole : (copy : ℕ) (kept : Frame) → slice_index_or memory.copies copy None ≡ Some kept
+      → length kept.bytes ≡ 4096
   pub one_frame : (a b : ℕ) (owner : FilePage) → Holds memory a owner → Holds memory b owner → a ≡ b
-  pub one_copy : (a b : ℕ) (x y : Frame) → slice_index_or memory.copies a None ≡ Some x → slice_index_or memory.copies b None ≡ Some y → x.page ≡ y.page → a ≡ b
+  pub one_copy : (a b : ℕ) (x y : Frame) → slice_index_or memory.copies a None ≡ Some x
+      → slice_index_or memory.copies b None ≡ Some y → x.page ≡ y.page → a ≡ b
 
 -- each of these batches but the newest is committed
 abbrev pub AreOlderCommitted : List WriteOut → Type 0
@@ -63,7 +65,8 @@ IsPrepared s (Protect pcid range rights) =
     (is_user_space s.hardware.spaces pcid ≡ true) × (is_user_range range ≡ true)
     × (protect_refusal (space_at s.hardware.spaces pcid).places range rights ≡ None)
 IsPrepared s (Reclaim owner) =
-    (owner.file < length s.table.files) × (owner.page < pages_in_file s.table.files owner.file) × (is_in_memory s.hardware.memory owner ≡ true)
+    (owner.file < length s.table.files) × (owner.page < pages_in_file s.table.files owner.file)
+    × (is_in_memory s.hardware.memory owner ≡ true)
 IsPrepared s Checkpoint = (s.marks + 1 < 2 ^ 32) × (s.write_outs.broken ≡ false → is_busy s.write_outs ≡ false)
 
 -- ---- facts that depend on the processors and the page tables
@@ -72,9 +75,11 @@ pub record AreSpacesSound (s : State) : Type 0 where
   pub shootdown : IsShootdown s.hardware.shootdown
   pub coheres : Coheres s.hardware.spaces s.hardware.shootdown
   -- each processor is in a space that is there
-  pub current : (p : ℕ) → p < length s.hardware.shootdown.processors → has_space s.hardware.spaces (current s.hardware.shootdown p) ≡ true
+  pub current : (p : ℕ) → p < length s.hardware.shootdown.processors
+      → has_space s.hardware.spaces (current s.hardware.shootdown p) ≡ true
   -- only files of the table are mapped
-  pub in_table : (pcid page : ℕ) (place : Place) → place_at s.hardware.spaces pcid page ≡ Some place → place.file < length s.table.files
+  pub in_table : (pcid page : ℕ) (place : Place) → place_at s.hardware.spaces pcid page ≡ Some place
+      → place.file < length s.table.files
   -- a change that is under way was judged
   pub prepared : (lock : Lock) → s.hardware.shootdown.lock ≡ Some lock → IsPrepared s lock.change
 
@@ -92,7 +97,8 @@ pub record IsMemorySound (s : State) : Type 0 where
   -- frozen pages are in memory, and only they are copied
   pub frozen : All (λ owner. is_in_memory s.hardware.memory owner ≡ true) s.checkpoint.frozen
   pub rising : AreRising s.checkpoint.frozen
-  pub copied : (copy : ℕ) (kept : Frame) → slice_index_or s.hardware.memory.copies copy None ≡ Some kept → is_frozen s.checkpoint kept.page ≡ true
+  pub copied : (copy : ℕ) (kept : Frame) → slice_index_or s.hardware.memory.copies copy None ≡ Some kept
+      → is_frozen s.checkpoint kept.page ≡ true
 
 -- ---- facts that depend on the write-outs
 pub record AreWriteOutsSound (s : State) : Type 0 where
@@ -102,7 +108,8 @@ pub record AreWriteOutsSound (s : State) : Type 0 where
   pub older : AreOlderCommitted s.write_outs.batches
   pub homes : All (λ w. AreHomes (geometry_of s.table) w.batch.homes) s.write_outs.batches
   -- their pages are in memory
-  pub in_memory : All (λ w. All (λ home. (owner : FilePage) × (home ≡ home_of s.table owner) × (is_in_memory s.hardware.memory owner ≡ true)) w.batch.homes) s.write_outs.batches
+  pub in_memory : All (λ w. All (λ home. (owner : FilePage) × (home ≡ home_of s.table owner)
+      × (is_in_memory s.hardware.memory owner ≡ true)) w.batch.homes) s.write_outs.batches
   pub marked : All (λ w. (0 < w.batch.mark) × (w.batch.mark ≤ s.marks)) s.write_outs.batches
   pub few_marks : s.marks < 2 ^ 32
   pub frozen : map (home_of s.table) s.checkpoint.frozen ≡ frozen_homes s

@@ -39,7 +39,8 @@ home_of table owner = first_home_of table owner.file + owner.page
 pub data Source : Type 0 where
   PageOf : FilePage → Source
 
--- what the record of a page has, and what a frame has when the page is read in: its bytes up to the file's end, then zeros
+-- what the record of a page has, and what a frame has when the page is read in: its bytes up to the file's end, then
+-- zeros
 abbrev pub cut_at_end : State → FilePage → List ℕ → List ℕ
 cut_at_end s owner bytes = padded 4096 (take (length_of s owner.file - 4096 * owner.page) bytes)
 

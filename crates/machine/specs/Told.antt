@@ -1,5 +1,5 @@
--- What the steps and replies of a run tell, without a look into the machine: who maps what, which space each processor is in, how long files are, which change is under way, and the
--- history.
+-- What the steps and replies of a run tell, without a look into the machine: who maps what, which space each processor
+-- is in, how long files are, which change is under way, and the history.
 use Rattle.std.specs.Prelude.{ℕ, Bool, true, false, ◌+◌, ◌*◌, ◌/◌, ◌%◌, if◌then◌else◌, List, [], ◌∷◌, ◌++◌, Option, Some, None, slice_index_or, slice_set, Result, Ok, Err, unwrap_or}
 use Rattle.std.specs.Ordering.{nat_cmp}
 use Rattle.std.specs.FinMap as maps
@@ -26,7 +26,8 @@ pub record Told : Type 0 where
   pub spaces : maps.FinMap nat_cmp Places
   -- the current space of each processor
   pub current : List ℕ
-  -- of each processor, whether it goes on with loads and stores: from when it resumes, wakes or ends a change until it stalls, idles or begins one
+  -- of each processor, whether it goes on with loads and stores: from when it resumes, wakes or ends a change until it
+  -- stalls, idles or begins one
   pub running : List Bool
   -- whether the lock is held: from when a change is begun until it is made
   pub locked : Bool
@@ -55,7 +56,8 @@ with_places told space places = record told { spaces = maps.insert told.spaces s
 abbrev pub mapped_in : Told → ℕ → ℕ → Rights → Rights → Result (PageRange × ℕ) Refusal → Told
 mapped_in told space file prot access (Err why) = told
 mapped_in told space file prot access (Ok pages) =
-    with_places told space (with_range (places_in told space) pages.0.first pages.0.count (record { file = file; page = pages.1; rights = prot; access = access }))
+    with_places told space (with_range (places_in told space) pages.0.first pages.0.count
+    (record { file = file; page = pages.1; rights = prot; access = access }))
 
 -- what was begun, where the bytes are a range
 abbrev pub begun_unmap : ℕ → Result PageRange Refusal → Option Pending
@@ -69,8 +71,10 @@ begun_protect space rights (Ok range) = Some (Protecting space range rights)
 -- the change that was begun takes effect
 abbrev pub changed : Told → Option Pending → Told
 changed told None = told
-changed told (Some (Unmapping space range)) = with_places told space (without_range (places_in told space) range.first range.count)
-changed told (Some (Protecting space range rights)) = with_places told space (with_rights (places_in told space) range.first range.count rights)
+changed told (Some (Unmapping space range)) =
+    with_places told space (without_range (places_in told space) range.first range.count)
+changed told (Some (Protecting space range rights)) =
+    with_places told space (with_rights (places_in told space) range.first range.count rights)
 
 -- the offset in the file of an address that leads to this place
 abbrev pub offset_at : Place → ℕ → ℕ
@@ -81,10 +85,12 @@ abbrev pub store_at : Option Place → ℕ → List ℕ → List Event
 store_at None va bytes = []
 store_at (Some place) va bytes = Store place.file (offset_at place va) bytes ∷ []
 
--- what an act of processor p and its reply add to the history: a mark after which nothing was stored since the former one is durable at once
+-- what an act of processor p and its reply add to the history: a mark after which nothing was stored since the former
+-- one is durable at once
 abbrev pub events_of : Told → ℕ → Act → Reply → List Event
 events_of told p (acts.Store va bytes) replies.Stored = store_at (place_told told p va) va bytes
-events_of told p act (replies.Marked number) = Mark number ∷ (if has_unmarked told.history then [] else Acknowledge number ∷ [])
+events_of told p act (replies.Marked number) =
+    Mark number ∷ (if has_unmarked told.history then [] else Acknowledge number ∷ [])
 events_of told p act (replies.Committed number) = Acknowledge number ∷ []
 events_of told p act reply = []
 
@@ -104,9 +110,11 @@ abbrev pub arranged : Told → ℕ → Act → Reply → Told
 arranged told p acts.Create (replies.Space space) = with_places told space maps.empty
 arranged told p (acts.Destroy space) replies.Destroyed = record told { spaces = maps.remove told.spaces space }
 arranged told p (acts.Switch space keep) replies.Switched = record told { current = slice_set told.current p space }
-arranged told p (acts.Map space va len file offset prot access) replies.Mapped = mapped_in told space file prot access (mapped_pages_of va len offset)
+arranged told p (acts.Map space va len file offset prot access) replies.Mapped =
+    mapped_in told space file prot access (mapped_pages_of va len offset)
 arranged told p (acts.Unmap space va len) replies.Begun = begun_by told p (begun_unmap space (range_of_bytes va len))
-arranged told p (acts.Protect space va len prot) replies.Begun = begun_by told p (begun_protect space prot (range_of_bytes va len))
+arranged told p (acts.Protect space va len prot) replies.Begun =
+    begun_by told p (begun_protect space prot (range_of_bytes va len))
 arranged told p act replies.Begun = begun_by told p None
 arranged told p act replies.Unmapped = ended_by (changed told told.pending) p
 arranged told p act replies.Protected = ended_by (changed told told.pending) p

@@ -39,9 +39,11 @@ pub record IsArranged (told : Told) (s : State) : Type 0 where
   pub same_spaces : (pcid : ℕ) → maps.contains_key told.spaces pcid ≡ has_space s.hardware.spaces pcid
   pub same_places : (pcid : ℕ) → places_in told pcid ≡ (space_at s.hardware.spaces pcid).places
   pub processors : length told.current ≡ length s.hardware.shootdown.processors
-  pub same_current : (p : ℕ) → p < length told.current → slice_index_or told.current p 0 ≡ current s.hardware.shootdown p
+  pub same_current : (p : ℕ) → p < length told.current
+      → slice_index_or told.current p 0 ≡ current s.hardware.shootdown p
   pub as_many : length told.running ≡ length s.hardware.shootdown.processors
-  pub same_running : (p : ℕ) → p < length told.running → slice_index_or told.running p false ≡ is_running (state_of s.hardware.shootdown p)
+  pub same_running : (p : ℕ) → p < length told.running
+      → slice_index_or told.running p false ≡ is_running (state_of s.hardware.shootdown p)
   pub same_locked : told.locked ≡ is_some s.hardware.shootdown.lock
   pub same_pending : told.pending ≡ pending_in (change_in s.hardware.shootdown.lock)
   pub same_lengths : told.lengths ≡ s.lengths
@@ -67,7 +69,8 @@ AreTouched told s = (owner : FilePage) → (is_touched told.history owner.file o
 -- a page that isn't in memory has zeros past its file's end
 abbrev pub ArePlain : List File → Told → State → Type 0
 ArePlain files told s = (owner : FilePage) → IsInFile s owner → is_in_memory s.hardware.memory owner ≡ false
-    → after (memory_of files) told.history owner.file owner.page ≡ cut_at_end s owner (after (memory_of files) told.history owner.file owner.page)
+    → after (memory_of files) told.history owner.file owner.page
+    ≡ cut_at_end s owner (after (memory_of files) told.history owner.file owner.page)
 
 -- ---- what the device recovers to
 
@@ -81,7 +84,8 @@ HasParts s contents memory = (owner : FilePage) → IsInFile s owner
     → within_file s owner (contents (home_of s.table owner)) ≡ within_file s owner (memory owner.file owner.page)
 
 -- the contents are those after a marked prefix of the history
-pub record AreContentsOf (files : List File) (history : List Event) (s : State) (contents : ℕ → List ℕ) (prefix : List Event) : Type 0 where
+pub record AreContentsOf (files : List File) (history : List Event) (s : State) (contents : ℕ → List ℕ)
+    (prefix : List Event) : Type 0 where
   pub rest : List Event
   pub begins : prefix ++ rest ≡ history
   pub marked : IsMarked prefix
@@ -97,8 +101,8 @@ pub record IsLost (s : State) : Type 0 where
   pub broken : s.write_outs.broken ≡ true
   pub no_mark : change_in s.hardware.shootdown.lock ≢ Some Checkpoint
 
--- Contents before the batch that isn't committed yet and with it, each those after a marked prefix of the history that has every acknowledged mark. Where each batch is committed, the second
--- alone count.
+-- Contents before the batch that isn't committed yet and with it, each those after a marked prefix of the history that
+-- has every acknowledged mark. Where each batch is committed, the second alone count.
 pub record IsWritten (files : List File) (told : Told) (s : State) (old new : ℕ → List ℕ) : Type 0 where
   pub before : List Event
   pub old_are : AreContentsOf files told.history s old before
@@ -109,15 +113,19 @@ pub record IsWritten (files : List File) (told : Told) (s : State) (old new : �
   -- what the uncommitted batch will acknowledge is in the second prefix
   pub marks : All (λ w. Contains marked (Mark w.batch.mark)) s.write_outs.batches
   -- a machine that broke while a mark was under way has no batch that isn't committed
-  pub ready : s.write_outs.broken ≡ true → change_in s.hardware.shootdown.lock ≡ Some Checkpoint → has_uncommitted s.write_outs.batches ≡ false
+  pub ready : s.write_outs.broken ≡ true → change_in s.hardware.shootdown.lock ≡ Some Checkpoint
+      → has_uncommitted s.write_outs.batches ≡ false
   -- a page that got no store since the last mark has its bytes there, unless a mark was lost
   pub clean : IsLost s ⊎ ((owner : FilePage) → IsInFile s owner → is_touched told.history owner.file owner.page ≡ false
-      → within_file s owner (new (home_of s.table owner)) ≡ within_file s owner (after (memory_of files) told.history owner.file owner.page))
+      → within_file s owner (new (home_of s.table owner))
+      ≡ within_file s owner (after (memory_of files) told.history owner.file owner.page))
   -- the records of frozen pages are what was gathered
-  pub frozen : All (λ owner. new (home_of s.table owner) ≡ cut_at_end s owner (bytes_at_mark s.hardware.memory owner)) s.checkpoint.frozen
+  pub frozen : All (λ owner. new (home_of s.table owner)
+      ≡ cut_at_end s owner (bytes_at_mark s.hardware.memory owner)) s.checkpoint.frozen
 
 -- a machine over a device that reads `seen`, and of which a crash may leave these lists, goes with what was told
-pub record IsTracked (files : List File) (told : Told) (s : State) (seen : List ℕ) (may_leave : List ℕ → Type 0) : Type 0 where
+pub record IsTracked (files : List File) (told : Told) (s : State) (seen : List ℕ)
+    (may_leave : List ℕ → Type 0) : Type 0 where
   pub sound : IsSound s
   pub files_are : HasFiles files s
   pub arranged : IsArranged told s

@@ -10,7 +10,8 @@ use Rattle.machine.specs.declared.act.Reply.TheVariants.{Bytes, Stored, Filled, 
 abbrev pub numbers_text : List ℕ → List ℕ
 numbers_text numbers = flat_map (λ n. 32 ∷ decimal n) numbers
 
--- the word in lower case; after it its bytes or its number in decimal digits, each after one space; a refusal as its own words
+-- the word in lower case; after it its bytes or its number in decimal digits, each after one space; a refusal as its
+-- own words
 abbrev pub reply_text : Reply → List ℕ
 reply_text (Bytes bytes) = codes "bytes" ++ numbers_text bytes
 reply_text Stored = codes "stored"

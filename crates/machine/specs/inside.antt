@@ -3,3 +3,4 @@ pub mod Flushing
 pub mod Acting
 pub mod Codes
 pub mod Booting
+pub mod Freshness

@@ -48,8 +48,8 @@ impl<D: Device, A: Allocator + Copy> Layers<D, A> {
         Reply::Protected
     }
 
-    // Whether the page in a frame is clean, its batches are done, and it has zeros past its file's end, so that its home
-    // block has its bytes.
+    // Whether the page in a frame is clean, its batches are done, and it has zeros past its file's end, so that its
+    // home block has its bytes.
     fn is_at_home(&self, page: FilePage, frame: FrameNumber) -> bool
         requires sound { IsSound (state_in self.now) }
         requires page { HasPage self.now.table page }

@@ -24,7 +24,9 @@ impl Model for FewBytes {
 
     ghost inverse = { λ list. record { bytes = padded_to_8 list; len = length list } };
 
-    ghost inverse_ok = { λ few is. let both : (bytes : List ℕ) (len : ℕ) → Inside = λ bytes len. record { bytes = bytes; len = len } in λ i. both (padded_again few.bytes few.len is i) (is.counted i) };
+    ghost inverse_ok = { λ few is. let both : (bytes : List ℕ) (len : ℕ)
+        → Inside = λ bytes len. record { bytes = bytes; len = len } in
+        λ i. both (padded_again few.bytes few.len is i) (is.counted i) };
 }
 
 impl FewBytes {

@@ -12,11 +12,12 @@ ghost use Rattle.machine.specs.Later.{FindsDurable};
 use device::Device;
 use recovery::opened_again;
 
-/// Where all that a crash may leave of a device reads back as the files after a durable prefix of a history, each opening
-/// later, to any depth, with a crash or none within and after each before it, gives exactly such files, or meets a device
-/// call that failed, or no memory.
+/// Where all that a crash may leave of a device reads back as the files after a durable prefix of a history, each
+/// opening later, to any depth, with a crash or none within and after each before it, gives exactly such files, or
+/// meets a device call that failed, or no memory.
 pub fn opened_later<D: Device>(device: &D)
-    ensures { (files : List File) (history : List Event) (n : ℕ) (first later after : D) (result : Result SuperValue Refusal)
+    ensures { (files : List File) (history : List Event) (n : ℕ) (first later after : D)
+        (result : Result SuperValue Refusal)
         → D.is_honest first → ((c : List ℕ) → D.may_leave first c → ReadsBack files history c)
         → IsLater D.Device n first later → Opens D.Device later result after
         → FindsDurable files history result (D.seen after) }

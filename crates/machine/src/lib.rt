@@ -9,6 +9,7 @@ mod changing;
 mod faults;
 mod few_bytes;
 mod flushing;
+mod freshness;
 mod laws;
 mod layers;
 mod machine;

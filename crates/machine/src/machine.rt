@@ -2,7 +2,7 @@
 ghost use Rattle.std.specs.Prelude.{◌≡◌, ◌≢◌, ◌↔◌, ℕ, List, length, false, IsTrue, IfOk, IfErr, OnOk};
 ghost use Rattle.volume_codec.specs.Super.{geometry_of};
 ghost use Rattle.shootdown.specs.Shootdown.{is_there, state_of};
-ghost use Rattle.machine.specs.Fresh.{IsShape, fresh};
+ghost use Rattle.machine.specs.Fresh.{IsShape, IsFresh, fresh};
 ghost use Rattle.machine.specs.Booting.{RefusesShape};
 ghost use Rattle.machine.specs.Calls.{CallsOf};
 ghost use Rattle.machine.specs.Rules.{Rules, Run};
@@ -105,6 +105,13 @@ impl<D: Device, A: Allocator + Copy> Machine<D, A> {
                 device,
             },
         }
+    }
+
+    /// Whether it is as `boot` makes one over its volume, of its shape.
+    pub fn is_fresh(&self) -> bool
+        ensures { IsTrue result ↔ IsFresh self.now.state }
+    {
+        self.layers.shape().fits(&self.layers.table) && self.layers.look_fresh()
     }
 
     /// How many processors the machine has, 1 to 16; they are numbered from 0.

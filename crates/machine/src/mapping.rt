@@ -39,7 +39,8 @@ impl<D: Device, A: Allocator + Copy> Layers<D, A> {
     // Pages of a space are mapped to pages of a file, as the act asks.
     pub(crate) fn map(&mut self, p: ProcessorNumber, act: &Act) -> Result<Reply, Refusal>
         requires { IsMap act.now }
-        ensures rules { (disk : List ℕ) → Acts (state_in self.old) disk p act.now (reply_to result) (state_in self.new) disk }
+        ensures rules { (disk : List ℕ)
+            → Acts (state_in self.old) disk p act.now (reply_to result) (state_in self.new) disk }
         ensures quiet { IsQuiet self.old self.new }
     {
         let Act::Map {

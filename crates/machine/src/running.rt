@@ -1,10 +1,15 @@
 // Runs: steps one at a time, and what holds of all of them together.
-ghost use Rattle.std.specs.Prelude.{◌≡◌, ◌↔◌, ◌++◌, ◌≤◌, List, [], ◌∷◌, length};
+ghost use Rattle.std.specs.Prelude.{ℕ, ◌≡◌, ◌↔◌, ◌++◌, ◌≤◌, List, [], ◌∷◌, length, Contains};
+ghost use Rattle.page_entry.specs.declared.numbers.FilePage.{FilePage};
+ghost use Rattle.frames.specs.Frames.{frame_at, bytes_of};
+ghost use Rattle.checkpoint.specs.Checkpoint.{Holds};
 ghost use Rattle.device.specs.Device.{Only};
 ghost use Rattle.machine.specs.declared.act.Reply.{Reply};
 ghost use Rattle.machine.specs.declared.act.Step.{Step};
 ghost use Rattle.volume_codec.specs.Files.{File};
-ghost use Rattle.machine.specs.State.{Whole};
+ghost use Rattle.machine.specs.State.{State, Whole};
+ghost use Rattle.machine.specs.Rules.{MarkMade};
+ghost use Rattle.machine.specs.Durability.{AreFrozenProtected, HasPage};
 ghost use Rattle.machine.specs.Crashes.{Begins, Throughout};
 ghost use Rattle.machine.specs.Laws.{EachStep, FaultsAreServed};
 ghost use Rattle.machine.specs.OnTrack.{IsOnTrack, IsLawful, told_first};
@@ -21,8 +26,9 @@ impl<D: Device, A: Allocator + Copy> Machine<D, A> {
             → IsOnTrack D.seen D.may_leave D.moment D.left_since D.is_honest files self.now [] [] self.now }
     {}
 
-    /// A step of a machine that is on the track of a run keeps it there, with the step and its reply added. For a caller that makes one step
-    /// at a time: what is on the track has the laws of the run, and a crash at any moment leaves what reads back.
+    /// A step of a machine that is on the track of a run keeps it there, with the step and its reply added. For a
+    /// caller that makes one step at a time: what is on the track has the laws of the run, and a crash at any moment
+    /// leaves what reads back.
     pub fn enter(&mut self, step: &Step) -> Reply
         ensures taken { StepTaken D.Device self.old step.now result self.new }
         ensures on_track { (files : List File) (start : Whole D) (steps : List Step) (replies : List Reply)
@@ -40,11 +46,32 @@ impl<D: Device, A: Allocator + Copy> Machine<D, A> {
             → FaultsAreServed steps replies }
     {}
 
+    /// On the track of a run, no store reaches a page that was gathered by a mark until its record is written, its bytes
+    /// are copied, or a device call of a write-out has failed.
+    pub fn protects_frozen_pages(&self)
+        ensures { (files : List File) (start : Whole D) (steps : List Step) (replies : List Reply)
+            → IsOnTrack D.seen D.may_leave D.moment D.left_since D.is_honest files start steps replies self.now
+            → AreFrozenProtected self.now.state }
+    {}
+
+    /// On the track of a run, a page that a mark doesn't gather has in its frame, up to its file's end, the bytes that
+    /// the device recovers to, whatever of it a crash leaves.
+    pub fn keeps_other_pages(&self)
+        ensures { (files : List File) (start : Whole D) (steps : List Step) (replies : List Reply)
+            (p number : ℕ) (new : State) (mark : MarkMade self.now.state p number new) (frame : ℕ) (owner : FilePage)
+            (c : List ℕ)
+            → IsOnTrack D.seen D.may_leave D.moment D.left_since D.is_honest files start steps replies self.now
+            → Holds self.now.state.hardware.memory frame owner → (Contains mark.pages owner → ⊥)
+            → D.may_leave self.now.device c
+            → HasPage self.now.state owner (bytes_of (frame_at self.now.state.hardware.memory frame)) c }
+    {}
+
     /// Makes the steps one after the other, and puts each one's reply into its place.
     ///
-    /// On a machine as it was booted over a volume at rest, on an honest device: each reply is by the rules (`headline`) and by what was told
-    /// before it (`lawful`, `served`); and whatever the steps are, also where device calls fail, a crash at any moment of any step, and
-    /// after it, leaves what recovers to the files after a durable prefix of the history up to that moment (`headline`).
+    /// On a machine as it was booted over a volume at rest, on an honest device: each reply is by the rules
+    /// (`headline`) and by what was told before it (`lawful`, `served`); and whatever the steps are, also where device
+    /// calls fail, a crash at any moment of any step, and after it, leaves what recovers to the files after a durable
+    /// prefix of the history up to that moment (`headline`).
     pub fn run(&mut self, steps: &[Step], replies: &mut [Reply])
         requires { length replies.old ≡ length steps.now }
         ensures sized { length replies.new ≡ length steps.now }

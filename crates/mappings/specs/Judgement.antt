@@ -22,12 +22,15 @@ is_mappable range page = is_user_range range && nat_le range.count 65536 && nat_
 
 -- the pages of the len bytes from va on
 abbrev pub range_of_bytes : ℕ → ℕ → Result PageRange Refusal
-range_of_bytes va len = if va % 4096 == 0 && is_user_range (pages_holding va len) then Ok (pages_holding va len) else Err Einval
+range_of_bytes va len = if va % 4096 == 0
+    && is_user_range (pages_holding va len) then Ok (pages_holding va len) else Err Einval
 
 -- these pages, and the page of the file at which the offset stands
 abbrev pub mapped_pages_of : ℕ → ℕ → ℕ → Result (PageRange × ℕ) Refusal
 mapped_pages_of va len offset =
-    if va % 4096 == 0 && offset % 4096 == 0 && is_mappable (pages_holding va len) (offset / 4096) then Ok (pages_holding va len, offset / 4096) else Err Einval
+    if va % 4096 == 0 && offset % 4096 == 0
+    && is_mappable (pages_holding va len) (offset / 4096) then Ok (pages_holding va len, offset / 4096)
+    else Err Einval
 
 -- why these pages can't be mapped from the place on
 abbrev pub add_refusal : Places → PageRange → Place → Option Refusal

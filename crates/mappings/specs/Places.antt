@@ -38,7 +38,8 @@ is_among first count q = nat_le first q && nat_lt q (first + count)
 -- the count pages from first on map the file pages from the place on, one after the other; every other page stays
 unfoldable pub with_range : Places → ℕ → ℕ → Place → Places
 with_range places first zero place = places
-with_range places first (suc count) place = fin_map.insert (with_range places (first + 1) count (advanced place 1)) first place
+with_range places first (suc count) place =
+    fin_map.insert (with_range places (first + 1) count (advanced place 1)) first place
 
 -- the count pages from first on are not mapped; every other page stays
 unfoldable pub without_range : Places → ℕ → ℕ → Places
@@ -47,7 +48,8 @@ without_range places first count = fin_map.retain_keys places (λ q. not (is_amo
 -- those of the count pages from first on that are mapped have the rights; all else stays
 unfoldable pub with_rights : Places → ℕ → ℕ → Rights → Places
 with_rights places first count rights =
-    fin_map.from_entries (map (λ e. (e.0, if is_among first count e.0 then record e.1 { rights = rights } else e.1)) (fin_map.entries places))
+    fin_map.from_entries (map (λ e. (e.0, if is_among first count e.0 then record e.1 { rights = rights } else e.1))
+    (fin_map.entries places))
 
 -- whether a page of the count pages from first on is mapped
 abbrev pub any_mapped : Places → ℕ → ℕ → Bool
@@ -59,21 +61,26 @@ all_mapped places first count = list_all (fin_map.contains_key places) (range_wi
 
 -- whether a page of the count pages from first on is mapped with an access that doesn't allow the rights
 abbrev pub any_forbids : Places → ℕ → ℕ → Rights → Bool
-any_forbids places first count rights = list_any (λ q. option_map_or (λ place. not (allows place.access rights)) (fin_map.get places q) false) (range_with_len first count)
+any_forbids places first count rights =
+    list_any (λ q. option_map_or (λ place. not (allows place.access rights)) (fin_map.get places q) false)
+    (range_with_len first count)
 
 -- whether the second is the place right after the first in one file, with the same rights and access
 abbrev pub follows : Option Place → Option Place → Bool
-follows (Some p) (Some q) = p.file == q.file && p.page + 1 == q.page && same_rights p.rights q.rights && same_rights p.access q.access
+follows (Some p) (Some q) = p.file == q.file && p.page + 1 == q.page && same_rights p.rights q.rights
+    && same_rights p.access q.access
 follows _ _ = false
 
 -- whether a mapping goes on from the page before this one
 abbrev pub goes_on : Places → ℕ → Bool
 goes_on places page = follows (fin_map.get places (page - 1)) (fin_map.get places page)
 
--- how many of the two ends of count pages from first on are within a mapping, which a change of these pages splits there
+-- how many of the two ends of count pages from first on are within a mapping, which a change of these pages splits
+-- there
 abbrev pub splits : Places → ℕ → ℕ → ℕ
 splits places first count = (if goes_on places first then 1 else 0) + (if goes_on places (first + count) then 1 else 0)
 
 -- the pages that map this page of this file, in rising order
 abbrev pub pages_mapping : Places → ℕ → ℕ → List ℕ
-pages_mapping places file page = map (λ e. e.0) (filter (λ e. e.1.file == file && e.1.page == page) (fin_map.entries places))
+pages_mapping places file page =
+    map (λ e. e.0) (filter (λ e. e.1.file == file && e.1.page == page) (fin_map.entries places))

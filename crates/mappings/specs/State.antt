@@ -27,9 +27,11 @@ rights_code = code_by Bool coded_bool may_write rights_of rights_of-may_write
 
 abbrev pub place_code : Coded Place
 place_code =
-    code_by ((ℕ × ℕ) × (Rights × Rights)) (coded× (coded× coded_ℕ coded_ℕ) (coded× rights_code rights_code)) (λ p. ((p.file, p.page), (p.rights, p.access)))
+    code_by ((ℕ × ℕ) × (Rights × Rights)) (coded× (coded× coded_ℕ coded_ℕ) (coded× rights_code rights_code))
+    (λ p. ((p.file, p.page), (p.rights, p.access)))
     (λ c. record { file = c.0.0; page = c.0.1; rights = c.1.0; access = c.1.1 }) (λ _. refl)
 
 abbrev pub mappings_code : Coded MappingsState
 mappings_code =
-    code_by (Places × ℕ) (coded× (fin_map.code coded_ℕ place_code) coded_ℕ) (λ s. (s.places, s.spare)) (λ c. record { places = c.0; spare = c.1 }) (λ _. refl)
+    code_by (Places × ℕ) (coded× (fin_map.code coded_ℕ place_code) coded_ℕ) (λ s. (s.places, s.spare))
+    (λ c. record { places = c.0; spare = c.1 }) (λ _. refl)

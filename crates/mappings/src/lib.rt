@@ -1,5 +1,5 @@
-//! The mappings of one address space: which page maps which page of which file, with which rights (POSIX.1-2024, `mmap`,
-//! `munmap`, `mprotect`).
+//! The mappings of one address space: which page maps which page of which file, with which rights (POSIX.1-2024,
+//! `mmap`, `munmap`, `mprotect`).
 #![tactic(auto)]
 
 mod list;

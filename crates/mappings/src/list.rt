@@ -78,11 +78,12 @@ fn split<A: Allocator>(list: &mut Vec<Mapping, A>, page: PageNumber)
     }
 }
 
-/// Splits the mappings that the ends of the range are within, so that each lies within the range or outside. It takes no
-/// memory.
+/// Splits the mappings that the ends of the range are within, so that each lies within the range or outside. It takes
+/// no memory.
 pub(crate) fn split_ends<A: Allocator>(list: &mut Vec<Mapping, A>, range: PageRange)
     requires kept { IsKept list.old.items }
-    requires room { splits (places_of list.old.items) range.first range.count ≤ vec_capacity list.old - vec_len list.old }
+    requires room { splits (places_of list.old.items) range.first range.count
+        ≤ vec_capacity list.old - vec_len list.old }
     requires fits { range.first + range.count < 2 ^ 64 }
     ensures { IsSplit list.old.items list.new.items range.first range.count }
 {
@@ -109,8 +110,8 @@ pub(crate) fn remove_range<A: Allocator>(list: &mut Vec<Mapping, A>, places: Ran
     list.drain(places);
 }
 
-// Makes each two mappings of which the second goes on where the first ends one. The mappings that are left are the first
-// ones of the list; how many.
+// Makes each two mappings of which the second goes on where the first ends one. The mappings that are left are the
+// first ones of the list; how many.
 fn merge(list: &mut [Mapping]) -> usize
     requires { IsOrdered 0 list.old }
     ensures within { result ≤ length list.old }
@@ -135,8 +136,8 @@ fn merge(list: &mut [Mapping]) -> usize
     kept + 1
 }
 
-/// Makes each two mappings of which the second goes on where the first ends one, where only those at the places and their
-/// neighbours can. It looks at no others.
+/// Makes each two mappings of which the second goes on where the first ends one, where only those at the places and
+/// their neighbours can. It looks at no others.
 pub(crate) fn merge_around<A: Allocator>(list: &mut Vec<Mapping, A>, places: Range<usize>)
     requires ordered { IsOrdered 0 list.old.items }
     requires forward { places.start ≤ places.end }

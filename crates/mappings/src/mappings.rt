@@ -61,8 +61,9 @@ impl<A: Allocator + Copy> Mappings<A> {
 
     /// Whether the pages of the range may be mapped to the pages of a file from the place on, one after the other.
     ///
-    /// `Einval` if the range has no pages or more than 65,536, isn't within bytes 4,096 to 2^47, or a file page is beyond
-    /// 2^32 - 1; `Eacces` if writing is asked with read-only access; `Overlap` if a page of the range is mapped already.
+    /// `Einval` if the range has no pages or more than 65,536, isn't within bytes 4,096 to 2^47, or a file page is
+    /// beyond 2^32 - 1; `Eacces` if writing is asked with read-only access; `Overlap` if a page of the range is mapped
+    /// already.
     pub fn may_add(&self, range: PageRange, place: Place) -> Result<(), Refusal>
         ensures { result ≡ answer (add_refusal self.now.places range place) }
     {
@@ -78,8 +79,8 @@ impl<A: Allocator + Copy> Mappings<A> {
         Ok(())
     }
 
-    /// Maps the pages of the range to the pages of a file from the place on, one after the other. A mapping that goes on
-    /// from its neighbour becomes one with it.
+    /// Maps the pages of the range to the pages of a file from the place on, one after the other. A mapping that goes
+    /// on from its neighbour becomes one with it.
     ///
     /// It is refused as `may_add` says, and then with `OutOfMemory` if memory for one more mapping is refused. After an
     /// error nothing has changed.

@@ -48,7 +48,8 @@ impl PageRange {
             && self.count <= END_PAGE - self.first
     }
 
-    /// Whether it may be mapped from this file page on: a range of user pages, at most 65,536, on file pages below 2^32.
+    /// Whether it may be mapped from this file page on: a range of user pages, at most 65,536, on file pages below
+    /// 2^32.
     pub fn is_mappable(self, page: u64) -> bool
         ensures { result ≡ is_mappable self page }
     {

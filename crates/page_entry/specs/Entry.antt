@@ -24,7 +24,8 @@ has_bit n k = n / 2 ^ k % 2 == 1
 
 -- the entry that these bits are
 abbrev pub entry_of : ℕ → Option Mapped
-entry_of n = if has_bit n 0 then Some (record { frame = n / 4096; writable = has_bit n 1; accessed = has_bit n 5; dirty = has_bit n 6 }) else None
+entry_of n = if has_bit n 0 then Some
+    (record { frame = n / 4096; writable = has_bit n 1; accessed = has_bit n 5; dirty = has_bit n 6 }) else None
 
 -- only named bits are set, and the frame's number has 32 of its 40 bits
 pub record IsEntry (n : ℕ) : Type 0 where

@@ -26,7 +26,8 @@ impl Flags for EntryFlags {
 
     ghost exact = { ⊤ };
 
-    ghost table = { (codes "PRESENT", 1) ∷ (codes "WRITABLE", 2) ∷ (codes "USER", 4) ∷ (codes "ACCESSED", 32) ∷ (codes "DIRTY", 64) ∷ [] };
+    ghost table = { (codes "PRESENT", 1) ∷ (codes "WRITABLE", 2) ∷ (codes "USER", 4) ∷ (codes "ACCESSED", 32)
+        ∷ (codes "DIRTY", 64) ∷ [] };
 
     ghost set_of = { λ flags. flags.0 };
 

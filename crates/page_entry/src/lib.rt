@@ -35,8 +35,8 @@ mod tests {
         }
     }
 
-    // A blank present entry of the last frame, and bits that are no entry: the frame after it, an absent entry that isn't
-    // 0, a present one without the user bit, and one with bit 8, which would make it global.
+    // A blank present entry of the last frame, and bits that are no entry: the frame after it, an absent entry that
+    // isn't 0, a present one without the user bit, and one with bit 8, which would make it global.
     #[test]
     fn other_bits_are_no_entry(rt: HostRuntime) {
         let last = Entry::absent().with_present(true).with_frame(u32::MAX);

@@ -10,7 +10,8 @@ pub type ProcessorNumber = u8;
 /// its PCID.
 pub type Pcid = u16;
 
-/// A page of an address space: a linear address divided by 4,096. User addresses are below 2^47, so pages are below 2^35.
+/// A page of an address space: a linear address divided by 4,096. User addresses are below 2^47, so pages are below
+/// 2^35.
 pub type PageNumber = u64;
 
 /// A frame of memory, counted from 0: 32 of the 40 bits that a page entry has for it.

@@ -3,9 +3,10 @@ use std::error::Error;
 use std::fmt;
 
 /// Why a call was refused. Where several hold, the first of this order is answered: `Einval` for a processor that isn't
-/// there, `Stalled`, `Locked`, other `Einval`, `NoFile`, `Enomem`, `Eacces`, `Overlap`, `Broken`, `Busy`, `OutOfMemory`.
-/// `BadShape` is tested before any memory is taken and before any read, write or sync of a device. Serving a fault has
-/// an order of its own after `Locked`: `Einval`, `SegvMapErr`, `SegvAccErr`, `BusAdrErr`, `Held`, `NoFrame`, `Device`.
+/// there, `Stalled`, `Locked`, other `Einval`, `NoFile`, `Enomem`, `Eacces`, `Overlap`, `Broken`, `Busy`,
+/// `OutOfMemory`. `BadShape` is tested before any memory is taken and before any read, write or sync of a device.
+/// Serving a fault has an order of its own after `Locked`: `Einval`, `SegvMapErr`, `SegvAccErr`, `BusAdrErr`, `Held`,
+/// `NoFrame`, `Device`.
 ///
 /// The names in capitals after `E` and the three of signals are those of POSIX.1-2024 (`mmap`, `mprotect`, `msync`,
 /// `<signal.h>`).

@@ -24,7 +24,8 @@ mapped_code =
 -- a table is stored as the pair of its fields
 abbrev pub table_code : Coded TableState
 table_code =
-    code_by (maps.FinMap nat_cmp Mapped × sets.FinSet nat_cmp) (coded× (maps.code coded_ℕ mapped_code) (sets.code coded_ℕ))
+    code_by (maps.FinMap nat_cmp Mapped × sets.FinSet nat_cmp)
+    (coded× (maps.code coded_ℕ mapped_code) (sets.code coded_ℕ))
     (λ t. (t.entries, t.grown)) (λ p. record { entries = p.0; grown = p.1 }) (λ _. refl)
 
 -- a table that maps nothing and has grown nowhere
@@ -58,7 +59,8 @@ is_marked marked frame = slice_index_or marked frame false
 
 -- an entry that maps a marked frame without the right to write and the dirty bit; any other as it is
 abbrev pub protected_if : List Bool → Mapped → Mapped
-protected_if marked entry = if is_marked marked entry.frame then record entry { writable = false; dirty = false } else entry
+protected_if marked entry = if is_marked marked entry.frame then record entry { writable = false; dirty = false }
+    else entry
 
 -- the entries, those that map a marked frame without the right to write and the dirty bit
 unfoldable pub frames_protected : maps.FinMap nat_cmp Mapped → List Bool → maps.FinMap nat_cmp Mapped
@@ -66,7 +68,8 @@ frames_protected entries marked = changed_by (λ _ entry. protected_if marked en
 
 -- the entries, those of the range without the right to write
 unfoldable pub range_read_only : maps.FinMap nat_cmp Mapped → ℕ → ℕ → maps.FinMap nat_cmp Mapped
-range_read_only entries first end = changed_by (λ page entry. if in_range first end page then record entry { writable = false } else entry) entries
+range_read_only entries first end =
+    changed_by (λ page entry. if in_range first end page then record entry { writable = false } else entry) entries
 
 -- the pages of the dirty entries of a range, in the order of this list
 abbrev pub dirty_among : List (ℕ × Mapped) → ℕ → ℕ → List ℕ

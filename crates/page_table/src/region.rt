@@ -82,7 +82,8 @@ impl<A: Allocator + Copy> Region<A> {
         ensures forward { result.start ≤ result.end }
         ensures within { result.end ≤ length self.now.entries }
         ensures inside { (k : ℕ) → k < length self.now.entries
-            → (nat_le result.start k && nat_lt k result.end) ≡ in_range range.now.start range.now.end (self.now.first + k) }
+            → (nat_le result.start k && nat_lt k result.end)
+            ≡ in_range range.now.start range.now.end (self.now.first + k) }
     {
         let count = self.entries.len() as u64;
         let from = range.start.saturating_sub(self.first).min(count) as usize;

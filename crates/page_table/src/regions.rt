@@ -91,7 +91,8 @@ pub(crate) fn change_within<A: Allocator + Copy>(
     change_each(&mut regions[places], range, change);
 }
 
-// The entries of the pages from `first` up to `end`: those of the regions, and absent ones where no region has the page.
+// The entries of the pages from `first` up to `end`: those of the regions, and absent ones where no region has the
+// page.
 fn join<A: Allocator + Copy>(
     alloc: A,
     regions: &[Region<A>],

@@ -73,6 +73,13 @@ impl<A: Allocator + Copy> Tlb<A> {
         self.entries.len()
     }
 
+    /// How many entries it can cache.
+    pub fn capacity(&self) -> usize
+        ensures { result ≡ self.now.capacity }
+    {
+        self.capacity
+    }
+
     /// Whether no entry is cached.
     pub fn is_empty(&self) -> bool
         ensures { result ≡ (length self.now.entries == 0) }
@@ -91,8 +98,8 @@ impl<A: Allocator + Copy> Tlb<A> {
             .copied()
     }
 
-    /// Caches an entry as the newest. It replaces one of its page and PCID; where the TLB is full without such a one, the
-    /// oldest is dropped.
+    /// Caches an entry as the newest. It replaces one of its page and PCID; where the TLB is full without such a one,
+    /// the oldest is dropped.
     pub fn fill(&mut self, entry: CachedEntry)
         ensures { self.new ≡ filled self.old entry }
     {

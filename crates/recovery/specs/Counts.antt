@@ -21,4 +21,5 @@ HasCause old new _ = ⊥
 pub record IsKept {D X : Type 0} (disk : Ghosts D) (old : D) (result : Result X Refusal) (new : D) : Type 0 where
   pub honest : disk.is_honest new ↔ disk.is_honest old
   pub len : length (disk.seen new) ≡ length (disk.seen old)
-  pub cause : MatchResult result (λ _. disk.faults_met new ≡ disk.faults_met old) (HasCause (disk.faults_met old) (disk.faults_met new))
+  pub cause : MatchResult result (λ _. disk.faults_met new ≡ disk.faults_met old)
+      (HasCause (disk.faults_met old) (disk.faults_met new))

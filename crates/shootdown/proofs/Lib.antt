@@ -1,6 +1,7 @@
 mod Flags
 mod Queues
 mod Told
+mod Fresh
 mod Each
 mod Sent
 pub mod Narrowing

@@ -53,11 +53,13 @@ is_idle _ = false
 
 -- a processor that waits doesn't go on while the lock is held
 abbrev pub wait_refusal : (ProcState → Bool) → ShootdownState → ℕ → Option Refusal
-wait_refusal waits s p = option_or (not_there s p) (if waits (state_of s p) && is_some s.lock then Some Locked else None)
+wait_refusal waits s p = option_or (not_there s p) (if waits (state_of s p)
+    && is_some s.lock then Some Locked else None)
 
 -- one that waits carries out its queue and goes on; in any other state nothing happens
 abbrev pub GoesOn : (ProcState → Bool) → ShootdownState → ℕ → Result Bool Refusal → ShootdownState → Type 0
-GoesOn waits old p (Ok true) new = (wait_refusal waits old p ≡ None) × (waits (state_of old p) ≡ true) × (new ≡ resumed old p)
+GoesOn waits old p (Ok true) new =
+    (wait_refusal waits old p ≡ None) × (waits (state_of old p) ≡ true) × (new ≡ resumed old p)
 GoesOn waits old p (Ok false) new = (wait_refusal waits old p ≡ None) × (waits (state_of old p) ≡ false) × (new ≡ old)
 GoesOn waits old p (Err why) new = (wait_refusal waits old p ≡ Some why) × (new ≡ old)
 
@@ -74,7 +76,8 @@ abbrev pub switch_refusal : ShootdownState → Spaces → ℕ → ℕ → Option
 switch_refusal s spaces p pcid = option_or (not_free s p) (if has_space spaces pcid then None else Some Einval)
 
 abbrev pub Switches : ShootdownState → Spaces → ℕ → ℕ → Bool → Result (Unit {0}) Refusal → ShootdownState → Type 0
-Switches old spaces p pcid keep (Ok done) new = (switch_refusal old spaces p pcid ≡ None) × (new ≡ switched_to old p pcid keep)
+Switches old spaces p pcid keep (Ok done) new =
+    (switch_refusal old spaces p pcid ≡ None) × (new ≡ switched_to old p pcid keep)
 Switches old spaces p pcid keep (Err why) new = (switch_refusal old spaces p pcid ≡ Some why) × (new ≡ old)
 
 -- a space other than 0 may be destroyed while it is no processor's current space

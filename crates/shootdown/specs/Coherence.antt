@@ -48,13 +48,16 @@ KeepsCoherence old new = (spaces : Spaces) → Coheres spaces old → Coheres sp
 -- Nobody uses what a change affects: no processor that runs is in a space that it touches, and no processor may use a
 -- cached entry of an affected page.
 pub record IsUnused (spaces : Spaces) (change : Change) (s : ShootdownState) : Type 0 where
-  pub away : (p : ℕ) → p < length s.processors → is_running (state_of s p) ≡ true → touches spaces change (current s p) ≡ false
+  pub away : (p : ℕ) → p < length s.processors → is_running (state_of s p) ≡ true
+      → touches spaces change (current s p) ≡ false
   pub unused : (p : ℕ) → p < length s.processors
-      → All (λ e. affects spaces change e.pcid e.page ≡ true → IsUsable (processor_at s p) e → ⊥) (processor_at s p).tlb.entries
+      → All (λ e. affects spaces change e.pcid e.page ≡ true → IsUsable (processor_at s p) e → ⊥)
+      (processor_at s p).tlb.entries
 
 -- no processor may use a cached entry of a PCID
 abbrev pub IsForgotten : ShootdownState → ℕ → Type 0
-IsForgotten s pcid = (p : ℕ) → p < length s.processors → All (λ e. e.pcid ≡ pcid → IsUsable (processor_at s p) e → ⊥) (processor_at s p).tlb.entries
+IsForgotten s pcid = (p : ℕ) → p < length s.processors
+    → All (λ e. e.pcid ≡ pcid → IsUsable (processor_at s p) e → ⊥) (processor_at s p).tlb.entries
 
 -- after it a change affects and touches nothing that it didn't before
 pub record IsNoWider (change : Change) (old new : Spaces) : Type 0 where

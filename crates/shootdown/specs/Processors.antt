@@ -105,7 +105,11 @@ woken p = record (drained p) { state = Active }
 
 -- it loads another PCID, whose entries it keeps or drops, and which it may cache from then on
 abbrev pub loaded : Processor → ℕ → Bool → Processor
-loaded p pcid keep = record p { space = pcid; tlb = cr3_loaded p.tlb pcid keep; may_cache = slice_set p.may_cache pcid true }
+loaded p pcid keep = record p {
+  space = pcid;
+  tlb = cr3_loaded p.tlb pcid keep;
+  may_cache = slice_set p.may_cache pcid true;
+}
 
 -- it carries out its queue and loads another PCID
 abbrev pub switched : Processor → ℕ → Bool → Processor
@@ -119,4 +123,5 @@ pub record IsProcessor (p : Processor) : Type 0 where
   pub small : p.space < pcids
   pub flags : length p.may_cache ≡ pcids
   pub current : slice_index_or p.may_cache p.space false ≡ true
-  pub known : All (λ e. queue_drops p.queue e.pcid e.page ≡ false → slice_index_or p.may_cache e.pcid false ≡ true) p.tlb.entries
+  pub known : All (λ e. queue_drops p.queue e.pcid e.page ≡ false
+      → slice_index_or p.may_cache e.pcid false ≡ true) p.tlb.entries

@@ -81,7 +81,8 @@ is_current s pcid = list_any (λ p. p.space == pcid) s.processors
 -- one invalidation a page for up to 4 pages, else the whole PCID
 abbrev pub range_actions : ℕ → PageRange → List Invpcid
 range_actions pcid range =
-    if nat_le range.count 4 then map (IndividualAddress pcid) (range_with_len range.first range.count) else SingleContext pcid ∷ []
+    if nat_le range.count 4 then map (IndividualAddress pcid) (range_with_len range.first range.count)
+    else SingleContext pcid ∷ []
 
 -- one for each present entry of a page of a file, by PCID and by page
 abbrev pub entry_actions : Spaces → FilePage → List Invpcid
@@ -106,7 +107,10 @@ state_when_begun touched state = state
 abbrev pub begun_from : ℕ → ℕ → Spaces → Change → List Processor → List Processor
 begun_from i p spaces change [] = []
 begun_from i p spaces change (x ∷ xs) =
-    told_all (record x { state = if i == p then Initiating else state_when_begun (touches spaces change x.space) x.state }) (actions_of spaces change)
+    told_all (record x {
+      state = if i == p then Initiating
+          else state_when_begun (touches spaces change x.space) x.state;
+    }) (actions_of spaces change)
     ∷ begun_from (i + 1) p spaces change xs
 
 abbrev pub begun : ShootdownState → ℕ → Spaces → Change → ShootdownState
@@ -143,6 +147,8 @@ pub record IsShootdown (s : ShootdownState) : Type 0 where
   pub some : 0 < length s.processors
   pub few : length s.processors ≤ 16
   pub each : (p : ℕ) → p < length s.processors → IsProcessor (processor_at s p)
-  pub free : s.lock ≡ None → (p : ℕ) → p < length s.processors → (state_of s p ≢ Initiating) × (state_of s p ≢ Interrupted)
+  pub free : s.lock ≡ None → (p : ℕ) → p < length s.processors → (state_of s p ≢ Initiating)
+      × (state_of s p ≢ Interrupted)
   pub held : (lock : Lock) → s.lock ≡ Some lock
-      → (lock.holder < length s.processors) × ((p : ℕ) → p < length s.processors → (state_of s p ≡ Initiating) ↔ (p ≡ lock.holder))
+      → (lock.holder < length s.processors)
+      × ((p : ℕ) → p < length s.processors → (state_of s p ≡ Initiating) ↔ (p ≡ lock.holder))

@@ -1,5 +1,5 @@
 // One processor: its TLB, and the invalidations that it still has to carry out.
-ghost use Rattle.std.specs.Prelude.{◌≡◌, ◌==◌, ◌||◌, ◌<◌, not, false, length, nat_lt, slice_index_or, IfOk};
+ghost use Rattle.std.specs.Prelude.{◌≡◌, ◌==◌, ◌||◌, ◌<◌, not, false, length, nat_lt, slice_index_or, ◌↔◌, IsTrue, IfOk};
 ghost use Rattle.std.specs.List.{list_any};
 ghost use Rattle.pcid_tlb.specs.Tlb.{cached, filled, evicted, without_page, keep_entries};
 ghost use Rattle.shootdown.specs.Processors.{first_flags, fresh_processor, is_concerned, told, drained, woken, loaded, flags_kept, drops_pcid, queue_drops, pcids, IsProcessor};
@@ -36,7 +36,13 @@ impl<A: Allocator + Copy> Model for Processor<A> {
     ghost Value = { Processor };
 
     ghost view = { λ p.
-        record { state = p.state; space = p.space; tlb = p.tlb; queue = p.queue.items; may_cache = p.may_cache.items } };
+        record {
+          state = p.state;
+          space = p.space;
+          tlb = p.tlb;
+          queue = p.queue.items;
+          may_cache = p.may_cache.items;
+        } };
 
     ghost invariant = { λ p. IsProcessor (record {
       state = p.state;
@@ -69,6 +75,25 @@ impl<A: Allocator + Copy> Processor<A> {
         ensures kept { IsProcessor self.now }
     {
         self.state
+    }
+
+    // How many entries its TLB can cache.
+    pub(crate) fn tlb_size(&self) -> usize
+        ensures { result ≡ self.now.tlb.capacity }
+    {
+        self.tlb.capacity()
+    }
+
+    // Whether it is as at boot, with a TLB of this size.
+    pub(crate) fn is_fresh(&self, tlb: usize) -> bool
+        ensures { IsTrue result ↔ (self.now ≡ fresh_processor tlb) }
+    {
+        self.state == ProcState::Active
+            && self.space == 0
+            && self.tlb.capacity() == tlb
+            && self.tlb.is_empty()
+            && self.queue.is_empty()
+            && are_first_flags(&self.may_cache)
     }
 
     // Whether it was interrupted.
@@ -192,6 +217,21 @@ fn first_flags<A: Allocator + Copy>(alloc: A) -> Result<Vec<bool, A>, AllocError
     let mut flags = vec![in alloc; false; PCIDS]?;
     flags[0] = true;
     Ok(flags)
+}
+
+// Whether the flags are those of a processor that may cache entries of PCID 0 alone.
+fn are_first_flags(flags: &[bool]) -> bool
+    requires { length flags.now ≡ pcids }
+    ensures { IsTrue result ↔ (flags.now ≡ first_flags) }
+{
+    flags[0] && !has_set(&flags[1..])
+}
+
+// Whether one of the flags is set.
+fn has_set(flags: &[bool]) -> bool
+    ensures { result ≡ list_any (λ flag. flag) flags.now }
+{
+    flags.iter().any(|flag| *flag)
 }
 
 // Carries out invalidations, in order, with PCID `space` current: what one drops is cached no more, and of a PCID that

@@ -1,6 +1,6 @@
 // The processors and the lock: what they are, and who may act.
-ghost use Rattle.std.specs.Prelude.{◌≡◌, ◌==◌, ◌<◌, ◌≤◌, false, length, replicate, slice_index_or, IsTrue, IfOk, IfErr, OnOk};
-ghost use Rattle.std.specs.List.{list_any};
+ghost use Rattle.std.specs.Prelude.{◌≡◌, ◌↔◌, ◌==◌, ◌<◌, ◌≤◌, false, length, replicate, slice_index_or, IsTrue, IfOk, IfErr, OnOk};
+ghost use Rattle.std.specs.List.{list_any, All};
 ghost use Rattle.shootdown.specs.Processors.{fresh_processor};
 ghost use Rattle.shootdown.specs.Shootdown.{fresh_shootdown, processor_at, state_of, current, is_there, not_running, not_free, interrupted, is_current, IsShootdown};
 
@@ -54,6 +54,21 @@ impl<A: Allocator + Copy> Shootdown<A> {
         ensures kept { IsShootdown self.now }
     {
         self.processors.len() as u8
+    }
+
+    /// How many entries the TLB of processor 0 can cache; at boot all have the same size.
+    pub fn tlb_size(&self) -> usize
+        ensures { result ≡ (processor_at self.now 0).tlb.capacity }
+    {
+        self.processors[0].tlb_size()
+    }
+
+    /// Whether the processors and the lock are as `new` leaves them.
+    pub fn is_fresh(&self) -> bool
+        ensures { IsTrue result ↔ (self.now
+            ≡ fresh_shootdown (length self.now.processors) (processor_at self.now 0).tlb.capacity) }
+    {
+        self.lock.is_none() && are_fresh(&self.processors, self.tlb_size())
     }
 
     /// What a processor is doing. `Einval` where there is none with this number.
@@ -138,6 +153,13 @@ impl<A: Allocator + Copy> Shootdown<A> {
             .filter(|processor| processor.is_interrupted())
             .count() as u32
     }
+}
+
+// Whether each processor is as at boot, with a TLB of this size.
+fn are_fresh<A: Allocator + Copy>(processors: &[Processor<A>], tlb: usize) -> bool
+    ensures { IsTrue result ↔ All (λ processor. processor ≡ fresh_processor tlb) processors.now }
+{
+    processors.iter().all(|processor| processor.is_fresh(tlb))
 }
 
 // So many processors as at boot.

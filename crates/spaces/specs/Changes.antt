@@ -1,5 +1,5 @@
--- The four changes that need a shootdown, and what each affects (Black, Rashid, Golub, Hill and Baron 1989: the processors that may use a
--- mapping are stopped before it changes).
+-- The four changes that need a shootdown, and what each affects (Black, Rashid, Golub, Hill and Baron 1989: the
+-- processors that may use a mapping are stopped before it changes).
 use Rattle.std.specs.Prelude.{ℕ, ◌≡◌, ◌==◌, ◌&&◌, Bool, true, false, is_some, if◌then◌else◌, List, map, filter, Option, Some, None}
 use Rattle.std.specs.List.{list_any, flat_map}
 use Rattle.std.specs.Ordering.{nat_cmp}
@@ -19,7 +19,8 @@ is_place_of owner (Some place) = place.file == owner.file && place.page == owner
 
 -- whether a page of a space maps this page of a file by a present entry
 abbrev pub has_entry_of : Spaces → FilePage → ℕ → ℕ → Bool
-has_entry_of spaces owner pcid page = is_place_of owner (place_at spaces pcid page) && is_some (entry_at spaces pcid page)
+has_entry_of spaces owner pcid page =
+    is_place_of owner (place_at spaces pcid page) && is_some (entry_at spaces pcid page)
 
 -- those of the pages that have a present entry
 abbrev pub with_present : maps.FinMap nat_cmp Mapped → List ℕ → List ℕ
@@ -44,26 +45,30 @@ affects spaces (Protect pcid range rights) q page = q == pcid && is_among range.
 affects spaces (Reclaim owner) q page = has_entry_of spaces owner q page
 affects spaces Checkpoint q page = true
 
--- whether a space's processors are to be stopped: all of them for a checkpoint, those of the space for an unmap or a protect, and for a
--- reclaim those whose space has a present entry of the page
+-- whether a space's processors are to be stopped: all of them for a checkpoint, those of the space for an unmap or a
+-- protect, and for a reclaim those whose space has a present entry of the page
 abbrev pub touches : Spaces → Change → ℕ → Bool
 touches spaces (Unmap pcid range) q = q == pcid
 touches spaces (Protect pcid range rights) q = q == pcid
-touches spaces (Reclaim owner) q = list_any (has_entry_of spaces owner q) (pages_mapping (space_at spaces q).places owner.file owner.page)
+touches spaces (Reclaim owner) q =
+    list_any (has_entry_of spaces owner q) (pages_mapping (space_at spaces q).places owner.file owner.page)
 touches spaces Checkpoint q = true
 
--- The page tables only grow: a present entry stays, with its frame, and keeps the right to write and the dirty bit if it has them.
+-- The page tables only grow: a present entry stays, with its frame, and keeps the right to write and the dirty bit if
+-- it has them.
 pub record Keeps (old new : Mapped) : Type 0 where
   pub same_frame : new.frame ≡ old.frame
   pub still_writable : old.writable ≡ true → new.writable ≡ true
   pub still_dirty : old.dirty ≡ true → new.dirty ≡ true
 
 abbrev pub Grows : Spaces → Spaces → Type 0
-Grows old new = (pcid page : ℕ) (entry : Mapped) → entry_at old pcid page ≡ Some entry → (now : Mapped) × (entry_at new pcid page ≡ Some now) × Keeps entry now
+Grows old new = (pcid page : ℕ) (entry : Mapped) → entry_at old pcid page ≡ Some entry → (now : Mapped)
+    × (entry_at new pcid page ≡ Some now) × Keeps entry now
 
 -- entries change at the pages alone that a change affects
 abbrev pub ChangesOnlyAffected : Change → Spaces → Spaces → Type 0
-ChangesOnlyAffected change old new = (pcid page : ℕ) → affects old change pcid page ≡ false → entry_at new pcid page ≡ entry_at old pcid page
+ChangesOnlyAffected change old new =
+    (pcid page : ℕ) → affects old change pcid page ≡ false → entry_at new pcid page ≡ entry_at old pcid page
 
 -- an entry of a noted frame loses the right to write and the dirty bit; every other stays
 abbrev pub protected_where : (ℕ → Bool) → Option Mapped → Option Mapped

@@ -1,5 +1,5 @@
--- Address spaces by their PCIDs: which pages are mapped to which pages of files, and the page-table entries of these pages
--- (POSIX.1-2024, mmap, munmap, mprotect; Intel SDM volume 3, "4-Level Paging" and "Process-Context Identifiers").
+-- Address spaces by their PCIDs: which pages are mapped to which pages of files, and the page-table entries of these
+-- pages (POSIX.1-2024, mmap, munmap, mprotect; Intel SDM volume 3, "4-Level Paging" and "Process-Context Identifiers").
 use Rattle.std.specs.Prelude.{ℕ, ◌≡◌, ◌≢◌, ◌+◌, ◌<◌, ◌^◌, ◌==◌, ◌&&◌, not, Bool, true, false, if◌then◌else◌, Option, Some, None, unwrap_or}
 use Rattle.std.specs.Ordering.{nat_cmp}
 use Rattle.std.specs.FinMap as maps
@@ -39,7 +39,8 @@ entry_at spaces pcid page = maps.get (space_at spaces pcid).entries page
 abbrev pub place_at : Spaces → ℕ → ℕ → Option Place
 place_at spaces pcid page = maps.get (space_at spaces pcid).places page
 
--- What contracts see of the spaces: the spaces, and the range of pages of which space the memory for one unmap or protect is reserved, if any.
+-- What contracts see of the spaces: the spaces, and the range of pages of which space the memory for one unmap or
+-- protect is reserved, if any.
 pub record SpacesState : Type 0 where
   pub map : Spaces
   pub prepared : Option (ℕ × PageRange)
@@ -86,7 +87,8 @@ pub record EditsEntries (edit : ℕ → ℕ → Option Mapped → Option Mapped)
   pub same_places : (pcid : ℕ) → (space_at new pcid).places ≡ (space_at old pcid).places
   pub entries : (pcid page : ℕ) → entry_at new pcid page ≡ edit pcid page (entry_at old pcid page)
 
--- The pages of a range get these rights. Without the right to write, their entries lose it and nothing else; with it, entries stay as they are.
+-- The pages of a range get these rights. Without the right to write, their entries lose it and nothing else; with it,
+-- entries stay as they are.
 pub record SetsRights (pcid : ℕ) (range : PageRange) (rights : Rights) (old new : Spaces) : Type 0 where
   pub same_spaces : (q : ℕ) → has_space new q ≡ has_space old q
   pub rights_set : (space_at new pcid).places ≡ with_rights (space_at old pcid).places range.first range.count rights
@@ -95,11 +97,12 @@ pub record SetsRights (pcid : ℕ) (range : PageRange) (rights : Rights) (old ne
       ≡ (if q == pcid && is_among range.first range.count page && not (may_write rights)
       then with_writable_of (entry_at old q page) false else entry_at old q page)
 
--- what every such set of spaces keeps: space 0 is there and maps nothing, PCIDs have 12 bits, pages that are mapped are those of user addresses, below 2^47, and an
--- entry stands only where a page is mapped
+-- what every such set of spaces keeps: space 0 is there and maps nothing, PCIDs have 12 bits, pages that are mapped are
+-- those of user addresses, below 2^47, and an entry stands only where a page is mapped
 pub record AreSpaces (spaces : Spaces) : Type 0 where
   pub first : has_space spaces 0 ≡ true
   pub nowhere : (page : ℕ) → place_at spaces 0 page ≡ None
   pub small : (pcid : ℕ) → has_space spaces pcid ≡ true → pcid < 4096
   pub user : (pcid page : ℕ) (place : Place) → place_at spaces pcid page ≡ Some place → page < 2 ^ 35
-  pub mapped : (pcid page : ℕ) (entry : Mapped) → entry_at spaces pcid page ≡ Some entry → (place : Place) × (place_at spaces pcid page ≡ Some place)
+  pub mapped : (pcid page : ℕ) (entry : Mapped) → entry_at spaces pcid page ≡ Some entry → (place : Place)
+      × (place_at spaces pcid page ≡ Some place)

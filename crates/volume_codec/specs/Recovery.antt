@@ -23,7 +23,8 @@ pub record Batch : Type 0 where
 pub record IsOpenBatch (g : GeometryValue) (bytes : List ℕ) (batch : Batch) : Type 0 where
   pub there : batch.journal < journals_of g.layout
   pub gate : IsOpen bytes g.slots batch.journal
-  pub descriptor : IsDescriptor g (record { mark = batch.mark; homes = batch.homes }) (block_at bytes (descriptor_block g.slots batch.journal))
+  pub descriptor : IsDescriptor g (record { mark = batch.mark; homes = batch.homes })
+      (block_at bytes (descriptor_block g.slots batch.journal))
 
 -- the marks fall strictly: the newest batch comes first
 abbrev pub IsNewer : Batch → List Batch → Type 0
@@ -52,7 +53,8 @@ record_or other records (home ∷ homes) b = if b == home then records else reco
 -- the block that has the recovered bytes of home block b: its record in the newest batch that has one, else b itself
 abbrev pub standing_block : ℕ → List Batch → ℕ → ℕ
 standing_block slots [] b = b
-standing_block slots (batch ∷ older) b = record_or (standing_block slots older b) (record_block slots batch.journal 0) batch.homes b
+standing_block slots (batch ∷ older) b =
+    record_or (standing_block slots older b) (record_block slots batch.journal 0) batch.homes b
 
 -- the contents that these bytes recover to, where these are the batches of the open journals
 abbrev pub contents_in : ℕ → List Batch → List ℕ → ℕ → List ℕ

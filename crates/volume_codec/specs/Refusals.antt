@@ -14,11 +14,12 @@ RefusesTable layout files slots BadShape = (v : SuperValue) → IsAsked layout f
 RefusesTable layout files slots OutOfMemory = (v : SuperValue) × IsAsked layout files slots v
 RefusesTable layout files slots _ = ⊥
 
--- A block without the magic of a layout is no volume. One that begins with a layout's magic and says no value is damaged.
--- Memory may be refused for any block.
+-- A block without the magic of a layout is no volume. One that begins with a layout's magic and says no value is
+-- damaged. Memory may be refused for any block.
 abbrev pub RefusesSuper : List ℕ → Refusal → Type 0
 RefusesSuper block NotAVolume = (layout : Layout) → take 8 block ≢ magic_of layout
-RefusesSuper block Damaged = (layout : Layout) × (take 8 block ≡ magic_of layout) × ((v : SuperValue) → IsSuper v block → ⊥)
+RefusesSuper block Damaged = (layout : Layout) × (take 8 block ≡ magic_of layout)
+    × ((v : SuperValue) → IsSuper v block → ⊥)
 RefusesSuper block OutOfMemory = Unit {0}
 RefusesSuper block _ = ⊥
 

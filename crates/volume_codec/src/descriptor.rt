@@ -81,7 +81,8 @@ fn homes_at<A: Allocator + Copy>(
     count: usize,
 ) -> Result<Vec<u32, A>, Refusal>
     requires { 16 + 4 * count ≤ length block.now }
-    ensures { MatchResult result (λ homes. homes.items ≡ numbers_in count (drop 16 block.now)) (λ refusal. refusal ≡ Refusal.OutOfMemory) }
+    ensures { MatchResult result (λ homes. homes.items ≡ numbers_in count (drop 16 block.now))
+        (λ refusal. refusal ≡ Refusal.OutOfMemory) }
 {
     let Ok(mut homes) = Vec::with_capacity(alloc, count) else {
         return Err(Refusal::OutOfMemory);

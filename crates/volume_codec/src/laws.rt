@@ -8,9 +8,9 @@ ghost use Rattle.volume_codec.specs.Super.{SuperValue, IsSuper, pages_of, first_
 ghost use Rattle.volume_codec.specs.Descriptor.{DescriptorValue, RiseWithin, IsDescriptor};
 ghost use Rattle.volume_codec.specs.Recovery.{Batch, AreOpen, standing_block, blocks_from, contents_in, lengths_in, files_in, Recovers, RecoversTo, IsVolume};
 
-/// A block says at most one table, and at most one descriptor in a volume of one geometry; bytes have at most one list of
-/// open batches, and recover to at most one table, contents and list of files. So reading a block that was written gives
-/// back the value that was written.
+/// A block says at most one table, and at most one descriptor in a volume of one geometry; bytes have at most one list
+/// of open batches, and recover to at most one table, contents and list of files. So reading a block that was written
+/// gives back the value that was written.
 pub fn one_reading()
     ensures tables { (v w : SuperValue) (block : List ℕ) → IsSuper v block → IsSuper w block → v ≡ w }
     ensures descriptors { (g : GeometryValue) (d e : DescriptorValue) (block : List ℕ) → IsGeometry g
@@ -20,18 +20,20 @@ pub fn one_reading()
     ensures contents { (v w : SuperValue) (contents others : ℕ → List ℕ) (bytes : List ℕ)
         → Recovers v contents bytes → Recovers w others bytes
         → (v ≡ w) × ((b : ℕ) → IsHome (geometry_of v) b → contents b ≡ others b) }
-    ensures files { (bytes : List ℕ) (files others : List File) → RecoversTo bytes files → RecoversTo bytes others → files ≡ others }
+    ensures files { (bytes : List ℕ) (files others : List File) → RecoversTo bytes files → RecoversTo bytes others
+        → files ≡ others }
 {}
 
-/// Where layouts 1 and 2 have their parts. Journal 0 has its gate in block 1, its descriptor in block 2 and record i in block
-/// 3 + i. With J slots, journal 1 has its gate in block 3 + J, its descriptor in block 4 + J and record i in block 5 + J + i.
-/// Home blocks follow from 3 + J and from 5 + 2J on. In every volume the parts of its journals lie before the home blocks, and
-/// apart.
+/// Where layouts 1 and 2 have their parts. Journal 0 has its gate in block 1, its descriptor in block 2 and record i in
+/// block 3 + i. With J slots, journal 1 has its gate in block 3 + J, its descriptor in block 4 + J and record i in
+/// block 5 + J + i. Home blocks follow from 3 + J and from 5 + 2J on. In every volume the parts of its journals lie
+/// before the home blocks, and apart.
 pub fn parts_of_layouts()
     ensures first_journal { (slots i : ℕ)
         → (gate_block slots 0 ≡ 1) × (descriptor_block slots 0 ≡ 2) × (record_block slots 0 i ≡ 3 + i) }
     ensures second_journal { (slots i : ℕ)
-        → (gate_block slots 1 ≡ 3 + slots) × (descriptor_block slots 1 ≡ 4 + slots) × (record_block slots 1 i ≡ 5 + slots + i) }
+        → (gate_block slots 1 ≡ 3 + slots) × (descriptor_block slots 1 ≡ 4 + slots)
+        × (record_block slots 1 i ≡ 5 + slots + i) }
     ensures homes { (slots : ℕ) → (first_home One slots ≡ 3 + slots) × (first_home Two slots ≡ 5 + 2 * slots) }
     ensures in_order { (g : GeometryValue) (j i : ℕ) → j < journals_of g.layout → i < g.slots
         → (gate_block g.slots j < descriptor_block g.slots j) × (descriptor_block g.slots j < record_block g.slots j i)
@@ -40,27 +42,30 @@ pub fn parts_of_layouts()
     ensures whole { (g : GeometryValue) → IsGeometry g → first_home g.layout g.slots < g.blocks }
 {}
 
-/// What recovered contents are made of. Record i of the newest batch stands for its home block; for every other block it is
-/// what stands without that batch; a home block without a record stands for itself. A volume's parts all lie in its first
-/// 4,096 x block count bytes, and each home block of its contents has 4,096 bytes.
+/// What recovered contents are made of. Record i of the newest batch stands for its home block; for every other block
+/// it is what stands without that batch; a home block without a record stands for itself. A volume's parts all lie in
+/// its first 4,096 x block count bytes, and each home block of its contents has 4,096 bytes.
 pub fn recovered_from()
     ensures record_of_newest { (slots low high : ℕ) (batch : Batch) (older : List Batch) (i : ℕ)
         → RiseWithin low high batch.homes → i < length batch.homes
         → standing_block slots (batch ∷ older) (slice_index batch.homes i) ≡ record_block slots batch.journal i }
     ensures no_record { (slots b : ℕ) (batch : Batch) (older : List Batch)
-        → AllByRecursion (λ home. home ≢ b) batch.homes → standing_block slots (batch ∷ older) b ≡ standing_block slots older b }
+        → AllByRecursion (λ home. home ≢ b) batch.homes
+        → standing_block slots (batch ∷ older) b ≡ standing_block slots older b }
     ensures within { (v : SuperValue) (contents : ℕ → List ℕ) (bytes other : List ℕ)
-        → Recovers v contents bytes → take (4096 * block_count v) other ≡ take (4096 * block_count v) bytes → Recovers v contents other }
+        → Recovers v contents bytes → take (4096 * block_count v) other ≡ take (4096 * block_count v) bytes
+        → Recovers v contents other }
     ensures whole { (v : SuperValue) (contents : ℕ → List ℕ) (bytes : List ℕ) (b : ℕ)
         → Recovers v contents bytes → IsHome (geometry_of v) b → length (contents b) ≡ 4096 }
 {}
 
-/// What files are made of: of the contents of home blocks alone. The bytes of file i are those of its home blocks, one after
-/// another, cut at its length; where the contents are a device's own blocks, they are a range of the device.
+/// What files are made of: of the contents of home blocks alone. The bytes of file i are those of its home blocks, one
+/// after another, cut at its length; where the contents are a device's own blocks, they are a range of the device.
 pub fn files_from_contents()
     ensures same { (v : SuperValue) (contents others : ℕ → List ℕ)
         → ((b : ℕ) → IsHome (geometry_of v) b → contents b ≡ others b) → files_in v contents ≡ files_in v others }
-    ensures file { (v : SuperValue) (contents : ℕ → List ℕ) (i n : ℕ) (f : TableFile) → slice_get v.files i ≡ Some f → slice_get (lengths_in v contents) i ≡ Some n
+    ensures file { (v : SuperValue) (contents : ℕ → List ℕ) (i n : ℕ) (f : TableFile) → slice_get v.files i ≡ Some f
+        → slice_get (lengths_in v contents) i ≡ Some n
         → slice_get (files_in v contents) i ≡ Some (record {
           name = f.name;
           bytes = take n (blocks_from contents (first_home_of v i) (pages_of f.capacity));
@@ -69,7 +74,9 @@ pub fn files_from_contents()
     ensures lengths { (v : SuperValue) (contents : ℕ → List ℕ) → length (lengths_in v contents) ≡ length v.files }
     ensures within { (v : SuperValue) (contents : ℕ → List ℕ) (i n : ℕ) (f : TableFile) → slice_get v.files i ≡ Some f
         → slice_get (lengths_in v contents) i ≡ Some n → n ≤ f.capacity }
-    ensures device { (bytes : List ℕ) (b n : ℕ) → blocks_from (block_at bytes) b n ≡ take (4096 * n) (drop (4096 * b) bytes) }
-    ensures byte { (contents : ℕ → List ℕ) (b n k : ℕ) → ((i : ℕ) → b ≤ i → i < b + n → length (contents i) ≡ 4096) → k < 4096 * n
+    ensures device { (bytes : List ℕ) (b n : ℕ)
+        → blocks_from (block_at bytes) b n ≡ take (4096 * n) (drop (4096 * b) bytes) }
+    ensures byte { (contents : ℕ → List ℕ) (b n k : ℕ) → ((i : ℕ) → b ≤ i → i < b + n → length (contents i) ≡ 4096)
+        → k < 4096 * n
         → slice_index (blocks_from contents b n) k ≡ slice_index (contents (b + k / 4096)) (k % 4096) }
 {}

@@ -1,5 +1,5 @@
-//! The bytes of a volume's super block and of its journals' descriptors, read and written by one grammar over the volume's
-//! layout, where each part of a volume lies, and the files that a volume's bytes recover to.
+//! The bytes of a volume's super block and of its journals' descriptors, read and written by one grammar over the
+//! volume's layout, where each part of a volume lies, and the files that a volume's bytes recover to.
 #![tactic(auto)]
 
 mod block;

@@ -75,7 +75,8 @@ pub(crate) fn count_blocks(layout: Layout, files: &[FileSpec], slots: u64) -> Re
     ensures full { IfOk result (λ _. AreFull files.now) }
     ensures fits { IfOk result (λ _. Fits (table_of layout files.now slots)) }
     ensures count { IfOk result (λ blocks. blocks ≡ block_count (table_of layout files.now slots)) }
-    ensures err { IfErr result (λ refusal. (refusal ≡ Refusal.BadShape) × (AreFull files.now → Fits (table_of layout files.now slots) → ⊥)) }
+    ensures err { IfErr result (λ refusal. (refusal ≡ Refusal.BadShape)
+        × (AreFull files.now → Fits (table_of layout files.now slots) → ⊥)) }
 {
     if files.is_empty() || files.len() > MAX_FILES || slots == 0 || slots > MAX_SLOTS {
         return Err(Refusal::BadShape);
@@ -90,12 +91,13 @@ pub(crate) fn count_blocks(layout: Layout, files: &[FileSpec], slots: u64) -> Re
     Ok(blocks)
 }
 
-/// The number of blocks of a volume in the layout of this number, with these files and with so many record slots for each
-/// journal. `BadShape` where no volume has them: a layout that there is, 1 to 64 files of distinct names, names of 1 to 32
-/// bytes from 0x21 to 0x7E, capacities from 1 that are the lengths, 1 to 1,020 slots, and a block count of at most 2^32 - 1.
-/// Takes no memory.
+/// The number of blocks of a volume in the layout of this number, with these files and with so many record slots for
+/// each journal. `BadShape` where no volume has them: a layout that there is, 1 to 64 files of distinct names, names of
+/// 1 to 32 bytes from 0x21 to 0x7E, capacities from 1 that are the lengths, 1 to 1,020 slots, and a block count of at
+/// most 2^32 - 1. Takes no memory.
 pub fn block_count_as(layout: u64, files: &[FileSpec], slots: u64) -> Result<u64, Refusal>
-    ensures ok { IfOk result (λ blocks. (v : SuperValue) × IsAsked layout (asked_by files.now) slots v × (blocks ≡ block_count v)) }
+    ensures ok { IfOk result (λ blocks. (v : SuperValue) × IsAsked layout (asked_by files.now) slots v
+        × (blocks ≡ block_count v)) }
     ensures err { IfErr result (λ refusal.
         (refusal ≡ Refusal.BadShape) × ((v : SuperValue) → IsAsked layout (asked_by files.now) slots v → ⊥)) }
 {
@@ -125,10 +127,11 @@ pub fn specs_of<'a>(files: &[(&'a str, u64)]) -> [FileSpec<'a>; 64]
     specs
 }
 
-/// The number of blocks of a volume in layout 1 with these files, each with its name and its length in bytes, and with so
-/// many record slots, by the rules of `block_count_as`. Takes no memory.
+/// The number of blocks of a volume in layout 1 with these files, each with its name and its length in bytes, and with
+/// so many record slots, by the rules of `block_count_as`. Takes no memory.
 pub fn block_count_of(files: &[(&str, u64)], slots: u64) -> Result<u64, Refusal>
-    ensures ok { IfOk result (λ blocks. (v : SuperValue) × IsAsked 1 (asked_by_pairs files.now) slots v × (blocks ≡ block_count v)) }
+    ensures ok { IfOk result (λ blocks. (v : SuperValue) × IsAsked 1 (asked_by_pairs files.now) slots v
+        × (blocks ≡ block_count v)) }
     ensures err { IfErr result (λ refusal.
         (refusal ≡ Refusal.BadShape) × ((v : SuperValue) → IsAsked 1 (asked_by_pairs files.now) slots v → ⊥)) }
 {

@@ -29,8 +29,8 @@ struct Place {
 /// The files by name, in the table's order, each with its place.
 type Table<A> = IndexMap<String<A>, Place, BuildHasherDefault<FoldHasher>, A>;
 
-/// What a super block says: the layout, the files in order, each with its name and its capacity in bytes, and the number of
-/// record slots of each journal. Files are counted from 0.
+/// What a super block says: the layout, the files in order, each with its name and its capacity in bytes, and the
+/// number of record slots of each journal. Files are counted from 0.
 #[derive(Drop)]
 pub struct Super<A: Allocator + Copy> {
     layout: Layout,
@@ -47,7 +47,8 @@ impl<A: Allocator + Copy> Model for Super<A> {
 
     ghost view = { λ s. record { layout = s.layout; files = rows_of s.files.entries; slots = s.slots } };
 
-    ghost invariant = { λ s. IsKept (record { layout = s.layout; files = rows_of s.files.entries; slots = s.slots }) (homes_of s.files.entries) s.blocks };
+    ghost invariant = { λ s. IsKept (record { layout = s.layout; files = rows_of s.files.entries; slots = s.slots })
+        (homes_of s.files.entries) s.blocks };
 }
 
 /// A table of these files, whose names are distinct and whose home blocks begin here.
@@ -90,8 +91,8 @@ fn push_entry(block: &mut BlockWriter, name: &str, capacity: u64, home: u32)
 }
 
 impl<A: Allocator + Copy> Super<A> {
-    /// The table of these files in the layout of this number, with so many record slots for each journal. `BadShape` where
-    /// they break the rules of `block_count_as`, found before any memory is taken.
+    /// The table of these files in the layout of this number, with so many record slots for each journal. `BadShape`
+    /// where they break the rules of `block_count_as`, found before any memory is taken.
     pub fn new(alloc: A, layout: u64, files: &[FileSpec], slots: u64) -> Result<Super<A>, Refusal>
         ensures ok { IfOk result (IsAsked layout (asked_by files.now) slots) }
         ensures refused { IfErr result (RefusesTable layout (asked_by files.now) slots) }
@@ -171,7 +172,8 @@ impl<A: Allocator + Copy> Super<A> {
         pages_of(place.capacity) as u32
     }
 
-    /// The first home block of a file. A file's home blocks follow each other, and so do the files in the table's order.
+    /// The first home block of a file. A file's home blocks follow each other, and so do the files in the table's
+    /// order.
     pub fn first_home(&self, file: usize) -> u32
         requires { file < length self.now.files }
         ensures { result ≡ first_home_of self.now file }
@@ -218,20 +220,22 @@ pub fn write_super_as<A: Allocator + Copy>(
     files: &[FileSpec],
     slots: u64,
 ) -> Result<[u8; 4096], Refusal>
-    ensures ok { IfOk result (λ block. (v : SuperValue) × IsAsked layout (asked_by files.now) slots v × IsSuper v block) }
+    ensures ok { IfOk result (λ block. (v : SuperValue) × IsAsked layout (asked_by files.now) slots v
+        × IsSuper v block) }
     ensures refused { IfErr result (RefusesTable layout (asked_by files.now) slots) }
 {
     Ok(Super::new(alloc, layout, files, slots)?.to_block())
 }
 
-/// The super block of a volume in layout 1 with these files, each with its name and its length in bytes, and with so many
-/// record slots. `BadShape` where they break the rules of `block_count_of`, found before any memory is taken.
+/// The super block of a volume in layout 1 with these files, each with its name and its length in bytes, and with so
+/// many record slots. `BadShape` where they break the rules of `block_count_of`, found before any memory is taken.
 pub fn write_super<A: Allocator + Copy>(
     alloc: A,
     files: &[(&str, u64)],
     slots: u64,
 ) -> Result<[u8; 4096], Refusal>
-    ensures ok { IfOk result (λ block. (v : SuperValue) × IsAsked 1 (asked_by_pairs files.now) slots v × IsSuper v block) }
+    ensures ok { IfOk result (λ block. (v : SuperValue) × IsAsked 1 (asked_by_pairs files.now) slots v
+        × IsSuper v block) }
     ensures refused { IfErr result (RefusesTable 1 (asked_by_pairs files.now) slots) }
 {
     if files.len() > MAX_FILES {
@@ -276,7 +280,8 @@ fn file_at(entry: &[u8]) -> FileSpec<'_>
 fn files_at(entries: &[u8], count: usize) -> [FileSpec<'_>; 64]
     requires few { count ≤ 64 }
     requires there { 48 * count ≤ length entries.now }
-    ensures files { AllByRecursion (λ f. IsName f.name) (entries_in count entries.now) → files_of (take count result) ≡ entries_in count entries.now }
+    ensures files { AllByRecursion (λ f. IsName f.name) (entries_in count entries.now)
+        → files_of (take count result) ≡ entries_in count entries.now }
     ensures full { AreFull (take count result) }
 {
     let mut files = [FileSpec {

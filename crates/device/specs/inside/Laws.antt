@@ -8,7 +8,8 @@ pub seen_is_left_of : (disk : Recorded) → may_leave_of disk (seen_of disk)
 seen_is_left_of disk = record { same_length = refl; synced = λ i same. refl }
 
 -- a crash now is one since any moment so far
-pub now_is_since_of : (disk : Recorded) (t : ℕ) (c : List ℕ) → t ≤ moment_of disk → may_leave_of disk c → left_since_of disk t c
+pub now_is_since_of : (disk : Recorded) (t : ℕ) (c : List ℕ) → t ≤ moment_of disk → may_leave_of disk c
+    → left_since_of disk t c
 now_is_since_of disk t c le left = (0, omega arith, omega arith, left)
 
 -- since now there is nothing else

@@ -13,7 +13,8 @@ since_sync (sync ∷ older) = 0
 -- this content with the bytes that are chosen in the ranges that these changes wrote
 abbrev pub with_choice : List Change → List ℕ → List ℕ → List ℕ
 with_choice [] choice content = content
-with_choice (write at bytes ∷ older) choice content = written (with_choice older choice content) at (slice_range choice at (at + length bytes))
+with_choice (write at bytes ∷ older) choice content =
+    written (with_choice older choice content) at (slice_range choice at (at + length bytes))
 with_choice (sync ∷ older) choice content = with_choice older choice content
 
 -- each of these writes is within a disk of n bytes

@@ -23,7 +23,8 @@ pub record IsOneOf (outs : WriteOutsValue) (flush : FlushValue) : Type 0 where
   pub room : outs.geometry.slots ≤ flush.room
 
 -- the lists of home blocks are as many as journals, each with room for a batch, and no list has to grow
-pub record HasRoom (outs : WriteOutsValue) (flushes : List FlushValue) (flush_room : ℕ) (spare : List ℕ) (spare_room : ℕ)
+pub record HasRoom (outs : WriteOutsValue) (flushes : List FlushValue) (flush_room : ℕ) (spare : List ℕ)
+    (spare_room : ℕ)
     : Type 0 where
   pub sound : IsSound outs
   pub flushes_are : AllByRecursion (IsOneOf outs) flushes

@@ -26,6 +26,7 @@ use Rattle.machine.specs.State.{State, home_of}
 use Rattle.machine.specs.Rules.{MarkMade}
 use Rattle.machine.specs.Sound.{IsInFile, IsSound}
 use Rattle.machine.specs.Told.{Told}
+use Rattle.machine.specs.Durability.{HasPage, AreFrozenProtected}
 use Rattle.machine.specs.Tracking.{within_file, IsTracked}
 use Rattle.machine.proofs.durable.Lists.{some_same}
 use Rattle.machine.proofs.durable.Marks.{committed, clean}
@@ -50,6 +51,12 @@ module _ (s : State) (sound : IsSound s) (owner : FilePage) (held : is_held s.ha
       let protected = held_entry _ _ entry agrees.1 (subst (λ frame. Holds s.hardware.memory frame owner) agrees.2.same_frame holds) in
       false_from_ne_true _ (λ writable. both_ways entry.writable protected (agrees.2.writable writable))
 
+pub frozen_protected : (s : State) → IsSound s → AreFrozenProtected s
+frozen_protected s sound = record {
+  waiting = sound.write_outs.frozen;
+  protected = λ owner held. record { entries = held_entry s sound owner held; cached = held_cached s sound owner held };
+}
+
 -- ---- kept pages
 
 -- where each batch is committed, what may be left recovers to New
@@ -64,12 +71,6 @@ left_new v old new (Some (Applying i)) c late left = left
 left_new v old new (Some SyncingHomes) c late left = left
 left_new v old new (Some Closing) c late left = left
 left_new v old new (Some Finishing) c late left = left
-
--- these bytes recover to contents that have a page's bytes up to its file's end
-pub record HasPage (s : State) (owner : FilePage) (bytes c : List ℕ) : Type 0 where
-  pub contents : ℕ → List ℕ
-  pub recovers : Recovers s.table contents c
-  pub same : within_file s owner (contents (home_of s.table owner)) ≡ within_file s owner bytes
 
 module _ (files : List File) (told : Told) (s : State) (seen : List ℕ) (may : List ℕ → Type 0) (t : IsTracked files told s seen may) (p number : ℕ) (new : State) (is : MarkMade s p number new) where
   -- a page that isn't gathered at a mark has the bytes that each list that a crash may leave recovers to

@@ -15,14 +15,20 @@ use Rattle.machine.specs.Calls.{CallsOf}
 use Rattle.machine.specs.OnTrack.{step_work}
 use Rattle.machine.specs.inside.Layers.{state_in, AnswersBy, KeepsReserved}
 
-pub record ActDone {D Z : Type 0} (disk : Ghosts D) (old : Layers D Z) (step : Step) (reply : Reply) (new : Layers D Z) : Type 0 where
-  pub rules : AnswersBy (disk.is_honest old.device) (λ d d'. Rules (state_in old) d step reply (state_in new) d') (disk.seen old.device) (disk.seen new.device)
-  pub left : (c : List ℕ) → disk.may_leave new.device c → TornFromWork (step_work (state_in old) step.act reply) (disk.may_leave old.device) c
-  pub sure : disk.is_honest old.device → reply ≢ replies.Refused refusals.Device → step_work (state_in old) step.act reply ≡ Sync → Only (disk.may_leave new.device) (disk.seen old.device)
-  pub time : LeavesOnly disk.moment disk.left_since old.device new.device (TornFromWork (step_work (state_in old) step.act reply) (disk.may_leave old.device))
+pub record ActDone {D Z : Type 0} (disk : Ghosts D) (old : Layers D Z) (step : Step) (reply : Reply)
+    (new : Layers D Z) : Type 0 where
+  pub rules : AnswersBy (disk.is_honest old.device) (λ d d'. Rules (state_in old) d step reply (state_in new) d')
+      (disk.seen old.device) (disk.seen new.device)
+  pub left : (c : List ℕ) → disk.may_leave new.device c
+      → TornFromWork (step_work (state_in old) step.act reply) (disk.may_leave old.device) c
+  pub sure : disk.is_honest old.device → reply ≢ replies.Refused refusals.Device
+      → step_work (state_in old) step.act reply ≡ Sync → Only (disk.may_leave new.device) (disk.seen old.device)
+  pub time : LeavesOnly disk.moment disk.left_since old.device new.device
+      (TornFromWork (step_work (state_in old) step.act reply) (disk.may_leave old.device))
   pub honest : disk.is_honest new.device ↔ disk.is_honest old.device
   pub len : length (disk.seen new.device) ≡ length (disk.seen old.device)
-  pub calls : CallsOf (state_in old) step.p step.act reply (disk.calls_made old.device) (disk.calls_made new.device) (disk.faults_met old.device) (disk.faults_met new.device)
+  pub calls : CallsOf (state_in old) step.p step.act reply (disk.calls_made old.device) (disk.calls_made new.device)
+      (disk.faults_met old.device) (disk.faults_met new.device)
   pub kept : KeepsReserved old new
 
 -- the act asks for a mapping

@@ -54,8 +54,10 @@ checkpoint_after answer writes c = released_pages writes c
 -- what a step of the write-outs does to the device
 pub record FlushesDevice {D : Type 0} (disk : Ghosts D) (s : State) (reply : Reply) (old new : D) : Type 0 where
   pub left : (c : List ℕ) → disk.may_leave new c → TornFromWork (step_work s Flush reply) (disk.may_leave old) c
-  pub sure : disk.is_honest old → reply ≢ replies.Refused refusals.Device → step_work s Flush reply ≡ Sync → Only (disk.may_leave new) (disk.seen old)
-  pub time : LeavesOnly disk.moment disk.left_since old new (TornFromWork (step_work s Flush reply) (disk.may_leave old))
+  pub sure : disk.is_honest old → reply ≢ replies.Refused refusals.Device → step_work s Flush reply ≡ Sync
+      → Only (disk.may_leave new) (disk.seen old)
+  pub time : LeavesOnly disk.moment disk.left_since old new
+      (TornFromWork (step_work s Flush reply) (disk.may_leave old))
   pub honest : disk.is_honest new ↔ disk.is_honest old
   pub len : length (disk.seen new) ≡ length (disk.seen old)
   pub calls : FlushCalls s reply (disk.calls_made old) (disk.calls_made new) (disk.faults_met old) (disk.faults_met new)

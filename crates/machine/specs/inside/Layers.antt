@@ -43,7 +43,8 @@ IsReserved other prepared = Unit {0}
 abbrev pub AreReserved : Option Lock → Option (ℕ × PageRange) → Type 0
 AreReserved held prepared = (lock : Lock) → held ≡ Some lock → IsReserved lock.change prepared
 
--- what holds of every machine: its state is sound, its device is long enough for its volume, and memory is reserved for what is under way
+-- what holds of every machine: its state is sound, its device is long enough for its volume, and memory is reserved for
+-- what is under way
 pub record AreLayers {D Z : Type 0} (seen : D → List ℕ) (m : Layers D Z) : Type 0 where
   pub sound : IsSound (state_in m)
   pub long : 4096 * block_count m.table ≤ length (seen m.device)
@@ -53,7 +54,8 @@ pub record AreLayers {D Z : Type 0} (seen : D → List ℕ) (m : Layers D Z) : T
 pub record IsQuiet {D Z : Type 0} (old new : Layers D Z) : Type 0 where
   pub same_device : new.device ≡ old.device
   pub same_table : new.table ≡ old.table
-  pub still_reserved : AreReserved old.shootdown.lock old.spaces.prepared → AreReserved new.shootdown.lock new.spaces.prepared
+  pub still_reserved : AreReserved old.shootdown.lock old.spaces.prepared
+      → AreReserved new.shootdown.lock new.spaces.prepared
 
 -- the page is one of a file of the table
 pub record HasPage (table : SuperValue) (owner : FilePage) : Type 0 where
@@ -64,14 +66,17 @@ pub record HasPage (table : SuperValue) (owner : FilePage) : Type 0 where
 pub record IsAtHome (s : State) (owner : FilePage) (frame : ℕ) : Type 0 where
   pub clean : IsDirty s.hardware.spaces s.checkpoint frame → ⊥
   pub written : HasBlock s.write_outs (home_of s.table owner) → ⊥
-  pub plain : bytes_of (frame_at s.hardware.memory frame) ≡ cut_at_end s owner (bytes_of (frame_at s.hardware.memory frame))
+  pub plain : bytes_of (frame_at s.hardware.memory frame)
+      ≡ cut_at_end s owner (bytes_of (frame_at s.hardware.memory frame))
 
 -- an act keeps what is reserved, and the table
 pub record KeepsReserved {D Z : Type 0} (old new : Layers D Z) : Type 0 where
   pub same_table : new.table ≡ old.table
-  pub still_reserved : AreReserved old.shootdown.lock old.spaces.prepared → AreReserved new.shootdown.lock new.spaces.prepared
+  pub still_reserved : AreReserved old.shootdown.lock old.spaces.prepared
+      → AreReserved new.shootdown.lock new.spaces.prepared
 
--- What is read of a device before a step and after it goes with rules, where the device is honest; of any other device, some bytes do.
+-- What is read of a device before a step and after it goes with rules, where the device is honest; of any other device,
+-- some bytes do.
 pub record AnswersBy (honest : Type 0) (rules : List ℕ → List ℕ → Type 0) (disk disk' : List ℕ) : Type 0 where
   pub some_disk : (d d' : List ℕ) × rules d d'
   pub own_disk : honest → rules disk disk'

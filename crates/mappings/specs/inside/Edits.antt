@@ -16,7 +16,8 @@ from_page mapping page = record mapping { first = page; place = place_in mapping
 abbrev pub split_at : ℕ → List Mapping → List Mapping
 split_at page [] = []
 split_at page (mapping ∷ rest) =
-    if nat_lt mapping.first page && nat_lt page mapping.end then below mapping page ∷ (from_page mapping page ∷ rest) else mapping ∷ split_at page rest
+    if nat_lt mapping.first page && nat_lt page mapping.end then below mapping page
+    ∷ (from_page mapping page ∷ rest) else mapping ∷ split_at page rest
 
 -- whether a mapping has no page from first up to end, if neither is inside it
 abbrev pub is_outside : ℕ → ℕ → Mapping → Bool
@@ -28,7 +29,8 @@ with_rights rights mapping = record mapping { place = record mapping.place { rig
 
 -- the mapping with the rights, if it begins within first up to end
 abbrev pub with_rights_within : ℕ → ℕ → Rights → Mapping → Mapping
-with_rights_within first end rights mapping = if nat_le first mapping.first && nat_lt mapping.first end then with_rights rights mapping else mapping
+with_rights_within first end rights mapping =
+    if nat_le first mapping.first && nat_lt mapping.first end then with_rights rights mapping else mapping
 
 -- whether the mapping has some of the count pages from first on, of which there is one at least
 abbrev pub meets : ℕ → ℕ → Mapping → Bool
@@ -41,7 +43,8 @@ joined before next = record before { end = next.end }
 -- the mapping and those after it, each two of which the second goes on where the first ends made one
 abbrev pub merged_onto : Mapping → List Mapping → List Mapping
 merged_onto mapping [] = mapping ∷ []
-merged_onto mapping (next ∷ rest) = if joins mapping next then merged_onto (joined mapping next) rest else mapping ∷ merged_onto next rest
+merged_onto mapping (next ∷ rest) =
+    if joins mapping next then merged_onto (joined mapping next) rest else mapping ∷ merged_onto next rest
 
 -- one mapping for each run of pages that go on
 abbrev pub merged : List Mapping → List Mapping

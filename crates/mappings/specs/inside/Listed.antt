@@ -54,7 +54,9 @@ pub record IsMeeting (list : List Mapping) (first end from to : ℕ) : Type 0 wh
 -- with the same rights and access
 abbrev pub joins : Mapping → Mapping → Bool
 joins before next =
-    before.end == next.first && (before.place.file == next.place.file && (before.place.page + (before.end - before.first) == next.place.page && (same_rights before.place.rights next.place.rights && same_rights before.place.access next.place.access)))
+    before.end == next.first && (before.place.file == next.place.file
+    && (before.place.page + (before.end - before.first) == next.place.page
+    && (same_rights before.place.rights next.place.rights && same_rights before.place.access next.place.access)))
 
 -- the first of a list, if there is one, is beside the mapping as R says
 abbrev pub Beside : (Mapping → Mapping → Type 0) → Mapping → List Mapping → Type 0
@@ -78,7 +80,9 @@ pub record IsKept (list : List Mapping) : Type 0 where
 -- the page of the mapping that maps this page of this file, if there is one
 abbrev pub page_in : Mapping → ℕ → ℕ → Option ℕ
 page_in mapping file page =
-    if mapping.place.file == file && (nat_le mapping.place.page page && nat_lt (page - mapping.place.page) (mapping.end - mapping.first)) then Some (mapping.first + (page - mapping.place.page)) else None
+    if mapping.place.file == file && (nat_le mapping.place.page page
+    && nat_lt (page - mapping.place.page) (mapping.end - mapping.first))
+    then Some (mapping.first + (page - mapping.place.page)) else None
 
 -- the pages of a list's mappings that map this page of this file
 abbrev pub pages_listed : List Mapping → ℕ → ℕ → List ℕ

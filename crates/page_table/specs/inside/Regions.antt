@@ -123,11 +123,13 @@ changed (Protect marked) (Some entry) = Some (protected_if marked.now entry)
 abbrev pub changed_from : Change → ℕ → ℕ → ℕ → List (Option Mapped) → List (Option Mapped)
 changed_from change start end first [] = []
 changed_from change start end first (entry ∷ entries) =
-    (if in_range start end first then changed change entry else entry) ∷ changed_from change start end (first + 1) entries
+    (if in_range start end first then changed change entry else entry)
+    ∷ changed_from change start end (first + 1) entries
 
 -- the region with the entries of the range changed
 abbrev pub changed_region : Change → ℕ → ℕ → RegionState → RegionState
-changed_region change start end region = record region { entries = changed_from change start end region.first region.entries }
+changed_region change start end region =
+    record region { entries = changed_from change start end region.first region.entries }
 
 -- the pages of the range whose entries in this region are dirty, in rising order
 abbrev pub dirty_of : RegionState → ℕ → ℕ → List ℕ

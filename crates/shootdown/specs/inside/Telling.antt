@@ -15,7 +15,8 @@ each_from f i (x ∷ xs) = f i x ∷ each_from f (i + 1) xs
 
 -- the state of the processor with number i, when processor p begins a change
 abbrev pub state_begun : ℕ → Spaces → Change → ℕ → Processor → ProcState
-state_begun p spaces change i x = if i == p then Initiating else state_when_begun (touches spaces change x.space) x.state
+state_begun p spaces change i x =
+    if i == p then Initiating else state_when_begun (touches spaces change x.space) x.state
 
 -- the processors when their states are set
 abbrev pub interrupted_by : ℕ → Spaces → Change → List Processor → List Processor

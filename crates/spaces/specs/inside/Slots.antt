@@ -90,7 +90,8 @@ pub record AreSlots (slots : List (Option SpaceState)) (prepared : Option (ℕ �
 -- the codes by which a proof tells values apart
 abbrev pub space_code : Coded AddressSpace
 space_code =
-    code_by (maps.FinMap nat_cmp Mapped × Places) (coded× (maps.code coded_ℕ mapped_code) (maps.code coded_ℕ place_code))
+    code_by (maps.FinMap nat_cmp Mapped × Places)
+    (coded× (maps.code coded_ℕ mapped_code) (maps.code coded_ℕ place_code))
     (λ s. (s.entries, s.places)) (λ p. record { entries = p.0; places = p.1 }) (λ _. refl)
 
 abbrev pub space_state_code : Coded SpaceState
@@ -99,9 +100,11 @@ space_state_code =
     (λ p. record { entries = p.0.entries; places = p.0.places; spare = p.1 }) (λ _. refl)
 
 abbrev pub range_code : Coded PageRange
-range_code = code_by (ℕ × ℕ) (coded× coded_ℕ coded_ℕ) (λ r. (r.first, r.count)) (λ p. record { first = p.0; count = p.1 }) (λ _. refl)
+range_code = code_by (ℕ × ℕ) (coded× coded_ℕ coded_ℕ) (λ r. (r.first, r.count))
+    (λ p. record { first = p.0; count = p.1 }) (λ _. refl)
 
 abbrev pub spaces_code : Coded SpacesState
 spaces_code =
-    code_by (Spaces × Option (ℕ × PageRange)) (coded× (maps.code coded_ℕ space_code) (coded_option (coded× coded_ℕ range_code)))
+    code_by (Spaces × Option (ℕ × PageRange))
+    (coded× (maps.code coded_ℕ space_code) (coded_option (coded× coded_ℕ range_code)))
     (λ s. (s.map, s.prepared)) (λ p. record { map = p.0; prepared = p.1 }) (λ _. refl)

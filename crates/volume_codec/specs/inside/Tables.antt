@@ -39,7 +39,8 @@ abbrev pub homes_from : ℕ → List TableFile → List ℕ
 homes_from home [] = []
 homes_from home (f ∷ fs) = home ∷ homes_from (home + pages_of f.capacity) fs
 
--- what a table holds beside its value: the rules are kept, and each file's first home block and the block count are there
+-- what a table holds beside its value: the rules are kept, and each file's first home block and the block count are
+-- there
 pub record IsKept (v : SuperValue) (homes : List ℕ) (blocks : ℕ) : Type 0 where
   pub fits : Fits v
   pub homes_are : homes ≡ homes_from (first_file_home v.layout v.slots) v.files
