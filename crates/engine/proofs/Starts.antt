@@ -1,6 +1,7 @@
--- A machine that was booted over an opened volume is at the start of a run.
-use Rattle.std.proofs.Common.{List, [], length, take, refl, sym, subst}
+-- A machine that was booted over an opened volume is at the start of a run, and its steps are a run.
+use Rattle.std.proofs.Common.{ℕ, List, [], refl, sym, ◌∙◌, inl, inr, subst}
 use Rattle.device.specs.declared.device.Device.{Ghosts}
+use Rattle.page_entry.specs.declared.refusal.Refusal.{Refusal}
 use Rattle.volume_codec.specs.Files.{File}
 use Rattle.volume_codec.specs.Layout.{block_at}
 use Rattle.volume_codec.specs.Recovery.{RecoversTo}
@@ -12,9 +13,15 @@ use Rattle.machine.specs.declared.act.Shape.{Shape}
 use Rattle.machine.specs.declared.act.Step.{Step}
 use Rattle.machine.specs.Crashes.{Begins}
 use Rattle.machine.specs.Fresh.{IsShape, fresh}
-use Rattle.machine.specs.Laws.{FaultsAreServed}
+use Rattle.machine.specs.Laws.{FaultsAreServed, ReadsBack}
+use Rattle.machine.specs.OnTrack.{IsOnTrack, told_first}
+use Rattle.machine.specs.Runs.{StepsTaken}
 use Rattle.machine.specs.State.{Whole}
-use Rattle.engine.specs.Engine.{OnTrack, HasStarted, AreMade, IsRun}
+use Rattle.machine.specs.Told.{tell_all}
+use Rattle.machine.proofs.Tracks.{on_track_all}
+use Rattle.machine.proofs.durable.ReadsBack.{reads_now}
+use Rattle.engine.specs.Engine.{history_of, HasStarted, HasRefused, IsRun, IsKept}
+use Rattle.engine.proofs.Runs.{taken_kept}
 
 -- the files that an honest device recovered to when it was opened
 opened_files : {D : Type 0} (disk : Ghosts D) (before : D) (volume : VolumeState D) → HasOpened disk before volume.table volume.device → RecoversTo (disk.seen before) (files_of volume.table (disk.seen volume.device))
@@ -42,13 +49,39 @@ begins {D} disk before shape start started honest =
     let P : Whole D → Type 0 = λ w. Begins disk.seen disk.may_leave disk.is_honest files w in
     (files, opened_files disk before volume (started.opened.ended honest), subst P (sym started.booted) (booted_begins disk volume shape started.shaped (started.settled.at_rest here) here))
 
--- and the steps that are made on it are a run
+-- what a crash now may leave of a machine that is on the track of a run
+pub left_on_track : {D : Type 0} (disk : Ghosts D) (files : List File) (start : Whole D) (steps : List Step) (replies : List Reply) (now : Whole D)
+    → IsOnTrack disk.seen disk.may_leave disk.moment disk.left_since disk.is_honest files start steps replies now
+    → (c : List ℕ) → disk.may_leave now.device c → ReadsBack files (history_of files start steps replies) c
+left_on_track disk files start steps replies now on =
+    let t = on.tracked in
+    reads_now files (tell_all (told_first files start.state) steps replies) now.state (disk.seen now.device) (disk.may_leave now.device) t.sound t.files_are (record { old = t.old; new = t.new; stands = t.stands; written = t.written })
+
+-- the steps that are made on it are a run
 pub run_of : {D : Type 0} (disk : Ghosts D) (before : D) (shape : Shape) (start : Whole D) (steps : List Step) (replies : List Reply) (last : Whole D) (started : HasStarted disk before shape start)
-    → ((files : List File) → Begins disk.seen disk.may_leave disk.is_honest files start → OnTrack disk files start [] [] start)
-    → AreMade disk start (take (length replies) steps) replies last
-    → ((files : List File) (start : Whole D) (steps : List Step) (replies : List Reply) → OnTrack disk files start steps replies last → FaultsAreServed steps replies)
+    → ((files : List File) → Begins disk.seen disk.may_leave disk.is_honest files start → IsOnTrack disk.seen disk.may_leave disk.moment disk.left_since disk.is_honest files start [] [] start)
+    → StepsTaken disk start steps replies last
+    → ((files : List File) (start : Whole D) (steps : List Step) (replies : List Reply) → IsOnTrack disk.seen disk.may_leave disk.moment disk.left_since disk.is_honest files start steps replies last → FaultsAreServed steps replies)
     → disk.is_honest before → IsRun disk before start steps replies last
-run_of disk before shape start steps replies last started begin made served honest =
+run_of disk before shape start steps replies last started begin taken served honest =
     let found = begins disk before shape start started honest in
-    let on = made.tracked found.0 start [] [] (begin found.0 found.2) in
-    record { files = found.0; recovered = found.1; on_track = on; served = served found.0 start (take (length replies) steps) replies on }
+    let on = on_track_all disk found.0 start [] [] start steps replies last (begin found.0 found.2) taken in
+    record { files = found.0; recovered = found.1; on_track = on; served = served found.0 start steps replies on; left = left_on_track disk found.0 start steps replies last on }
+
+-- the device is kept by a start, by a refusal, and by a run
+pub started_kept : {D : Type 0} (disk : Ghosts D) (before : D) (shape : Shape) (start : Whole D) → HasStarted disk before shape start → IsKept disk before start.device
+started_kept {D} disk before shape start started =
+    let P : Whole D → Type 0 = λ w. IsKept disk before w.device in
+    let kept = started.opened.kept in
+    subst P (sym started.booted) (record { honest = kept.honest; len = kept.len })
+
+pub refused_kept : {D : Type 0} (disk : Ghosts D) (before : D) (shape : Shape) (after : D) (refusal : Refusal) → HasRefused disk before shape after refusal → IsKept disk before after
+refused_kept disk before shape after refusal (inl opens) = record { honest = opens.kept.honest; len = opens.kept.len }
+refused_kept disk before shape after refusal (inr (table, opens, why)) = record { honest = opens.kept.honest; len = opens.kept.len }
+
+pub run_kept : {D : Type 0} (disk : Ghosts D) (before : D) (shape : Shape) (start : Whole D) (steps : List Step) (replies : List Reply) (last : Whole D) → HasStarted disk before shape start → StepsTaken disk start steps replies last
+    → IsKept disk before last.device
+run_kept disk before shape start steps replies last started taken =
+    let first = started_kept disk before shape start started in
+    let rest = taken_kept disk start steps replies last taken in
+    record { honest = (λ h. first.honest.0 (rest.0.0 h), λ h. rest.0.1 (first.honest.1 h)); len = rest.1 ∙ first.len }

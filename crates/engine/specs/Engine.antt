@@ -1,9 +1,8 @@
--- A volume is opened, a machine is booted over it, and steps are made one at a time: what then holds of the device, and of what a crash at any
--- moment leaves.
-use Rattle.std.specs.Prelude.{ℕ, ◌≡◌, ◌↔◌, ◌⊎◌, ◌≤◌, List, [], ◌∷◌, ◌++◌, length, take, Ok, Err}
+-- A volume is opened, a machine is booted over it, and steps are made one at a time: what then holds of the device, and
+-- of what a crash at any moment leaves.
+use Rattle.std.specs.Prelude.{ℕ, ◌≡◌, ◌↔◌, ◌⊎◌, ◌≤◌, List, length, take, Result, Ok, Err}
 use Rattle.device.specs.declared.device.Device.{Ghosts}
 use Rattle.page_entry.specs.declared.refusal.Refusal.{Refusal}
-use Rattle.page_entry.specs.declared.refusal.Refusal.TheVariants.{BadShape, OutOfMemory}
 use Rattle.volume_codec.specs.Files.{File}
 use Rattle.volume_codec.specs.Super.{SuperValue}
 use Rattle.volume_codec.specs.Recovery.{RecoversTo}
@@ -12,16 +11,14 @@ use Rattle.recovery.specs.Volume.{VolumeState, IsSettled}
 use Rattle.machine.specs.declared.act.Reply.{Reply}
 use Rattle.machine.specs.declared.act.Shape.{Shape}
 use Rattle.machine.specs.declared.act.Step.{Step}
+use Rattle.machine.specs.Booting.{RefusesShape}
 use Rattle.machine.specs.Fresh.{IsShape, fresh}
 use Rattle.machine.specs.State.{State, Whole}
-use Rattle.machine.specs.Booting.{RefusesShape}
+use Rattle.machine.specs.History.{Event}
+use Rattle.machine.specs.Told.{tell_all}
+use Rattle.machine.specs.Laws.{FaultsAreServed, ReadsBack}
+use Rattle.machine.specs.OnTrack.{IsOnTrack, told_first}
 use Rattle.machine.specs.Runs.{StepsTaken}
-use Rattle.machine.specs.Laws.{FaultsAreServed}
-use Rattle.machine.specs.OnTrack.{IsOnTrack}
-
--- a machine over a device is on the track of a run
-abbrev pub OnTrack : {D : Type 0} → Ghosts D → List File → Whole D → List Step → List Reply → Whole D → Type 0
-OnTrack disk = IsOnTrack disk.seen disk.may_leave disk.moment disk.left_since disk.is_honest
 
 -- The device was opened, and a machine of this shape was booted over its volume.
 pub record HasStarted {D : Type 0} (disk : Ghosts D) (before : D) (shape : Shape) (start : Whole D) : Type 0 where
@@ -31,35 +28,52 @@ pub record HasStarted {D : Type 0} (disk : Ghosts D) (before : D) (shape : Shape
   pub shaped : IsShape volume.table shape
   pub booted : start ≡ record { state = fresh volume.table volume.lengths shape; device = volume.device }
 
--- Nothing was run: the opening was refused, or the volume serves no machine of this shape, or memory was refused for one. The device is as the
--- opening left it.
+-- Nothing was run: the opening was refused, or the volume serves no machine of this shape, or memory was refused for
+-- one. The device is as the opening left it.
 abbrev pub HasRefused : {D : Type 0} → Ghosts D → D → Shape → D → Refusal → Type 0
 HasRefused disk before shape after refusal = Opens disk before (Err refusal) after
     ⊎ ((table : SuperValue) × Opens disk before (Ok table) after × RefusesShape table shape refusal)
 
--- These steps were made on a machine, with these replies.
-pub record AreMade {D : Type 0} (disk : Ghosts D) (old : Whole D) (steps : List Step) (replies : List Reply) (new : Whole D) : Type 0 where
-  -- by the rules, over any device, with the device calls that the steps make
-  pub taken : StepsTaken disk old steps replies new
-  -- a machine that was on the track of a run is so with these steps more
-  pub tracked : (files : List File) (start : Whole D) (earlier : List Step) (told : List Reply) → OnTrack disk files start earlier told old
-      → OnTrack disk files start (earlier ++ steps) (told ++ replies) new
-  pub honest : disk.is_honest new.device ↔ disk.is_honest old.device
-  pub same_length : length (disk.seen new.device) ≡ length (disk.seen old.device)
+-- the device that is handed back, as long and as honest as it was: so the same can be done on it again
+abbrev pub handed_back : {D : Type 0} → Result D (Refusal × D) → D
+handed_back (Ok after) = after
+handed_back (Err refused) = refused.1
 
--- On an honest device, a run of the first steps, as many as there are replies, began with the files that the device recovered to. Through the
--- machines between its steps: each reply is by the rules and the laws, and what a crash at any moment of any step and after it leaves reads back.
-pub record IsRun {D : Type 0} (disk : Ghosts D) (before : D) (start : Whole D) (steps : List Step) (replies : List Reply) (last : Whole D) : Type 0 where
+pub record IsKept {D : Type 0} (disk : Ghosts D) (before after : D) : Type 0 where
+  pub honest : disk.is_honest after ↔ disk.is_honest before
+  pub len : length (disk.seen after) ≡ length (disk.seen before)
+
+-- what these steps and their replies tell was stored, marked and acknowledged
+abbrev pub history_of : {D : Type 0} → List File → Whole D → List Step → List Reply → List Event
+history_of files start steps replies = (tell_all (told_first files start.state) steps replies).history
+
+-- These steps of a machine are a run that began with the files to which the device recovered before it was opened.
+pub record IsRun {D : Type 0} (disk : Ghosts D) (before : D) (start : Whole D) (steps : List Step)
+    (replies : List Reply) (last : Whole D) : Type 0 where
   pub files : List File
   pub recovered : RecoversTo (disk.seen before) files
-  pub on_track : OnTrack disk files start (take (length replies) steps) replies last
-  pub served : FaultsAreServed (take (length replies) steps) replies
+  -- through the machines between the steps: each reply is by the rules and the laws, and what a crash at any moment of
+  -- a step and after it may leave recovers to the files after a durable prefix of the history up to that moment
+  pub on_track : IsOnTrack disk.seen disk.may_leave disk.moment disk.left_since disk.is_honest
+      files start steps replies last
+  pub served : FaultsAreServed steps replies
+  -- so does what a crash after the run may leave, by the whole history
+  pub left : (c : List ℕ) → disk.may_leave last.device c → ReadsBack files (history_of files start steps replies) c
 
 -- A run over a device: it was started, and its first steps, as many as there are replies, were made.
-pub record HasRun {D : Type 0} (disk : Ghosts D) (before : D) (shape : Shape) (steps : List Step) (replies : List Reply) (after : D) : Type 0 where
+pub record HasRun {D : Type 0} (disk : Ghosts D) (before : D) (shape : Shape) (steps : List Step) (replies : List Reply)
+    (after : D) : Type 0 where
   pub start : Whole D
   pub started : HasStarted disk before shape start
   pub few : length replies ≤ length steps
   pub state : State
-  pub made : AreMade disk start (take (length replies) steps) replies (record { state = state; device = after })
-  pub run : disk.is_honest before → IsRun disk before start steps replies (record { state = state; device = after })
+  -- over any device: each reply by the rules, and the device calls of each step
+  pub made : StepsTaken disk start (take (length replies) steps) replies (record { state = state; device = after })
+  -- over an honest one
+  pub run : disk.is_honest before
+      → IsRun disk before start (take (length replies) steps) replies (record { state = state; device = after })
+
+-- recovers to the files after a durable prefix of what some of these steps tell
+abbrev pub ReadsBackAfterSome : {D : Type 0} → List File → Whole D → List Step → List Reply → List ℕ → Type 0
+ReadsBackAfterSome files start steps replies c =
+    (n : ℕ) × (n ≤ length replies) × ReadsBack files (history_of files start (take n steps) (take n replies)) c

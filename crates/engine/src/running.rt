@@ -2,7 +2,8 @@
 ghost use Rattle.std.specs.Prelude.{◌↔◌, ◌≡◌, List, length, take, IfOk, IfErr};
 ghost use Rattle.machine.specs.declared.act.Reply.{Reply};
 ghost use Rattle.engine.specs.Listening.{HasListened};
-ghost use Rattle.engine.specs.Engine.{HasStarted, HasRefused, AreMade, HasRun};
+ghost use Rattle.machine.specs.Runs.{StepsTaken};
+ghost use Rattle.engine.specs.Engine.{HasStarted, HasRefused, HasRun, IsKept, handed_back};
 
 use crate::Listener;
 use device::Device;
@@ -39,7 +40,7 @@ fn make_steps<D: Device, A: Allocator + Copy, L: Listener>(
     listener: &mut L,
 )
     ensures { (replies : List Reply) × HasListened L.hears (length steps.now) listener.old replies listener.new
-        × AreMade D.Device machine.old (take (length replies) steps.now) replies machine.new }
+        × StepsTaken D.Device machine.old (take (length replies) steps.now) replies machine.new }
 {
     for step in steps {
         let reply = machine.enter(step);
@@ -70,6 +71,7 @@ pub fn run<D: Device, A: Allocator + Copy, L: Listener>(
         × HasListened L.hears (length steps.now) listener.old replies listener.new
         × HasRun D.Device device shape steps.now replies after) }
     ensures refused { IfErr result (λ refused. HasRefused D.Device device shape refused.1 refused.0) }
+    ensures kept { IsKept D.Device device (handed_back result) }
     ensures untold { IfErr result (λ refused. listener.new ≡ listener.old) }
 {
     match start(alloc, device, shape) {

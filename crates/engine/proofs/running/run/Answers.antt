@@ -1,8 +1,8 @@
-use Rattle.std.proofs.Common.{sym, subst}
+use Rattle.std.proofs.Common.{length, take, sym, subst}
 use Rattle.machine.specs.State.{Whole}
-use Rattle.engine.specs.Engine.{HasRun}
+use Rattle.engine.specs.Engine.{HasRun, IsKept}
 use Rattle.engine.proofs.Runs.{taken_few}
-use Rattle.engine.proofs.Starts.{run_of}
+use Rattle.engine.proofs.Starts.{run_of, run_kept, refused_kept}
 use Rattle.engine.proofs.running.run.Goals as goal
 
 pub returns-in-Ok-clause-ran : goal.returns-in-Ok-clause-ran
@@ -19,9 +19,19 @@ returns-in-Ok-clause-ran g c =
       subst P (sym c.into_device.ensures) (record {
         start = start;
         started = started;
-        few = taken_few g.D.Device start steps replies last made.taken;
+        few = taken_few g.D.Device start steps replies last made;
         state = last.state;
         made = made;
-        run = run_of g.D.Device c.args.device c.args.shape start steps replies last started c.begin.ensures made c.serves.ensures;
+        run = run_of g.D.Device c.args.device c.args.shape start (take (length replies) steps) replies last started c.begin.ensures made c.serves.ensures;
       }),
     )
+
+pub returns-in-Ok-clause-kept : goal.returns-in-Ok-clause-kept
+returns-in-Ok-clause-kept g c =
+    let replies = c.make_steps.ensures.0 in
+    let steps = take (length replies) c.args.steps.now in
+    let P : g.row.D.Denot → Type 0 = λ device. IsKept g.D.Device c.args.device device in
+    subst P (sym c.into_device.ensures) (run_kept g.D.Device c.args.device c.args.shape c.in-Ok.machine steps replies c.make_steps.new.machine c.in-Ok.ensures.started c.make_steps.ensures.2)
+
+pub returns-in-Err-clause-kept : goal.returns-in-Err-clause-kept
+returns-in-Err-clause-kept g c = refused_kept g.D.Device c.args.device c.args.shape c.in-Err.refused.1 c.in-Err.refused.0 c.in-Err.ensures.refused
