@@ -1,11 +1,12 @@
 -- What is opened after a crash at some moment of an opening or a run.
-use Rattle.std.proofs.Common.{◌≡◌, ℕ, List, [], ◌∷◌, length, take, Result, sym, subst}
+use Rattle.std.proofs.Common.{◌≡◌, ℕ, List, [], ◌∷◌, length, take, Result, Ok, sym, ◌∙◌, ap, subst}
 use Rattle.device.specs.declared.device.Device.{Ghosts}
 use Rattle.page_entry.specs.declared.refusal.Refusal.{Refusal}
 use Rattle.volume_codec.specs.Files.{File}
 use Rattle.volume_codec.specs.Super.{SuperValue}
 use Rattle.recovery.specs.Opening.{Opens}
 use Rattle.recovery.specs.Openings.{IsLater}
+use Rattle.recovery.specs.Volume.{files_of}
 use Rattle.machine.specs.declared.act.Reply.{Reply}
 use Rattle.machine.specs.declared.act.Shape.{Shape}
 use Rattle.machine.specs.declared.act.Step.{Step}
@@ -17,16 +18,32 @@ use Rattle.machine.specs.OnTrack.{told_first}
 use Rattle.machine.specs.State.{Whole}
 use Rattle.machine.specs.Told.{Told, tell}
 use Rattle.engine.specs.Engine.{HasRun}
-use Rattle.engine.specs.Found.{FindsAfterCrash, FoundThroughout, CrashesAreFound}
+use Rattle.engine.specs.Found.{HoldsDurable, FindsAfterCrash, FoundThroughout, CrashesAreFound}
 use Rattle.engine.proofs.Crashes.{start_reads, opening_reads}
+
+-- a run begins with the files that its opening found
+own_files : {D : Type 0} (disk : Ghosts D) (before after : D) (shape : Shape) (steps : List Step) (replies : List Reply) (ran : HasRun disk before shape steps replies after) (honest : disk.is_honest before)
+    → (ran.run honest).files ≡ files_of ran.started.volume.table (disk.seen ran.started.volume.device)
+own_files {D} disk before after shape steps replies ran honest =
+    let files_at : Whole D → List File = λ w. files_of w.state.table (disk.seen w.device) in
+    (ran.run honest).on_track.begins.files_are ∙ ap files_at ran.started.booted
 
 module _ {D : Type 0} (disk : Ghosts D) (opened_later : (files : List File) (history : List Event) (n : ℕ) (first later after : D) (result : Result SuperValue Refusal) → disk.is_honest first → ((c : List ℕ) → disk.may_leave first c → ReadsBack files history c)
     → IsLater disk n first later → Opens disk later result after → FindsDurable files history result (disk.seen after)) where
-  -- what reads back is found
+  -- what reads back is found, to any depth
+  pub found_later : (files : List File) (history : List Event) (n : ℕ) (first later : D) → disk.is_honest first → ((c : List ℕ) → disk.may_leave first c → ReadsBack files history c) → IsLater disk n first later → HoldsDurable disk files history later
+  found_later files history n first later honest back is = record {
+    opened = λ result after opens. opened_later files history n first later after result honest back is opens;
+    run = λ shape steps replies after ran here.
+        let volume = ran.started.volume in
+        let found = opened_later files history n first later volume.device (Ok volume.table) honest back is ran.started.opened in
+        record { prefix = found.prefix; durable = found.durable; files_are = own_files disk later after shape steps replies ran here ∙ found.files_are };
+  }
+
   found_after : (files : List File) (history : List Event) (lists : List ℕ → Type 0) → ((c : List ℕ) → lists c → ReadsBack files history c) → FindsAfterCrash disk files history lists
-  found_after files history lists back = λ first later last n result restarted is opens.
+  found_after files history lists back = λ first later n restarted is.
       let P : List ℕ → Type 0 = λ bytes. ReadsBack files history bytes in
-      opened_later files history n first later last result restarted.honest (λ c may. subst P (sym (restarted.only c may)) (back (disk.seen first) restarted.left)) is opens
+      found_later files history n first later restarted.honest (λ c may. subst P (sym (restarted.only c may)) (back (disk.seen first) restarted.left)) is
 
   found_throughout : (files : List File) (told : Told) (old : Whole D) (steps : List Step) (replies : List Reply) (new : Whole D) → ((c : List ℕ) → disk.may_leave old.device c → ReadsBack files told.history c)
       → Throughout disk.seen disk.may_leave disk.moment disk.left_since files told old steps replies new → FoundThroughout disk files told old steps replies new

@@ -8,24 +8,34 @@ use Rattle.volume_codec.specs.Recovery.{RecoversTo}
 use Rattle.recovery.specs.Opening.{Opens}
 use Rattle.recovery.specs.Openings.{IsRestarted, IsLater}
 use Rattle.machine.specs.declared.act.Reply.{Reply}
+use Rattle.machine.specs.declared.act.Shape.{Shape}
 use Rattle.machine.specs.declared.act.Step.{Step}
 use Rattle.machine.specs.Crashes.{StepIsSafe}
 use Rattle.machine.specs.History.{Event}
-use Rattle.machine.specs.Later.{FindsDurable}
+use Rattle.machine.specs.Later.{AreDurable, FindsDurable}
 use Rattle.machine.specs.OnTrack.{told_first}
 use Rattle.machine.specs.State.{Whole}
 use Rattle.machine.specs.Told.{Told, tell}
+use Rattle.engine.specs.Engine.{HasRun}
 
--- A crash left one of these lists. Whichever one, each opening since, to any depth, with a crash or none within and
--- after each before it, gives exactly the files after a durable prefix of this history, or meets a device call that
--- failed, or no memory.
+-- What is found on this device: an opening gives exactly the files after a durable prefix of this history, or meets a
+-- device call that failed, or no memory; and a run on it begins with such files.
+pub record HoldsDurable {D : Type 0} (disk : Ghosts D) (files : List File) (history : List Event) (device : D)
+    : Type 0 where
+  pub opened : (result : Result SuperValue Refusal) (after : D) → Opens disk device result after
+      → FindsDurable files history result (disk.seen after)
+  pub run : (shape : Shape) (steps : List Step) (replies : List Reply) (after : D)
+      (ran : HasRun disk device shape steps replies after) (honest : disk.is_honest device)
+      → AreDurable files history (ran.run honest).files
+
+-- A crash left one of these lists. Whichever one, so it is then, and after any number of openings, each with a crash or
+-- none within and after it.
 abbrev pub FindsAfterCrash : {D : Type 0} → Ghosts D → List File → List Event → (List ℕ → Type 0) → Type 0
 FindsAfterCrash {D} disk files history lists =
-    (first later last : D) (n : ℕ) (result : Result SuperValue Refusal)
-    → IsRestarted disk lists first → IsLater disk n first later → Opens disk later result last
-    → FindsDurable files history result (disk.seen last)
+    (first later : D) (n : ℕ) → IsRestarted disk lists first → IsLater disk n first later
+    → HoldsDurable disk files history later
 
--- so it is for a crash at any moment of each step, by what was told before that step, and for one after the last step
+-- So it is for a crash at any moment of each step, by what was told before that step, and for one after the last step.
 abbrev pub FoundThroughout : {D : Type 0} → Ghosts D → List File → Told → Whole D → List Step → List Reply → Whole D
     → Type 0
 FoundThroughout disk files told old [] [] new =

@@ -1,18 +1,15 @@
 // What follows of a run: what a crash at any moment since the device was opened leaves, and what later openings find.
-ghost use Rattle.std.specs.Prelude.{ℕ, List, Result, length, take};
+ghost use Rattle.std.specs.Prelude.{ℕ, List, length, take};
 ghost use Rattle.device.specs.Device.{LeavesOnly};
 ghost use Rattle.page_entry.specs.declared.refusal.Refusal.{Refusal};
 ghost use Rattle.volume_codec.specs.Files.{File};
-ghost use Rattle.volume_codec.specs.Super.{SuperValue};
 ghost use Rattle.volume_codec.specs.Recovery.{RecoversTo};
-ghost use Rattle.recovery.specs.Opening.{Opens};
 ghost use Rattle.recovery.specs.Openings.{IsLater};
 ghost use Rattle.machine.specs.declared.act.Reply.{Reply};
 ghost use Rattle.machine.specs.declared.act.Shape.{Shape};
 ghost use Rattle.machine.specs.declared.act.Step.{Step};
-ghost use Rattle.machine.specs.Later.{FindsDurable};
 ghost use Rattle.engine.specs.Engine.{HasRefused, HasRun, history_of, ReadsBackAfterSome};
-ghost use Rattle.engine.specs.Found.{CrashesAreFound};
+ghost use Rattle.engine.specs.Found.{HoldsDurable, CrashesAreFound};
 
 use device::Device;
 use machine::opened_later;
@@ -27,23 +24,23 @@ pub fn crashed_since_start<D: Device>(device: &D)
         (ReadsBackAfterSome (ran.run honest).files ran.start (take (length replies) steps) replies) }
 {}
 
-/// After a run over an honest device each opening, to any depth, with a crash or none within and after each before it,
-/// gives exactly the files after a durable prefix of what the run tells, or meets a device call that failed, or no
-/// memory.
+/// After a run over an honest device, and any number of openings since, each with a crash or none within and after it,
+/// an opening gives exactly the files after a durable prefix of what the run tells, or meets a device call that failed,
+/// or no memory; and the next run begins with such files.
 pub fn opened_after_run<D: Device>(device: &D)
-    ensures { (before after later last : D) (shape : Shape) (steps : List Step) (replies : List Reply)
+    ensures { (before after later : D) (shape : Shape) (steps : List Step) (replies : List Reply)
         (ran : HasRun D.Device before shape steps replies after) (honest : D.is_honest before) (n : ℕ)
-        (result : Result SuperValue Refusal) → IsLater D.Device n after later → Opens D.Device later result last
-        → FindsDurable (ran.run honest).files
-        (history_of (ran.run honest).files ran.start (take (length replies) steps) replies) result (D.seen last) }
+        → IsLater D.Device n after later
+        → HoldsDurable D.Device (ran.run honest).files
+        (history_of (ran.run honest).files ran.start (take (length replies) steps) replies) later }
 {
     opened_later(device);
 }
 
-/// Wherever a crash falls in a run over an honest device, within a step, between two or after the last, each opening
+/// Wherever a crash falls in a run over an honest device, within a step, between two or after the last: each opening
 /// since, to any depth, with a crash or none within and after each before it, gives exactly the files after a durable
-/// prefix of what was told before that step, or meets a device call that failed, or no memory. So does a crash within
-/// the opening before the run, where all that a crash might have left of the device then recovers to its files.
+/// prefix of what was told before that step, or meets a device call that failed, or no memory. So does one after a crash
+/// within the opening before the run, where all that a crash might have left of the device then recovers to its files.
 pub fn opened_after_crash<D: Device>(device: &D)
     ensures { (before after : D) (shape : Shape) (steps : List Step) (replies : List Reply)
         (ran : HasRun D.Device before shape steps replies after) (honest : D.is_honest before)
