@@ -2,4 +2,5 @@ mod AllOf
 mod DumpRows
 mod Names
 mod Cuts
-mod Sessions
+mod Printing
+mod Dumped

@@ -3,8 +3,8 @@ use Rattle.std.specs.Prelude.{ℕ, ◌-◌, ◌^◌, nat_le, if◌then◌else◌
 use Rattle.std.specs.Str.{bytes_eq}
 use Rattle.serde_json.specs.Data.{Data, Items, no_items, item}
 use Rattle.serde_json.specs.Find.{as_u64, as_number, as_str, as_array}
-use Rattle.old_mappings.specs.declared.place.Rights.{Rights}
-use Rattle.old_mappings.specs.declared.place.Rights.TheVariants.{Read, ReadWrite}
+use Rattle.mappings.specs.declared.place.Rights.{Rights}
+use Rattle.mappings.specs.declared.place.Rights.TheVariants.{Read, ReadWrite}
 
 -- what f makes of the value, if there is one
 abbrev pub if_some : {A B : Type 0} → Option A → (A → Option B) → Option B
@@ -18,19 +18,23 @@ up_to most n = if nat_le n most then Some n else None
 abbrev pub whole_number : ℕ → Data → Option ℕ
 whole_number most value = if_some (if_some (as_number value) as_u64) (up_to most)
 
--- numbers of 8, 16 and 64 bits
+-- numbers of 8, 16, 32 and 64 bits
 abbrev pub byte_of : Data → Option ℕ
 byte_of = whole_number 255
 
 abbrev pub short_of : Data → Option ℕ
 short_of = whole_number 65535
 
+abbrev pub page_of : Data → Option ℕ
+page_of = whole_number 4294967295
+
 abbrev pub long_of : Data → Option ℕ
 long_of = whole_number (2 ^ 64 - 1)
 
 -- what the row of a table whose word this is has beside the word
 abbrev pub one_of : {X : Type 0} → List (List ℕ × X) → Data → Option X
-one_of table value = if_some (as_str value) (λ text. option_map (λ row. row.1) (find (λ row. bytes_eq text row.0) table))
+one_of table value = if_some (as_str value)
+    (λ text. option_map (λ row. row.1) (find (λ row. bytes_eq text row.0) table))
 
 -- rights of a mapping: writing alone counts as both
 abbrev pub prot_of : Data → Option Rights

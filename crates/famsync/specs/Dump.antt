@@ -1,7 +1,11 @@
--- Rows of a dump.
-use Rattle.std.specs.Prelude.{ℕ, ◌-◌, ◌^◌, ◌/◌, ◌%◌, List, [], ◌∷◌, ◌++◌, false}
-use Rattle.std.specs.List.{flat_map}
-use Rattle.std.specs.Fmt.{digits, digit_glyph, padded_integral, format_spec}
+-- The text of a dump: of each file its name and length, and its rows of 16 bytes that aren't all zeros.
+use Rattle.std.specs.Prelude.{ℕ, ◌≡◌, ◌↔◌, zero, suc, ◌+◌, ◌-◌, ◌*◌, ◌^◌, ◌/◌, ◌%◌, ◌==◌, if◌then◌else◌, List, [], ◌∷◌, ◌++◌, length, map, take, drop, false}
+use Rattle.std.specs.List.{flat_map, list_all}
+use Rattle.std.specs.Fmt.{decimal, digits, digit_glyph, padded_integral, format_spec}
+use Rattle.device.specs.declared.device.Device.{Ghosts}
+use Rattle.recovery.specs.Volume.{VolumeState, files_of}
+use Rattle.volume_codec.specs.Files.{File}
+use Rattle.volume_codec.specs.Super.{names_in}
 
 -- a byte in two hexadecimal digits, after a space
 abbrev pub byte_text : ℕ → List ℕ
@@ -14,3 +18,40 @@ offset_text at = padded_integral (format_spec 32 0 4 12 (2 ^ 64 - 1)) false [] (
 -- an offset and bytes
 abbrev pub row_text : ℕ → List ℕ → List ℕ
 row_text at bytes = offset_text at ++ flat_map byte_text bytes
+
+-- their line, which is left out where all of them are zero
+abbrev pub row_line : ℕ → List ℕ → List ℕ
+row_line at bytes = if list_all (λ byte. byte == 0) bytes then [] else row_text at bytes ++ 10 ∷ []
+
+-- row n of these bytes
+abbrev pub row_of : List ℕ → ℕ → List ℕ
+row_of bytes n = take 16 (drop (16 * n) bytes)
+
+-- the lines of the rows before row n
+abbrev pub rows_before : List ℕ → ℕ → List ℕ
+rows_before bytes zero = []
+rows_before bytes (suc n) = rows_before bytes n ++ row_line (16 * n) (row_of bytes n)
+
+-- how many rows n bytes have; the last one may be shorter
+abbrev pub row_count : ℕ → ℕ
+row_count n = (n + 15) / 16
+
+-- a line with the name, a space and the length in decimal digits, and the lines of the rows
+abbrev pub file_text : File → List ℕ
+file_text f = f.name ++ 32 ∷ decimal (length f.bytes) ++ 10 ∷ [] ++ rows_before f.bytes (row_count (length f.bytes))
+
+-- the files in their order
+abbrev pub dump_text : List File → List ℕ
+dump_text files = flat_map file_text files
+
+-- a volume that was only read: its table and lengths stay, and so does what an honest device gives
+pub record IsOnlyRead {D : Type 0} (disk : Ghosts D) (old new : VolumeState D) : Type 0 where
+  pub table : new.table ≡ old.table
+  pub lengths : new.lengths ≡ old.lengths
+  pub honest : disk.is_honest new.device ↔ disk.is_honest old.device
+  pub same : disk.is_honest old.device → disk.seen new.device ≡ disk.seen old.device
+
+-- the files of a volume whose device has these bytes, as its table and its lengths say
+pub record AreFilesOf {D : Type 0} (volume : VolumeState D) (bytes : List ℕ) : Type 0 where
+  pub names : map (λ f. f.name) (files_of volume.table bytes) ≡ names_in volume.table
+  pub lengths : map (λ f. length f.bytes) (files_of volume.table bytes) ≡ volume.lengths

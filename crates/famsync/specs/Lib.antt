@@ -1,9 +1,8 @@
 pub mod Arguments
 pub mod Dump
 pub mod Words
-pub mod Fault
+pub mod Failure
 pub mod Replies
 pub mod Script
 pub mod ScriptFault
 pub mod Acts
-pub mod Session

@@ -7,12 +7,14 @@ use Rattle.serde_json.specs.Read.{read}
 use Rattle.serde_json.specs.Find.{get, as_str, as_array, as_object}
 use Rattle.famsync.specs.Arguments.{if_some, byte_of, long_of, list_of, all_of}
 use Rattle.famsync.specs.Acts.{act_of}
-use Rattle.old_machine.specs.declared.act.Shape.{Shape}
-use Rattle.old_machine.specs.declared.act.Step.{Step}
+use Rattle.machine.specs.declared.act.Shape.{Shape}
+use Rattle.machine.specs.declared.act.Step.{Step}
 
 -- a step: a processor, the name of an act, and its arguments
 abbrev pub items_step : List Data → Option Step
-items_step (p ∷ name ∷ arguments) = if_some (byte_of p) (λ p. if_some (as_str name) (λ name. if_some (act_of name arguments) (λ act. Some (record { p = p; act = act }))))
+items_step (p ∷ name ∷ arguments) =
+    if_some (byte_of p) (λ p. if_some (as_str name)
+    (λ name. if_some (act_of name arguments) (λ act. Some (record { p = p; act = act }))))
 items_step _ = None
 
 -- a step in a list
@@ -40,7 +42,8 @@ names_of (member name value rest) = name ∷ names_of rest
 
 -- one of the five members
 abbrev pub is_known : List ℕ → Bool
-is_known name = list_any (λ known. bytes_eq name known) (codes "cpus" ∷ codes "tlb" ∷ codes "frames" ∷ codes "copies" ∷ codes "steps" ∷ [])
+is_known name = list_any (λ known. bytes_eq name known) (codes "cpus" ∷ codes "tlb" ∷ codes "frames" ∷ codes "copies"
+    ∷ codes "steps" ∷ [])
 
 -- the first name that is none of them
 abbrev pub unknown_of : Members → Option (List ℕ)

@@ -2,11 +2,11 @@
 ghost use Rattle.std.specs.Prelude.{◌≡◌, map};
 ghost use Rattle.std.specs.Result.{result_ok};
 ghost use Rattle.serde_json.specs.View.{view};
-ghost use Rattle.famsync.specs.Acts.{load_of, store_of, switch_of, fix_of, map_of, msync_of, alone, act_of};
+ghost use Rattle.famsync.specs.Acts.{load_of, store_of, fill_of, evict_of, switch_of, fix_of, destroy_of, map_of, unmap_of, protect_of, reclaim_of, msync_of, alone, act_of};
 
-use crate::argument::{access, byte, bytes, keep, long, prot, short, write};
+use crate::argument::{access, byte, bytes, keep, long, page, prot, short, write};
 use crate::script::StepFault;
-use old_machine::Act;
+use machine::Act;
 use serde_json::Value;
 
 /// The act that has this name and these arguments in a script.
@@ -16,12 +16,22 @@ pub fn act(name: &str, arguments: &[Value]) -> Result<Act, StepFault>
     match name {
         "load" => load(arguments),
         "store" => store(arguments),
+        "fill" => fill(arguments),
+        "evict" => evict(arguments),
         "switch" => switch(arguments),
+        "idle" => without_arguments(arguments, "idle", Act::Idle),
+        "wake" => without_arguments(arguments, "wake", Act::Wake),
         "fix" => fix(arguments),
         "create" => without_arguments(arguments, "create", Act::Create),
+        "destroy" => destroy(arguments),
         "map" => map(arguments),
+        "unmap" => unmap(arguments),
+        "protect" => protect(arguments),
+        "reclaim" => reclaim(arguments),
         "msync" => msync(arguments),
+        "ack" => without_arguments(arguments, "ack", Act::Ack),
         "change" => without_arguments(arguments, "change", Act::Change),
+        "resume" => without_arguments(arguments, "resume", Act::Resume),
         "flush" => without_arguments(arguments, "flush", Act::Flush),
         _ => Err(StepFault::Name),
     }
@@ -52,6 +62,28 @@ fn store(arguments: &[Value]) -> Result<Act, StepFault>
     }
 }
 
+fn fill(arguments: &[Value]) -> Result<Act, StepFault>
+    ensures { result_ok result ≡ fill_of (map view arguments.now) }
+{
+    let [page] = arguments else {
+        return Err(wrong_arguments("fill", "a page"));
+    };
+    Ok(Act::Fill {
+        page: long(page, "the page")?,
+    })
+}
+
+fn evict(arguments: &[Value]) -> Result<Act, StepFault>
+    ensures { result_ok result ≡ evict_of (map view arguments.now) }
+{
+    let [slot] = arguments else {
+        return Err(wrong_arguments("evict", "a slot"));
+    };
+    Ok(Act::Evict {
+        slot: byte(slot, "the slot")?,
+    })
+}
+
 fn switch(arguments: &[Value]) -> Result<Act, StepFault>
     ensures { result_ok result ≡ switch_of (map view arguments.now) }
 {
@@ -76,6 +108,17 @@ fn fix(arguments: &[Value]) -> Result<Act, StepFault>
     })
 }
 
+fn destroy(arguments: &[Value]) -> Result<Act, StepFault>
+    ensures { result_ok result ≡ destroy_of (map view arguments.now) }
+{
+    let [space] = arguments else {
+        return Err(wrong_arguments("destroy", "a space"));
+    };
+    Ok(Act::Destroy {
+        space: short(space, "the space")?,
+    })
+}
+
 fn map(arguments: &[Value]) -> Result<Act, StepFault>
     ensures { result_ok result ≡ map_of (map view arguments.now) }
 {
@@ -96,6 +139,45 @@ fn map(arguments: &[Value]) -> Result<Act, StepFault>
     })
 }
 
+fn unmap(arguments: &[Value]) -> Result<Act, StepFault>
+    ensures { result_ok result ≡ unmap_of (map view arguments.now) }
+{
+    let [space, va, len] = arguments else {
+        return Err(wrong_arguments("unmap", "a space, an address and a length"));
+    };
+    Ok(Act::Unmap {
+        space: short(space, "the space")?,
+        va: long(va, "the address")?,
+        len: long(len, "the length")?,
+    })
+}
+
+fn protect(arguments: &[Value]) -> Result<Act, StepFault>
+    ensures { result_ok result ≡ protect_of (map view arguments.now) }
+{
+    let [space, va, len, rights] = arguments else {
+        return Err(wrong_arguments("protect", "a space, an address, a length and prot"));
+    };
+    Ok(Act::Protect {
+        space: short(space, "the space")?,
+        va: long(va, "the address")?,
+        len: long(len, "the length")?,
+        prot: prot(rights)?,
+    })
+}
+
+fn reclaim(arguments: &[Value]) -> Result<Act, StepFault>
+    ensures { result_ok result ≡ reclaim_of (map view arguments.now) }
+{
+    let [file, number] = arguments else {
+        return Err(wrong_arguments("reclaim", "a file and a page"));
+    };
+    Ok(Act::Reclaim {
+        file: short(file, "the file")?,
+        page: page(number, "the page")?,
+    })
+}
+
 fn msync(arguments: &[Value]) -> Result<Act, StepFault>
     ensures { result_ok result ≡ msync_of (map view arguments.now) }
 {
@@ -105,7 +187,7 @@ fn msync(arguments: &[Value]) -> Result<Act, StepFault>
     Ok(Act::Msync {
         va: long(va, "the address")?,
         len: long(len, "the length")?,
-        flags: byte(flags, "the flags")?,
+        flags: byte(flags, "flags")?,
     })
 }
 

@@ -2,11 +2,11 @@
 ghost use Rattle.std.specs.Prelude.{◌≡◌, map};
 ghost use Rattle.std.specs.Result.{result_ok};
 ghost use Rattle.serde_json.specs.View.{view};
-ghost use Rattle.famsync.specs.Arguments.{whole_number, byte_of, short_of, long_of, prot_of, access_of, keep_of, write_of, few_of, bytes_of};
+ghost use Rattle.famsync.specs.Arguments.{whole_number, byte_of, short_of, page_of, long_of, prot_of, access_of, keep_of, write_of, few_of, bytes_of};
 
 use crate::script::StepFault;
-use old_machine::FewBytes;
-use old_mappings::Rights;
+use machine::FewBytes;
+use mappings::Rights;
 use serde_json::Value;
 
 /// A whole number up to `most`, written without a sign, a point and an exponent. `what` names it in a fault.
@@ -31,6 +31,13 @@ pub fn short(value: &Value, what: &'static str) -> Result<u16, StepFault>
     ensures { result_ok result ≡ short_of (view value.now) }
 {
     Ok(number(value, 65_535, what)? as u16)
+}
+
+/// A whole number up to 2^32 - 1.
+pub fn page(value: &Value, what: &'static str) -> Result<u32, StepFault>
+    ensures { result_ok result ≡ page_of (view value.now) }
+{
+    Ok(number(value, 4_294_967_295, what)? as u32)
 }
 
 /// A whole number up to 2^64 - 1.

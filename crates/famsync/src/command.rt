@@ -1,7 +1,7 @@
 // The command line: what the words ask for.
 ghost use Rattle.std.specs.Prelude.{◌≡◌};
 
-use crate::fault::Fault;
+use crate::failure::Failure;
 use crate::words::{decimal, file_spec};
 use clap::error::ErrorKind;
 use clap::{Arg, ArgAction, ArgMatches, Command, Error};
@@ -37,7 +37,7 @@ pub fn read_words<'a, A: Allocator + Copy, S: AsStr>(
     global: Global,
     alloc: A,
     words: &'a [S],
-) -> Result<Job<'a, A>, Fault<'a>> {
+) -> Result<Job<'a, A>, Failure<'a>> {
     match program(global)?.try_get_matches_from(words) {
         Ok(matches) => job_of(alloc, &matches),
         Err(error) => no_job(global, &error),
@@ -47,7 +47,7 @@ pub fn read_words<'a, A: Allocator + Copy, S: AsStr>(
 fn job_of<'a, A: Allocator + Copy>(
     alloc: A,
     matches: &ArgMatches<'a>,
-) -> Result<Job<'a, A>, Fault<'a>> {
+) -> Result<Job<'a, A>, Failure<'a>> {
     match matches.subcommand() {
         Some(("format", words)) => format_job(alloc, words),
         Some(("run", words)) => Ok(Job::Run {
@@ -64,14 +64,14 @@ fn job_of<'a, A: Allocator + Copy>(
 fn format_job<'a, A: Allocator + Copy>(
     alloc: A,
     words: &ArgMatches<'a>,
-) -> Result<Job<'a, A>, Fault<'a>> {
+) -> Result<Job<'a, A>, Failure<'a>> {
     let layout = text(words, "layout");
-    let layout = decimal(layout).ok_or(Fault::Layout(layout))?;
+    let layout = decimal(layout).ok_or(Failure::Layout(layout))?;
     let slots = text(words, "SLOTS");
-    let slots = decimal(slots).ok_or(Fault::Slots(slots))?;
+    let slots = decimal(slots).ok_or(Failure::Slots(slots))?;
     let mut files = Vec::new(alloc);
     for word in words.get_strs("FILE").unwrap_or(&[]) {
-        files.push(file_spec(word).ok_or(Fault::FileSpec(word))?)?;
+        files.push(file_spec(word).ok_or(Failure::FileSpec(word))?)?;
     }
     Ok(Job::Format {
         layout,
@@ -149,13 +149,16 @@ fn word<'a>(alloc: Global, name: &'a str, help: &'a str) -> Arg<'a> {
 }
 
 // Help and the version are no faults.
-fn no_job<'a, A: Allocator + Copy>(global: Global, error: &Error) -> Result<Job<'a, A>, Fault<'a>> {
+fn no_job<'a, A: Allocator + Copy>(
+    global: Global,
+    error: &Error,
+) -> Result<Job<'a, A>, Failure<'a>> {
     match error.kind() {
-        ErrorKind::OutOfMemory => Err(Fault::Memory(AllocError)),
+        ErrorKind::OutOfMemory => Err(Failure::Memory(AllocError)),
         ErrorKind::DisplayHelp | ErrorKind::DisplayVersion => Ok(Job::Show(error.to_string(
             global,
         )?)),
-        _ => Err(Fault::CommandLine(first_paragraph(global, error)?)),
+        _ => Err(Failure::CommandLine(first_paragraph(global, error)?)),
     }
 }
 

@@ -1,6 +1,7 @@
 // Volumes in files: making one, and printing one.
+use crate::cause::{refused_to_format, refused_to_open};
 use crate::dump::write_files;
-use crate::fault::Fault;
+use crate::failure::Failure;
 use device::{FileDisk, MemDisk};
 use page_entry::PAGE;
 use std::alloc::Allocator;
@@ -10,25 +11,29 @@ use std::io::{Read, Write};
 use std::rt::Files;
 use volume_codec::FileSpec;
 
-/// Makes or replaces a file by a volume in the layout of this number, with these files, and says how many blocks it has.
+/// Makes or replaces a file by a volume in the layout of this number, with these files, and says how many blocks it
+/// has.
 pub fn format<'a, R, A, W>(
     rt: &R,
     alloc: A,
     path: &'a str,
     layout: u64,
-    files: &[FileSpec<'_>],
+    files: &[FileSpec<'a>],
     slots: u64,
     out: &mut W,
-) -> Result<(), Fault<'a>>
+) -> Result<(), Failure<'a>>
 where
     R: Files<File = File>,
     A: Allocator + Copy,
     W: Write,
 {
-    let refused = |cause| Fault::Disk { path, cause };
+    let refused = |refusal| Failure::Disk {
+        path,
+        cause: refused_to_format(refusal, layout, files, slots),
+    };
     let blocks = recovery::blocks_as(layout, files, slots).map_err(refused)?;
     let mut disk = FileDisk::create(rt, path, blocks.saturating_mul(PAGE)).map_err(
-        |cause| Fault::File { path, cause },
+        |cause| Failure::File { path, cause },
     )?;
     recovery::format_as(alloc, &mut disk, layout, files, slots).map_err(refused)?;
     writeln!(out, "formatted {blocks} blocks")?;
@@ -36,7 +41,7 @@ where
 }
 
 /// Prints the files of a volume, as it would be opened, and leaves its file as it is.
-pub fn dump<'a, R, A, W>(rt: &R, alloc: A, path: &'a str, out: &mut W) -> Result<(), Fault<'a>>
+pub fn dump<'a, R, A, W>(rt: &R, alloc: A, path: &'a str, out: &mut W) -> Result<(), Failure<'a>>
 where
     R: Files<File = File>,
     A: Allocator + Copy,
@@ -45,17 +50,20 @@ where
     let disk = MemDisk::from_bytes(alloc, read_file(rt, alloc, path)?)?;
     match recovery::open(alloc, disk) {
         Ok(mut volume) => write_files(path, &mut volume, out),
-        Err((cause, _)) => Err(Fault::Disk { path, cause }),
+        Err((refusal, mut disk)) => Err(Failure::Disk {
+            path,
+            cause: refused_to_open(alloc, refusal, &mut disk),
+        }),
     }
 }
 
 /// The bytes of a file.
-pub fn read_file<'a, R, A>(rt: &R, alloc: A, path: &'a str) -> Result<Vec<u8, A>, Fault<'a>>
+pub fn read_file<'a, R, A>(rt: &R, alloc: A, path: &'a str) -> Result<Vec<u8, A>, Failure<'a>>
 where
     R: Files<File = File>,
     A: Allocator + Copy,
 {
-    let refused = |cause| Fault::File { path, cause };
+    let refused = |cause| Failure::File { path, cause };
     let mut bytes = Vec::new(alloc);
     let mut file = File::open(rt, path).map_err(refused)?;
     file.read_to_end(&mut bytes).map_err(refused)?;

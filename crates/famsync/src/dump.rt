@@ -1,10 +1,15 @@
 // The dump of a volume: the name and length of each file, and its rows of 16 bytes in hexadecimal.
-ghost use Rattle.std.specs.Prelude.{◌≡◌, ◌<◌, length, slice_get, Some};
-ghost use Rattle.famsync.specs.Dump.{row_text};
+ghost use Rattle.std.specs.Prelude.{◌≡◌, ◌==◌, ◌+◌, ◌-◌, ◌*◌, ◌<◌, ◌≤◌, ℕ, length, min, slice_get, slice_index, slice_range, Some, OnOk};
+ghost use Rattle.std.specs.Io.KnownBytes.{Appends};
+ghost use Rattle.std.specs.List.{list_all};
+ghost use Rattle.volume_codec.specs.Files.{File};
+ghost use Rattle.recovery.specs.Volume.{files_of, bytes_of};
+ghost use Rattle.famsync.specs.Dump.{row_text, row_line, row_of, rows_before, row_count, file_text, dump_text, IsOnlyRead, AreFilesOf};
 
-use crate::fault::Fault;
+use crate::cause::{Cause, Refused};
+use crate::failure::Failure;
 use device::Device;
-use page_entry::PAGE;
+use page_entry::Refusal;
 use recovery::Volume;
 use std::alloc::Allocator;
 use std::{fmt, io};
@@ -31,59 +36,115 @@ impl fmt::Display for Row<'_> {
 }
 
 /// Bytes in a row.
-const ROW: usize = 16;
+const ROW: u64 = 16;
 
-/// Writes the rows of these bytes of a file, the first of which has this offset, a multiple of 16. Rows of zeros are left
-/// out.
-pub fn write_rows<W: io::Write>(out: &mut W, at: u64, bytes: &[u8]) -> io::Result<()> {
-    for (i, bytes) in bytes.chunks(ROW).enumerate() {
-        if bytes.iter().any(|byte| *byte != 0) {
-            let row = Row {
-                at: at.saturating_add((i * ROW) as u64),
-                bytes,
-            };
-            writeln!(out, "{row}")?;
-        }
+/// Writes a row, unless its bytes are all zero.
+pub fn write_row<W: io::Write>(out: &mut W, row: Row<'_>) -> io::Result<()>
+    ensures { OnOk result (Appends (W.contents out.old) (W.contents out.new)
+        (row_line row.entry.at row.entry.bytes.now)) }
+{
+    if is_blank(row.bytes) {
+        Ok(())
+    } else {
+        writeln!(out, "{row}")
     }
-    Ok(())
 }
 
-/// Writes the files of a volume, in the table's order: a line with the name and the length, and the rows that aren't all
-/// zeros. `path` names the disk in a fault.
+fn is_blank(bytes: &[u8]) -> bool
+    ensures { result ≡ list_all (λ byte. byte == 0) bytes.now }
+{
+    bytes.iter().all(|byte| *byte == 0)
+}
+
+/// Writes the files of a volume, in the table's order: a line with the name and the length, and the rows that aren't
+/// all zeros. `path` names the disk in a failure.
 pub fn write_files<'a, D: Device + Drop, A: Allocator + Copy, W: io::Write>(
     path: &'a str,
     volume: &mut Volume<D, A>,
     out: &mut W,
-) -> Result<(), Fault<'a>> {
+) -> Result<(), Failure<'a>>
+    ensures { D.is_honest volume.old.device → OnOk result (Appends (W.contents out.old) (W.contents out.new)
+        (dump_text (files_of volume.old.table (D.seen volume.old.device)))) }
+{
     for file in 0..volume.file_count() {
-        let length = volume.length(file);
-        let name = volume.name(file);
-        writeln!(out, "{name} {length}")?;
-        write_bytes(path, volume, file, length, out)?;
+        write_file(path, volume, file, out)?;
     }
     Ok(())
 }
 
-fn write_bytes<'a, D: Device + Drop, A: Allocator + Copy, W: io::Write>(
+// Writes one file.
+fn write_file<'a, D: Device + Drop, A: Allocator + Copy, W: io::Write>(
+    path: &'a str,
+    volume: &mut Volume<D, A>,
+    file: usize,
+    out: &mut W,
+) -> Result<(), Failure<'a>>
+    requires there { file < length volume.old.table.files }
+    requires files { D.is_honest volume.old.device → AreFilesOf volume.old (D.seen volume.old.device) }
+    ensures printed { D.is_honest volume.old.device → (f : File)
+        → slice_get (files_of volume.old.table (D.seen volume.old.device)) file ≡ Some f
+        → OnOk result (Appends (W.contents out.old) (W.contents out.new) (file_text f)) }
+    ensures read { IsOnlyRead D.Device volume.old volume.new }
+{
+    let bytes = volume.length(file);
+    let name = volume.name(file);
+    writeln!(out, "{name} {bytes}")?;
+    write_rows(path, volume, file, bytes, out)
+}
+
+// Writes the rows of a file of this length.
+fn write_rows<'a, D: Device + Drop, A: Allocator + Copy, W: io::Write>(
     path: &'a str,
     volume: &mut Volume<D, A>,
     file: usize,
     bytes: u64,
     out: &mut W,
-) -> Result<(), Fault<'a>>
+) -> Result<(), Failure<'a>>
     requires there { file < length volume.old.table.files }
     requires long { slice_get volume.old.lengths file ≡ Some bytes }
-    ensures table { volume.new.table ≡ volume.old.table }
-    ensures lengths { volume.new.lengths ≡ volume.old.lengths }
+    requires files { D.is_honest volume.old.device → AreFilesOf volume.old (D.seen volume.old.device) }
+    ensures printed { D.is_honest volume.old.device → OnOk result (Appends (W.contents out.old) (W.contents out.new)
+        (rows_before (bytes_of (files_of volume.old.table (D.seen volume.old.device)) file) (row_count bytes))) }
+    ensures read { IsOnlyRead D.Device volume.old volume.new }
 {
-    let mut buffer = [0; PAGE as usize];
-    for page in 0..bytes.div_ceil(PAGE) {
-        let at = page * PAGE;
-        let part = &mut buffer[..(bytes - at).min(PAGE) as usize];
-        volume
-            .read_file(file, at, part)
-            .map_err(|cause| Fault::Disk { path, cause })?;
-        write_rows(out, at, part)?;
+    for row in 0..bytes.div_ceil(ROW) {
+        let at = ROW * row;
+        let mut buffer = [0; ROW as usize];
+        let part = &mut buffer[..(bytes - at).min(ROW) as usize];
+        if let Err(refusal) = read_row(volume, file, bytes, row, part) {
+            return Err(unreadable(path, refusal));
+        }
+        write_row(out, Row { at, bytes: part })?;
     }
     Ok(())
+}
+
+// Reads a row of a file of this length.
+fn read_row<D: Device + Drop, A: Allocator + Copy>(
+    volume: &mut Volume<D, A>,
+    file: usize,
+    bytes: u64,
+    row: u64,
+    part: &mut [u8],
+) -> Result<(), Refusal>
+    requires there { file < length volume.old.table.files }
+    requires long { slice_get volume.old.lengths file ≡ Some bytes }
+    requires within { 16 * row < bytes }
+    requires room { length part.old ≡ min (bytes - 16 * row) 16 }
+    requires files { D.is_honest volume.old.device → AreFilesOf volume.old (D.seen volume.old.device) }
+    ensures row { D.is_honest volume.old.device → OnOk result
+        (part.new ≡ row_of (bytes_of (files_of volume.old.table (D.seen volume.old.device)) file) row) }
+    ensures read { IsOnlyRead D.Device volume.old volume.new }
+{
+    volume.read_file(file, ROW * row, part)
+}
+
+fn unreadable(path: &str, refusal: Refusal) -> Failure<'_> {
+    Failure::Disk {
+        path,
+        cause: Refused {
+            refusal,
+            cause: Some(Cause::Call),
+        },
+    }
 }

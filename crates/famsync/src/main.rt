@@ -3,11 +3,13 @@
 
 mod act;
 mod argument;
+mod cause;
 mod command;
 mod disk;
 mod dump;
-mod fault;
+mod failure;
 mod perform;
+mod printer;
 mod run;
 mod script;
 mod session;
@@ -24,9 +26,9 @@ use std::{env, io};
 fn main(rt: HostRuntime) -> ExitCode {
     match started(&rt) {
         Ok(status) => ExitCode::from(status),
-        Err(fault) => {
-            let _ = eprintln!(rt; "famsync: {fault}");
-            match fault.kind() {
+        Err(failure) => {
+            let _ = eprintln!(rt; "famsync: {failure}");
+            match failure.kind() {
                 ErrorKind::InvalidData => ExitCode::from(2),
                 _ => ExitCode::from(3),
             }
@@ -34,7 +36,7 @@ fn main(rt: HostRuntime) -> ExitCode {
     }
 }
 
-// A word that isn't UTF-8 is invalid data, and want of memory is the only other fault.
+// A word that isn't UTF-8 is invalid data, and that memory was refused is the only other failure.
 fn started(rt: &HostRuntime) -> io::Result<u8> {
     let alloc = rt.alloc();
     let words: Vec<String> = env::args(rt)?.collect(alloc)?;

@@ -3,7 +3,7 @@ ghost use Rattle.std.specs.Prelude.{◌≤◌};
 
 use crate::command::{Job, read_words};
 use crate::disk;
-use crate::fault::Fault;
+use crate::failure::Failure;
 use crate::run::run;
 use std::alloc::Allocator;
 use std::convert::AsStr;
@@ -11,12 +11,12 @@ use std::fs::File;
 use std::io;
 use std::rt::Files;
 
-/// Does what the words ask for, of which the first is the program's name. What it prints goes to `out`, and where something
-/// is wrong, one line to `err`.
+/// Does what the words ask for, of which the first is the program's name. What it prints goes to `out`, and where
+/// something is wrong, one line to `err`.
 ///
-/// The status is 0; 1 where a script is refused; 2 where the words aren't of the forms that the help shows; and 3 where a
-/// volume or a machine is refused, a step is answered that the device failed, a file can't be made, opened or read, `out`
-/// can't be written, or memory is refused. Where the status is 1 or 2, no file was changed.
+/// The status is 0; 1 where a script is refused; 2 where the words aren't of the forms that the help shows; and 3 where
+/// a volume or a machine is refused, a step is answered that the device failed, a file can't be made, opened or read,
+/// `out` can't be written, or memory is refused. Where the status is 1 or 2, no file was changed.
 pub fn perform<R, A, S, O, E>(rt: &R, alloc: A, words: &[S], out: &mut O, err: &mut E) -> u8
 where
     R: Files<File = File> + AllocGlobal,
@@ -28,22 +28,22 @@ where
 {
     match obey_and_flush(rt, alloc, words, out) {
         Ok(()) => 0,
-        Err(fault) => {
+        Err(failure) => {
             // Where this can't be written either, the status is all that is left to say.
-            let _ = writeln!(err, "famsync: {fault}");
+            let _ = writeln!(err, "famsync: {failure}");
             let _ = err.flush();
-            fault.status()
+            failure.status()
         }
     }
 }
 
-// What was printed comes out also where there is a fault.
+// What was printed comes out also where there is a failure.
 fn obey_and_flush<'a, R, A, S, O>(
     rt: &R,
     alloc: A,
     words: &'a [S],
     out: &mut O,
-) -> Result<(), Fault<'a>>
+) -> Result<(), Failure<'a>>
 where
     R: Files<File = File> + AllocGlobal,
     A: Allocator + Copy,
@@ -56,7 +56,7 @@ where
     Ok(flushed?)
 }
 
-fn obey<'a, R, A, S, O>(rt: &R, alloc: A, words: &'a [S], out: &mut O) -> Result<(), Fault<'a>>
+fn obey<'a, R, A, S, O>(rt: &R, alloc: A, words: &'a [S], out: &mut O) -> Result<(), Failure<'a>>
 where
     R: Files<File = File> + AllocGlobal,
     A: Allocator + Copy,

@@ -1,56 +1,46 @@
 // Running a script on the volume in a file.
-ghost use Rattle.std.specs.Prelude.{◌≡◌, position};
-ghost use Rattle.famsync.specs.Replies.{tells_failure};
+ghost use Rattle.std.specs.Prelude.{◌↔◌, IsOk, IfErr, IsNone, IfSome};
+ghost use Rattle.famsync.specs.Failure.{IsFailedStep};
 
+use crate::cause::refused_to_run;
 use crate::disk::read_file;
-use crate::fault::Fault;
+use crate::failure::Failure;
+use crate::printer::Printer;
 use crate::script::{Script, ScriptFault};
-use crate::session::run_steps;
-use device::{Device, FileDisk};
-use old_machine::Reply;
-use page_entry::Refusal;
+use crate::session::run_script;
+use device::FileDisk;
 use std::alloc::Allocator;
 use std::fs::File;
 use std::io;
 use std::rt::Files;
 
-/// Runs a script on the volume in a file, and prints a reply for each step. The script is read whole before the disk is
-/// opened; `path` and `script` are the names of the two files.
+/// Runs a script on the volume in a file, and prints the reply of each step before the next one is made. The script is
+/// read whole before the disk is opened; `path` and `script` are the names of the two files.
 pub fn run<'a, R, A, W>(
     rt: &R,
     alloc: A,
     path: &'a str,
     script: &'a str,
     out: &mut W,
-) -> Result<(), Fault<'a>>
+) -> Result<(), Failure<'a>>
 where
     R: Files<File = File> + AllocGlobal,
     A: Allocator + Copy,
     W: io::Write,
 {
-    let Script { shape, steps } = read_script(rt, alloc, script)?;
-    let mut replies = vec![in alloc; Reply::Nothing; steps.len()]?;
-    let disk = FileDisk::open(rt, path).map_err(|cause| Fault::File { path, cause })?;
-    match run_steps(alloc, disk, shape, &steps, &mut replies) {
-        Ok(_) => write_replies(script, &replies, out),
-        Err((Refusal::NotAVolume, disk)) => Err(Fault::Disk {
+    let steps = read_script(rt, alloc, script)?;
+    let disk = FileDisk::open(rt, path).map_err(|cause| Failure::File { path, cause })?;
+    let mut printer = Printer::new(out);
+    match run_script(alloc, disk, &steps, &mut printer) {
+        Ok(_) => outcome(script, printer),
+        Err((refusal, mut disk)) => Err(Failure::Disk {
             path,
-            cause: refusal_of_other_layout(alloc, disk),
+            cause: refused_to_run(alloc, refusal, &mut disk, steps.shape),
         }),
-        Err((cause, _)) => Err(Fault::Disk { path, cause }),
     }
 }
 
-// Why there is no run on a device that is no volume of layout 1: no machine has a volume of another layout yet. Such a volume
-// is opened.
-fn refusal_of_other_layout<D: Device + Drop, A: Allocator + Copy>(alloc: A, disk: D) -> Refusal {
-    match recovery::open(alloc, disk) {
-        Ok(_) => Refusal::BadShape,
-        Err((cause, _)) => cause,
-    }
-}
-
-fn read_script<'a, R, A>(rt: &R, alloc: A, path: &'a str) -> Result<Script<A>, Fault<'a>>
+fn read_script<'a, R, A>(rt: &R, alloc: A, path: &'a str) -> Result<Script<A>, Failure<'a>>
 where
     R: Files<File = File> + AllocGlobal,
     A: Allocator + Copy,
@@ -58,38 +48,25 @@ where
     let text = read_file(rt, alloc, path)?;
     match Script::read(rt.alloc(), alloc, &text) {
         Ok(script) => Ok(script),
-        Err(ScriptFault::Memory(cause)) => Err(Fault::Memory(cause)),
-        Err(cause) => Err(Fault::Script { path, cause }),
+        Err(ScriptFault::Memory(cause)) => Err(Failure::Memory(cause)),
+        Err(cause) => Err(Failure::Script { path, cause }),
     }
 }
 
-/// Writes each reply on a line of its own, all of them. The first that says that the device failed is the fault then.
-pub fn write_replies<'a, W: io::Write>(
-    path: &'a str,
-    replies: &[Reply],
-    out: &mut W,
-) -> Result<(), Fault<'a>> {
-    for reply in replies {
-        writeln!(out, "{reply}")?;
-    }
-    match first_failure(replies) {
-        Some(index) => Err(Fault::Step {
-            path,
-            step: index as u64 + 1,
-        }),
-        None => Ok(()),
-    }
-}
-
-// The first reply that says that the device failed.
-fn first_failure(replies: &[Reply]) -> Option<usize>
-    ensures { result ≡ position tells_failure replies.now }
+// How a run ended that was printed: the output failed, a step was answered that the device failed, or neither.
+fn outcome<W: io::Write + Drop>(path: &str, printer: Printer<W>) -> Result<(), Failure<'_>>
+    ensures ok { IsOk result ↔ (IsNone printer.fault × IsNone printer.failure) }
+    ensures failed { IfErr result (λ failure. IsNone printer.fault → IfSome printer.failure (IsFailedStep failure)) }
 {
-    replies.iter().position(|reply| is_failure(*reply))
-}
-
-fn is_failure(reply: Reply) -> bool
-    ensures { result ≡ tells_failure reply }
-{
-    matches!(reply, Reply::Refused(Refusal::Device))
+    let Printer {
+        out: _,
+        count: _,
+        failure,
+        fault,
+    } = printer;
+    match (fault, failure) {
+        (Some(fault), _) => Err(Failure::Output(fault)),
+        (None, Some(step)) => Err(Failure::Step { path, step }),
+        (None, None) => Ok(()),
+    }
 }

@@ -9,7 +9,7 @@ ghost use Rattle.famsync.specs.ScriptFault.{IsMemory};
 
 use crate::argument::long;
 use crate::step::steps;
-use old_machine::{Shape, Step};
+use machine::{Shape, Step};
 use serde_json::{Category, Map, Value};
 use std::alloc::{AllocError, Allocator, Global};
 use std::str;
@@ -40,12 +40,12 @@ impl<A: Allocator + Copy> Script<A> {
     {
         let members = value.as_object().ok_or(ScriptFault::NotAnObject)?;
         only_known(global, members)?;
-        let shape = shape(value)?;
+        let shape = shape(global, value)?;
         let list = value.get("steps").ok_or(ScriptFault::Missing("steps"))?;
         let list = list.as_array().ok_or(ScriptFault::Steps)?;
         Ok(Script {
             shape,
-            steps: steps(alloc, list)?,
+            steps: steps(global, alloc, list)?,
         })
     }
 }
@@ -76,7 +76,8 @@ fn only_known(global: Global, members: &Map<String, Value>) -> Result<(), Script
 
 // The first name that no member of a script has.
 fn unknown_name(members: &Map<String, Value>) -> Option<&String>
-    ensures { option_map (λ name. name.now) result ≡ find (λ name. not (is_known (string_bytes name))) (keys members.now) }
+    ensures { option_map (λ name. name.now) result
+        ≡ find (λ name. not (is_known (string_bytes name))) (keys members.now) }
 {
     members.keys().find(|name| !is_known_name(name.as_str()))
 }
@@ -94,22 +95,46 @@ fn is_known_name(name: &str) -> bool
     matches!(name, "cpus" | "tlb" | "frames" | "copies" | "steps")
 }
 
-fn shape(value: &Value) -> Result<Shape, ScriptFault>
+fn shape(global: Global, value: &Value) -> Result<Shape, ScriptFault>
     ensures { result_ok result ≡ shape_of (view value.now) }
 {
     Ok(Shape {
-        cpus: size(value, "cpus")?,
-        tlb: size(value, "tlb")?,
-        frames: size(value, "frames")?,
-        copies: size(value, "copies")?,
+        cpus: size(global, value, "cpus")?,
+        tlb: size(global, value, "tlb")?,
+        frames: size(global, value, "frames")?,
+        copies: size(global, value, "copies")?,
     })
 }
 
-fn size(value: &Value, name: &'static str) -> Result<u64, ScriptFault>
+fn size(global: Global, value: &Value, name: &'static str) -> Result<u64, ScriptFault>
     ensures { result_ok result ≡ size_of name.entry.now (view value.now) }
 {
     let member = value.get(name).ok_or(ScriptFault::Missing(name))?;
-    long(member, name).map_err(|_| ScriptFault::Number(name))
+    match long(member, name) {
+        Ok(number) => Ok(number),
+        Err(_) => Err(no_number(global, name, member)),
+    }
+}
+
+fn no_number(global: Global, name: &'static str, member: &Value) -> ScriptFault {
+    match shown(global, member) {
+        Ok(found) => ScriptFault::Number { name, found },
+        Err(fault) => ScriptFault::Memory(fault),
+    }
+}
+
+/// A value as it stands in a script, on one line and without what goes past 60 characters.
+pub fn shown(global: Global, value: &Value) -> Result<String, AllocError> {
+    let whole = value.to_string(global)?;
+    let mut text = String::new(global);
+    for (i, letter) in whole.as_str().chars().enumerate() {
+        if i == 60 {
+            text.push_str("...")?;
+            break;
+        }
+        text.push(letter)?;
+    }
+    Ok(text)
 }
 
 /// Why a script is refused.
@@ -121,16 +146,23 @@ pub enum ScriptFault {
     NotJson(serde_json::Error),
     #[error("it isn't an object")]
     NotAnObject,
-    #[error("the member {0:?} isn't there")]
+    #[error("the member {0:?} isn't there, and cpus, tlb, frames, copies and steps have to be")]
     Missing(&'static str),
-    #[error("no member is called {0:?}")]
+    #[error("it has a member {0:?}, and cpus, tlb, frames, copies and steps are allowed")]
     Unknown(String),
-    #[error("the member {0:?} isn't a whole number up to 2^64 - 1")]
-    Number(&'static str),
+    #[error("the member {name:?} is {found}, which isn't a whole number up to 2^64 - 1")]
+    Number {
+        name: &'static str,
+        found: String,
+    },
     #[error("the member \"steps\" isn't a list")]
     Steps,
-    #[error("step {number}: {cause}")]
-    Step { number: u64, cause: StepFault },
+    #[error("step {number}, {found}: {cause}")]
+    Step {
+        number: u64,
+        found: String,
+        cause: StepFault,
+    },
     #[error("out of memory")]
     Memory(#[from(alloc)] AllocError),
 }

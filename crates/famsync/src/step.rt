@@ -8,14 +8,18 @@ ghost use Rattle.famsync.specs.ScriptFault.{IsMemory};
 
 use crate::act::act;
 use crate::argument::byte;
-use crate::script::{ScriptFault, StepFault};
-use old_machine::Step;
+use crate::script::{ScriptFault, StepFault, shown};
+use machine::Step;
 use serde_json::Value;
-use std::alloc::{AllocError, Allocator};
+use std::alloc::{AllocError, Allocator, Global};
 
 /// All steps of a list, in order. A fault says which is refused first, counted from 1.
 #[tactic(auto, using(crate::proofs::AllOf::all_of_next, crate::proofs::AllOf::all_of_fails))]
-pub fn steps<A: Allocator + Copy>(alloc: A, values: &[Value]) -> Result<Vec<Step, A>, ScriptFault>
+pub fn steps<A: Allocator + Copy>(
+    global: Global,
+    alloc: A,
+    values: &[Value],
+) -> Result<Vec<Step, A>, ScriptFault>
     ensures ok { IfOk result (λ steps. all_of step_of (map view values.now) ≡ Some steps.items) }
     ensures err { IfErr result (λ fault. IsMemory fault ⊎ (all_of step_of (map view values.now) ≡ None)) }
 {
@@ -23,18 +27,25 @@ pub fn steps<A: Allocator + Copy>(alloc: A, values: &[Value]) -> Result<Vec<Step
     for (i, value) in values.iter().enumerate() {
         let step = match step(value) {
             Ok(step) => step,
-            Err(cause) => {
-                return Err(ScriptFault::Step {
-                    number: i as u64 + 1,
-                    cause,
-                });
-            }
+            Err(cause) => return Err(refused_step(global, i as u64 + 1, value, cause)),
         };
         if steps.push(step).is_err() {
             return Err(ScriptFault::Memory(AllocError));
         }
     }
     Ok(steps)
+}
+
+// The step of this number is refused, as it stands in the script.
+fn refused_step(global: Global, number: u64, value: &Value, cause: StepFault) -> ScriptFault {
+    match shown(global, value) {
+        Ok(found) => ScriptFault::Step {
+            number,
+            found,
+            cause,
+        },
+        Err(fault) => ScriptFault::Memory(fault),
+    }
 }
 
 #[tactic(auto, using(crate::proofs::AllOf::list_of_items))]

@@ -1,6 +1,7 @@
 // The program, on files of its own: what it prints, its statuses, and what it leaves in the files.
 use crate::perform::perform;
 use std::alloc::{AllocError, Global};
+use std::io::BufWriter;
 use std::test::Fail;
 use std::{fs, io, str};
 
@@ -189,7 +190,7 @@ fn odd_scripts_are_read(rt: HostRuntime) -> Result<(), Fail> {
     Ok(())
 }
 
-// Steps that aren't in the grammar of scripts, and what is said of each.
+// Steps that aren't in the grammar of scripts, and what is said of each after the step itself.
 #[test]
 fn steps_are_refused(rt: HostRuntime) -> Result<(), Fail> {
     let disk = "refused_steps.img";
@@ -197,36 +198,27 @@ fn steps_are_refused(rt: HostRuntime) -> Result<(), Fail> {
     let form = "it isn't a list of a processor, the name of an act, and arguments";
     let name = "no act has this name";
     let bytes = "the bytes aren't a list of at most 8 whole numbers up to 255";
+    let processor = "the processor isn't a whole number up to 255";
+    let address = "the address isn't a whole number up to 18446744073709551615";
+    let space = "the space isn't a whole number up to 65535";
+    let file = "the file isn't a whole number up to 65535";
+    let prot = "prot isn't one of \"r\", \"w\" and \"rw\"";
     for (step, cause) in [
         ("7", form),
         ("[]", form),
         ("[0]", form),
         ("[0,5]", form),
         ("{}", form),
-        (
-            r#"[256,"flush"]"#,
-            "the processor isn't a whole number up to 255",
-        ),
-        (
-            r#"["0","flush"]"#,
-            "the processor isn't a whole number up to 255",
-        ),
-        (
-            r#"[0.0,"flush"]"#,
-            "the processor isn't a whole number up to 255",
-        ),
-        (r#"[0,"fill",1]"#, name),
-        (r#"[0,"evict",0]"#, name),
-        (r#"[0,"idle"]"#, name),
-        (r#"[0,"wake"]"#, name),
-        (r#"[0,"destroy",1]"#, name),
-        (r#"[0,"unmap",1,4096,4096]"#, name),
-        (r#"[0,"protect",1,4096,4096,"r"]"#, name),
-        (r#"[0,"reclaim",0,0]"#, name),
-        (r#"[0,"ack"]"#, name),
-        (r#"[0,"resume"]"#, name),
+        (r#"[256,"idle"]"#, processor),
+        (r#"["0","flush"]"#, processor),
+        (r#"[0.0,"flush"]"#, processor),
         (r#"[0,"Flush"]"#, name),
         (r#"[0,""]"#, name),
+        (r#"[0,"setlength",0,1]"#, name),
+        (r#"[0,"idle",1]"#, "idle has the arguments none"),
+        (r#"[0,"wake",1]"#, "wake has the arguments none"),
+        (r#"[0,"ack",1]"#, "ack has the arguments none"),
+        (r#"[0,"resume",1]"#, "resume has the arguments none"),
         (r#"[0,"flush",1]"#, "flush has the arguments none"),
         (r#"[0,"create",null]"#, "create has the arguments none"),
         (r#"[0,"change",[]]"#, "change has the arguments none"),
@@ -242,34 +234,23 @@ fn steps_are_refused(rt: HostRuntime) -> Result<(), Fail> {
             r#"[0,"load",4096,256]"#,
             "the count isn't a whole number up to 255",
         ),
-        (
-            r#"[0,"load",4096.0,1]"#,
-            "the address isn't a whole number up to 18446744073709551615",
-        ),
-        (
-            r#"[0,"load",1e3,1]"#,
-            "the address isn't a whole number up to 18446744073709551615",
-        ),
-        (
-            r#"[0,"load",-1,1]"#,
-            "the address isn't a whole number up to 18446744073709551615",
-        ),
-        (
-            r#"[0,"load",-0,1]"#,
-            "the address isn't a whole number up to 18446744073709551615",
-        ),
-        (
-            r#"[0,"load",18446744073709551616,1]"#,
-            "the address isn't a whole number up to 18446744073709551615",
-        ),
+        (r#"[0,"load",4096.0,1]"#, address),
+        (r#"[0,"load",-1,1]"#, address),
         (r#"[0,"store",4096,65]"#, bytes),
         (r#"[0,"store",4096,[256]]"#, bytes),
         (r#"[0,"store",4096,["A"]]"#, bytes),
         (r#"[0,"store",4096,[1,2,3,4,5,6,7,8,9]]"#, bytes),
+        (r#"[0,"fill"]"#, "fill has the arguments a page"),
         (
-            r#"[0,"switch",65536,"keep"]"#,
-            "the space isn't a whole number up to 65535",
+            r#"[0,"fill",-1]"#,
+            "the page isn't a whole number up to 18446744073709551615",
         ),
+        (
+            r#"[0,"evict",256]"#,
+            "the slot isn't a whole number up to 255",
+        ),
+        (r#"[0,"destroy",65536]"#, space),
+        (r#"[0,"switch",65536,"keep"]"#, space),
         (
             r#"[0,"switch",1,"Keep"]"#,
             "the second argument isn't one of \"keep\" and \"drop\"",
@@ -282,51 +263,68 @@ fn steps_are_refused(rt: HostRuntime) -> Result<(), Fail> {
             r#"[0,"fix",4096,"rw"]"#,
             "the second argument isn't one of \"read\" and \"write\"",
         ),
-        (
-            r#"[0,"map",65536,4096,4096,0,0,"r","r"]"#,
-            "the space isn't a whole number up to 65535",
-        ),
-        (
-            r#"[0,"map",1,4096,4096,65536,0,"r","r"]"#,
-            "the file isn't a whole number up to 65535",
-        ),
-        (
-            r#"[0,"map",1,4096,4096,0,0,"x","r"]"#,
-            "prot isn't one of \"r\", \"w\" and \"rw\"",
-        ),
+        (r#"[0,"map",65536,4096,4096,0,0,"r","r"]"#, space),
+        (r#"[0,"map",1,4096,4096,65536,0,"r","r"]"#, file),
+        (r#"[0,"map",1,4096,4096,0,0,"x","r"]"#, prot),
         (
             r#"[0,"map",1,4096,4096,0,0,"r","w"]"#,
             "open isn't one of \"r\" and \"rw\"",
         ),
         (
+            r#"[0,"unmap",1,4096]"#,
+            "unmap has the arguments a space, an address and a length",
+        ),
+        (r#"[0,"protect",1,4096,4096,"rwx"]"#, prot),
+        (r#"[0,"reclaim",65536,0]"#, file),
+        (
+            r#"[0,"reclaim",0,4294967296]"#,
+            "the page isn't a whole number up to 4294967295",
+        ),
+        (
             r#"[0,"msync",4096,4096,256]"#,
-            "the flags isn't a whole number up to 255",
+            "flags isn't a whole number up to 255",
         ),
     ] {
-        // The fault is in the second step of two.
-        let steps = format!(in rt.alloc(); "[0,\"create\"],{step}")?;
-        fs::write(
-            &rt,
-            "refused_steps.json",
-            script(rt.alloc(), steps.as_str())?,
-        )?;
-        let err = format!(in rt.alloc();
-            "famsync: script \"refused_steps.json\": step 2: {cause}\n"
-        )?;
-        assert!(rt;
-            prints(
-                &rt,
-                "run|refused_steps.img|refused_steps.json",
-                1,
-                "",
-                err.as_str()
-            )?,
-            "{step}"
-        );
-        assert!(rt; holds(&rt, disk, b"not touched")?);
+        assert!(rt; refuses_step(&rt, step, step, cause)?, "{step}");
     }
+    // As it is told a number has its value, and a step ends after 60 characters.
+    for (step, found, cause) in [
+        (r#"[0,"load",1e3,1]"#, r#"[0,"load",1000.0,1]"#, address),
+        (r#"[0,"load",-0,1]"#, r#"[0,"load",-0.0,1]"#, address),
+        (
+            r#"[0,"load",18446744073709551616,1]"#,
+            r#"[0,"load",1.8446744073709552e+19,1]"#,
+            address,
+        ),
+        (r#"[0, "a\nb"]"#, r#"[0,"a\nb"]"#, name),
+        (
+            r#"[0,"store",4096,[1,2,3,4,5,6,7,8,9,10,11,12,13,14,15,16,17,18,19,20]]"#,
+            r#"[0,"store",4096,[1,2,3,4,5,6,7,8,9,10,11,12,13,14,15,16,17,1..."#,
+            bytes,
+        ),
+    ] {
+        assert!(rt; refuses_step(&rt, step, found, cause)?, "{step}");
+    }
+    assert!(rt; holds(&rt, disk, b"not touched")?);
     remove(&rt, &["refused_steps.img", "refused_steps.json"])?;
     Ok(())
+}
+
+// Whether a script is refused whose second step of two is this, and this is said of it.
+fn refuses_step(rt: &HostRuntime, step: &str, found: &str, cause: &str) -> io::Result<bool> {
+    let alloc = rt.alloc();
+    let steps = format!(in alloc; "[0,\"create\"],{step}")?;
+    fs::write(rt, "refused_steps.json", script(alloc, steps.as_str())?)?;
+    let err = format!(in alloc;
+        "famsync: script \"refused_steps.json\": step 2, {found}: {cause}\n"
+    )?;
+    prints(
+        rt,
+        "run|refused_steps.img|refused_steps.json",
+        1,
+        "",
+        err.as_str(),
+    )
 }
 
 // Whole scripts that are refused, and what is said of each. The script is judged before the disk, which isn't there.
@@ -340,18 +338,21 @@ fn scripts_are_refused(rt: HostRuntime) -> Result<(), Fail> {
             "it isn't JSON: ",
         ),
         ("[]", "it isn't an object\n"),
-        ("{}", "the member \"cpus\" isn't there\n"),
+        (
+            "{}",
+            "the member \"cpus\" isn't there, and cpus, tlb, frames, copies and steps have to be\n",
+        ),
         (
             r#"{"cpus":1,"tlb":8,"frames":4,"copies":0}"#,
-            "the member \"steps\" isn't there\n",
+            "the member \"steps\" isn't there, and cpus, tlb, frames, copies and steps have to be\n",
         ),
         (
             r#"{"cpus":1,"tlb":8,"frames":4,"steps":[]}"#,
-            "the member \"copies\" isn't there\n",
+            "the member \"copies\" isn't there, and cpus, tlb, frames, copies and steps have to be\n",
         ),
         (
             r#"{"cpus":1,"tlb":8,"frames":4,"copies":0,"steps":[],"trace":3}"#,
-            "no member is called \"trace\"\n",
+            "it has a member \"trace\", and cpus, tlb, frames, copies and steps are allowed\n",
         ),
         (
             r#"{"cpus":1,"tlb":8,"frames":4,"copies":0,"steps":{}}"#,
@@ -359,23 +360,23 @@ fn scripts_are_refused(rt: HostRuntime) -> Result<(), Fail> {
         ),
         (
             r#"{"cpus":1.0,"tlb":8,"frames":4,"copies":0,"steps":[]}"#,
-            "the member \"cpus\" isn't a whole number up to 2^64 - 1\n",
+            "the member \"cpus\" is 1.0, which isn't a whole number up to 2^64 - 1\n",
         ),
         (
             r#"{"cpus":1,"tlb":8e0,"frames":4,"copies":0,"steps":[]}"#,
-            "the member \"tlb\" isn't a whole number up to 2^64 - 1\n",
+            "the member \"tlb\" is 8.0, which isn't a whole number up to 2^64 - 1\n",
         ),
         (
             r#"{"cpus":1,"tlb":8,"frames":-4,"copies":0,"steps":[]}"#,
-            "the member \"frames\" isn't a whole number up to 2^64 - 1\n",
+            "the member \"frames\" is -4, which isn't a whole number up to 2^64 - 1\n",
         ),
         (
             r#"{"cpus":1,"tlb":8,"frames":4,"copies":18446744073709551616,"steps":[]}"#,
-            "the member \"copies\" isn't a whole number up to 2^64 - 1\n",
+            "the member \"copies\" is 1.8446744073709552e",
         ),
         (
             r#"{"cpus":1,"cpus":"1","tlb":8,"frames":4,"copies":0,"steps":[]}"#,
-            "the member \"cpus\" isn't a whole number up to 2^64 - 1\n",
+            "the member \"cpus\" is \"1\", which isn't a whole number up to 2^64 - 1\n",
         ),
     ] {
         let said = format!(in rt.alloc(); "script \"refused.json\": {cause}")?;
@@ -451,52 +452,139 @@ fn bad_words_are_refused(rt: HostRuntime) -> Result<(), Fail> {
     Ok(())
 }
 
-// What ends with status 3, and what is said first of each.
+// What ends with status 3, and what is said of each. No file is made, and the disk isn't changed.
 #[test]
 fn faults_are_told(rt: HostRuntime) -> Result<(), Fail> {
-    fs::write(
-        &rt,
-        "shape.json",
-        r#"{"cpus":2,"tlb":8,"frames":4,"copies":0,"steps":[]}"#,
-    )?;
-    let _made = famsync(&rt, "format|shape.img|4|a=5000|b=4096")?;
+    let _made = famsync(&rt, "format|fault.img|4|a=5000|b=4096")?;
+    fs::write(&rt, "fault.json", script(rt.alloc(), "")?)?;
     for (line, cause) in [
-        ("format|fault.img|0|a=1", "disk \"fault.img\": badshape"),
-        ("format|fault.img|1021|a=1", "disk \"fault.img\": badshape"),
-        ("format|fault.img|4|a=0", "disk \"fault.img\": badshape"),
-        ("format|fault.img|4|=1", "disk \"fault.img\": badshape"),
-        ("format|fault.img|4|a=1|a=2", "disk \"fault.img\": badshape"),
-        ("format|fault.img|4|a b=1", "disk \"fault.img\": badshape"),
         (
-            "format|fault.img|4|abcdefghijklmnopqrstuvwxyz1234567=1",
-            "disk \"fault.img\": badshape",
+            "format|none.img|0|a=1",
+            "disk \"none.img\": badshape: SLOTS is 0, and 1 to 1020 are allowed\n",
         ),
         (
-            "format|fault.img|4|a=18446744073709551615",
-            "disk \"fault.img\": badshape",
+            "format|none.img|1021|a=1",
+            "disk \"none.img\": badshape: SLOTS is 1021, and 1 to 1020 are allowed\n",
         ),
         (
-            "format|--layout|3|fault.img|4|a=1",
-            "disk \"fault.img\": badshape",
+            "format|none.img|4|a=0",
+            "disk \"none.img\": badshape: the length of \"a\" is 0, and lengths begin at 1\n",
         ),
         (
-            "format|--layout=0|fault.img|4|a=1",
-            "disk \"fault.img\": badshape",
+            "format|none.img|4|=1",
+            "disk \"none.img\": badshape: the name \"\" isn't 1 to 32 characters from ! to ~\n",
+        ),
+        (
+            "format|none.img|4|a=1|a=2",
+            "disk \"none.img\": badshape: two files have the name \"a\"\n",
+        ),
+        (
+            "format|none.img|4|a b=1",
+            "disk \"none.img\": badshape: the name \"a b\" isn't 1 to 32 characters from ! to ~\n",
+        ),
+        (
+            "format|none.img|4|abcdefghijklmnopqrstuvwxyz1234567=1",
+            "disk \"none.img\": badshape: the name \"abcdefghijklmnopqrstuvwxyz1234567\" isn't 1 to 32 characters from ! to ~\n",
+        ),
+        (
+            "format|none.img|4|a=18446744073709551615",
+            "disk \"none.img\": badshape: the volume would have more than 4294967295 blocks\n",
+        ),
+        (
+            "format|--layout|3|none.img|4|a=1",
+            "disk \"none.img\": badshape: LAYOUT is 3, and 1 and 2 are served\n",
+        ),
+        (
+            "format|--layout=0|none.img|4|a=1",
+            "disk \"none.img\": badshape: LAYOUT is 0, and 1 and 2 are served\n",
         ),
         ("format|none/x.img|4|a=1", "file \"none/x.img\": "),
         ("format|none/x\n.img|4|a=1", "file \"none/x\\n.img\": "),
         ("run|none.img|none.json", "file \"none.json\": "),
-        ("run|none.img|shape.json", "file \"none.img\": "),
+        ("run|none.img|fault.json", "file \"none.img\": "),
         (
-            "run|shape.json|shape.json",
-            "disk \"shape.json\": notavolume",
+            "run|fault.json|fault.json",
+            "disk \"fault.json\": notavolume: the file has 51 bytes, and a volume has 4096 at least\n",
         ),
-        ("run|shape.img|shape.json", "disk \"shape.img\": badshape"),
         ("dump|none.img", "file \"none.img\": "),
     ] {
         assert!(rt; complains(&rt, line, 3, cause)?, "{line}");
     }
-    assert!(rt; fs::read(&rt, "fault.img").is_err());
+    let many = format_of_files(rt.alloc(), "none.img|4", 65)?;
+    let cause = "disk \"none.img\": badshape: 65 files are asked for, and 1 to 64 are allowed\n";
+    assert!(rt; complains(&rt, many.as_str(), 3, cause)?);
+    assert!(rt; fs::read(&rt, "none.img").is_err());
+    assert!(rt; holds(&rt, "fault.img", &image(&rt, &[])?)?);
+    remove(&rt, &["fault.img", "fault.json"])?;
+    Ok(())
+}
+
+// The words that make a volume of so many files of one byte.
+fn format_of_files(alloc: Global, disk: &str, count: usize) -> Result<String, AllocError> {
+    let mut words = format!(in alloc; "format|{disk}")?;
+    for i in 0..count {
+        let file = format!(in alloc; "|file_{i}=1")?;
+        words.push_str(file.as_str())?;
+    }
+    Ok(words)
+}
+
+// A volume of as many files and record slots as there can be, and the largest machine on it.
+#[test]
+fn limits_are_served(rt: HostRuntime) -> Result<(), Fail> {
+    let make = format_of_files(rt.alloc(), "limits.img|1020", 64)?;
+    assert!(rt; prints(&rt, make.as_str(), 0, "formatted 1087 blocks\n", "")?);
+    let text =
+        r#"{"cpus":16,"tlb":64,"frames":1020,"copies":64,"steps":[[15,"create"],[0,"map",1,4096,4096,63,0,"rw","rw"],[16,"create"]]}"#;
+    fs::write(&rt, "limits.json", text)?;
+    let replies = "space 1\nmapped\neinval\n";
+    assert!(rt; prints(&rt, "run|limits.img|limits.json", 0, replies, "")?);
+    remove(&rt, &["limits.img", "limits.json"])?;
+    Ok(())
+}
+
+// Shapes that no machine has, and what is said of each.
+#[test]
+fn shapes_are_refused(rt: HostRuntime) -> Result<(), Fail> {
+    let _made = famsync(&rt, "format|shape.img|4|a=5000|b=4096")?;
+    for (shape, cause) in [
+        (
+            r#""cpus":0,"tlb":8,"frames":4,"copies":0"#,
+            "cpus is 0, and 1 to 16 are served",
+        ),
+        (
+            r#""cpus":17,"tlb":8,"frames":4,"copies":0"#,
+            "cpus is 17, and 1 to 16 are served",
+        ),
+        (
+            r#""cpus":1,"tlb":0,"frames":4,"copies":0"#,
+            "tlb is 0, and 1 to 64 are served",
+        ),
+        (
+            r#""cpus":1,"tlb":65,"frames":4,"copies":0"#,
+            "tlb is 65, and 1 to 64 are served",
+        ),
+        (
+            r#""cpus":1,"tlb":8,"frames":4,"copies":65"#,
+            "copies is 65, and 0 to 64 are served",
+        ),
+        (
+            r#""cpus":1,"tlb":8,"frames":0,"copies":0"#,
+            "frames is 0, and 1 to 4 are served, as the volume has 4 record slots",
+        ),
+        (
+            r#""cpus":1,"tlb":8,"frames":5,"copies":0"#,
+            "frames is 5, and 1 to 4 are served, as the volume has 4 record slots",
+        ),
+    ] {
+        let text = format!(in rt.alloc(); "{{{shape},\"steps\":[[0,\"create\"]]}}")?;
+        fs::write(&rt, "shape.json", text)?;
+        let err = format!(in rt.alloc(); "famsync: disk \"shape.img\": badshape: {cause}\n")?;
+        assert!(rt;
+            prints(&rt, "run|shape.img|shape.json", 3, "", err.as_str())?,
+            "{shape}"
+        );
+    }
     assert!(rt; holds(&rt, "shape.img", &image(&rt, &[])?)?);
     remove(&rt, &["shape.img", "shape.json"])?;
     Ok(())
@@ -525,8 +613,7 @@ fn image_of_two(rt: &HostRuntime, changes: &[(usize, u8)]) -> io::Result<Vec<u8>
     Ok(image)
 }
 
-// A volume of layout 2 is made and printed, with what open journals have, the newer one over the older. No machine runs on it
-// yet, and a run leaves it opened.
+// A volume of layout 2 is made and printed, with what open journals have, the newer one over the older. A run opens it first.
 #[test]
 fn a_volume_has_two_journals(rt: HostRuntime) -> Result<(), Fail> {
     let made = famsync(&rt, "format|--layout|2|two.img|4|a=5000|b=4096")?;
@@ -553,14 +640,57 @@ fn a_volume_has_two_journals(rt: HostRuntime) -> Result<(), Fail> {
     assert!(rt; prints(&rt, "dump|two.img", 0, dump, "")? && holds(&rt, "two.img", &open)?);
 
     fs::write(&rt, "two.json", script(rt.alloc(), "")?)?;
-    let err = "famsync: disk \"two.img\": badshape\n";
-    assert!(rt; prints(&rt, "run|two.img|two.json", 3, "", err)?);
+    assert!(rt; prints(&rt, "run|two.img|two.json", 0, "", "")?);
     let mut opened = open;
     put(&mut opened, 4096, &[0]);
     put(&mut opened, 28_672, &[0]);
     put(&mut opened, 53_248, &[66]);
     assert!(rt; holds(&rt, "two.img", &opened)?);
     remove(&rt, &["two.img", "two.json"])?;
+    Ok(())
+}
+
+// A second commit while the first isn't applied yet: each in a journal of its own.
+#[test]
+fn a_commit_follows_one_that_is_not_applied(rt: HostRuntime) -> Result<(), Fail> {
+    let _made = famsync(&rt, "format|--layout|2|follows.img|4|a=5000|b=4096")?;
+    let first =
+        r#"[0,"create"],[0,"map",1,4096,12288,0,0,"rw","rw"],[0,"switch",1,"drop"],[0,"store",4096,[65]],[0,"fix",4096,"write"],[0,"store",4096,[65]],[0,"msync",4096,4096,1],[0,"change"],[0,"flush"],[0,"flush"],[0,"flush"],[0,"flush"],[0,"flush"]"#;
+    let second =
+        r#"[0,"store",4096,[66]],[0,"fix",4096,"write"],[0,"store",4096,[66]],[0,"msync",4096,4096,1],[0,"change"],[0,"flush"],[0,"flush"],[0,"flush"],[0,"flush"],[0,"flush"],[0,"msync",4096,4096,1]"#;
+    let rest =
+        r#"[0,"flush"],[0,"flush"],[0,"flush"],[0,"flush"],[0,"flush"],[0,"flush"],[0,"flush"],[0,"flush"],[0,"flush"]"#;
+    let until_second =
+        "space 1\nmapped\nswitched\nfault 6\nfixed\nstored\nbegun\nmarked 1\ngoing\ngoing\ngoing\ngoing\ncommitted 1\nfault 7\nfixed\nstored\nbegun\nmarked 2\ngoing\ngoing\ngoing\ngoing\ncommitted 2\nbusy\n";
+    let until_end = "going\ngoing\ngoing\ndone 1\ngoing\ngoing\ngoing\ndone 2\nnothing\n";
+
+    // The run ends with both journals open: their marks are 1 and 2, and home block 13 has its old bytes.
+    let steps = format!(in rt.alloc(); "{first},{second}")?;
+    fs::write(&rt, "follows.json", script(rt.alloc(), steps.as_str())?)?;
+    assert!(rt; prints(&rt, "run|follows.img|follows.json", 0, until_second, "")?);
+    let journals = [
+        (4096, 0xA7),
+        (8199, 1),
+        (8203, 1),
+        (8211, 13),
+        (12_288, 65),
+        (28_672, 0xA7),
+        (32_775, 2),
+        (32_779, 1),
+        (32_787, 13),
+        (36_864, 66),
+    ];
+    assert!(rt; holds(&rt, "follows.img", &image_of_two(&rt, &journals)?)?);
+    let dump = "a 5000\n000000000000 42 00 00 00 00 00 00 00 00 00 00 00 00 00 00 00\nb 4096\n";
+    assert!(rt; prints(&rt, "dump|follows.img", 0, dump, "")?);
+
+    let _made = famsync(&rt, "format|--layout|2|follows.img|4|a=5000|b=4096")?;
+    let steps = format!(in rt.alloc(); "{first},{second},{rest}")?;
+    let replies = format!(in rt.alloc(); "{until_second}{until_end}")?;
+    fs::write(&rt, "follows.json", script(rt.alloc(), steps.as_str())?)?;
+    assert!(rt; prints(&rt, "run|follows.img|follows.json", 0, replies.as_str(), "")?);
+    assert!(rt; prints(&rt, "dump|follows.img", 0, dump, "")?);
+    remove(&rt, &["follows.img", "follows.json"])?;
     Ok(())
 }
 
@@ -625,67 +755,83 @@ fn files_are_made_anew(rt: HostRuntime) -> Result<(), Fail> {
 #[test]
 fn images_are_refused(rt: HostRuntime) -> Result<(), Fail> {
     fs::write(&rt, "images.json", FIRST_SCRIPT)?;
-    let rows: [(&[(usize, u8)], bool); 26] = [
-        (&[(0, b'G')], true),
-        (&[(7, b'2')], false),
-        (&[(7, b'5')], true),
+    let rows: [(&[(usize, u8)], &str); 26] = [
+        (&[(0, b'G')], FOREIGN),
+        (&[(7, b'2')], SPOILT),
+        (&[(7, b'5')], FOREIGN),
         // The count of files.
-        (&[(11, 0)], false),
-        (&[(11, 65)], false),
+        (&[(11, 0)], SPOILT),
+        (&[(11, 65)], SPOILT),
         // The record slots, and the number of blocks.
-        (&[(15, 0)], false),
-        (&[(14, 3), (15, 0xFD)], false),
-        (&[(15, 5)], false),
-        (&[(19, 9)], false),
-        (&[(19, 11)], false),
-        (&[(20, 1)], false),
+        (&[(15, 0)], SPOILT),
+        (&[(14, 3), (15, 0xFD)], SPOILT),
+        (&[(15, 5)], SPOILT),
+        (&[(19, 9)], SPOILT),
+        (&[(19, 11)], SPOILT),
+        (&[(20, 1)], SPOILT),
         // Names, and the length of `a`.
-        (&[(80, b'a')], false),
-        (&[(34, b'a')], false),
-        (&[(32, b' ')], false),
-        (&[(70, 0), (71, 0)], false),
-        (&[(70, 0x10), (71, 0)], false),
-        (&[(70, 0x20), (71, 1)], false),
-        (&[(4095, 1)], false),
+        (&[(80, b'a')], SPOILT),
+        (&[(34, b'a')], SPOILT),
+        (&[(32, b' ')], SPOILT),
+        (&[(70, 0), (71, 0)], SPOILT),
+        (&[(70, 0x10), (71, 0)], SPOILT),
+        (&[(70, 0x20), (71, 1)], SPOILT),
+        (&[(4095, 1)], SPOILT),
         // An open gate over a descriptor of zeros, and with its mark, its count and its home blocks changed.
-        (&[(4096, 0xA7)], false),
-        (&[(4096, 0xA7), (8199, 1)], false),
+        (&[(4096, 0xA7)], SPOILT_JOURNAL),
+        (&[(4096, 0xA7), (8199, 1)], SPOILT_JOURNAL),
         (
             &[(4096, 0xA7), (8199, 1), (8203, 5), (8211, 7), (8215, 8)],
-            false,
+            SPOILT_JOURNAL,
         ),
-        (&[(4096, 0xA7), (8203, 1), (8211, 7)], false),
+        (&[(4096, 0xA7), (8203, 1), (8211, 7)], SPOILT_JOURNAL),
         (
             &[(4096, 0xA7), (8199, 1), (8203, 2), (8211, 8), (8215, 7)],
-            false,
+            SPOILT_JOURNAL,
         ),
         (
             &[(4096, 0xA7), (8199, 1), (8203, 2), (8211, 7), (8215, 7)],
-            false,
+            SPOILT_JOURNAL,
         ),
-        (&[(4096, 0xA7), (8199, 1), (8203, 1), (8211, 6)], false),
-        (&[(4096, 0xA7), (8199, 1), (8203, 1), (8211, 10)], false),
+        (
+            &[(4096, 0xA7), (8199, 1), (8203, 1), (8211, 6)],
+            SPOILT_JOURNAL,
+        ),
+        (
+            &[(4096, 0xA7), (8199, 1), (8203, 1), (8211, 10)],
+            SPOILT_JOURNAL,
+        ),
     ];
-    for (changes, is_foreign) in rows {
+    for (changes, cause) in rows {
         assert!(rt;
-            is_refused(&rt, &image(&rt, changes)?, is_foreign)?,
+            is_refused(&rt, &image(&rt, changes)?, cause)?,
             "{changes:?}"
         );
     }
     let whole = image(&rt, &[])?;
-    assert!(rt; is_refused(&rt, &[], true)?);
-    assert!(rt; is_refused(&rt, whole.get(..36_864).ok_or("short")?, false)?);
+    let empty = "notavolume: the file has 0 bytes, and a volume has 4096 at least";
+    assert!(rt; is_refused(&rt, &[], empty)?);
+    let part = whole.get(..4095).ok_or("short")?;
+    let short = "notavolume: the file has 4095 bytes, and a volume has 4096 at least";
+    assert!(rt; is_refused(&rt, part, short)?);
+    let part = whole.get(..36_864).ok_or("short")?;
+    let cut = "damaged: the file has 36864 bytes, and its super block says 40960";
+    assert!(rt; is_refused(&rt, part, cut)?);
     remove(&rt, &["images.img", "images.json"])?;
     Ok(())
 }
 
-// Whether an image is refused with status 3, as foreign or else as damaged, to print and to run, and isn't written to.
-fn is_refused(rt: &HostRuntime, image: &[u8], is_foreign: bool) -> io::Result<bool> {
-    let err = if is_foreign {
-        "famsync: disk \"images.img\": notavolume\n"
-    } else {
-        "famsync: disk \"images.img\": damaged\n"
-    };
+const FOREIGN: &str = "notavolume: the file doesn't begin with FAMSYNC1 or FAMSYNC2";
+
+const SPOILT: &str = "damaged: the super block breaks the format";
+
+const SPOILT_JOURNAL: &str =
+    "damaged: the descriptor of an open journal breaks the format, or two journals have one mark";
+
+// Whether an image is refused with status 3 and for this cause, to print and to run, and isn't written to.
+fn is_refused(rt: &HostRuntime, image: &[u8], cause: &str) -> io::Result<bool> {
+    let err = format!(in rt.alloc(); "famsync: disk \"images.img\": {cause}\n")?;
+    let err = err.as_str();
     fs::write(rt, "images.img", image)?;
     Ok(
         prints(rt, "dump|images.img", 3, "", err)?
@@ -727,4 +873,250 @@ fn is_dumped(rt: &HostRuntime, changes: &[(usize, u8)], text: &str) -> io::Resul
     let image = image(rt, changes)?;
     fs::write(rt, "dumped.img", image.as_slice())?;
     Ok(prints(rt, "dump|dumped.img", 0, text, "")? && holds(rt, "dumped.img", &image)?)
+}
+
+// The members of a script of two processors but for its steps.
+const TWO: &str = r#""cpus":2,"tlb":8,"frames":4,"copies":2"#;
+
+// Two processors share space 1: file `a` is mapped at 4,096, file `b` at 16,384.
+const START: &str =
+    r#"[0,"create"],[0,"map",1,4096,12288,0,0,"rw","rw"],[0,"map",1,16384,4096,1,0,"rw","rw"],[0,"switch",1,"drop"],[1,"switch",1,"drop"]"#;
+
+const STARTED: &str = "space 1\nmapped\nmapped\nswitched\nswitched\n";
+
+// Processor 0 stores 65 at the start of `a`.
+const STORE: &str = r#"[0,"store",4096,[65]],[0,"fix",4096,"write"],[0,"store",4096,[65]]"#;
+
+const STORED: &str = "fault 6\nfixed\nstored\n";
+
+// Whether these steps, after the start of two processors on a fresh volume, are answered so, and the volume then has this
+// dump.
+fn two_processors(
+    rt: &HostRuntime,
+    name: &str,
+    shape: &str,
+    steps: &str,
+    replies: &str,
+    dump: &str,
+) -> io::Result<bool> {
+    let alloc = rt.alloc();
+    let disk = format!(in alloc; "{name}.img")?;
+    let text = format!(in alloc; "{name}.json")?;
+    let make = format!(in alloc; "format|{disk}|4|a=5000|b=4096")?;
+    let _made = famsync(rt, make.as_str())?;
+    let script = format!(in alloc; "{{{shape},\"steps\":[{START},{steps}]}}")?;
+    fs::write(rt, text.as_str(), script)?;
+    let out = format!(in alloc; "{STARTED}{replies}")?;
+    let run = format!(in alloc; "run|{disk}|{text}")?;
+    let is_answered = prints(rt, run.as_str(), 0, out.as_str(), "")?;
+    let show = format!(in alloc; "dump|{disk}")?;
+    let is_left = prints(rt, show.as_str(), 0, dump, "")?;
+    remove(rt, &[disk.as_str(), text.as_str()])?;
+    Ok(is_answered && is_left)
+}
+
+// A commit waits until the other processor stalls; what that stored before is in it, and what it stores after faults.
+#[test]
+fn a_commit_stalls_the_other_processor(rt: HostRuntime) -> Result<(), Fail> {
+    let steps = format!(in rt.alloc();
+        r#"{STORE},[1,"load",4096,1],[0,"msync",4096,4096,4],[1,"store",4097,[66]],[0,"change"],[1,"ack"],[1,"store",4098,[67]],[0,"change"],[1,"resume"],[1,"store",4098,[67]],[0,"flush"],[0,"flush"],[0,"flush"],[0,"flush"],[0,"flush"]"#
+    )?;
+    let replies = format!(in rt.alloc();
+        "{STORED}bytes 65\nbegun\nstored\nnotyet 1\nacked\nstalled\nmarked 1\nresumed\nfault 7\ngoing\ngoing\ngoing\ngoing\ncommitted 1\n"
+    )?;
+    let dump = "a 5000\n000000000000 41 42 00 00 00 00 00 00 00 00 00 00 00 00 00 00\nb 4096\n";
+    assert!(rt; two_processors(&rt, "stalls", TWO, steps.as_str(), replies.as_str(), dump)?);
+    Ok(())
+}
+
+// An unmap and a change of rights, each with its shootdown; and every act and reply that no other test has.
+#[test]
+fn mappings_change_by_shootdowns(rt: HostRuntime) -> Result<(), Fail> {
+    let dump = "a 5000\nb 4096\n";
+    let unmap =
+        r#"[0,"unmap",1,8192,4096],[1,"ack"],[0,"change"],[1,"resume"],[0,"load",8192,1],[0,"fix",8192,"read"],[0,"unmap",1,65536,4096]"#;
+    let unmapped = "begun\nacked\nunmapped\nresumed\nfault 4\nsegvmaperr\nfine\n";
+    assert!(rt; two_processors(&rt, "unmap", TWO, unmap, unmapped, dump)?);
+
+    let protect =
+        r#"[0,"protect",1,4096,4096,"r"],[1,"ack"],[0,"change"],[1,"resume"],[0,"fix",4096,"read"],[0,"load",4096,1],[0,"store",4096,[1]],[0,"fix",4096,"write"]"#;
+    let protected = "begun\nacked\nprotected\nresumed\nfixed\nbytes 0\nfault 7\nsegvaccerr\n";
+    assert!(rt; two_processors(&rt, "protect", TWO, protect, protected, dump)?);
+
+    let sleep =
+        r#"[1,"idle"],[0,"msync",4096,4096,4],[1,"wake"],[0,"change"],[1,"wake"],[1,"wake"],[0,"ack"],[0,"resume"]"#;
+    let slept = "idled\nbegun\nlocked\nmarked 1\nwoken\nnothing\nnothing\nnothing\n";
+    assert!(rt; two_processors(&rt, "sleep", TWO, sleep, slept, dump)?);
+
+    let tlb =
+        r#"[0,"fix",16384,"read"],[0,"fill",4],[0,"evict",0],[0,"evict",0],[0,"fill",1],[0,"create"],[0,"destroy",2],[0,"destroy",1]"#;
+    let cached = "fixed\nfilled\nevicted\nnothing\nnothing\nspace 2\ndestroyed\nbusy\n";
+    assert!(rt; two_processors(&rt, "tlb", TWO, tlb, cached, dump)?);
+
+    let reclaim =
+        r#"[0,"fix",16384,"read"],[0,"reclaim",1,0],[1,"ack"],[0,"change"],[1,"resume"],[0,"reclaim",1,0],[0,"load",16384,1]"#;
+    let reclaimed = "fixed\nbegun\nacked\nreclaimed\nresumed\nnothing\nfault 4\n";
+    assert!(rt; two_processors(&rt, "reclaim", TWO, reclaim, reclaimed, dump)?);
+    Ok(())
+}
+
+// A page is mapped twice: a store through one mapping is read through the other; and what is stored after the mark, in a copy
+// of the page, isn't in the commit.
+#[test]
+fn an_alias_sees_stores(rt: HostRuntime) -> Result<(), Fail> {
+    let steps =
+        r#"[0,"map",1,32768,4096,1,0,"rw","rw"],[0,"store",16384,[1]],[0,"fix",16384,"write"],[0,"store",16384,[1]],[1,"load",32768,1],[1,"fix",32768,"read"],[1,"load",32768,1],[0,"msync",4096,4096,4],[1,"ack"],[0,"change"],[1,"resume"],[1,"store",32768,[2]],[1,"fix",32768,"write"],[1,"store",32768,[2]],[0,"load",16384,1],[0,"flush"],[0,"flush"],[0,"flush"],[0,"flush"],[0,"flush"]"#;
+    let replies =
+        "mapped\nfault 6\nfixed\nstored\nfault 4\nfixed\nbytes 1\nbegun\nacked\nmarked 1\nresumed\nfault 7\nfixed\nstored\nbytes 2\ngoing\ngoing\ngoing\ngoing\ncommitted 1\n";
+    let dump = "a 5000\nb 4096\n000000000000 01 00 00 00 00 00 00 00 00 00 00 00 00 00 00 00\n";
+    assert!(rt; two_processors(&rt, "alias", TWO, steps, replies, dump)?);
+    Ok(())
+}
+
+// One copy frame: the first page that is stored to while it waits for its record takes it, and the second page is held until
+// the first record is written.
+#[test]
+fn copies_keep_pages_of_a_commit(rt: HostRuntime) -> Result<(), Fail> {
+    let shape = r#""cpus":2,"tlb":8,"frames":4,"copies":1"#;
+    let steps =
+        r#"[0,"fix",4096,"write"],[0,"store",4096,[1]],[0,"fix",16384,"write"],[0,"store",16384,[1]],[0,"msync",4096,4096,1],[1,"ack"],[0,"change"],[1,"resume"],[0,"store",4096,[2]],[0,"fix",4096,"write"],[0,"store",4096,[2]],[0,"store",16384,[2]],[0,"fix",16384,"write"],[0,"flush"],[0,"fix",16384,"write"],[0,"store",16384,[2]],[0,"msync",4096,4096,1],[0,"flush"],[0,"flush"],[0,"flush"],[0,"flush"],[0,"flush"]"#;
+    let replies =
+        "fixed\nstored\nfixed\nstored\nbegun\nacked\nmarked 1\nresumed\nfault 7\nfixed\nstored\nfault 7\nheld\ngoing\nfixed\nstored\nbusy\ngoing\ngoing\ngoing\ngoing\ncommitted 1\n";
+    let dump =
+        "a 5000\n000000000000 01 00 00 00 00 00 00 00 00 00 00 00 00 00 00 00\nb 4096\n000000000000 01 00 00 00 00 00 00 00 00 00 00 00 00 00 00 00\n";
+    assert!(rt; two_processors(&rt, "copies", shape, steps, replies, dump)?);
+    Ok(())
+}
+
+// A processor that isn't there is the machine's refusal, and none of the script's.
+#[test]
+fn a_processor_that_is_not_there_is_answered(rt: HostRuntime) -> Result<(), Fail> {
+    let dump = "a 5000\nb 4096\n";
+    assert!(rt; two_processors(&rt, "absent", TWO, r#"[2,"idle"]"#, "einval\n", dump)?);
+    Ok(())
+}
+
+// A writer that looks at a disk file when it is flushed after this line, and then may cut the file off.
+#[derive(Drop)]
+struct Watcher<'a> {
+    rt: &'a HostRuntime,
+    disk: &'a str,
+    line: &'a str,
+    cuts: bool,
+    text: Vec<u8>,
+    found: Option<Vec<u8>>,
+}
+
+impl io::Write for Watcher<'_> {
+    fn write(&mut self, buf: &[u8]) -> io::Result<usize> {
+        self.text.extend_from_slice(buf)?;
+        Ok(buf.len())
+    }
+
+    fn flush(&mut self) -> io::Result<()> {
+        if self.found.is_none() && self.text.ends_with(self.line.as_bytes()) {
+            self.found = Some(fs::read(self.rt, self.disk)?);
+            if self.cuts {
+                fs::write(self.rt, self.disk, "")?;
+            }
+        }
+        Ok(())
+    }
+}
+
+// Runs a script on a fresh volume under a watcher of its disk file, which gets what is printed through a buffer.
+fn watched<'a>(
+    rt: &'a HostRuntime,
+    disk: &'a str,
+    text: &str,
+    line: &'a str,
+    cuts: bool,
+) -> io::Result<(Outcome, Option<Vec<u8>>)> {
+    let alloc = rt.alloc();
+    let make = format!(in alloc; "format|{disk}|4|a=5000|b=4096")?;
+    let _made = famsync(rt, make.as_str())?;
+    fs::write(rt, "watched.json", text)?;
+    let mut out = Watcher {
+        rt,
+        disk,
+        line,
+        cuts,
+        text: Vec::new(alloc),
+        found: None,
+    };
+    let mut err = Vec::new(alloc);
+    let words = ["famsync", "run", disk, "watched.json"];
+    let mut buffered = BufWriter::new(alloc, &mut out)?;
+    let status = perform(rt, alloc, &words, &mut buffered, &mut err);
+    drop(buffered);
+    let Watcher {
+        rt: _,
+        disk: _,
+        line: _,
+        cuts: _,
+        text,
+        found,
+    } = out;
+    remove(rt, &["watched.json"])?;
+    Ok((
+        Outcome {
+            status,
+            out: text,
+            err,
+        },
+        found,
+    ))
+}
+
+// The line of an acknowledgement comes before the next step: the gate is open then, and the home block has its old bytes.
+#[test]
+fn an_acknowledgement_comes_before_the_next_step(rt: HostRuntime) -> Result<(), Fail> {
+    let (ran, found) = watched(&rt, "watched.img", FIRST_SCRIPT, "committed 1\n", false)?;
+    assert_eq!(rt; ran.out(), FIRST_REPLIES);
+    let changes = [(4096, 0xA7), (8199, 1), (8203, 1), (8211, 7), (12_288, 65)];
+    assert!(rt; ran.status == 0 && found == Some(image(&rt, &changes)?));
+    remove(&rt, &["watched.img"])?;
+    Ok(())
+}
+
+// Where a device call fails, the run goes on: all replies are printed, and the status is 3 then.
+#[test]
+fn a_failed_device_call_is_told(rt: HostRuntime) -> Result<(), Fail> {
+    let steps =
+        r#"[0,"create"],[0,"map",1,4096,4096,1,0,"rw","rw"],[0,"switch",1,"drop"],[0,"load",4096,1],[0,"fix",4096,"read"],[0,"load",4096,1],[0,"fix",4096,"read"],[0,"flush"]"#;
+    let text = script(rt.alloc(), steps)?;
+    let (ran, _) = watched(&rt, "failing.img", text.as_str(), "switched\n", true)?;
+    assert_eq!(rt;
+        ran.out(),
+        "space 1\nmapped\nswitched\nfault 4\ndevice\nfault 4\ndevice\nnothing\n"
+    );
+    assert_eq!(rt;
+        ran.err(),
+        "famsync: script \"watched.json\": step 5: the device failed\n"
+    );
+    assert_eq!(rt; ran.status, 3);
+    remove(&rt, &["failing.img"])?;
+    Ok(())
+}
+
+// Where the output fails, the run stops there: no later step is made.
+#[test]
+fn a_run_stops_with_its_output(rt: HostRuntime) -> Result<(), Fail> {
+    let _made = famsync(&rt, "format|stops.img|4|a=5000|b=4096")?;
+    fs::write(&rt, "stops.json", FIRST_SCRIPT)?;
+    let words = ["famsync", "run", "stops.img", "stops.json"];
+    // There is room for the replies up to `marked 1`.
+    let mut room = [0; 62];
+    let mut out = room.as_mut_slice();
+    let mut err = Vec::new(rt.alloc());
+    let status = perform(&rt, rt.alloc(), &words, &mut out, &mut err);
+    assert_eq!(rt; status, 3);
+    assert!(rt; err.starts_with(b"famsync: output: "));
+    assert!(rt;
+        room.starts_with(b"space 1\nmapped\nswitched\nfault 6\nfixed\nstored\nbegun\nmarked 1\n")
+    );
+    // The step of the ninth reply wrote the record. None after it was made.
+    assert!(rt; holds(&rt, "stops.img", &image(&rt, &[(12_288, 65)])?)?);
+    remove(&rt, &["stops.img", "stops.json"])?;
+    Ok(())
 }

@@ -17,7 +17,8 @@ pub fn decimal(word: &str) -> Option<u64>
 
 /// The file of `name=length`, cut at the last `=`, which is as long as its capacity.
 pub fn file_spec(word: &str) -> Option<FileSpec<'_>>
-    ensures { MatchOption result (IsNoFile word.now) (λ file. IsFile word.now file.name.now file.length × (file.capacity ≡ file.length)) }
+    ensures { MatchOption result (IsNoFile word.now) (λ file. IsFile word.now file.name.now file.length
+        × (file.capacity ≡ file.length)) }
 {
     let (name, length) = word.rsplit_once('=')?;
     let length = decimal(length)?;

@@ -1,4 +1,0 @@
-pub mod FramesLaws
-mod FramesLemmas
-mod PageLemmas
-pub mod WholePages

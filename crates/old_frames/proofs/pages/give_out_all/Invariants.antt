@@ -1,9 +1,0 @@
-use Rattle.std.proofs.Common.{◌≡◌}
-use Rattle.slab.specs.Slab.{slab_len}
-use Rattle.old_frames.proofs.pages.give_out_all.Given as goal
-
-abbrev pub invariant-loop : goal.invariant-loop
-invariant-loop g l = record {
-  given : slab_len l.owners ≡ l.counter;
-  room : l.owners.capacity ≡ l.end;
-}

@@ -1,7 +1,0 @@
-use Rattle.std.proofs.Common.{refl}
-use Rattle.old_mappings.specs.Listed.{places_of}
-use Rattle.old_mappings.proofs.mappings.Mappings.new.Goals as goal
-
-pub returns : goal.returns
-unfolding places_of
-returns g c = rw c.new.ensures.items refl

@@ -1,6 +1,0 @@
-use Rattle.std.proofs.Common.{sym}
-use Rattle.old_mappings.proofs.Entries.{pages_mapping-places_of}
-use Rattle.old_mappings.proofs.mappings.Mappings.pages_of.Goals as goal
-
-pub returns : goal.returns
-returns g c = rw (c.new.ensures, c.deref.ensures.value, ← c.self.view_is) (sym (pages_mapping-places_of c.args.file c.args.page 0 c.self.inside.list.items c.self.invariant))

@@ -1,5 +1,0 @@
-pub mod Places
-pub mod Judgement
-pub mod State
-pub mod Listed
-pub mod Edits

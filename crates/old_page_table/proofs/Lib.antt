@@ -1,4 +1,0 @@
-pub mod Entries
-pub mod Dirty
-mod Lookup
-mod Merge

@@ -1,5 +1,0 @@
-pub mod Counts
-pub mod Volume
-pub mod Format
-pub mod Opening
-pub mod Journal

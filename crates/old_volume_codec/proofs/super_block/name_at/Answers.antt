@@ -1,7 +1,0 @@
-use Rattle.std.proofs.Common.{ap, take}
-use Rattle.old_volume_codec.proofs.ReadingLemmas.{text_found}
-use Rattle.old_volume_codec.proofs.super_block.name_at.Goals as goal
-
-pub returns : goal.returns
-returns c =
-    text_found c.from_utf8.result c.ok.result _ _ _ (ap (λ n. take n (take 32 c.args.entry.now)) c.text_len.ensures) c.ok.ensures.value c.from_utf8.ensures.cases

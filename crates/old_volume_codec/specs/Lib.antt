@@ -1,9 +1,0 @@
-pub mod Files
-pub mod Layout
-pub mod Text
-pub mod Super
-pub mod Descriptor
-pub mod Recovery
-pub mod Reading
-pub mod Tables
-pub mod Refusals
