@@ -16,12 +16,12 @@ use Rattle.machine.specs.declared.act.Step.{Step}
 use Rattle.machine.specs.Crashes.{Begins, Throughout}
 use Rattle.machine.specs.History.{files_after}
 use Rattle.machine.specs.Laws.{ReadsBack}
-use Rattle.machine.specs.OnTrack.{told_first}
+use Rattle.machine.specs.Steps.{told_first}
 use Rattle.machine.specs.State.{Whole}
 use Rattle.machine.specs.Told.{Told, tell, tell_all}
-use Rattle.machine.proofs.Joined.{on_track_first}
+use Rattle.machine.proofs.Joined.{follows_first}
+use Rattle.machine.proofs.durable.ReadsBack.{reads_now}
 use Rattle.engine.specs.Engine.{HasRefused, HasRun, ReadsBackAfterSome}
-use Rattle.engine.proofs.Starts.{left_on_track}
 
 -- what reads back as of some of the steps after these were told
 abbrev AfterSome : List File → Told → List Step → List Reply → List ℕ → Type 0
@@ -72,8 +72,9 @@ module _ {D : Type 0} (disk : Ghosts D) (seen_is_left : (device : D) → disk.is
       → (c : List ℕ) → disk.may_leave ran.start.device c → ReadsBack (ran.run honest).files (told_first (ran.run honest).files ran.start.state).history c
   start_reads before after shape steps replies ran honest =
       let run = ran.run honest in
-      let on = on_track_first disk.seen disk.may_leave disk.moment disk.left_since disk.is_honest run.files ran.start run.on_track.begins in
-      left_on_track disk run.files ran.start [] [] ran.start on
+      let on = follows_first disk.seen disk.may_leave disk.moment disk.left_since disk.is_honest run.files ran.start run.begins in
+      let t = on.tracked in
+      reads_now run.files (told_first run.files ran.start.state) ran.start.state (disk.seen ran.start.device) (disk.may_leave ran.start.device) t.sound t.files_are (record { old = t.old; new = t.new; stands = t.stands; written = t.written })
 
   -- so does what a crash leaves of the opening before
   pub opening_reads : (before after : D) (shape : Shape) (steps : List Step) (replies : List Reply) (ran : HasRun disk before shape steps replies after) (honest : disk.is_honest before)
@@ -82,7 +83,7 @@ module _ {D : Type 0} (disk : Ghosts D) (seen_is_left : (device : D) → disk.is
   opening_reads before after shape steps replies ran honest all =
       let run = ran.run honest in
       let start = ran.start in
-      let begins = run.on_track.begins in
+      let begins = run.begins in
       let back = start_reads before after shape steps replies ran honest (disk.seen start.device) (seen_is_left start.device begins.honest) in
       let Back : List ℕ → Type 0 = ReadsBack run.files (told_first run.files start.state).history in
       let opening : LeavesOnly disk.moment disk.left_since before ran.started.volume.device Back =
@@ -99,7 +100,7 @@ module _ {D : Type 0} (disk : Ghosts D) (seen_is_left : (device : D) → disk.is
       let made = take (length replies) steps in
       leaves_then
       (leaves_weaker (opening_reads before after shape steps replies ran honest all) (λ c reads. (0, omega arith, reads)))
-      (through_leaves run.files (told_first run.files start.state) start made replies (record { state = ran.state; device = after }) (start_reads before after shape steps replies ran honest) run.on_track.through)
+      (through_leaves run.files (told_first run.files start.state) start made replies (record { state = ran.state; device = after }) (start_reads before after shape steps replies ran honest) run.through)
 
   -- and of an opening after which nothing was run
   pub since_refusal : (before after : D) (shape : Shape) (refusal : Refusal) (files : List File) → HasRefused disk before shape after refusal → disk.is_honest before → ((c : List ℕ) → disk.may_leave before c → RecoversTo c files)

@@ -14,7 +14,7 @@ use Rattle.machine.specs.Crashes.{Throughout}
 use Rattle.machine.specs.History.{Event}
 use Rattle.machine.specs.Later.{FindsDurable}
 use Rattle.machine.specs.Laws.{ReadsBack}
-use Rattle.machine.specs.OnTrack.{told_first}
+use Rattle.machine.specs.Steps.{told_first}
 use Rattle.machine.specs.State.{Whole}
 use Rattle.machine.specs.Told.{Told, tell}
 use Rattle.engine.specs.Engine.{HasRun}
@@ -26,7 +26,7 @@ own_files : {D : Type 0} (disk : Ghosts D) (before after : D) (shape : Shape) (s
     → (ran.run honest).files ≡ files_of ran.started.volume.table (disk.seen ran.started.volume.device)
 own_files {D} disk before after shape steps replies ran honest =
     let files_at : Whole D → List File = λ w. files_of w.state.table (disk.seen w.device) in
-    (ran.run honest).on_track.begins.files_are ∙ ap files_at ran.started.booted
+    (ran.run honest).begins.files_are ∙ ap files_at ran.started.booted
 
 module _ {D : Type 0} (disk : Ghosts D) (opened_later : (files : List File) (history : List Event) (n : ℕ) (first later after : D) (result : Result SuperValue Refusal) → disk.is_honest first → ((c : List ℕ) → disk.may_leave first c → ReadsBack files history c)
     → IsLater disk n first later → Opens disk later result after → FindsDurable files history result (disk.seen after)) where
@@ -68,5 +68,5 @@ module _ {D : Type 0} (disk : Ghosts D) (opened_later : (files : List File) (his
       let told = told_first run.files start.state in
       record {
         opening = λ all. found_after run.files told.history (disk.left_since start.device (disk.moment before)) (opening_reads disk seen_is_left since_now before after shape steps replies ran honest all).each;
-        running = found_throughout run.files told start (take (length replies) steps) replies (record { state = ran.state; device = after }) (start_reads disk seen_is_left since_now before after shape steps replies ran honest) run.on_track.through;
+        running = found_throughout run.files told start (take (length replies) steps) replies (record { state = ran.state; device = after }) (start_reads disk seen_is_left since_now before after shape steps replies ran honest) run.through;
       }

@@ -11,15 +11,13 @@ use Rattle.recovery.proofs.Reopened.{opened_contents}
 use Rattle.machine.specs.declared.act.Reply.{Reply}
 use Rattle.machine.specs.declared.act.Shape.{Shape}
 use Rattle.machine.specs.declared.act.Step.{Step}
-use Rattle.machine.specs.Crashes.{Begins}
+use Rattle.machine.specs.Crashes.{Begins, Throughout}
 use Rattle.machine.specs.Fresh.{IsShape, fresh}
-use Rattle.machine.specs.Laws.{FaultsAreServed, ReadsBack}
-use Rattle.machine.specs.OnTrack.{IsOnTrack, told_first}
+use Rattle.machine.specs.Laws.{EachStep, FaultsAreServed, ReadsBack}
+use Rattle.machine.specs.Steps.{IsLawful, told_first}
+use Rattle.machine.specs.OnTrack.{IsOnTrack}
 use Rattle.machine.specs.Runs.{StepsTaken}
 use Rattle.machine.specs.State.{Whole}
-use Rattle.machine.specs.Told.{tell_all}
-use Rattle.machine.proofs.Tracks.{on_track_all}
-use Rattle.machine.proofs.durable.ReadsBack.{reads_now}
 use Rattle.engine.specs.Engine.{history_of, HasStarted, HasRefused, IsRun, IsKept}
 use Rattle.engine.proofs.Runs.{taken_kept}
 
@@ -49,24 +47,30 @@ begins {D} disk before shape start started honest =
     let P : Whole D → Type 0 = λ w. Begins disk.seen disk.may_leave disk.is_honest files w in
     (files, opened_files disk before volume (started.opened.ended honest), subst P (sym started.booted) (booted_begins disk volume shape started.shaped (started.settled.at_rest here) here))
 
--- what a crash now may leave of a machine that is on the track of a run
-pub left_on_track : {D : Type 0} (disk : Ghosts D) (files : List File) (start : Whole D) (steps : List Step) (replies : List Reply) (now : Whole D)
-    → IsOnTrack disk.seen disk.may_leave disk.moment disk.left_since disk.is_honest files start steps replies now
-    → (c : List ℕ) → disk.may_leave now.device c → ReadsBack files (history_of files start steps replies) c
-left_on_track disk files start steps replies now on =
-    let t = on.tracked in
-    reads_now files (tell_all (told_first files start.state) steps replies) now.state (disk.seen now.device) (disk.may_leave now.device) t.sound t.files_are (record { old = t.old; new = t.new; stands = t.stands; written = t.written })
+-- what holds of each run that led to a machine
+abbrev OfRuns : {D : Type 0} → Ghosts D → Whole D → (List File → Whole D → List Step → List Reply → Type 0) → Type 0
+OfRuns {D} disk last P = (files : List File) (start : Whole D) (steps : List Step) (replies : List Reply) → IsOnTrack disk files start steps replies last → P files start steps replies
 
 -- the steps that are made on it are a run
 pub run_of : {D : Type 0} (disk : Ghosts D) (before : D) (shape : Shape) (start : Whole D) (steps : List Step) (replies : List Reply) (last : Whole D) (started : HasStarted disk before shape start)
-    → ((files : List File) → Begins disk.seen disk.may_leave disk.is_honest files start → IsOnTrack disk.seen disk.may_leave disk.moment disk.left_since disk.is_honest files start [] [] start)
     → StepsTaken disk start steps replies last
-    → ((files : List File) (start : Whole D) (steps : List Step) (replies : List Reply) → IsOnTrack disk.seen disk.may_leave disk.moment disk.left_since disk.is_honest files start steps replies last → FaultsAreServed steps replies)
+    → OfRuns disk last (λ files start steps replies. Throughout disk.seen disk.may_leave disk.moment disk.left_since files (told_first files start.state) start steps replies last)
+    → OfRuns disk last (λ files start steps replies. EachStep (IsLawful files) (told_first files start.state) steps replies)
+    → ((files : List File) (start : Whole D) (steps : List Step) (replies : List Reply) (c : List ℕ) → IsOnTrack disk files start steps replies last → disk.may_leave last.device c → ReadsBack files (history_of files start steps replies) c)
+    → OfRuns disk last (λ files start steps replies. FaultsAreServed steps replies)
     → disk.is_honest before → IsRun disk before start steps replies last
-run_of disk before shape start steps replies last started begin taken served honest =
+run_of disk before shape start steps replies last started taken headline lawful left served honest =
     let found = begins disk before shape start started honest in
-    let on = on_track_all disk found.0 start [] [] start steps replies last (begin found.0 found.2) taken in
-    record { files = found.0; recovered = found.1; on_track = on; served = served found.0 start steps replies on; left = left_on_track disk found.0 start steps replies last on }
+    let on : IsOnTrack disk found.0 start steps replies last = record { begins = found.2; taken = taken } in
+    record {
+      files = found.0;
+      recovered = found.1;
+      begins = found.2;
+      through = headline found.0 start steps replies on;
+      lawful = lawful found.0 start steps replies on;
+      served = served found.0 start steps replies on;
+      left = λ c may. left found.0 start steps replies c on may;
+    }
 
 -- the device is kept by a start, by a refusal, and by a run
 pub started_kept : {D : Type 0} (disk : Ghosts D) (before : D) (shape : Shape) (start : Whole D) → HasStarted disk before shape start → IsKept disk before start.device

@@ -16,8 +16,9 @@ use Rattle.machine.specs.Fresh.{IsShape, fresh}
 use Rattle.machine.specs.State.{State, Whole}
 use Rattle.machine.specs.History.{Event}
 use Rattle.machine.specs.Told.{tell_all}
-use Rattle.machine.specs.Laws.{FaultsAreServed, ReadsBack}
-use Rattle.machine.specs.OnTrack.{IsOnTrack, told_first}
+use Rattle.machine.specs.Laws.{EachStep, FaultsAreServed, ReadsBack}
+use Rattle.machine.specs.Steps.{IsLawful, told_first}
+use Rattle.machine.specs.Crashes.{Begins, Throughout}
 use Rattle.machine.specs.Runs.{StepsTaken}
 
 -- The device was opened, and a machine of this shape was booted over its volume.
@@ -52,10 +53,13 @@ pub record IsRun {D : Type 0} (disk : Ghosts D) (before : D) (start : Whole D) (
     (replies : List Reply) (last : Whole D) : Type 0 where
   pub files : List File
   pub recovered : RecoversTo (disk.seen before) files
-  -- through the machines between the steps: each reply is by the rules and the laws, and what a crash at any moment of
-  -- a step and after it may leave recovers to the files after a durable prefix of the history up to that moment
-  pub on_track : IsOnTrack disk.seen disk.may_leave disk.moment disk.left_since disk.is_honest
-      files start steps replies last
+  pub begins : Begins disk.seen disk.may_leave disk.is_honest files start
+  -- through the machines between the steps: each reply is by the rules, and what a crash at any moment of a step and
+  -- after it may leave recovers to the files after a durable prefix of the history up to that moment
+  pub through : Throughout disk.seen disk.may_leave disk.moment disk.left_since files (told_first files start.state)
+      start steps replies last
+  -- loads, stores and faults are answered by what was told before them, and a fault that is served is served
+  pub lawful : EachStep (IsLawful files) (told_first files start.state) steps replies
   pub served : FaultsAreServed steps replies
   -- so does what a crash after the run may leave, by the whole history
   pub left : (c : List ℕ) → disk.may_leave last.device c → ReadsBack files (history_of files start steps replies) c

@@ -13,7 +13,7 @@ use Rattle.machine.specs.declared.act.Step.{Step}
 use Rattle.machine.specs.Crashes.{StepIsSafe}
 use Rattle.machine.specs.History.{Event}
 use Rattle.machine.specs.Later.{AreDurable, FindsDurable}
-use Rattle.machine.specs.OnTrack.{told_first}
+use Rattle.machine.specs.Steps.{told_first}
 use Rattle.machine.specs.State.{Whole}
 use Rattle.machine.specs.Told.{Told, tell}
 use Rattle.engine.specs.Engine.{HasRun}

@@ -39,8 +39,9 @@ pub fn opened_after_run<D: Device>(device: &D)
 
 /// Wherever a crash falls in a run over an honest device, within a step, between two or after the last: each opening
 /// since, to any depth, with a crash or none within and after each before it, gives exactly the files after a durable
-/// prefix of what was told before that step, or meets a device call that failed, or no memory. So does one after a crash
-/// within the opening before the run, where all that a crash might have left of the device then recovers to its files.
+/// prefix of what was told before that step, or meets a device call that failed, or no memory. So does one since a
+/// crash within the opening before the run, where all that a crash might have left of the device then recovers to its
+/// files.
 pub fn opened_after_crash<D: Device>(device: &D)
     ensures { (before after : D) (shape : Shape) (steps : List Step) (replies : List Reply)
         (ran : HasRun D.Device before shape steps replies after) (honest : D.is_honest before)

@@ -76,9 +76,8 @@ pub fn run<D: Device, A: Allocator + Copy, L: Listener>(
 {
     match start(alloc, device, shape) {
         Ok(mut machine) => {
-            machine.begin();
             make_steps(&mut machine, steps, listener);
-            machine.serves();
+            machine.keeps_the_laws();
             Ok(machine.into_device())
         }
         Err(refused) => Err(refused),

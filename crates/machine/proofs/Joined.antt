@@ -1,4 +1,4 @@
--- Each step of a tracked machine keeps it tracked, so a run that began on a volume at rest stays on track.
+-- Each step of a tracked machine keeps it tracked, so the laws hold of a run that began on a volume at rest.
 use Rattle.std.proofs.Common.{ℕ, ◌≡◌, ◌≤◌, List, [], ◌∷◌, ◌++◌, length, map, get_or, refl, sym, ap, ◌∙◌, subst, arith}
 use Rattle.volume_codec.specs.Files.{File, TableFile}
 use Rattle.volume_codec.specs.Layout.{block_at}
@@ -11,10 +11,11 @@ use Rattle.machine.specs.declared.act.Step.{Step}
 use Rattle.machine.specs.State.{State, Whole, length_of}
 use Rattle.machine.specs.Told.{Told, tell, tell_all}
 use Rattle.machine.specs.Laws.{EachStep}
-use Rattle.machine.specs.OnTrack.{StepMade, IsLawful, IsOnTrack, told_first}
+use Rattle.machine.specs.Steps.{StepMade, IsLawful, told_first}
+use Rattle.machine.specs.inside.Following.{Follows}
 use Rattle.machine.specs.Crashes.{Begins, StepIsSafe, Throughout}
-use Rattle.machine.specs.Sound.{IsSound, capacity_of}
-use Rattle.machine.specs.Tracking.{IsTracked}
+use Rattle.machine.specs.inside.Sound.{IsSound, capacity_of}
+use Rattle.machine.specs.inside.Tracking.{IsTracked}
 use Rattle.machine.proofs.sound.Kept.{sound_kept}
 use Rattle.machine.proofs.sound.AtBoot.{fresh_sound}
 use Rattle.machine.proofs.durable.PagesRead.{page_read}
@@ -80,9 +81,9 @@ module _ {D : Type 0} (seen : D → List ℕ) (may_leave : D → List ℕ → Ty
 -- ---- runs
 
 module _ {D : Type 0} (seen : D → List ℕ) (may_leave : D → List ℕ → Type 0) (moment : D → ℕ) (left_since : D → ℕ → List ℕ → Type 0) (is_honest : D → Type 0) (files : List File) (start : Whole D) where
-  -- a start is on the track of no steps
-  pub on_track_first : Begins seen may_leave is_honest files start → IsOnTrack seen may_leave moment left_since is_honest files start [] [] start
-  on_track_first begins =
+  -- they hold of no steps
+  pub follows_first : Begins seen may_leave is_honest files start → Follows seen may_leave moment left_since is_honest files start [] [] start
+  follows_first begins =
       let s = start.state in
       let capacities : s.lengths ≡ map (λ (f : TableFile). f.capacity) s.table.files = begins.lengths_are in
       let sound = fresh_sound s begins.fresh begins.volume.super_block.fits (ap length capacities ∙ length-lengths_in s.table (block_at (seen start.device)))
@@ -109,9 +110,9 @@ module _ {D : Type 0} (seen : D → List ℕ) (may_leave : D → List ℕ → Ty
       }
 
   -- and a step leads on
-  pub on_track_more : (steps : List Step) (replies : List Reply) (now : Whole D) (step : Step) (reply : Reply) (new : Whole D) → IsOnTrack seen may_leave moment left_since is_honest files start steps replies now
-      → StepMade seen may_leave moment left_since is_honest now step reply new → IsOnTrack seen may_leave moment left_since is_honest files start (steps ++ step ∷ []) (replies ++ reply ∷ []) new
-  on_track_more steps replies now step reply new on made =
+  pub follows_more : (steps : List Step) (replies : List Reply) (now : Whole D) (step : Step) (reply : Reply) (new : Whole D) → Follows seen may_leave moment left_since is_honest files start steps replies now
+      → StepMade seen may_leave moment left_since is_honest now step reply new → Follows seen may_leave moment left_since is_honest files start (steps ++ step ∷ []) (replies ++ reply ∷ []) new
+  follows_more steps replies now step reply new on made =
       let first = told_first files start.state in
       let told = tell_all first steps replies in
       let t = tracked_kept seen may_leave moment left_since is_honest files told now step reply new on.tracked made in

@@ -1,16 +1,23 @@
 -- What keeps stores from a page that is being written out, and what the pages have that a mark doesn't gather.
-use Rattle.std.specs.Prelude.{ℕ, ◌≡◌, ◌<◌, true, false, List, length, map, Some}
-use Rattle.std.specs.List.{All}
+use Rattle.std.specs.Prelude.{ℕ, ◌≡◌, ◌-◌, ◌*◌, ◌<◌, true, false, List, [], length, map, take, drop, Some, if◌then◌else◌}
+use Rattle.std.specs.List.{All, flat_map}
 use Rattle.page_entry.specs.Entry.{Mapped}
 use Rattle.page_entry.specs.declared.numbers.FilePage.{FilePage}
 use Rattle.volume_codec.specs.Recovery.{Recovers}
+use Rattle.journal.specs.WriteOuts.{WriteOutsValue}
 use Rattle.spaces.specs.Spaces.{entry_at}
 use Rattle.shootdown.specs.Shootdown.{processor_at}
 use Rattle.shootdown.specs.Coherence.{IsUsable}
 use Rattle.checkpoint.specs.Checkpoint.{Holds, is_held}
-use Rattle.machine.specs.State.{State, home_of}
-use Rattle.machine.specs.Sound.{frozen_homes}
-use Rattle.machine.specs.Tracking.{within_file}
+use Rattle.machine.specs.State.{State, home_of, length_of}
+
+-- the home blocks whose records aren't written yet
+abbrev pub waiting_homes : WriteOutsValue → List ℕ
+waiting_homes outs = flat_map (λ w. drop w.steps w.batch.homes) outs.batches
+
+-- the home blocks of the frozen pages are those that wait for their records; a broken machine freezes none
+abbrev pub frozen_homes : State → List ℕ
+frozen_homes s = if s.write_outs.broken then [] else waiting_homes s.write_outs
 
 -- No entry of the page is writable in any table, and none that a processor has cached and may still use.
 pub record IsProtected (s : State) (owner : FilePage) : Type 0 where
@@ -25,6 +32,10 @@ pub record IsProtected (s : State) (owner : FilePage) : Type 0 where
 pub record AreFrozenProtected (s : State) : Type 0 where
   pub waiting : map (home_of s.table) s.checkpoint.frozen ≡ frozen_homes s
   pub protected : (owner : FilePage) → is_held s.hardware.memory s.checkpoint owner ≡ true → IsProtected s owner
+
+-- the bytes of a page up to its file's end
+abbrev pub within_file : State → FilePage → List ℕ → List ℕ
+within_file s owner bytes = take (length_of s owner.file - 4096 * owner.page) bytes
 
 -- the list recovers to contents that have, for this page, these bytes up to its file's end
 pub record HasPage (s : State) (owner : FilePage) (bytes c : List ℕ) : Type 0 where

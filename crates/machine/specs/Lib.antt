@@ -9,10 +9,9 @@ pub mod Laws
 pub mod Fresh
 pub mod Booting
 pub mod Crashes
-pub mod Sound
-pub mod Tracking
-pub mod OnTrack
+pub mod Steps
 pub mod Runs
+pub mod OnTrack
 pub mod Words
 pub mod inside
 pub mod Later

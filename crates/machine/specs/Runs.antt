@@ -6,7 +6,7 @@ use Rattle.machine.specs.declared.act.Step.{Step}
 use Rattle.machine.specs.State.{State, Whole}
 use Rattle.machine.specs.Rules.{Rules}
 use Rattle.machine.specs.Calls.{CallsOf}
-use Rattle.machine.specs.OnTrack.{StepMade}
+use Rattle.machine.specs.Steps.{StepMade}
 
 pub record StepTaken {D : Type 0} (disk : Ghosts D) (old : Whole D) (step : Step) (reply : Reply)
     (new : Whole D) : Type 0 where

@@ -1,3 +1,6 @@
+pub mod Sound
+pub mod Tracking
+pub mod Following
 pub mod Layers
 pub mod Flushing
 pub mod Acting

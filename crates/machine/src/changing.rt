@@ -2,7 +2,7 @@
 ghost use Rattle.std.specs.Prelude.{◌≡◌, ◌↔◌, ℕ, Some, Ok, IsTrue, IfSome, IfNone};
 ghost use Rattle.shootdown.specs.Calls.{HandsOut};
 ghost use Rattle.checkpoint.specs.Checkpoint.{Holds};
-ghost use Rattle.machine.specs.Sound.{IsSound};
+ghost use Rattle.machine.specs.inside.Sound.{IsSound};
 ghost use Rattle.machine.specs.Rules.{Changes, MayLeave};
 ghost use Rattle.machine.specs.inside.Layers.{state_in, reply_to, IsQuiet, AreReserved, HasPage, IsAtHome};
 

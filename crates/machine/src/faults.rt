@@ -3,7 +3,7 @@ ghost use Rattle.std.specs.Prelude.{◌≡◌, ◌*◌, ◌≤◌, ℕ, List, le
 ghost use Rattle.volume_codec.specs.Super.{block_count};
 ghost use Rattle.fault.specs.Fixing.{ReadsOnce};
 ghost use Rattle.machine.specs.Calls.{reads_page};
-ghost use Rattle.machine.specs.Sound.{IsSound};
+ghost use Rattle.machine.specs.inside.Sound.{IsSound};
 ghost use Rattle.machine.specs.Rules.{Fixes};
 ghost use Rattle.machine.specs.inside.Layers.{state_in, reply_to, AnswersBy, KeepsReserved};
 

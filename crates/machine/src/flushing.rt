@@ -6,7 +6,7 @@ ghost use Rattle.journal.specs.WriteOuts.{next_work, outs_record};
 ghost use Rattle.checkpoint.specs.Checkpoint.{AreCopiesOfFrozen};
 ghost use Rattle.fault.specs.Fault.{is_in_memory};
 ghost use Rattle.machine.specs.Refusals.{flush_refusal};
-ghost use Rattle.machine.specs.Sound.{IsSound};
+ghost use Rattle.machine.specs.inside.Sound.{IsSound};
 ghost use Rattle.machine.specs.Rules.{bytes_at_mark, next_record, work_asked, Flushes};
 ghost use Rattle.machine.specs.inside.Layers.{state_in, reply_to, AnswersBy, KeepsReserved};
 ghost use Rattle.machine.specs.inside.Flushing.{HasSmallMark, reply_of_flush, memory_after, checkpoint_after, FlushesDevice};

@@ -7,7 +7,7 @@ ghost use Rattle.machine.specs.Booting.{RefusesShape};
 ghost use Rattle.machine.specs.Calls.{CallsOf};
 ghost use Rattle.machine.specs.Rules.{Rules, Run};
 ghost use Rattle.machine.specs.Runs.{StepsTaken};
-ghost use Rattle.machine.specs.OnTrack.{StepMade};
+ghost use Rattle.machine.specs.Steps.{StepMade};
 ghost use Rattle.machine.specs.inside.Layers.{reply_to};
 ghost use Rattle.machine.specs.inside.Booting.{IsRoom};
 

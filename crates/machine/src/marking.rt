@@ -4,7 +4,7 @@ ghost use Rattle.std.specs.List.{All};
 ghost use Rattle.spaces.specs.declared.change.Change.TheVariants.{Checkpoint};
 ghost use Rattle.shootdown.specs.Calls.{HandsOut};
 ghost use Rattle.machine.specs.State.{home_of};
-ghost use Rattle.machine.specs.Sound.{IsSound};
+ghost use Rattle.machine.specs.inside.Sound.{IsSound};
 ghost use Rattle.machine.specs.Rules.{Changes};
 ghost use Rattle.machine.specs.inside.Layers.{state_in, IsQuiet, HasPage, MayBegin, with_homes};
 

@@ -11,8 +11,10 @@ ghost use Rattle.machine.specs.State.{State, Whole};
 ghost use Rattle.machine.specs.Rules.{MarkMade};
 ghost use Rattle.machine.specs.Durability.{AreFrozenProtected, HasPage};
 ghost use Rattle.machine.specs.Crashes.{Begins, Throughout};
-ghost use Rattle.machine.specs.Laws.{EachStep, FaultsAreServed};
-ghost use Rattle.machine.specs.OnTrack.{IsOnTrack, IsLawful, told_first};
+ghost use Rattle.machine.specs.Told.{tell_all};
+ghost use Rattle.machine.specs.Laws.{EachStep, FaultsAreServed, ReadsBack};
+ghost use Rattle.machine.specs.Steps.{IsLawful, told_first};
+ghost use Rattle.machine.specs.OnTrack.{IsOnTrack};
 ghost use Rattle.machine.specs.Runs.{StepTaken, StepsTaken};
 
 use crate::{Machine, Reply, Step};
@@ -23,7 +25,7 @@ impl<D: Device, A: Allocator + Copy> Machine<D, A> {
     /// A machine as it was booted over a volume at rest is on the track of a run that has made no step yet.
     pub fn begin(&self)
         ensures { (files : List File) → Begins D.seen D.may_leave D.is_honest files self.now
-            → IsOnTrack D.seen D.may_leave D.moment D.left_since D.is_honest files self.now [] [] self.now }
+            → IsOnTrack D.Device files self.now [] [] self.now }
     {}
 
     /// A step of a machine that is on the track of a run keeps it there, with the step and its reply added. For a
@@ -32,17 +34,29 @@ impl<D: Device, A: Allocator + Copy> Machine<D, A> {
     pub fn enter(&mut self, step: &Step) -> Reply
         ensures taken { StepTaken D.Device self.old step.now result self.new }
         ensures on_track { (files : List File) (start : Whole D) (steps : List Step) (replies : List Reply)
-            → IsOnTrack D.seen D.may_leave D.moment D.left_since D.is_honest files start steps replies self.old
-            → IsOnTrack D.seen D.may_leave D.moment D.left_since D.is_honest files start
-            (steps ++ step.now ∷ []) (replies ++ result ∷ []) self.new }
+            → IsOnTrack D.Device files start steps replies self.old
+            → IsOnTrack D.Device files start (steps ++ step.now ∷ []) (replies ++ result ∷ []) self.new }
     {
         self.step(step)
     }
 
-    /// On the track of a run, a fault that is served is served: the access that follows it at once answers.
-    pub fn serves(&self)
-        ensures { (files : List File) (start : Whole D) (steps : List Step) (replies : List Reply)
-            → IsOnTrack D.seen D.may_leave D.moment D.left_since D.is_honest files start steps replies self.now
+    /// On the track of a run: each reply is by the rules, and a crash at any moment of any step, and after it, leaves
+    /// what recovers to the files after a durable prefix of the history up to that moment (`headline`), as does what a
+    /// crash leaves now (`left`); loads, stores and faults are answered by what was told before them (`lawful`); and a
+    /// fault that is served is served, so that the access that follows it at once answers (`served`).
+    pub fn keeps_the_laws(&self)
+        ensures headline { (files : List File) (start : Whole D) (steps : List Step) (replies : List Reply)
+            → IsOnTrack D.Device files start steps replies self.now
+            → Throughout D.seen D.may_leave D.moment D.left_since files (told_first files start.state)
+            start steps replies self.now }
+        ensures lawful { (files : List File) (start : Whole D) (steps : List Step) (replies : List Reply)
+            → IsOnTrack D.Device files start steps replies self.now
+            → EachStep (IsLawful files) (told_first files start.state) steps replies }
+        ensures left { (files : List File) (start : Whole D) (steps : List Step) (replies : List Reply) (c : List ℕ)
+            → IsOnTrack D.Device files start steps replies self.now → D.may_leave self.now.device c
+            → ReadsBack files (tell_all (told_first files start.state) steps replies).history c }
+        ensures served { (files : List File) (start : Whole D) (steps : List Step) (replies : List Reply)
+            → IsOnTrack D.Device files start steps replies self.now
             → FaultsAreServed steps replies }
     {}
 
@@ -50,7 +64,7 @@ impl<D: Device, A: Allocator + Copy> Machine<D, A> {
     /// are copied, or a device call of a write-out has failed.
     pub fn protects_frozen_pages(&self)
         ensures { (files : List File) (start : Whole D) (steps : List Step) (replies : List Reply)
-            → IsOnTrack D.seen D.may_leave D.moment D.left_since D.is_honest files start steps replies self.now
+            → IsOnTrack D.Device files start steps replies self.now
             → AreFrozenProtected self.now.state }
     {}
 
@@ -60,7 +74,7 @@ impl<D: Device, A: Allocator + Copy> Machine<D, A> {
         ensures { (files : List File) (start : Whole D) (steps : List Step) (replies : List Reply)
             (p number : ℕ) (new : State) (mark : MarkMade self.now.state p number new) (frame : ℕ) (owner : FilePage)
             (c : List ℕ)
-            → IsOnTrack D.seen D.may_leave D.moment D.left_since D.is_honest files start steps replies self.now
+            → IsOnTrack D.Device files start steps replies self.now
             → Holds self.now.state.hardware.memory frame owner → (Contains mark.pages owner → ⊥)
             → D.may_leave self.now.device c
             → HasPage self.now.state owner (bytes_of (frame_at self.now.state.hardware.memory frame)) c }
@@ -88,12 +102,10 @@ impl<D: Device, A: Allocator + Copy> Machine<D, A> {
             → FaultsAreServed steps.now replies.new }
         // Also in the middle of a run.
         ensures on_track { (files : List File) (start : Whole D) (earlier : List Step) (told : List Reply)
-            → IsOnTrack D.seen D.may_leave D.moment D.left_since D.is_honest files start earlier told self.old
-            → IsOnTrack D.seen D.may_leave D.moment D.left_since D.is_honest files start
-            (earlier ++ steps.now) (told ++ replies.new) self.new }
+            → IsOnTrack D.Device files start earlier told self.old
+            → IsOnTrack D.Device files start (earlier ++ steps.now) (told ++ replies.new) self.new }
     {
-        self.begin();
         self.make_all(steps, replies);
-        self.serves();
+        self.keeps_the_laws();
     }
 }

@@ -18,7 +18,7 @@ use Rattle.machine.specs.State.{State}
 use Rattle.machine.specs.Refusals.{fix_refusal}
 use Rattle.machine.specs.Rules.{Acts, Fixes, Flushes, IsRefused}
 use Rattle.machine.specs.Calls.{CallsOf, FixCalls, reads_page, has_failed}
-use Rattle.machine.specs.OnTrack.{step_work}
+use Rattle.machine.specs.Steps.{step_work}
 use Rattle.machine.specs.inside.Layers.{state_in, reply_to, AnswersBy, KeepsReserved, IsQuiet}
 use Rattle.machine.specs.inside.Flushing.{FlushesDevice}
 use Rattle.machine.specs.inside.Acting.{ActDone}

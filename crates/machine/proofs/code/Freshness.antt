@@ -11,7 +11,7 @@ use Rattle.journal.specs.WriteOuts.{none_of}
 use Rattle.machine.specs.declared.act.Shape.{Shape}
 use Rattle.machine.specs.State.{State}
 use Rattle.machine.specs.Fresh.{IsShape, IsFresh, fresh}
-use Rattle.machine.specs.Sound.{IsSound}
+use Rattle.machine.specs.inside.Sound.{IsSound}
 use Rattle.machine.specs.inside.Freshness.{shape_of, LooksFresh}
 use Rattle.machine.proofs.code.FirstSpace.{first_alone, alone_first}
 

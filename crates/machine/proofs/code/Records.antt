@@ -11,7 +11,7 @@ use Rattle.journal.specs.WriteOut.{WriteOut, next_stage, answer_of}
 use Rattle.journal.specs.WriteOuts.{current, has_uncommitted, outs_record, next_answer}
 use Rattle.fault.specs.Fault.{is_in_memory}
 use Rattle.machine.specs.State.{State}
-use Rattle.machine.specs.Sound.{IsInFile, IsSound}
+use Rattle.machine.specs.inside.Sound.{IsInFile, IsSound}
 use Rattle.machine.specs.Rules.{next_page}
 use Rattle.machine.specs.inside.Flushing.{HasSmallMark}
 use Rattle.machine.proofs.sound.Lists.{some_from, same_some}

@@ -10,7 +10,7 @@ use Rattle.machine.specs.declared.layers.Layers.{Layers}
 use Rattle.machine.specs.State.{Whole}
 use Rattle.machine.specs.Rules.{Rules}
 use Rattle.machine.specs.Calls.{CallsOf}
-use Rattle.machine.specs.OnTrack.{StepMade}
+use Rattle.machine.specs.Steps.{StepMade}
 use Rattle.machine.specs.inside.Layers.{state_in, whole_in, AreLayers}
 use Rattle.machine.specs.inside.Acting.{ActDone}
 use Rattle.machine.proofs.sound.Kept.{sound_kept}

@@ -19,10 +19,11 @@ use Rattle.journal.proofs.StandsKept.{stands_first}
 use Rattle.machine.specs.History.{Mark, Acknowledge, page_of, file_bytes, memory_of}
 use Rattle.machine.specs.State.{State, Whole, home_of, length_of, cut_at_end}
 use Rattle.machine.specs.Rules.{bytes_at_mark}
-use Rattle.machine.specs.Sound.{IsInFile, IsSound}
+use Rattle.machine.specs.inside.Sound.{IsInFile, IsSound}
 use Rattle.machine.specs.Crashes.{Begins}
-use Rattle.machine.specs.Tracking.{within_file, HasParts, AreContentsOf}
-use Rattle.machine.specs.OnTrack.{told_first}
+use Rattle.machine.specs.inside.Tracking.{HasParts, AreContentsOf}
+use Rattle.machine.specs.Durability.{within_file}
+use Rattle.machine.specs.Steps.{told_first}
 use Rattle.machine.proofs.durable.Lists.{contains_none}
 use Rattle.machine.proofs.durable.Homes.{capacity_at, page_in_capacity, home_is}
 use Rattle.machine.proofs.durable.Overlays.{within_cut}

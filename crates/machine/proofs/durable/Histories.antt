@@ -5,7 +5,7 @@ use Rattle.std.proofs.lemmas.Bool.{cond-true, cond-false, both_ways, and_from, e
 use Rattle.std.proofs.lemmas.List.{append-nil}
 use Rattle.std.proofs.lemmas.List.Elements.{Contains-append_left, Contains-append_cases, Contains-push_cases}
 use Rattle.machine.specs.History.{Event, Memory, Store, Mark, Acknowledge, stored, after, unmarked_after, has_unmarked, touched_after, is_touched}
-use Rattle.machine.specs.Tracking.{HasAcknowledged}
+use Rattle.machine.specs.inside.Tracking.{HasAcknowledged}
 use Rattle.machine.proofs.durable.Lists.{contains_none}
 
 pub after-append : (memory : Memory) (history events : List Event) → after memory (history ++ events) ≡ after (after memory history) events

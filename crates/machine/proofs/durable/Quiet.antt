@@ -16,9 +16,9 @@ use Rattle.machine.specs.declared.act.Reply.{Reply}
 use Rattle.machine.specs.State.{State}
 use Rattle.machine.specs.Refusals.{first_of, refuse_if}
 use Rattle.machine.specs.Rules.{with_hardware, end_change, begin_change, bytes_at_mark}
-use Rattle.machine.specs.OnTrack.{step_work}
+use Rattle.machine.specs.Steps.{step_work}
 use Rattle.machine.specs.Told.{Told, events_of}
-use Rattle.machine.specs.Tracking.{change_in}
+use Rattle.machine.specs.inside.Tracking.{change_in}
 use Rattle.machine.proofs.durable.Lists.{some_same, none_some}
 use Rattle.machine.proofs.durable.Histories.{IsQuiet}
 use Rattle.machine.proofs.durable.Leaves.{Leaves}

@@ -17,8 +17,8 @@ use Rattle.machine.specs.declared.act.Reply.{Reply}
 use Rattle.machine.specs.declared.act.Reply.TheVariants as replies
 use Rattle.machine.specs.State.{State}
 use Rattle.machine.specs.Rules.{Acts, with_hardware, bytes_with, bytes_at_mark}
-use Rattle.machine.specs.Sound.{IsSound}
-use Rattle.machine.specs.OnTrack.{step_work}
+use Rattle.machine.specs.inside.Sound.{IsSound}
+use Rattle.machine.specs.Steps.{step_work}
 use Rattle.machine.specs.Told.{Told, place_told, store_at, offset_at, events_of}
 use Rattle.machine.proofs.durable.Histories.{IsQuiet}
 use Rattle.machine.proofs.durable.Pages.{same_page-true, same_page-refl, of_page-other, bytes_with-set, bytes_with-one, contains_frozen}

@@ -19,7 +19,7 @@ use Rattle.machine.specs.declared.act.Reply.TheVariants as replies
 use Rattle.machine.specs.State.{State}
 use Rattle.machine.specs.Refusals.{refuse_if, is_msync, msync_refusal}
 use Rattle.machine.specs.Rules.{Acts, begin_change}
-use Rattle.machine.specs.OnTrack.{step_work}
+use Rattle.machine.specs.Steps.{step_work}
 use Rattle.machine.specs.Told.{Told, events_of}
 use Rattle.machine.proofs.durable.Quiet.{QuietStep, leaves_begun, quiet_as, unchanged, by_hardware, fourth_not_refused}
 

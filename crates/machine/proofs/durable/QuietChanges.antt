@@ -10,7 +10,7 @@ use Rattle.machine.specs.declared.act.Reply.{Reply}
 use Rattle.machine.specs.declared.act.Reply.TheVariants as replies
 use Rattle.machine.specs.State.{State, home_of}
 use Rattle.machine.specs.Rules.{Acts, MayLeave, MarkMade, end_change, bytes_with, bytes_at_mark}
-use Rattle.machine.specs.Sound.{IsSound}
+use Rattle.machine.specs.inside.Sound.{IsSound}
 use Rattle.machine.specs.Told.{Told}
 use Rattle.machine.proofs.durable.Pages.{of_page-other, bytes_with-set}
 use Rattle.machine.proofs.durable.Waiting.{frozen_block}

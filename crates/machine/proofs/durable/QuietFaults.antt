@@ -16,7 +16,7 @@ use Rattle.machine.specs.declared.act.Reply.{Reply}
 use Rattle.machine.specs.declared.act.Reply.TheVariants as replies
 use Rattle.machine.specs.State.{State}
 use Rattle.machine.specs.Rules.{Acts, with_hardware, bytes_with, bytes_at_mark}
-use Rattle.machine.specs.Sound.{IsSound}
+use Rattle.machine.specs.inside.Sound.{IsSound}
 use Rattle.machine.specs.Told.{Told}
 use Rattle.machine.proofs.durable.Pages.{same_page-true, same_page-refl, of_page-other, bytes_with-set, bytes_with-none, bytes_with-put, bytes_with-held, frozen_contains}
 use Rattle.machine.proofs.durable.Quiet.{QuietStep, leaves_hardware, quiet_as, unchanged}

@@ -11,9 +11,9 @@ use Rattle.journal.proofs.StandsKept.{stands_left}
 use Rattle.machine.specs.History.{Event, memory_of, after}
 use Rattle.machine.specs.State.{State}
 use Rattle.machine.specs.Laws.{ReadsBack}
-use Rattle.machine.specs.Sound.{IsSound}
+use Rattle.machine.specs.inside.Sound.{IsSound}
 use Rattle.machine.specs.Told.{Told}
-use Rattle.machine.specs.Tracking.{AreContentsOf, HasAcknowledged, HasFiles, IsWritten}
+use Rattle.machine.specs.inside.Tracking.{AreContentsOf, HasAcknowledged, HasFiles, IsWritten}
 use Rattle.machine.proofs.durable.FileParts.{files_have}
 use Rattle.machine.proofs.durable.Marks.{IsDurable}
 

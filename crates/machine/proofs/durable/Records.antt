@@ -22,7 +22,7 @@ use Rattle.journal.proofs.Batches.{newest_of, current-newest, advanced-newest, c
 use Rattle.journal.proofs.Stepping.{current_committed}
 use Rattle.journal.proofs.Answering.{older_committed}
 use Rattle.machine.specs.State.{State, length_of, home_of}
-use Rattle.machine.specs.Sound.{IsSound}
+use Rattle.machine.specs.inside.Sound.{IsSound}
 use Rattle.machine.specs.Rules.{next_page, bytes_with, bytes_at_mark, next_record as record_asked}
 use Rattle.machine.proofs.durable.Lists.{some_same, none_some, flat_map-append}
 use Rattle.machine.proofs.durable.Pages.{bytes_with-at, bytes_with-none}

@@ -27,12 +27,12 @@ use Rattle.machine.specs.History.{Acknowledge}
 use Rattle.machine.specs.State.{State, Whole, home_of}
 use Rattle.checkpoint.specs.Checkpoint.{without_notes}
 use Rattle.machine.specs.Rules.{Acts, end_change, FlushMade, MarkMade, with_batch, work_asked, reply_to}
-use Rattle.machine.specs.Sound.{IsSound}
+use Rattle.machine.specs.inside.Sound.{IsSound}
 use Rattle.machine.specs.Told.{Told, tell, events_of}
 use Rattle.machine.specs.Laws.{ReadsBack}
 use Rattle.machine.specs.Crashes.{StepIsSafe}
-use Rattle.machine.specs.Tracking.{HasFiles, IsTracked}
-use Rattle.machine.specs.OnTrack.{step_work, StepMade}
+use Rattle.machine.specs.inside.Tracking.{HasFiles, IsTracked}
+use Rattle.machine.specs.Steps.{step_work, StepMade}
 use Rattle.machine.proofs.durable.Leaves.{written_left}
 use Rattle.machine.proofs.durable.Quiet.{QuietStep, unchanged}
 use Rattle.machine.proofs.durable.QuietAccesses.{quiet_load, quiet_store, quiet_fill, quiet_evict}

@@ -13,7 +13,8 @@ use Rattle.journal.specs.WriteOuts.{has_uncommitted, HasBlock}
 use Rattle.journal.proofs.Stages.{IsAt, stage_is}
 use Rattle.journal.proofs.Batches.{committed_parts}
 use Rattle.machine.specs.State.{State, home_of}
-use Rattle.machine.specs.Sound.{IsSound, waiting_homes}
+use Rattle.machine.specs.inside.Sound.{IsSound}
+use Rattle.machine.specs.Durability.{waiting_homes}
 use Rattle.machine.proofs.durable.Lists.{contains_map, contains_drop, contains_flat_map, nothing_mapped}
 
 -- ---- which pages are frozen

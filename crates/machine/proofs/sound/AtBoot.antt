@@ -16,7 +16,7 @@ use Rattle.checkpoint.specs.Checkpoint.{Holds}
 use Rattle.machine.specs.declared.act.Shape.{Shape}
 use Rattle.machine.specs.State.{State, length_of}
 use Rattle.machine.specs.Fresh.{IsShape, fresh, IsFresh}
-use Rattle.machine.specs.Sound.{capacity_of, AreSpacesSound, IsMemorySound, AreWriteOutsSound, IsSound}
+use Rattle.machine.specs.inside.Sound.{capacity_of, AreSpacesSound, IsMemorySound, AreWriteOutsSound, IsSound}
 use Rattle.machine.proofs.sound.Lists.{get_or-replicate-same, memory_from, AreOnce-none}
 use Rattle.machine.proofs.sound.Groups.{unchanged_sound}
 

@@ -22,7 +22,7 @@ use Rattle.machine.specs.declared.act.Reply.{Reply}
 use Rattle.machine.specs.declared.act.Reply.TheVariants as replies
 use Rattle.machine.specs.State.{State}
 use Rattle.machine.specs.Rules.{with_hardware, with_spaces, Reaches, LoadAnswers, StoreAnswers, FillAnswers, EvictAnswers}
-use Rattle.machine.specs.Sound.{IsSound}
+use Rattle.machine.specs.inside.Sound.{IsSound}
 use Rattle.machine.proofs.sound.Lists.{same_some}
 use Rattle.machine.proofs.sound.Admitted.{running_below}
 use Rattle.machine.proofs.sound.Groups.{unchanged_sound}

@@ -19,7 +19,7 @@ use Rattle.machine.specs.declared.act.Reply.TheVariants as replies
 use Rattle.machine.specs.State.{State}
 use Rattle.machine.specs.Refusals.{refuse_if, why_not, pages_in_file, is_msync}
 use Rattle.machine.specs.Rules.{begin_change, Unmaps, Protects, Reclaims, Msyncs}
-use Rattle.machine.specs.Sound.{IsPrepared, IsSound}
+use Rattle.machine.specs.inside.Sound.{IsPrepared, IsSound}
 use Rattle.machine.proofs.sound.Admitted.{first_none, refuse_none, free_below}
 use Rattle.machine.proofs.sound.Groups.{unchanged_sound, refused_sound, shootdown_sound}
 

@@ -26,7 +26,7 @@ use Rattle.checkpoint.proofs.BackingLaws.{AreBacked-without_frame}
 use Rattle.fault.specs.Fault.{is_in_memory}
 use Rattle.machine.specs.State.{State, home_of}
 use Rattle.machine.specs.Rules.{with_spaces, end_change, UnmapMade, ProtectMade, ReclaimMade, ReclaimKept}
-use Rattle.machine.specs.Sound.{IsMemory, AreSpacesSound, IsMemorySound, IsSound}
+use Rattle.machine.specs.inside.Sound.{IsMemory, AreSpacesSound, IsMemorySound, IsSound}
 use Rattle.machine.proofs.sound.Lists.{same_some, kept_some, once_frames, once_copies, memory_from, AreOnce-set}
 use Rattle.machine.proofs.sound.Groups.{unchanged_sound, memory_same, write_outs_moved, write_outs_kept}
 use Rattle.machine.proofs.sound.Spaces.{memory_with_spaces}

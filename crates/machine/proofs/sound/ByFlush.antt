@@ -24,7 +24,7 @@ use Rattle.machine.specs.declared.act.Reply.TheVariants as replies
 use Rattle.machine.specs.State.{State, home_of}
 use Rattle.machine.specs.Refusals.{refuse_if, flush_refusal}
 use Rattle.machine.specs.Rules.{next_page, reply_to, after_record, after_failure, FlushMade, Flushes}
-use Rattle.machine.specs.Sound.{AreOlderCommitted, IsSound}
+use Rattle.machine.specs.inside.Sound.{AreOlderCommitted, IsSound}
 use Rattle.machine.proofs.sound.Admitted.{first_none, refuse_none}
 use Rattle.machine.proofs.sound.Groups.{unchanged_sound, refused_sound, memory_same}
 use Rattle.machine.proofs.sound.Waiting.{waits_of, waiting, waiting-none, length-advanced, older-rest, older-advanced, recorded, unrecorded}

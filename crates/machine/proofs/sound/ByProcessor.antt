@@ -11,7 +11,7 @@ use Rattle.machine.specs.declared.act.Reply.{Reply}
 use Rattle.machine.specs.declared.act.Reply.TheVariants as replies
 use Rattle.machine.specs.State.{State}
 use Rattle.machine.specs.Rules.{with_shootdown, Switches, Acknowledges, Resumes, Wakes, Idles}
-use Rattle.machine.specs.Sound.{IsSound}
+use Rattle.machine.specs.inside.Sound.{IsSound}
 use Rattle.machine.proofs.sound.Admitted.{free_below, there_below, switch_admitted, wait_admitted, idle_admitted}
 use Rattle.machine.proofs.sound.Groups.{unchanged_sound, refused_sound, shootdown_sound}
 

@@ -27,7 +27,7 @@ use Rattle.machine.specs.declared.act.Reply.TheVariants as replies
 use Rattle.machine.specs.State.{State}
 use Rattle.machine.specs.Refusals.{refuse_if, first_of, mapping_refusal, map_refusal, destroy_refusal}
 use Rattle.machine.specs.Rules.{with_spaces, Creates, Maps, MapMade, Destroys, SpaceDestroyed}
-use Rattle.machine.specs.Sound.{IsSound}
+use Rattle.machine.specs.inside.Sound.{IsSound}
 use Rattle.machine.proofs.sound.Lists.{same_some, kept_some}
 use Rattle.machine.proofs.sound.Admitted.{first_none, refuse_none, refuse_not_none, free_below}
 use Rattle.machine.proofs.sound.Groups.{unchanged_sound, refused_sound, write_outs_moved}

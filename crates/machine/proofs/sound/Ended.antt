@@ -22,7 +22,8 @@ use Rattle.checkpoint.specs.Checkpoint.{CheckpointState}
 use Rattle.machine.specs.State.{State, home_of}
 use Rattle.machine.specs.Refusals.{not_there, lock_refusal}
 use Rattle.machine.specs.Rules.{MayChange, end_change}
-use Rattle.machine.specs.Sound.{IsPrepared, waiting_homes, AreSpacesSound, AreWriteOutsSound, IsSound}
+use Rattle.machine.specs.inside.Sound.{IsPrepared, AreSpacesSound, AreWriteOutsSound, IsSound}
+use Rattle.machine.specs.Durability.{waiting_homes}
 use Rattle.machine.proofs.sound.Admitted.{first_none, there_below}
 
 -- ---- who changes

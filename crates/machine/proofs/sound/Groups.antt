@@ -20,7 +20,7 @@ use Rattle.cpu.specs.Access.{Hardware}
 use Rattle.machine.specs.State.{State, home_of}
 use Rattle.machine.specs.Refusals.{pages_in_file}
 use Rattle.machine.specs.Rules.{IsRefused, with_shootdown}
-use Rattle.machine.specs.Sound.{IsPrepared, IsMemorySound, AreWriteOutsSound, IsSound}
+use Rattle.machine.specs.inside.Sound.{IsPrepared, IsMemorySound, AreWriteOutsSound, IsSound}
 
 pub unchanged_sound : (s new : State) → new ≡ s → IsSound s → IsSound new
 unchanged_sound s new same sound = subst IsSound (sym same) sound

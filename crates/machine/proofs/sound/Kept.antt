@@ -7,7 +7,7 @@ use Rattle.machine.specs.declared.act.Reply.TheVariants as replies
 use Rattle.machine.specs.declared.act.Step.{Step}
 use Rattle.machine.specs.State.{State}
 use Rattle.machine.specs.Rules.{Changes, Acts, Rules, Run}
-use Rattle.machine.specs.Sound.{IsSound}
+use Rattle.machine.specs.inside.Sound.{IsSound}
 use Rattle.machine.proofs.sound.Groups.{unchanged_sound, refused_sound}
 use Rattle.machine.proofs.sound.ByAccess.{load_sound, store_sound, fill_sound, evict_sound}
 use Rattle.machine.proofs.sound.ByProcessor.{switch_sound, ack_sound, resume_sound, wake_sound, idle_sound}

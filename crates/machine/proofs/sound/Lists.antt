@@ -4,7 +4,7 @@ use Rattle.std.proofs.lemmas.Bool.{cases_eq}
 use Rattle.page_entry.specs.declared.numbers.FilePage.{FilePage}
 use Rattle.frames.specs.Frames.{FramesState, Frame, frame_at, bytes_of, page_of}
 use Rattle.frames.proofs.AreFramesLaws.{after_set}
-use Rattle.machine.specs.Sound.{IsMemory}
+use Rattle.machine.specs.inside.Sound.{IsMemory}
 
 -- what is there is some
 pub some_from : {X : Type 0} (o : Option X) → IsSome o → (x : X) × (o ≡ Some x)

@@ -10,7 +10,7 @@ use Rattle.checkpoint.specs.Backing.{AreBacked}
 use Rattle.checkpoint.proofs.BackingLaws.{AreBacked-frozen}
 use Rattle.fault.specs.Fault.{is_in_memory}
 use Rattle.machine.specs.State.{State}
-use Rattle.machine.specs.Sound.{IsMemorySound}
+use Rattle.machine.specs.inside.Sound.{IsMemorySound}
 use Rattle.machine.proofs.sound.Frames.{in_use}
 
 -- the frame of an entry is in use

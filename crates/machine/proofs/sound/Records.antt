@@ -13,7 +13,7 @@ use Rattle.checkpoint.proofs.PagesInUse.{same_page-true, same_page-refl, list_an
 use Rattle.fault.specs.Fault.{is_in_memory}
 use Rattle.machine.specs.State.{State, home_of}
 use Rattle.machine.specs.Rules.{next_page, bytes_with, bytes_at_mark, next_record}
-use Rattle.machine.specs.Sound.{IsSound}
+use Rattle.machine.specs.inside.Sound.{IsSound}
 use Rattle.machine.proofs.sound.Lists.{AreOnce, same_some, held_frame, once_frames, once_copies}
 use Rattle.machine.proofs.sound.ByFix.{length-cut_at_end}
 use Rattle.machine.proofs.sound.Waiting.{waits_of, waiting, recorded}

@@ -17,7 +17,7 @@ use Rattle.checkpoint.specs.Backing.{AreBacked}
 use Rattle.checkpoint.proofs.SpacesLaws.{MayBe, AreBacked-with_entry}
 use Rattle.machine.specs.State.{State}
 use Rattle.machine.specs.Rules.{with_spaces}
-use Rattle.machine.specs.Sound.{IsPrepared, IsMemorySound, IsSound}
+use Rattle.machine.specs.inside.Sound.{IsPrepared, IsMemorySound, IsSound}
 use Rattle.machine.proofs.sound.Groups.{write_outs_moved, prepared_moved}
 
 -- the facts of frames ask of spaces only that entries are backed

@@ -20,7 +20,7 @@ use Rattle.checkpoint.specs.Checkpoint.{CheckpointState, is_of_page, freed_copy,
 use Rattle.fault.specs.Fault.{is_in_memory}
 use Rattle.cpu.specs.Access.{Hardware}
 use Rattle.machine.specs.State.{State, home_of}
-use Rattle.machine.specs.Sound.{IsMemory, AreOlderCommitted, AreSpacesSound, AreWriteOutsSound, IsSound}
+use Rattle.machine.specs.inside.Sound.{IsMemory, AreOlderCommitted, AreSpacesSound, AreWriteOutsSound, IsSound}
 use Rattle.machine.proofs.sound.Lists.{once_frames, once_copies, memory_from, AreOnce-fewer, AreOnce-none}
 use Rattle.machine.proofs.sound.Groups.{prepared_moved}
 use Rattle.machine.proofs.sound.Waiting.{waiting, length-advanced, committed-advanced, current_uncommitted, all_after, committed_no_record}

@@ -23,7 +23,7 @@ use Rattle.checkpoint.proofs.BackingLaws.{HasNotes-backed}
 use Rattle.fault.specs.Fault.{is_in_memory, place_of_fault}
 use Rattle.cpu.specs.Access.{IsReachable}
 use Rattle.machine.specs.State.{State, home_of}
-use Rattle.machine.specs.Sound.{IsInFile, IsPrepared, IsSound}
+use Rattle.machine.specs.inside.Sound.{IsInFile, IsPrepared, IsSound}
 use Rattle.machine.proofs.sound.Frames.{in_use, held_in_memory}
 use Rattle.machine.proofs.sound.ByFix.{fault_place}
 use Rattle.machine.proofs.sound.Homes.{home-below, gathered_homes}

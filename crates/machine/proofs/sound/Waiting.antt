@@ -14,7 +14,7 @@ use Rattle.journal.specs.WriteOut.{WriteOut, next_stage, has_committed, advanced
 use Rattle.journal.specs.WriteOuts.{has_uncommitted, current, advanced, batches_after}
 use Rattle.journal.proofs.Stages.{IsAt, stage_is}
 use Rattle.journal.proofs.Batches.{committed_parts, batch_before}
-use Rattle.machine.specs.Sound.{AreOlderCommitted}
+use Rattle.machine.specs.inside.Sound.{AreOlderCommitted}
 
 -- ---- one write-out
 

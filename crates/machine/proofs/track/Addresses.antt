@@ -22,7 +22,7 @@ use Rattle.machine.specs.Refusals.{served_refusal, fix_refusal}
 use Rattle.machine.specs.Rules.{Acts, Fixes}
 use Rattle.machine.specs.Told.{Told}
 use Rattle.machine.specs.Laws.{AddressLaw, LeadsTo, IsInside, IsFreeToAct}
-use Rattle.machine.specs.Tracking.{IsArranged}
+use Rattle.machine.specs.inside.Tracking.{IsArranged}
 use Rattle.machine.proofs.track.Places.{place_is, length_is}
 use Rattle.machine.proofs.track.Faults.{or_of_and, led_to, servable}
 use Rattle.machine.proofs.track.Refused.{free_at_fix, served_at_fix}

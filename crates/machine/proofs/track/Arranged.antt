@@ -12,7 +12,7 @@ use Rattle.cpu.specs.Access.{Hardware}
 use Rattle.machine.specs.State.{State}
 use Rattle.machine.specs.Rules.{with_hardware, with_shootdown, with_spaces, begin_change, end_change}
 use Rattle.machine.specs.Told.{Told, Pending, begun_by, ended_by}
-use Rattle.machine.specs.Tracking.{IsArranged, pending_in, change_in}
+use Rattle.machine.specs.inside.Tracking.{IsArranged, pending_in, change_in}
 use Rattle.machine.proofs.track.Still.{KeepsTold}
 use Rattle.machine.proofs.track.ToldProcessors.{AreProcessorsTold, told_running, told_begun}
 use Rattle.machine.proofs.track.ToldSpaces.{ToldSpaces, AreSpacesTold}

@@ -19,9 +19,9 @@ use Rattle.machine.specs.declared.act.Reply.{Reply}
 use Rattle.machine.specs.declared.act.Reply.TheVariants as replies
 use Rattle.machine.specs.State.{State}
 use Rattle.machine.specs.Rules.{Acts, with_spaces, begin_change, end_change, MayChange, UnmapMade, ProtectMade, ReclaimMade, ReclaimKept, MarkMade, SpaceDestroyed, MapMade}
-use Rattle.machine.specs.Sound.{IsSound, IsPrepared}
+use Rattle.machine.specs.inside.Sound.{IsSound, IsPrepared}
 use Rattle.machine.specs.Told.{Told, arranged, changed, mapped_in, begun_by, ended_by, begun_unmap, begun_protect}
-use Rattle.machine.specs.Tracking.{IsArranged, pending_in, change_in}
+use Rattle.machine.specs.inside.Tracking.{IsArranged, pending_in, change_in}
 use Rattle.machine.proofs.track.Refused.{IsFree, there_at_change, free_at_unmap, free_at_protect, free_at_reclaim, free_at_msync, judged_so}
 use Rattle.machine.proofs.track.ToldProcessors.{told_destroyed}
 use Rattle.machine.proofs.track.ToldSpaces.{ToldSpaces, AreSpacesTold, spaces_still, spaces_without, spaces_made, spaces_mapped, spaces_unmapped, spaces_protected}

@@ -17,9 +17,9 @@ use Rattle.machine.specs.declared.act.Reply.TheVariants as replies
 use Rattle.machine.specs.State.{State}
 use Rattle.journal.specs.WriteOuts.{outs_after, outs_record, next_answer}
 use Rattle.machine.specs.Rules.{Acts, with_hardware, with_shootdown, FixMade, FlushMade, after_record, after_failure}
-use Rattle.machine.specs.Sound.{IsSound}
+use Rattle.machine.specs.inside.Sound.{IsSound}
 use Rattle.machine.specs.Told.{Told, arranged}
-use Rattle.machine.specs.Tracking.{IsArranged}
+use Rattle.machine.specs.inside.Tracking.{IsArranged}
 use Rattle.machine.proofs.track.Refused.{is_there_by, there_at_wait, runs_at_idle, free_at_switch, free_at_fix}
 use Rattle.machine.proofs.track.Translations.{is_translated}
 use Rattle.machine.proofs.track.Still.{KeepsTold, still_none, told_walked, load_still, store_still, fill_still, evict_still}

@@ -7,9 +7,9 @@ use Rattle.machine.specs.State.{State}
 use Rattle.machine.specs.declared.act.Step.{Step}
 use Rattle.machine.specs.History.{Event}
 use Rattle.machine.specs.Rules.{Rules, Acts}
-use Rattle.machine.specs.Sound.{IsSound}
+use Rattle.machine.specs.inside.Sound.{IsSound}
 use Rattle.machine.specs.Told.{Told, arranged, events_of, tell}
-use Rattle.machine.specs.Tracking.{IsArranged}
+use Rattle.machine.specs.inside.Tracking.{IsArranged}
 use Rattle.machine.proofs.track.Arranged.{processors_of, spaces_of, lock_of, arranged_from}
 use Rattle.machine.proofs.track.ArrangedHardware.{arranged_load, arranged_store, arranged_fill, arranged_evict, arranged_switch, arranged_idle, arranged_wake, arranged_resume, arranged_ack, arranged_fix, arranged_flush}
 use Rattle.machine.proofs.track.ArrangedChanges.{arranged_create, arranged_destroy, arranged_map, arranged_unmap, arranged_protect, arranged_reclaim, arranged_msync, arranged_change}

@@ -22,8 +22,8 @@ use Rattle.machine.specs.State.{State, length_of}
 use Rattle.machine.specs.Fresh.{IsFresh, fresh}
 use Rattle.machine.specs.Told.{Told}
 use Rattle.machine.specs.Laws.{told_at_start}
-use Rattle.machine.specs.OnTrack.{told_first}
-use Rattle.machine.specs.Tracking.{IsArranged, HasFiles}
+use Rattle.machine.specs.Steps.{told_first}
+use Rattle.machine.specs.inside.Tracking.{IsArranged, HasFiles}
 use Rattle.machine.proofs.track.Histories.{length-memory_of}
 use Rattle.machine.proofs.track.ToldProcessors.{AreProcessorsTold}
 use Rattle.machine.proofs.track.ToldSpaces.{AreSpacesTold, spaces_made}

@@ -7,7 +7,7 @@ use Rattle.volume_codec.specs.Recovery.{IsVolume, files_from, files_in, lengths_
 use Rattle.volume_codec.proofs.Blocks.{length-block_at}
 use Rattle.volume_codec.proofs.Recovered.{length-file}
 use Rattle.machine.specs.State.{State}
-use Rattle.machine.specs.Tracking.{HasFiles}
+use Rattle.machine.specs.inside.Tracking.{HasFiles}
 
 named_from : (contents : ℕ → List ℕ) (b : ℕ) (fs : List TableFile) → map (λ (f : File). let t : TableFile = record { name = f.name; capacity = f.capacity } in t) (files_from contents b fs (map (λ (f : TableFile). f.capacity) fs)) ≡ fs
 named_from contents b [] = refl

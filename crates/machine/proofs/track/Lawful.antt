@@ -13,11 +13,11 @@ use Rattle.machine.specs.declared.act.Reply.TheVariants as replies
 use Rattle.machine.specs.History.{memory_of, after}
 use Rattle.machine.specs.State.{State}
 use Rattle.machine.specs.Rules.{Acts}
-use Rattle.machine.specs.Sound.{IsSound}
+use Rattle.machine.specs.inside.Sound.{IsSound}
 use Rattle.machine.specs.Told.{Told}
 use Rattle.machine.specs.Laws.{LoadLaw, StoreLaw, LoadsLatest, StoresAtPlace}
-use Rattle.machine.specs.OnTrack.{IsLawful}
-use Rattle.machine.specs.Tracking.{IsArranged, IsLatest}
+use Rattle.machine.specs.Steps.{IsLawful}
+use Rattle.machine.specs.inside.Tracking.{IsArranged, IsLatest}
 use Rattle.machine.proofs.track.Accesses.{has_loaded, has_stored}
 use Rattle.machine.proofs.track.Places.{place_is, length_is}
 use Rattle.machine.proofs.track.Addresses.{address_law}

@@ -15,9 +15,9 @@ use Rattle.machine.specs.declared.act.Reply.{Reply}
 use Rattle.machine.specs.declared.act.Reply.TheVariants as replies
 use Rattle.machine.specs.State.{State}
 use Rattle.machine.specs.Rules.{Acts, with_hardware, with_shootdown, MapMade}
-use Rattle.machine.specs.Sound.{IsSound}
+use Rattle.machine.specs.inside.Sound.{IsSound}
 use Rattle.machine.specs.Told.{Told, tell, events_of, store_at, place_told}
-use Rattle.machine.specs.Tracking.{IsArranged}
+use Rattle.machine.specs.inside.Tracking.{IsArranged}
 use Rattle.machine.proofs.track.Histories.{quiet_nothing}
 use Rattle.machine.proofs.track.Still.{IsStill, load_still, store_still, fill_still, evict_still}
 use Rattle.machine.proofs.track.Pages.{HasPages, SamePages, pages_refl, pages_quiet}

@@ -7,9 +7,9 @@ use Rattle.machine.specs.declared.act.Reply.{Reply}
 use Rattle.machine.specs.declared.act.Step.{Step}
 use Rattle.machine.specs.State.{State}
 use Rattle.machine.specs.Rules.{Acts, Rules}
-use Rattle.machine.specs.Sound.{IsSound}
+use Rattle.machine.specs.inside.Sound.{IsSound}
 use Rattle.machine.specs.Told.{Told, tell}
-use Rattle.machine.specs.Tracking.{IsArranged}
+use Rattle.machine.specs.inside.Tracking.{IsArranged}
 use Rattle.machine.proofs.track.Pages.{HasPages}
 use Rattle.machine.proofs.track.PagesActs.{pages_load, pages_store, pages_fill, pages_evict, pages_switch, pages_idle, pages_wake, pages_create, pages_destroy, pages_map, pages_unmap, pages_protect, pages_reclaim, pages_msync, pages_ack, pages_resume}
 use Rattle.machine.proofs.track.PagesChanges.{IsReadable, pages_change, pages_fix, pages_flush}

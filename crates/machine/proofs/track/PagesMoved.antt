@@ -12,10 +12,10 @@ use Rattle.checkpoint.specs.Backing.{AreBacked, page_at}
 use Rattle.fault.specs.Fault.{is_in_memory}
 use Rattle.machine.specs.History.{Memory, memory_of, after, is_touched}
 use Rattle.machine.specs.State.{State, cut_at_end}
-use Rattle.machine.specs.Sound.{IsSound}
+use Rattle.machine.specs.inside.Sound.{IsSound}
 use Rattle.machine.specs.Rules.{MayLeave}
 use Rattle.machine.specs.Told.{Told}
-use Rattle.machine.specs.Tracking.{ArePlain}
+use Rattle.machine.specs.inside.Tracking.{ArePlain}
 use Rattle.machine.proofs.track.Histories.{AreQuiet}
 use Rattle.checkpoint.proofs.PagesInUse.{same_page-true}
 use Rattle.machine.proofs.track.FramePages.{IsBrought, holder_of, held_by_none, absent_before, held_without, held_still}

@@ -8,10 +8,10 @@ use Rattle.checkpoint.specs.Backing.{page_at}
 use Rattle.cpu.specs.Access.{Hardware}
 use Rattle.machine.specs.History.{Memory, Store, memory_of, after, stored, is_touched}
 use Rattle.machine.specs.State.{State}
-use Rattle.machine.specs.Sound.{IsMemory}
+use Rattle.machine.specs.inside.Sound.{IsMemory}
 use Rattle.machine.specs.Rules.{with_hardware}
 use Rattle.machine.specs.Told.{Told}
-use Rattle.machine.specs.Tracking.{IsLatest, AreTouched}
+use Rattle.machine.specs.inside.Tracking.{IsLatest, AreTouched}
 use Rattle.machine.proofs.track.Histories.{after_store, stored_there, stored_elsewhere, length-stored, touched_there, touched_elsewhere}
 use Rattle.frames.proofs.FramesLaws.{page_of-with_bytes, frame_at-with_bytes_other}
 use Rattle.machine.proofs.track.FramePages.{cases_page, differ, bytes_of-with_bytes, held_by_none, absent_before}

@@ -6,7 +6,7 @@ use Rattle.spaces.specs.Spaces.{place_at}
 use Rattle.shootdown.specs.Shootdown.{current}
 use Rattle.machine.specs.State.{State, length_of}
 use Rattle.machine.specs.Told.{Told, places_in, place_told, length_told}
-use Rattle.machine.specs.Tracking.{IsArranged}
+use Rattle.machine.specs.inside.Tracking.{IsArranged}
 
 module _ {told : Told} {s : State} (a : IsArranged told s) where
   pub place_is : (p va : ℕ) → p < length s.hardware.shootdown.processors → place_told told p va ≡ place_at s.hardware.spaces (current s.hardware.shootdown p) (va / 4096)

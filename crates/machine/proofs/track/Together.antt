@@ -7,8 +7,8 @@ use Rattle.machine.specs.State.{State, Whole}
 use Rattle.machine.specs.Rules.{Rules}
 use Rattle.machine.specs.Told.{Told, tell}
 use Rattle.machine.specs.Crashes.{Begins}
-use Rattle.machine.specs.OnTrack.{IsLawful, told_first}
-use Rattle.machine.specs.Tracking.{IsArranged, IsTracked}
+use Rattle.machine.specs.Steps.{IsLawful, told_first}
+use Rattle.machine.specs.inside.Tracking.{IsArranged, IsTracked}
 use Rattle.machine.proofs.track.ArrangedKept.{arranged_kept}
 use Rattle.machine.proofs.track.Pages.{HasPages}
 use Rattle.machine.proofs.track.PagesChanges.{IsReadable}

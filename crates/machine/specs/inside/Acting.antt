@@ -12,7 +12,7 @@ use Rattle.machine.specs.declared.act.Step.{Step}
 use Rattle.machine.specs.declared.layers.Layers.{Layers}
 use Rattle.machine.specs.Rules.{Rules}
 use Rattle.machine.specs.Calls.{CallsOf}
-use Rattle.machine.specs.OnTrack.{step_work}
+use Rattle.machine.specs.Steps.{step_work}
 use Rattle.machine.specs.inside.Layers.{state_in, AnswersBy, KeepsReserved}
 
 pub record ActDone {D Z : Type 0} (disk : Ghosts D) (old : Layers D Z) (step : Step) (reply : Reply)

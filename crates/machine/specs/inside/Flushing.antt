@@ -15,7 +15,7 @@ use Rattle.machine.specs.declared.act.Reply.{Reply}
 use Rattle.machine.specs.declared.act.Reply.TheVariants as replies
 use Rattle.machine.specs.State.{State}
 use Rattle.machine.specs.Calls.{FlushCalls}
-use Rattle.machine.specs.OnTrack.{step_work}
+use Rattle.machine.specs.Steps.{step_work}
 
 -- the mark of an answer has 32 bits
 abbrev pub HasSmallMark : Flushed → Type 0

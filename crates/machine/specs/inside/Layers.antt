@@ -17,7 +17,7 @@ use Rattle.journal.specs.WriteOuts.{WriteOutsValue, is_busy, begun, HasBlock}
 use Rattle.checkpoint.specs.Checkpoint.{IsDirty}
 use Rattle.machine.specs.State.{State, Whole, home_of, cut_at_end}
 use Rattle.machine.specs.Refusals.{pages_in_file}
-use Rattle.machine.specs.Sound.{IsSound}
+use Rattle.machine.specs.inside.Sound.{IsSound}
 
 -- the state of a machine with these layers; in these layouts a file is as long as its capacity
 abbrev pub state_in : {D Z : Type 0} → Layers D Z → State

@@ -22,7 +22,7 @@ returns-in-Ok-clause-ran g c =
         few = taken_few g.D.Device start steps replies last made;
         state = last.state;
         made = made;
-        run = run_of g.D.Device c.args.device c.args.shape start (take (length replies) steps) replies last started c.begin.ensures made c.serves.ensures;
+        run = run_of g.D.Device c.args.device c.args.shape start (take (length replies) steps) replies last started made c.keeps_the_laws.ensures.headline c.keeps_the_laws.ensures.lawful c.keeps_the_laws.ensures.left c.keeps_the_laws.ensures.served;
       }),
     )
 

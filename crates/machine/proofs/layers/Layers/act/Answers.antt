@@ -1,7 +1,7 @@
 use Rattle.std.proofs.Common.{refl, sym, ap, subst}
 use Rattle.machine.specs.declared.act.Act.{Act}
 use Rattle.machine.specs.Calls.{CallsOf}
-use Rattle.machine.specs.OnTrack.{step_work}
+use Rattle.machine.specs.Steps.{step_work}
 use Rattle.machine.specs.inside.Layers.{state_in, reply_to}
 use Rattle.machine.proofs.sound.Uses.{reachable, has_notes}
 use Rattle.machine.proofs.code.Acting.{quiet_done, fix_done, flush_done}

@@ -1,16 +1,20 @@
-use Rattle.std.proofs.Common.{[]}
-use Rattle.machine.proofs.Tracks.{on_track_all}
+use Rattle.machine.proofs.Tracks.{taken_then}
 use Rattle.machine.proofs.machine.Machine.run.Goals as goal
 
 pub returns-clause-headline : goal.returns-clause-headline
-returns-clause-headline g c = λ files begins. (on_track_all g.D.Device files c.args.self.now [] [] c.args.self.now c.args.steps.now c.make_all.new.replies c.make_all.new.self (c.begin.ensures files begins) c.make_all.ensures.steps).through
+returns-clause-headline g c = λ files begins.
+    c.keeps_the_laws.ensures.headline files c.args.self.now c.args.steps.now c.make_all.new.replies (record { begins = begins; taken = c.make_all.ensures.steps })
 
 pub returns-clause-lawful : goal.returns-clause-lawful
-returns-clause-lawful g c = λ files begins. (on_track_all g.D.Device files c.args.self.now [] [] c.args.self.now c.args.steps.now c.make_all.new.replies c.make_all.new.self (c.begin.ensures files begins) c.make_all.ensures.steps).lawful
+returns-clause-lawful g c = λ files begins.
+    c.keeps_the_laws.ensures.lawful files c.args.self.now c.args.steps.now c.make_all.new.replies (record { begins = begins; taken = c.make_all.ensures.steps })
 
 pub returns-clause-served : goal.returns-clause-served
 returns-clause-served g c = λ files begins.
-    c.serves.ensures files c.args.self.now c.args.steps.now c.make_all.new.replies (on_track_all g.D.Device files c.args.self.now [] [] c.args.self.now c.args.steps.now c.make_all.new.replies c.make_all.new.self (c.begin.ensures files begins) c.make_all.ensures.steps)
+    c.keeps_the_laws.ensures.served files c.args.self.now c.args.steps.now c.make_all.new.replies (record { begins = begins; taken = c.make_all.ensures.steps })
 
 pub returns-clause-on_track : goal.returns-clause-on_track
-returns-clause-on_track g c = λ files start earlier told on. on_track_all g.D.Device files start earlier told c.args.self.now c.args.steps.now c.make_all.new.replies c.make_all.new.self on c.make_all.ensures.steps
+returns-clause-on_track g c = λ files start earlier told on. record {
+  begins = on.begins;
+  taken = taken_then g.D.Device start c.args.self.now c.make_all.new.self earlier told c.args.steps.now c.make_all.new.replies on.taken c.make_all.ensures.steps;
+}

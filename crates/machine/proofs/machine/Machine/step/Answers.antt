@@ -2,7 +2,7 @@ use Rattle.std.proofs.Common.{ℕ, List, sym, subst}
 use Rattle.machine.specs.declared.act.Reply.{Reply}
 use Rattle.machine.specs.State.{Whole}
 use Rattle.machine.specs.Rules.{Rules}
-use Rattle.machine.specs.OnTrack.{StepMade}
+use Rattle.machine.specs.Steps.{StepMade}
 use Rattle.machine.specs.inside.Layers.{state_in, whole_in}
 use Rattle.machine.specs.inside.Acting.{ActDone}
 use Rattle.machine.proofs.code.Stepping.{layers_kept, step_made, not_full}

@@ -1,6 +1,6 @@
 -- What holds of every machine's state: the facts of its layers, and those that tie them to each other.
-use Rattle.std.specs.Prelude.{ℕ, ◌≡◌, ◌≢◌, ◌+◌, ◌*◌, ◌^◌, ◌<◌, ◌≤◌, Bool, true, false, List, [], ◌∷◌, length, map, drop, Option, Some, None, IsSome, Contains, slice_index_or, if◌then◌else◌, Ok}
-use Rattle.std.specs.List.{flat_map, All}
+use Rattle.std.specs.Prelude.{ℕ, ◌≡◌, ◌≢◌, ◌+◌, ◌*◌, ◌^◌, ◌<◌, ◌≤◌, Bool, true, false, List, [], ◌∷◌, length, map, Option, Some, None, IsSome, Contains, slice_index_or, Ok}
+use Rattle.std.specs.List.{All}
 use Rattle.page_entry.specs.declared.numbers.FilePage.{FilePage}
 use Rattle.mappings.specs.declared.place.Place.{Place}
 use Rattle.mappings.specs.declared.place.Rights.{Rights}
@@ -12,7 +12,7 @@ use Rattle.volume_codec.specs.Files.{TableFile}
 use Rattle.volume_codec.specs.Super.{SuperValue, Fits, geometry_of}
 use Rattle.volume_codec.specs.Descriptor.{AreHomes}
 use Rattle.journal.specs.WriteOut.{WriteOut, has_committed}
-use Rattle.journal.specs.WriteOuts.{WriteOutsValue, is_busy}
+use Rattle.journal.specs.WriteOuts.{is_busy}
 use Rattle.spaces.specs.declared.change.Change.{Change}
 use Rattle.spaces.specs.declared.change.Change.TheVariants.{Unmap, Protect, Reclaim, Checkpoint}
 use Rattle.spaces.specs.Spaces.{Spaces, AreSpaces, has_space, space_at, place_at}
@@ -25,6 +25,7 @@ use Rattle.checkpoint.specs.Backing.{AreBacked}
 use Rattle.fault.specs.Fault.{is_in_memory}
 use Rattle.machine.specs.State.{State, length_of, home_of}
 use Rattle.machine.specs.Refusals.{pages_in_file}
+use Rattle.machine.specs.Durability.{frozen_homes}
 
 -- a page of a file that begins before the file's end
 pub record IsInFile (s : State) (owner : FilePage) : Type 0 where
@@ -49,14 +50,6 @@ abbrev pub AreOlderCommitted : List WriteOut → Type 0
 AreOlderCommitted [] = Unit {0}
 AreOlderCommitted (w ∷ []) = Unit {0}
 AreOlderCommitted (w ∷ next ∷ newer) = (has_committed w ≡ true) × AreOlderCommitted (next ∷ newer)
-
--- the home blocks whose records aren't written yet
-abbrev pub waiting_homes : WriteOutsValue → List ℕ
-waiting_homes outs = flat_map (λ w. drop w.steps w.batch.homes) outs.batches
-
--- the home blocks of the frozen pages are those that wait for their records; a broken machine freezes none
-abbrev pub frozen_homes : State → List ℕ
-frozen_homes s = if s.write_outs.broken then [] else waiting_homes s.write_outs
 
 -- what a change that is under way may rely on
 abbrev pub IsPrepared : State → Change → Type 0

@@ -1,5 +1,5 @@
 -- How a machine's state and its device go with what its run tells.
-use Rattle.std.specs.Prelude.{ℕ, ◌≡◌, ◌≢◌, ◌+◌, ◌-◌, ◌*◌, ◌<◌, ◌≤◌, ◌↔◌, ◌⊎◌, Bool, true, false, List, [], ◌++◌, length, map, take, Option, Some, None, is_some, Contains, slice_index_or, if◌then◌else◌}
+use Rattle.std.specs.Prelude.{ℕ, ◌≡◌, ◌≢◌, ◌+◌, ◌<◌, ◌≤◌, ◌↔◌, ◌⊎◌, Bool, true, false, List, [], ◌++◌, length, map, Option, Some, None, is_some, Contains, slice_index_or, if◌then◌else◌}
 use Rattle.std.specs.List.{All}
 use Rattle.std.specs.FinMap as maps
 use Rattle.page_entry.specs.declared.numbers.FilePage.{FilePage}
@@ -19,7 +19,8 @@ use Rattle.fault.specs.Fault.{is_in_memory}
 use Rattle.machine.specs.History.{Event, Memory, memory_of, after, is_touched, Mark, Acknowledge, IsMarked}
 use Rattle.machine.specs.State.{State, length_of, home_of, cut_at_end}
 use Rattle.machine.specs.Rules.{bytes_at_mark}
-use Rattle.machine.specs.Sound.{IsInFile, IsSound}
+use Rattle.machine.specs.Durability.{within_file}
+use Rattle.machine.specs.inside.Sound.{IsInFile, IsSound}
 use Rattle.machine.specs.Told.{Told, Pending, Unmapping, Protecting, places_in}
 
 -- the unmap or protect that a lock is held for
@@ -73,10 +74,6 @@ ArePlain files told s = (owner : FilePage) → IsInFile s owner → is_in_memory
     ≡ cut_at_end s owner (after (memory_of files) told.history owner.file owner.page)
 
 -- ---- what the device recovers to
-
--- the bytes of a page up to its file's end
-abbrev pub within_file : State → FilePage → List ℕ → List ℕ
-within_file s owner bytes = take (length_of s owner.file - 4096 * owner.page) bytes
 
 -- the contents have the parts of the files in this memory
 abbrev pub HasParts : State → (ℕ → List ℕ) → Memory → Type 0

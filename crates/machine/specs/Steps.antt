@@ -1,0 +1,47 @@
+-- One step of a machine over an honest device, and the laws of one step.
+use Rattle.std.specs.Prelude.{ℕ, ◌≡◌, ◌≢◌, List, [], ◌∷◌, length}
+use Rattle.page_entry.specs.declared.refusal.Refusal.TheVariants as refusals
+use Rattle.device.specs.Device.{Only, LeavesOnly}
+use Rattle.volume_codec.specs.Files.{File}
+use Rattle.journal.specs.Work.{Work, Sync, Nothing, TornFromWork}
+use Rattle.machine.specs.declared.act.Act.{Act}
+use Rattle.machine.specs.declared.act.Act.TheVariants as acts
+use Rattle.machine.specs.declared.act.Reply.{Reply}
+use Rattle.machine.specs.declared.act.Reply.TheVariants as replies
+use Rattle.machine.specs.declared.act.Step.{Step}
+use Rattle.machine.specs.State.{State, Whole}
+use Rattle.machine.specs.Rules.{Rules, work_asked}
+use Rattle.machine.specs.Told.{Told, tell_all}
+use Rattle.machine.specs.Laws.{told_at_start, EachStep, LoadLaw, StoreLaw, AddressLaw}
+
+-- what a step that is answered so writes or makes sure on the device: the work of a write-out's step, and else nothing
+abbrev pub step_work : State → Act → Reply → Work
+step_work s acts.Flush replies.Going = work_asked s
+step_work s acts.Flush (replies.Committed number) = work_asked s
+step_work s acts.Flush (replies.Done number) = work_asked s
+step_work s acts.Flush (replies.Refused refusals.Device) = work_asked s
+step_work s act reply = Nothing
+
+-- One step of a machine over an honest device.
+pub record StepMade {D : Type 0} (seen : D → List ℕ) (may_leave : D → List ℕ → Type 0) (moment : D → ℕ)
+    (left_since : D → ℕ → List ℕ → Type 0) (is_honest : D → Type 0)
+    (old : Whole D) (step : Step) (reply : Reply) (new : Whole D) : Type 0 where
+  pub answered : Rules old.state (seen old.device) step reply new.state (seen new.device)
+  -- what a crash may leave after it, and within it
+  pub left : (c : List ℕ) → may_leave new.device c
+      → TornFromWork (step_work old.state step.act reply) (may_leave old.device) c
+  pub sure : reply ≢ replies.Refused refusals.Device → step_work old.state step.act reply ≡ Sync
+      → Only (may_leave new.device) (seen old.device)
+  pub within : LeavesOnly moment left_since old.device new.device
+      (TornFromWork (step_work old.state step.act reply) (may_leave old.device))
+  pub honest : is_honest new.device
+
+-- loads, stores and faults are answered by what was told
+pub record IsLawful (files : List File) (told : Told) (p : ℕ) (act : Act) (reply : Reply) : Type 0 where
+  pub load : LoadLaw files told p act reply
+  pub store : StoreLaw told p act reply
+  pub address : AddressLaw told p act reply
+
+-- what is told at the start of a run of this machine with these files
+abbrev pub told_first : List File → State → Told
+told_first files start = told_at_start files (length start.hardware.shootdown.processors)
