@@ -1,6 +1,6 @@
 // A library to load before a program (LD_PRELOAD), which takes the time between lines that the program prints: from
-// each line that begins with the word of FIRST to the next that begins with that of LAST. As the program ends, it writes
-// the microseconds of each such pair to the file TIMES. So times are taken where the program is, and no reader's.
+// each line that begins with the word of FIRST to the next that begins with that of LAST. As the program ends, it
+// writes the microseconds of each such pair to the file TIMES: times are taken where the program is, and no reader's.
 #define _GNU_SOURCE
 #include <dlfcn.h>
 #include <stdio.h>
