@@ -1,0 +1,220 @@
+// Machines at their limits.
+use crate::trial::{Line, TWO, Trial, formatted, make, reply_to, zeros};
+use device::{Device, FailingDisk, MemDisk};
+use machine::{Act, FewBytes, Machine, Reply, Shape};
+use mappings::Rights;
+use page_entry::Refusal;
+use recovery::{format, open};
+use std::alloc::Global;
+use std::test::Fail;
+
+// Shapes over a volume with 4 record slots, and whether a machine can have them.
+const SHAPES: [(u64, u64, u64, u64, bool); 13] = [
+    (1, 1, 1, 0, true),
+    (16, 64, 4, 64, true),
+    (0, 8, 4, 2, false),
+    (17, 8, 4, 2, false),
+    (2, 0, 4, 2, false),
+    (2, 65, 4, 2, false),
+    (2, 8, 0, 2, false),
+    (2, 8, 5, 2, false),
+    (2, 8, 4, 65, false),
+    (u64::MAX, 8, 4, 2, false),
+    (2, u64::MAX, 4, 2, false),
+    (2, 8, u64::MAX, 2, false),
+    (2, 8, 4, u64::MAX, false),
+];
+
+// A shape is refused before a device call, and the volume is handed back.
+#[test]
+fn shapes_have_limits(rt: HostRuntime) -> Result<(), Fail> {
+    for layout in [1, 2] {
+        for (cpus, tlb, frames, copies, fits) in SHAPES {
+            let shape = Shape {
+                cpus,
+                tlb,
+                frames,
+                copies,
+            };
+            let disk = formatted(rt.alloc(), layout)?;
+            let before = disk.calls();
+            let device = match open(rt.alloc(), disk) {
+                Ok(volume) => match Machine::boot(rt.alloc(), volume, shape) {
+                    Ok(machine) => {
+                        assert!(rt; fits, "{shape:?}");
+                        assert_eq!(rt; u64::from(machine.processors()), cpus);
+                        machine.into_device()
+                    }
+                    Err((refusal, volume)) => {
+                        assert!(rt; !fits && refusal == Refusal::BadShape, "{shape:?}");
+                        volume.into_device()
+                    }
+                },
+                Err((refusal, _)) => return Err(refusal.into()),
+            };
+            let opening = if layout == 1 { 3 } else { 4 };
+            assert_eq!(rt; device.calls().saturating_sub(before), opening);
+        }
+    }
+    Ok(())
+}
+
+// As many frames as a batch can have pages, over a file of one page more.
+const MANY: u64 = 1020;
+
+// A machine of one processor with as many frames, whose space maps the whole file from 4096 on.
+fn with_many_frames(alloc: Global) -> Result<Trial, Fail> {
+    let mut disk = MemDisk::new(alloc, 4096 * (3 + 1020 + 1021))?;
+    format(alloc, &mut disk, &[("a", 4096 * 1021)], 1020)?;
+    let shape = Shape {
+        cpus: 1,
+        tlb: 64,
+        frames: MANY,
+        copies: 64,
+    };
+    let mut machine = match open(alloc, FailingDisk::new(disk, 0)) {
+        Ok(volume) => match Machine::boot(alloc, volume, shape) {
+            Ok(machine) => machine,
+            Err((refusal, _)) => return Err(refusal.into()),
+        },
+        Err((refusal, _)) => return Err(refusal.into()),
+    };
+    let map = Act::Map {
+        space: 1,
+        va: 4096,
+        len: 4096 * 1021,
+        file: 0,
+        offset: 0,
+        prot: Rights::ReadWrite,
+        access: Rights::ReadWrite,
+    };
+    let switch = Act::Switch {
+        space: 1,
+        keep: false,
+    };
+    let replies = [
+        reply_to(&mut machine, 0, Act::Create),
+        reply_to(&mut machine, 0, map),
+        reply_to(&mut machine, 0, switch),
+    ];
+    if replies == [Reply::Space(1), Reply::Mapped, Reply::Switched] {
+        Ok(machine)
+    } else {
+        Err("the file is mapped".into())
+    }
+}
+
+// The byte that is stored to a page: never 0.
+fn byte_of(page: u64) -> u8 {
+    (page % 251 + 1) as u8
+}
+
+// A store to a page that isn't in memory.
+const FAULT: Reply = Reply::Refused(Refusal::Fault(6));
+
+// What a store to a page, a fix and a store again are answered.
+fn stores(machine: &mut Trial, page: u64) -> Result<[Reply; 3], Fail> {
+    let va = page.saturating_add(1).saturating_mul(4096);
+    let bytes = FewBytes::new(&[byte_of(page)]).ok_or("one byte")?;
+    Ok([
+        reply_to(machine, 0, Act::Store { va, bytes }),
+        reply_to(machine, 0, Act::Fix { va, write: true }),
+        reply_to(machine, 0, Act::Store { va, bytes }),
+    ])
+}
+
+// A commit of as many pages as there can be: 3k + 7 device calls in 2k + 7 steps, of which k + 4 commit.
+#[test]
+fn a_commit_of_1020_pages(rt: HostRuntime) -> Result<(), Fail> {
+    let mut machine = with_many_frames(rt.alloc())?;
+    for page in 0..MANY {
+        let replies = stores(&mut machine, page)?;
+        assert!(rt;
+            replies == [FAULT, Reply::Fixed, Reply::Stored],
+            "page {page}"
+        );
+    }
+    let replies = stores(&mut machine, MANY)?;
+    assert!(rt; replies == [FAULT, Reply::Refused(Refusal::NoFrame), FAULT]);
+    let msync = Act::Msync {
+        va: 4096,
+        len: 4096 * 1021,
+        flags: 4,
+    };
+    assert_eq!(rt; reply_to(&mut machine, 0, msync), Reply::Begun);
+    assert_eq!(rt; reply_to(&mut machine, 0, Act::Change), Reply::Marked(1));
+    for number in 1..2048 {
+        let wanted = match number {
+            1024 => Reply::Committed(1),
+            2047 => Reply::Done(1),
+            _ => Reply::Going,
+        };
+        assert_eq!(rt;
+            reply_to(&mut machine, 0, Act::Flush),
+            wanted,
+            "step {number}"
+        );
+    }
+    assert_eq!(rt; reply_to(&mut machine, 0, Act::Flush), Reply::Nothing);
+    let disk = machine.into_device();
+    assert_eq!(rt; disk.calls(), 3 + 1020 + 3067);
+    match open(rt.alloc(), disk.into_inner()) {
+        Ok(mut volume) => {
+            for page in 0..MANY {
+                let mut byte = [1];
+                if volume.file_count() != 1 || volume.length(0) != 4096 * 1021 {
+                    return Err("the file is there".into());
+                }
+                volume.read_file(0, 4096 * page, &mut byte)?;
+                assert_eq!(rt; byte[0], byte_of(page), "page {page}");
+            }
+            Ok(())
+        }
+        Err((refusal, _)) => Err(refusal.into()),
+    }
+}
+
+const LAST_SPACE: [Line; 12] = [
+    ("0 create", "enomem"),
+    ("0 map 4095 4096 4096 1 0 rw rw", "mapped"),
+    ("0 map 1 4096 4096 1 0 r r", "mapped"),
+    ("0 switch 4095 drop", "switched"),
+    ("0 store 4096 9", "fault 6"),
+    ("0 fix 4096 write", "fixed"),
+    ("0 store 4096 9", "stored"),
+    ("1 switch 1 drop", "switched"),
+    ("1 load 4096 1", "fault 4"),
+    ("1 fix 4096 read", "fixed"),
+    ("1 load 4096 1", "bytes 9"),
+    ("0 destroy 4096", "einval"),
+];
+
+const SPACE_AGAIN: [Line; 6] = [
+    ("0 destroy 0", "einval"),
+    ("0 destroy 4095", "busy"),
+    ("0 destroy 7", "destroyed"),
+    ("0 destroy 2000", "destroyed"),
+    ("0 create", "space 7"),
+    ("0 create", "space 2000"),
+];
+
+// There are as many spaces as PCIDs but for space 0, and the lowest free one is given out.
+#[test]
+fn there_are_4095_spaces(rt: HostRuntime) -> Result<(), Fail> {
+    let mut machine = zeros(&rt, TWO)?;
+    for space in 1..4096 {
+        assert_eq!(rt; reply_to(&mut machine, 0, Act::Create), Reply::Space(space));
+    }
+    make(&rt, &mut machine, &[&LAST_SPACE, &SPACE_AGAIN])
+}
+
+// Only what can be sent to a thread can be given to this.
+fn sends<T: Send>(_sent: &T) {}
+
+#[test]
+fn a_machine_can_be_sent_to_a_thread(rt: HostRuntime) -> Result<(), Fail> {
+    let machine = zeros(&rt, TWO)?;
+    sends(&machine);
+    assert_eq!(rt; machine.processors(), 2);
+    Ok(())
+}

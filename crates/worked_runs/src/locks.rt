@@ -1,0 +1,125 @@
+// The lock: who waits for whom while a change is under way, and which calls begin one.
+use crate::trial::{COMMITTED, DONE, GOING, Line, MARK, START, STORE_A, TWO, made};
+use std::test::Fail;
+
+// An interrupted processor goes on, but for what asks for the lock.
+const INTERRUPTED: [Line; 19] = [
+    ("0 msync 4096 4096 4", "begun"),
+    ("1 load 4096 1", "bytes 65"),
+    ("1 store 4096 66", "stored"),
+    ("1 fix 8192 read", "locked"),
+    ("1 switch 1 keep", "locked"),
+    ("1 create", "locked"),
+    ("1 destroy 0", "locked"),
+    ("1 map 1 65536 4096 0 0 rw rw", "locked"),
+    ("1 unmap 1 4096 4096", "locked"),
+    ("1 unmap 1 65536 4096", "locked"),
+    ("1 protect 1 4096 4096 r", "locked"),
+    ("1 reclaim 0 0", "locked"),
+    ("1 msync 4096 4096 4", "locked"),
+    ("1 msync 4096 4096 5", "locked"),
+    ("1 idle", "locked"),
+    ("1 change", "locked"),
+    ("1 resume", "nothing"),
+    ("1 wake", "nothing"),
+    ("1 flush", "nothing"),
+];
+
+// The one that began the change does nothing but wait, and caches what it likes.
+const INITIATING: [Line; 14] = [
+    ("0 load 4096 1", "stalled"),
+    ("0 store 4096 1", "stalled"),
+    ("0 fix 4096 read", "stalled"),
+    ("0 switch 1 keep", "stalled"),
+    ("0 create", "stalled"),
+    ("0 msync 4096 4096 4", "stalled"),
+    ("0 flush", "stalled"),
+    ("0 idle", "stalled"),
+    ("0 ack", "nothing"),
+    ("0 resume", "nothing"),
+    ("0 wake", "nothing"),
+    ("0 fill 1", "filled"),
+    ("0 fill 2", "nothing"),
+    ("0 change", "notyet 1"),
+];
+
+// So does a stalled one, until the change is made.
+const STALLED: [Line; 16] = [
+    ("1 ack", "acked"),
+    ("1 ack", "nothing"),
+    ("1 load 4096 1", "stalled"),
+    ("1 store 4096 1", "stalled"),
+    ("1 fix 4096 read", "stalled"),
+    ("1 map 1 4097 0 9 0 rw rw", "stalled"),
+    ("1 idle", "stalled"),
+    ("1 flush", "stalled"),
+    ("1 wake", "nothing"),
+    ("1 change", "locked"),
+    ("1 resume", "locked"),
+    ("0 change", "marked 1"),
+    ("0 change", "nothing"),
+    ("1 change", "nothing"),
+    ("1 resume", "resumed"),
+    ("1 resume", "nothing"),
+];
+
+const IDLE: [Line; 8] = [
+    ("1 idle", "idled"),
+    ("1 idle", "stalled"),
+    ("1 load 4096 1", "stalled"),
+    ("1 ack", "nothing"),
+    ("1 resume", "nothing"),
+    ("1 wake", "woken"),
+    ("1 wake", "nothing"),
+    ("1 load 4096 1", "bytes 66"),
+];
+
+#[test]
+fn a_change_holds_the_lock(rt: HostRuntime) -> Result<(), Fail> {
+    made(
+        &rt,
+        TWO,
+        &[&START, &STORE_A, &INTERRUPTED, &INITIATING, &STALLED, &IDLE],
+    )?;
+    Ok(())
+}
+
+const KEPT: [Line; 4] = [
+    ("0 reclaim 0 0", "begun"),
+    ("1 ack", "acked"),
+    ("0 change", "kept"),
+    ("1 resume", "resumed"),
+];
+
+const RECLAIMED: [Line; 5] = [
+    ("0 reclaim 0 0", "begun"),
+    ("1 ack", "acked"),
+    ("0 change", "reclaimed"),
+    ("1 resume", "resumed"),
+    ("0 reclaim 0 0", "nothing"),
+];
+
+// A page stays in memory until its write-out is done.
+#[test]
+fn a_page_of_a_write_out_is_kept(rt: HostRuntime) -> Result<(), Fail> {
+    made(
+        &rt,
+        TWO,
+        &[
+            &START,
+            &STORE_A,
+            &KEPT,
+            &MARK,
+            &KEPT,
+            &[GOING; 4],
+            &KEPT,
+            &COMMITTED,
+            &KEPT,
+            &[GOING; 3],
+            &KEPT,
+            &DONE,
+            &RECLAIMED,
+        ],
+    )?;
+    Ok(())
+}
