@@ -1,18 +1,16 @@
 -- Which entries make the page in a frame dirty: those of pages that map it.
 use Rattle.std.proofs.Common.{ℕ, suc, ◌≡◌, ◌↔◌, Bool, true, false, eqb, List, [], ◌∷◌, length, get_or, Some, None, refl, sym, ap, subst, ◌∙◌, inl, inr, ⊎_elim, arith}
-use Rattle.std.proofs.lemmas.Bool.{cond-false, eq-eqb, and_from, false≢true}
+use Rattle.std.proofs.lemmas.Bool.{eq-eqb, and_from, false≢true}
 use Rattle.page_entry.specs.Entry.{Mapped}
 use Rattle.page_entry.specs.declared.numbers.FilePage.{FilePage}
 use Rattle.mappings.specs.declared.place.Place.{Place}
-use Rattle.frames.specs.Frames.{FramesState, frame_at, without_frame, page_of}
-use Rattle.spaces.specs.Spaces.{Spaces, entry_at, place_at, EditsEntries}
-use Rattle.spaces.specs.Changes.{is_place_of, without_entries_of}
+use Rattle.frames.specs.Frames.{FramesState, frame_at, page_of}
+use Rattle.spaces.specs.Spaces.{Spaces, entry_at, place_at}
+use Rattle.spaces.specs.Changes.{is_place_of}
 use Rattle.checkpoint.specs.Checkpoint.{CheckpointState, Holds, is_noted, HasDirtyEntry, IsDirty, IsMappingOf, NotesTaken}
 use Rattle.checkpoint.specs.Backing.{AreBacked, AreDistinct, page_at}
 use Rattle.checkpoint.specs.inside.Notes.{AreNoted, noted_in}
 use Rattle.checkpoint.proofs.PagesInUse.{same_page-true}
-use Rattle.checkpoint.proofs.BackingLaws.{AreBacked-without_frame}
-use Rattle.checkpoint.proofs.SpacesLaws.{AreBacked-cleared, kept_where}
 
 -- a page whose place is in a page of a file maps it
 maps_at : (spaces : Spaces) (pcid page : ℕ) (place : Place) (owner : FilePage) → place_at spaces pcid page ≡ Some place → page_at place ≡ owner → IsMappingOf spaces owner pcid page
@@ -108,13 +106,3 @@ pub clean_mapping : (memory : FramesState) (c : CheckpointState) (spaces : Space
     → (f : ℕ) → HasDirtyEntry spaces (IsMappingOf spaces owner) f → ⊥
 clean_mapping memory c spaces owner frame backed distinct holds clean f d =
     clean (inr (record { pcid = d.pcid; page = d.page; there = tt; entry = d.entry; present = d.present; same_frame = maps_frame memory c spaces owner frame d.pcid d.page d.entry backed distinct holds d.present d.there; dirty = d.dirty }))
-
--- a page's entries are taken away, and then its frame becomes free
-pub AreBacked-reclaimed : (memory : FramesState) (c : CheckpointState) (old new : Spaces) (owner : FilePage) (frame : ℕ) → Holds memory frame owner → EditsEntries (without_entries_of owner old) old new → AreBacked memory c old → AreBacked (without_frame memory frame) c new
-AreBacked-reclaimed memory c old new owner frame holds edits backed =
-    AreBacked-without_frame memory c new frame
-    (λ pcid page entry present mapped.
-    let still = kept_where (is_place_of owner (place_at old pcid page)) (entry_at old pcid page) entry (sym (edits.entries pcid page) ∙ present) in
-    let was : entry_at old pcid page ≡ Some entry = sym (cond-false (is_place_of owner (place_at old pcid page)) None (entry_at old pcid page) still) ∙ sym (edits.entries pcid page) ∙ present in
-    false≢true (sym still ∙ maps_page memory c old owner pcid page entry backed was (subst (λ f. Holds memory f owner) (sym mapped) holds)))
-    (AreBacked-cleared memory c old new owner edits backed)

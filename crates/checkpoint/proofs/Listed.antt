@@ -1,19 +1,18 @@
 -- The pages that a walk comes to: those of a range whose entries are dirty, and those that map a page of a file.
-use Rattle.std.proofs.Common.{ℕ, ◌≡◌, ◌+◌, ◌^◌, Bool, false, List, [], ◌∷◌, ◌++◌, Contains, Some, is_some, refl, sym, ap, subst, ◌∙◌, append_assoc, append-nil, arith}
+use Rattle.std.proofs.Common.{ℕ, ◌≡◌, ◌+◌, ◌^◌, Bool, false, List, [], ◌∷◌, ◌++◌, Contains, Some, is_some, refl, sym, ap, subst, ◌∙◌, append_assoc, append-nil}
 use Rattle.std.proofs.lemmas.Bool.{false≢true, and_parts, and_from}
-use Rattle.std.proofs.lemmas.Bool.Decides.{nat_tests}
 use Rattle.std.proofs.lemmas.List.Elements.{Contains-append_right}
 use Rattle.page_entry.specs.Entry.{Mapped, is_dirty}
 use Rattle.page_entry.specs.declared.numbers.FilePage.{FilePage}
 use Rattle.page_table.specs.Table.{dirty_in}
 use Rattle.mappings.specs.declared.page_range.PageRange.{PageRange}
-use Rattle.spaces.specs.Spaces.{Spaces, AreSpaces, space_at, entry_at, place_at}
+use Rattle.spaces.specs.Spaces.{Spaces, space_at, entry_at, place_at}
 use Rattle.spaces.specs.Changes.{is_place_of, entries_of}
 use Rattle.spaces.proofs.ListedLaws.{in_dirty_pages, Contains-dirty_pages}
 use Rattle.spaces.proofs.ChangeLaws.{in_entries_of, Contains-entries_of}
 use Rattle.checkpoint.proofs.Lists.{Contains-head}
 use Rattle.checkpoint.proofs.Noting.{IsDirtyAt, is_dirty-at, AreNoted-as}
-use Rattle.checkpoint.specs.Checkpoint.{HasDirtyEntry, IsInRange, IsInSpace, IsMappingOf}
+use Rattle.checkpoint.specs.Checkpoint.{HasDirtyEntry, IsInRange, IsMappingOf}
 use Rattle.checkpoint.specs.inside.Notes.{AreNoted}
 
 -- what a walk over a list comes to next is in the list
@@ -48,17 +47,6 @@ AreNoted-range spaces pcid range walked old new all are =
         subst (λ xs. Contains xs page) (sym all)
             (Contains-dirty_pages spaces pcid range.first range.count page h.1 (ap (λ k. is_dirty (entry_at spaces k page)) (sym h.0) ∙ ap is_dirty present ∙ dirty)),
       ),
-    )) are
-
--- notes of the pages of user addresses of a space are those of the space
-pub AreNoted-user_pages : (spaces : Spaces) (pcid : ℕ) (old new : List Bool) → AreSpaces spaces → AreNoted spaces (IsInRange pcid (record { first = 0; count = 2 ^ 35 })) old new → AreNoted spaces (IsInSpace pcid) old new
-AreNoted-user_pages spaces pcid old new sound are =
-    AreNoted-as (λ q page entry present dirty. (
-      λ h. h.0,
-      λ h.
-          let there = sound.mapped q page entry present in
-          let below = sound.user q page there.0 there.1 in
-          (h, grind (arith, nat_tests, below)),
     )) are
 
 -- ---- pages that map a page of a file

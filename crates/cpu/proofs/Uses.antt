@@ -22,14 +22,6 @@ IsUsedAt-refl : (o : Option Mapped) → IsUsedAt o o
 IsUsedAt-refl None = refl
 IsUsedAt-refl (Some m) = (m, refl, IsUsed-refl m)
 
-pub OnlyUses-refl : (s : SpacesState) → OnlyUses s s
-OnlyUses-refl s = record {
-  same_spaces = λ pcid. refl;
-  same_places = λ pcid. refl;
-  entries = λ pcid page. IsUsedAt-refl (entry_at s.map pcid page);
-  still_prepared = refl;
-}
-
 -- ---- what a walk notes
 
 -- a walk by an entry that allows the access

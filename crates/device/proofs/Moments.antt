@@ -32,7 +32,3 @@ leaves_then {moment = moment} {old = old} first second = record {
 -- a run that leaves only lists that have P goes on by a call that leaves only lists that have Q
 pub leaves_on : {D : Type 0} {moment : D → ℕ} {left_since : D → ℕ → List ℕ → Type 0} {old mid new : D} {P Q : List ℕ → Type 0} → LeavesOnly moment left_since old mid P → LeavesOnly moment left_since mid new Q → ((c : List ℕ) → Q c → P c) → LeavesOnly moment left_since old new P
 leaves_on first second implies = leaves_then first (leaves_weaker second implies)
-
--- What may be left now has P. `since` is the law `now_is_since` of the device at new.
-pub leaves_now : {D : Type 0} {moment : D → ℕ} {left_since : D → ℕ → List ℕ → Type 0} {old new : D} {P may_leave : List ℕ → Type 0} → LeavesOnly moment left_since old new P → ((t : ℕ) (c : List ℕ) → t ≤ moment new → may_leave c → left_since new t c) → (c : List ℕ) → may_leave c → P c
-leaves_now {moment = moment} {old = old} leaves since c left = leaves.each c (since (moment old) c leaves.later left)

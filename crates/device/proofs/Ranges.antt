@@ -2,7 +2,7 @@
 use Rattle.std.proofs.Common.{◌≡◌, ◌<◌, ◌≤◌, ℕ, ◌+◌, ◌-◌, List, ◌++◌, length, take, drop, get_or, refl, sym, ◌∙◌, ap, subst, arith, append_assoc, length-append, length-take, length-drop}
 use Rattle.std.proofs.lemmas.List.{take_at, drop_at, get_or_append_left, get_or-append_right, get_or-take, get_or-drop, ext_get_or}
 use Rattle.std.specs.Prelude.{slice_range}
-use Rattle.device.specs.Device.{written, Torn, TornFrom, Only}
+use Rattle.device.specs.Device.{written, Torn, TornFrom}
 
 pub length-written : (old : List ℕ) (at : ℕ) (bytes : List ℕ) → at + length bytes ≤ length old → length (written old at bytes) ≡ length old
 length-written old at bytes fits =
@@ -100,50 +100,6 @@ restored_after seen c at n i fits same le =
     let part = length-part seen at n fits in
     written_after c at (take n (drop at seen)) i (omega (arith, part)) (omega (arith, part))
 
--- parts that agree at each place are one
-pub same_parts : (xs ys : List ℕ) (i j : ℕ) → length xs ≡ length ys → ((k : ℕ) → i ≤ k → k < j → get_or xs k 0 ≡ get_or ys k 0) → slice_range xs i j ≡ slice_range ys i j
-same_parts xs ys i j same at =
-    let long : length (take (j - i) (drop i xs)) ≡ length (take (j - i) (drop i ys)) =
-    omega (arith, same, length-take (j - i) (drop i xs), length-take (j - i) (drop i ys), length-drop i xs, length-drop i ys) in
-    ext_get_or 0 (take (j - i) (drop i xs)) (take (j - i) (drop i ys)) long (λ k lt.
-    let within : k < j - i = omega (arith, lt, length-take (j - i) (drop i xs)) in
-    get_or-take (j - i) (drop i xs) k 0 within ∙ get_or-drop i xs k 0
-    ∙ at (i + k) (omega arith) (omega (arith, within))
-    ∙ sym (get_or-take (j - i) (drop i ys) k 0 within ∙ get_or-drop i ys k 0))
-
--- a part before a torn range stays
-pub part_before_torn : {at n : ℕ} {old new : List ℕ} → Torn at n old new → (i j : ℕ) → j ≤ at → slice_range new i j ≡ slice_range old i j
-part_before_torn {at} {n} {old} {new} torn i j le = same_parts new old i j torn.same_length (λ k from lt. torn_before torn k (omega (arith, le, lt)))
-
--- a part past a torn range stays
-pub part_after_torn : {at n : ℕ} {old new : List ℕ} → Torn at n old new → (i j : ℕ) → at + n ≤ i → slice_range new i j ≡ slice_range old i j
-part_after_torn {at} {n} {old} {new} torn i j le = same_parts new old i j torn.same_length (λ k from lt. torn_after torn k (omega (arith, le, from)))
-
--- a part before the range that is written stays
-pub part_before_written : (old : List ℕ) (at : ℕ) (bytes : List ℕ) (i j : ℕ) → at + length bytes ≤ length old → j ≤ at → slice_range (written old at bytes) i j ≡ slice_range old i j
-part_before_written old at bytes i j fits le = part_before_torn (torn_by_write old at bytes fits) i j le
-
--- a part past the range that is written stays
-pub part_after_written : (old : List ℕ) (at : ℕ) (bytes : List ℕ) (i j : ℕ) → at + length bytes ≤ length old → at + length bytes ≤ i → slice_range (written old at bytes) i j ≡ slice_range old i j
-part_after_written old at bytes i j fits le = part_after_torn (torn_by_write old at bytes fits) i j le
-
--- a part of the range that is written is that part of the bytes
-pub part_within_written : (old : List ℕ) (at : ℕ) (bytes : List ℕ) (i j : ℕ) → at + length bytes ≤ length old → i ≤ j → j ≤ length bytes → slice_range (written old at bytes) (at + i) (at + j) ≡ slice_range bytes i j
-part_within_written old at bytes i j fits le end =
-    let n = at + j - (at + i) in
-    let count : n ≡ j - i = omega arith in
-    let left_long : length (take n (drop (at + i) (written old at bytes))) ≡ j - i =
-    omega (arith, length-take n (drop (at + i) (written old at bytes)), length-drop (at + i) (written old at bytes), length-written old at bytes fits) in
-    let right_long : length (take (j - i) (drop i bytes)) ≡ j - i = omega (arith, length-take (j - i) (drop i bytes), length-drop i bytes) in
-    ext_get_or 0 (take n (drop (at + i) (written old at bytes))) (take (j - i) (drop i bytes)) (left_long ∙ sym right_long) (λ k lt.
-    let within : k < j - i = omega (arith, lt, left_long) in
-    let place : at + i + k - at ≡ i + k = omega arith in
-    get_or-take n (drop (at + i) (written old at bytes)) k 0 (omega (arith, within, count))
-    ∙ get_or-drop (at + i) (written old at bytes) k 0
-    ∙ written_within old at bytes (at + i + k) fits (omega arith) (omega (arith, within))
-    ∙ ap (λ p. get_or bytes p 0) place
-    ∙ sym (get_or-take (j - i) (drop i bytes) k 0 within ∙ get_or-drop i bytes k 0))
-
 -- what is written is read again
 pub part_written : (old : List ℕ) (at : ℕ) (bytes : List ℕ) → at + length bytes ≤ length old → slice_range (written old at bytes) at (at + length bytes) ≡ bytes
 part_written old at bytes fits =
@@ -182,22 +138,6 @@ torn_twice first second = record {
 pub torn_wider : {at n : ℕ} {old new : List ℕ} → Torn at n old new → (from len : ℕ) → from ≤ at → at + n ≤ from + len → Torn from len old new
 torn_wider {at} {n} {old} {new} torn from len le end = torn_from_places from len old new torn.same_length (λ i lt. torn_before torn i (omega (arith, le, lt))) (λ i past. torn_after torn i (omega (arith, end, past)))
 
--- where one list alone might be left, what is left is torn from it
-pub torn_from_only : {lists : List ℕ → Type 0} {only : List ℕ} {at n : ℕ} {c : List ℕ} → Only lists only → TornFrom at n lists c → Torn at n only c
-torn_from_only {only = only} {at = at} {n = n} {c = c} alone from = subst (λ (d : List ℕ). Torn at n d c) (alone from.0 from.1) from.2
-
 -- what may be left is torn from what may be left
 pub torn_from_none : {lists : List ℕ → Type 0} (at n : ℕ) {c : List ℕ} → lists c → TornFrom at n lists c
 torn_from_none at n {c} left = (c, left, torn_none at n c)
-
--- torn twice in one range is torn once
-pub torn_from_twice : {lists : List ℕ → Type 0} {at n : ℕ} {c : List ℕ} → TornFrom at n (TornFrom at n lists) c → TornFrom at n lists c
-torn_from_twice from = (from.1.0, from.1.1, torn_twice from.1.2 from.2)
-
--- torn from lists that are among others is torn from those
-pub torn_from_more : {lists others : List ℕ → Type 0} {at n : ℕ} {c : List ℕ} → ((d : List ℕ) → lists d → others d) → TornFrom at n lists c → TornFrom at n others c
-torn_from_more implies from = (from.0, implies from.0 from.1, from.2)
-
--- torn in a range is torn in each wider one
-pub torn_from_wider : {lists : List ℕ → Type 0} {at n : ℕ} {c : List ℕ} → TornFrom at n lists c → (start len : ℕ) → start ≤ at → at + n ≤ start + len → TornFrom start len lists c
-torn_from_wider from start len le end = (from.0, from.1, torn_wider from.2 start len le end)

@@ -117,10 +117,6 @@ left_by_write first older at bytes fits c left =
     } in
     (restored seen c at n, before, torn_restored seen c at n fits same)
 
--- after a sync a crash leaves what a read gives
-pub only_synced : (first : List ℕ) (older : List Change) → Only (MayBeLeft first (sync ∷ older)) (content_after first older)
-only_synced first older c left = ext_get_or 0 c (content_after first older) left.same_length (λ i lt. left.synced i refl)
-
 -- which might be left before it
 pub left_by_sync : (first : List ℕ) (older : List Change) (c : List ℕ) → MayBeLeft first (sync ∷ older) c → MayBeLeft first older c
 left_by_sync first older c left = record { same_length = left.same_length; synced = λ i same. left.synced i refl }

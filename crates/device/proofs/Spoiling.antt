@@ -1,11 +1,11 @@
 -- A range that is written over in pieces.
-use Rattle.std.proofs.Common.{◌≡◌, ◌≤◌, ℕ, ◌+◌, List, ◌++◌, length, take, drop, refl, sym, ◌∙◌, ap, subst, arith, append_assoc, length-append, length-take, Result, Ok, Err, OnOk, IsErr}
+use Rattle.std.proofs.Common.{◌≡◌, ◌≤◌, ℕ, ◌+◌, List, ◌++◌, length, take, drop, refl, sym, ◌∙◌, ap, arith, append_assoc, length-append, length-take, Result, Ok, Err, OnOk}
 use Rattle.std.proofs.lemmas.List.{append-nil, drop-drop, take-append-drop, take_at, take-replicate, length-replicate, replicate-append-replicate}
-use Rattle.device.specs.Device.{written, Torn, TornFrom}
+use Rattle.device.specs.Device.{written, TornFrom}
 use Rattle.device.specs.Failing.{spoilt}
 use Rattle.device.specs.inside.Spoiling.{WroteWithin}
 use Rattle.device.proofs.Moments.{leaves_at_start, leaves_weaker, leaves_then}
-use Rattle.device.proofs.Ranges.{drop-written, torn_by_write, torn_none, torn_twice, torn_wider, torn_from_none}
+use Rattle.device.proofs.Ranges.{drop-written, torn_none, torn_twice, torn_wider, torn_from_none}
 
 -- one more write, of a part of the range
 pub wrote_more : {D : Type 0} {seen : D → List ℕ} {may_leave : D → List ℕ → Type 0} {moment : D → ℕ} {left_since : D → ℕ → List ℕ → Type 0} {is_honest : D → Type 0} {at len : ℕ} {old mid new : D} → WroteWithin seen may_leave moment left_since is_honest at len old mid → (from n : ℕ) → at ≤ from → from + n ≤ at + len → WroteWithin seen may_leave moment left_since is_honest from n mid new → WroteWithin seen may_leave moment left_since is_honest at len old new
@@ -65,11 +65,6 @@ spoilt_more old at done n fits =
     ap (λ k. written (written old at (spoilt done)) (at + k) (spoilt n)) (sym long)
     ∙ written_on old at (spoilt done) (spoilt n) (omega (arith, fits, long, length-spoilt n))
     ∙ ap (λ (l : List ℕ). written old at l) (spoilt-append done n)
-
--- what a write leaves, whether it succeeds or not
-pub torn_either : {T E : Type 0} (result : Result T E) (at : ℕ) (bytes old new : List ℕ) → at + length bytes ≤ length old → OnOk result (new ≡ written old at bytes) → (IsErr result → Torn at (length bytes) old new) → Torn at (length bytes) old new
-torn_either (Ok x) at bytes old new fits is torn = subst (λ (l : List ℕ). Torn at (length bytes) old l) (sym is) (torn_by_write old at bytes fits)
-torn_either (Err e) at bytes old new fits is torn = torn refl
 
 -- what a success says, of a part of what is spoilt
 pub spoilt_part : {T E : Type 0} (result : Result T E) (at n m : ℕ) (part old new : List ℕ) → n ≤ m → part ≡ take n (spoilt m) → OnOk result (new ≡ written old at part) → OnOk result (new ≡ written old at (spoilt n))

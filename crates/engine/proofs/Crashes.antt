@@ -8,7 +8,7 @@ use Rattle.volume_codec.specs.Layout.{block_at}
 use Rattle.volume_codec.specs.Recovery.{RecoversTo}
 use Rattle.volume_codec.proofs.Batches.{one_recovery}
 use Rattle.page_entry.specs.declared.refusal.Refusal.{Refusal}
-use Rattle.recovery.specs.Opening.{LeftWithin, Opens}
+use Rattle.recovery.specs.Opening.{LeftWithin}
 use Rattle.recovery.proofs.Reopened.{being_recovers, own_contents}
 use Rattle.machine.specs.declared.act.Reply.{Reply}
 use Rattle.machine.specs.declared.act.Shape.{Shape}

@@ -1,8 +1,8 @@
 -- That every change of the frames leaves whole pages, and a page in one frame and one copy at most.
-use Rattle.std.proofs.Common.{◌≡◌, ◌≢◌, ◌⊎◌, ◌+◌, ◌<◌, ◌≤◌, ℕ, zero, suc, List, [], ◌∷◌, length, map, get_or, set, replicate, Option, Some, None, IsSome, refl, sym, ap, subst, ◌∙◌, inl, inr, ⊎_elim, All}
+use Rattle.std.proofs.Common.{◌≡◌, ◌≢◌, ◌⊎◌, ◌+◌, ◌<◌, ◌≤◌, ℕ, zero, suc, List, [], ◌∷◌, length, get_or, set, replicate, Option, Some, None, IsSome, refl, sym, ap, subst, ◌∙◌, inl, inr, ⊎_elim, All}
 use Rattle.std.proofs.lemmas.Bool.{cases_eq}
 use Rattle.page_entry.specs.declared.numbers.FilePage.{FilePage}
-use Rattle.frames.specs.Frames.{Frame, FramesState, frame_at, page_of, bytes_of, overwrite_frame, all_free, with_page, without_frame, with_bytes, with_copy, without_copy, without_copies, HasNoFrame, HasNoCopy, IsPage, AreFrames}
+use Rattle.frames.specs.Frames.{Frame, FramesState, frame_at, page_of, bytes_of, overwrite_frame, all_free, with_page, without_frame, with_bytes, with_copy, without_copy, HasNoFrame, HasNoCopy, IsPage, AreFrames}
 use Rattle.frames.proofs.WholePages.{IsPage-overwrite}
 
 -- whole pages, and each page once
@@ -65,11 +65,6 @@ get_or_none zero k = refl
 get_or_none (suc n) zero = refl
 get_or_none (suc n) (suc k) = get_or_none n k
 
-get_or-map_none : (xs : List (Option Frame)) (k : ℕ) → get_or (map {B = Option Frame} (λ _. None) xs) k None ≡ None
-get_or-map_none [] k = refl
-get_or-map_none (x ∷ xs) zero = refl
-get_or-map_none (x ∷ xs) (suc k) = get_or-map_none xs k
-
 pub AreFrames-all_free : (frames copies : ℕ) → AreFrames (all_free frames copies)
 AreFrames-all_free frames copies =
     let f = AreOnce-none (replicate frames None) (get_or_none frames) in
@@ -107,6 +102,3 @@ AreFrames-with_copy s copy frame none are =
 pub AreFrames-without_copy : (s : FramesState) (copy : ℕ) → AreFrames s → AreFrames (without_copy s copy)
 AreFrames-without_copy s copy are =
     AreFrames-copies s _ are (AreOnce-set s.copies copy None (copies_once s are) (λ used. absurd (cc)) (λ n page _ e. absurd (cc)))
-
-pub AreFrames-without_copies : (s : FramesState) → AreFrames s → AreFrames (without_copies s)
-AreFrames-without_copies s are = AreFrames-copies s _ are (AreOnce-none (map (λ _. None) s.copies) (get_or-map_none s.copies))

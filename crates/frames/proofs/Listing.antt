@@ -1,7 +1,6 @@
 -- The list of the frames in use, after each change of the frames.
 use Rattle.std.proofs.Common.{◌≡◌, ◌≢◌, ◌⊎◌, ◌+◌, ◌-◌, ◌<◌, ◌≤◌, ℕ, zero, suc, Bool, true, cond, List, [], ◌∷◌, length, get_or, set, ltb, All, replicate, Contains, Option, Some, None, is_some, is_none, IsSome, IfSome, IfNone, count_by, slice_get, refl, sym, ap, subst, ◌∙◌, inl, inr, ⊎_elim, arith}
 use Rattle.std.specs.List.{AllPairs, insert, remove}
-use Rattle.std.specs.List.Sorted.{IsPartitionedBy}
 use Rattle.std.proofs.lemmas.Bool.{cases_lt, cases_eq, false≢true}
 use Rattle.std.proofs.lemmas.Bool.Decides.{nat_tests}
 use Rattle.std.proofs.lemmas.List.{get_or_default, length-set, length-replicate}
@@ -13,7 +12,7 @@ use Rattle.page_entry.specs.declared.numbers.FilePage.{FilePage}
 use Rattle.frames.specs.Frames.{Frame, FramesState, frame_at, page_of, bytes_of, overwrite_frame, has_free, has_used, with_page, without_frame, with_bytes, HasNoFrame, HasNoCopy, HasPageBefore, IsBefore, IsPage, AreFrames, AreInOrder}
 use Rattle.frames.specs.inside.Pages.{comes_before}
 use Rattle.frames.specs.inside.Order.{IsListed, IsPlaceOf}
-use Rattle.frames.proofs.Orders.{IsBefore-irreflexive, IsBefore-trans, IsBefore-total, IsBefore-comes_before, comes_before-IsBefore}
+use Rattle.frames.proofs.Orders.{IsBefore-irreflexive, IsBefore-total, IsBefore-comes_before, comes_before-IsBefore}
 use Rattle.frames.proofs.FramesLaws.{frame_at-free, frame_at-with_page_same, frame_at-with_page_other, frame_at-without_frame_same, frame_at-without_frame_other, page_of-with_bytes, in_use-with_bytes}
 use Rattle.frames.proofs.AreFramesLaws.{AreFrames-with_page, AreFrames-without_frame, AreFrames-with_bytes, AreFrames-with_copy}
 
@@ -138,18 +137,6 @@ module _ (s : FramesState) (order : List ℕ) (listed : AreInOrder s order) wher
   listed_in_use : (k d : ℕ) → k < length order → IsSome (frame_at s (get_or order k d))
   listed_in_use k d within = (listed.used (get_or order k d)).0 (k, within, get_or_default order k (get_or order k d) d within)
 
-  -- the frames of the pages that come before a page stand before all others
-  pub IsPartitionedBy-order : (page : FilePage) → IsPartitionedBy (λ frame. comes_before (page_of (get_or s.frames frame None)) page) order
-  IsPartitionedBy-order page i j d le within before =
-      ⊎_elim
-      (λ less.
-      let a = page_in_use _ (listed_in_use i d (omega arith)) in
-      let b = page_in_use _ (listed_in_use j d within) in
-      let later : IsBefore b.0 page = IsBefore-comes_before b.0 page (ap (λ o. comes_before o page) (sym b.1) ∙ before) in
-      ap (λ o. comes_before o page) a.1 ∙ comes_before-IsBefore a.0 page (IsBefore-trans a.0 b.0 page (listed.rising i j d less within a.0 b.0 a.1 b.1) later))
-      (λ same. subst (λ k. comes_before (page_of (get_or s.frames (get_or order k d) None)) page ≡ true) {x = j} (omega arith) before)
-      (cases_lt i j)
-
   -- the frame that has a page is at the page's place
   pub place_of_page : (page : FilePage) (place frame : ℕ) → IsPlaceOf s.frames order page place → page_of (frame_at s frame) ≡ Some page → (place < length order) × ((d : ℕ) → get_or order place d ≡ frame)
   place_of_page page place frame is has =
@@ -174,10 +161,6 @@ module _ (s : FramesState) (order : List ℕ) (listed : AreInOrder s order) wher
   no_frame_elsewhere page place d is differs frame has =
       let here = place_of_page page place frame is has in
       differs (ap (λ n. page_of (frame_at s n)) (here.1 d) ∙ has)
-
-  -- nor where that place is the end
-  pub no_frame_at_end : (page : FilePage) (place : ℕ) → IsPlaceOf s.frames order page place → length order ≤ place → HasNoFrame s page
-  no_frame_at_end page place is end frame has = let here = place_of_page page place frame is has in absurd (omega (arith, here.0))
 
 -- a frame gets a page that no frame has, and is listed at the page's place
 pub IsListed-with_page : (s : FramesState) (order : List ℕ) (room frame : ℕ) (page : FilePage) (bytes : List ℕ) (place : ℕ) → IsListed s order room → slice_get s.frames frame ≡ Some None → HasNoFrame s page → IsPage bytes → IsPlaceOf s.frames order page place → IsListed (with_page s frame page bytes) (insert order place frame) room

@@ -11,7 +11,6 @@ use Rattle.journal.specs.WriteOuts.{WriteOutsValue, has_uncommitted, current, ad
 use Rattle.journal.specs.inside.Sound.{AreInOrder, IsSound}
 use Rattle.journal.specs.inside.Room.{write_outs_in, IsOneOf, IsCurrent, HasRoom, kept_after, spare_after}
 use Rattle.journal.proofs.Alls.{all_map, all-append, all_front, all_back, all_at}
-use Rattle.journal.proofs.Batches.{current-oldest, advanced-oldest, committed_parts}
 
 -- ---- the write-outs in the code's list
 
@@ -81,17 +80,6 @@ last_is_current batches n e ordered has = record {
   first = λ d committed. absurd (both_ways (has_uncommitted batches) (newest_tells batches n d e ordered ∙ not_from_true (has_committed (get_or batches n d)) committed) has);
   advanced = λ d. last_advanced batches n d e ordered has;
 }
-
-pub first_is_current : (batches : List WriteOut) → 0 < length batches → has_uncommitted batches ≡ false → IsCurrent batches 0
-first_is_current [] some none = absurd (omega arith)
-first_is_current (w ∷ newer) some none =
-    let parts = committed_parts w newer none in
-    record {
-      within = omega arith;
-      current = λ d. current-oldest w newer parts.1;
-      first = λ d committed. refl;
-      advanced = λ d. advanced-oldest w newer parts.1;
-    }
 
 -- ---- a batch begins
 

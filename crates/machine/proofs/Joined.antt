@@ -2,13 +2,12 @@
 use Rattle.std.proofs.Common.{ℕ, ◌≡◌, ◌≤◌, List, [], ◌∷◌, ◌++◌, length, map, get_or, refl, sym, ap, ◌∙◌, subst, arith}
 use Rattle.volume_codec.specs.Files.{File, TableFile}
 use Rattle.volume_codec.specs.Layout.{block_at}
-use Rattle.volume_codec.specs.Super.{Fits}
 use Rattle.volume_codec.specs.Recovery.{lengths_in}
 use Rattle.volume_codec.proofs.Recovered.{length-lengths_in}
 use Rattle.machine.specs.declared.act.Act.{Act}
 use Rattle.machine.specs.declared.act.Reply.{Reply}
 use Rattle.machine.specs.declared.act.Step.{Step}
-use Rattle.machine.specs.State.{State, Whole, length_of}
+use Rattle.machine.specs.State.{Whole, length_of}
 use Rattle.machine.specs.Told.{Told, tell, tell_all}
 use Rattle.machine.specs.Laws.{EachStep}
 use Rattle.machine.specs.Steps.{StepMade, IsLawful, told_first}

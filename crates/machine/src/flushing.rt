@@ -13,7 +13,7 @@ ghost use Rattle.machine.specs.inside.Flushing.{HasSmallMark, reply_of_flush, me
 
 use crate::Reply;
 use crate::layers::Layers;
-use crate::paging::{cut, file_length};
+use crate::paging::{cut_into, file_length};
 use device::Device;
 use journal::Flushed;
 use page_entry::{FilePage, PAGE, ProcessorNumber, Refusal};
@@ -34,9 +34,7 @@ fn reply_to_flush(answer: Flushed) -> Result<Reply, Refusal>
 }
 
 // A block of zeros.
-fn blank_block() -> [u8; 4096] {
-    [0; 4096]
-}
+const BLANK: [u8; 4096] = [0; 4096];
 
 impl<D: Device, A: Allocator + Copy> Layers<D, A> {
     // The bytes of a page in memory as they were at its mark: those of its copy, or of its frame if it wasn't copied.
@@ -54,26 +52,24 @@ impl<D: Device, A: Allocator + Copy> Layers<D, A> {
         }
     }
 
-    // The record of the first frozen page: its bytes at its mark up to the file's end, then zeros.
-    fn next_record(&self) -> [u8; 4096]
+    // Puts the record of the first frozen page into a block: its bytes at its mark up to the file's end, then zeros.
+    fn next_record(&self, block: &mut [u8; 4096])
         requires sound { IsSound (state_in self.now) }
         requires some { IsSome (outs_record self.now.write_outs) }
-        ensures { result ≡ next_record (state_in self.now) }
+        ensures { block.new ≡ next_record (state_in self.now) }
     {
         let page = self.checkpoint.frozen()[0];
         let left = file_length(&self.table, page.file).saturating_sub(PAGE * u64::from(page.page));
-        cut(self.bytes_at_mark(page), left)
+        cut_into(self.bytes_at_mark(page), left, block);
     }
 
-    // The bytes for the next step of the write-outs: where it writes a record, those of the record.
-    fn next_bytes(&self) -> [u8; 4096]
+    // Puts the bytes for the next step of the write-outs into a block, where it writes a record: those of the record.
+    fn next_bytes(&self, block: &mut [u8; 4096])
         requires { IsSound (state_in self.now) }
-        ensures { next_work self.now.write_outs result ≡ work_asked (state_in self.now) }
+        ensures { next_work self.now.write_outs block.new ≡ work_asked (state_in self.now) }
     {
         if self.write_outs.next_record().is_some() {
-            self.next_record()
-        } else {
-            blank_block()
+            self.next_record(block);
         }
     }
 
@@ -106,7 +102,8 @@ impl<D: Device, A: Allocator + Copy> Layers<D, A> {
         ensures device { FlushesDevice D.Device (state_in self.old) (reply_to result) self.old.device self.new.device }
         ensures kept { KeepsReserved self.old self.new }
     {
-        let bytes = self.next_bytes();
+        let mut bytes = BLANK;
+        self.next_bytes(&mut bytes);
         let writes_record = self.write_outs.next_record().is_some();
         let answer = self.write_outs.step(&mut self.device, &bytes);
         self.settle(writes_record, answer);

@@ -43,15 +43,23 @@ fn clear(bytes: &mut [u8])
     bytes.fill(0);
 }
 
-/// A page's first bytes, and zeros after them.
+/// Puts a page's first bytes into a block, and zeros after them.
 #[tactic(auto, unfolding(volume_codec::specs::Text::zeros))]
+pub(crate) fn cut_into(page: &[u8; 4096], left: u64, block: &mut [u8; 4096])
+    ensures { block.new ≡ padded 4096 (take left page.now) }
+{
+    *block = *page;
+    if left < PAGE {
+        clear(&mut block[left as usize..]);
+    }
+}
+
+/// A page's first bytes, and zeros after them.
 pub(crate) fn cut(page: &[u8; 4096], left: u64) -> [u8; 4096]
     ensures { result ≡ padded 4096 (take left page.now) }
 {
     let mut bytes = *page;
-    if left < PAGE {
-        clear(&mut bytes[left as usize..]);
-    }
+    cut_into(page, left, &mut bytes);
     bytes
 }
 

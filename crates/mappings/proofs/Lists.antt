@@ -1,5 +1,5 @@
 -- Lists of mappings in order, and what they map at one page.
-use Rattle.std.proofs.Common.{◌≡◌, ℕ, zero, suc, ◌+◌, ◌-◌, ◌<◌, ◌≤◌, Bool, true, false, cond, ltb, leb, if◌then◌else◌, List, [], ◌∷◌, length, get_or, take, drop, Result, Ok, Err, OnOk, Option, Some, None, IsSome, is_some, max, refl, sym, ◌∙◌, subst, inl, inr, arith}
+use Rattle.std.proofs.Common.{◌≡◌, ℕ, zero, suc, ◌+◌, ◌-◌, ◌<◌, ◌≤◌, true, false, cond, ltb, leb, if◌then◌else◌, List, [], ◌∷◌, length, get_or, take, drop, Option, Some, None, IsSome, max, refl, sym, ◌∙◌, subst, inl, inr, arith}
 use Rattle.std.specs.List.{insert}
 use Rattle.std.specs.List.Sorted.{IsNonDecreasingBy, IsPartitionPoint}
 use Rattle.std.specs.Ordering.{nat_cmp}
@@ -9,17 +9,12 @@ use Rattle.std.proofs.lemmas.Bool.{cases_lt, false≢true}
 use Rattle.std.proofs.lemmas.Bool.Decides.{nat_tests}
 use Rattle.std.proofs.lemmas.List.{get_or_default}
 use Rattle.mappings.specs.declared.place.Place.{Place}
-use Rattle.mappings.specs.declared.place.Rights.TheVariants.{Read}
 use Rattle.mappings.specs.declared.mapping.Mapping.{Mapping}
-use Rattle.mappings.specs.Places.{is_among, with_range, any_mapped, allows}
-use Rattle.mappings.specs.Judgement.{is_mappable, add_refusal}
+use Rattle.mappings.specs.Places.{is_among, with_range, any_mapped}
+use Rattle.mappings.specs.Judgement.{is_mappable}
 use Rattle.mappings.specs.declared.page_range.PageRange.{PageRange}
 use Rattle.mappings.specs.inside.Listed.{covers, place_in, places_of, IsMapping, IsOrdered, IsFirstAfter, IsGap, IsMeeting}
 use Rattle.mappings.proofs.PlacesLaws.{get-with_range, Decides-any_in_range}
-
-not_true_false : (b : Bool) → (b ≡ true → ⊥) → b ≡ false
-not_true_false true h = absurd (h refl)
-not_true_false false h = refl
 
 -- what a list of mappings maps at a page: by the first mapping that covers it
 abbrev pub lookup : ℕ → List Mapping → Option Place
@@ -132,19 +127,6 @@ IsOrdered-from_first low b (m ∷ ms) o h = (h m (omega arith), o.1, o.2)
 IsGap-tail : (m : Mapping) (ms : List Mapping) (first end i : ℕ) → IsGap (m ∷ ms) first end (suc i) → IsGap ms first end i
 IsGap-tail m ms first end i gap = record { first_after = IsFirstAfter-tail m ms first i gap.first_after; free = λ d h. gap.free d (omega arith) }
 
--- no page of a gap is mapped
-pub lookup_in_gap : (low : ℕ) (ms : List Mapping) (first end i : ℕ) → IsOrdered low ms → IsGap ms first end i → (q : ℕ) → first ≤ q → q < end → lookup q ms ≡ None
-lookup_in_gap low ms first end i o gap q le lt =
-    let ends_later : (d : Mapping) → i < length ms → q < (get_or ms i d).end = λ d h. omega (arith, gap.free d h, (mapping_at low ms o i d h).has_pages) in
-    let after : IsFirstAfter ms q i = IsFirstAfter-later low ms o first q i gap.first_after le ends_later in
-    elim (cases_lt i (length ms)) [
-      | inl within ↦
-          let d : Mapping = get_or ms i (record { first = 0; end = 0; place = record { file = 0; page = 0; rights = Read; access = Read } }) in
-          let free : end ≤ (get_or ms i d).first = gap.free d within in
-          lookup_at low ms o q i d after within ∙ grind (arith, nat_tests)
-      | inr past ↦ lookup_past ms q i after past
-    ]
-
 module _ (new : Mapping) (pages : IsMapping new) where
   -- a list with the new mapping in its gap is in order
   pub IsOrdered-insert : (low : ℕ) (ms : List Mapping) (i : ℕ) → IsOrdered low ms → low ≤ new.first → IsGap ms new.first new.end i → IsOrdered low (insert ms i new)
@@ -179,12 +161,6 @@ lookup_overlap low ms o first end i d f h some over =
 pub any_mapped_true : (ms : List Mapping) (first count : ℕ) → ((q : ℕ) × (first ≤ q) × (q < first + count) × IsSome (lookup q ms)) → any_mapped (places_of ms) first count ≡ true
 any_mapped_true ms first count w = (Decides-any_in_range (fin_map.contains_key (places_of ms)) first count).1 (w.0, w.1, w.2, rw (get-places_of ms w.0) w.3)
 
--- no page of the range is mapped
-pub any_mapped_false : (ms : List Mapping) (first count : ℕ) → ((q : ℕ) → first ≤ q → q < first + count → lookup q ms ≡ None) → any_mapped (places_of ms) first count ≡ false
-any_mapped_false ms first count none = not_true_false _ (λ e.
-    let w = (Decides-any_in_range (fin_map.contains_key (places_of ms)) first count).0 e in
-    absurd (false≢true (subst (λ (o : Option Place). is_some o ≡ true) (get-places_of ms w.0 ∙ none w.0 w.1 w.2) w.3)))
-
 -- a list with a new mapping in its gap maps the new pages too
 pub places_of-insert : (new : Mapping) → IsMapping new → (low : ℕ) (ms : List Mapping) (i count : ℕ) → IsOrdered low ms → IsGap ms new.first new.end i → new.first + count ≡ new.end → places_of (insert ms i new) ≡ with_range (places_of ms) new.first count new.place
 places_of-insert new pages low ms i count o gap e =
@@ -193,22 +169,9 @@ places_of-insert new pages low ms i count o gap e =
     get-places_of (insert ms i new) q ∙ lookup-insert new pages low ms i o gap q
     ∙ sym (rw (get-with_range (places_of ms) new.first count new.place q, among, get-places_of ms q) refl))
 
--- no page of a gap is mapped
-pub any_mapped-gap : (ms : List Mapping) (first count i : ℕ) → IsOrdered 0 ms → IsGap ms first (first + count) i → any_mapped (places_of ms) first count ≡ false
-any_mapped-gap ms first count i o gap = any_mapped_false ms first count (λ q le lt. lookup_in_gap 0 ms first (first + count) i o gap q le lt)
-
 -- a range that may be mapped makes a mapping
 pub IsMapping-from_mappable : (range : PageRange) (place : Place) → is_mappable range place.page ≡ true → IsMapping (record { first = range.first; end = range.first + range.count; place = place })
 IsMapping-from_mappable range place e = record { has_pages = grind (arith, nat_tests); below_end = grind (arith, nat_tests); in_file = grind (arith, nat_tests) }
-
--- nothing speaks against a mapping in a gap
-pub add_refusal-gap : (ms : List Mapping) (range : PageRange) (place : Place) (i : ℕ) → IsOrdered 0 ms → is_mappable range place.page ≡ true → allows place.access place.rights ≡ true → IsGap ms range.first (range.first + range.count) i → add_refusal (places_of ms) range place ≡ None
-add_refusal-gap ms range place i o mappable allowed gap = rw (mappable, allowed, any_mapped-gap ms range.first range.count i o gap) refl
-
--- a fact that holds in every case holds of an Ok
-pub OnOk-always : {T E : Type 0} (r : Result T E) {P : Type 0} → P → OnOk r P
-OnOk-always (Ok x) p = p
-OnOk-always (Err e) p = tt
 
 -- a lower bound is one too
 pub IsOrdered-lower : (low b : ℕ) (ms : List Mapping) → IsOrdered low ms → b ≤ low → IsOrdered b ms

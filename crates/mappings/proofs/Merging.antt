@@ -1,12 +1,11 @@
 -- What a list of mappings is where each two of which the second goes on where the first ends are made one.
-use Rattle.std.proofs.Common.{◌≡◌, ◌≢◌, ℕ, zero, suc, ◌+◌, ◌-◌, ◌<◌, ◌≤◌, Bool, true, false, cond, ◌&&◌, ◌==◌, List, [], ◌∷◌, ◌++◌, length, get_or, set, min, take, drop, Some, refl, sym, ap, ◌∙◌, subst, inl, inr, arith}
+use Rattle.std.proofs.Common.{◌≡◌, ◌≢◌, ℕ, zero, suc, ◌+◌, ◌-◌, ◌<◌, ◌≤◌, Bool, true, false, cond, ◌&&◌, ◌==◌, List, [], ◌∷◌, ◌++◌, length, get_or, min, take, drop, Some, refl, sym, ap, ◌∙◌, subst, inl, inr, arith}
 use Rattle.std.proofs.lemmas.Bool.{cases_lt, false≢true}
 use Rattle.std.proofs.lemmas.Bool.Decides.{nat_tests}
-use Rattle.std.proofs.Math.Nat.{suc-add}
 use Rattle.std.specs.List.{remove_range}
 use Rattle.std.specs.Prelude.{Vec}
 use Rattle.std.specs.Vec.{with_items}
-use Rattle.std.proofs.lemmas.List.{append_assoc, with_items_is, length-append, length-drop, length-set, length-take-le, take-append-le, get_or-set_other, drop_all}
+use Rattle.std.proofs.lemmas.List.{append_assoc, with_items_is, length-append, length-drop, length-take-le, take-append-le}
 use borrow.Rule.Slice.PartMut.{put_mid, Post-is}
 use Rattle.mappings.specs.declared.place.Rights.{Rights}
 use Rattle.mappings.specs.declared.place.Rights.TheVariants.{Read, ReadWrite}
@@ -14,7 +13,7 @@ use Rattle.mappings.specs.declared.mapping.Mapping.{Mapping}
 use Rattle.mappings.specs.Places.{same_rights}
 use Rattle.mappings.specs.inside.Listed.{covers, place_in, places_of, joins, Beside, IsMerged, IsMapping, IsOrdered}
 use Rattle.mappings.specs.inside.Edits.{joined, merged_onto, merged}
-use Rattle.mappings.proofs.Lists.{lookup, IsOrdered-lower}
+use Rattle.mappings.proofs.Lists.{lookup}
 use Rattle.mappings.proofs.Changes.{same_places}
 
 -- what a test says of two mappings
@@ -219,16 +218,6 @@ merged-around from to a b (m ∷ ms) o forward within front back ea eb =
     ∙ ap (λ n. take a list ++ (merged (take n (drop a list)) ++ drop (suc c) list)) {x = suc k} {y = b - a} (omega arith)
     ∙ ap (λ n. take a list ++ (merged (take (b - a) (drop a list)) ++ drop n list)) {x = suc c} {y = b} (omega arith)
 
-drop-more : {X : Type 0} (xs : List X) (i : ℕ) (x : X) → i < length xs → x ≡ get_or xs i x → drop i xs ≡ x ∷ drop (i + 1) xs
-drop-more [] i x h is = absurd (omega arith)
-drop-more (y ∷ xs) zero x h is = ap (λ y. y ∷ xs) (sym is)
-drop-more (y ∷ xs) (suc i) x h is = drop-more xs i x (omega arith) is ∙ rw suc-add refl
-
-take-set : {X : Type 0} (xs : List X) (k : ℕ) (x : X) → k < length xs → take (k + 1) (set xs k x) ≡ take k xs ++ x ∷ []
-take-set [] k x h = absurd (omega arith)
-take-set (y ∷ xs) zero x h = refl
-take-set (y ∷ xs) (suc k) x h = rw suc-add (ap (λ ys. y ∷ ys) (take-set xs k x (omega arith)))
-
 -- the mappings of an old list up to a place are merged: the first ones of the list, and the last one of them, to which more may be added
 pub record MergesTo (old list : List Mapping) (last : Mapping) (kept index : ℕ) : Type 0 where
   pub less : kept < index
@@ -237,56 +226,6 @@ pub record MergesTo (old list : List Mapping) (last : Mapping) (kept index : ℕ
   pub rest : (k : ℕ) (d : Mapping) → index ≤ k → get_or list k d ≡ get_or old k d
   pub so_far : take kept list ++ merged_onto last (drop index old) ≡ merged old
   pub ordered : IsOrdered 0 (last ∷ drop index old)
-
-pub MergesTo-start : (old : List Mapping) (first : Mapping) → 0 < length old → first ≡ get_or old 0 first → IsOrdered 0 old → MergesTo old old first 0 1
-MergesTo-start [] first some is o = absurd (omega arith)
-MergesTo-start (m ∷ ms) first some is o = record {
-  less = omega arith;
-  within = omega arith;
-  size = refl;
-  rest = λ k d h. refl;
-  so_far = ap (λ m. merged_onto m ms) is;
-  ordered = subst (λ m. IsOrdered 0 (m ∷ ms)) (sym is) o;
-}
-
--- the next mapping goes on from the last one
-pub MergesTo-joined : (old list : List Mapping) (last next : Mapping) (kept index : ℕ) → MergesTo old list last kept index → index < length old → next ≡ get_or old index next → joins last next ≡ true → MergesTo old list (joined last next) kept (index + 1)
-MergesTo-joined old list last next kept index m h is e =
-    let more : drop index old ≡ next ∷ drop (index + 1) old = drop-more old index next h is in
-    let ordered : IsOrdered 0 (last ∷ next ∷ drop (index + 1) old) = subst (λ ms. IsOrdered 0 (last ∷ ms)) more m.ordered in
-    record {
-      less = omega (arith, m.less);
-      within = omega arith;
-      size = m.size;
-      rest = λ k d le. m.rest k d (omega arith);
-      so_far = ap (λ l. take kept list ++ l) (sym (ap (merged_onto last) more ∙ ap (λ b. cond b (merged_onto (joined last next) (drop (index + 1) old)) (last ∷ merged_onto next (drop (index + 1) old))) e)) ∙ m.so_far;
-      ordered = together 0 last next (drop (index + 1) old) ordered (Joins-from_test last next e);
-    }
-
--- or it doesn't
-pub MergesTo-kept : (old list : List Mapping) (last next : Mapping) (kept index : ℕ) → MergesTo old list last kept index → index < length old → next ≡ get_or old index next → joins last next ≡ false → MergesTo old (set list kept last) next (kept + 1) (index + 1)
-MergesTo-kept old list last next kept index m h is e =
-    let more : drop index old ≡ next ∷ drop (index + 1) old = drop-more old index next h is in
-    let ordered : IsOrdered 0 (last ∷ next ∷ drop (index + 1) old) = subst (λ ms. IsOrdered 0 (last ∷ ms)) more m.ordered in
-    let size : length (set list kept last) ≡ length list = simp length-set in
-    let inside : kept < length list = omega (arith, m.less, m.within, m.size) in
-    record {
-      less = omega (arith, m.less);
-      within = omega arith;
-      size = size ∙ m.size;
-      rest = λ k d le. (let other : k ≢ kept = omega (arith, m.less) in get_or-set_other list kept k last d other) ∙ m.rest k d (omega arith);
-      so_far =
-          ap (λ l. l ++ merged_onto next (drop (index + 1) old)) (take-set list kept last inside)
-          ∙ append_assoc (take kept list) (last ∷ []) (merged_onto next (drop (index + 1) old))
-          ∙ ap (λ l. take kept list ++ l) (sym (ap (merged_onto last) more ∙ ap (λ b. cond b (merged_onto (joined last next) (drop (index + 1) old)) (last ∷ merged_onto next (drop (index + 1) old))) e)) ∙ m.so_far;
-      ordered = IsOrdered-lower last.end 0 (next ∷ drop (index + 1) old) ordered.2 (omega arith);
-    }
-
--- all mappings are merged
-pub MergesTo-all : (old list : List Mapping) (last : Mapping) (kept index : ℕ) → MergesTo old list last kept index → length old ≤ index → take (kept + 1) (set list kept last) ≡ merged old
-MergesTo-all old list last kept index m all =
-    let inside : kept < length list = omega (arith, m.less, m.within, m.size) in
-    take-set list kept last inside ∙ ap (λ ms. take kept list ++ merged_onto last ms) (sym (drop_all index old all)) ∙ m.so_far
 
 take-append-more : {X : Type 0} (xs ys : List X) (n k : ℕ) → n ≡ length xs + k → take n (xs ++ ys) ≡ xs ++ take k ys
 take-append-more [] ys n k e = ap (λ n. take n ys) {x = n} {y = k} (omega arith)

@@ -6,7 +6,7 @@ use Rattle.std.proofs.lemmas.Nat.{and-not, and_comm}
 use Rattle.std.proofs.lemmas.Nat.Bits.{and_pow}
 use Rattle.std.proofs.lemmas.Bool.Decides.{nat_tests}
 use Rattle.bitflags.specs.Sets.{without}
-use Rattle.page_entry.specs.Entry.{Mapped, flag, bits_of, has_bit, entry_of, IsEntry, is_writable, is_accessed, is_dirty, with_present_of, with_writable_of, with_accessed_of, with_dirty_of, with_frame_of, frame_of}
+use Rattle.page_entry.specs.Entry.{Mapped, flag, bits_of, has_bit, entry_of, IsEntry, is_writable, is_accessed, is_dirty, with_present_of, with_writable_of, with_accessed_of, with_dirty_of, with_frame_of}
 
 -- setting bit k adds its weight where it was clear
 or_bit : (n k : ℕ) → bit_or n (2 ^ k) + (n / 2 ^ k % 2) * 2 ^ k ≡ n + 2 ^ k
@@ -87,11 +87,6 @@ IsSmall-entry_of n is = small_entry (entry_of n) n is.named is.small
 one_bit : (n k : ℕ) (b : Bool) → n / 2 ^ k % 2 ≡ flag b 1 → (flag b 1 * 2 ^ k == 2 ^ k) ≡ b → (bit_and n (2 ^ k) == 2 ^ k) ≡ b
 one_bit n k b at weighed = ap (λ x. x == 2 ^ k) (and_pow n k ∙ ap (λ x. x * 2 ^ k) at) ∙ weighed
 
-pub test_present : (e : Option Mapped) → (bit_and (bits_of e) 1 == 1) ≡ is_some e
-test_present None = refl
-test_present (Some m) = let f = m.frame in let w = m.writable in let a = m.accessed in let d = m.dirty in
-    one_bit (bits f w a d) 0 true (omega (arith, scaled f w a d, flag_small w, flag_small a, flag_small d)) refl
-
 pub test_writable : (e : Option Mapped) → (bit_and (bits_of e) 2 == 2) ≡ is_writable e
 test_writable None = refl
 test_writable (Some m) = let f = m.frame in let w = m.writable in let a = m.accessed in let d = m.dirty in
@@ -131,15 +126,6 @@ set_dirty (Some m) true s h = let f = m.frame in let w = m.writable in let a = m
     omega (arith, or_bit (bits f w a d) 6, scaled f w a d, scaled f w a true, flag_small w, flag_small a, flag_small d)
 set_dirty (Some m) false s h = let f = m.frame in let w = m.writable in let a = m.accessed in let d = m.dirty in
     omega (arith, clear_bit (bits f w a d) 6 (small_bits f w a d s) (omega arith), scaled f w a d, scaled f w a false, flag_small w, flag_small a, flag_small d)
-
-pub set_frame : (e : Option Mapped) (f : ℕ) → is_some e ≡ true → bits_of e % 4096 + f * 4096 ≡ bits_of (with_frame_of e f)
-set_frame None f h = cc
-set_frame (Some m) f h = let w = m.writable in let a = m.accessed in let d = m.dirty in
-    omega (arith, scaled m.frame w a d, scaled f w a d, flag_small w, flag_small a, flag_small d)
-
-pub frame_read : (e : Option Mapped) → bits_of e / 4096 ≡ frame_of e
-frame_read None = refl
-frame_read (Some m) = has_frame m.frame m.writable m.accessed m.dirty
 
 -- a change that computes the bits of another small entry makes that entry
 pub record Makes (bits : ℕ) (e : Option Mapped) : Type 0 where

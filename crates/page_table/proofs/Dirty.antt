@@ -1,7 +1,6 @@
 -- Which pages are among the dirty ones of a range, and in which order they come.
-use Rattle.std.proofs.Common.{◌≡◌, ℕ, zero, suc, ◌<◌, Bool, true, false, cond, ◌&&◌, ◌||◌, T, eqb, ltb, ltb-true, ne_eqb, List, [], ◌∷◌, map, length, get_or, Option, Some, None, Less, Equal, Greater, refl, sym, ap, ◌∙◌, arith, add-one}
+use Rattle.std.proofs.Common.{◌≡◌, ℕ, ◌<◌, Bool, true, false, cond, ◌&&◌, ◌||◌, T, eqb, ltb, ltb-true, ne_eqb, List, [], ◌∷◌, map, Option, Some, None, Less, Equal, Greater, refl, sym, ap, ◌∙◌, arith}
 use Rattle.std.specs.List.{filter, list_any}
-use Rattle.std.specs.List.Sorted.{IsStrictlyIncreasing}
 use Rattle.std.specs.Ordering.{nat_cmp, is_lt}
 use Rattle.std.specs.Cmp.{unsigned_tied}
 use Rattle.std.specs.FinMap as maps
@@ -68,27 +67,3 @@ pub dirty_in-lists : (entries : maps.FinMap nat_cmp Mapped) (first end q : ℕ) 
 dirty_in-lists entries first end q =
     among first end (maps.entries entries) (rising_keys _ (maps.entries_sorted entries)) q
     ∙ ap (λ entry. in_range first end q && is_dirty entry) (sym (maps.get-entries entries q))
-
-below_filter : (p : ℕ × Mapped → Bool) (q : ℕ) (es : List (ℕ × Mapped)) → IsBelow q (keys_of es) → IsBelow q (keys_of (filter p es))
-below_filter p q [] below = tt
-below_filter p q (e ∷ es) below =
-    let rest = below_filter p q es below.1 in
-    elim (p e) as (λ b. IsBelow q (keys_of (cond b (e ∷ filter p es) (filter p es)))) [ true ↦ (below.0, rest) | false ↦ rest ]
-
-rising_filter : (p : ℕ × Mapped → Bool) (es : List (ℕ × Mapped)) → IsRising (keys_of es) → IsRising (keys_of (filter p es))
-rising_filter p [] rising = tt
-rising_filter p (e ∷ es) rising =
-    let rest = rising_filter p es rising.1 in
-    elim (p e) as (λ b. IsRising (keys_of (cond b (e ∷ filter p es) (filter p es)))) [ true ↦ (below_filter p e.0 es rising.0, rest) | false ↦ rest ]
-
-next_above : (ps : List ℕ) → IsRising ps → (k : ℕ) → suc k < length ps → get_or ps k 0 < get_or ps (suc k) 0
-next_above [] rising k within = absurd (omega arith)
-next_above (p ∷ []) rising k within = absurd (omega arith)
-next_above (p ∷ q ∷ ps) rising zero within = rising.0.0
-next_above (p ∷ q ∷ ps) rising (suc k) within = next_above (q ∷ ps) rising.1 k (omega arith)
-
--- the pages that are listed rise
-pub dirty_in-rises : (entries : maps.FinMap nat_cmp Mapped) (first end : ℕ) → IsStrictlyIncreasing (dirty_in entries first end)
-dirty_in-rises entries first end k within =
-    let rising = rising_filter (λ e. in_range first end e.0 && e.1.dirty) (maps.entries entries) (rising_keys _ (maps.entries_sorted entries)) in
-    rw add-one (next_above _ rising k (omega arith))

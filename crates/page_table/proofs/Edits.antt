@@ -82,12 +82,6 @@ module _ (change : Change) (start end : ℕ) where
       let here : in_range start end first ≡ false = ap (in_range start end) {x = first} (omega arith) ∙ outside 0 (omega arith) in
       rw (here, unchanged_from (first + 1) es (λ k h. ap (in_range start end) {x = first + 1 + k} (omega arith) ∙ outside (suc k) (omega arith))) refl
 
-  changed_whole : (first : ℕ) (es : List (Option Mapped)) → ((k : ℕ) → k < length es → in_range start end (first + k) ≡ true) → changed_from change start end first es ≡ map (changed change) es
-  changed_whole first [] inside = refl
-  changed_whole first (e ∷ es) inside =
-      let here : in_range start end first ≡ true = ap (in_range start end) {x = first} (omega arith) ∙ inside 0 (omega arith) in
-      rw (here, changed_whole (first + 1) es (λ k h. ap (in_range start end) {x = first + 1 + k} (omega arith) ∙ inside (suc k) (omega arith))) refl
-
   -- the entries between two places change, and no other
   changed_between : (from n to first : ℕ) (es : List (Option Mapped)) → from + n ≡ to → to ≤ length es → ((k : ℕ) → k < length es → (leb from k && ltb k to) ≡ in_range start end (first + k)) → take from es ++ (map (changed change) (take n (drop from es)) ++ drop to es) ≡ changed_from change start end first es
   changed_between zero zero zero first es same within inside =

@@ -25,12 +25,6 @@ get-put_entry entries page None q =
 get-put_entry entries page (Some entry) q =
     maps.get-insert nat_cmp_total entries page entry q ∙ ap (λ b. cond b (Some entry) (maps.get entries q)) (unsigned_tied q page)
 
-pub get-put_entry_same : (entries : maps.FinMap nat_cmp Mapped) (page : ℕ) (entry : Option Mapped) → maps.get (put_entry entries page entry) page ≡ entry
-get-put_entry_same entries page entry = grind (arith, nat_tests, get-put_entry entries page entry page)
-
-pub get-put_entry_other : (entries : maps.FinMap nat_cmp Mapped) (page : ℕ) (entry : Option Mapped) (q : ℕ) → q ≢ page → maps.get (put_entry entries page entry) q ≡ maps.get entries q
-get-put_entry_other entries page entry q other = grind (arith, nat_tests, get-put_entry entries page entry q)
-
 turned : (b : Bool) (x y : Option Mapped) → cond (not b) x y ≡ cond b y x
 turned true x y = refl
 turned false x y = refl
@@ -41,15 +35,6 @@ get-outside_range entries first end q =
     maps.get-retain_keys entries (λ page. not (in_range first end page)) q
     (λ page tied. ap (λ p. not (in_range first end p)) (sym (maps.nat_cmp-IsAntisymmetric q page tied)))
     ∙ turned (in_range first end q) (maps.get entries q) None
-
-pub get-outside_range_in : (entries : maps.FinMap nat_cmp Mapped) (first end q : ℕ) → first ≤ q → q < end → maps.get (outside_range entries first end) q ≡ None
-get-outside_range_in entries first end q from below = grind (arith, nat_tests, get-outside_range entries first end q)
-
-pub get-outside_range_below : (entries : maps.FinMap nat_cmp Mapped) (first end q : ℕ) → q < first → maps.get (outside_range entries first end) q ≡ maps.get entries q
-get-outside_range_below entries first end q below = grind (arith, nat_tests, get-outside_range entries first end q)
-
-pub get-outside_range_above : (entries : maps.FinMap nat_cmp Mapped) (first end q : ℕ) → end ≤ q → maps.get (outside_range entries first end) q ≡ maps.get entries q
-get-outside_range_above entries first end q above = grind (arith, nat_tests, get-outside_range entries first end q)
 
 -- two maps with the same entry at each page are the same map
 pub same_entries : (m n : maps.FinMap nat_cmp Mapped) → ((q : ℕ) → maps.get m q ≡ maps.get n q) → m ≡ n

@@ -14,9 +14,6 @@ pub record IsGrownTo (rs : List RegionState) (start next i : ℕ) : Type 0 where
   pub after : IsFirstAfter rs next i
   pub grown : (q : ℕ) → start ≤ q → q < next → is_some (slot rs q) ≡ true
 
-pub IsGrownTo-start : (rs : List RegionState) (start i : ℕ) → IsFirstAfter rs start i → IsGrownTo rs start start i
-IsGrownTo-start rs start i f = record { from = omega arith; after = f; grown = λ q low high. absurd (omega arith) }
-
 -- the pages of the next region have grown, if it begins at the next page at the latest
 pub IsGrownTo-step : (rs : List RegionState) (start next i : ℕ) (d : RegionState) → IsOrdered 0 rs → IsGrownTo rs start next i → i < length rs → (get_or rs i d).first ≤ next → IsGrownTo rs start (end_of (get_or rs i d)) (i + 1)
 IsGrownTo-step rs start next i d o g h le =
@@ -112,13 +109,6 @@ IsMissingEnd-past rs end i f past = record {
   uncut = IsUncut-by_place end rs (λ j d h less. omega (arith, f.before j d (omega arith)));
   grown = λ q low high. absurd (omega arith);
 }
-
--- the first page that hasn't grown is before the end of those that haven't
-pub missing_forward : (rs : List RegionState) (start end first last : ℕ) → IsMissing rs start first → IsMissingEnd rs end last → first < end → first < last
-missing_forward rs start end first last m e less = elim (cases_lt first last) [
-  | inl before ↦ before
-  | inr after ↦ absurd (let grown = e.grown first after less in let none = m.missing in cc)
-]
 
 -- where all pages of a range have grown, none is missing
 pub HasGrown-missing : (rs : List RegionState) (start end first : ℕ) → HasGrown start end (table_of rs) → IsMissing rs start first → first < end → ⊥

@@ -1,9 +1,7 @@
 -- What is cached after a fill or an invalidation, and that each leaves a TLB.
-use Rattle.std.proofs.Common.{◌≡◌, ◌<◌, ◌≤◌, ℕ, zero, suc, Bool, true, false, not, ◌==◌, cond, ltb, List, [], ◌∷◌, ◌++◌, length, get_or, take, drop, Some, None, refl, sym, ap, ◌∙◌, subst, inl, inr, ◌⊎◌, arith, All}
+use Rattle.std.proofs.Common.{◌≡◌, ◌<◌, ◌≤◌, ℕ, zero, suc, Bool, true, false, not, ◌==◌, cond, ltb, List, [], ◌∷◌, ◌++◌, length, get_or, take, drop, Some, refl, ap, ◌∙◌, subst, inl, inr, ◌⊎◌, arith, All}
 use Rattle.std.specs.List.{filter, find, remove, AllPairs}
 use Rattle.std.proofs.lemmas.Bool.{eq-eqb}
-use Rattle.std.proofs.lemmas.List.Folds.{find-append}
-use Rattle.std.specs.Option.{option_or}
 use Rattle.std.proofs.lemmas.Bool.Decides.{nat_tests}
 use Rattle.std.proofs.lemmas.List.{length-append, length-drop, length-take}
 use Rattle.std.proofs.lemmas.List.Elements.{All-append, All-drop, All-take, All-filter, filter_passes}
@@ -12,7 +10,7 @@ use Rattle.std.proofs.lemmas.List.Sums.{count_by-le-length, length-filter}
 use Rattle.pcid_tlb.specs.declared.CachedEntry.{CachedEntry}
 use Rattle.pcid_tlb.specs.declared.Invpcid.{Invpcid}
 use Rattle.pcid_tlb.specs.declared.Invpcid.TheVariants.{AllContextsAndGlobals, AllContexts}
-use Rattle.pcid_tlb.specs.Tlb.{TlbState, is_of, is_of_pcid, cached, keep_entries, without_page, without_pcid, drops, invalidated, cr3_loaded, with_room, filled, evicted, AreApart, IsTlb}
+use Rattle.pcid_tlb.specs.Tlb.{TlbState, is_of, cached, keep_entries, without_page, drops, invalidated, cr3_loaded, with_room, filled, evicted, AreApart, IsTlb}
 
 -- an element leaves
 pub All-remove : {X : Type 0} (P : X → Type 0) (xs : List X) (k : ℕ) → All P xs → All P (remove xs k)
@@ -59,9 +57,6 @@ length-filter-le p xs = omega (arith, length-filter p xs, count_by-le-length p x
 pub All-kept : (P : CachedEntry → Type 0) (test : CachedEntry → Bool) (t : TlbState) → All P t.entries → All P (keep_entries test t).entries
 All-kept P test t all = All-filter test P t.entries all
 
-pub All-invalidated : (P : CachedEntry → Type 0) (t : TlbState) (kind : Invpcid) → All P t.entries → All P (invalidated t kind).entries
-All-invalidated P t kind all = All-filter _ P t.entries all
-
 pub All-cr3_loaded : (P : CachedEntry → Type 0) (t : TlbState) (pcid : ℕ) (keep : Bool) → All P t.entries → All P (cr3_loaded t pcid keep).entries
 All-cr3_loaded P t pcid true all = all
 All-cr3_loaded P t pcid false all = All-filter _ P t.entries all
@@ -100,9 +95,6 @@ IsTlb-evicted t slot is = record {
   bounded = omega (arith, is.bounded, length-remove-le t.entries slot);
   distinct = AllPairs-remove AreApart t.entries slot is.distinct;
 }
-
-pub IsTlb-invalidated : (t : TlbState) (kind : Invpcid) → IsTlb t → IsTlb (invalidated t kind)
-IsTlb-invalidated t kind is = IsTlb-keep_entries (λ e. not (drops kind e)) t is
 
 pub IsTlb-cr3_loaded : (t : TlbState) (pcid : ℕ) (keep : Bool) → IsTlb t → IsTlb (cr3_loaded t pcid keep)
 IsTlb-cr3_loaded t pcid true is = is
@@ -151,37 +143,6 @@ IsTlb-filled t e is =
     } in
     IsTlb-push t.capacity (with_room t.capacity kept) _ e roomed (All-with_room (λ x. AreApart x e) t.capacity kept (apart-without_page t e)) (with_room-fits t.capacity kept is.roomy left.bounded) refl
 
--- a search over what a filter keeps, where the filter drops all that the search would find
-find-filter_none : {X : Type 0} (p q : X → Bool) → ((x : X) → p x ≡ true → q x ≡ false) → (xs : List X) → find p (filter q xs) ≡ None
-find-filter_none p q drops [] = refl
-find-filter_none {X} p q drops (x ∷ xs) = go (q x) (p x) refl refl (find-filter_none p q drops xs)
-  where
-    go : (kept found : Bool) → q x ≡ kept → p x ≡ found → find p (filter q xs) ≡ None → find p (cond kept (x ∷ filter q xs) (filter q xs)) ≡ None
-    go true true k f later = absurd (let d = drops x f in cc)
-    go true false k f later = rw f later
-    go false found k f later = later
-
--- and where it keeps all that the search would find
-find-filter_kept : {X : Type 0} (p q : X → Bool) → ((x : X) → p x ≡ true → q x ≡ true) → (xs : List X) → find p (filter q xs) ≡ find p xs
-find-filter_kept p q keeps [] = refl
-find-filter_kept {X} p q keeps (x ∷ xs) = go (q x) (p x) refl refl (find-filter_kept p q keeps xs)
-  where
-    go : (kept found : Bool) → q x ≡ kept → p x ≡ found → find p (filter q xs) ≡ find p xs → find p (cond kept (x ∷ filter q xs) (filter q xs)) ≡ cond found (Some x) (find p xs)
-    go true found k f later = rw f (ap (λ rest. cond found (Some x) rest) later)
-    go false true k f later = absurd (let d = keeps x f in cc)
-    go false false k f later = later
-
-find-append_none : {X : Type 0} (p : X → Bool) (xs ys : List X) → find p xs ≡ None → find p (xs ++ ys) ≡ find p ys
-find-append_none p xs ys none = find-append p xs ys ∙ ap (λ o. option_or o (find p ys)) none
-
-find-drop_none : {X : Type 0} (p : X → Bool) (xs : List X) → find p xs ≡ None → find p (drop 1 xs) ≡ None
-find-drop_none p [] none = refl
-find-drop_none {X} p (x ∷ xs) none = go (p x) none
-  where
-    go : (found : Bool) → cond found (Some x) (find p xs) ≡ None → find p xs ≡ None
-    go true n = absurd (cc)
-    go false n = n
-
 -- what is found passes the test, and has what every element has
 found_passes : {X : Type 0} (p : X → Bool) (P : X → Type 0) (xs : List X) (y : X) → All P xs → find p xs ≡ Some y → (p y ≡ true) × P y
 found_passes p P [] y all found = absurd (cc)
@@ -190,9 +151,6 @@ found_passes {X} p P (x ∷ xs) y all found = go (p x) refl found (λ f. found_p
     go : (here : Bool) → p x ≡ here → cond here (Some x) (find p xs) ≡ Some y → (find p xs ≡ Some y → (p y ≡ true) × P y) → (p y ≡ true) × P y
     go true passes f later = let same : x ≡ y = cc in (rw (← same) passes, subst P same (all 0 x (omega arith)))
     go false fails f later = later f
-
-same_pcid : (a b : ℕ) → (a == b) ≡ true → a ≡ b
-same_pcid a b same = grind (arith, nat_tests)
 
 is_of-parts : (pcid page : ℕ) (e : CachedEntry) → is_of pcid page e ≡ true → (e.pcid ≡ pcid) × (e.page ≡ page)
 is_of-parts pcid page e here = (grind (arith, nat_tests), grind (arith, nat_tests))
@@ -203,52 +161,6 @@ cached-All P t pcid page e all found =
     let both = found_passes (is_of pcid page) P t.entries e all found in
     let parts = is_of-parts pcid page e both.0 in
     (parts.0, parts.1, both.1)
-
--- after a fill its entry is cached
-pub cached-filled : (t : TlbState) (e : CachedEntry) → cached (filled t e) e.pcid e.page ≡ Some e
-cached-filled t e =
-    let p : CachedEntry → Bool = is_of e.pcid e.page in
-    let kept = filter (λ x. not (p x)) t.entries in
-    let none : find p kept ≡ None = find-filter_none p (λ x. not (p x)) (λ x here. ap not here) t.entries in
-    let here : p e ≡ true = rw (eq-eqb e.pcid e.pcid refl, eq-eqb e.page e.page refl) in
-    find-append_none p (with_room t.capacity kept) (e ∷ []) (by_test kept none (ltb (length kept) t.capacity)) ∙ ap (λ b. cond b (Some e) None) here
-  where
-    by_test : (kept : List CachedEntry) → find (is_of e.pcid e.page) kept ≡ None → (b : Bool) → find (is_of e.pcid e.page) (cond b kept (drop 1 kept)) ≡ None
-    by_test kept none true = none
-    by_test kept none false = find-drop_none (is_of e.pcid e.page) kept none
-
--- an invalidation of one page leaves it uncached, and every other page as it was
-pub cached-without_page_same : (t : TlbState) (pcid page : ℕ) → cached (without_page t pcid page) pcid page ≡ None
-cached-without_page_same t pcid page = find-filter_none (is_of pcid page) (λ e. not (is_of pcid page e)) (λ e here. ap not here) t.entries
-
-pub cached-without_page_other : (t : TlbState) (pcid page other_pcid other : ℕ) → (other_pcid ≡ pcid → other ≡ page → ⊥) → cached (without_page t pcid page) other_pcid other ≡ cached t other_pcid other
-cached-without_page_other t pcid page other_pcid other apart =
-    find-filter_kept (is_of other_pcid other) (λ e. not (is_of pcid page e)) (λ e here. differs e (is_of pcid page e) refl (is_of-parts other_pcid other e here)) t.entries
-  where
-    differs : (e : CachedEntry) (b : Bool) → is_of pcid page e ≡ b → (e.pcid ≡ other_pcid) × (e.page ≡ other) → not (is_of pcid page e) ≡ true
-    differs e true f parts = let q = is_of-parts pcid page e f in absurd (apart (sym parts.0 ∙ q.0) (sym parts.1 ∙ q.1))
-    differs e false f parts = ap not f
-
--- an invalidation of a PCID leaves none of its pages cached, and those of every other PCID as they were
-pub cached-without_pcid_same : (t : TlbState) (pcid page : ℕ) → cached (without_pcid t pcid) pcid page ≡ None
-cached-without_pcid_same t pcid page =
-    find-filter_none (is_of pcid page) (λ e. not (is_of_pcid pcid e)) (λ e here. ap not (eq-eqb e.pcid pcid (is_of-parts pcid page e here).0)) t.entries
-
-pub cached-without_pcid_other : (t : TlbState) (pcid other_pcid page : ℕ) → (other_pcid ≡ pcid → ⊥) → cached (without_pcid t pcid) other_pcid page ≡ cached t other_pcid page
-cached-without_pcid_other t pcid other_pcid page apart =
-    find-filter_kept (is_of other_pcid page) (λ e. not (is_of_pcid pcid e)) (λ e here. differs e (is_of_pcid pcid e) refl (is_of-parts other_pcid page e here).0) t.entries
-  where
-    differs : (e : CachedEntry) (b : Bool) → is_of_pcid pcid e ≡ b → e.pcid ≡ other_pcid → not (is_of_pcid pcid e) ≡ true
-    differs e true f same = absurd (apart (sym same ∙ same_pcid e.pcid pcid f))
-    differs e false f same = ap not f
-
--- an entry that one form of INVPCID drops isn't cached after it
-pub cached-invalidated : (t : TlbState) (kind : Invpcid) (pcid page : ℕ) → ((e : CachedEntry) → is_of pcid page e ≡ true → drops kind e ≡ true) → cached (invalidated t kind) pcid page ≡ None
-cached-invalidated t kind pcid page dropped = find-filter_none (is_of pcid page) (λ e. not (drops kind e)) (λ e here. ap not (dropped e here)) t.entries
-
--- and every other one is cached as it was
-pub cached-survives : (t : TlbState) (kind : Invpcid) (pcid page : ℕ) → ((e : CachedEntry) → is_of pcid page e ≡ true → drops kind e ≡ false) → cached (invalidated t kind) pcid page ≡ cached t pcid page
-cached-survives t kind pcid page kept = find-filter_kept (is_of pcid page) (λ e. not (drops kind e)) (λ e here. ap not (kept e here)) t.entries
 
 -- a form of INVPCID that drops every entry leaves nothing
 pub invalidated-all : (t : TlbState) (kind : Invpcid) → ((kind ≡ AllContextsAndGlobals) ⊎ (kind ≡ AllContexts)) → invalidated t kind ≡ record t { entries = [] }

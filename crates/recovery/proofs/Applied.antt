@@ -2,7 +2,7 @@
 use Rattle.std.proofs.Common.{◌≡◌, ◌≢◌, ◌<◌, ◌≤◌, inl, inr, Bool, false, cond, ◌==◌, ℕ, zero, suc, ◌+◌, ◌*◌, List, [], ◌∷◌, ◌++◌, length, take, get_or, refl, sym, ◌∙◌, ap, subst, arith}
 use Rattle.std.proofs.lemmas.Bool.{cases_eq}
 use Rattle.std.proofs.lemmas.Bool.Decides.{nat_tests}
-use Rattle.std.proofs.lemmas.List.{take_more, take_all, length-take-le, get_or-take}
+use Rattle.std.proofs.lemmas.List.{take_more, length-take-le, get_or-take}
 use Rattle.device.specs.Device.{written, Torn, TornFrom}
 use Rattle.device.proofs.Ranges.{length-written, torn_by_write}
 use Rattle.volume_codec.specs.Layout.{GeometryValue, IsHome, record_block, first_home, block_at}
@@ -34,12 +34,6 @@ record_or-push other records b home (h ∷ homes) apart = ap (λ k. cond (b == h
 -- no record is written yet
 pub applied_none : (g : GeometryValue) (batch : Batch) (old : List ℕ) → IsApplied g (front_of batch 0) old old
 applied_none g batch old = record { same_length = refl; homes = λ b is. refl; others = λ i out. refl }
-
--- all are written
-pub applied_all : (g : GeometryValue) (batch : Batch) (n : ℕ) (old new : List ℕ) → length batch.homes ≤ n → IsApplied g (front_of batch n) old new → IsApplied g batch old new
-applied_all g batch n old new h applied =
-    let P : List ℕ → Type 0 = λ homes. IsApplied g (record batch { homes = homes }) old new in
-    subst P (take_all n batch.homes h) applied
 
 -- one record more: it is read from a list in which those before it are written, and written to that list
 pub applied_more : (g : GeometryValue) (batch : Batch) (old mid new bytes : List ℕ) (k home at : ℕ) → CanCarry g batch → 4096 * g.blocks ≤ length old → k < length batch.homes → home ≡ get_or batch.homes k 0

@@ -15,9 +15,6 @@ get_or-zeros zero k = refl
 get_or-zeros (suc n) zero = refl
 get_or-zeros (suc n) (suc k) = get_or-zeros n k
 
-pub erase_none : (from : ℕ) (old : List ℕ) → IsErased from from old old
-erase_none from old = record { same_length = refl; zero = λ i low high. absurd (omega arith); others = λ i out. refl }
-
 -- one piece more
 pub erase_more : (from at n most : ℕ) (old mid new piece : List ℕ) → IsErased from at old mid → from ≤ at → n ≤ most → at + n ≤ length old → piece ≡ zeros most → new ≡ written mid at (take n piece)
     → IsErased from (at + n) old new
@@ -40,10 +37,6 @@ erase_more from at n most old mid new piece erased order few room blank is = by 
             | inr after ↦ byte i ∙ written_after mid at (zeros n) i fits (omega (arith, size)) ∙ erased.others i (inr (omega arith))
           ];
         }
-
--- no gate is closed yet
-pub close_none : (slots : ℕ) (old : List ℕ) → AreClosed slots 0 old old
-close_none slots old = record { same_length = refl; gates = λ j h. absurd (omega arith); others = λ i out. refl }
 
 -- one gate more
 pub close_more : (slots n at gate byte : ℕ) (old mid new : List ℕ) → AreClosed slots n old mid → gate ≡ gate_block slots n → at ≡ 4096 * gate → byte ≡ 0 → at + 1 ≤ length old → new ≡ written mid at (byte ∷ [])

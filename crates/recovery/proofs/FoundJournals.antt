@@ -8,7 +8,7 @@ use Rattle.volume_codec.specs.Layout.{GeometryValue, IsGeometry, journals_of, de
 use Rattle.volume_codec.specs.Descriptor.{IsDescriptor}
 use Rattle.volume_codec.specs.Recovery.{Batch, IsOpenBatch, IsOpen, AreFalling, has_journal, AreOpen}
 use Rattle.volume_codec.proofs.Batches.{IsAmong, batch_of, each_among, among_open, falling_among}
-use Rattle.recovery.specs.inside.Reading.{AreRising, AreRead, RefusesJournal, RefusesJournals, IsOrdered, HaveOneMark}
+use Rattle.recovery.specs.inside.Reading.{AreRising, AreRead, RefusesJournal, RefusesJournals, HaveOneMark}
 
 -- what holds of each and of one more
 pub each_push : {X : Type 0} (P : X → Type 0) (xs : List X) (x : X) → AllByRecursion P xs → P x → AllByRecursion P (xs ++ x ∷ [])
@@ -44,23 +44,6 @@ length_more : {X : Type 0} (xs : List X) (x : X) → length (xs ++ x ∷ []) ≡
 length_more [] x = refl
 length_more (y ∷ xs) x = omega (arith, length_more xs x)
 
--- no journal is read yet
-pub read_none : (g : GeometryValue) (bytes : List ℕ) → AreRead g bytes 0 []
-read_none g bytes = record { each = tt; low = tt; all = λ j h. absurd (omega arith); few = omega arith; rising = tt }
-
--- the next journal is closed
-pub read_closed : (g : GeometryValue) (bytes : List ℕ) (n : ℕ) (batches : List Batch) → AreRead g bytes n batches → (IsOpen bytes g.slots n → ⊥) → AreRead g bytes (n + 1) batches
-read_closed g bytes n batches are shut = record {
-  each = are.each;
-  low = each_weaker (λ b. b.journal < n) (λ b. b.journal < n + 1) batches (λ b h. omega arith) are.low;
-  all = λ j h o. elim (cases_eq j n) [
-    | inl same ↦ absurd (let P : ℕ → Type 0 = λ k. IsOpen bytes g.slots k in shut (subst P same o))
-    | inr other ↦ are.all j (omega arith) o
-  ];
-  few = omega (arith, are.few);
-  rising = are.rising;
-}
-
 -- the next journal is open
 pub read_open : (g : GeometryValue) (bytes : List ℕ) (n : ℕ) (batches : List Batch) (batch : Batch) → AreRead g bytes n batches → IsOpenBatch g bytes batch → batch.journal ≡ n → AreRead g bytes (n + 1) (batches ++ batch ∷ [])
 read_open g bytes n batches batch are is at =
@@ -75,32 +58,6 @@ read_open g bytes n batches batch are is at =
       few = omega (arith, are.few, length_more batches batch);
       rising = rising_push batches batch are.rising (subst P (sym at) are.low);
     }
-
--- the journals in the order of their marks are the open batches
-pub ordered_open : (g : GeometryValue) (bytes : List ℕ) (old new : List Batch) → AreRead g bytes (journals_of g.layout) old → IsOrdered old new → AreFalling new → AreOpen g new bytes
-ordered_open g bytes old new are (inl same) falling =
-    let P : List Batch → Type 0 = λ batches. AllByRecursion (IsOpenBatch g bytes) batches in
-    record {
-      each = subst P (sym same) are.each;
-      all = λ j there gate. ap (λ (batches : List Batch). has_journal batches j) same ∙ are.all j there gate;
-      falling = falling;
-    }
-ordered_open g bytes old new are (inr swapped) falling =
-    let x = swapped.0 in
-    let y = swapped.1 in
-    let P : List Batch → Type 0 = λ batches. AllByRecursion (IsOpenBatch g bytes) batches in
-    let each = subst P swapped.2 are.each in
-    record {
-      each = subst P (sym swapped.3) (each.1.0, (each.0, tt));
-      all = λ j there gate. ap (λ (batches : List Batch). has_journal batches j) swapped.3
-          ∙ either (y.journal == j) (x.journal == j) (ap (λ (batches : List Batch). has_journal batches j) (sym swapped.2) ∙ are.all j there gate);
-      falling = falling;
-    }
-  where
-    either : (a b : Bool) → b || (a || false) ≡ true → a || (b || false) ≡ true
-    either true b e = refl
-    either false true e = refl
-    either false false e = e
 
 -- of two batches among falling ones with one mark each is the other
 falling_apart : (batches : List Batch) (x y : Batch) → AreFalling batches → IsAmong x batches → IsAmong y batches → x.mark ≡ y.mark → x.journal ≡ y.journal

@@ -1,9 +1,8 @@
 -- Calls one after another: what each keeps is kept by all, and where none wrote, nothing was written.
 use Rattle.std.proofs.Common.{◌≡◌, ℕ, List, Result, Ok, Err, MatchResult, refl, sym, ◌∙◌, subst}
 use Rattle.device.specs.declared.device.Device.{Ghosts}
-use Rattle.device.specs.Device.{LeavesOnly, Only, TornFrom}
-use Rattle.device.proofs.Moments.{leaves_on, leaves_weaker}
-use Rattle.device.proofs.Ranges.{torn_from_none, torn_from_more}
+use Rattle.device.specs.Device.{Only}
+use Rattle.device.proofs.Moments.{leaves_on}
 use Rattle.page_entry.specs.declared.refusal.Refusal.{Refusal}
 use Rattle.recovery.specs.Counts.{HasCause, IsKept}
 use Rattle.recovery.specs.Opening.{IsUnwritten}
@@ -45,11 +44,3 @@ pub synced_after : {D : Type 0} {disk : Ghosts D} {old new : D} → IsUnwritten 
 synced_after {D} {disk} {old} {new} unwritten only =
     let P : List ℕ → Type 0 = λ bytes. Only (disk.may_leave new) bytes in
     subst P (sym unwritten.same) (λ c left. only c (unwritten.left c left))
-
--- a write after calls that wrote nothing
-pub time_of_write : {D : Type 0} {disk : Ghosts D} {old mid new : D} (at n from size : ℕ) → IsUnwritten disk old mid → LeavesOnly disk.moment disk.left_since mid new (TornFrom at n (disk.may_leave mid)) → at ≡ from → n ≡ size
-    → LeavesOnly disk.moment disk.left_since old new (TornFrom from size (disk.may_leave old))
-time_of_write {D} {disk} {old} {mid} {new} at n from size unwritten time there long =
-    let P : ℕ → Type 0 = λ a. LeavesOnly disk.moment disk.left_since mid new (TornFrom a n (disk.may_leave mid)) in
-    let Q : ℕ → Type 0 = λ k. LeavesOnly disk.moment disk.left_since mid new (TornFrom from k (disk.may_leave mid)) in
-    leaves_on (leaves_weaker unwritten.time (λ c left. torn_from_none from size left)) (subst Q long (subst P there time)) (λ c torn. torn_from_more unwritten.left torn)

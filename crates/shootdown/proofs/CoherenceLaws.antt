@@ -3,7 +3,6 @@ use Rattle.std.proofs.Common.{◌≡◌, ◌≢◌, ℕ, ◌<◌, ◌⊎◌, inl
 use Rattle.std.proofs.lemmas.Bool.{cases_eq, not-true, false_from_ne_true, eq-eqb}
 use Rattle.std.proofs.lemmas.List.Elements.{All-filter, filter_passes}
 use Rattle.std.proofs.lemmas.List.{length-replicate, get_or-replicate}
-use Rattle.page_entry.specs.Entry.{Mapped}
 use Rattle.pcid_tlb.specs.declared.CachedEntry.{CachedEntry}
 use Rattle.pcid_tlb.specs.declared.Invpcid.TheVariants.{SingleContext}
 use Rattle.pcid_tlb.specs.Tlb.{TlbState, filled, evicted, without_page}
@@ -352,23 +351,3 @@ Coheres-fresh spaces cpus tlb =
     subst (CoheresAt spaces None) (sym same) (CoheresAt-free spaces (fresh_processor tlb) (λ k d below. absurd (omega arith))))
 
 -- ---- what coherence says of entries that may be used
-
--- none is cached of a page that has no entry, as of a PCID that was given out again
-pub unused_without_entry : (spaces : Spaces) (s : ShootdownState) (p pcid page : ℕ) → Coheres spaces s → p < length s.processors → entry_at spaces pcid page ≡ None
-    → All (λ e. IsUsable (processor_at s p) e → e.pcid ≡ pcid → e.page ≡ page → ⊥) (processor_at s p).tlb.entries
-unused_without_entry spaces s p pcid page coheres there none = λ k d below uses pcid_is page_is.
-    let agrees = coheres.covered p there k d below uses in
-    let present = agrees.1 in
-    let e = get_or (processor_at s p).tlb.entries k d in
-    let same : entry_at spaces e.pcid e.page ≡ entry_at spaces pcid page = λ i. entry_at spaces (pcid_is i) (page_is i) in
-    cc
-
--- none is writable of a page whose entry isn't writable
-pub unwritable_with_entry : (spaces : Spaces) (s : ShootdownState) (p pcid page : ℕ) (entry : Mapped) → Coheres spaces s → p < length s.processors → entry_at spaces pcid page ≡ Some entry → entry.writable ≡ false
-    → All (λ e. IsUsable (processor_at s p) e → e.pcid ≡ pcid → e.page ≡ page → e.writable ≡ false) (processor_at s p).tlb.entries
-unwritable_with_entry spaces s p pcid page entry coheres there here unwritable = λ k d below uses pcid_is page_is.
-    let agrees = coheres.covered p there k d below uses in
-    let e = get_or (processor_at s p).tlb.entries k d in
-    let same : entry_at spaces e.pcid e.page ≡ entry_at spaces pcid page = λ i. entry_at spaces (pcid_is i) (page_is i) in
-    let entry_is : Some agrees.0 ≡ Some entry = sym agrees.1 ∙ same ∙ here in
-    false_from_ne_true _ (λ writable. let table = agrees.2.writable writable in let both : agrees.0 ≡ entry = cc in let there = ap (λ (m : Mapped). m.writable) both in cc)

@@ -306,14 +306,6 @@ admitted s p free = go (is_there s p) refl (is_running (state_of s p)) refl (is_
     go true there false runs locked is none = absurd (cc)
     go false there runs is locked held none = absurd (cc)
 
--- a processor that goes on with loads and stores and wasn't interrupted is active
-pub active_unless_interrupted : (state : ProcState) → is_running state ≡ true → is_interrupted state ≡ false → state ≡ Active
-active_unless_interrupted Active runs not = refl
-active_unless_interrupted Interrupted runs not = absurd (cc)
-active_unless_interrupted Stalled runs not = absurd (cc)
-active_unless_interrupted Initiating runs not = absurd (cc)
-active_unless_interrupted Idle runs not = absurd (cc)
-
 -- who is admitted is there, and goes on with loads and stores
 pub running : (s : ShootdownState) (p : ℕ) → not_running s p ≡ None → (is_there s p ≡ true) × (is_running (state_of s p) ≡ true)
 running s p none = go (is_there s p) refl (is_running (state_of s p)) refl none

@@ -1,6 +1,6 @@
 -- What a change affects and touches, which updates let the page tables only grow, and which change affected entries alone.
 use Rattle.std.proofs.Common.{◌≡◌, ℕ, Bool, true, false, cond, not, eqb, ◌==◌, ◌&&◌, List, [], ◌∷◌, ◌++◌, map, filter, Option, Some, None, is_some, IsSome, unwrap_or, refl, sym, ap, ◌∙◌, subst, arith, Contains}
-use Rattle.std.specs.List.{flat_map, list_any}
+use Rattle.std.specs.List.{flat_map}
 use Rattle.std.specs.Iterator.{YieldsFirst}
 use Rattle.std.specs.FinMap as maps
 use Rattle.std.proofs.lemmas.Bool.{false≢true}
@@ -14,35 +14,19 @@ use Rattle.mappings.specs.Places.{Places, may_write, pages_mapping}
 use Rattle.spaces.specs.declared.change.Change.{Change}
 use Rattle.spaces.specs.declared.change.Change.TheVariants.{Unmap, Protect, Reclaim, Checkpoint}
 use Rattle.spaces.specs.Spaces.{AddressSpace, Spaces, empty_space, has_space, space_at, entry_at, place_at, with_space, with_entry, with_mapping, without_mapping, EditsEntries, SetsRights}
-use Rattle.spaces.specs.Changes.{is_place_of, has_entry_of, pages_with_entry, entries_in, entries_of, affects, touches, Keeps, Grows, ChangesOnlyAffected, without_entries_of}
+use Rattle.spaces.specs.Changes.{is_place_of, has_entry_of, pages_with_entry, entries_of, affects, touches, Keeps, Grows, ChangesOnlyAffected, without_entries_of}
 use Rattle.spaces.proofs.SpacesLaws.{get-empty_places, has_space-place_at, entry_at-create, entry_at-with_entry, entry_at-with_mapping, entry_at-without_mapping}
 use Rattle.spaces.proofs.AreSpacesLaws.{some_from}
-use Rattle.spaces.proofs.Members.{not_in_none, Contains-head, Contains-tail, Contains-filter, in_filter, Contains-map, in_map, Contains-flat_map, in_flat_map, found, find_in, in_entries, Contains-entries}
+use Rattle.spaces.proofs.Members.{not_in_none, Contains-head, Contains-filter, in_filter, Contains-map, in_map, Contains-flat_map, in_flat_map, found, find_in, in_entries, Contains-entries}
 
 -- ---- page tables that only grow
 
 pub Keeps-refl : (entry : Mapped) → Keeps entry entry
 Keeps-refl entry = record { same_frame = refl; still_writable = λ h. h; still_dirty = λ h. h }
 
-pub Keeps-trans : (a b c : Mapped) → Keeps a b → Keeps b c → Keeps a c
-Keeps-trans a b c k l = record {
-  same_frame = l.same_frame ∙ k.same_frame;
-  still_writable = λ h. l.still_writable (k.still_writable h);
-  still_dirty = λ h. l.still_dirty (k.still_dirty h);
-}
-
 -- the same entries
 pub Grows-same : (old new : Spaces) → ((q at : ℕ) → entry_at new q at ≡ entry_at old q at) → Grows old new
 Grows-same old new same = λ q at entry is. (entry, same q at ∙ is, Keeps-refl entry)
-
-pub Grows-refl : (m : Spaces) → Grows m m
-Grows-refl m = Grows-same m m (λ q at. refl)
-
-pub Grows-trans : (a b c : Spaces) → Grows a b → Grows b c → Grows a c
-Grows-trans a b c g h = λ q at entry is.
-    let mid = g q at entry is in
-    let end = h q at mid.0 mid.1 in
-    (end.0, end.1, Keeps-trans entry mid.0 end.0 mid.2 end.2)
 
 -- an entry that is set, where it keeps what was there
 pub Grows-with_entry : (m : Spaces) (n page : ℕ) (now : Mapped) → ((was : Mapped) → entry_at m n page ≡ Some was → Keeps was now) → Grows m (with_entry m n page (Some now))
@@ -203,33 +187,8 @@ pub gives_first : (pages : List ℕ) (r : Option ℕ) (rest : List ℕ) → Yiel
 gives_first pages None rest y = sym (ap is_listed y.0)
 gives_first pages (Some page) rest y = sym (ap is_listed y)
 
--- where the same pages are mapped to the same places and have an entry, a change affects the same
-pub affects_same : (old new : Spaces) (change : Change) (q at : ℕ) → place_at new q at ≡ place_at old q at → is_some (entry_at new q at) ≡ is_some (entry_at old q at) → affects new change q at ≡ affects old change q at
-affects_same old new (Unmap pcid range) q at place entry = refl
-affects_same old new (Protect pcid range rights) q at place entry = refl
-affects_same old new (Reclaim owner) q at place entry = λ i. is_place_of owner (place i) && entry i
-affects_same old new Checkpoint q at place entry = refl
-
--- and touches the same
-pub touches_same : (old new : Spaces) (change : Change) (q : ℕ) → (space_at new q).places ≡ (space_at old q).places → ((at : ℕ) → is_some (entry_at new q at) ≡ is_some (entry_at old q at)) → touches new change q ≡ touches old change q
-touches_same old new (Unmap pcid range) q places entries = refl
-touches_same old new (Protect pcid range rights) q places entries = refl
-touches_same old new (Reclaim owner) q places entries = λ i. list_any (λ at. is_place_of owner (maps.get (places i) at) && entries at i) (pages_mapping (places i) owner.file owner.page)
-touches_same old new Checkpoint q places entries = refl
-
 -- What is made of each page that maps a page of a file by a present entry, space by space.
 module _ {X : Type 0} (f : ℕ → ℕ → X) (m : Spaces) (owner : FilePage) where
   map-append : (pcid : ℕ) (pages : List ℕ) (rest : List (ℕ × ℕ)) → map (λ e. f e.0 e.1) (map (λ page. (pcid, page)) pages ++ rest) ≡ map (f pcid) pages ++ map (λ e. f e.0 e.1) rest
   map-append pcid [] rest = refl
   map-append pcid (page ∷ pages) rest = ap (λ xs. f pcid page ∷ xs) (map-append pcid pages rest)
-
-  -- of spaces that are there
-  map-entries_in : (spaces : List (ℕ × AddressSpace)) → ((s : ℕ × AddressSpace) → Contains spaces s → space_at m s.0 ≡ s.1) → map (λ e. f e.0 e.1) (entries_in spaces owner) ≡ flat_map (λ s. map (f s.0) (filter (λ page. is_some (entry_at m s.0 page)) (pages_mapping s.1.places owner.file owner.page))) spaces
-  map-entries_in [] there = refl
-  map-entries_in (s ∷ spaces) there =
-      let here = there s (Contains-head s spaces) in
-      map-append s.0 (pages_with_entry s.1 owner) (entries_in spaces owner)
-      ∙ (λ i. map (f s.0) (filter (λ page. is_some (maps.get (sym here i).entries page)) (pages_mapping s.1.places owner.file owner.page)) ++ map-entries_in spaces (λ t has. there t (Contains-tail s spaces t has)) i)
-
-  pub map-entries_of : map (λ e. f e.0 e.1) (entries_of m owner) ≡ flat_map (λ s. map (f s.0) (filter (λ page. is_some (entry_at m s.0 page)) (pages_mapping s.1.places owner.file owner.page))) (maps.entries m)
-  map-entries_of = map-entries_in (maps.entries m) (λ s has. space_at_of m s.0 s.1 (in_entries m s has))

@@ -1,13 +1,13 @@
 -- Which PCIDs and which dirty pages are listed.
-use Rattle.std.proofs.Common.{◌≡◌, ℕ, ◌+◌, ◌<◌, ◌^◌, ◌&&◌, Bool, true, false, eqb, Option, Some, None, IsSome, refl, sym, ap, ◌∙◌, subst, arith, Contains}
+use Rattle.std.proofs.Common.{◌≡◌, ℕ, ◌+◌, ◌<◌, ◌^◌, ◌&&◌, Bool, true, false, eqb, refl, sym, ap, ◌∙◌, subst, arith, Contains}
 use Rattle.std.specs.FinMap as maps
 use Rattle.std.proofs.lemmas.Bool.{false≢true}
 use Rattle.std.proofs.lemmas.Bool.Decides.{nat_tests}
-use Rattle.page_entry.specs.Entry.{Mapped, is_dirty}
+use Rattle.page_entry.specs.Entry.{is_dirty}
 use Rattle.page_table.specs.Table.{dirty_in}
 use Rattle.page_table.proofs.Dirty.{dirty_in-lists}
 use Rattle.mappings.specs.Places.{is_among}
-use Rattle.spaces.specs.Spaces.{AddressSpace, Spaces, has_space, space_at, entry_at, AreSpaces}
+use Rattle.spaces.specs.Spaces.{AddressSpace, Spaces, has_space, space_at, entry_at}
 use Rattle.spaces.proofs.AreSpacesLaws.{some_from, is_some_from}
 use Rattle.spaces.proofs.Members.{Contains-map, in_map, found, find_in, in_entries, Contains-entries}
 
@@ -37,15 +37,3 @@ Contains-dirty_pages m pcid first count page among dirty =
     let it = find_in (λ p. eqb p page) (dirty_in (space_at m pcid).entries first (first + count)) any in
     let same : it.0 ≡ page = grind (arith, nat_tests, it.2) in
     subst (Contains (dirty_in (space_at m pcid).entries first (first + count))) same it.1
-
--- among the pages of user addresses are all that have an entry
-pub Contains-all_dirty_pages : (m : Spaces) (pcid page : ℕ) → AreSpaces m → is_dirty (entry_at m pcid page) ≡ true → Contains (dirty_in (space_at m pcid).entries 0 (0 + 2 ^ 35)) page
-Contains-all_dirty_pages m pcid page are dirty =
-    let e = some_from (entry_at m pcid page) (present (entry_at m pcid page) dirty) in
-    let p = are.mapped pcid page e.0 e.1 in
-    let low : page < 2 ^ 35 = are.user pcid page p.0 p.1 in
-    Contains-dirty_pages m pcid 0 (2 ^ 35) page (grind (arith, nat_tests)) dirty
-  where
-    present : (o : Option Mapped) → is_dirty o ≡ true → IsSome o
-    present None h = h
-    present (Some e) h = refl

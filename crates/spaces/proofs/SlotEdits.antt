@@ -38,9 +38,6 @@ module _ (slots : List (Option SpaceState)) (n : ℕ) (s : SpaceState) (is : slo
   within = within_slots slots n (here.there)
 
   module _ (new : SpaceState) where
-    slots_then : List (Option SpaceState)
-    slots_then = set slots n (Some new)
-
     pub set-space : spaces_of (set slots n (Some new)) ≡ with_space (spaces_of slots) n (space_of new)
     set-space = spaces_of-set slots n new within
 
@@ -241,9 +238,6 @@ module _ (slots : List (Option SpaceState)) (prepared : Option (ℕ × PageRange
 -- ---- entries that are edited in every slot
 
 module _ (g : SpaceState → maps.FinMap nat_cmp Mapped) (slots : List (Option SpaceState)) where
-  all_edited : List (Option SpaceState)
-  all_edited = map (option_map (edited g)) slots
-
   slot_at-edited : (q : ℕ) → slot_at (map (option_map (edited g)) slots) q ≡ option_map (edited g) (slot_at slots q)
   slot_at-edited q = get_or-map (option_map (edited g)) slots q None
 

@@ -99,14 +99,6 @@ missing_by slots q (Some s) is = tt
 pub slot_at-past : (slots : List (Option SpaceState)) (q : ℕ) → length slots ≤ q → slot_at slots q ≡ None
 slot_at-past slots q past = get_or_past slots q None past
 
--- a space that is there is in a slot
-pub slot_of : (slots : List (Option SpaceState)) (q : ℕ) → has_space (spaces_of slots) q ≡ true → (s : SpaceState) × (slot_at slots q ≡ Some s)
-slot_of slots q there = some_slot (slot_at slots q) (sym (has_space-spaces_of slots q) ∙ there)
-  where
-    some_slot : (o : Option SpaceState) → is_some o ≡ true → (s : SpaceState) × (o ≡ Some s)
-    some_slot None h = absurd (false≢true h)
-    some_slot (Some s) h = (s, refl)
-
 pub within_slots : (slots : List (Option SpaceState)) (q : ℕ) → has_space (spaces_of slots) q ≡ true → q < length slots
 within_slots slots q there = elim (cases_lt q (length slots)) [
   | inl less ↦ less

@@ -7,7 +7,7 @@ use Rattle.std.specs.FinMap as maps
 use Rattle.std.proofs.lemmas.Bool.{cases_eq, false≢true}
 use Rattle.std.proofs.lemmas.Bool.Decides.{nat_tests}
 use Rattle.page_entry.specs.Entry.{Mapped}
-use Rattle.page_table.specs.Table.{put_entry, in_range, outside_range}
+use Rattle.page_table.specs.Table.{put_entry, outside_range}
 use Rattle.page_table.proofs.Entries.{get-put_entry, get-outside_range}
 use Rattle.mappings.specs.declared.place.Place.{Place}
 use Rattle.mappings.specs.declared.place.Rights.{Rights}
@@ -250,10 +250,6 @@ module _ (m : Spaces) (n : ℕ) (range : PageRange) (place : Place) where
   has_space-with_mapping there q = has_space-with_space_there m n _ there q
 
 -- ---- pages that are unmapped
-
--- the pages of a range, by its first page and its end
-pub in_range-is_among : (first count page : ℕ) → in_range first (first + count) page ≡ is_among first count page
-in_range-is_among first count page = refl
 
 module _ (m : Spaces) (n : ℕ) (range : PageRange) where
   -- the space without these pages

@@ -1,6 +1,6 @@
 -- The blocks of a device's bytes.
-use Rattle.std.proofs.Common.{◌≡◌, ℕ, ◌+◌, ◌-◌, ◌*◌, ◌<◌, ◌≤◌, ◌⊎◌, inl, inr, List, ◌++◌, length, take, drop, get_or, refl, sym, ap, ◌∙◌, arith, length-append}
-use Rattle.std.proofs.lemmas.List.{length-take, length-take-le, length-drop, get_or-take, get_or-drop, ext_get_or, get_or_append_left, get_or-append_right, take_at, drop_at}
+use Rattle.std.proofs.Common.{◌≡◌, ℕ, ◌+◌, ◌-◌, ◌*◌, ◌<◌, ◌≤◌, ◌⊎◌, List, ◌++◌, length, take, drop, get_or, sym, ◌∙◌, arith, length-append}
+use Rattle.std.proofs.lemmas.List.{length-take, length-take-le, length-drop, get_or-take, get_or-drop, ext_get_or}
 use Rattle.volume_codec.specs.Layout.{block_at}
 
 -- a block within the bytes is whole
@@ -34,29 +34,3 @@ length-written bytes new at h =
     let a = length-append (take at bytes) (new ++ drop (at + length new) bytes) in
     let b = length-append new (drop (at + length new) bytes) in
     omega (arith, length-take-le at bytes (omega arith), length-drop (at + length new) bytes)
-
--- a byte outside what was written stays
-pub get_or-written_other : (bytes new : List ℕ) (at k : ℕ) → at + length new ≤ length bytes → (k < at) ⊎ (at + length new ≤ k) → get_or (written bytes at new) k 0 ≡ get_or bytes k 0
-get_or-written_other bytes new at k h (inl below) =
-    let front = length-take-le at bytes (omega arith) in
-    get_or_append_left (take at bytes) (new ++ drop (at + length new) bytes) 0 k (omega arith) ∙ get_or-take at bytes k 0 below
-get_or-written_other bytes new at k h (inr above) =
-    let front = length-take-le at bytes (omega arith) in
-    let e : at + length new + (k - at - length new) ≡ k = omega arith in
-    get_or-append_right (take at bytes) (new ++ drop (at + length new) bytes) at k 0 front (omega arith)
-    ∙ get_or-append_right new (drop (at + length new) bytes) (length new) (k - at) 0 refl (omega arith)
-    ∙ get_or-drop (at + length new) bytes (k - at - length new) 0 ∙ ap (λ n. get_or bytes n 0) e
-
--- a block outside what was written stays
-pub block_at-written_other : (bytes new : List ℕ) (at i : ℕ) → at + length new ≤ length bytes → (4096 * i + 4096 ≤ at) ⊎ (at + length new ≤ 4096 * i) → block_at (written bytes at new) i ≡ block_at bytes i
-block_at-written_other bytes new at i h (inl below) =
-    block_at-agree (written bytes at new) bytes i (length-written bytes new at h) (λ k low high. get_or-written_other bytes new at k h (inl (omega arith)))
-block_at-written_other bytes new at i h (inr above) =
-    block_at-agree (written bytes at new) bytes i (length-written bytes new at h) (λ k low high. get_or-written_other bytes new at k h (inr (omega arith)))
-
--- a block that was written is the new one
-pub block_at-written_same : (bytes new : List ℕ) (i : ℕ) → 4096 * i + 4096 ≤ length bytes → length new ≡ 4096 → block_at (written bytes (4096 * i) new) i ≡ new
-block_at-written_same bytes new i h l =
-    let front = length-take-le (4096 * i) bytes (omega arith) in
-    ap (take 4096) (drop_at (take (4096 * i) bytes) (new ++ drop (4096 * i + length new) bytes) (4096 * i) front)
-    ∙ take_at new (drop (4096 * i + length new) bytes) 4096 l

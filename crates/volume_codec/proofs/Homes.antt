@@ -1,6 +1,5 @@
 -- Home blocks that rise.
-use Rattle.std.proofs.Common.{◌≡◌, ◌≢◌, ℕ, zero, suc, ◌+◌, ◌<◌, ◌≤◌, ◌⊎◌, inl, inr, List, [], ◌∷◌, length, get_or, arith}
-use Rattle.std.proofs.lemmas.Bool.{cases_eq}
+use Rattle.std.proofs.Common.{◌≡◌, ◌≢◌, ℕ, zero, suc, ◌+◌, ◌<◌, ◌≤◌, ◌⊎◌, List, [], ◌∷◌, length, get_or, arith}
 use Rattle.volume_codec.specs.Descriptor.{RiseWithin}
 
 -- each lies within the bounds
@@ -17,18 +16,3 @@ rising_apart low high [] i k rise h l = absurd (omega arith)
 rising_apart low high (n ∷ ns) i zero rise h l = absurd (omega arith)
 rising_apart low high (n ∷ ns) zero (suc k) rise h l = let r = rising_at (n + 1) high ns k rise.2 (omega arith) in omega (arith, r.0)
 rising_apart low high (n ∷ ns) (suc i) (suc k) rise h l = rising_apart (n + 1) high ns i k rise.2 (omega arith) (omega arith)
-
--- a number is at some place of a list, or at none
-pub place_or_none : (homes : List ℕ) (b : ℕ) → ((i : ℕ) × (i < length homes) × (get_or homes i 0 ≡ b)) ⊎ ((i : ℕ) → i < length homes → get_or homes i 0 ≢ b)
-place_or_none [] b = inr (λ i h. absurd (omega arith))
-place_or_none (n ∷ ns) b = by (cases_eq n b) (place_or_none ns b)
-  where
-    by : (n ≡ b) ⊎ (n ≡ b → ⊥) → ((i : ℕ) × (i < length ns) × (get_or ns i 0 ≡ b)) ⊎ ((i : ℕ) → i < length ns → get_or ns i 0 ≢ b)
-        → ((i : ℕ) × (i < length (n ∷ ns)) × (get_or (n ∷ ns) i 0 ≡ b)) ⊎ ((i : ℕ) → i < length (n ∷ ns) → get_or (n ∷ ns) i 0 ≢ b)
-    by (inl same) rest = inl (0, omega arith, same)
-    by (inr other) (inl found) = inl (suc found.0, omega (arith, found.1), found.2)
-    by (inr other) (inr none) = inr (λ i. nowhere other none i)
-      where
-        nowhere : (n ≡ b → ⊥) → ((i : ℕ) → i < length ns → get_or ns i 0 ≢ b) → (i : ℕ) → i < length (n ∷ ns) → get_or (n ∷ ns) i 0 ≢ b
-        nowhere other none zero h = other
-        nowhere other none (suc i) h = none i (omega arith)

@@ -25,48 +25,12 @@ pub length-magic_of : (layout : Layout) → length (magic_of layout) ≡ 8
 length-magic_of One = refl
 length-magic_of Two = refl
 
--- there is a journal
-pub journals_of-some : (layout : Layout) → 0 < journals_of layout
-journals_of-some One = omega arith
-journals_of-some Two = omega arith
-
-pub journals_of-few : (layout : Layout) → journals_of layout ≤ 2
-journals_of-few One = omega arith
-journals_of-few Two = omega arith
-
 -- the blocks of a journal end before those of the next
 next_journal : (j k w : ℕ) → j < k → j * w + w ≤ k * w
 next_journal j k w h = let m = mul-le (suc j) w k w (omega arith) (omega arith) in let e = step j w in omega arith
   where
     step : (j w : ℕ) → suc j * w ≡ j * w + w
     step j w = omega arith
-
--- the first journal's parts
-pub gate_block-first : (slots : ℕ) → gate_block slots 0 ≡ 1
-gate_block-first slots = omega arith
-
-pub descriptor_block-first : (slots : ℕ) → descriptor_block slots 0 ≡ 2
-descriptor_block-first slots = omega arith
-
-pub record_block-first : (slots i : ℕ) → record_block slots 0 i ≡ 3 + i
-record_block-first slots i = omega arith
-
--- the second journal's parts
-pub gate_block-second : (slots : ℕ) → gate_block slots 1 ≡ 3 + slots
-gate_block-second slots = omega arith
-
-pub descriptor_block-second : (slots : ℕ) → descriptor_block slots 1 ≡ 4 + slots
-descriptor_block-second slots = omega arith
-
-pub record_block-second : (slots i : ℕ) → record_block slots 1 i ≡ 5 + slots + i
-record_block-second slots i = omega arith
-
--- the home blocks
-pub first_home-one : (slots : ℕ) → first_home One slots ≡ 3 + slots
-first_home-one slots = omega arith
-
-pub first_home-two : (slots : ℕ) → first_home Two slots ≡ 5 + 2 * slots
-first_home-two slots = omega arith
 
 -- a journal's parts lie before every home block
 pub gate_block-low : (layout : Layout) (slots j : ℕ) → j < journals_of layout → gate_block slots j < first_home layout slots

@@ -1,6 +1,6 @@
 -- Zeros, and bytes padded by them.
 use Rattle.std.proofs.Common.{◌≡◌, ℕ, ◌+◌, ◌-◌, ◌≤◌, List, [], ◌++◌, length, take, drop, refl, sym, ap, ◌∙◌, arith, length-append}
-use Rattle.std.proofs.lemmas.List.{length-replicate, replicate-append-replicate, take-replicate, drop-replicate, take_at, drop_at, length-take, length-take-le, length-drop, drop-drop, take-append-drop}
+use Rattle.std.proofs.lemmas.List.{length-replicate, replicate-append-replicate, take-replicate, drop-replicate, take_at, drop_at, length-take, length-drop, drop-drop}
 use Rattle.std.proofs.Math.Seq.{take-add}
 use Rattle.std.proofs.lemmas.Slice.{take-put_mid, drop-put_mid}
 use borrow.Rule.Slice.PartMut.{put_mid}
@@ -67,7 +67,3 @@ drop-skipped block at n z = sym (drop-drop n at block) ∙ ap (drop n) z ∙ dro
 
 pub take-skipped : (block : List ℕ) (at n : ℕ) → at + n ≤ 4096 → drop at block ≡ zeros (4096 - at) → take (at + n) block ≡ take at block ++ zeros n
 take-skipped block at n h z = take-add at n block ∙ ap (λ r. take at block ++ r) (ap (take n) z ∙ take-zeros n (4096 - at) (omega arith))
-
-pub padded-take : (block : List ℕ) (at : ℕ) → at ≤ 4096 → length block ≡ 4096 → drop at block ≡ zeros (4096 - at) → block ≡ padded 4096 (take at block)
-padded-take block at h l z =
-    sym (take-append-drop at block) ∙ ap (λ r. take at block ++ r) (z ∙ ap (λ k. zeros (4096 - k)) (sym (length-take-le at block (omega arith))))

@@ -1,5 +1,5 @@
 -- What is read of what was spelled.
-use Rattle.std.proofs.Common.{◌≡◌, ℕ, zero, suc, ◌+◌, ◌-◌, ◌*◌, ◌<◌, ◌≤◌, Bool, true, false, not, List, [], ◌∷◌, ◌++◌, length, drop, Result, Ok, Err, bytes_eq, MatchResult, IsUtf8, IsAscii, refl, sym, ap, subst, ◌∙◌, arith, append_assoc}
+use Rattle.std.proofs.Common.{◌≡◌, ℕ, zero, suc, ◌+◌, ◌-◌, ◌*◌, ◌<◌, ◌≤◌, Bool, true, not, List, [], ◌∷◌, ◌++◌, length, drop, Result, Ok, Err, bytes_eq, MatchResult, IsUtf8, IsAscii, refl, sym, ap, subst, ◌∙◌, arith, append_assoc}
 use Rattle.std.specs.Borrow.{Bor}
 use Rattle.std.specs.Result.{result_unwrap_or}
 use Rattle.std.specs.List.{AllByRecursion}
@@ -61,25 +61,9 @@ found_more done new file count i entries entry h found at read sized is each =
     ∙ append_assoc (files_of done) (file_of file ∷ []) rest ∙ ap (λ (f : TableFile). files_of done ++ f ∷ rest) same
     ∙ ap (λ (fs : List TableFile). files_of done ++ fs) (sym (entries_in-more count i entries h)) ∙ found each
 
--- all files were read
-pub all_found : (done : List FileSpec) (count i : ℕ) (entries : List ℕ) → count ≤ i
-    → (AllByRecursion (λ f. IsName f.name) (entries_in count entries) → files_of done ++ entries_in (count - i) (drop (48 * i) entries) ≡ entries_in count entries)
-    → AllByRecursion (λ f. IsName f.name) (entries_in count entries) → files_of done ≡ entries_in count entries
-all_found done count i entries h found each =
-    let n : count - i ≡ 0 = omega arith in
-    sym (append-nil (files_of done)) ∙ ap (λ k. files_of done ++ entries_in k (drop (48 * i) entries)) (sym n) ∙ found each
-
 pub full_push : (files : List FileSpec) (file : FileSpec) → AreFull files → file.length ≡ file.capacity → AreFull (files ++ file ∷ [])
 full_push [] file full is = (is, tt)
 full_push (f ∷ files) file full is = (full.0, full_push files file full.1 is)
-
--- what `!=` of bytes says
-pub same_by_ne : (r : Bool) (xs ys : List ℕ) → r ≡ not (bytes_eq xs ys) → r ≡ false → xs ≡ ys
-same_by_ne r xs ys is f = by (bytes_eq xs ys) refl (sym is ∙ f)
-  where
-    by : (b : Bool) → bytes_eq xs ys ≡ b → not b ≡ false → xs ≡ ys
-    by true e h = (bytes_eq-Decides xs ys).0 e
-    by false e h = cc
 
 pub other_by_ne : (r : Bool) (xs ys : List ℕ) → r ≡ not (bytes_eq xs ys) → r ≡ true → xs ≡ ys → ⊥
 other_by_ne r xs ys is t same = let e = (bytes_eq-Decides xs ys).1 same in let n = ap not e in cc

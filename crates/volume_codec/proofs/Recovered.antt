@@ -3,7 +3,7 @@ use Rattle.std.proofs.Common.{◌≡◌, ◌≢◌, ℕ, zero, suc, ◌+◌, ◌
 use Rattle.std.specs.List.{AllByRecursion}
 use Rattle.std.proofs.lemmas.Bool.{cases_lt}
 use Rattle.std.proofs.lemmas.Bool.Decides.{nat_tests, eqb_tells}
-use Rattle.std.proofs.lemmas.List.{take_at, length-take-le, drop-drop, length-map, get_or-append_right, get_or_append_left}
+use Rattle.std.proofs.lemmas.List.{length-take-le, drop-drop, length-map, get_or-append_right, get_or_append_left}
 use Rattle.std.proofs.Math.Seq.{take-add}
 use Rattle.volume_codec.specs.Files.{File, TableFile}
 use Rattle.volume_codec.specs.Layout.{IsHome, block_at, record_block, first_file_home}
@@ -12,7 +12,7 @@ use Rattle.volume_codec.specs.Super.{SuperValue, pages_of, total_pages, first_ho
 use Rattle.volume_codec.specs.Descriptor.{RiseWithin}
 use Rattle.volume_codec.specs.Recovery.{Batch, record_or, standing_block, blocks_from, lengths_in, files_from, files_in}
 use Rattle.volume_codec.proofs.Homes.{rising_at}
-use Rattle.volume_codec.proofs.Padding.{drop-past, zeros-append, take-zeros, zeros-nil}
+use Rattle.volume_codec.proofs.Padding.{zeros-append, take-zeros, zeros-nil}
 use Rattle.volume_codec.proofs.Places.{file_block-home}
 
 -- blocks that agree give the same bytes
@@ -119,18 +119,6 @@ blocks_from-zeros f b (suc n) h =
 pub blank_file : (f : ℕ → List ℕ) (b n m : ℕ) → ((i : ℕ) → b ≤ i → i < b + pages_of m → f i ≡ zeros 4096) → n ≤ m → take n (blocks_from f b (pages_of m)) ≡ zeros n
 blank_file f b n m h le = ap (take n) (blocks_from-zeros f b (pages_of m) h) ∙ take-zeros n (4096 * pages_of m) (omega arith)
 
--- a block of several
-pub block_at-blocks_from : (f : ℕ → List ℕ) (b n k : ℕ) → ((i : ℕ) → b ≤ i → i < b + n → length (f i) ≡ 4096) → k < n → block_at (blocks_from f b n) k ≡ f (b + k)
-block_at-blocks_from f b zero k h l = absurd (omega arith)
-block_at-blocks_from f b (suc n) zero h l =
-    let first = h b (omega arith) (omega arith) in
-    take_at (f b) (blocks_from f (b + 1) n) 4096 first ∙ ap f (omega arith)
-block_at-blocks_from f b (suc n) (suc k) h l =
-    let first = h b (omega arith) (omega arith) in
-    let past : 4096 * suc k ≡ 4096 + 4096 * k = omega arith in
-    ap (λ j. take 4096 (drop j (f b ++ blocks_from f (b + 1) n))) past ∙ ap (take 4096) (drop-past (f b) (blocks_from f (b + 1) n) 4096 (4096 * k) first)
-    ∙ block_at-blocks_from f (b + 1) n k (λ i low high. h i (omega arith) (omega arith)) (omega arith) ∙ ap f (omega arith)
-
 -- a home block with a record is read there, and one without is read elsewhere
 pub record_or-cases : (other records : ℕ) (homes : List ℕ) (b : ℕ)
     → ((i : ℕ) × (i < length homes) × (get_or homes i 0 ≡ b) × (record_or other records homes b ≡ records + i)) ⊎ (AllByRecursion (λ home. home ≢ b) homes × (record_or other records homes b ≡ other))
@@ -166,11 +154,6 @@ record_or-other other records (n ∷ ns) b h =
     let apart : n ≢ b = h.0 in
     let test : (b == n) ≡ false = grind (arith, nat_tests) in
     ap (λ (t : Bool). cond t records (record_or other (records + 1) ns b)) test ∙ record_or-other other (records + 1) ns b h.1
-
--- a block below all homes has no record
-pub below_homes : (low high : ℕ) (homes : List ℕ) (b : ℕ) → RiseWithin low high homes → b < low → AllByRecursion (λ home. home ≢ b) homes
-below_homes low high [] b rise h = tt
-below_homes low high (n ∷ ns) b rise h = (omega (arith, rise.0), below_homes (n + 1) high ns b rise.2 (omega (arith, rise.0)))
 
 -- record i of the newest batch stands for its home block
 pub standing_block-at : (slots low high : ℕ) (batch : Batch) (older : List Batch) (i : ℕ) → RiseWithin low high batch.homes → i < length batch.homes

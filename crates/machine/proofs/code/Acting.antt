@@ -1,12 +1,12 @@
 -- An act that leaves the device alone, as one act of the layers.
 use Rattle.std.proofs.Common.{ℕ, ◌≡◌, ◌⊎◌, Bool, true, false, ◌&&◌, cond, List, [], length, Result, Ok, Err, is_err, is_none, refl, sym, ap, ◌∙◌, subst}
 use Rattle.device.specs.Count.{raised}
-use Rattle.device.specs.Device.{Only, LeavesOnly}
+use Rattle.device.specs.Device.{LeavesOnly}
 use Rattle.device.specs.declared.device.Device.{Ghosts}
 use Rattle.device.proofs.Moments.{leaves_at_start}
 use Rattle.page_entry.specs.declared.refusal.Refusal.{Refusal}
 use Rattle.page_entry.specs.declared.refusal.Refusal.TheVariants as refusals
-use Rattle.journal.specs.Work.{Work, Nothing, Sync, TornFromWork}
+use Rattle.journal.specs.Work.{Work, Nothing, TornFromWork}
 use Rattle.fault.specs.Fixing.{ReadsOnce}
 use Rattle.machine.specs.declared.act.Act.{Act}
 use Rattle.machine.specs.declared.act.Act.TheVariants as acts
@@ -16,8 +16,8 @@ use Rattle.machine.specs.declared.act.Step.{Step}
 use Rattle.machine.specs.declared.layers.Layers.{Layers}
 use Rattle.machine.specs.State.{State}
 use Rattle.machine.specs.Refusals.{fix_refusal}
-use Rattle.machine.specs.Rules.{Acts, Fixes, Flushes, IsRefused}
-use Rattle.machine.specs.Calls.{CallsOf, FixCalls, reads_page, has_failed}
+use Rattle.machine.specs.Rules.{Acts, Fixes, Flushes}
+use Rattle.machine.specs.Calls.{CallsOf, reads_page, has_failed}
 use Rattle.machine.specs.Steps.{step_work}
 use Rattle.machine.specs.inside.Layers.{state_in, reply_to, AnswersBy, KeepsReserved, IsQuiet}
 use Rattle.machine.specs.inside.Flushing.{FlushesDevice}

@@ -1,7 +1,6 @@
 -- How faults are served, by what the layer below did.
-use Rattle.std.proofs.Common.{ℕ, ◌≡◌, ◌⊎◌, inl, inr, ◌+◌, ◌-◌, ◌*◌, ◌/◌, ◌≤◌, ◌&&◌, not, Bool, true, false, cond, List, [], ◌∷◌, ◌++◌, length, take, drop, replicate, Option, Some, None, is_none, nat_le, Result, Ok, Err, refl, sym, ap, ◌∙◌, subst, ⊎_elim, arith}
+use Rattle.std.proofs.Common.{ℕ, ◌≡◌, ◌⊎◌, inl, inr, ◌+◌, ◌-◌, ◌*◌, ◌/◌, ◌≤◌, ◌&&◌, not, Bool, true, false, cond, List, [], ◌∷◌, ◌++◌, length, take, Option, Some, None, is_none, Result, Ok, refl, sym, ap, ◌∙◌, subst, ⊎_elim, arith}
 use Rattle.std.proofs.lemmas.List.{drop_at, take_all}
-use Rattle.page_entry.specs.declared.numbers.FilePage.{FilePage}
 use Rattle.page_entry.specs.declared.refusal.Refusal.{Refusal}
 use Rattle.page_entry.specs.declared.refusal.Refusal.TheVariants as refusals
 use Rattle.mappings.specs.declared.place.Place.{Place}
@@ -14,11 +13,10 @@ use Rattle.shootdown.specs.Shootdown.{current, not_free}
 use Rattle.checkpoint.specs.Backing.{page_at}
 use Rattle.fault.specs.declared.page_fault.PageFault.{PageFault}
 use Rattle.fault.specs.Fault.{FaultServed, is_in_memory, copies_out, place_of_fault}
-use Rattle.fault.specs.Fixing.{FixRefused, FixDone, IsReadFrom, refusal_of, reads_home, block_from, cut_at_end as cut_by}
-use Rattle.machine.specs.declared.act.Reply.{Reply}
+use Rattle.fault.specs.Fixing.{FixRefused, FixDone, refusal_of, reads_home, block_from, cut_at_end as cut_by}
 use Rattle.machine.specs.declared.act.Reply.TheVariants as replies
 use Rattle.machine.specs.State.{State, length_of, home_of, page_from}
-use Rattle.machine.specs.Refusals.{first_of, served_refusal, fix_refusal}
+use Rattle.machine.specs.Refusals.{served_refusal, fix_refusal}
 use Rattle.machine.specs.Calls.{is_absent, reads_page}
 use Rattle.machine.specs.Rules.{Fixes, with_hardware}
 use Rattle.machine.specs.inside.Layers.{AnswersBy}

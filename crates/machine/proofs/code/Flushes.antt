@@ -15,7 +15,7 @@ use Rattle.machine.specs.declared.act.Reply.{Reply}
 use Rattle.machine.specs.declared.act.Reply.TheVariants as replies
 use Rattle.machine.specs.State.{State}
 use Rattle.machine.specs.Refusals.{flush_refusal}
-use Rattle.machine.specs.Rules.{reply_to, after_record, after_failure, work_asked, FlushMade, Flushes}
+use Rattle.machine.specs.Rules.{reply_to, after_record, work_asked, FlushMade, Flushes}
 use Rattle.machine.specs.inside.Layers.{AnswersBy, reply_to as reply_by}
 use Rattle.machine.specs.inside.Flushing.{FlushesDevice, reply_of_flush, memory_after, checkpoint_after, released_memory, released_pages}
 

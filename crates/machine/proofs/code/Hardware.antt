@@ -1,5 +1,5 @@
 -- Loads, stores, fills and evictions leave the lock as it is.
-use Rattle.std.proofs.Common.{ℕ, ◌≡◌, Bool, true, false, Option, Some, None, Result, Ok, Err, refl, ap, ◌∙◌}
+use Rattle.std.proofs.Common.{ℕ, ◌≡◌, Bool, Option, Some, None, Result, Ok, Err, refl, ap, ◌∙◌}
 use Rattle.page_entry.specs.declared.refusal.Refusal.{Refusal}
 use Rattle.page_entry.specs.Entry.{Mapped}
 use Rattle.spaces.specs.Spaces.{entry_at}

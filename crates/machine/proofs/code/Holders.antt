@@ -1,10 +1,10 @@
 -- The holder of the lock, once its change is handed out.
-use Rattle.std.proofs.Common.{ℕ, ◌≡◌, ◌==◌, Bool, true, false, not, cond, List, [], ◌∷◌, Option, Some, None, Ok, refl, sym, ap, ◌∙◌}
+use Rattle.std.proofs.Common.{ℕ, ◌≡◌, ◌==◌, Bool, true, false, not, cond, [], ◌∷◌, Option, Some, None, Ok, refl, ◌∙◌}
 use Rattle.page_entry.specs.declared.refusal.Refusal.{Refusal}
 use Rattle.page_entry.specs.declared.refusal.Refusal.TheVariants as refusals
 use Rattle.spaces.specs.declared.change.Change.{Change}
 use Rattle.shootdown.specs.declared.lock.Lock.{Lock}
-use Rattle.shootdown.specs.Shootdown.{ShootdownState, is_there, interrupted}
+use Rattle.shootdown.specs.Shootdown.{is_there, interrupted}
 use Rattle.shootdown.specs.Calls.{HandsOut, change_refusal as refusal_of_change, lock_refusal as refusal_of_lock}
 use Rattle.machine.specs.State.{State}
 use Rattle.machine.specs.Refusals.{refuse_if, first_of, lock_refusal, change_refusal}

@@ -1,16 +1,15 @@
 -- Why a mapping is refused.
-use Rattle.std.proofs.Common.{ℕ, ◌≡◌, ◌<◌, ◌≤◌, nat_le, ◌%◌, ◌/◌, ◌==◌, ◌&&◌, Bool, true, false, cond, List, [], ◌∷◌, length, Option, Some, None, is_some, not, unwrap_or, Result, Ok, Err, refl, sym, ap, ◌∙◌, subst}
+use Rattle.std.proofs.Common.{ℕ, ◌≡◌, ◌<◌, ◌≤◌, nat_le, ◌%◌, ◌/◌, ◌==◌, ◌&&◌, Bool, true, false, cond, [], ◌∷◌, length, Option, Some, None, not, unwrap_or, Ok, refl, sym, ap, ◌∙◌, subst}
 use Rattle.page_entry.specs.declared.refusal.Refusal.{Refusal}
 use Rattle.page_entry.specs.declared.refusal.Refusal.TheVariants as refusals
 use Rattle.mappings.specs.declared.place.Place.{Place}
 use Rattle.mappings.specs.declared.place.Rights.{Rights}
 use Rattle.mappings.specs.declared.page_range.PageRange.{PageRange}
 use Rattle.mappings.specs.Places.{Places, allows, any_mapped}
-use Rattle.mappings.specs.Judgement.{is_mappable, pages_holding, mapped_pages_of, add_refusal}
-use Rattle.spaces.specs.Spaces.{Spaces, space_at}
-use Rattle.spaces.specs.Requests.{is_user_space, judged_mapping}
-use Rattle.shootdown.specs.Processors.{is_running}
-use Rattle.shootdown.specs.Shootdown.{ShootdownState, is_there, state_of, not_free}
+use Rattle.mappings.specs.Judgement.{is_mappable, add_refusal}
+use Rattle.spaces.specs.Spaces.{space_at}
+use Rattle.spaces.specs.Requests.{judged_mapping}
+use Rattle.shootdown.specs.Shootdown.{not_free}
 use Rattle.machine.specs.declared.act.Reply.TheVariants as replies
 use Rattle.machine.specs.State.{State}
 use Rattle.machine.specs.Refusals.{refuse_if, mapping_refusal, map_refusal}
@@ -25,28 +24,6 @@ IsJudged why = Unit {0}
 judged_as : (known why : Refusal) → IsJudged known → ◌≡◌ {A = Option Refusal} (Some known) (Some why) → IsJudged why
 judged_as known why judged e = let same : known ≡ why = cc in subst IsJudged same judged
 
-judged-not_free : (s : ShootdownState) (p : ℕ) (why : Refusal) → not_free s p ≡ Some why → IsJudged why
-judged-not_free s p why is = by (is_there s p) (is_running (state_of s p)) (is_some s.lock) is
-  where
-    by : (there running held : Bool)
-        → Rattle.std.specs.Option.option_or (cond (not there) (Some refusals.Einval) (cond running None (Some refusals.Stalled))) (cond held (Some refusals.Locked) None) ≡ Some why → IsJudged why
-    by false running held e = judged_as refusals.Einval why tt e
-    by true false held e = judged_as refusals.Stalled why tt e
-    by true true true e = judged_as refusals.Locked why tt e
-    by true true false e = absurd (cc)
-
-judged-mapping : (m : Spaces) (pcid va len offset : ℕ) (why : Refusal) → judged_mapping m pcid va len offset ≡ Err why → IsJudged why
-judged-mapping m pcid va len offset why is =
-    by (is_user_space m pcid) (va % 4096 == 0 && offset % 4096 == 0 && is_mappable (pages_holding va len) (offset / 4096)) is
-  where
-    as_einval : ◌≡◌ {A = Result (PageRange × ℕ) Refusal} (Err refusals.Einval) (Err why) → IsJudged why
-    as_einval e = let same : refusals.Einval ≡ why = cc in subst IsJudged same tt
-
-    by : (user fits : Bool) → cond {A = Result (PageRange × ℕ) Refusal} user (cond {A = Result (PageRange × ℕ) Refusal} fits (Ok (pages_holding va len, offset / 4096)) (Err refusals.Einval)) (Err refusals.Einval) ≡ Err why → IsJudged why
-    by true true e = absurd (cc)
-    by true false e = as_einval e
-    by false fits e = as_einval e
-
 judged-add : (places : Places) (range : PageRange) (place : Place) (why : Refusal) → add_refusal places range place ≡ Some why → IsJudged why
 judged-add places range place why is = by (is_mappable range place.page) (allows place.access place.rights) (any_mapped places range.first range.count) is
   where
@@ -60,21 +37,6 @@ maps-judged : (s : State) (p pcid va len file offset : ℕ) (prot access : Right
     → Maps s p pcid va len file offset prot access (replies.Refused why) s
 maps-judged s p pcid va len file offset prot access refusals.OutOfMemory judged some = absurd judged
 maps-judged s p pcid va len file offset prot access why judged some = record { reason_is = some; unchanged = refl }
-
--- the processor may not act
-pub maps-not_free : (s : State) (p pcid va len file offset : ℕ) (prot access : Rights) (why : Refusal) → not_free s.hardware.shootdown p ≡ Some why
-    → Maps s p pcid va len file offset prot access (replies.Refused why) s
-maps-not_free s p pcid va len file offset prot access why is =
-    maps-judged s p pcid va len file offset prot access why (judged-not_free s.hardware.shootdown p why is)
-    (found (not_free s.hardware.shootdown p) (mapping_refusal s pcid file prot access (judged_mapping s.hardware.spaces pcid va len offset) ∷ []) why is)
-
--- the pages may not be mapped
-pub maps-unjudged : (s : State) (p pcid va len file offset : ℕ) (prot access : Rights) (why : Refusal) → not_free s.hardware.shootdown p ≡ None
-    → judged_mapping s.hardware.spaces pcid va len offset ≡ Err why → Maps s p pcid va len file offset prot access (replies.Refused why) s
-maps-unjudged s p pcid va len file offset prot access why free judged =
-    let reason = mapping_refusal s pcid file prot access (judged_mapping s.hardware.spaces pcid va len offset) in
-    maps-judged s p pcid va len file offset prot access why (judged-mapping s.hardware.spaces pcid va len offset why judged)
-    (passed (not_free s.hardware.shootdown p) (reason ∷ []) (Some why) free (found reason [] why (ap (mapping_refusal s pcid file prot access) judged)))
 
 -- why these pages of a file that is there may not be added
 abbrev adding : State → ℕ → ℕ → Rights → Rights → PageRange × ℕ → Option Refusal

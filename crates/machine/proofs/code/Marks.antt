@@ -5,10 +5,10 @@ use Rattle.std.proofs.lemmas.List.{length-map}
 use Rattle.std.specs.List.{All}
 use Rattle.page_entry.specs.declared.numbers.FilePage.{FilePage}
 use Rattle.volume_codec.specs.Layout.{GeometryValue}
-use Rattle.journal.specs.WriteOuts.{WriteOutsValue, is_busy, begun}
+use Rattle.journal.specs.WriteOuts.{is_busy, begun}
 use Rattle.checkpoint.specs.Checkpoint.{CheckpointState, Gathers}
-use Rattle.machine.specs.State.{State, home_of, length_of}
-use Rattle.machine.specs.inside.Sound.{IsInFile, IsSound, capacity_of}
+use Rattle.machine.specs.State.{State, home_of}
+use Rattle.machine.specs.inside.Sound.{IsInFile, IsSound}
 use Rattle.machine.specs.Rules.{with_batch}
 use Rattle.machine.specs.inside.Layers.{HasPage, MayBegin, with_homes}
 use Rattle.machine.proofs.sound.ByMark.{gathered_there}

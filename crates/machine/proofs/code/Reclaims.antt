@@ -1,12 +1,12 @@
 -- Why a reclaim is refused.
-use Rattle.std.proofs.Common.{ℕ, ◌≡◌, ◌<◌, ◌≤◌, nat_le, List, [], ◌∷◌, length, Option, Some, None, ◌∙◌}
+use Rattle.std.proofs.Common.{ℕ, ◌≡◌, ◌<◌, ◌≤◌, nat_le, [], ◌∷◌, length, Option, Some, None, ◌∙◌}
 use Rattle.page_entry.specs.declared.numbers.FilePage.{FilePage}
 use Rattle.page_entry.specs.declared.refusal.Refusal.{Refusal}
 use Rattle.page_entry.specs.declared.refusal.Refusal.TheVariants as refusals
 use Rattle.shootdown.specs.Shootdown.{not_free}
 use Rattle.machine.specs.State.{State}
-use Rattle.machine.specs.Refusals.{refuse_if, first_of, pages_in_file, reclaim_refusal}
-use Rattle.machine.proofs.code.Refused.{passed, found, alone, fails, holds, above, at_most}
+use Rattle.machine.specs.Refusals.{refuse_if, pages_in_file, reclaim_refusal}
+use Rattle.machine.proofs.code.Refused.{passed, alone, fails, holds, above, at_most}
 
 -- of a file that is there
 of_file : (s : State) (p : ℕ) (owner : FilePage) (reason : Option Refusal) → not_free s.hardware.shootdown p ≡ None → owner.file < length s.table.files

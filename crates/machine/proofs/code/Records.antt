@@ -1,11 +1,10 @@
 -- The page whose record a step of a write-out writes, and the mark that a step answers.
-use Rattle.std.proofs.Common.{ℕ, suc, ◌≡◌, ◌<◌, ◌+◌, ◌^◌, Bool, true, false, cond, List, [], ◌∷◌, length, Option, Some, None, IsSome, refl, sym, ap, ◌∙◌, subst, arith}
+use Rattle.std.proofs.Common.{ℕ, suc, ◌≡◌, ◌<◌, ◌+◌, ◌^◌, Bool, true, false, cond, List, [], ◌∷◌, length, Option, Some, None, IsSome, ◌∙◌, arith}
 use Rattle.std.specs.List.{All}
 use Rattle.std.specs.Option.{option_map_or}
 use Rattle.journal.specs.declared.stage.Stage.{Stage}
 use Rattle.journal.specs.declared.stage.Stage.TheVariants.{Committing, Finishing}
 use Rattle.journal.specs.Stage.{answer_at}
-use Rattle.journal.specs.declared.flushed.Flushed.{Flushed}
 use Rattle.journal.specs.declared.flushed.Flushed.TheVariants.{Broken}
 use Rattle.journal.specs.WriteOut.{WriteOut, next_stage, answer_of}
 use Rattle.journal.specs.WriteOuts.{current, has_uncommitted, outs_record, next_answer}
@@ -14,7 +13,7 @@ use Rattle.machine.specs.State.{State}
 use Rattle.machine.specs.inside.Sound.{IsInFile, IsSound}
 use Rattle.machine.specs.Rules.{next_page}
 use Rattle.machine.specs.inside.Flushing.{HasSmallMark}
-use Rattle.machine.proofs.sound.Lists.{some_from, same_some}
+use Rattle.machine.proofs.sound.Lists.{some_from}
 use Rattle.machine.proofs.sound.Frames.{held_in_memory}
 use Rattle.machine.proofs.sound.Records.{next_recorded}
 

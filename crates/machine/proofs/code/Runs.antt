@@ -3,7 +3,7 @@ use Rattle.std.proofs.Common.{ℕ, ◌≡◌, ◌↔◌, List, [], ◌∷◌, �
 use Rattle.device.specs.declared.device.Device.{Ghosts}
 use Rattle.machine.specs.declared.act.Reply.{Reply}
 use Rattle.machine.specs.declared.act.Step.{Step}
-use Rattle.machine.specs.State.{State, Whole}
+use Rattle.machine.specs.State.{Whole}
 use Rattle.machine.specs.Rules.{Run}
 use Rattle.machine.specs.Runs.{StepTaken, StepsTaken}
 

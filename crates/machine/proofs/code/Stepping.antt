@@ -1,5 +1,5 @@
 -- One step of a machine, by what its layers did.
-use Rattle.std.proofs.Common.{ℕ, ◌≡◌, ◌≢◌, ◌*◌, ◌≤◌, List, length, sym, ap, subst, arith}
+use Rattle.std.proofs.Common.{ℕ, ◌≡◌, ◌≢◌, ◌*◌, ◌≤◌, ap, arith}
 use Rattle.device.specs.declared.device.Device.{Ghosts}
 use Rattle.page_entry.specs.declared.refusal.Refusal.TheVariants as refusals
 use Rattle.volume_codec.specs.Super.{SuperValue, block_count}
@@ -7,9 +7,6 @@ use Rattle.machine.specs.declared.act.Reply.{Reply}
 use Rattle.machine.specs.declared.act.Reply.TheVariants as replies
 use Rattle.machine.specs.declared.act.Step.{Step}
 use Rattle.machine.specs.declared.layers.Layers.{Layers}
-use Rattle.machine.specs.State.{Whole}
-use Rattle.machine.specs.Rules.{Rules}
-use Rattle.machine.specs.Calls.{CallsOf}
 use Rattle.machine.specs.Steps.{StepMade}
 use Rattle.machine.specs.inside.Layers.{state_in, whole_in, AreLayers}
 use Rattle.machine.specs.inside.Acting.{ActDone}

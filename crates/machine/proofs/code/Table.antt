@@ -1,5 +1,5 @@
 -- What the table says of a file, by its number.
-use Rattle.std.proofs.Common.{ℕ, zero, suc, ◌≡◌, ◌<◌, ◌-◌, List, [], ◌∷◌, length, map, slice_index, ◌==◌, Bool, false, cond, refl, ap, ◌∙◌, arith}
+use Rattle.std.proofs.Common.{ℕ, zero, suc, ◌≡◌, ◌<◌, ◌-◌, List, [], ◌∷◌, length, map, slice_index, ◌==◌, false, cond, refl, ap, ◌∙◌, arith}
 use Rattle.std.proofs.lemmas.Bool.Decides.{nat_tests}
 use Rattle.volume_codec.specs.Files.{TableFile}
 use Rattle.volume_codec.specs.Super.{pages_of}

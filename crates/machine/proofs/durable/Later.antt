@@ -1,16 +1,16 @@
 -- What openings find after a run.
-use Rattle.std.proofs.Common.{ℕ, ◌≡◌, ◌⊎◌, Bool, true, List, Result, Ok, Err, refl, sym, ◌∙◌}
+use Rattle.std.proofs.Common.{ℕ, ◌≡◌, ◌⊎◌, true, List, Result, Ok, Err, refl, ◌∙◌}
 use Rattle.page_entry.specs.declared.refusal.Refusal.{Refusal}
 use Rattle.volume_codec.specs.Files.{File}
 use Rattle.volume_codec.specs.Layout.{block_at}
 use Rattle.volume_codec.specs.Super.{SuperValue}
-use Rattle.volume_codec.specs.Recovery.{Recovers, RecoversTo}
+use Rattle.volume_codec.specs.Recovery.{RecoversTo}
 use Rattle.volume_codec.proofs.Batches.{one_recovery}
 use Rattle.recovery.specs.Volume.{files_of}
 use Rattle.recovery.specs.Openings.{AllRecover, FindsAmong}
 use Rattle.machine.specs.History.{Event, files_after}
 use Rattle.machine.specs.Laws.{ReadsBack}
-use Rattle.machine.specs.Later.{AreDurable, FindsDurable}
+use Rattle.machine.specs.Later.{FindsDurable}
 
 -- lists that read back recover
 pub all_recover : (files : List File) (history : List Event) (lists : List ℕ → Type 0) → ((c : List ℕ) → lists c → ReadsBack files history c) → AllRecover (λ found. true) lists

@@ -48,11 +48,6 @@ list_any-holder owner [] k e = absurd (none_some owner e)
 list_any-holder owner (x ∷ xs) zero e = or_left (is_of_page owner x) (list_any (is_of_page owner) xs) (of_page-held owner x e)
 list_any-holder owner (x ∷ xs) (suc k) e = or_right (is_of_page owner x) (list_any (is_of_page owner) xs) (list_any-holder owner xs k e)
 
-pub holder_within : (owner : FilePage) (frames : List (Option Frame)) (k : ℕ) → page_of (get_or frames k None) ≡ Some owner → k < length frames
-holder_within owner [] k e = absurd (none_some owner e)
-holder_within owner (x ∷ xs) zero e = omega arith
-holder_within owner (x ∷ xs) (suc k) e = let later = holder_within owner xs k e in omega (arith, later)
-
 -- ---- the bytes of a page in a list of frames
 
 some_of_page : (owner : FilePage) (f : Frame) (rest : List (Option Frame)) (other : List ℕ) → same_page owner f.page ≡ false → bytes_with owner (Some f ∷ rest) other ≡ bytes_with owner rest other

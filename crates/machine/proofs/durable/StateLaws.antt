@@ -22,13 +22,12 @@ use Rattle.journal.proofs.Stepping.{stage_committed}
 use Rattle.journal.proofs.StandsKept.{stands_left}
 use Rattle.std.specs.Option.{option_map_or}
 use Rattle.machine.specs.History.{memory_of, after, is_touched}
-use Rattle.machine.specs.State.{State, home_of}
+use Rattle.machine.specs.State.{State}
 use Rattle.machine.specs.Rules.{MarkMade}
 use Rattle.machine.specs.inside.Sound.{IsInFile, IsSound}
 use Rattle.machine.specs.Told.{Told}
 use Rattle.machine.specs.Durability.{HasPage, AreFrozenProtected}
 use Rattle.machine.specs.inside.Tracking.{IsTracked}
-use Rattle.machine.specs.Durability.{within_file}
 use Rattle.machine.proofs.durable.Lists.{some_same}
 use Rattle.machine.proofs.durable.Marks.{committed, clean}
 

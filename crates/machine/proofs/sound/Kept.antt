@@ -6,7 +6,7 @@ use Rattle.machine.specs.declared.act.Reply.{Reply}
 use Rattle.machine.specs.declared.act.Reply.TheVariants as replies
 use Rattle.machine.specs.declared.act.Step.{Step}
 use Rattle.machine.specs.State.{State}
-use Rattle.machine.specs.Rules.{Changes, Acts, Rules, Run}
+use Rattle.machine.specs.Rules.{Changes, Acts, Rules}
 use Rattle.machine.specs.inside.Sound.{IsSound}
 use Rattle.machine.proofs.sound.Groups.{unchanged_sound, refused_sound}
 use Rattle.machine.proofs.sound.ByAccess.{load_sound, store_sound, fill_sound, evict_sound}
@@ -51,11 +51,3 @@ act_sound s disk p acts.Flush reply new disk' rule sound = flush_sound s sound d
 
 pub sound_kept : (s : State) (disk : List ℕ) (step : Step) (reply : Reply) (new : State) (disk' : List ℕ) → IsSound s → Rules s disk step reply new disk' → IsSound new
 sound_kept s disk step reply new disk' sound rule = act_sound s disk step.p step.act reply new disk' rule sound
-
--- so does every run
-pub run_sound : (s : State) (disk : List ℕ) (steps : List Step) (answers : List Reply) (new : State) (disk' : List ℕ) → IsSound s → Run s disk steps answers new disk' → IsSound new
-run_sound s disk [] [] new disk' sound run = unchanged_sound s new run.0 sound
-run_sound s disk [] (reply ∷ answers) new disk' sound run = absurd run
-run_sound s disk (step ∷ steps) [] new disk' sound run = absurd run
-run_sound s disk (step ∷ steps) (reply ∷ answers) new disk' sound run =
-    run_sound run.0 run.1 steps answers new disk' (sound_kept s disk step reply run.0 run.1 sound run.2) run.3

@@ -12,10 +12,9 @@ use Rattle.checkpoint.specs.Checkpoint.{is_of_page, same_page}
 use Rattle.checkpoint.proofs.PagesInUse.{same_page-true, same_page-refl, list_any-no_page}
 use Rattle.fault.specs.Fault.{is_in_memory}
 use Rattle.machine.specs.State.{State, home_of}
-use Rattle.machine.specs.Rules.{next_page, bytes_with, bytes_at_mark, next_record}
+use Rattle.machine.specs.Rules.{next_page, bytes_with, bytes_at_mark}
 use Rattle.machine.specs.inside.Sound.{IsSound}
 use Rattle.machine.proofs.sound.Lists.{AreOnce, same_some, held_frame, once_frames, once_copies}
-use Rattle.machine.proofs.sound.ByFix.{length-cut_at_end}
 use Rattle.machine.proofs.sound.Waiting.{waits_of, waiting, recorded}
 
 -- ---- the page whose record comes next
@@ -84,23 +83,6 @@ bytes_with-none owner (None ∷ xs) other none = bytes_with-none owner xs other 
 bytes_with-none owner (Some g ∷ xs) other none =
     let parts = or_parts (same_page owner g.page) (list_any (is_of_page owner) xs) none in
     ap (λ b. cond b g.bytes (bytes_with owner xs other)) parts.0 ∙ bytes_with-none owner xs other parts.1
-
--- no more than a page
-bytes_with_few : (owner : FilePage) (xs : List (Option Frame)) (other : List ℕ) → AreOnce xs → length other ≤ 4096 → length (bytes_with owner xs other) ≤ 4096
-bytes_with_few owner [] other once few = few
-bytes_with_few owner (None ∷ xs) other once few = bytes_with_few owner xs other (rest_once None xs once) few
-bytes_with_few owner (Some g ∷ xs) other once few = by (same_page owner g.page) (bytes_with_few owner xs other (rest_once (Some g) xs once) few)
-  where
-    by : (b : Bool) → length (bytes_with owner xs other) ≤ 4096 → length (cond b g.bytes (bytes_with owner xs other)) ≤ 4096
-    by true rest = omega (arith, once.whole 0 g refl)
-    by false rest = rest
-
--- a record is a whole page
-pub length-next_record : (s : State) → IsSound s → length (next_record s) ≡ 4096
-length-next_record s sound =
-    let memory = s.hardware.memory in
-    let frames : length (bytes_with (next_page s) memory.frames []) ≤ 4096 = bytes_with_few (next_page s) memory.frames [] (once_frames memory sound.memory.memory) (omega arith) in
-    length-cut_at_end s (next_page s) (bytes_at_mark memory (next_page s)) (bytes_with_few (next_page s) memory.copies (bytes_with (next_page s) memory.frames []) (once_copies memory sound.memory.memory) frames)
 
 -- ---- the bytes of a page as they were at its mark
 

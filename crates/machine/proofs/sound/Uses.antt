@@ -1,32 +1,26 @@
 -- What a sound machine gives to those who work on its parts: the conditions of their calls.
-use Rattle.std.proofs.Common.{ℕ, ◌≡◌, ◌+◌, ◌<◌, Bool, true, List, length, map, Some, IsSome, refl, sym, subst, arith, ◌/◌, Ok}
-use Rattle.std.specs.List.{All, AllByRecursion}
-use Rattle.std.proofs.lemmas.List.Elements.{recursion_from_All, All-contains}
+use Rattle.std.proofs.Common.{ℕ, ◌≡◌, ◌+◌, ◌<◌, Bool, List, length, map, Some, IsSome, sym, subst, arith, ◌/◌, Ok}
+use Rattle.std.specs.List.{AllByRecursion}
+use Rattle.std.proofs.lemmas.List.Elements.{recursion_from_All}
 use Rattle.page_entry.specs.Entry.{Mapped}
 use Rattle.page_entry.specs.declared.numbers.FilePage.{FilePage}
 use Rattle.mappings.specs.declared.place.Place.{Place}
 use Rattle.frames.specs.Frames.{frame_at}
-use Rattle.volume_codec.specs.Layout.{GeometryValue, IsHome}
-use Rattle.volume_codec.specs.Super.{geometry_of}
+use Rattle.volume_codec.specs.Layout.{GeometryValue}
 use Rattle.volume_codec.specs.Descriptor.{AreHomes}
-use Rattle.volume_codec.proofs.Places.{file_block-home}
 use Rattle.journal.specs.WriteOut.{WriteOut}
-use Rattle.journal.specs.WriteOuts.{HasBlock}
-use Rattle.spaces.specs.declared.change.Change.{Change}
 use Rattle.spaces.specs.Spaces.{entry_at}
-use Rattle.shootdown.specs.Shootdown.{interrupted, current as current_space}
-use Rattle.shootdown.specs.Coherence.{IsUnused}
-use Rattle.shootdown.proofs.CoherenceLaws.{IsUnused-from_Coheres}
+use Rattle.shootdown.specs.Shootdown.{current as current_space}
 use Rattle.checkpoint.specs.Checkpoint.{CheckpointState, Gathers}
 use Rattle.checkpoint.specs.Backing.{HasNotes}
 use Rattle.checkpoint.proofs.BackingLaws.{HasNotes-backed}
-use Rattle.fault.specs.Fault.{is_in_memory, place_of_fault}
+use Rattle.fault.specs.Fault.{place_of_fault}
 use Rattle.cpu.specs.Access.{IsReachable}
 use Rattle.machine.specs.State.{State, home_of}
-use Rattle.machine.specs.inside.Sound.{IsInFile, IsPrepared, IsSound}
-use Rattle.machine.proofs.sound.Frames.{in_use, held_in_memory}
+use Rattle.machine.specs.inside.Sound.{IsSound}
+use Rattle.machine.proofs.sound.Frames.{in_use}
 use Rattle.machine.proofs.sound.ByFix.{fault_place}
-use Rattle.machine.proofs.sound.Homes.{home-below, gathered_homes}
+use Rattle.machine.proofs.sound.Homes.{gathered_homes}
 use Rattle.machine.proofs.sound.ByMark.{gathered_there}
 
 module _ (s : State) (sound : IsSound s) where
@@ -45,23 +39,7 @@ module _ (s : State) (sound : IsSound s) where
 
   -- ---- changes
 
-  -- the change of the lock was judged; once nobody is interrupted, nobody uses what it affects
-  pub held_prepared : (p : ℕ) (change : Change) → s.hardware.shootdown.lock ≡ Some (record { holder = p; change = change }) → IsPrepared s change
-  held_prepared p change held = sound.spaces.prepared (record { holder = p; change = change }) held
-
-  pub held_unused : (p : ℕ) (change : Change) → s.hardware.shootdown.lock ≡ Some (record { holder = p; change = change }) → interrupted s.hardware.shootdown ≡ 0 → IsUnused s.hardware.spaces change s.hardware.shootdown
-  held_unused p change held quiet =
-      IsUnused-from_Coheres s.hardware.spaces change s.hardware.shootdown (record { holder = p; change = change }) sound.spaces.shootdown sound.spaces.coheres held refl quiet
-
   -- ---- home blocks
-
-  -- a page of a file has a home block of the volume
-  pub page_home : (owner : FilePage) → IsInFile s owner → IsHome (geometry_of s.table) (home_of s.table owner)
-  page_home owner is = file_block-home s.table (home_of s.table owner) (omega arith) (home-below s sound.within owner is)
-
-  -- so has each page in memory
-  pub in_memory_home : (owner : FilePage) → is_in_memory s.hardware.memory owner ≡ true → IsHome (geometry_of s.table) (home_of s.table owner)
-  in_memory_home owner there = let held = held_in_memory s.hardware.memory owner there in page_home owner (sound.memory.in_files held.0 owner held.1)
 
   -- a fault that leads to a place leads to a file of the table
   pub fault_file : (p va : ℕ) (write : Bool) (place : Place) → place_of_fault s.hardware.spaces (current_space s.hardware.shootdown p) va write ≡ Ok place → place.file < length s.table.files
@@ -78,9 +56,3 @@ module _ (s : State) (sound : IsSound s) where
   -- and its mark is above those of the batches that aren't done
   pub newest_mark : AllByRecursion (λ w. w.batch.mark < s.marks + 1) s.write_outs.batches
   newest_mark = recursion_from_All (λ (w : WriteOut). w.batch.mark < s.marks + 1) s.write_outs.batches (λ k d within. omega (arith, (sound.write_outs.marked k d within).1))
-
-  -- the pages of batches are in memory
-  pub block_in_memory : (block : ℕ) → HasBlock s.write_outs block → (owner : FilePage) × (block ≡ home_of s.table owner) × (is_in_memory s.hardware.memory owner ≡ true)
-  block_in_memory block (w, there, has) =
-      All-contains (λ home. (owner : FilePage) × (home ≡ home_of s.table owner) × (is_in_memory s.hardware.memory owner ≡ true)) w.batch.homes block
-      (All-contains (λ (x : WriteOut). All (λ home. (owner : FilePage) × (home ≡ home_of s.table owner) × (is_in_memory s.hardware.memory owner ≡ true)) x.batch.homes) s.write_outs.batches w sound.write_outs.in_memory there) has

@@ -51,10 +51,6 @@ arranged_from told s spaces processors lock lengths = record {
 -- ---- what an act changes of them
 
 module _ {told : Told} {s : State} (a : IsArranged told s) where
-  -- the state under another name
-  pub arranged_same : (new : State) → new ≡ s → IsArranged told new
-  arranged_same new same = subst (IsArranged told) (sym same) a
-
   -- the hardware changes, and nothing that is told of it
   pub arranged_hardware : (h : Hardware) → KeepsTold s.hardware h → IsArranged told (with_hardware s h)
   arranged_hardware h keeps =

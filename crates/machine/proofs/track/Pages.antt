@@ -28,9 +28,6 @@ pub record SameFiles (s new : State) : Type 0 where
   pub table : new.table ≡ s.table
   pub lengths : new.lengths ≡ s.lengths
 
-pub files_refl : (s new : State) → new ≡ s → SameFiles s new
-files_refl s new same = record { table = ap (λ (x : State). x.table) same; lengths = ap (λ (x : State). x.lengths) same }
-
 -- so do the frames and what is dirty
 pub record SamePages (s new : State) : Type 0 where
   pub files : SameFiles s new

@@ -7,26 +7,13 @@ use Rattle.machine.specs.declared.act.Reply.{Reply}
 use Rattle.machine.specs.declared.act.Reply.TheVariants as replies
 use Rattle.machine.specs.declared.act.Step.{Step}
 use Rattle.machine.specs.State.{State, Whole}
-use Rattle.machine.specs.Rules.{Acts, Run}
+use Rattle.machine.specs.Rules.{Acts}
 use Rattle.machine.specs.Told.{Told, tell}
 use Rattle.machine.specs.Laws.{ServesNext, FaultsAreServed}
 use Rattle.machine.specs.Crashes.{Throughout}
 use Rattle.machine.proofs.track.Served.{access_answers}
 
 -- ---- runs by the rules alone
-
-serves_next : (s : State) (disk : List ℕ) (p : ℕ) (act : Act) (reply : Reply) (mid : State) (between : List ℕ) (steps : List Step) (replies : List Reply) (new : State) (disk' : List ℕ)
-    → Acts s disk p act reply mid between → Run mid between steps replies new disk' → ServesNext p act reply steps replies
-serves_next s disk p (acts.Fix va write) replies.Fixed mid between (next ∷ steps) (reply ∷ rest) new disk' rule run =
-    λ same access.
-    access_answers s disk p va write mid between next.act reply run.0 run.1 rule.0 access (subst (λ q. Acts mid between q next.act reply run.0 run.1) same run.2)
-serves_next s disk p act reply mid between steps rest new disk' rule run = tt
-
-pub faults_are_served : (s : State) (disk : List ℕ) (steps : List Step) (replies : List Reply) (new : State) (disk' : List ℕ) → Run s disk steps replies new disk' → FaultsAreServed steps replies
-faults_are_served s disk [] replies new disk' run = tt
-faults_are_served s disk (step ∷ steps) [] new disk' run = tt
-faults_are_served s disk (step ∷ steps) (reply ∷ rest) new disk' run =
-    (serves_next s disk step.p step.act reply run.0 run.1 steps rest new disk' run.2 run.3, faults_are_served run.0 run.1 steps rest new disk' run.3)
 
 -- ---- runs over a device
 

@@ -1,7 +1,6 @@
-use Rattle.std.proofs.Common.{◌≡◌, Bool, true, false, not, List, [], ◌∷◌, length, replicate, sym, ap, ◌∙◌, subst, arith}
+use Rattle.std.proofs.Common.{◌≡◌, true, false, not, [], ◌∷◌, length, sym, ap, ◌∙◌, subst}
 use Rattle.std.specs.List.{list_any}
-use Rattle.page_entry.specs.declared.numbers.FilePage.{FilePage}
-use Rattle.checkpoint.specs.Checkpoint.{CheckpointState, fresh_checkpoint}
+use Rattle.checkpoint.specs.Checkpoint.{CheckpointState}
 use Rattle.checkpoint.proofs.Fresh.{none_set, set_none, none_left, not_true}
 use Rattle.checkpoint.proofs.checkpoint.Checkpoint.is_fresh.Goals as goal
 

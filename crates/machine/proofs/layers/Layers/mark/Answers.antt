@@ -5,7 +5,7 @@ use Rattle.spaces.specs.declared.change.Change.TheVariants.{Checkpoint}
 use Rattle.shootdown.specs.Shootdown.{finished}
 use Rattle.checkpoint.specs.Checkpoint.{CheckpointState, Gathers}
 use Rattle.machine.specs.declared.layers.Layers.{Layers}
-use Rattle.machine.specs.State.{State, home_of}
+use Rattle.machine.specs.State.{home_of}
 use Rattle.machine.specs.Rules.{MarkMade}
 use Rattle.machine.specs.inside.Layers.{state_in, HasPage, MayBegin}
 use Rattle.machine.proofs.code.Holders.{may_change}

@@ -1,4 +1,4 @@
-use Rattle.std.proofs.Common.{◌<◌, length, refl, ap, ◌∙◌, arith}
+use Rattle.std.proofs.Common.{◌<◌, refl, ap, ◌∙◌, arith}
 use Rattle.shootdown.specs.Shootdown.{ShootdownState}
 use Rattle.machine.specs.Refusals.{pages_in_file}
 use Rattle.machine.specs.Rules.{with_shootdown}

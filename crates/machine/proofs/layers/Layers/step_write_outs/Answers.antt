@@ -28,8 +28,8 @@ returns-clause-rules g c = λ p allowed.
     let disk = seen c.args.self.now.device in
     let writes = c.is_some-writes_record.ensures ∙ ap is_some c.next_record.ensures in
     let made = flushes_by honest s disk (seen c.step-answer.new.device) p allowed c.requires.some answer c.step-answer.ensures.answer (c.step-answer.ensures.whole c.requires.whole)
-    (λ h fine. c.step-answer.ensures.worked h fine ∙ ap (worked disk) c.next_bytes-bytes.ensures)
-    (λ h failed. subst (λ (w : Work). TornByWork w disk (seen c.step-answer.new.device)) c.next_bytes-bytes.ensures (c.step-answer.ensures.torn h failed)) in
+    (λ h fine. c.step-answer.ensures.worked h fine ∙ ap (worked disk) c.next_bytes.ensures)
+    (λ h failed. subst (λ (w : Work). TornByWork w disk (seen c.step-answer.new.device)) c.next_bytes.ensures (c.step-answer.ensures.torn h failed)) in
     let state : record s {
       hardware = record s.hardware { memory = memory_after answer c.is_some-writes_record.result s.checkpoint s.hardware.memory };
       checkpoint = checkpoint_after answer c.is_some-writes_record.result s.checkpoint;

@@ -3,8 +3,7 @@ use Rattle.std.proofs.lemmas.Grind.{common_steps}
 use Rattle.std.proofs.lemmas.List.{take_all}
 use Rattle.machine.specs.declared.act.Reply.{Reply}
 use Rattle.machine.specs.declared.act.Step.{Step}
-use Rattle.machine.specs.State.{Whole}
-use Rattle.machine.specs.Runs.{StepTaken, StepsTaken}
+use Rattle.machine.specs.Runs.{StepsTaken}
 use Rattle.machine.proofs.code.Runs.{steps_more, run_taken, honest_taken, len_taken}
 use Rattle.machine.proofs.machine.Machine.make_all.Goals as goal
 

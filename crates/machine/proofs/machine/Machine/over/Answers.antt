@@ -2,7 +2,6 @@ use Rattle.std.proofs.Common.{◌≡◌, ap, arith}
 use Rattle.std.proofs.lemmas.List.{length-map}
 use Rattle.volume_codec.specs.Files.{TableFile}
 use Rattle.shootdown.specs.Shootdown.{ShootdownState}
-use Rattle.machine.specs.inside.Layers.{state_in}
 use Rattle.machine.proofs.sound.AtBoot.{fresh_sound}
 use Rattle.machine.proofs.code.Reserved.{reserved_free}
 use Rattle.machine.proofs.machine.Machine.over.Goals as goal

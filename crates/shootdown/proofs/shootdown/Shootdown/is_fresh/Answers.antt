@@ -1,4 +1,4 @@
-use Rattle.std.proofs.Common.{ℕ, ◌≡◌, true, List, length, Option, None, is_some, replicate, sym, ap, ◌∙◌, subst}
+use Rattle.std.proofs.Common.{ℕ, ◌≡◌, List, length, None, sym, ap, ◌∙◌, subst}
 use Rattle.std.specs.List.{All}
 use Rattle.shootdown.specs.Processors.{Processor, fresh_processor}
 use Rattle.shootdown.specs.Shootdown.{ShootdownState, processor_at}
