@@ -22,6 +22,6 @@ pub record IsFile (word name : List ℕ) (bytes : ℕ) : Type 0 where
   pub decimal : IsDecimal rest
   pub value : digits_value 10 rest ≡ bytes
 
--- without an `=`, or with something else than decimal digits behind the last
+-- without an `=`, or with something else than decimal digits after the last
 abbrev pub IsNoFile : List ℕ → Type 0
 IsNoFile word = Lacks 61 word ⊎ ((name : List ℕ) × (rest : List ℕ) × IsLastCut word name rest × ¬ (IsDecimal rest))

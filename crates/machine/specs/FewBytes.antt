@@ -9,7 +9,7 @@ first_bytes bytes len = take len bytes
 abbrev pub padded_to_8 : List ℕ → List ℕ
 padded_to_8 list = list ++ replicate (8 - length list) 0
 
--- eight bytes, with zeros behind the first len
+-- eight bytes, with zeros after the first len
 pub record IsFew (bytes : List ℕ) (len : ℕ) : Type 0 where
   pub eight : length bytes ≡ 8
   pub counted : length (first_bytes bytes len) ≡ len

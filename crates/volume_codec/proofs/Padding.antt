@@ -29,7 +29,7 @@ zeros-nil = refl
 pub length-padded : (n : ℕ) (t : List ℕ) → length t ≤ n → length (padded n t) ≡ n
 length-padded n t h = omega (arith, length-append t (zeros (n - length t)), length-zeros (n - length t))
 
--- what lies behind n bytes, and the bytes up to there
+-- what lies after n bytes, and the bytes up to there
 pub drop-past : (p q : List ℕ) (n m : ℕ) → length p ≡ n → drop (n + m) (p ++ q) ≡ drop m q
 drop-past p q n m h = sym (drop-drop m n (p ++ q)) ∙ ap (drop m) (drop_at p q n h)
 

@@ -16,7 +16,7 @@ use Rattle.machine.specs.Refusals.{refuse_if, mapping_refusal, map_refusal}
 use Rattle.machine.specs.Rules.{Maps}
 use Rattle.machine.proofs.code.Refused.{passed, found, alone, fails, holds, above, at_most}
 
--- any refusal but for want of memory
+-- any refusal but that memory was refused
 abbrev IsJudged : Refusal → Type 0
 IsJudged refusals.OutOfMemory = ⊥
 IsJudged why = Unit {0}
@@ -67,7 +67,7 @@ map_refusal-adding s p pcid va len file offset prot access pages reason free jud
     ∙ passed (refuse_if (nat_le (length s.table.files) file) refusals.NoFile) (adding s pcid file prot access pages ∷ []) reason
     (fails _ refusals.NoFile (above (length s.table.files) file below)) (alone (adding s pcid file prot access pages) ∙ is))
 
--- the pages weren't added: for a reason, or for want of memory
+-- the pages weren't added: for a reason, or since memory was refused
 pub maps-unadded : (s : State) (p pcid va len file offset : ℕ) (prot access : Rights) (pages : PageRange × ℕ) (why : Refusal) → not_free s.hardware.shootdown p ≡ None
     → judged_mapping s.hardware.spaces pcid va len offset ≡ Ok pages → file < length s.table.files
     → why ≡ unwrap_or (add_refusal (space_at s.hardware.spaces pcid).places pages.0 (record { file = file; page = pages.1; rights = prot; access = access })) refusals.OutOfMemory
