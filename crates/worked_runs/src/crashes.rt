@@ -48,21 +48,24 @@ fn disk_of(alloc: Global, image: &[u8]) -> Result<MemDisk<Global>, Fail> {
     Ok(MemDisk::from_bytes(alloc, image.to_vec(alloc)?)?)
 }
 
-// What is left of an image by an opening whose call of this number fails, and a crash then.
+// The disk that an opening of an image gives back whose call of this number fails.
+fn failed_opening(alloc: Global, image: &[u8], call: u64) -> Result<Disk, Fail> {
+    match open(alloc, FailingDisk::new(disk_of(alloc, image)?, call)) {
+        Err((Refusal::Device, disk)) => Ok(disk),
+        _ => Err("the call fails".into()),
+    }
+}
+
+// What is left of it after a crash then.
 fn cut_opening(
     alloc: Global,
     image: &[u8],
     call: u64,
     unsynced: Unsynced,
 ) -> Result<MemDisk<Global>, Fail> {
-    match open(alloc, FailingDisk::new(disk_of(alloc, image)?, call)) {
-        Err((Refusal::Device, disk)) => {
-            let mut disk = disk.into_inner();
-            crash_as(alloc, &mut disk, image, unsynced)?;
-            Ok(disk)
-        }
-        _ => Err("the call fails".into()),
-    }
+    let mut disk = failed_opening(alloc, image, call)?.into_inner();
+    crash_as(alloc, &mut disk, image, unsynced)?;
+    Ok(disk)
 }
 
 // Whether the gate in this block is open.
@@ -105,12 +108,11 @@ const STORE_BOTH: [Line; 6] = [
 
 const BOTH: [FileByte; 2] = [(0, 0, 65), (0, 4096, 66)];
 
-// Within the application to block 8: both home blocks are written again, also where that is cut by a crash at any call.
-#[test]
-fn a_cut_application_is_done_again(rt: HostRuntime) -> Result<(), Fail> {
+// What a crash leaves of a commit of both pages within the application to block 8, which is left as 0xFF.
+fn cut_application<R: Abort + AllocGlobal>(rt: &R) -> Result<Vec<u8>, Fail> {
     let alloc = rt.alloc();
     let disk = made(
-        &rt,
+        rt,
         TWO,
         &[
             &START,
@@ -130,14 +132,126 @@ fn a_cut_application_is_done_again(rt: HostRuntime) -> Result<(), Fail> {
     crash(&mut disk, &choice)?;
     let image = disk.bytes().to_vec(alloc)?;
     assert!(rt; image.get(32_768) == Some(&0xFF));
-    assert!(rt; opened(alloc, disk)? == files(&BOTH, 11)?);
+    Ok(image)
+}
+
+// How many calls open a disk in layout 1 that has both pages in its journal if its gate is open.
+fn calls_to_open(image: &[u8]) -> u64 {
+    if is_open(image, 1) { 11 } else { 3 }
+}
+
+// Both home blocks are written again, also where that is cut by a crash at any call.
+#[test]
+fn a_cut_application_is_done_again(rt: HostRuntime) -> Result<(), Fail> {
+    let alloc = rt.alloc();
+    let image = cut_application(&rt)?;
+    assert!(rt; opened(alloc, disk_of(alloc, &image)?)? == files(&BOTH, 11)?);
     for call in 1..12 {
         for unsynced in CRASHES {
             let left = cut_opening(alloc, &image, call, unsynced)?;
-            let calls = if is_open(left.bytes(), 1) { 11 } else { 3 };
-            let wanted = files(&BOTH, calls)?;
+            let wanted = files(&BOTH, calls_to_open(left.bytes()))?;
             assert!(rt; opened(alloc, left)? == wanted, "call {call}, {unsynced:?}");
         }
+    }
+    Ok(())
+}
+
+// Whether they are without a crash, where the call of this number fails.
+fn opens_again(alloc: Global, image: &[u8], call: u64) -> Result<bool, Fail> {
+    let disk = failed_opening(alloc, image, call)?;
+    let failed = disk.calls() == call && disk.faults() == 1;
+    let disk = disk.into_inner();
+    let wanted = files(&BOTH, calls_to_open(disk.bytes()))?;
+    Ok(failed && opened(alloc, disk)? == wanted)
+}
+
+#[test]
+fn each_device_call_of_an_opening_fails(rt: HostRuntime) -> Result<(), Fail> {
+    let image = cut_application(&rt)?;
+    for call in 1..12 {
+        assert!(rt; opens_again(rt.alloc(), &image, call)?, "call {call}");
+    }
+    Ok(())
+}
+
+// The steps of a write-out of both pages.
+const WRITE_OUT: [Line; 11] = [
+    GOING,
+    GOING,
+    GOING,
+    GOING,
+    GOING,
+    ("0 flush", "committed 1"),
+    GOING,
+    GOING,
+    GOING,
+    GOING,
+    ("0 flush", "done 1"),
+];
+
+// Which of these steps opens the gate. The next one makes that sure.
+const GATE: usize = 5;
+
+// The disk after so many of them.
+fn written_out<R: Abort + AllocGlobal>(rt: &R, steps: usize) -> Result<MemDisk<Global>, Fail> {
+    let lines = WRITE_OUT.get(..steps).ok_or("steps of a write-out")?;
+    let disk = made(rt, TWO, &[&START, &STORE_BOTH, &MARK, lines])?;
+    Ok(disk.into_inner())
+}
+
+// Whether a crash that leaves this after so many of the steps is opened as it should be.
+fn leaves_all_or_nothing<R: Abort + AllocGlobal>(
+    rt: &R,
+    steps: usize,
+    choice: &[u8],
+) -> Result<bool, Fail> {
+    let mut disk = written_out(rt, steps)?;
+    crash(&mut disk, choice)?;
+    let is_there = steps > GATE || steps == GATE && is_open(choice, 1);
+    let bytes = if is_there { BOTH.as_slice() } else { &[] };
+    let wanted = files(bytes, calls_to_open(disk.bytes()))?;
+    Ok(opened(rt.alloc(), disk)? == wanted)
+}
+
+// The disk after each number of steps.
+fn images_of_a_write_out<R: Abort + AllocGlobal>(rt: &R) -> Result<Vec<Vec<u8>>, Fail> {
+    let mut images = Vec::new(rt.alloc());
+    for steps in 0..12 {
+        let disk = written_out(rt, steps)?;
+        images.push(disk.bytes().to_vec(rt.alloc())?)?;
+    }
+    Ok(images)
+}
+
+// Whether each crash leaves what it should: what wasn't synced is lost from one write on or more, kept, or torn.
+fn each_leaves_all_or_nothing<R: Abort + AllocGlobal>(
+    rt: &R,
+    images: &[Vec<u8>],
+    steps: usize,
+) -> Result<bool, Fail> {
+    for back in 0..5 {
+        let choice = images.get(steps.saturating_sub(back)).ok_or("an image")?;
+        if !leaves_all_or_nothing(rt, steps, choice)? {
+            return Ok(false);
+        }
+    }
+    for byte in [0x00, 0x5A, 0xA7, 0xFF] {
+        let choice = vec![in rt.alloc(); byte; 40_960]?;
+        if !leaves_all_or_nothing(rt, steps, &choice)? {
+            return Ok(false);
+        }
+    }
+    Ok(true)
+}
+
+#[test]
+fn each_crash_of_a_write_out(rt: HostRuntime) -> Result<(), Fail> {
+    let images = images_of_a_write_out(&rt)?;
+    for steps in 0..12 {
+        assert!(rt;
+            each_leaves_all_or_nothing(&rt, &images, steps)?,
+            "after {steps} steps"
+        );
     }
     Ok(())
 }

@@ -21,4 +21,6 @@ mod mapped;
 #[cfg(test)]
 mod notation;
 #[cfg(test)]
+mod runs;
+#[cfg(test)]
 mod trial;

@@ -1,5 +1,5 @@
 // Machines at their limits.
-use crate::trial::{Line, TWO, Trial, formatted, make, reply_to, zeros};
+use crate::trial::{Line, START, TWO, Trial, formatted, make, make_lines, reply_to, zeros};
 use device::{Device, FailingDisk, MemDisk};
 use machine::{Act, FewBytes, Machine, Reply, Shape};
 use mappings::Rights;
@@ -216,5 +216,98 @@ fn a_machine_can_be_sent_to_a_thread(rt: HostRuntime) -> Result<(), Fail> {
     let machine = zeros(&rt, TWO)?;
     sends(&machine);
     assert_eq!(rt; machine.processors(), 2);
+    Ok(())
+}
+
+// What a mapping of one page of `a`, a fix and a fill of it are answered.
+fn fills(machine: &mut Trial, page: u64) -> [Reply; 3] {
+    let va = page.saturating_mul(4096);
+    let map = Act::Map {
+        space: 1,
+        va,
+        len: 4096,
+        file: 0,
+        offset: 0,
+        prot: Rights::Read,
+        access: Rights::Read,
+    };
+    [
+        reply_to(machine, 0, map),
+        reply_to(machine, 0, Act::Fix { va, write: false }),
+        reply_to(machine, 0, Act::Fill { page }),
+    ]
+}
+
+// Each page is cached, and a full TLB drops an entry for the next: one page more than there is room for.
+#[test]
+fn a_tlb_of_64_entries(rt: HostRuntime) -> Result<(), Fail> {
+    let shape = Shape { tlb: 64, ..TWO };
+    let mut machine = zeros(&rt, shape)?;
+    make(&rt, &mut machine, &[&START])?;
+    for page in 16..81 {
+        let replies = fills(&mut machine, page);
+        assert!(rt;
+            replies == [Reply::Mapped, Reply::Fixed, Reply::Filled],
+            "page {page}"
+        );
+    }
+    make(&rt, &mut machine, &[&FULL])?;
+    // The page of the file was read in once.
+    assert_eq!(rt; machine.into_device().calls(), 3 + 1);
+    Ok(())
+}
+
+const FULL: [Line; 5] = [
+    ("0 evict 64", "nothing"),
+    ("0 evict 63", "evicted"),
+    ("0 evict 63", "nothing"),
+    ("0 evict 0", "evicted"),
+    ("0 evict 62", "nothing"),
+];
+
+// Steps that leave a machine as it was booted, and steps that don't.
+const FRESH: [Line; 8] = [
+    ("0 load 4096 1", "fault 4"),
+    ("0 store 4096 1", "fault 6"),
+    ("0 fix 4096 read", "segvmaperr"),
+    ("0 flush", "nothing"),
+    ("0 ack", "nothing"),
+    ("0 change", "nothing"),
+    ("0 evict 0", "nothing"),
+    ("0 map 1 4096 4096 0 0 rw rw", "einval"),
+];
+
+const NOT_FRESH: [Line; 3] = [
+    ("0 create", "space 1"),
+    ("1 idle", "idled"),
+    ("0 msync 0 0 4", "begun"),
+];
+
+const MARKED: [Line; 4] = [
+    ("0 msync 0 0 4", "begun"),
+    ("1 ack", "acked"),
+    ("0 change", "marked 1"),
+    ("1 resume", "resumed"),
+];
+
+// A machine tells whether it is as it was booted.
+#[test]
+fn a_machine_is_fresh_until_a_mark(rt: HostRuntime) -> Result<(), Fail> {
+    let mut machine = zeros(&rt, TWO)?;
+    assert!(rt; machine.is_fresh());
+    make(&rt, &mut machine, &[&FRESH])?;
+    assert!(rt; machine.is_fresh());
+    make(&rt, &mut machine, &[&MARKED])?;
+    assert!(rt; !machine.is_fresh());
+    Ok(())
+}
+
+#[test]
+fn a_machine_is_not_fresh_after_one_step(rt: HostRuntime) -> Result<(), Fail> {
+    for line in NOT_FRESH {
+        let mut machine = zeros(&rt, TWO)?;
+        make_lines(&rt, &mut machine, &[line])?;
+        assert!(rt; !machine.is_fresh(), "{}", line.0);
+    }
     Ok(())
 }

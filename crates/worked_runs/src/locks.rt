@@ -1,10 +1,11 @@
 // The lock: who waits for whom while a change is under way, and which calls begin one.
-use crate::trial::{COMMITTED, DONE, GOING, Line, MARK, START, STORE_A, TWO, made};
+use crate::trial::{
+    COMMITTED, DONE, GOING, Line, MARK, START, STORE_A, TWO, made, make, make_lines, zeros,
+};
 use std::test::Fail;
 
 // An interrupted processor goes on, but for what asks for the lock.
-const INTERRUPTED: [Line; 19] = [
-    ("0 msync 4096 4096 4", "begun"),
+const INTERRUPTED: [Line; 18] = [
     ("1 load 4096 1", "bytes 65"),
     ("1 store 4096 66", "stored"),
     ("1 fix 8192 read", "locked"),
@@ -71,16 +72,76 @@ const IDLE: [Line; 8] = [
     ("1 resume", "nothing"),
     ("1 wake", "woken"),
     ("1 wake", "nothing"),
-    ("1 load 4096 1", "bytes 66"),
+    ("1 load 4096 1", "bytes 65"),
+];
+
+const BEGUN: [Line; 1] = [("0 msync 4096 4096 4", "begun")];
+
+#[test]
+fn an_interrupted_processor_goes_on(rt: HostRuntime) -> Result<(), Fail> {
+    made(&rt, TWO, &[&START, &STORE_A, &BEGUN, &INTERRUPTED])?;
+    Ok(())
+}
+
+#[test]
+fn an_initiating_processor_waits(rt: HostRuntime) -> Result<(), Fail> {
+    made(&rt, TWO, &[&START, &STORE_A, &BEGUN, &INITIATING])?;
+    Ok(())
+}
+
+#[test]
+fn a_stalled_processor_waits_for_the_change(rt: HostRuntime) -> Result<(), Fail> {
+    made(&rt, TWO, &[&START, &STORE_A, &BEGUN, &STALLED])?;
+    Ok(())
+}
+
+#[test]
+fn an_idle_processor_does_nothing(rt: HostRuntime) -> Result<(), Fail> {
+    made(&rt, TWO, &[&START, &STORE_A, &IDLE])?;
+    Ok(())
+}
+
+// 1 is MS_ASYNC, 2 MS_INVALIDATE and 4 MS_SYNC, and one of the first and the last is asked for. A range is whole pages
+// that are mapped, below 2^47.
+const NO_COMMITS: [Line; 11] = [
+    ("0 msync 4096 4096 0", "einval"),
+    ("0 msync 4096 4096 2", "einval"),
+    ("0 msync 4096 4096 5", "einval"),
+    ("0 msync 4096 4096 7", "einval"),
+    ("0 msync 4096 4096 8", "einval"),
+    ("0 msync 4096 4096 12", "einval"),
+    ("0 msync 4097 1 4", "einval"),
+    ("0 msync 4096 16385 4", "enomem"),
+    ("0 msync 0 1 4", "enomem"),
+    ("0 msync 140737488351232 4096 4", "enomem"),
+    ("0 msync 140737488351232 4097 4", "einval"),
+];
+
+// Calls that begin a commit, and their marks.
+const COMMITS: [Line; 8] = [
+    ("0 msync 4096 4096 1", "marked 1"),
+    ("0 msync 4096 4096 3", "marked 2"),
+    ("0 msync 4096 4096 4", "marked 3"),
+    ("0 msync 4096 4096 6", "marked 4"),
+    ("0 msync 4096 1 4", "marked 5"),
+    ("0 msync 4096 16384 4", "marked 6"),
+    ("0 msync 0 0 4", "marked 7"),
+    ("0 msync 140737488355328 0 4", "marked 8"),
 ];
 
 #[test]
-fn a_change_holds_the_lock(rt: HostRuntime) -> Result<(), Fail> {
-    made(
-        &rt,
-        TWO,
-        &[&START, &STORE_A, &INTERRUPTED, &INITIATING, &STALLED, &IDLE],
-    )?;
+fn commits_are_begun_by_their_flags_and_ranges(rt: HostRuntime) -> Result<(), Fail> {
+    let mut machine = zeros(&rt, TWO)?;
+    make(&rt, &mut machine, &[&START, &NO_COMMITS])?;
+    for (words, marked) in COMMITS {
+        let lines = [
+            (words, "begun"),
+            ("1 ack", "acked"),
+            ("0 change", marked),
+            ("1 resume", "resumed"),
+        ];
+        make_lines(&rt, &mut machine, &lines)?;
+    }
     Ok(())
 }
 

@@ -1,0 +1,203 @@
+// Whole runs: who is told what, and the disk that comes back.
+use crate::notation::step_of;
+use crate::trial::{
+    COMMITTED, DONE, Disk, GOING, Line, MARK, START, STORE_A, TWO, files, formatted, opened_after,
+};
+use device::{Device, FailingDisk, MemDisk};
+use engine::{Listener, run};
+use machine::{Act, Reply, Shape, Step};
+use page_entry::Refusal;
+use std::alloc::Global;
+use std::process::Abort;
+use std::test::Fail;
+
+// Keeps what it is told, and says to stop once that is so many replies.
+#[derive(Drop)]
+struct Heard {
+    replies: Vec<Reply>,
+    most: usize,
+}
+
+impl Listener for Heard {
+    ghost hears = { λ old reply go_on new. Unit {0} };
+
+    fn hear(&mut self, reply: &Reply) -> bool {
+        self.replies.push(*reply).is_ok() && self.replies.len() < self.most
+    }
+}
+
+fn nothing_heard(alloc: Global, most: usize) -> Heard {
+    Heard {
+        replies: Vec::new(alloc),
+        most,
+    }
+}
+
+// The lines of these parts.
+fn lines_in(alloc: Global, parts: &[&[Line]]) -> Result<Vec<Line>, Fail> {
+    let mut lines = Vec::new(alloc);
+    for part in parts {
+        for line in part.iter() {
+            lines.push(*line)?;
+        }
+    }
+    Ok(lines)
+}
+
+// What was heard is what these lines want, from the first on.
+fn heard_as_wanted<R: Abort + AllocGlobal>(
+    rt: &R,
+    lines: &[Line],
+    replies: &[Reply],
+) -> Result<(), Fail> {
+    for ((words, wanted), reply) in lines.iter().zip(replies) {
+        let reply = format!(in rt.alloc(); "{reply}")?;
+        assert_eq!(rt; reply.as_str(), *wanted, "{words}");
+    }
+    Ok(())
+}
+
+// Runs these lines over a disk with a listener that says to stop after so many, of which each has to be answered so.
+fn run_lines<R: Abort + AllocGlobal>(
+    rt: &R,
+    disk: Disk,
+    parts: &[&[Line]],
+    most: usize,
+) -> Result<Disk, Fail> {
+    let alloc = rt.alloc();
+    let lines = lines_in(alloc, parts)?;
+    let mut steps = Vec::new(alloc);
+    for (words, _) in &lines {
+        steps.push(step_of(alloc, words)?)?;
+    }
+    let mut heard = nothing_heard(alloc, most);
+    match run(alloc, disk, TWO, &steps, &mut heard) {
+        Ok(disk) => {
+            assert_eq!(rt; heard.replies.len(), lines.len().min(most));
+            heard_as_wanted(rt, &lines, &heard.replies)?;
+            Ok(disk)
+        }
+        Err((refusal, _)) => Err(refusal.into()),
+    }
+}
+
+fn zeros_failing_at(alloc: Global, call: u64) -> Result<Disk, Fail> {
+    Ok(FailingDisk::new(formatted(alloc, 1)?, call))
+}
+
+// Each reply is told, and the disk comes back as the last step left it.
+#[test]
+fn a_run_tells_each_reply(rt: HostRuntime) -> Result<(), Fail> {
+    let disk = zeros_failing_at(rt.alloc(), 0)?;
+    let commit: [&[Line]; 5] = [&START, &STORE_A, &MARK, &[GOING; 4], &COMMITTED];
+    let disk = run_lines(&rt, disk, &commit, 100)?;
+    assert_eq!(rt; disk.calls(), 3 + 1 + 5);
+    assert!(rt; opened_after(rt.alloc(), disk, 0x5A)? == files(&[(0, 0, 65)], 9)?);
+    Ok(())
+}
+
+const LOAD_A: [Line; 3] = [
+    ("0 load 4096 1", "fault 4"),
+    ("0 fix 4096 read", "fixed"),
+    ("0 load 4096 1", "bytes 65"),
+];
+
+// It ends where the listener says to stop; what wasn't committed is gone in the next run on the disk that came back,
+// and what was is there.
+#[test]
+fn a_run_stops_and_another_begins(rt: HostRuntime) -> Result<(), Fail> {
+    let disk = zeros_failing_at(rt.alloc(), 0)?;
+    let disk = run_lines(&rt, disk, &[&START, &STORE_A, &MARK, &[GOING; 4]], 8)?;
+    assert_eq!(rt; disk.calls(), 3 + 1);
+    let zero = [
+        ("0 load 4096 1", "fault 4"),
+        ("0 fix 4096 read", "fixed"),
+        ("0 load 4096 1", "bytes 0"),
+    ];
+    let again: [&[Line]; 6] = [
+        &START,
+        &zero,
+        &[("0 store 4096 65", "stored")],
+        &MARK,
+        &[GOING; 4],
+        &COMMITTED,
+    ];
+    let disk = run_lines(&rt, disk, &again, 100)?;
+    assert_eq!(rt; disk.calls(), 3 + 1 + 3 + 1 + 5);
+    let disk = run_lines(&rt, disk, &[&START, &LOAD_A], 100)?;
+    assert_eq!(rt; disk.calls(), 3 + 1 + 3 + 1 + 5 + 9 + 1);
+    Ok(())
+}
+
+// A device call that fails is a reply like others; the disk comes back, and the next run on it carries the commit out
+// whose gate was open.
+#[test]
+fn a_run_on_a_disk_that_fails_gives_it_back(rt: HostRuntime) -> Result<(), Fail> {
+    let disk = zeros_failing_at(rt.alloc(), 9)?;
+    let broken: [&[Line]; 5] = [
+        &START,
+        &STORE_A,
+        &MARK,
+        &[GOING; 4],
+        &[("0 flush", "device"), ("0 flush", "broken")],
+    ];
+    let disk = run_lines(&rt, disk, &broken, 100)?;
+    assert_eq!(rt; (disk.calls(), disk.faults()), (9, 1));
+    let disk = run_lines(&rt, disk, &[&START, &LOAD_A], 100)?;
+    assert_eq!(rt; (disk.calls(), disk.faults()), (9 + 9 + 1, 1));
+    Ok(())
+}
+
+// Why nothing is run, and how many device calls were made then. Nothing was told.
+fn refused(alloc: Global, disk: Disk, shape: Shape) -> Result<(Refusal, u64), Fail> {
+    let steps = [Step {
+        p: 0,
+        act: Act::Create,
+    }];
+    let mut heard = nothing_heard(alloc, 100);
+    match run(alloc, disk, shape, &steps, &mut heard) {
+        Ok(_) => Err("the run is refused".into()),
+        Err((refusal, disk)) => {
+            if heard.replies.is_empty() {
+                Ok((refusal, disk.calls()))
+            } else {
+                Err("a reply was told".into())
+            }
+        }
+    }
+}
+
+#[test]
+fn a_run_that_is_refused_tells_nothing(rt: HostRuntime) -> Result<(), Fail> {
+    let alloc = rt.alloc();
+    let none = Shape { cpus: 0, ..TWO };
+    let zeros = zeros_failing_at(alloc, 0)?;
+    assert!(rt; refused(alloc, zeros, none)? == (Refusal::BadShape, 3));
+    let fails = zeros_failing_at(alloc, 2)?;
+    assert!(rt; refused(alloc, fails, TWO)? == (Refusal::Device, 2));
+    let empty = FailingDisk::new(MemDisk::new(alloc, 0)?, 0);
+    assert!(rt; refused(alloc, empty, TWO)? == (Refusal::NotAVolume, 0));
+    Ok(())
+}
+
+// A run of no steps opens the volume, and no more.
+#[test]
+fn a_run_of_no_steps(rt: HostRuntime) -> Result<(), Fail> {
+    let disk = zeros_failing_at(rt.alloc(), 0)?;
+    let disk = run_lines(&rt, disk, &[], 100)?;
+    assert_eq!(rt; disk.calls(), 3);
+    let commit: [&[Line]; 7] = [
+        &START,
+        &STORE_A,
+        &MARK,
+        &[GOING; 4],
+        &COMMITTED,
+        &[GOING; 3],
+        &DONE,
+    ];
+    let disk = run_lines(&rt, disk, &commit, 100)?;
+    assert_eq!(rt; disk.calls(), 3 + 3 + 1 + 10);
+    let disk = run_lines(&rt, disk, &[], 100)?;
+    assert_eq!(rt; disk.calls(), 3 + 3 + 1 + 10 + 3);
+    Ok(())
+}
