@@ -1,4 +1,5 @@
-// Pages that are mapped more than once, in one space or in two, and entries that are cached while their mappings change.
+// Pages that are mapped more than once, in one space or in two, and entries that are cached while their mappings
+// change.
 use crate::trial::{COMMITTED, GOING, Line, MARK, START, STORE_A, TWO, files, made, opened_after};
 use std::test::Fail;
 
