@@ -8,7 +8,7 @@ use Rattle.frames.specs.Frames.{FramesState, frame_at, page_of}
 use Rattle.spaces.specs.Spaces.{Spaces, entry_at, place_at}
 use Rattle.spaces.specs.Changes.{is_place_of}
 use Rattle.checkpoint.specs.Checkpoint.{CheckpointState, Holds, is_noted, HasDirtyEntry, IsDirty, IsMappingOf, NotesTaken}
-use Rattle.checkpoint.specs.Backing.{AreBacked, AreDistinct, page_at}
+use Rattle.checkpoint.specs.Backing.{AreBacked, HoldsEachOnce, page_at}
 use Rattle.checkpoint.specs.inside.Notes.{AreNoted, noted_in}
 use Rattle.checkpoint.proofs.PagesInUse.{same_page-true}
 
@@ -32,7 +32,7 @@ maps_page memory c spaces owner pcid page entry backed present holds =
     maps_at spaces pcid page is.place owner is.mapped (one_page (page_at is.place) owner (sym is.held ∙ holds))
 
 -- and an entry of such a page maps the frame
-pub maps_frame : (memory : FramesState) (c : CheckpointState) (spaces : Spaces) (owner : FilePage) (frame pcid page : ℕ) (entry : Mapped) → AreBacked memory c spaces → AreDistinct memory → Holds memory frame owner
+pub maps_frame : (memory : FramesState) (c : CheckpointState) (spaces : Spaces) (owner : FilePage) (frame pcid page : ℕ) (entry : Mapped) → AreBacked memory c spaces → HoldsEachOnce memory → Holds memory frame owner
     → entry_at spaces pcid page ≡ Some entry → IsMappingOf spaces owner pcid page → entry.frame ≡ frame
 maps_frame memory c spaces owner frame pcid page entry backed distinct holds present maps =
     let is = backed pcid page entry present in
@@ -40,7 +40,7 @@ maps_frame memory c spaces owner frame pcid page entry backed distinct holds pre
     distinct entry.frame frame owner (subst (Holds memory entry.frame) same is.held) holds
 
 -- so the page in a frame that isn't noted is dirty exactly where a page that maps it has a dirty entry
-pub IsDirty-mapping : (memory : FramesState) (c : CheckpointState) (spaces : Spaces) (owner : FilePage) (frame : ℕ) → AreBacked memory c spaces → AreDistinct memory → Holds memory frame owner → is_noted c frame ≡ false
+pub IsDirty-mapping : (memory : FramesState) (c : CheckpointState) (spaces : Spaces) (owner : FilePage) (frame : ℕ) → AreBacked memory c spaces → HoldsEachOnce memory → Holds memory frame owner → is_noted c frame ≡ false
     → ((f : ℕ) × HasDirtyEntry spaces (IsMappingOf spaces owner) f) ↔ IsDirty spaces c frame
 IsDirty-mapping memory c spaces owner frame backed distinct holds unnoted = (
   λ h.
@@ -102,7 +102,7 @@ NotesTaken-none spaces taken old new notes none =
     λ i. record { notes = flags i; frozen = notes.frozen i }
 
 -- nothing is noted where a clean page's entries are taken away
-pub clean_mapping : (memory : FramesState) (c : CheckpointState) (spaces : Spaces) (owner : FilePage) (frame : ℕ) → AreBacked memory c spaces → AreDistinct memory → Holds memory frame owner → (IsDirty spaces c frame → ⊥)
+pub clean_mapping : (memory : FramesState) (c : CheckpointState) (spaces : Spaces) (owner : FilePage) (frame : ℕ) → AreBacked memory c spaces → HoldsEachOnce memory → Holds memory frame owner → (IsDirty spaces c frame → ⊥)
     → (f : ℕ) → HasDirtyEntry spaces (IsMappingOf spaces owner) f → ⊥
 clean_mapping memory c spaces owner frame backed distinct holds clean f d =
     clean (inr (record { pcid = d.pcid; page = d.page; there = tt; entry = d.entry; present = d.present; same_frame = maps_frame memory c spaces owner frame d.pcid d.page d.entry backed distinct holds d.present d.there; dirty = d.dirty }))

@@ -28,8 +28,8 @@ AreBacked memory c spaces =
     (pcid page : ℕ) (entry : Mapped) → entry_at spaces pcid page ≡ Some entry → IsBacked memory c spaces pcid page entry
 
 -- no two frames have one page
-abbrev pub AreDistinct : FramesState → Type 0
-AreDistinct memory = (a b : ℕ) (owner : FilePage) → Holds memory a owner → Holds memory b owner → a ≡ b
+abbrev pub HoldsEachOnce : FramesState → Type 0
+HoldsEachOnce memory = (a b : ℕ) (owner : FilePage) → Holds memory a owner → Holds memory b owner → a ≡ b
 
 -- each present entry maps a frame that has a note, where there are so many notes
 abbrev pub HasNotes : Spaces → ℕ → Type 0

@@ -8,7 +8,7 @@ ghost use Rattle.spaces.specs.Spaces.{Spaces as AddressSpaces, without_mapping, 
 ghost use Rattle.spaces.specs.Requests.{is_user_space};
 ghost use Rattle.spaces.specs.Changes.{without_entries_of};
 ghost use Rattle.checkpoint.specs.Checkpoint.{CheckpointState, fresh_checkpoint, is_frozen, is_held, is_copied, AreRising, Gathers, ProtectsNoted, without_notes, NotesTaken, IsInRange, IsInSpace, IsMappingOf, IsDirty, Holds, is_noted, without_copy_of, without_frozen_copies, AreCopiesOfFrozen, released, thawed};
-ghost use Rattle.checkpoint.specs.Backing.{AreBacked, AreDistinct, HasNotes};
+ghost use Rattle.checkpoint.specs.Backing.{AreBacked, HoldsEachOnce, HasNotes};
 
 use crate::copies::{free_copies, free_copy, has_copy};
 use crate::notes::{
@@ -93,7 +93,7 @@ impl<A: Allocator + Copy> Checkpoint<A> {
 
         // After gathering, no entry of a page that is newly frozen is writable any more.
         ensures backed { (memory : FramesState) (before : CheckpointState) (freezes : Bool) (pages : List FilePage)
-            → Gathers spaces.old.map memory before self.old freezes pages → AreDistinct memory
+            → Gathers spaces.old.map memory before self.old freezes pages → HoldsEachOnce memory
             → AreBacked memory before spaces.old.map → AreBacked memory self.new spaces.new.map }
     {
         spaces.protect_frames(&self.notes);
@@ -206,7 +206,7 @@ impl<A: Allocator + Copy> Checkpoint<A> {
 
         // Where the page is clean, nothing is noted.
         ensures clean { (memory : FramesState) (frame : ℕ)
-            → AreBacked memory self.old spaces.old.map → AreDistinct memory → Holds memory frame page
+            → AreBacked memory self.old spaces.old.map → HoldsEachOnce memory → Holds memory frame page
             → (IsDirty spaces.old.map self.old frame → ⊥) → self.new ≡ self.old }
         ensures backed { (memory : FramesState) → AreBacked memory self.old spaces.old.map
             → AreBacked memory self.new spaces.new.map }

@@ -8,7 +8,7 @@ use Rattle.volume_codec.specs.Layout.{block_at}
 use Rattle.volume_codec.specs.Recovery.{RecoversTo}
 use Rattle.volume_codec.proofs.Batches.{one_recovery}
 use Rattle.page_entry.specs.declared.refusal.Refusal.{Refusal}
-use Rattle.recovery.specs.Opening.{LeftWithin}
+use Rattle.recovery.specs.Opening.{LeftByOpening}
 use Rattle.recovery.proofs.Reopened.{being_recovers, own_contents}
 use Rattle.machine.specs.declared.act.Reply.{Reply}
 use Rattle.machine.specs.declared.act.Shape.{Shape}
@@ -58,7 +58,7 @@ module _ {D : Type 0} (disk : Ghosts D) (seen_is_left : (device : D) → disk.is
       record { prefix = back.prefix; durable = back.durable; recovers = subst P same recovers }
 
   -- what a crash leaves of an opening recovers to the files
-  opening_recovers : (before : D) (files : List File) → RecoversTo (disk.seen before) files → ((c : List ℕ) → disk.may_leave before c → RecoversTo c files) → (c : List ℕ) → LeftWithin disk before c → RecoversTo c files
+  opening_recovers : (before : D) (files : List File) → RecoversTo (disk.seen before) files → ((c : List ℕ) → disk.may_leave before c → RecoversTo c files) → (c : List ℕ) → LeftByOpening disk before c → RecoversTo c files
   opening_recovers before files recovered all c (inl may) = all c may
   opening_recovers before files recovered all c (inr (table, batches, volume, being)) = record {
     table = recovered.table;

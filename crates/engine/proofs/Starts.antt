@@ -18,7 +18,7 @@ use Rattle.machine.specs.Steps.{IsLawful, told_first}
 use Rattle.machine.specs.OnTrack.{IsOnTrack}
 use Rattle.machine.specs.Runs.{StepsTaken}
 use Rattle.machine.specs.State.{Whole}
-use Rattle.engine.specs.Engine.{history_of, HasStarted, HasRefused, IsRun, IsKept}
+use Rattle.engine.specs.Engine.{history_of, HasStarted, HasRefused, IsRun, KeepsDevice}
 use Rattle.engine.proofs.Runs.{taken_kept}
 
 -- the files that an honest device recovered to when it was opened
@@ -73,18 +73,18 @@ run_of disk before shape start steps replies last started taken headline lawful 
     }
 
 -- the device is kept by a start, by a refusal, and by a run
-pub started_kept : {D : Type 0} (disk : Ghosts D) (before : D) (shape : Shape) (start : Whole D) → HasStarted disk before shape start → IsKept disk before start.device
+pub started_kept : {D : Type 0} (disk : Ghosts D) (before : D) (shape : Shape) (start : Whole D) → HasStarted disk before shape start → KeepsDevice disk before start.device
 started_kept {D} disk before shape start started =
-    let P : Whole D → Type 0 = λ w. IsKept disk before w.device in
+    let P : Whole D → Type 0 = λ w. KeepsDevice disk before w.device in
     let kept = started.opened.kept in
     subst P (sym started.booted) (record { honest = kept.honest; len = kept.len })
 
-pub refused_kept : {D : Type 0} (disk : Ghosts D) (before : D) (shape : Shape) (after : D) (refusal : Refusal) → HasRefused disk before shape after refusal → IsKept disk before after
+pub refused_kept : {D : Type 0} (disk : Ghosts D) (before : D) (shape : Shape) (after : D) (refusal : Refusal) → HasRefused disk before shape after refusal → KeepsDevice disk before after
 refused_kept disk before shape after refusal (inl opens) = record { honest = opens.kept.honest; len = opens.kept.len }
 refused_kept disk before shape after refusal (inr (table, opens, why)) = record { honest = opens.kept.honest; len = opens.kept.len }
 
 pub run_kept : {D : Type 0} (disk : Ghosts D) (before : D) (shape : Shape) (start : Whole D) (steps : List Step) (replies : List Reply) (last : Whole D) → HasStarted disk before shape start → StepsTaken disk start steps replies last
-    → IsKept disk before last.device
+    → KeepsDevice disk before last.device
 run_kept disk before shape start steps replies last started taken =
     let first = started_kept disk before shape start started in
     let rest = taken_kept disk start steps replies last taken in

@@ -40,7 +40,7 @@ abbrev pub handed_back : {D : Type 0} → Result D (Refusal × D) → D
 handed_back (Ok after) = after
 handed_back (Err refused) = refused.1
 
-pub record IsKept {D : Type 0} (disk : Ghosts D) (before after : D) : Type 0 where
+pub record KeepsDevice {D : Type 0} (disk : Ghosts D) (before after : D) : Type 0 where
   pub honest : disk.is_honest after ↔ disk.is_honest before
   pub len : length (disk.seen after) ≡ length (disk.seen before)
 

@@ -3,7 +3,7 @@ ghost use Rattle.std.specs.Prelude.{◌↔◌, ◌≡◌, List, length, take, If
 ghost use Rattle.machine.specs.declared.act.Reply.{Reply};
 ghost use Rattle.engine.specs.Listening.{HasListened};
 ghost use Rattle.machine.specs.Runs.{StepsTaken};
-ghost use Rattle.engine.specs.Engine.{HasStarted, HasRefused, HasRun, IsKept, handed_back};
+ghost use Rattle.engine.specs.Engine.{HasStarted, HasRefused, HasRun, KeepsDevice, handed_back};
 
 use crate::Listener;
 use device::Device;
@@ -71,7 +71,7 @@ pub fn run<D: Device, A: Allocator + Copy, L: Listener>(
         × HasListened L.hears (length steps.now) listener.old replies listener.new
         × HasRun D.Device device shape steps.now replies after) }
     ensures refused { IfErr result (λ refused. HasRefused D.Device device shape refused.1 refused.0) }
-    ensures kept { IsKept D.Device device (handed_back result) }
+    ensures kept { KeepsDevice D.Device device (handed_back result) }
     ensures untold { IfErr result (λ refused. listener.new ≡ listener.old) }
 {
     match start(alloc, device, shape) {

@@ -2,7 +2,7 @@
 use Rattle.std.specs.Prelude.{ℕ, List, [], ◌∷◌, find, codes, Option, Some, None}
 use Rattle.std.specs.Str.{bytes_eq}
 use Rattle.serde_json.specs.Data.{Data}
-use Rattle.famsync.specs.Arguments.{if_some, byte_of, short_of, page_of, long_of, prot_of, access_of, keep_of, write_of, bytes_of}
+use Rattle.famsync.specs.Arguments.{if_some, byte_of, short_of, page_number_of, long_of, prot_of, access_of, keep_of, write_of, few_bytes_of}
 use Rattle.machine.specs.declared.act.Act.{Act}
 use Rattle.machine.specs.declared.act.Act.TheVariants.{Load, Store, Fill, Evict, Switch, Idle, Wake, Fix, Create, Destroy, Map, Unmap, Protect, Reclaim, Msync, Ack, Change, Resume, Flush}
 
@@ -18,7 +18,7 @@ load_of _ = None
 
 -- an address and bytes
 abbrev pub store_of : List Data → Option Act
-store_of (va ∷ bytes ∷ []) = if_some (long_of va) (λ va. if_some (bytes_of bytes) (λ bytes. Some (Store va bytes)))
+store_of (va ∷ bytes ∷ []) = if_some (long_of va) (λ va. if_some (few_bytes_of bytes) (λ bytes. Some (Store va bytes)))
 store_of _ = None
 
 -- a page: an address divided by 4,096
@@ -73,7 +73,7 @@ protect_of _ = None
 -- a file and one of its pages
 abbrev pub reclaim_of : List Data → Option Act
 reclaim_of (file ∷ page ∷ []) = if_some (short_of file)
-    (λ file. if_some (page_of page) (λ page. Some (Reclaim file page)))
+    (λ file. if_some (page_number_of page) (λ page. Some (Reclaim file page)))
 reclaim_of _ = None
 
 -- an address, a length and flags
@@ -84,8 +84,8 @@ msync_of (va ∷ len ∷ flags ∷ []) =
 msync_of _ = None
 
 -- acts by their names
-abbrev pub names : List (List ℕ × (List Data → Option Act))
-names =
+abbrev pub acts_by_name : List (List ℕ × (List Data → Option Act))
+acts_by_name =
     (codes "load", load_of) ∷ (codes "store", store_of) ∷ (codes "fill", fill_of) ∷ (codes "evict", evict_of)
     ∷ (codes "switch", switch_of) ∷ (codes "idle", alone Idle) ∷ (codes "wake", alone Wake) ∷ (codes "fix", fix_of)
     ∷ (codes "create", alone Create) ∷ (codes "destroy", destroy_of) ∷ (codes "map", map_of) ∷ (codes "unmap", unmap_of)
@@ -95,4 +95,4 @@ names =
 
 -- the act of a name and arguments
 abbrev pub act_of : List ℕ → List Data → Option Act
-act_of name arguments = if_some (find (λ row. bytes_eq name row.0) names) (λ row. row.1 arguments)
+act_of name arguments = if_some (find (λ row. bytes_eq name row.0) acts_by_name) (λ row. row.1 arguments)

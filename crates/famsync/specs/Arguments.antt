@@ -25,8 +25,8 @@ byte_of = whole_number 255
 abbrev pub short_of : Data → Option ℕ
 short_of = whole_number 65535
 
-abbrev pub page_of : Data → Option ℕ
-page_of = whole_number 4294967295
+abbrev pub page_number_of : Data → Option ℕ
+page_number_of = whole_number 4294967295
 
 abbrev pub long_of : Data → Option ℕ
 long_of = whole_number (2 ^ 64 - 1)
@@ -67,5 +67,5 @@ abbrev pub few_of : List Data → Option (List ℕ)
 few_of items = if nat_le (length items) 8 then all_of byte_of items else None
 
 -- a list of at most 8 bytes
-abbrev pub bytes_of : Data → Option (List ℕ)
-bytes_of value = if_some (as_array value) (λ items. few_of (list_of items))
+abbrev pub few_bytes_of : Data → Option (List ℕ)
+few_bytes_of value = if_some (as_array value) (λ items. few_of (list_of items))

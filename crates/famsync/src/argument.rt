@@ -2,7 +2,7 @@
 ghost use Rattle.std.specs.Prelude.{◌≡◌, map};
 ghost use Rattle.std.specs.Result.{result_ok};
 ghost use Rattle.serde_json.specs.View.{view};
-ghost use Rattle.famsync.specs.Arguments.{whole_number, byte_of, short_of, page_of, long_of, prot_of, access_of, keep_of, write_of, few_of, bytes_of};
+ghost use Rattle.famsync.specs.Arguments.{whole_number, byte_of, short_of, page_number_of, long_of, prot_of, access_of, keep_of, write_of, few_of, few_bytes_of};
 
 use crate::script::StepFault;
 use machine::FewBytes;
@@ -35,7 +35,7 @@ pub fn short(value: &Value, what: &'static str) -> Result<u16, StepFault>
 
 /// A whole number up to 2^32 - 1.
 pub fn page(value: &Value, what: &'static str) -> Result<u32, StepFault>
-    ensures { result_ok result ≡ page_of (view value.now) }
+    ensures { result_ok result ≡ page_number_of (view value.now) }
 {
     Ok(number(value, 4_294_967_295, what)? as u32)
 }
@@ -106,7 +106,7 @@ pub fn write(value: &Value) -> Result<bool, StepFault>
 /// A list of at most 8 bytes.
 #[tactic(auto, using(crate::proofs::AllOf::list_of_items))]
 pub fn bytes(value: &Value) -> Option<FewBytes>
-    ensures { result ≡ bytes_of (view value.now) }
+    ensures { result ≡ few_bytes_of (view value.now) }
 {
     few_bytes(value.as_array()?)
 }

@@ -16,8 +16,8 @@ abbrev pub block_from : List ℕ → ℕ → List ℕ
 block_from disk home = take 4096 (drop home disk)
 
 -- the bytes of a page up to the file's end, where the file has so many bytes, and zeros after it
-abbrev pub cut_at_end : ℕ → ℕ → List ℕ → List ℕ
-cut_at_end length_of page bytes =
+abbrev pub cut_to_length : ℕ → ℕ → List ℕ → List ℕ
+cut_to_length length_of page bytes =
     let kept = take (length_of - 4096 * page) bytes in
     kept ++ replicate (4096 - length kept) 0
 
@@ -27,7 +27,7 @@ pub record IsReadFrom (honest : Type 0) (disk : List ℕ) (home length_of page :
   pub block : List ℕ
   pub whole : IsPage block
   pub there : honest → block ≡ block_from disk home
-  pub cut : bytes ≡ cut_at_end length_of page block
+  pub cut : bytes ≡ cut_to_length length_of page block
 
 -- why a fault isn't served, before anything is read
 abbrev pub refusal_of : FramesState → CheckpointState → PageFault → Option Refusal

@@ -1,7 +1,7 @@
 // Reading a page from its home block.
 ghost use Rattle.std.specs.Prelude.{◌≡◌, ◌+◌, ◌≤◌, length, replicate, IfOk, is_err};
 ghost use Rattle.frames.specs.Frames.{IsPage};
-ghost use Rattle.fault.specs.Fixing.{cut_at_end, IsReadFrom, ReadsOnce};
+ghost use Rattle.fault.specs.Fixing.{cut_to_length, IsReadFrom, ReadsOnce};
 
 use device::{Device, DeviceFault};
 use page_entry::{PAGE, PageIndex};
@@ -22,7 +22,7 @@ fn clear(bytes: &mut [u8])
 
 // Makes every byte of a page of a file zero from the file's end on, where the file has so many bytes.
 fn clear_past_end(page: &mut [u8; 4096], len: u64, index: PageIndex)
-    ensures cut { page.new ≡ cut_at_end len index page.old }
+    ensures cut { page.new ≡ cut_to_length len index page.old }
     ensures page { IsPage page.old }
 {
     let left = len.saturating_sub(PAGE * u64::from(index));

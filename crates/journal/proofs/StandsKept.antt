@@ -1,18 +1,21 @@
 -- The write-outs stand with their device: at first, after a batch has begun, and after each step.
-use Rattle.std.proofs.Common.{◌≡◌, ◌≢◌, ℕ, zero, suc, ◌^◌, ◌<◌, inl, inr, Bool, true, false, List, [], ◌∷◌, ◌++◌, length, get_or, Option, Some, None, refl, sym, ap, ◌∙◌, subst, arith}
+use Rattle.std.proofs.Common.{◌≡◌, ◌≢◌, ℕ, zero, suc, ◌^◌, ◌<◌, inl, inr, Bool, true, false, List, [], ◌∷◌, ◌++◌, length, get_or, Option, Some, None, refl, sym, ap, ◌∙◌, subst, ⊎_elim, arith}
 use Rattle.std.specs.Prelude.{IfSome, MatchBool, MatchOption}
 use Rattle.std.specs.List.{AllByRecursion, Contains}
 use Rattle.std.specs.Option.{option_map_or, option_and_then}
 use Rattle.std.proofs.lemmas.Bool.{both_ways, cases_Bool, cond-true, cond-false}
 use Rattle.device.specs.Device.{Only}
+use Rattle.device.specs.declared.device.Device.{Ghosts}
 use Rattle.volume_codec.specs.declared.layout.Layout.{Layout}
 use Rattle.volume_codec.specs.declared.layout.Layout.TheVariants.{One, Two}
 use Rattle.volume_codec.specs.Layout.{GeometryValue, IsGeometry, IsHome, journals_of, block_at, record_block}
 use Rattle.volume_codec.specs.Descriptor.{AreHomes}
 use Rattle.volume_codec.specs.Super.{SuperValue, geometry_of}
 use Rattle.volume_codec.specs.Recovery.{Batch, IsOpen, IsVolume, Recovers, standing_block}
+use Rattle.volume_codec.proofs.Places.{fits_geometry}
 use Rattle.journal.specs.declared.stage.Stage.{Stage}
 use Rattle.journal.specs.declared.stage.Stage.TheVariants.{Recording, Describing, SyncingRecords, Opening, Committing, Applying, SyncingHomes, Closing, Finishing}
+use Rattle.journal.specs.declared.flushed.Flushed.{Flushed}
 use Rattle.journal.specs.declared.flushed.Flushed.TheVariants.{Device}
 use Rattle.journal.specs.Stage.{is_committed}
 use Rattle.journal.specs.Work.{Work, Nothing, Sync, worked, TornFromWork}
@@ -20,7 +23,9 @@ use Rattle.journal.specs.WriteOut.{WriteOut, next_stage, has_committed, begun_of
 use Rattle.journal.specs.WriteOuts.{WriteOutsValue, none_of, has_uncommitted, current, current_stage, next_work, next_answer, outs_after, is_busy, next_batch, begun, outs_home}
 use Rattle.journal.specs.WriteOut.{IsBatch}
 use Rattle.journal.specs.Recovered.{RecoversBy}
-use Rattle.journal.specs.Crash.{LeftBefore, LeftWithin, Stands}
+use Rattle.journal.specs.Crash.{LeftBefore, LeftWithin}
+use Rattle.journal.specs.Standing.{IsStep, Stands, AtFirst, Begun, AnyOld, Stepped}
+use Rattle.journal.specs.inside.Standing.{IsStanding}
 use Rattle.journal.specs.inside.Sound.{IsWriteOut, IsSound}
 use Rattle.journal.specs.inside.Tied.{open_in, contents_at, stage_in, IsWritten, IsSeen, IsLeftAt, IsLeft, IsTied}
 use Rattle.journal.proofs.Standing.{lacking, record_or-cases}
@@ -31,7 +36,7 @@ use Rattle.journal.proofs.Recorded.{recovers_of}
 use Rattle.journal.proofs.Tying.{false_true, contents_committed, recording_seen, newest_left, left_oldest}
 use Rattle.journal.proofs.Stepping.{stage_of, stage_committed, current_committed}
 use Rattle.journal.proofs.Sounding.{turn_free, first_stage, not_busy, next_is_batch, begun_sound}
-use Rattle.journal.proofs.Answering.{AreSound, work_in, answer_in, after_in, sound_of, outs_after-is, step_sound, failed_sound}
+use Rattle.journal.proofs.Answering.{AreSound, work_in, answer_in, after_in, sound_of, outs_after-is, step_sound, failed_sound, sound_after, answer_same}
 use Rattle.journal.proofs.Keeping.{IsWithin, GoesOn, steps_of}
 
 module _ (v : SuperValue) (old new : ℕ → List ℕ) where
@@ -147,7 +152,7 @@ module _ (v : SuperValue) (old new : ℕ → List ℕ) where
 
   -- ---- standing
 
-  pub stands_going : (outs : WriteOutsValue) (seen : List ℕ) (may : List ℕ → Type 0) → outs.geometry ≡ geometry_of v → IsSound outs → outs.broken ≡ false → IsTied v outs.batches old new seen may → Stands v outs old new seen may
+  pub stands_going : (outs : WriteOutsValue) (seen : List ℕ) (may : List ℕ → Type 0) → outs.geometry ≡ geometry_of v → IsSound outs → outs.broken ≡ false → IsTied v outs.batches old new seen may → IsStanding v outs old new seen may
   stands_going outs seen may geometry sound whole tied = record {
     geometry = geometry;
     left = λ c left. subst (λ b. MatchBool b (LeftWithin v old new (current_stage outs) c) (LeftBefore v old new (current_stage outs) c)) (sym whole) (left_before outs.batches seen c tied.seen_is (tied.left_are c left));
@@ -164,7 +169,7 @@ module _ (v : SuperValue) (old new : ℕ → List ℕ) where
           some_list : (w ∷ newer) ≡ [] → ⊥
           some_list e = cc
 
-  pub stands_broken : (outs : WriteOutsValue) (seen : List ℕ) (may : List ℕ → Type 0) → outs.geometry ≡ geometry_of v → IsSound outs → outs.broken ≡ true → ((c : List ℕ) → may c → LeftWithin v old new (current_stage outs) c) → Stands v outs old new seen may
+  pub stands_broken : (outs : WriteOutsValue) (seen : List ℕ) (may : List ℕ → Type 0) → outs.geometry ≡ geometry_of v → IsSound outs → outs.broken ≡ true → ((c : List ℕ) → may c → LeftWithin v old new (current_stage outs) c) → IsStanding v outs old new seen may
   stands_broken outs seen may geometry sound failed left = record {
     geometry = geometry;
     left = λ c may_c. subst (λ b. MatchBool b (LeftWithin v old new (current_stage outs) c) (LeftBefore v old new (current_stage outs) c)) (sym failed) (left c may_c);
@@ -175,7 +180,7 @@ module _ (v : SuperValue) (old new : ℕ → List ℕ) where
   }
 
   -- what may be left now may be left within the next step
-  pub stands_left : (outs : WriteOutsValue) (seen : List ℕ) (may : List ℕ → Type 0) → Stands v outs old new seen may → (c : List ℕ) → may c → LeftWithin v old new (current_stage outs) c
+  pub stands_left : (outs : WriteOutsValue) (seen : List ℕ) (may : List ℕ → Type 0) → IsStanding v outs old new seen may → (c : List ℕ) → may c → LeftWithin v old new (current_stage outs) c
   stands_left outs seen may s c left = by outs.broken (s.left c left)
     where
       by : (b : Bool) → MatchBool b (LeftWithin v old new (current_stage outs) c) (LeftBefore v old new (current_stage outs) c) → LeftWithin v old new (current_stage outs) c
@@ -185,7 +190,7 @@ module _ (v : SuperValue) (old new : ℕ → List ℕ) where
   are_sound : (outs : WriteOutsValue) → outs.geometry ≡ geometry_of v → IsSound outs → AreSound (geometry_of v) outs.next outs.batches
   are_sound outs geometry sound = subst (λ (g : GeometryValue). AreSound g outs.next outs.batches) geometry (sound_of outs sound)
 
-  module _ (outs : WriteOutsValue) (seen : List ℕ) (may : List ℕ → Type 0) (bytes : List ℕ) (size : length bytes ≡ 4096) (s : Stands v outs old new seen may) (whole : outs.broken ≡ false) (some : outs.batches ≡ [] → ⊥)
+  module _ (outs : WriteOutsValue) (seen : List ℕ) (may : List ℕ → Type 0) (bytes : List ℕ) (size : length bytes ≡ 4096) (s : IsStanding v outs old new seen may) (whole : outs.broken ≡ false) (some : outs.batches ≡ [] → ⊥)
       (is_new : (home : ℕ) → outs_home outs ≡ Some home → bytes ≡ new home) where
     work_same : next_work outs bytes ≡ work_in (geometry_of v) bytes outs.batches
     work_same =
@@ -201,12 +206,12 @@ module _ (v : SuperValue) (old new : ℕ → List ℕ) where
     stands_within c torn = steps.0 c (subst (λ (work : Work). TornFromWork work may c) work_same torn)
 
     -- after a step of which a device call failed
-    pub stands_failed : (seen' : List ℕ) (may' : List ℕ → Type 0) → ((c : List ℕ) → may' c → TornFromWork (next_work outs bytes) may c) → Stands v (outs_after outs Device) old new seen' may'
+    pub stands_failed : (seen' : List ℕ) (may' : List ℕ → Type 0) → ((c : List ℕ) → may' c → TornFromWork (next_work outs bytes) may c) → IsStanding v (outs_after outs Device) old new seen' may'
     stands_failed seen' may' left = stands_broken (outs_after outs Device) seen' may' s.geometry (failed_sound outs s.sound) refl (λ c may_c. stands_within c (left c may_c))
 
     -- after a step whose device calls succeed
     pub stands_after : (may' : List ℕ → Type 0) → ((c : List ℕ) → may' c → TornFromWork (next_work outs bytes) may c) → (next_work outs bytes ≡ Sync → (c : List ℕ) → may' c → c ≡ seen)
-        → Stands v (outs_after outs (next_answer outs)) old new (worked seen (next_work outs bytes)) may'
+        → IsStanding v (outs_after outs (next_answer outs)) old new (worked seen (next_work outs bytes)) may'
     stands_after may' left sure =
         let tied = steps.1 may' (λ c may_c. subst (λ (work : Work). TornFromWork work may c) work_same (left c may_c)) (λ sync. sure (work_same ∙ sync)) in
         let e = outs_after-is outs s.sound whole some in
@@ -216,7 +221,7 @@ module _ (v : SuperValue) (old new : ℕ → List ℕ) where
 
 -- ---- at first
 
-pub stands_first : (v : SuperValue) (seen : List ℕ) (may : List ℕ → Type 0) → IsGeometry (geometry_of v) → IsVolume v [] seen → Only may seen → Stands v (none_of (geometry_of v)) (block_at seen) (block_at seen) seen may
+pub stands_first : (v : SuperValue) (seen : List ℕ) (may : List ℕ → Type 0) → IsGeometry (geometry_of v) → IsVolume v [] seen → Only may seen → IsStanding v (none_of (geometry_of v)) (block_at seen) (block_at seen) seen may
 stands_first v seen may is_geometry volume only =
     stands_going v (block_at seen) (block_at seen) (none_of (geometry_of v)) seen may refl
     (record { geometry = is_geometry; there = first_journal v.layout; few = omega arith; each = tt; ordered = tt; turn = tt }) refl
@@ -303,7 +308,7 @@ module _ (v : SuperValue) (old new next : ℕ → List ℕ) (batches : List Writ
 
 pub stands_begun : (v : SuperValue) (outs : WriteOutsValue) (old new next : ℕ → List ℕ) (mark : ℕ) (homes : List ℕ) (seen : List ℕ) (may : List ℕ → Type 0)
     → outs.broken ≡ false → is_busy outs ≡ false → 0 < mark → mark < 2 ^ 64 → AreHomes outs.geometry homes → AllByRecursion (λ w. w.batch.mark < mark) outs.batches
-    → ((b : ℕ) → (Contains homes b → ⊥) → next b ≡ new b) → Stands v outs old new seen may → Stands v (begun outs mark homes) new next seen may
+    → ((b : ℕ) → (Contains homes b → ⊥) → next b ≡ new b) → IsStanding v outs old new seen may → IsStanding v (begun outs mark homes) new next seen may
 stands_begun v outs old new next mark homes seen may whole not_busy_is some small are below outside s =
     let free = not_busy outs s.sound not_busy_is in
     let is_batch = next_is_batch outs mark homes s.sound some small are in
@@ -351,7 +356,7 @@ module _ (v : SuperValue) (old other new : ℕ → List ℕ) where
   within_other (Some Closing) c late left = left
   within_other (Some Finishing) c late left = left
 
-  pub stands_other : (outs : WriteOutsValue) (seen : List ℕ) (may : List ℕ → Type 0) → has_uncommitted outs.batches ≡ false → Stands v outs old new seen may → Stands v outs other new seen may
+  pub stands_other : (outs : WriteOutsValue) (seen : List ℕ) (may : List ℕ → Type 0) → has_uncommitted outs.batches ≡ false → IsStanding v outs old new seen may → IsStanding v outs other new seen may
   stands_other outs seen may none s = elim (cases_Bool outs.broken) [
     | inl failed ↦ stands_broken v other new outs seen may s.geometry s.sound failed (λ c left. within_other (current_stage outs) c late (stands_left v old new outs seen may s c left))
     | inr whole ↦ stands_going v other new outs seen may s.geometry s.sound whole (tied_other (s.tied whole))
@@ -369,3 +374,26 @@ module _ (v : SuperValue) (old other new : ℕ → List ℕ) where
         };
         left_are = λ c left. left_other outs.batches seen c none (tied.left_are c left);
       }
+
+-- ---- whatever led to them
+
+stands_stepped : {D : Type 0} (disk : Ghosts D) (v : SuperValue) (outs : WriteOutsValue) (old new : ℕ → List ℕ) (bytes : List ℕ) (answer : Flushed) (before after : D) → IsStep disk outs bytes answer before after → ((home : ℕ) → outs_home outs ≡ Some home → bytes ≡ new home)
+    → IsStanding v outs old new (disk.seen before) (disk.may_leave before) → IsStanding v (outs_after outs answer) old new (disk.seen after) (disk.may_leave after)
+stands_stepped disk v outs old new bytes answer before after step is_new now = ⊎_elim
+    (λ is. subst (λ (a : Flushed). IsStanding v (outs_after outs a) old new (disk.seen after) (disk.may_leave after)) (sym is)
+    (subst (λ (l : List ℕ). IsStanding v (outs_after outs (next_answer outs)) old new l (disk.may_leave after)) (sym (step.worked (fine is)))
+    (stands_after v old new outs (disk.seen before) (disk.may_leave before) bytes step.a_block now step.whole step.some is_new (disk.may_leave after) step.left (step.sure (fine is)))))
+    (λ is. subst (λ (a : Flushed). IsStanding v (outs_after outs a) old new (disk.seen after) (disk.may_leave after)) (sym is)
+    (stands_failed v old new outs (disk.seen before) (disk.may_leave before) bytes step.a_block now step.whole step.some is_new (disk.seen after) (disk.may_leave after) step.left))
+    step.answered
+  where
+    fine : answer ≡ next_answer outs → answer ≡ Device → ⊥
+    fine is e = (sound_after outs.geometry outs.next outs.batches step.some (sound_of outs now.sound)).no_device
+        (sym (answer_same outs now.sound step.whole step.some) ∙ sym is ∙ e)
+
+pub standing : {D : Type 0} (disk : Ghosts D) (v : SuperValue) {outs : WriteOutsValue} {old new : ℕ → List ℕ} {device : D} → Stands disk v outs old new device → IsStanding v outs old new (disk.seen device) (disk.may_leave device)
+standing disk v (AtFirst device volume only) = stands_first v (disk.seen device) (disk.may_leave device) (fits_geometry v volume.super_block.fits) volume only
+standing disk v (Begun outs old new next mark homes device may outside s) =
+    stands_begun v outs old new next mark homes (disk.seen device) (disk.may_leave device) may.whole may.free may.some_mark may.small_mark may.are_homes may.newest outside (standing disk v s)
+standing disk v (AnyOld outs old other new device none s) = stands_other v old other new outs (disk.seen device) (disk.may_leave device) none (standing disk v s)
+standing disk v (Stepped outs old new bytes answer before after step is_new s) = stands_stepped disk v outs old new bytes answer before after step is_new (standing disk v s)

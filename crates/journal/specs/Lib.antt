@@ -4,4 +4,5 @@ pub mod WriteOut
 pub mod WriteOuts
 pub mod Recovered
 pub mod Crash
+pub mod Standing
 pub mod inside

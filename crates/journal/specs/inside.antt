@@ -1,3 +1,4 @@
 pub mod Sound
 pub mod Tied
+pub mod Standing
 pub mod Room

@@ -1,18 +1,18 @@
 // What follows of the definitions alone.
-ghost use Rattle.std.specs.Prelude.{◌≡◌, ◌↔◌, ℕ, ◌+◌, ◌*◌, ◌^◌, ◌<◌, ◌≤◌, false, List, [], ◌∷◌, ◌++◌, length, slice_index, Contains, Some, None};
-ghost use Rattle.std.specs.List.{AllByRecursion};
+ghost use Rattle.std.specs.Prelude.{◌≡◌, ◌↔◌, ℕ, ◌+◌, ◌*◌, ◌<◌, ◌≤◌, false, List, [], ◌∷◌, ◌++◌, length, slice_index, Contains, Some, None, MatchBool};
 ghost use Rattle.device.specs.Device.{Torn, Only};
 ghost use Rattle.volume_codec.specs.Layout.{GeometryValue, IsHome, journals_of, gate_block, descriptor_block, record_block, block_at};
 ghost use Rattle.volume_codec.specs.Super.{SuperValue, geometry_of};
-ghost use Rattle.volume_codec.specs.Descriptor.{descriptor_text, AreHomes};
+ghost use Rattle.volume_codec.specs.Descriptor.{descriptor_text};
 ghost use Rattle.volume_codec.specs.Recovery.{Batch, IsOpen, IsNewer, has_journal, IsVolume};
 ghost use Rattle.journal.specs.declared.stage.Stage.TheVariants.{Committing, Finishing};
 ghost use Rattle.journal.specs.Stage.{stage_at};
 ghost use Rattle.journal.specs.declared.flushed.Flushed.{Flushed};
 ghost use Rattle.journal.specs.WriteOut.{WriteOut, IsBatch, calls_in_steps};
-ghost use Rattle.journal.specs.WriteOuts.{WriteOutsValue, none_of, has_uncommitted, is_busy, begun, outs_after};
+ghost use Rattle.journal.specs.WriteOuts.{WriteOutsValue, current_stage, HasBlock, outs_after};
 ghost use Rattle.journal.specs.Recovered.{RecoversBy, IsUnread};
-ghost use Rattle.journal.specs.Crash.{Stands};
+ghost use Rattle.journal.specs.Crash.{LeftBefore, LeftWithin};
+ghost use Rattle.journal.specs.Standing.{Stands};
 
 use device::Device;
 
@@ -32,30 +32,19 @@ pub fn no_step_makes_a_batch()
         → (before : WriteOut) × Contains outs.batches before × (before.batch ≡ w.batch) }
 {}
 
-/// Write-outs of which none has begun stand with an opened volume all of which is on the disk: Old and New are its home
-/// blocks.
-pub fn stands_at_first<D: Device>(device: &D)
-    ensures { (v : SuperValue) → IsVolume v [] (D.seen device.now) → Only (D.may_leave device.now) (D.seen device.now)
-        → Stands v (none_of (geometry_of v)) (block_at (D.seen device.now)) (block_at (D.seen device.now))
-        (D.seen device.now) (D.may_leave device.now) }
-{}
-
-/// A batch that begins turns what was New into Old, and each contents that agree with it outside the batch into New.
-pub fn stands_once_begun<D: Device>(device: &D)
-    ensures { (v : SuperValue) (outs : WriteOutsValue) (old new next : ℕ → List ℕ) (mark : ℕ) (homes : List ℕ)
-        → outs.broken ≡ false → is_busy outs ≡ false → 0 < mark → mark < 2 ^ 64 → AreHomes outs.geometry homes
-        → AllByRecursion (λ w. w.batch.mark < mark) outs.batches
-        → ((b : ℕ) → (Contains homes b → ⊥) → next b ≡ new b)
-        → Stands v outs old new (D.seen device.now) (D.may_leave device.now)
-        → Stands v (begun outs mark homes) new next (D.seen device.now) (D.may_leave device.now) }
-{}
-
-/// Where each batch is committed, Old plays no part.
-pub fn stands_without_old<D: Device>(device: &D)
-    ensures { (v : SuperValue) (outs : WriteOutsValue) (old other new : ℕ → List ℕ)
-        → has_uncommitted outs.batches ≡ false
-        → Stands v outs old new (D.seen device.now) (D.may_leave device.now)
-        → Stands v outs other new (D.seen device.now) (D.may_leave device.now) }
+/// Whatever led to write-outs that stand so with a device: what a crash may leave, what a read finds of the home blocks,
+/// and what is there once all batches are done.
+pub fn what_write_outs_leave<D: Device>(device: &D)
+    ensures left { (v : SuperValue) (outs : WriteOutsValue) (old new : ℕ → List ℕ)
+        → Stands D.Device v outs old new device.now → (c : List ℕ) → D.may_leave device.now c
+        → MatchBool outs.broken (LeftWithin v old new (current_stage outs) c)
+        (LeftBefore v old new (current_stage outs) c) }
+    ensures reads { (v : SuperValue) (outs : WriteOutsValue) (old new : ℕ → List ℕ)
+        → Stands D.Device v outs old new device.now → outs.broken ≡ false
+        → (b : ℕ) → IsHome (geometry_of v) b → (HasBlock outs b → ⊥) → block_at (D.seen device.now) b ≡ new b }
+    ensures rests { (v : SuperValue) (outs : WriteOutsValue) (old new : ℕ → List ℕ)
+        → Stands D.Device v outs old new device.now → outs.broken ≡ false → outs.batches ≡ []
+        → IsVolume v [] (D.seen device.now) × Only (D.may_leave device.now) (D.seen device.now) }
 {}
 
 /// Bytes recover to the same contents, by the same batches, whatever becomes of a block that recovery doesn't read: a

@@ -16,8 +16,7 @@ pub use flush::Flush;
 pub use flushed::Flushed;
 pub use gate::close_gate;
 pub use laws::{
-    no_step_makes_a_batch, stands_at_first, stands_once_begun, stands_without_old,
-    steps_of_a_write_out, torn_gates, unread_blocks,
+    no_step_makes_a_batch, steps_of_a_write_out, torn_gates, unread_blocks, what_write_outs_leave,
 };
 pub use stage::{Stage, stage_at};
 pub use write_outs::WriteOuts;

@@ -10,7 +10,8 @@ ghost use Rattle.journal.specs.Work.{CopyBlock, Sync, worked, TornByWork, TornFr
 ghost use Rattle.journal.specs.WriteOut.{broken_after};
 ghost use Rattle.journal.specs.WriteOuts.{none_of, has_uncommitted, current, current_stage, outs_record, outs_home, next_work, next_answer, outs_after, is_busy, following, begun, HasBlock};
 ghost use Rattle.journal.specs.inside.Room.{IsCurrent, kept_after, spare_after};
-ghost use Rattle.journal.specs.Crash.{LeftWithin, Stands};
+ghost use Rattle.journal.specs.Crash.{LeftWithin};
+ghost use Rattle.journal.specs.Standing.{Stands};
 
 use crate::{Flush, Flushed, Stage};
 use device::Device;
@@ -255,11 +256,11 @@ impl<A: Allocator + Copy> WriteOuts<A> {
 
         // With the same Old and New they stand after the step, and a crash at any moment of it leaves what it may.
         ensures stands { (v : SuperValue) (old new : ℕ → List ℕ) → D.is_honest device.old
-            → Stands v self.old old new (D.seen device.old) (D.may_leave device.old)
+            → Stands D.Device v self.old old new device.old
             → ((home : ℕ) → outs_home self.old ≡ Some home → bytes.now ≡ new home)
-            → Stands v self.new old new (D.seen device.new) (D.may_leave device.new) }
+            → Stands D.Device v self.new old new device.new }
         ensures crash { (v : SuperValue) (old new : ℕ → List ℕ)
-            → Stands v self.old old new (D.seen device.old) (D.may_leave device.old)
+            → Stands D.Device v self.old old new device.old
             → ((home : ℕ) → outs_home self.old ≡ Some home → bytes.now ≡ new home)
             → LeavesOnly D.moment D.left_since device.old device.new (LeftWithin v old new (current_stage self.old)) }
 

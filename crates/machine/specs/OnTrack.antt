@@ -8,8 +8,8 @@ use Rattle.machine.specs.State.{Whole}
 use Rattle.machine.specs.Crashes.{Begins}
 use Rattle.machine.specs.Runs.{StepsTaken}
 
--- The machine is on the track of a run: these steps, answered so, led to it from a start that is as boot leaves it, over
--- a volume at rest with these files, on an honest device.
+-- The machine is on the track of a run: these steps, answered so, led to it from a start that is as boot leaves it,
+-- over a volume at rest with these files, on an honest device.
 pub record IsOnTrack {D : Type 0} (disk : Ghosts D) (files : List File) (start : Whole D)
     (steps : List Step) (replies : List Reply) (now : Whole D) : Type 0 where
   pub begins : Begins disk.seen disk.may_leave disk.is_honest files start

@@ -4,15 +4,15 @@ use Rattle.device.specs.declared.device.Device.{Ghosts}
 use Rattle.device.specs.Device.{Only}
 use Rattle.device.proofs.Moments.{leaves_on}
 use Rattle.page_entry.specs.declared.refusal.Refusal.{Refusal}
-use Rattle.recovery.specs.Counts.{HasCause, IsKept}
+use Rattle.recovery.specs.Counts.{HasCause, IsAccounted}
 use Rattle.recovery.specs.Opening.{IsUnwritten}
 
 -- before any call
-pub kept_none : {D : Type 0} (disk : Ghosts D) (device : D) → IsKept {X = Unit {0}} disk device (Ok tt) device
+pub kept_none : {D : Type 0} (disk : Ghosts D) (device : D) → IsAccounted {X = Unit {0}} disk device (Ok tt) device
 kept_none disk device = record { honest = (λ h. h, λ h. h); len = refl; cause = refl }
 
 -- a call that succeeded, and another
-pub kept_then : {D X Y : Type 0} {disk : Ghosts D} {old mid new : D} {x : X} {result : Result Y Refusal} → IsKept disk old (Ok x) mid → IsKept disk mid result new → IsKept disk old result new
+pub kept_then : {D X Y : Type 0} {disk : Ghosts D} {old mid new : D} {x : X} {result : Result Y Refusal} → IsAccounted disk old (Ok x) mid → IsAccounted disk mid result new → IsAccounted disk old result new
 kept_then {D} {X} {Y} {disk} {old} {mid} {new} {x} {result} first second =
     let P : ℕ → Type 0 = λ n. MatchResult result (λ _. disk.faults_met new ≡ n) (HasCause n (disk.faults_met new)) in
     record {
@@ -22,13 +22,13 @@ kept_then {D} {X} {Y} {disk} {old} {mid} {new} {x} {result} first second =
     }
 
 -- the result's value doesn't matter
-pub kept_ok : {D X Y : Type 0} {disk : Ghosts D} {old new : D} {x : X} (y : Y) → IsKept disk old (Ok x) new → IsKept disk old (Ok y) new
+pub kept_ok : {D X Y : Type 0} {disk : Ghosts D} {old new : D} {x : X} (y : Y) → IsAccounted disk old (Ok x) new → IsAccounted disk old (Ok y) new
 kept_ok y kept = record { honest = kept.honest; len = kept.len; cause = kept.cause }
 
 -- a call that failed as another did
-pub kept_err : {D X Y : Type 0} {disk : Ghosts D} {old new : D} {e : Refusal} (result : Result Y Refusal) → result ≡ Err e → IsKept {X = X} disk old (Err e) new → IsKept disk old result new
+pub kept_err : {D X Y : Type 0} {disk : Ghosts D} {old new : D} {e : Refusal} (result : Result Y Refusal) → result ≡ Err e → IsAccounted {X = X} disk old (Err e) new → IsAccounted disk old result new
 kept_err {D} {X} {Y} {disk} {old} {new} {e} result is kept =
-    let P : Result Y Refusal → Type 0 = λ r. IsKept disk old r new in
+    let P : Result Y Refusal → Type 0 = λ r. IsAccounted disk old r new in
     subst P (sym is) (record { honest = kept.honest; len = kept.len; cause = kept.cause })
 
 -- calls that write nothing

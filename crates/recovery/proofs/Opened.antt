@@ -15,7 +15,7 @@ use Rattle.volume_codec.proofs.Places.{fits_geometry}
 use Rattle.volume_codec.proofs.Recovered.{length-lengths_in, lengths_in-le}
 use Rattle.recovery.specs.Counts.{Rises}
 use Rattle.recovery.specs.Volume.{IsSettled}
-use Rattle.recovery.specs.Opening.{IsUnwritten, IsOpened, IsBeingOpened, LeftWithin, opening_calls, HasOpened, HasRefused, RefusesOpening}
+use Rattle.recovery.specs.Opening.{IsUnwritten, IsOpened, IsBeingOpened, LeftByOpening, opening_calls, HasOpened, HasRefused, RefusesOpening}
 use Rattle.recovery.specs.inside.Reading.{carry_calls}
 use Rattle.recovery.proofs.Partly.{opened_partly, kept_block, still_waiting}
 
@@ -52,7 +52,7 @@ opened_volume table batches old new volume opened =
 module _ {D : Type 0} (disk : Ghosts D) (before mid : D) (table : SuperValue) (batches : List Batch) (volume : IsVolume table batches (disk.seen before)) (unwritten : IsUnwritten disk before mid) where
   -- a crash while the batches are carried out
   pub left_within : (after : D) (h : GeometryValue) → h ≡ geometry_of table → LeavesOnly disk.moment disk.left_since mid after (IsBeingOpened h batches (disk.seen mid))
-      → LeavesOnly disk.moment disk.left_since before after (LeftWithin disk before)
+      → LeavesOnly disk.moment disk.left_since before after (LeftByOpening disk before)
   left_within after h is time =
       leaves_on (leaves_weaker unwritten.time (λ c may. inl may)) time
       (λ c being.

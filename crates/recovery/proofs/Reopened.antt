@@ -12,7 +12,7 @@ use Rattle.volume_codec.proofs.Batches.{IsAmong, each_among, one_list, one_conte
 use Rattle.volume_codec.proofs.Functional.{one_table}
 use Rattle.volume_codec.proofs.Places.{fits_geometry}
 use Rattle.recovery.specs.Volume.{files_of}
-use Rattle.recovery.specs.Opening.{HaveNoRecord, IsBeingOpened, HasOpened, HasRefused, RefusesOpening, LeftWithin, Opens}
+use Rattle.recovery.specs.Opening.{HaveNoRecord, IsBeingOpened, HasOpened, HasRefused, RefusesOpening, LeftByOpening, Opens}
 use Rattle.recovery.specs.Openings.{IsRestarted, FollowsOpening, IsLater, RecoversAs, AllRecover, FindsAmong}
 use Rattle.recovery.proofs.Judged.{magic_at}
 use Rattle.recovery.proofs.Steps.{record_or-either}
@@ -116,7 +116,7 @@ module _ {D : Type 0} (disk : Ghosts D) (seen_is_left : (device : D) → disk.is
       → RecoversAs (disk.may_leave before) c
   left_as before after result c honest opens left = by ((opens.within honest).each c left)
     where
-      by : LeftWithin disk before c → RecoversAs (disk.may_leave before) c
+      by : LeftByOpening disk before c → RecoversAs (disk.may_leave before) c
       by (inl may) = (c, may, λ table contents r. r)
       by (inr (table, batches, volume, being)) = (disk.seen before, seen_is_left before honest, λ w contents r. being_recovers table w batches contents (disk.seen before) c volume being r)
 

@@ -18,7 +18,7 @@ HasCause old new BadShape = new ≡ old
 HasCause old new _ = ⊥
 
 -- The device is as long and as honest as before. Where the result is Ok no device call failed; else it has its cause.
-pub record IsKept {D X : Type 0} (disk : Ghosts D) (old : D) (result : Result X Refusal) (new : D) : Type 0 where
+pub record IsAccounted {D X : Type 0} (disk : Ghosts D) (old : D) (result : Result X Refusal) (new : D) : Type 0 where
   pub honest : disk.is_honest new ↔ disk.is_honest old
   pub len : length (disk.seen new) ≡ length (disk.seen old)
   pub cause : MatchResult result (λ _. disk.faults_met new ≡ disk.faults_met old)

@@ -8,7 +8,7 @@ use Rattle.page_entry.specs.declared.refusal.Refusal.TheVariants.{Device, OutOfM
 use Rattle.volume_codec.specs.Layout.{GeometryValue, IsHome, journals_of, gate_block, record_block, first_home, block_at}
 use Rattle.volume_codec.specs.Super.{SuperValue, geometry_of}
 use Rattle.volume_codec.specs.Recovery.{Batch, AreOpen, contents_in, IsVolume, IsNotAVolume, IsDamaged}
-use Rattle.recovery.specs.Counts.{Rises, IsKept}
+use Rattle.recovery.specs.Counts.{Rises, IsAccounted}
 use Rattle.recovery.specs.Volume.{VolumeState}
 
 -- nothing was written, at no moment: a read gives what it gave, and a crash now, or at any moment since old, leaves
@@ -59,8 +59,8 @@ HoldsVolume bytes = (table : SuperValue) × (batches : List Batch) × IsVolume t
 
 -- what a crash leaves of an opening: what it might have left before it, or, where a read then gave a volume, that
 -- volume while its open batches are carried out
-abbrev pub LeftWithin : {D : Type 0} → Ghosts D → D → List ℕ → Type 0
-LeftWithin disk before c = disk.may_leave before c
+abbrev pub LeftByOpening : {D : Type 0} → Ghosts D → D → List ℕ → Type 0
+LeftByOpening disk before c = disk.may_leave before c
     ⊎ ((table : SuperValue) × (batches : List Batch) × IsVolume table batches (disk.seen before)
     × IsBeingOpened (geometry_of table) batches (disk.seen before) c)
 
@@ -104,9 +104,9 @@ pub record HasRefused {D : Type 0} (disk : Ghosts D) (before : D) (refusal : Ref
 -- honest device.
 pub record Opens {D : Type 0} (disk : Ghosts D) (before : D) (result : Result SuperValue Refusal) (after : D)
     : Type 0 where
-  pub kept : IsKept disk before result after
+  pub kept : IsAccounted disk before result after
   pub ended : disk.is_honest before
       → MatchResult result (λ table. HasOpened disk before table after)
       (λ refusal. HasRefused disk before refusal after)
   -- a crash at any moment since it began
-  pub within : disk.is_honest before → LeavesOnly disk.moment disk.left_since before after (LeftWithin disk before)
+  pub within : disk.is_honest before → LeavesOnly disk.moment disk.left_since before after (LeftByOpening disk before)

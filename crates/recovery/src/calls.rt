@@ -3,7 +3,7 @@ ghost use Rattle.std.specs.Prelude.{◌≡◌, ◌+◌, ◌*◌, ◌<◌, ◌≤
 ghost use Rattle.device.specs.Device.{written, TornFrom, Only, LeavesOnly};
 ghost use Rattle.volume_codec.specs.Layout.{IsHome, journals_of, gate_block, record_block, block_at};
 ghost use Rattle.volume_codec.specs.Text.{zeros};
-ghost use Rattle.recovery.specs.Counts.{Rises, IsKept};
+ghost use Rattle.recovery.specs.Counts.{Rises, IsAccounted};
 ghost use Rattle.recovery.specs.Opening.{IsUnwritten};
 
 use device::Device;
@@ -25,7 +25,7 @@ pub fn read<D: Device>(device: &mut D, at: u64, buffer: &mut [u8]) -> Result<(),
     ensures bytes { D.is_honest device.old
         → OnOk result (buffer.new ≡ slice_range (D.seen device.old) at (at + length buffer.old)) }
     ensures unwritten { D.is_honest device.old → IsUnwritten D.Device device.old device.new }
-    ensures kept { IsKept D.Device device.old result device.new }
+    ensures kept { IsAccounted D.Device device.old result device.new }
     ensures fault { IfErr result (λ refusal. refusal ≡ Refusal.Device) }
     ensures calls { Rises 1 (D.calls_made device.old) (D.calls_made device.new) }
 {
@@ -41,7 +41,7 @@ pub fn read_block<D: Device>(device: &mut D, block: u32) -> Result<[u8; 4096], R
 
     ensures bytes { D.is_honest device.old → IfOk result (λ bytes. bytes ≡ block_at (D.seen device.old) block) }
     ensures unwritten { D.is_honest device.old → IsUnwritten D.Device device.old device.new }
-    ensures kept { IsKept D.Device device.old result device.new }
+    ensures kept { IsAccounted D.Device device.old result device.new }
     ensures fault { IfErr result (λ refusal. refusal ≡ Refusal.Device) }
     ensures calls { Rises 1 (D.calls_made device.old) (D.calls_made device.new) }
 {
@@ -59,7 +59,7 @@ pub fn write<D: Device>(device: &mut D, at: u64, bytes: &[u8]) -> Result<(), Ref
     ensures left { (c : List ℕ) → D.may_leave device.new c → TornFrom at (length bytes.now) (D.may_leave device.old) c }
     ensures time { LeavesOnly D.moment D.left_since device.old device.new
         (TornFrom at (length bytes.now) (D.may_leave device.old)) }
-    ensures kept { IsKept D.Device device.old result device.new }
+    ensures kept { IsAccounted D.Device device.old result device.new }
     ensures fault { IfErr result (λ refusal. refusal ≡ Refusal.Device) }
     ensures calls { Rises 1 (D.calls_made device.old) (D.calls_made device.new) }
 {
@@ -73,7 +73,7 @@ pub fn write<D: Device>(device: &mut D, at: u64, bytes: &[u8]) -> Result<(), Ref
 pub fn sync<D: Device>(device: &mut D) -> Result<(), Refusal>
     ensures unwritten { D.is_honest device.old → IsUnwritten D.Device device.old device.new }
     ensures durable { D.is_honest device.old → OnOk result (Only (D.may_leave device.new) (D.seen device.new)) }
-    ensures kept { IsKept D.Device device.old result device.new }
+    ensures kept { IsAccounted D.Device device.old result device.new }
     ensures fault { IfErr result (λ refusal. refusal ≡ Refusal.Device) }
     ensures calls { Rises 1 (D.calls_made device.old) (D.calls_made device.new) }
 {
@@ -92,7 +92,7 @@ pub fn write_synced<D: Device>(device: &mut D, at: u64, bytes: &[u8]) -> Result<
     ensures durable { D.is_honest device.old → OnOk result (Only (D.may_leave device.new) (D.seen device.new)) }
     ensures time { D.is_honest device.old → LeavesOnly D.moment D.left_since device.old device.new
         (TornFrom at (length bytes.now) (D.may_leave device.old)) }
-    ensures kept { IsKept D.Device device.old result device.new }
+    ensures kept { IsAccounted D.Device device.old result device.new }
     ensures fault { IfErr result (λ refusal. refusal ≡ Refusal.Device) }
     ensures calls { OnOk result (Rises 2 (D.calls_made device.old) (D.calls_made device.new)) }
 {
@@ -119,7 +119,7 @@ pub fn apply<D: Device>(
     ensures left { (c : List ℕ) → D.may_leave device.new c → TornFrom (4096 * home) 4096 (D.may_leave device.old) c }
     ensures time { LeavesOnly D.moment D.left_since device.old device.new
         (TornFrom (4096 * home) 4096 (D.may_leave device.old)) }
-    ensures kept { IsKept D.Device device.old result device.new }
+    ensures kept { IsAccounted D.Device device.old result device.new }
     ensures fault { IfErr result (λ refusal. refusal ≡ Refusal.Device) }
     ensures calls { OnOk result (Rises 2 (D.calls_made device.old) (D.calls_made device.new)) }
 {
@@ -144,7 +144,7 @@ fn close_unsynced<D: Device>(
         → TornFrom (4096 * gate_block geometry.now.slots journal) 1 (D.may_leave device.old) c }
     ensures time { LeavesOnly D.moment D.left_since device.old device.new
         (TornFrom (4096 * gate_block geometry.now.slots journal) 1 (D.may_leave device.old)) }
-    ensures kept { IsKept D.Device device.old result device.new }
+    ensures kept { IsAccounted D.Device device.old result device.new }
     ensures fault { IfErr result (λ refusal. refusal ≡ Refusal.Device) }
     ensures calls { Rises 1 (D.calls_made device.old) (D.calls_made device.new) }
 {
@@ -164,7 +164,7 @@ pub fn close<D: Device>(device: &mut D, geometry: &Geometry, journal: u32) -> Re
     ensures synced { D.is_honest device.old → OnOk result (Only (D.may_leave device.new) (D.seen device.new)) }
     ensures time { D.is_honest device.old → LeavesOnly D.moment D.left_since device.old device.new
         (TornFrom (4096 * gate_block geometry.now.slots journal) 1 (D.may_leave device.old)) }
-    ensures kept { IsKept D.Device device.old result device.new }
+    ensures kept { IsAccounted D.Device device.old result device.new }
     ensures fault { IfErr result (λ refusal. refusal ≡ Refusal.Device) }
     ensures calls { OnOk result (Rises 2 (D.calls_made device.old) (D.calls_made device.new)) }
 {

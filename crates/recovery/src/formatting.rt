@@ -5,7 +5,7 @@ ghost use Rattle.volume_codec.specs.Files.{asked_by, asked_by_pairs};
 ghost use Rattle.volume_codec.specs.Layout.{GeometryValue, IsGeometry, journals_of, gate_block, first_home, block_at};
 ghost use Rattle.volume_codec.specs.Text.{zeros};
 ghost use Rattle.volume_codec.specs.Super.{SuperValue, IsAsked, Fits, block_count, geometry_of};
-ghost use Rattle.recovery.specs.Counts.{IsKept};
+ghost use Rattle.recovery.specs.Counts.{IsAccounted};
 ghost use Rattle.recovery.specs.Format.{IsBlank, HasFormatted, RefusesFormat};
 ghost use Rattle.recovery.specs.inside.Erasing.{IsErased, AreClosed};
 
@@ -54,7 +54,7 @@ fn erase<D: Device>(device: &mut D, from: u64, to: u64) -> Result<(), Refusal>
     requires order { from ≤ to }
     requires room { to ≤ length (D.seen device.old) }
     ensures erased { D.is_honest device.old → OnOk result (IsErased from to (D.seen device.old) (D.seen device.new)) }
-    ensures kept { IsKept D.Device device.old result device.new }
+    ensures kept { IsAccounted D.Device device.old result device.new }
     ensures fault { IfErr result (λ refusal. refusal ≡ Refusal.Device) }
 {
     let zeros = zero_piece();
@@ -72,7 +72,7 @@ fn close_gates<D: Device>(device: &mut D, geometry: &Geometry) -> Result<(), Ref
     requires { 4096 * geometry.now.blocks ≤ length (D.seen device.old) }
     ensures closed { D.is_honest device.old → OnOk result
         (AreClosed geometry.now.slots (journals_of geometry.now.layout) (D.seen device.old) (D.seen device.new)) }
-    ensures kept { IsKept D.Device device.old result device.new }
+    ensures kept { IsAccounted D.Device device.old result device.new }
     ensures fault { IfErr result (λ refusal. refusal ≡ Refusal.Device) }
 {
     for journal in 0..geometry.journals() {
@@ -93,7 +93,7 @@ fn write_table<D: Device, A: Allocator + Copy>(
     ensures synced { D.is_honest device.old → OnOk result (Only (D.may_leave device.new) (D.seen device.new)) }
     ensures past { D.is_honest device.old → OnOk result ((i : ℕ) → 4096 * block_count table.now ≤ i
         → slice_index (D.seen device.new) i ≡ slice_index (D.seen device.old) i) }
-    ensures kept { IsKept D.Device device.old result device.new }
+    ensures kept { IsAccounted D.Device device.old result device.new }
     ensures fault { IfErr result (λ refusal. refusal ≡ Refusal.Device) }
 {
     let geometry = table.geometry();
@@ -118,7 +118,7 @@ pub fn format_as<D: Device, A: Allocator + Copy>(
         → OnOk result (HasFormatted D.Device layout (asked_by files.now) slots device.old device.new) }
     ensures refused { IfErr result (RefusesFormat layout (asked_by files.now) slots (length (D.seen device.old))) }
     ensures unchanged { IfErr result (λ refusal. (refusal ≡ Refusal.Device) ⊎ (device.new ≡ device.old)) }
-    ensures kept { IsKept D.Device device.old result device.new }
+    ensures kept { IsAccounted D.Device device.old result device.new }
 {
     let blocks = block_count_as(layout, files, slots)?;
     if device.len() < PAGE * blocks {
@@ -140,7 +140,7 @@ pub fn format<D: Device, A: Allocator + Copy>(
         → OnOk result (HasFormatted D.Device 1 (asked_by_pairs files.now) slots device.old device.new) }
     ensures refused { IfErr result (RefusesFormat 1 (asked_by_pairs files.now) slots (length (D.seen device.old))) }
     ensures unchanged { IfErr result (λ refusal. (refusal ≡ Refusal.Device) ⊎ (device.new ≡ device.old)) }
-    ensures kept { IsKept D.Device device.old result device.new }
+    ensures kept { IsAccounted D.Device device.old result device.new }
 {
     if files.len() > MAX_FILES {
         return Err(Refusal::BadShape);

@@ -6,7 +6,7 @@ ghost use Rattle.volume_codec.specs.Layout.{IsGeometry, journals_of, gate_block,
 ghost use Rattle.volume_codec.specs.Super.{IsSuper, Fits, block_count, geometry_of, capacities_in};
 ghost use Rattle.volume_codec.specs.Descriptor.{AreHomes, IsDescriptor};
 ghost use Rattle.volume_codec.specs.Recovery.{AreFalling, AreOpen, IsOpen, IsVolume};
-ghost use Rattle.recovery.specs.Counts.{Rises, IsKept};
+ghost use Rattle.recovery.specs.Counts.{Rises, IsAccounted};
 ghost use Rattle.recovery.specs.Opening.{IsUnwritten, IsOpened, IsBeingOpened, RefusesOpening, Opens, opened_table, device_after};
 ghost use Rattle.recovery.specs.Volume.{IsSettled};
 ghost use Rattle.recovery.specs.inside.Carrying.{IsTornAt, IsApplied, IsBeingCarried};
@@ -33,7 +33,7 @@ fn read_table<D: Device, A: Allocator + Copy>(alloc: A, device: &mut D) -> Resul
     ensures long { IfOk result (λ table. 4096 * block_count table ≤ length (D.seen device.old)) }
     ensures refused { D.is_honest device.old → IfErr result (RefusesOpening (D.seen device.old)) }
     ensures unwritten { D.is_honest device.old → IsUnwritten D.Device device.old device.new }
-    ensures kept { IsKept D.Device device.old result device.new }
+    ensures kept { IsAccounted D.Device device.old result device.new }
     ensures calls { OnOk result (Rises 1 (D.calls_made device.old) (D.calls_made device.new)) }
 {
     if device.len() < PAGE {
@@ -53,7 +53,7 @@ fn read_gates<D: Device>(device: &mut D, geometry: &Geometry) -> Result<[bool; 2
     ensures gates { D.is_honest device.old → IfOk result (λ gates. (j : ℕ) → j < journals_of geometry.now.layout
         → ((slice_index_or gates j false ≡ true) ↔ IsOpen (D.seen device.old) geometry.now.slots j)) }
     ensures unwritten { D.is_honest device.old → IsUnwritten D.Device device.old device.new }
-    ensures kept { IsKept D.Device device.old result device.new }
+    ensures kept { IsAccounted D.Device device.old result device.new }
     ensures fault { IfErr result (λ refusal. refusal ≡ Refusal.Device) }
     ensures calls { OnOk result
         (Rises (journals_of geometry.now.layout) (D.calls_made device.old) (D.calls_made device.new)) }
@@ -84,7 +84,7 @@ fn read_journal<D: Device, A: Allocator + Copy>(
     ensures refused { D.is_honest device.old → IfErr result
         (RefusesJournal geometry.now (block_at (D.seen device.old) (descriptor_block geometry.now.slots journal))) }
     ensures unwritten { D.is_honest device.old → IsUnwritten D.Device device.old device.new }
-    ensures kept { IsKept D.Device device.old result device.new }
+    ensures kept { IsAccounted D.Device device.old result device.new }
     ensures calls { Rises 1 (D.calls_made device.old) (D.calls_made device.new) }
 {
     let block = read_block(device, geometry.descriptor_block(journal))?;
@@ -114,7 +114,7 @@ fn read_if_open<D: Device, A: Allocator + Copy>(
         × Rises n (D.calls_made device.old) (D.calls_made device.new)) }
     ensures refused { D.is_honest device.old → IfErr result (RefusesJournals geometry.now (D.seen device.old)) }
     ensures unwritten { D.is_honest device.old → IsUnwritten D.Device device.old device.new }
-    ensures kept { IsKept D.Device device.old result device.new }
+    ensures kept { IsAccounted D.Device device.old result device.new }
 {
     if !is_open {
         return Ok(());
@@ -149,7 +149,7 @@ fn read_journals<D: Device, A: Allocator + Copy>(
     ensures geometry { IsGeometry geometry.now }
     ensures refused { D.is_honest device.old → IfErr result (RefusesJournals geometry.now (D.seen device.old)) }
     ensures unwritten { D.is_honest device.old → IsUnwritten D.Device device.old device.new }
-    ensures kept { IsKept D.Device device.old result device.new }
+    ensures kept { IsAccounted D.Device device.old result device.new }
     ensures calls { IfOk result (λ found.
         Rises (length found.items) (D.calls_made device.old) (D.calls_made device.new)) }
 {
@@ -197,7 +197,7 @@ fn read_open<D: Device, A: Allocator + Copy>(
     ensures carry { IfOk result (λ found. AllByRecursion (CanCarry geometry.now) (batches_of found.items)) }
     ensures refused { D.is_honest device.old → IfErr result (RefusesJournals geometry.now (D.seen device.old)) }
     ensures unwritten { D.is_honest device.old → IsUnwritten D.Device device.old device.new }
-    ensures kept { IsKept D.Device device.old result device.new }
+    ensures kept { IsAccounted D.Device device.old result device.new }
     ensures calls { IfOk result (λ found. Rises (journals_of geometry.now.layout + length found.items)
         (D.calls_made device.old) (D.calls_made device.new)) }
 {
@@ -222,7 +222,7 @@ fn judge<D: Device, A: Allocator + Copy>(
         AllByRecursion (CanCarry (geometry_of judged.0)) (batches_of judged.1.items)) }
     ensures refused { D.is_honest device.old → IfErr result (RefusesOpening (D.seen device.old)) }
     ensures unwritten { D.is_honest device.old → IsUnwritten D.Device device.old device.new }
-    ensures kept { IsKept D.Device device.old result device.new }
+    ensures kept { IsAccounted D.Device device.old result device.new }
     ensures calls { IfOk result (λ judged. Rises (2 + journals_of judged.0.layout + length judged.1.items)
         (D.calls_made device.old) (D.calls_made device.new)) }
 {
@@ -248,7 +248,7 @@ fn apply_records<D: Device, A: Allocator + Copy>(
         → LeavesOnly D.moment D.left_since device.old device.new
         (IsTornAt found.now.descriptor.homes (D.seen device.old)) }
     ensures geometry { IsGeometry geometry.now }
-    ensures kept { IsKept D.Device device.old result device.new }
+    ensures kept { IsAccounted D.Device device.old result device.new }
     ensures fault { IfErr result (λ refusal. refusal ≡ Refusal.Device) }
     ensures calls { OnOk result
         (Rises (2 * length found.now.descriptor.homes) (D.calls_made device.old) (D.calls_made device.new)) }
@@ -276,7 +276,7 @@ fn carry_out<D: Device, A: Allocator + Copy>(
     ensures time { D.is_honest device.old → Only (D.may_leave device.old) (D.seen device.old)
         → LeavesOnly D.moment D.left_since device.old device.new
         (IsBeingCarried geometry.now (batch_of found.now) (D.seen device.old)) }
-    ensures kept { IsKept D.Device device.old result device.new }
+    ensures kept { IsAccounted D.Device device.old result device.new }
     ensures fault { IfErr result (λ refusal. refusal ≡ Refusal.Device) }
     ensures calls { OnOk result
         (Rises (2 * length found.now.descriptor.homes + 3) (D.calls_made device.old) (D.calls_made device.new)) }
@@ -302,7 +302,7 @@ fn carry_out_all<D: Device, A: Allocator + Copy>(
     ensures durable { D.is_honest device.old → OnOk result (Only (D.may_leave device.new) (D.seen device.new)) }
     ensures time { D.is_honest device.old → LeavesOnly D.moment D.left_since device.old device.new
         (IsBeingOpened geometry.now (batches_of found.items) (D.seen device.old)) }
-    ensures kept { IsKept D.Device device.old result device.new }
+    ensures kept { IsAccounted D.Device device.old result device.new }
     ensures fault { IfErr result (λ refusal. refusal ≡ Refusal.Device) }
     ensures calls { OnOk result
         (Rises (carry_calls (batches_of found.items)) (D.calls_made device.old) (D.calls_made device.new)) }

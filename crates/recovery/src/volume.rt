@@ -1,7 +1,7 @@
 // A volume that was opened, and its files.
 ghost use Rattle.std.specs.Prelude.{◌≡◌, ◌==◌, ◌+◌, ◌≤◌, ◌<◌, if◌then◌else◌, length, slice_get, slice_index, slice_range, Some, OnOk, IfErr};
 ghost use Rattle.volume_codec.specs.Super.{names_in, capacities_in};
-ghost use Rattle.recovery.specs.Counts.{Rises, IsKept};
+ghost use Rattle.recovery.specs.Counts.{Rises, IsAccounted};
 ghost use Rattle.recovery.specs.Opening.{IsUnwritten};
 ghost use Rattle.recovery.specs.Volume.{IsSettled, files_of, bytes_of};
 
@@ -98,7 +98,7 @@ impl<D: Device, A: Allocator + Copy> Volume<D, A> {
         ensures lengths { self.new.lengths ≡ self.old.lengths }
         ensures unwritten { D.is_honest self.old.device → IsUnwritten D.Device self.old.device self.new.device }
 
-        ensures kept { IsKept D.Device self.old.device result self.new.device }
+        ensures kept { IsAccounted D.Device self.old.device result self.new.device }
         ensures fault { IfErr result (λ refusal. refusal ≡ Refusal.Device) }
         ensures calls { Rises (if length buffer.old == 0 then 0 else 1)
             (D.calls_made self.old.device) (D.calls_made self.new.device) }

@@ -13,7 +13,7 @@ use Rattle.shootdown.specs.Shootdown.{current, not_free}
 use Rattle.checkpoint.specs.Backing.{page_at}
 use Rattle.fault.specs.declared.page_fault.PageFault.{PageFault}
 use Rattle.fault.specs.Fault.{FaultServed, is_in_memory, copies_out, place_of_fault}
-use Rattle.fault.specs.Fixing.{FixRefused, FixDone, refusal_of, reads_home, block_from, cut_at_end as cut_by}
+use Rattle.fault.specs.Fixing.{FixRefused, FixDone, refusal_of, reads_home, block_from, cut_to_length as cut_by}
 use Rattle.machine.specs.declared.act.Reply.TheVariants as replies
 use Rattle.machine.specs.State.{State, length_of, home_of, page_from}
 use Rattle.machine.specs.Refusals.{served_refusal, fix_refusal}

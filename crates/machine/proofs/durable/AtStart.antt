@@ -14,7 +14,7 @@ use Rattle.volume_codec.proofs.Places.{fits_geometry}
 use Rattle.checkpoint.specs.Checkpoint.{CheckpointState}
 use Rattle.journal.specs.WriteOut.{WriteOut}
 use Rattle.journal.specs.WriteOuts.{WriteOutsValue, none_of, has_uncommitted}
-use Rattle.journal.specs.Crash.{Stands}
+use Rattle.journal.specs.inside.Standing.{IsStanding}
 use Rattle.journal.proofs.StandsKept.{stands_first}
 use Rattle.machine.specs.History.{Mark, Acknowledge, page_of, file_bytes, memory_of}
 use Rattle.machine.specs.State.{State, Whole, home_of, length_of, cut_at_end}
@@ -136,7 +136,7 @@ durable_at_start seen may_leave is_honest files start sound begins =
     record {
       old = block_at disk;
       new = block_at disk;
-      stands = subst (λ (o : WriteOutsValue). Stands s.table o (block_at disk) (block_at disk) disk (may_leave start.device)) (sym outs)
+      stands = subst (λ (o : WriteOutsValue). IsStanding s.table o (block_at disk) (block_at disk) disk (may_leave start.device)) (sym outs)
           (stands_first s.table disk (may_leave start.device) (fits_geometry s.table begins.volume.super_block.fits) begins.volume begins.synced);
       written = record {
         before = [];

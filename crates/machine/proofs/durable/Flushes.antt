@@ -17,7 +17,8 @@ use Rattle.journal.specs.declared.flushed.Flushed.TheVariants as flushed
 use Rattle.journal.specs.Work.{Sync, worked, TornFromWork}
 use Rattle.journal.specs.WriteOut.{WriteOut, broken_after, answer_of}
 use Rattle.journal.specs.WriteOuts.{WriteOutsValue, has_uncommitted, current, next_answer, outs_after, outs_home, current_stage, batches_after}
-use Rattle.journal.specs.Crash.{Stands, LeftWithin}
+use Rattle.journal.specs.Crash.{LeftWithin}
+use Rattle.journal.specs.inside.Standing.{IsStanding}
 use Rattle.journal.proofs.Batches.{batch_before}
 use Rattle.journal.proofs.StandsKept.{stands_within, stands_after, stands_failed, stands_other}
 use Rattle.spaces.specs.declared.change.Change.TheVariants.{Checkpoint}
@@ -159,7 +160,7 @@ marks_after answer batches prefix all k d lt =
 
 -- ---- the step
 
-module _ (files : List File) (told : Told) (s : State) (seen : List ℕ) (may : List ℕ → Type 0) (old new : ℕ → List ℕ) (sound : IsSound s) (stands : Stands s.table s.write_outs old new seen may) (w : IsWritten files told s old new)
+module _ (files : List File) (told : Told) (s : State) (seen : List ℕ) (may : List ℕ → Type 0) (old new : ℕ → List ℕ) (sound : IsSound s) (stands : IsStanding s.table s.write_outs old new seen may) (w : IsWritten files told s old new)
     (p : ℕ) (allowed : flush_refusal s p ≡ None) (some : s.write_outs.batches ≡ [] → ⊥) where
   pub flush_whole : s.write_outs.broken ≡ false
   flush_whole = second_not_refused (not_running s.hardware.shootdown p) s.write_outs.broken refusals.Broken [] allowed
@@ -198,13 +199,13 @@ module _ (files : List File) (told : Told) (s : State) (seen : List ℕ) (may : 
     abbrev after_it : State
     after_it = stepped s records outs
 
-    stands_now : Stands s.table outs old new (worked seen (work_asked s)) may'
+    stands_now : IsStanding s.table outs old new (worked seen (work_asked s)) may'
     stands_now = stands_after s.table old new s.write_outs seen may (next_record s) (size_of_record s sound) stands flush_whole some is_new may' left sure
 
-    stands_as : (other : ℕ → List ℕ) → Stands s.table outs other new (worked seen (work_asked s)) may' → Stands after_it.table after_it.write_outs other new (worked seen (work_asked s)) may'
+    stands_as : (other : ℕ → List ℕ) → IsStanding s.table outs other new (worked seen (work_asked s)) may' → IsStanding after_it.table after_it.write_outs other new (worked seen (work_asked s)) may'
     stands_as other is =
-        subst (λ (o : WriteOutsValue). Stands after_it.table o other new (worked seen (work_asked s)) may') (sym (same_outs s outs records))
-        (subst (λ (t : SuperValue). Stands t outs other new (worked seen (work_asked s)) may') (sym (same_files s outs records).table) is)
+        subst (λ (o : WriteOutsValue). IsStanding after_it.table o other new (worked seen (work_asked s)) may') (sym (same_outs s outs records))
+        (subst (λ (t : SuperValue). IsStanding t outs other new (worked seen (work_asked s)) may') (sym (same_files s outs records).table) is)
 
     marks_now : All (λ (y : WriteOut). Contains w.marked (Mark y.batch.mark)) after_it.write_outs.batches
     marks_now = subst (λ (o : WriteOutsValue). All (λ (y : WriteOut). Contains w.marked (Mark y.batch.mark)) o.batches) (sym (same_outs s outs records)) (marks_after (next_answer s.write_outs) s.write_outs.batches w.marked w.marks)

@@ -10,7 +10,7 @@ use Rattle.volume_codec.specs.Super.{geometry_of}
 use Rattle.volume_codec.specs.Descriptor.{AreHomes}
 use Rattle.journal.specs.WriteOut.{WriteOut, begun_of}
 use Rattle.journal.specs.WriteOuts.{WriteOutsValue, has_uncommitted, is_busy, next_batch, begun}
-use Rattle.journal.specs.Crash.{Stands}
+use Rattle.journal.specs.inside.Standing.{IsStanding}
 use Rattle.journal.proofs.StandsKept.{stands_begun, stands_other}
 use Rattle.spaces.specs.declared.change.Change.TheVariants.{Checkpoint}
 use Rattle.spaces.specs.Spaces.{Spaces}
@@ -31,7 +31,7 @@ use Rattle.machine.proofs.durable.Overlays.{within_cut, overlaid, overlaid-other
 pub record IsDurable (files : List File) (told : Told) (s : State) (seen : List ℕ) (may_leave : List ℕ → Type 0) : Type 0 where
   pub old : ℕ → List ℕ
   pub new : ℕ → List ℕ
-  pub stands : Stands s.table s.write_outs old new seen may_leave
+  pub stands : IsStanding s.table s.write_outs old new seen may_leave
   pub written : IsWritten files told s old new
 
 -- of what is told the history alone counts
@@ -55,7 +55,7 @@ abbrev no_pages : List FilePage
 no_pages = []
 
 module _ (files : List File) (told : Told) (s : State) (p number : ℕ) (seen : List ℕ) (may : List ℕ → Type 0) (old new : ℕ → List ℕ) (sound : IsSound s) (latest : IsLatest files told s) (touched : AreTouched told s)
-    (stands : Stands s.table s.write_outs old new seen may) (w : IsWritten files told s old new) (next : number ≡ s.marks + 1) (lock : s.hardware.shootdown.lock ≡ Some (record { holder = p; change = Checkpoint })) where
+    (stands : IsStanding s.table s.write_outs old new seen may) (w : IsWritten files told s old new) (next : number ≡ s.marks + 1) (lock : s.hardware.shootdown.lock ≡ Some (record { holder = p; change = Checkpoint })) where
   abbrev history : List Event
   history = told.history
 

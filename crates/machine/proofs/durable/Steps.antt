@@ -15,7 +15,8 @@ use Rattle.journal.specs.declared.flushed.Flushed.TheVariants as flushed
 use Rattle.journal.specs.Work.{Work, Sync, Nothing, worked, TornFromWork}
 use Rattle.journal.specs.WriteOut.{WriteOut, begun_of}
 use Rattle.journal.specs.WriteOuts.{WriteOutsValue, current_stage, next_answer, next_batch, begun, outs_record}
-use Rattle.journal.specs.Crash.{LeftWithin, Stands}
+use Rattle.journal.specs.Crash.{LeftWithin}
+use Rattle.journal.specs.inside.Standing.{IsStanding}
 use Rattle.journal.specs.inside.Tied.{IsTied}
 use Rattle.journal.proofs.StandsKept.{stands_left}
 use Rattle.machine.specs.declared.act.Act.{Act}
@@ -45,7 +46,7 @@ use Rattle.machine.proofs.durable.ReadsBack.{reads_within, reads_now}
 
 -- ---- what a crash may leave is among what it might
 
-pub stands_less : (v : SuperValue) (outs : WriteOutsValue) (old new : ℕ → List ℕ) (seen : List ℕ) (may may' : List ℕ → Type 0) → ((c : List ℕ) → may' c → may c) → Stands v outs old new seen may → Stands v outs old new seen may'
+pub stands_less : (v : SuperValue) (outs : WriteOutsValue) (old new : ℕ → List ℕ) (seen : List ℕ) (may may' : List ℕ → Type 0) → ((c : List ℕ) → may' c → may c) → IsStanding v outs old new seen may → IsStanding v outs old new seen may'
 stands_less v outs old new seen may may' fewer s = record {
   geometry = s.geometry;
   left = λ c left. s.left c (fewer c left);
@@ -60,7 +61,7 @@ pub durable_as : (files : List File) (told told' : Told) (s : State) (seen seen'
 durable_as files told told' s seen seen' may same same_seen is = record {
   old = is.old;
   new = is.new;
-  stands = subst (λ (l : List ℕ). Stands s.table s.write_outs is.old is.new l may) (sym same_seen) is.stands;
+  stands = subst (λ (l : List ℕ). IsStanding s.table s.write_outs is.old is.new l may) (sym same_seen) is.stands;
   written = written_as files told told' s is.old is.new same is.written;
 }
 
@@ -124,9 +125,9 @@ module _ (files : List File) (told : Told) (s : State) (disk : List ℕ) (may : 
     record {
       old = t.old;
       new = t.new;
-      stands = subst (λ (l : List ℕ). Stands new.table new.write_outs t.old t.new l may') (sym q.same_disk)
-          (subst (λ (o : WriteOutsValue). Stands new.table o t.old t.new disk may') (sym q.leaves.write_outs)
-          (subst (λ (v : SuperValue). Stands v s.write_outs t.old t.new disk may') (sym q.leaves.files.table)
+      stands = subst (λ (l : List ℕ). IsStanding new.table new.write_outs t.old t.new l may') (sym q.same_disk)
+          (subst (λ (o : WriteOutsValue). IsStanding new.table o t.old t.new disk may') (sym q.leaves.write_outs)
+          (subst (λ (v : SuperValue). IsStanding v s.write_outs t.old t.new disk may') (sym q.leaves.files.table)
           (stands_less s.table s.write_outs t.old t.new disk may may' (λ c may_c. as_nothing act reply q.work c (left c may_c)) t.stands)));
       written = written_left files told (told_by act reply) (events_of told p act reply) s new t.old t.new refl q.quiet q.leaves t.written;
     },

@@ -7,7 +7,7 @@ use Rattle.frames.specs.Frames.{frame_at, bytes_of}
 use Rattle.volume_codec.specs.Files.{File}
 use Rattle.volume_codec.specs.Recovery.{lengths_in}
 use Rattle.journal.specs.WriteOuts.{has_uncommitted}
-use Rattle.journal.specs.Crash.{Stands}
+use Rattle.journal.specs.inside.Standing.{IsStanding}
 use Rattle.spaces.specs.declared.change.Change.{Change}
 use Rattle.spaces.specs.declared.change.Change.TheVariants.{Unmap, Protect, Reclaim, Checkpoint}
 use Rattle.spaces.specs.Spaces.{has_space, space_at}
@@ -132,5 +132,5 @@ pub record IsTracked (files : List File) (told : Told) (s : State) (seen : List 
   -- what the device recovers to
   pub old : ℕ → List ℕ
   pub new : ℕ → List ℕ
-  pub stands : Stands s.table s.write_outs old new seen may_leave
+  pub stands : IsStanding s.table s.write_outs old new seen may_leave
   pub written : IsWritten files told s old new

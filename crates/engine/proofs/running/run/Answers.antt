@@ -1,6 +1,6 @@
 use Rattle.std.proofs.Common.{length, take, sym, subst}
 use Rattle.machine.specs.State.{Whole}
-use Rattle.engine.specs.Engine.{HasRun, IsKept}
+use Rattle.engine.specs.Engine.{HasRun, KeepsDevice}
 use Rattle.engine.proofs.Runs.{taken_few}
 use Rattle.engine.proofs.Starts.{run_of, run_kept, refused_kept}
 use Rattle.engine.proofs.running.run.Goals as goal
@@ -30,7 +30,7 @@ pub returns-in-Ok-clause-kept : goal.returns-in-Ok-clause-kept
 returns-in-Ok-clause-kept g c =
     let replies = c.make_steps.ensures.0 in
     let steps = take (length replies) c.args.steps.now in
-    let P : g.row.D.Denot → Type 0 = λ device. IsKept g.D.Device c.args.device device in
+    let P : g.row.D.Denot → Type 0 = λ device. KeepsDevice g.D.Device c.args.device device in
     subst P (sym c.into_device.ensures) (run_kept g.D.Device c.args.device c.args.shape c.in-Ok.machine steps replies c.make_steps.new.machine c.in-Ok.ensures.started c.make_steps.ensures.2)
 
 pub returns-in-Err-clause-kept : goal.returns-in-Err-clause-kept

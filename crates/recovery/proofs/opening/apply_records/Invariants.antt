@@ -1,6 +1,6 @@
 use Rattle.std.proofs.Common.{◌*◌, ℕ, List, Ok}
 use Rattle.device.specs.Device.{Only, LeavesOnly}
-use Rattle.recovery.specs.Counts.{Rises, IsKept}
+use Rattle.recovery.specs.Counts.{Rises, IsAccounted}
 use Rattle.recovery.specs.inside.Carrying.{IsTornAt, IsApplied}
 use Rattle.recovery.specs.inside.Reading.{batch_of}
 use Rattle.recovery.proofs.Applied.{front_of}
@@ -8,7 +8,7 @@ use Rattle.recovery.proofs.opening.apply_records.Given as goal
 
 abbrev pub invariant-loop-slot : goal.invariant-loop-slot
 invariant-loop-slot g l = record {
-  kept : IsKept {X = Unit {0}} g.D.Device l.initial.device (Ok tt) l.device;
+  kept : IsAccounted {X = Unit {0}} g.D.Device l.initial.device (Ok tt) l.device;
   applied : g.D.Device.is_honest l.initial.device → IsApplied l.geometry (front_of (batch_of l.found) l.slot) (g.D.Device.seen l.initial.device) (g.D.Device.seen l.device);
   left : g.D.Device.is_honest l.initial.device → Only (g.D.Device.may_leave l.initial.device) (g.D.Device.seen l.initial.device)
       → (c : List ℕ) → g.D.Device.may_leave l.device c → IsTornAt l.found.descriptor.homes (g.D.Device.seen l.initial.device) c;

@@ -1,13 +1,13 @@
 use Rattle.std.proofs.Common.{◌≤◌, Ok, length}
 use Rattle.std.specs.List.{AllByRecursion}
-use Rattle.recovery.specs.Counts.{Rises, IsKept}
+use Rattle.recovery.specs.Counts.{Rises, IsAccounted}
 use Rattle.recovery.specs.Opening.{IsUnwritten}
 use Rattle.recovery.specs.inside.Reading.{batches_of, CanCarry, AreRead}
 use Rattle.recovery.proofs.opening.read_journals.Given as goal
 
 abbrev pub invariant-loop-journal : goal.invariant-loop-journal
 invariant-loop-journal g l = record {
-  kept : IsKept {X = Unit {0}} g.D.Device l.initial.device (Ok tt) l.device;
+  kept : IsAccounted {X = Unit {0}} g.D.Device l.initial.device (Ok tt) l.device;
   unwritten : g.D.Device.is_honest l.initial.device → IsUnwritten g.D.Device l.initial.device l.device;
   found : g.D.Device.is_honest l.initial.device → AreRead l.geometry (g.D.Device.seen l.initial.device) l.journal (batches_of l.found.items);
   carry : AllByRecursion (CanCarry l.geometry) (batches_of l.found.items);

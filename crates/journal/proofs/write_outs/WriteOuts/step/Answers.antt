@@ -13,12 +13,13 @@ use Rattle.journal.specs.WriteOut.{FlushValue, flush_work, flush_answer}
 use Rattle.journal.specs.WriteOuts.{WriteOutsValue, current, current_stage, outs_home, next_work, next_answer, outs_after}
 use Rattle.volume_codec.specs.Super.{SuperValue}
 use Rattle.device.proofs.Moments.{leaves_weaker, leaves_at_start}
-use Rattle.journal.specs.Crash.{LeftWithin, Stands}
+use Rattle.journal.specs.Crash.{LeftWithin}
+use Rattle.journal.specs.Standing.{IsStep, Stands, Stepped}
 use Rattle.journal.specs.inside.Sound.{IsSound, IsWriteOut}
 use Rattle.journal.specs.inside.Room.{write_outs_in, IsCurrent, IsOneOf, HasRoom}
 use Rattle.journal.proofs.Alls.{all_at}
 use Rattle.journal.proofs.Answering.{sound_of, sound_after, answer_same, step_sound, failed_sound, done_committed}
-use Rattle.journal.proofs.StandsKept.{stands_left, stands_within, stands_after, stands_failed}
+use Rattle.journal.proofs.StandsKept.{stands_left, stands_within, standing}
 use Rattle.journal.proofs.Rooms.{at_place, length-write_outs, stepped_view, stepped_room}
 use Rattle.journal.proofs.write_outs.WriteOuts.step.Goals as goal
 
@@ -139,48 +140,43 @@ returns-clause-failed_calls g c small failed =
 pub returns-clause-failed_read : goal.returns-clause-failed_read
 returns-clause-failed_read g c small honest failed from to copy = c.step-answer.ensures.failed_read small honest failed from to (same_work g c ∙ copy)
 
-module _ (g : _) (c : goal.After-settle g) (v : SuperValue) (old new : ℕ → List ℕ) (s : Stands v c.args.self.now old new (g.D.Device.seen c.args.device.now) (g.D.Device.may_leave c.args.device.now))
+module _ (g : _) (c : goal.After-settle g) where
+  same_next : next_work c.args.self.now (bytes g c) ≡ flush_work (f g c) (bytes g c)
+  same_next = sym (same_work g c)
+
+  is_whole : c.args.self.now.broken ≡ false
+  is_whole = sym (ap (λ (o : WriteOutsValue). o.broken) c.self.view_is) ∙ c.if-self.false
+
+  is_some : c.args.self.now.batches ≡ [] → ⊥
+  is_some e = some g c (ap (λ (o : WriteOutsValue). o.batches) c.self.view_is ∙ e)
+
+  is_step : g.D.Device.is_honest c.args.device.now → IsStep g.D.Device c.args.self.now (bytes g c) c.step-answer.result c.args.device.now c.step-answer.new.device
+  is_step honest = record {
+    whole = is_whole;
+    some = is_some;
+    a_block = c.told-bytes;
+    answered = returns-clause-answer g c;
+    worked = returns-clause-worked g c honest;
+    left = returns-clause-left g c;
+    sure = returns-clause-sure g c honest;
+  }
+
+module _ (g : _) (c : goal.After-settle g) (v : SuperValue) (old new : ℕ → List ℕ) (s : Stands g.D.Device v c.args.self.now old new c.args.device.now)
     (is_new : (home : ℕ) → outs_home c.args.self.now ≡ Some home → c.args.bytes.now ≡ new home) where
-  here : Stands v (outs g c) old new (g.D.Device.seen c.args.device.now) (g.D.Device.may_leave c.args.device.now)
-  here = subst (λ o. Stands v o old new (g.D.Device.seen c.args.device.now) (g.D.Device.may_leave c.args.device.now)) (sym c.self.view_is) s
-
-  is_new_here : (home : ℕ) → outs_home (outs g c) ≡ Some home → bytes g c ≡ new home
-  is_new_here home e = is_new home (sym (ap outs_home c.self.view_is) ∙ e)
-
-  same_next : next_work (outs g c) (bytes g c) ≡ flush_work (f g c) (bytes g c)
-  same_next = ap (λ o. next_work o (bytes g c)) c.self.view_is ∙ sym (same_work g c)
-
-  left_here : (d : List ℕ) → g.D.Device.may_leave c.step-answer.new.device d → TornFromWork (next_work (outs g c) (bytes g c)) (g.D.Device.may_leave c.args.device.now) d
-  left_here d left = subst (λ (w : Work). TornFromWork w (g.D.Device.may_leave c.args.device.now) d) (sym same_next) (c.step-answer.ensures.left d left)
-
-  fine : c.step-answer.result ≡ flush_answer (f g c) → c.step-answer.result ≡ Device → ⊥
-  fine is e = (sound_after (outs g c).geometry (outs g c).next (outs g c).batches (some g c) (sound_of (outs g c) c.self.invariant.sound)).no_device
-      (sym (answer_same (outs g c) c.self.invariant.sound c.if-self.false (some g c)) ∙ sym (same_answer g c) ∙ sym is ∙ e)
-
-  pub kept : g.D.Device.is_honest c.args.device.now → Stands v (outs_after (outs g c) c.step-answer.result) old new (g.D.Device.seen c.step-answer.new.device) (g.D.Device.may_leave c.step-answer.new.device)
-  kept honest = ⊎_elim
-      (λ is. subst (λ (a : Flushed). Stands v (outs_after (outs g c) a) old new (g.D.Device.seen c.step-answer.new.device) (g.D.Device.may_leave c.step-answer.new.device)) (sym (is ∙ same_answer g c))
-      (subst (λ (l : List ℕ). Stands v (outs_after (outs g c) (next_answer (outs g c))) old new l (g.D.Device.may_leave c.step-answer.new.device)) (sym (c.step-answer.ensures.worked honest (fine is) ∙ ap (worked (g.D.Device.seen c.args.device.now)) (sym same_next)))
-      (stands_after v old new (outs g c) (g.D.Device.seen c.args.device.now) (g.D.Device.may_leave c.args.device.now) (bytes g c) c.told-bytes here c.if-self.false (some g c) is_new_here
-      (g.D.Device.may_leave c.step-answer.new.device) left_here (λ sync. c.step-answer.ensures.sure honest (fine is) (sym same_next ∙ sync)))))
-      (λ is. subst (λ (a : Flushed). Stands v (outs_after (outs g c) a) old new (g.D.Device.seen c.step-answer.new.device) (g.D.Device.may_leave c.step-answer.new.device)) (sym is)
-      (stands_failed v old new (outs g c) (g.D.Device.seen c.args.device.now) (g.D.Device.may_leave c.args.device.now) (bytes g c) c.told-bytes here c.if-self.false (some g c) is_new_here
-      (g.D.Device.seen c.step-answer.new.device) (g.D.Device.may_leave c.step-answer.new.device) left_here))
-      c.step-answer.ensures.answer
+  pub kept : g.D.Device.is_honest c.args.device.now → Stands g.D.Device v (outs_after c.args.self.now c.step-answer.result) old new c.step-answer.new.device
+  kept honest = Stepped c.args.self.now old new (bytes g c) c.step-answer.result c.args.device.now c.step-answer.new.device (is_step g c honest) is_new s
 
   pub crashes : LeavesOnly g.D.Device.moment g.D.Device.left_since c.args.device.now c.step-answer.new.device (LeftWithin v old new (current_stage c.args.self.now))
-  crashes =
-      subst (λ o. LeavesOnly g.D.Device.moment g.D.Device.left_since c.args.device.now c.step-answer.new.device (LeftWithin v old new (current_stage o))) c.self.view_is
-      (leaves_weaker c.step-answer.ensures.time (λ d torn. stands_within v old new (outs g c) (g.D.Device.seen c.args.device.now) (g.D.Device.may_leave c.args.device.now) (bytes g c) c.told-bytes here c.if-self.false (some g c) is_new_here
-      d (subst (λ (w : Work). TornFromWork w (g.D.Device.may_leave c.args.device.now) d) (sym same_next) torn)))
+  crashes = leaves_weaker (returns-clause-time g c)
+      (stands_within v old new c.args.self.now (g.D.Device.seen c.args.device.now) (g.D.Device.may_leave c.args.device.now) (bytes g c) c.told-bytes (standing g.D.Device v s) (is_whole g c) (is_some g c) is_new)
 
 pub returns-clause-stands : goal.returns-clause-stands
 returns-clause-stands g c v old new honest s is_new =
-    subst (λ o. Stands v o old new (g.D.Device.seen c.step-answer.new.device) (g.D.Device.may_leave c.step-answer.new.device)) (sym (value g c)) (kept g c v old new s is_new honest)
+    subst (λ o. Stands g.D.Device v o old new c.step-answer.new.device) (sym (returns-clause-value g c)) (kept g c v old new s is_new honest)
 
 pub returns-clause-crash : goal.returns-clause-crash
 returns-clause-crash g c v old new s is_new = crashes g c v old new s is_new
 
 pub returns-then-self-clause-crash : goal.returns-then-self-clause-crash
 returns-then-self-clause-crash g c v old new s is_new =
-    leaves_at_start (λ d left. stands_left v old new c.args.self.now (g.D.Device.seen c.args.device.now) (g.D.Device.may_leave c.args.device.now) s d (g.met.D.Device.since_now c.args.device.now d left))
+    leaves_at_start (λ d left. stands_left v old new c.args.self.now (g.D.Device.seen c.args.device.now) (g.D.Device.may_leave c.args.device.now) (standing g.D.Device v s) d (g.met.D.Device.since_now c.args.device.now d left))
