@@ -60,11 +60,12 @@ impl<W: io::Write + Drop> Listener for Printer<W> {
 fn print_line<W: io::Write>(out: &mut W, reply: &Reply) -> io::Result<()>
     ensures { OnOk result (Appends (W.contents out.old) (W.contents out.new) (line_of reply.now)) }
 {
-    writeln!(out, "{reply}")?;
-    match reply {
-        Reply::Going => Ok(()),
-        _ => out.flush(),
+    // Most replies are this one.
+    if let Reply::Going = reply {
+        return out.write_all(b"going\n");
     }
+    writeln!(out, "{reply}")?;
+    out.flush()
 }
 
 fn is_failure(reply: &Reply) -> bool

@@ -6,15 +6,16 @@ ghost use Rattle.journal.specs.WriteOuts.{next_work, outs_record};
 ghost use Rattle.checkpoint.specs.Checkpoint.{AreCopiesOfFrozen};
 ghost use Rattle.fault.specs.Fault.{is_in_memory};
 ghost use Rattle.machine.specs.Refusals.{flush_refusal};
-ghost use Rattle.machine.specs.inside.Sound.{IsSound};
-ghost use Rattle.machine.specs.Rules.{bytes_at_mark, next_record, work_asked, Flushes};
+ghost use Rattle.machine.specs.inside.Sound.{IsMemory, IsSound};
+ghost use Rattle.machine.specs.Rules.{bytes_at_mark, work_asked, Flushes};
 ghost use Rattle.machine.specs.inside.Layers.{state_in, reply_to, AnswersBy, KeepsReserved};
-ghost use Rattle.machine.specs.inside.Flushing.{HasSmallMark, reply_of_flush, memory_after, checkpoint_after, FlushesDevice};
+ghost use Rattle.machine.specs.inside.Flushing.{HasSmallMark, IsThere, bytes_from, reply_of_flush, memory_after, checkpoint_after, FlushesDevice};
 
 use crate::Reply;
 use crate::layers::Layers;
-use crate::paging::{cut_into, file_length};
+use crate::paging::{cut_off, file_length};
 use device::Device;
+use frames::Frames;
 use journal::Flushed;
 use page_entry::{FilePage, PAGE, ProcessorNumber, Refusal};
 use std::alloc::Allocator;
@@ -36,43 +37,41 @@ fn reply_to_flush(answer: Flushed) -> Result<Reply, Refusal>
 // A block of zeros.
 const BLANK: [u8; 4096] = [0; 4096];
 
+// Where the bytes for a step are: in a block, or in memory, those of a page as they were at its mark.
+#[derive(Clone, Copy)]
+enum Source<'a> {
+    Block(&'a [u8; 4096]),
+    Page(FilePage),
+}
+
+// The bytes of a page in memory as they were at its mark: those of its copy, or of its frame if it wasn't copied.
+fn bytes_at_mark<A: Allocator + Copy>(frames: &Frames<A>, page: FilePage) -> &[u8; 4096]
+    requires memory { IsMemory frames.now }
+    requires there { is_in_memory frames.now page ≡ true }
+    ensures { result.now ≡ bytes_at_mark frames.now page }
+{
+    match frames.copy_of(page) {
+        Some(copy) => frames.copy_bytes(copy),
+        None => {
+            let frame = frames.find(page).unwrap();
+            frames.bytes(frame)
+        }
+    }
+}
+
+// The bytes for a step.
+fn bytes_from<'a, A: Allocator + Copy>(frames: &'a Frames<A>, source: Source<'a>) -> &'a [u8; 4096]
+    requires memory { IsMemory frames.now }
+    requires there { IsThere frames.now source }
+    ensures { result.now ≡ bytes_from frames.now source.entry }
+{
+    match source {
+        Source::Block(block) => block,
+        Source::Page(page) => bytes_at_mark(frames, page),
+    }
+}
+
 impl<D: Device, A: Allocator + Copy> Layers<D, A> {
-    // The bytes of a page in memory as they were at its mark: those of its copy, or of its frame if it wasn't copied.
-    fn bytes_at_mark(&self, page: FilePage) -> &[u8; 4096]
-        requires sound { IsSound (state_in self.now) }
-        requires there { is_in_memory self.now.frames page ≡ true }
-        ensures { result.now ≡ bytes_at_mark self.now.frames page }
-    {
-        match self.frames.copy_of(page) {
-            Some(copy) => self.frames.copy_bytes(copy),
-            None => {
-                let frame = self.frames.find(page).unwrap();
-                self.frames.bytes(frame)
-            }
-        }
-    }
-
-    // Puts the record of the first frozen page into a block: its bytes at its mark up to the file's end, then zeros.
-    fn next_record(&self, block: &mut [u8; 4096])
-        requires sound { IsSound (state_in self.now) }
-        requires some { IsSome (outs_record self.now.write_outs) }
-        ensures { block.new ≡ next_record (state_in self.now) }
-    {
-        let page = self.checkpoint.frozen()[0];
-        let left = file_length(&self.table, page.file).saturating_sub(PAGE * u64::from(page.page));
-        cut_into(self.bytes_at_mark(page), left, block);
-    }
-
-    // Puts the bytes for the next step of the write-outs into a block, where it writes a record: those of the record.
-    fn next_bytes(&self, block: &mut [u8; 4096])
-        requires { IsSound (state_in self.now) }
-        ensures { next_work self.now.write_outs block.new ≡ work_asked (state_in self.now) }
-    {
-        if self.write_outs.next_record().is_some() {
-            self.next_record(block);
-        }
-    }
-
     // What becomes of frozen pages by a step of a write-out: one whose record was written is released, and all are
     // where a device call failed.
     fn settle(&mut self, writes_record: bool, answer: Flushed)
@@ -90,6 +89,52 @@ impl<D: Device, A: Allocator + Copy> Layers<D, A> {
         }
     }
 
+    // The next step of the write-outs, of which some aren't done. If it writes a record, it is given its bytes.
+    fn step_with(&mut self, writes_record: bool, source: Source) -> Result<Reply, Refusal>
+        requires record { writes_record ≡ is_some (outs_record self.old.write_outs) }
+        requires there { IsThere self.old.frames source }
+        requires bytes { next_work self.old.write_outs (bytes_from self.old.frames source)
+            ≡ work_asked (state_in self.old) }
+        requires sound { IsSound (state_in self.old) }
+        requires long { 4096 * block_count self.old.table ≤ length (D.seen self.old.device) }
+        requires whole { self.old.write_outs.broken ≡ false }
+        requires some { self.old.write_outs.batches ≢ [] }
+        ensures rules { (p : ℕ) → flush_refusal (state_in self.old) p ≡ None → AnswersBy (D.is_honest self.old.device)
+            (λ d d'. Flushes (state_in self.old) d p (reply_to result) (state_in self.new) d')
+            (D.seen self.old.device) (D.seen self.new.device) }
+        ensures device { FlushesDevice D.Device (state_in self.old) (reply_to result) self.old.device self.new.device }
+        ensures kept { KeepsReserved self.old self.new }
+    {
+        let bytes = bytes_from(&self.frames, source);
+        let answer = self.write_outs.step(&mut self.device, bytes);
+        self.settle(writes_record, answer);
+        reply_to_flush(answer)
+    }
+
+    // The next step of the write-outs, which writes the record of the first frozen page: its bytes at its mark up to
+    // the file's end, then zeros. A page that ends before the file does is written from where it lies.
+    fn step_record(&mut self) -> Result<Reply, Refusal>
+        requires record { IsSome (outs_record self.old.write_outs) }
+        requires sound { IsSound (state_in self.old) }
+        requires long { 4096 * block_count self.old.table ≤ length (D.seen self.old.device) }
+        requires whole { self.old.write_outs.broken ≡ false }
+        requires some { self.old.write_outs.batches ≢ [] }
+        ensures rules { (p : ℕ) → flush_refusal (state_in self.old) p ≡ None → AnswersBy (D.is_honest self.old.device)
+            (λ d d'. Flushes (state_in self.old) d p (reply_to result) (state_in self.new) d')
+            (D.seen self.old.device) (D.seen self.new.device) }
+        ensures device { FlushesDevice D.Device (state_in self.old) (reply_to result) self.old.device self.new.device }
+        ensures kept { KeepsReserved self.old self.new }
+    {
+        let page = self.checkpoint.frozen()[0];
+        let left = file_length(&self.table, page.file).saturating_sub(PAGE * u64::from(page.page));
+        if left >= PAGE {
+            return self.step_with(true, Source::Page(page));
+        }
+        let mut block = *bytes_at_mark(&self.frames, page);
+        cut_off(&mut block, left);
+        self.step_with(true, Source::Block(&block))
+    }
+
     // The next step of the write-outs, of which some aren't done.
     fn step_write_outs(&mut self) -> Result<Reply, Refusal>
         requires sound { IsSound (state_in self.old) }
@@ -102,12 +147,11 @@ impl<D: Device, A: Allocator + Copy> Layers<D, A> {
         ensures device { FlushesDevice D.Device (state_in self.old) (reply_to result) self.old.device self.new.device }
         ensures kept { KeepsReserved self.old self.new }
     {
-        let mut bytes = BLANK;
-        self.next_bytes(&mut bytes);
-        let writes_record = self.write_outs.next_record().is_some();
-        let answer = self.write_outs.step(&mut self.device, &bytes);
-        self.settle(writes_record, answer);
-        reply_to_flush(answer)
+        if self.write_outs.next_record().is_some() {
+            self.step_record()
+        } else {
+            self.step_with(false, Source::Block(&BLANK))
+        }
     }
 
     // The next step of the write-outs, if there are any.

@@ -43,29 +43,21 @@ fn clear(bytes: &mut [u8])
     bytes.fill(0);
 }
 
-/// Puts a page's first bytes into a block, and zeros after them.
+/// Keeps a page's first bytes, and makes those after them zero.
 #[tactic(auto, unfolding(volume_codec::specs::Text::zeros))]
-pub(crate) fn cut_into(page: &[u8; 4096], left: u64, block: &mut [u8; 4096])
-    ensures { block.new ≡ padded 4096 (take left page.now) }
+pub(crate) fn cut_off(page: &mut [u8; 4096], left: u64)
+    ensures { page.new ≡ padded 4096 (take left page.old) }
 {
-    *block = *page;
     if left < PAGE {
-        clear(&mut block[left as usize..]);
+        clear(&mut page[left as usize..]);
     }
-}
-
-/// A page's first bytes, and zeros after them.
-pub(crate) fn cut(page: &[u8; 4096], left: u64) -> [u8; 4096]
-    ensures { result ≡ padded 4096 (take left page.now) }
-{
-    let mut bytes = *page;
-    cut_into(page, left, &mut bytes);
-    bytes
 }
 
 /// Whether a page has zeros after its first bytes.
 pub(crate) fn is_cut(page: &[u8; 4096], left: u64) -> bool
     ensures { IsTrue result ↔ (page.now ≡ padded 4096 (take left page.now)) }
 {
-    cut(page, left) == *page
+    let mut bytes = *page;
+    cut_off(&mut bytes, left);
+    bytes == *page
 }

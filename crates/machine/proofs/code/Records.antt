@@ -1,21 +1,27 @@
 -- The page whose record a step of a write-out writes, and the mark that a step answers.
-use Rattle.std.proofs.Common.{ℕ, suc, ◌≡◌, ◌<◌, ◌+◌, ◌^◌, Bool, true, false, cond, List, [], ◌∷◌, length, Option, Some, None, IsSome, ◌∙◌, arith}
+use Rattle.std.proofs.Common.{ℕ, suc, ◌≡◌, ◌<◌, ◌≤◌, ◌+◌, ◌-◌, ◌*◌, ◌^◌, Bool, true, false, cond, List, [], ◌∷◌, ◌++◌, length, take, Option, Some, None, is_some, IsSome, refl, sym, ap, ◌∙◌, arith}
 use Rattle.std.specs.List.{All}
-use Rattle.std.specs.Option.{option_map_or}
+use Rattle.std.specs.Option.{option_map_or, option_and_then}
+use Rattle.std.proofs.lemmas.List.{take_all, append-nil}
+use Rattle.volume_codec.specs.Layout.{GeometryValue}
+use Rattle.volume_codec.specs.Recovery.{Batch}
+use Rattle.volume_codec.specs.Text.{zeros, padded}
+use Rattle.volume_codec.proofs.Padding.{zeros-nil}
 use Rattle.journal.specs.declared.stage.Stage.{Stage}
-use Rattle.journal.specs.declared.stage.Stage.TheVariants.{Committing, Finishing}
+use Rattle.journal.specs.declared.stage.Stage.TheVariants.{Recording, Committing, Finishing}
 use Rattle.journal.specs.Stage.{answer_at}
 use Rattle.journal.specs.declared.flushed.Flushed.TheVariants.{Broken}
-use Rattle.journal.specs.WriteOut.{WriteOut, next_stage, answer_of}
-use Rattle.journal.specs.WriteOuts.{current, has_uncommitted, outs_record, next_answer}
+use Rattle.journal.specs.Work.{Nothing, work_at}
+use Rattle.journal.specs.WriteOut.{WriteOut, next_stage, record_at, next_record as record_of, work_of, answer_of}
+use Rattle.journal.specs.WriteOuts.{WriteOutsValue, current, has_uncommitted, outs_record, next_work, next_answer}
 use Rattle.fault.specs.Fault.{is_in_memory}
-use Rattle.machine.specs.State.{State}
+use Rattle.machine.specs.State.{State, length_of}
 use Rattle.machine.specs.inside.Sound.{IsInFile, IsSound}
-use Rattle.machine.specs.Rules.{next_page}
+use Rattle.machine.specs.Rules.{next_page, next_record, bytes_at_mark}
 use Rattle.machine.specs.inside.Flushing.{HasSmallMark}
 use Rattle.machine.proofs.sound.Lists.{some_from}
 use Rattle.machine.proofs.sound.Frames.{held_in_memory}
-use Rattle.machine.proofs.sound.Records.{next_recorded}
+use Rattle.machine.proofs.sound.Records.{next_recorded, size_at_mark}
 
 -- a page whose record is to be written is frozen, in memory, and one of a file
 pub record IsNextPage (s : State) : Type 0 where
@@ -29,6 +35,41 @@ is_next_page s sound some =
     let is = next_recorded s place.0 sound place.1 in
     let held = held_in_memory s.hardware.memory (next_page s) is.there in
     record { some = is.some; there = is.there; file = sound.memory.in_files held.0 (next_page s) held.1 }
+
+-- a page that ends before its file does is its own record
+pub whole_record : (s : State) → IsSound s → is_in_memory s.hardware.memory (next_page s) ≡ true → 4096 ≤ length_of s (next_page s).file - 4096 * (next_page s).page
+    → bytes_at_mark s.hardware.memory (next_page s) ≡ next_record s
+whole_record s sound there covered =
+    let bytes : List ℕ = bytes_at_mark s.hardware.memory (next_page s) in
+    let left : ℕ = length_of s (next_page s).file - 4096 * (next_page s).page in
+    let size : length bytes ≡ 4096 = size_at_mark s.hardware.memory (next_page s) sound.memory.memory there in
+    let all : take left bytes ≡ bytes = take_all left bytes (omega (arith, size, covered)) in
+    let none : 4096 - length bytes ≡ 0 = omega (arith, size) in
+    sym (ap (padded 4096) all ∙ ap (λ k. bytes ++ zeros k) none ∙ ap (λ (z : List ℕ). bytes ++ z) zeros-nil ∙ append-nil bytes)
+
+-- ---- a step that writes no record asks the same whatever bytes it is given
+
+no_record_at : (g : GeometryValue) (batch : Batch) (a b : List ℕ) (stage : Stage) → is_some (record_at stage) ≡ false → work_at g batch a stage ≡ work_at g batch b stage
+no_record_at g batch a b (Recording i) none = absurd (cc)
+no_record_at g batch a b stage none = refl
+
+no_record_of : (g : GeometryValue) (batch : Batch) (a b : List ℕ) (stage : Option Stage) → is_some (option_and_then record_at stage) ≡ false
+    → option_map_or (work_at g batch a) stage Nothing ≡ option_map_or (work_at g batch b) stage Nothing
+no_record_of g batch a b None none = refl
+no_record_of g batch a b (Some stage) none = no_record_at g batch a b stage none
+
+no_record_in : (g : GeometryValue) (a b : List ℕ) (w : Option WriteOut) → is_some (option_and_then record_of w) ≡ false
+    → option_map_or (work_of g a) w Nothing ≡ option_map_or (work_of g b) w Nothing
+no_record_in g a b None none = refl
+no_record_in g a b (Some w) none = no_record_of g w.batch a b (next_stage w) none
+
+pub without_record : (outs : WriteOutsValue) (a b : List ℕ) → is_some (outs_record outs) ≡ false → next_work outs a ≡ next_work outs b
+without_record outs a b none = by outs.broken none
+  where
+    by : (broken : Bool) → is_some (cond broken None (option_and_then record_of (current outs.batches))) ≡ false
+        → cond broken Nothing (option_map_or (work_of outs.geometry a) (current outs.batches) Nothing) ≡ cond broken Nothing (option_map_or (work_of outs.geometry b) (current outs.batches) Nothing)
+    by true none = refl
+    by false none = no_record_in outs.geometry a b (current outs.batches) none
 
 -- ---- marks have 32 bits
 

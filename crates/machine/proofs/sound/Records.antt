@@ -5,7 +5,7 @@ use Rattle.std.specs.Option.{option_map, option_and_then}
 use Rattle.std.proofs.lemmas.Bool.{cond-false, or_parts}
 use Rattle.std.proofs.lemmas.List.{length-map, length-drop, get_or-drop, get_or-map}
 use Rattle.page_entry.specs.declared.numbers.FilePage.{FilePage}
-use Rattle.frames.specs.Frames.{Frame, frame_at, copy_at, page_of, bytes_of, HasNoCopy}
+use Rattle.frames.specs.Frames.{FramesState, Frame, frame_at, copy_at, page_of, bytes_of, HasNoCopy}
 use Rattle.journal.specs.WriteOut.{next_record as record_of, next_home}
 use Rattle.journal.specs.WriteOuts.{current, outs_record, outs_home}
 use Rattle.checkpoint.specs.Checkpoint.{is_of_page, same_page}
@@ -13,9 +13,10 @@ use Rattle.checkpoint.proofs.PagesInUse.{same_page-true, same_page-refl, list_an
 use Rattle.fault.specs.Fault.{is_in_memory}
 use Rattle.machine.specs.State.{State, home_of}
 use Rattle.machine.specs.Rules.{next_page, bytes_with, bytes_at_mark}
-use Rattle.machine.specs.inside.Sound.{IsSound}
+use Rattle.machine.specs.inside.Sound.{IsMemory, IsSound}
 use Rattle.machine.proofs.sound.Lists.{AreOnce, same_some, held_frame, once_frames, once_copies}
 use Rattle.machine.proofs.sound.Waiting.{waits_of, waiting, recorded}
+use Rattle.machine.proofs.sound.Frames.{held_in_memory}
 
 -- ---- the page whose record comes next
 
@@ -87,16 +88,34 @@ bytes_with-none owner (Some g ∷ xs) other none =
 -- ---- the bytes of a page as they were at its mark
 
 -- those of its copy
-pub mark_bytes-copied : (s : State) (owner : FilePage) (copy : ℕ) → IsSound s → page_of (copy_at s.hardware.memory copy) ≡ Some owner → bytes_at_mark s.hardware.memory owner ≡ bytes_of (copy_at s.hardware.memory copy)
-mark_bytes-copied s owner copy sound has =
-    let memory = s.hardware.memory in
+pub mark_bytes-copied : (memory : FramesState) (owner : FilePage) (copy : ℕ) → IsMemory memory → page_of (copy_at memory copy) ≡ Some owner → bytes_at_mark memory owner ≡ bytes_of (copy_at memory copy)
+mark_bytes-copied memory owner copy is has =
     let f = held_frame (copy_at memory copy) owner has in
-    bytes_with-found owner memory.copies (bytes_with owner memory.frames []) copy f.0 (once_copies memory sound.memory.memory) f.1 f.2 ∙ sym (ap bytes_of f.1)
+    bytes_with-found owner memory.copies (bytes_with owner memory.frames []) copy f.0 (once_copies memory is) f.1 f.2 ∙ sym (ap bytes_of f.1)
 
 -- or where it wasn't copied, of its frame
-pub mark_bytes-framed : (s : State) (owner : FilePage) (frame : ℕ) → IsSound s → HasNoCopy s.hardware.memory owner → page_of (frame_at s.hardware.memory frame) ≡ Some owner → bytes_at_mark s.hardware.memory owner ≡ bytes_of (frame_at s.hardware.memory frame)
-mark_bytes-framed s owner frame sound uncopied has =
-    let memory = s.hardware.memory in
+pub mark_bytes-framed : (memory : FramesState) (owner : FilePage) (frame : ℕ) → IsMemory memory → HasNoCopy memory owner → page_of (frame_at memory frame) ≡ Some owner → bytes_at_mark memory owner ≡ bytes_of (frame_at memory frame)
+mark_bytes-framed memory owner frame is uncopied has =
     let f = held_frame (frame_at memory frame) owner has in
     bytes_with-none owner memory.copies (bytes_with owner memory.frames []) (list_any-no_page memory.copies owner uncopied)
-    ∙ bytes_with-found owner memory.frames [] frame f.0 (once_frames memory sound.memory.memory) f.1 f.2 ∙ sym (ap bytes_of f.1)
+    ∙ bytes_with-found owner memory.frames [] frame f.0 (once_frames memory is) f.1 f.2 ∙ sym (ap bytes_of f.1)
+
+-- ---- how many they are
+
+size_with : (owner : FilePage) (xs : List (Option Frame)) (other : List ℕ) → AreOnce xs → length other ≡ 4096 → length (bytes_with owner xs other) ≡ 4096
+size_with owner [] other once size = size
+size_with owner (None ∷ xs) other once size = size_with owner xs other (rest_once None xs once) size
+size_with owner (Some g ∷ xs) other once size =
+    by (same_page owner g.page) (size_with owner xs other (rest_once (Some g) xs once) size)
+  where
+    by : (b : Bool) → length (bytes_with owner xs other) ≡ 4096 → length (cond b g.bytes (bytes_with owner xs other)) ≡ 4096
+    by true rest = once.whole 0 g refl
+    by false rest = rest
+
+pub size_at_mark : (memory : FramesState) (owner : FilePage) → IsMemory memory → is_in_memory memory owner ≡ true → length (bytes_at_mark memory owner) ≡ 4096
+size_at_mark memory owner is there =
+    let held = held_in_memory memory owner there in
+    let f = held_frame (frame_at memory held.0) owner held.1 in
+    let once = once_frames memory is in
+    let framed = bytes_with-found owner memory.frames [] held.0 f.0 once f.1 f.2 in
+    size_with owner memory.copies (bytes_with owner memory.frames []) (once_copies memory is) (ap length framed ∙ once.whole held.0 f.0 f.1)

@@ -10,10 +10,14 @@ use Rattle.journal.specs.declared.flushed.Flushed.{Flushed}
 use Rattle.journal.specs.declared.flushed.Flushed.TheVariants as flushed
 use Rattle.journal.specs.Work.{Sync, TornFromWork}
 use Rattle.checkpoint.specs.Checkpoint.{CheckpointState, without_copy_of, released, thawed}
+use Rattle.fault.specs.Fault.{is_in_memory}
 use Rattle.machine.specs.declared.act.Act.TheVariants.{Flush}
 use Rattle.machine.specs.declared.act.Reply.{Reply}
 use Rattle.machine.specs.declared.act.Reply.TheVariants as replies
+use Rattle.machine.specs.declared.flushing.Source.{Source}
+use Rattle.machine.specs.declared.flushing.Source.TheVariants as sources
 use Rattle.machine.specs.State.{State}
+use Rattle.machine.specs.Rules.{bytes_at_mark}
 use Rattle.machine.specs.Calls.{FlushCalls}
 use Rattle.machine.specs.Steps.{step_work}
 
@@ -29,6 +33,16 @@ reply_of_flush (flushed.Committed mark) = Ok (replies.Committed mark)
 reply_of_flush (flushed.Done mark) = Ok (replies.Done mark)
 reply_of_flush flushed.Device = Err refusals.Device
 reply_of_flush flushed.Broken = Err refusals.Broken
+
+-- the page whose bytes a step is given is in memory
+abbrev pub IsThere : FramesState → Source → Type 0
+IsThere memory (sources.Block block) = Unit {0}
+IsThere memory (sources.Page page) = is_in_memory memory page ≡ true
+
+-- the bytes that a step is given
+abbrev pub bytes_from : FramesState → Source → List ℕ
+bytes_from memory (sources.Block block) = block.now
+bytes_from memory (sources.Page page) = bytes_at_mark memory page
 
 -- the first frozen page
 abbrev pub first_frozen : CheckpointState → FilePage

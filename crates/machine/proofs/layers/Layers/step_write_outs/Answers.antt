@@ -1,44 +1,7 @@
-use Rattle.std.proofs.Common.{◌≡◌, is_some, Result, sym, ap, ◌∙◌, subst, ⊎_elim}
-use Rattle.page_entry.specs.declared.refusal.Refusal.{Refusal}
-use Rattle.journal.specs.Work.{Work, worked, TornByWork}
-use Rattle.machine.specs.declared.act.Reply.{Reply}
-use Rattle.machine.specs.declared.layers.Layers.{Layers}
-use Rattle.machine.specs.State.{State}
-use Rattle.machine.specs.Rules.{Flushes}
-use Rattle.machine.specs.inside.Layers.{state_in, AnswersBy, reply_to as reply_by}
-use Rattle.machine.specs.inside.Flushing.{HasSmallMark, memory_after, checkpoint_after}
-use Rattle.machine.proofs.code.Records.{is_next_page, small-next_answer}
-use Rattle.machine.proofs.code.Flushes.{stepped, flushes_by}
+use Rattle.std.proofs.Common.{is_some, sym, ap, ◌∙◌}
+use Rattle.machine.proofs.code.Records.{without_record}
 use Rattle.machine.proofs.layers.Layers.step_write_outs.Goals as goal
 
-pub settle-requires-clause-some : goal.settle-requires-clause-some
-settle-requires-clause-some g c = λ writes.
-    (is_next_page (state_in c.args.self.now) c.requires.sound (sym (ap is_some c.next_record.ensures) ∙ sym c.is_some-writes_record.ensures ∙ writes)).some
-
-pub reply_to_flush-requires : goal.reply_to_flush-requires
-reply_to_flush-requires g c =
-    ⊎_elim (λ is. subst HasSmallMark (sym is) (small-next_answer (state_in c.args.self.now) c.requires.sound)) (λ is. subst HasSmallMark (sym is) tt) c.step-answer.ensures.answer
-
-pub returns-clause-rules : goal.returns-clause-rules
-returns-clause-rules g c = λ p allowed.
-    let s : State = state_in c.args.self.now in
-    let answer = c.step-answer.result in
-    let seen = g.D.Device.seen in
-    let honest = g.D.Device.is_honest c.args.self.now.device in
-    let disk = seen c.args.self.now.device in
-    let writes = c.is_some-writes_record.ensures ∙ ap is_some c.next_record.ensures in
-    let made = flushes_by honest s disk (seen c.step-answer.new.device) p allowed c.requires.some answer c.step-answer.ensures.answer (c.step-answer.ensures.whole c.requires.whole)
-    (λ h fine. c.step-answer.ensures.worked h fine ∙ ap (worked disk) c.next_bytes.ensures)
-    (λ h failed. subst (λ (w : Work). TornByWork w disk (seen c.step-answer.new.device)) c.next_bytes.ensures (c.step-answer.ensures.torn h failed)) in
-    let state : record s {
-      hardware = record s.hardware { memory = memory_after answer c.is_some-writes_record.result s.checkpoint s.hardware.memory };
-      checkpoint = checkpoint_after answer c.is_some-writes_record.result s.checkpoint;
-      write_outs = c.step-answer.new.self;
-    } ≡ stepped s answer = λ i. record s {
-      hardware = record s.hardware { memory = memory_after answer (writes i) s.checkpoint s.hardware.memory };
-      checkpoint = checkpoint_after answer (writes i) s.checkpoint;
-      write_outs = c.step-answer.ensures.value i;
-    } in
-    let replied = subst (λ (x : Result Reply Refusal). AnswersBy honest (λ d d'. Flushes s d p (reply_by x) (stepped s answer) d') disk (seen c.step-answer.new.device)) (sym c.reply_to_flush.ensures) made in
-    let there = subst (λ (n : State). AnswersBy honest (λ d d'. Flushes s d p (reply_by c.reply_to_flush.result) n d') disk (seen c.step-answer.new.device)) (sym state) replied in
-    subst (λ (w : Layers g.row.D.Denot g.row.A.Denot). AnswersBy honest (λ d d'. Flushes s d p (reply_by c.reply_to_flush.result) (state_in w) d') disk (seen w.device)) (sym c.settle.ensures) there
+pub step_with-requires-clause-bytes : goal.step_with-requires-clause-bytes
+step_with-requires-clause-bytes g c =
+    without_record c.args.self.now.write_outs _ _ (sym (ap is_some c.next_record.ensures) ∙ sym c.is_some.ensures ∙ c.if-is_some.false)
