@@ -32,8 +32,8 @@ pub fn no_step_makes_a_batch()
         → (before : WriteOut) × Contains outs.batches before × (before.batch ≡ w.batch) }
 {}
 
-/// Whatever led to write-outs that stand so with a device: what a crash may leave, what a read finds of the home blocks,
-/// and what is there once all batches are done.
+/// Whatever led to write-outs that stand so with a device: what a crash may leave, what a read finds of the home
+/// blocks, and what is there once all batches are done.
 pub fn what_write_outs_leave<D: Device>(device: &D)
     ensures left { (v : SuperValue) (outs : WriteOutsValue) (old new : ℕ → List ℕ)
         → Stands D.Device v outs old new device.now → (c : List ℕ) → D.may_leave device.now c

@@ -60,8 +60,8 @@ impl<D: Device, A: Allocator + Copy> Machine<D, A> {
             → FaultsAreServed steps replies }
     {}
 
-    /// On the track of a run, no store reaches a page that was gathered by a mark until its record is written, its bytes
-    /// are copied, or a device call of a write-out has failed.
+    /// On the track of a run, no store reaches a page that was gathered by a mark until its record is written, its
+    /// bytes are copied, or a device call of a write-out has failed.
     pub fn protects_frozen_pages(&self)
         ensures { (files : List File) (start : Whole D) (steps : List Step) (replies : List Reply)
             → IsOnTrack D.Device files start steps replies self.now
