@@ -35,10 +35,6 @@ length_of s file = slice_index_or s.lengths file 0
 abbrev pub home_of : SuperValue → FilePage → ℕ
 home_of table owner = first_home_of table owner.file + owner.page
 
--- what has a home block: a page of a file
-pub data Source : Type 0 where
-  PageOf : FilePage → Source
-
 -- what the record of a page has, and what a frame has when the page is read in: its bytes up to the file's end, then
 -- zeros
 abbrev pub cut_at_end : State → FilePage → List ℕ → List ℕ
