@@ -5,7 +5,5 @@
 mod checkpoint;
 mod copies;
 mod notes;
-#[cfg(test)]
-mod tests;
 
 pub use checkpoint::Checkpoint;

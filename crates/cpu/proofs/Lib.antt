@@ -1,4 +1,3 @@
 pub mod Uses
 pub mod Translations
 pub mod Refusals
-mod Mapping

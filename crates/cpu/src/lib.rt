@@ -4,8 +4,6 @@
 
 mod access;
 mod caching;
-#[cfg(test)]
-mod tests;
 mod translation;
 
 pub use access::{load, store};

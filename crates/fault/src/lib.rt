@@ -7,8 +7,6 @@ mod home;
 mod page_fault;
 mod plan;
 mod serve;
-#[cfg(test)]
-mod tests;
 
 pub use page_fault::PageFault;
 pub use serve::{fix, place};

@@ -8,8 +8,6 @@ mod mappings;
 mod page_range;
 mod pages_of;
 mod place;
-#[cfg(test)]
-mod tests;
 
 pub use mappings::Mappings;
 pub use page_range::{MAX_PAGES, PageRange, mapped_pages};

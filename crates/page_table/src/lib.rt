@@ -10,6 +10,3 @@ mod table;
 
 pub use dirty_pages::DirtyPages;
 pub use table::Table;
-
-#[cfg(test)]
-mod tests;

@@ -6,8 +6,6 @@ mod lock;
 mod proc_state;
 mod processor;
 mod shootdown;
-#[cfg(test)]
-mod tests;
 
 pub use lock::Lock;
 pub use proc_state::ProcState;

@@ -8,8 +8,6 @@ mod entry_pages;
 mod pcids;
 mod space;
 mod spaces;
-#[cfg(test)]
-mod tests;
 
 pub use change::Change;
 pub use entries_of::EntriesOf;

@@ -1,0 +1,144 @@
+// Frames and copies that are taken and given back.
+use crate::setup::take_new;
+use frames::{CopyNumber, Frames};
+use page_entry::{FilePage, FrameNumber, Refusal};
+use std::process::Abort;
+use std::test::Fail;
+
+const FIRST: FilePage = FilePage { file: 1, page: 7 };
+
+// Copies the frame of a page; `NoFile` where none has it, and `Overlap` where a copy has it.
+fn copy_new(frames: &mut Frames, page: FilePage) -> Result<CopyNumber, Refusal> {
+    let Some(frame) = frames.find(page) else {
+        return Err(Refusal::NoFile);
+    };
+    if frames.copy_of(page).is_some() {
+        return Err(Refusal::Overlap);
+    }
+    frames.copy_out(frame)
+}
+
+// Takes a frame for a page, filled with a byte; `Overlap` where a frame has it.
+fn take_filled(frames: &mut Frames, page: FilePage, byte: u8) -> Result<FrameNumber, Refusal> {
+    if frames.find(page).is_some() {
+        return Err(Refusal::Overlap);
+    }
+    frames.take_with(page, &[byte; 4096])
+}
+
+// Gives back a frame that has to be in use.
+fn give(rt: &impl Abort, frames: &mut Frames, frame: FrameNumber) {
+    assert!(rt; frames.page(frame).is_some());
+    frames.give(frame);
+}
+
+// Gives back the copy of a page that has to have one.
+fn give_copy(rt: &impl Abort, frames: &mut Frames, page: FilePage) {
+    let copy = frames.copy_of(page).expect(rt, "a page with a copy");
+    frames.give_copy(copy);
+}
+
+// Writes to a frame that has to be in use.
+fn write(rt: &impl Abort, frames: &mut Frames, frame: FrameNumber, at: usize, bytes: &[u8]) {
+    assert!(rt; frames.page(frame).is_some());
+    assert!(rt; at <= 4096 && bytes.len() <= 4096 - at);
+    frames.write(frame, at, bytes);
+}
+
+// Whether a frame, which has to be in use, ends with these bytes.
+fn ends_with(rt: &impl Abort, frames: &Frames, frame: FrameNumber, bytes: [u8; 3]) -> bool {
+    assert!(rt; frames.page(frame).is_some());
+    &frames.bytes(frame)[4093..] == bytes.as_slice()
+}
+
+// Whether the copy of a page, which has to have one, ends with these bytes.
+fn copy_ends_with(rt: &impl Abort, frames: &Frames, page: FilePage, bytes: [u8; 3]) -> bool {
+    let copy = frames.copy_of(page).expect(rt, "a page with a copy");
+    &frames.copy_bytes(copy)[4093..] == bytes.as_slice()
+}
+
+#[test]
+fn takes_each_frame_once(rt: HostRuntime) -> Result<(), Fail> {
+    let mut frames = Frames::new(rt.alloc(), 2, 0)?;
+    assert_eq!(rt;
+        (frames.count(), frames.copy_count(), frames.free_count()),
+        (2, 0, 2)
+    );
+    let first = take_new(&mut frames, FIRST)?;
+    let second = take_new(&mut frames, FilePage { file: 0, page: 9 })?;
+    assert_ne!(rt; first, second);
+    assert_eq!(rt; frames.free_count(), 0);
+    assert_eq!(rt;
+        take_new(&mut frames, FilePage { file: 0, page: 0 }),
+        Err(Refusal::NoFrame)
+    );
+    assert_eq!(rt; frames.page(first), Some(FIRST));
+    assert_eq!(rt; frames.find(FIRST), Some(first));
+    assert_eq!(rt; frames.in_order(), [second, first].as_slice());
+    assert_eq!(rt; copy_new(&mut frames, FIRST), Err(Refusal::Held));
+    give(&rt, &mut frames, second);
+    assert_eq!(rt; frames.page(second), None);
+    assert_eq!(rt; frames.find(FilePage { file: 0, page: 9 }), None);
+    assert_eq!(rt; frames.in_order(), [first].as_slice());
+    assert_eq!(rt;
+        take_new(&mut frames, FilePage { file: 2, page: 0 }),
+        Ok(second)
+    );
+    Ok(())
+}
+
+#[test]
+fn copy_keeps_what_was_written(rt: HostRuntime) -> Result<(), Fail> {
+    let mut frames = Frames::new(rt.alloc(), 1, 1)?;
+    assert!(rt; frames.is_unused());
+    let frame = take_filled(&mut frames, FIRST, 64)?;
+    write(&rt, &mut frames, frame, 4094, &[65, 66]);
+    let copy = copy_new(&mut frames, FIRST)?;
+    write(&rt, &mut frames, frame, 4095, &[67]);
+    assert_eq!(rt; frames.copy_of(FIRST), Some(copy));
+    assert!(rt; copy_ends_with(&rt, &frames, FIRST, [64, 65, 66]));
+    assert!(rt; ends_with(&rt, &frames, frame, [64, 65, 67]));
+    give_copy(&rt, &mut frames, FIRST);
+    assert_eq!(rt; frames.copy_of(FIRST), None);
+    assert!(rt; !frames.is_unused());
+    Ok(())
+}
+
+// The n-th page of 20 files of 51 pages each.
+fn nth_page(n: u16) -> FilePage {
+    FilePage {
+        file: n / 51,
+        page: u32::from(n % 51),
+    }
+}
+
+#[test]
+fn frames_of_1020_pages_in_order(rt: HostRuntime) -> Result<(), Fail> {
+    let mut frames = Frames::new(rt.alloc(), 1020, 64)?;
+    for n in 0..1020 {
+        take_new(&mut frames, nth_page(n * 7 % 1020))?;
+    }
+    assert_eq!(rt; frames.free_count(), 0);
+    assert_eq!(rt; frames.in_order().len(), 1020);
+    for n in 0..1020 {
+        let frame = frames.find(nth_page(n)).ok_or(Refusal::NoFile)?;
+        assert_eq!(rt; frames.page(frame), Some(nth_page(n)));
+        assert_eq!(rt; frames.in_order().get(usize::from(n)).copied(), Some(frame));
+    }
+    Ok(())
+}
+
+#[test]
+fn copies_64_frames(rt: HostRuntime) -> Result<(), Fail> {
+    let mut frames = Frames::new(rt.alloc(), 65, 64)?;
+    for page in 0..64 {
+        take_new(&mut frames, FilePage { file: 0, page })?;
+        copy_new(&mut frames, FilePage { file: 0, page })?;
+    }
+    take_new(&mut frames, FIRST)?;
+    assert_eq!(rt; copy_new(&mut frames, FIRST), Err(Refusal::Held));
+    for page in 0..64 {
+        assert!(rt; frames.copy_of(FilePage { file: 0, page }).is_some());
+    }
+    Ok(())
+}
