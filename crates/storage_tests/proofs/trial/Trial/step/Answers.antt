@@ -1,5 +1,5 @@
-use Rattle.journal_tests.proofs.Marks.{up_to-after}
-use Rattle.journal_tests.proofs.trial.Trial.step.Goals as goal
+use Rattle.storage_tests.proofs.Marks.{up_to-after}
+use Rattle.storage_tests.proofs.trial.Trial.step.Goals as goal
 
 -- the steps of write-outs keep their geometry, and make no batch
 pub invariant_of-self : goal.invariant_of-self

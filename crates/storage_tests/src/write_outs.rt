@@ -1,25 +1,13 @@
 // Two write-outs over a volume of the files `a` of 5,000 bytes and `b` of 4,096, with 4 record slots: one of a page and one
 // of two pages, in both layouts. In layout 2 the second one begins while the first is still applied.
+use crate::sample::{JOURNAL_A, JOURNAL_B, LENGTH_ONE, LENGTH_TWO, SPECS, crash, volume_of};
 use crate::trial::{Trial, step_alone};
 use device::{Device, FailingDisk, MemDisk};
 use journal::{Flush, Flushed, Stage};
-use recovery::{format_as, open};
+use recovery::format_as;
 use std::alloc::Global;
 use std::test::Fail;
-use volume_codec::{FileSpec, Geometry, read_descriptor};
-
-const SPECS: [FileSpec; 2] = [
-    FileSpec {
-        name: "a",
-        length: 5000,
-        capacity: 5000,
-    },
-    FileSpec {
-        name: "b",
-        length: 4096,
-        capacity: 4096,
-    },
-];
+use volume_codec::{Geometry, read_descriptor};
 
 // In which layout two batches are written out, of how many pages each, and how many steps are made before the second one
 // begins.
@@ -62,15 +50,19 @@ impl Plan {
 
     // How many bytes the volume has.
     fn length(self) -> u64 {
-        if self.layout == 1 { 40_960 } else { 65_536 }
+        if self.layout == 1 {
+            LENGTH_ONE as u64
+        } else {
+            LENGTH_TWO as u64
+        }
     }
 
     // Where the batch's gate is.
     fn gate(self, batch: usize) -> usize {
         if self.layout == 2 && batch == 1 {
-            28_672
+            JOURNAL_B
         } else {
-            4096
+            JOURNAL_A
         }
     }
 
@@ -140,13 +132,8 @@ fn descriptor(first_home: u8, mark: u8, pages: u64) -> [u8; 4096] {
 fn volume(alloc: Global, plan: Plan) -> Result<(Geometry, MemDisk<Global>), Fail> {
     let mut disk = MemDisk::new(alloc, plan.length())?;
     format_as(alloc, &mut disk, plan.layout, &SPECS, 4)?;
-    match open(alloc, disk) {
-        Ok(volume) => {
-            let (table, disk) = volume.into_parts();
-            Ok((table.geometry(), disk))
-        }
-        Err((refusal, _)) => Err(refusal.into()),
-    }
+    let (table, disk) = volume_of(alloc, disk)?.into_parts();
+    Ok((table.geometry(), disk))
 }
 
 // No steps yet. The disk's call of this number is to fail.
@@ -195,27 +182,20 @@ fn only_byte(bytes: &[u8]) -> Result<u8, Fail> {
 
 // What a crash of the disk leaves opens with these pages.
 fn opened(alloc: Global, mut disk: MemDisk<Global>, choice: &[u8]) -> Result<[u8; 3], Fail> {
-    if choice.len() != disk.bytes().len() {
-        return Err("the choice is as long as the disk".into());
+    crash(&mut disk, choice)?;
+    let mut volume = volume_of(alloc, disk)?;
+    if volume.file_count() != 2 || volume.length(0) != 5000 || volume.length(1) != 4096 {
+        return Err("the files are there".into());
     }
-    disk.stop(choice);
-    match open(alloc, disk) {
-        Ok(mut volume) => {
-            if volume.file_count() != 2 || volume.length(0) != 5000 || volume.length(1) != 4096 {
-                return Err("the files are there".into());
-            }
-            let mut a = [0; 5000];
-            volume.read_file(0, 0, &mut a)?;
-            let mut b = [0; 4096];
-            volume.read_file(1, 0, &mut b)?;
-            Ok([
-                only_byte(a.get(..4096).unwrap_or(&[]))?,
-                only_byte(a.get(4096..).unwrap_or(&[]))?,
-                only_byte(&b)?,
-            ])
-        }
-        Err((refusal, _)) => Err(refusal.into()),
-    }
+    let mut a = [0; 5000];
+    volume.read_file(0, 0, &mut a)?;
+    let mut b = [0; 4096];
+    volume.read_file(1, 0, &mut b)?;
+    Ok([
+        only_byte(a.get(..4096).unwrap_or(&[]))?,
+        only_byte(a.get(4096..).unwrap_or(&[]))?,
+        only_byte(&b)?,
+    ])
 }
 
 // Whether each crash after so many steps, or where a device call fails in the next one, opens as it should. What wasn't
@@ -407,7 +387,7 @@ fn a_write_out_by_itself(rt: HostRuntime) -> Result<(), Fail> {
         let answered = step_alone(&mut flush, &geometry, &mut disk);
         assert_eq!(rt; answered, Some((*stage, answer)));
         let open = done >= 4 && done < 9;
-        assert_eq!(rt; disk.bytes().get(28_672) == Some(&0xA7), open);
+        assert_eq!(rt; disk.bytes().get(JOURNAL_B) == Some(&0xA7), open);
     }
     assert_eq!(rt; step_alone(&mut flush, &geometry, &mut disk), None);
     assert_eq!(rt;
@@ -418,6 +398,6 @@ fn a_write_out_by_itself(rt: HostRuntime) -> Result<(), Fail> {
     assert_eq!(rt; disk.calls().saturating_sub(before), 13);
     assert!(rt; disk.bytes().get(32_768..36_864) == Some(text.as_slice()));
     assert_eq!(rt; flush.into_homes().as_slice(), [13, 15].as_slice());
-    assert_eq!(rt; opened(rt.alloc(), disk, &[0x5A; 65_536])?, [8, 0, 8]);
+    assert_eq!(rt; opened(rt.alloc(), disk, &[0x5A; LENGTH_TWO])?, [8, 0, 8]);
     Ok(())
 }

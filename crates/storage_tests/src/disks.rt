@@ -1,0 +1,322 @@
+// Each call once, on a disk in memory, on one that fails and on one over a file.
+ghost use Rattle.std.specs.Prelude.{◌≡◌, ◌+◌, ◌≤◌, ◌∷◌, [], ◌++◌, length, IsTrue, is_ok};
+
+use crate::sample::{crash, put};
+use device::{BlockFile, Device, DeviceFault, FailingDisk, FileDisk, MemDisk};
+use std::alloc::Global;
+use std::process::Abort;
+use std::test::Fail;
+use std::{fs, io};
+
+// A call of a file: the offset and the bytes, and whether it succeeded.
+#[derive(Debug, PartialEq, Drop)]
+enum Call {
+    Read(u64, Vec<u8>, bool),
+    Write(u64, Vec<u8>, bool),
+    Sync(bool),
+}
+
+// A file of 8 bytes in memory that keeps its calls, and fails those that pass its end and each one while it is broken.
+#[derive(Drop)]
+struct CountedFile<'a, R: Abort> {
+    rt: &'a R,
+    alloc: Global,
+    bytes: [u8; 8],
+    calls: Vec<Call>,
+    broken: bool,
+}
+
+impl<R: Abort> CountedFile<'_, R> {
+    fn takes(&self, at: u64, len: usize) -> bool
+        ensures { IsTrue result → at + len ≤ 8 }
+    {
+        !self.broken && at <= 8 && len as u64 <= 8 - at
+    }
+
+    fn copy_of(&self, bytes: &[u8]) -> Vec<u8>
+        ensures { result.items ≡ bytes.now }
+    {
+        Vec::from_slice(self.alloc, bytes).expect(self.rt, "room for the bytes")
+    }
+
+    fn note(&mut self, call: Call)
+        ensures { self.new.calls.items ≡ self.old.calls.items ++ call ∷ [] }
+    {
+        self.calls.push(call).expect(self.rt, "room for a call");
+    }
+}
+
+fn outcome(done: bool) -> io::Result<()>
+    ensures { is_ok result ≡ done }
+{
+    if done {
+        Ok(())
+    } else {
+        Err(io::Error::from(io::ErrorKind::Other))
+    }
+}
+
+impl<R: Abort> BlockFile for CountedFile<'_, R> {
+    ghost use Rattle.std.specs.Prelude.{Some, map};
+    ghost use Rattle.device.specs.File.FileCall.{read, write, sync};
+    ghost use Rattle.storage_tests.specs.declared.disks.Call.TheVariants.{Read, Write, Sync};
+
+    ghost calls_made = { λ file. Some (map (λ call. elim call [
+      | Read at bytes done ↦ read at bytes.items done
+      | Write at bytes done ↦ write at bytes.items done
+      | Sync done ↦ sync done
+    ]) file.calls.items) };
+
+    fn read_exact_at(&mut self, buffer: &mut [u8], at: u64) -> io::Result<()> {
+        let done = self.takes(at, buffer.len());
+        if done {
+            let from = at as usize;
+            buffer.copy_from_slice(&self.bytes[from..from + buffer.len()]);
+        }
+        let bytes = self.copy_of(buffer);
+        self.note(Call::Read(at, bytes, done));
+        outcome(done)
+    }
+
+    fn write_all_at(&mut self, bytes: &[u8], at: u64) -> io::Result<()> {
+        let done = self.takes(at, bytes.len());
+        if done {
+            let from = at as usize;
+            self.bytes[from..from + bytes.len()].copy_from_slice(bytes);
+        }
+        let copy = self.copy_of(bytes);
+        self.note(Call::Write(at, copy, done));
+        outcome(done)
+    }
+
+    fn sync_all(&mut self) -> io::Result<()> {
+        let done = !self.broken;
+        self.note(Call::Sync(done));
+        outcome(done)
+    }
+}
+
+// The length of a disk, how many calls it had, and how many of them failed.
+fn counts<D: Device>(disk: &D) -> (u64, u64, u64) {
+    (disk.len(), disk.calls(), disk.faults())
+}
+
+// A write within a disk.
+fn write<D: Device>(disk: &mut D, at: u64, bytes: &[u8]) -> Result<(), DeviceFault>
+    requires { at + length bytes.now ≤ length (D.seen disk.old) }
+    ensures { length (D.seen disk.new) ≡ length (D.seen disk.old) }
+{
+    disk.write(at, bytes)
+}
+
+// A read within a disk.
+fn read<D: Device>(disk: &mut D, at: u64, buffer: &mut [u8]) -> Result<(), DeviceFault>
+    requires { at + length buffer.old ≤ length (D.seen disk.old) }
+    ensures disk { length (D.seen disk.new) ≡ length (D.seen disk.old) }
+    ensures buffer { length buffer.new ≡ length buffer.old }
+{
+    disk.read(at, buffer)
+}
+
+// A write, a sync and a read, through the bound.
+fn write_and_read<D: Device>(mut device: D, buffer: &mut [u8]) -> Result<D, DeviceFault>
+where
+    D: Drop,
+    requires room { length (D.seen device) ≡ 8 }
+    requires buffer { length buffer.old ≡ 4 }
+    ensures len { length buffer.new ≡ 4 }
+{
+    device.write(2, &[7, 8, 9])?;
+    device.sync()?;
+    device.read(1, buffer)?;
+    Ok(device)
+}
+
+// Many syncs, each after a write of one byte.
+fn sync_often<D: Device>(device: &mut D, times: u32) -> Result<(), DeviceFault> {
+    let len = device.len();
+    for i in 0..times {
+        if len > 0 {
+            device.write(u64::from(i) * 2048 % len, &[1])?;
+        }
+        device.sync()?;
+    }
+    Ok(())
+}
+
+#[test]
+fn a_disk_in_memory_reads_what_was_written(rt: HostRuntime) -> Result<(), Fail> {
+    let mut buffer = [0; 4];
+    let disk = write_and_read(MemDisk::new(rt.alloc(), 8)?, &mut buffer)?;
+    assert_eq!(rt; buffer, [0, 7, 8, 9]);
+    assert_eq!(rt; disk.bytes(), [0, 0, 7, 8, 9, 0, 0, 0].as_slice());
+    assert_eq!(rt; counts(&disk), (8, 3, 0));
+    Ok(())
+}
+
+#[test]
+fn a_disk_that_no_memory_has_room_for_is_refused(rt: HostRuntime) {
+    assert!(rt; MemDisk::new(rt.alloc(), 1 << 63).is_err());
+}
+
+#[test]
+fn a_crash_leaves_what_is_chosen_where_it_was_written(rt: HostRuntime) -> Result<(), Fail> {
+    let mut disk = MemDisk::from_bytes(rt.alloc(), [1, 2, 3, 4, 5].to_vec(rt.alloc())?)?;
+    write(&mut disk, 0, &[11])?;
+    disk.sync()?;
+    write(&mut disk, 1, &[22, 33])?;
+    write(&mut disk, 2, &[34, 44])?;
+    crash(&mut disk, &[90, 91, 92, 93, 94])?;
+    assert_eq!(rt; disk.bytes(), [11, 91, 92, 93, 5].as_slice());
+    crash(&mut disk, &[80, 81, 82, 83, 84])?;
+    assert_eq!(rt; disk.bytes(), [11, 91, 92, 93, 5].as_slice());
+    assert_eq!(rt; disk.calls(), 4);
+    Ok(())
+}
+
+#[test]
+fn a_crash_after_syncs_leaves_what_a_read_gives(rt: HostRuntime) -> Result<(), Fail> {
+    let mut disk = MemDisk::from_bytes(rt.alloc(), [1, 2, 3].to_vec(rt.alloc())?)?;
+    write(&mut disk, 0, &[9])?;
+    disk.sync()?;
+    disk.sync()?;
+    crash(&mut disk, &[7, 7, 7])?;
+    assert_eq!(rt; disk.bytes(), [9, 2, 3].as_slice());
+    Ok(())
+}
+
+#[test]
+fn a_large_disk_is_synced_often(rt: HostRuntime) -> Result<(), Fail> {
+    let mut disk = MemDisk::new(rt.alloc(), 4_194_304)?;
+    sync_often(&mut disk, 2000)?;
+    assert_eq!(rt; disk.calls(), 4000);
+    assert_eq!(rt; disk.bytes().get(2048 * 1999), Some(&1));
+    assert_eq!(rt; disk.bytes().get(2048 * 2000), Some(&0));
+    Ok(())
+}
+
+#[test]
+fn a_write_that_fails_leaves_its_range_spoilt(rt: HostRuntime) -> Result<(), Fail> {
+    let mut disk = FailingDisk::new(MemDisk::new(rt.alloc(), 10_000)?, 2);
+    write(&mut disk, 0, &[1, 2, 3])?;
+    assert_eq!(rt; write(&mut disk, 1000, &[5; 8000]), Err(DeviceFault));
+    let mut buffer = [0; 3];
+    read(&mut disk, 998, &mut buffer)?;
+    assert_eq!(rt; buffer, [0, 0, 0xEE]);
+    assert_eq!(rt; counts(&disk), (10_000, 3, 1));
+    let inner = disk.into_inner();
+    let mut left = [0; 10_000];
+    put(&mut left, 0, &[1, 2, 3]);
+    put(&mut left, 1000, &[0xEE; 8000]);
+    assert_eq!(rt; inner.bytes(), left.as_slice());
+    // The range of 8,000 bytes is written in two pieces.
+    assert_eq!(rt; counts(&inner), (10_000, 4, 0));
+    Ok(())
+}
+
+#[test]
+fn a_sync_that_fails_makes_nothing_sure(rt: HostRuntime) -> Result<(), Fail> {
+    let mut disk = FailingDisk::new(MemDisk::new(rt.alloc(), 4)?, 2);
+    write(&mut disk, 1, &[7])?;
+    assert_eq!(rt; disk.sync(), Err(DeviceFault));
+    assert_eq!(rt; counts(&disk), (4, 2, 1));
+    let mut inner = disk.into_inner();
+    assert_eq!(rt; inner.calls(), 1);
+    crash(&mut inner, &[9, 9, 9, 9])?;
+    assert_eq!(rt; inner.bytes(), [0, 9, 0, 0].as_slice());
+    Ok(())
+}
+
+#[test]
+fn a_read_that_fails_leaves_the_buffer(rt: HostRuntime) -> Result<(), Fail> {
+    let mut disk = FailingDisk::new(MemDisk::new(rt.alloc(), 4)?, 1);
+    let mut buffer = [5; 2];
+    assert_eq!(rt; read(&mut disk, 0, &mut buffer), Err(DeviceFault));
+    assert_eq!(rt; buffer, [5, 5]);
+    read(&mut disk, 0, &mut buffer)?;
+    assert_eq!(rt; buffer, [0, 0]);
+    assert_eq!(rt; counts(&disk), (4, 2, 1));
+    assert_eq!(rt; disk.into_inner().calls(), 1);
+    // The call of number 0 never comes.
+    let mut disk = FailingDisk::new(MemDisk::new(rt.alloc(), 8)?, 0);
+    let mut buffer = [0; 4];
+    write_and_read(&mut disk, &mut buffer)?;
+    assert_eq!(rt; buffer, [0, 7, 8, 9]);
+    assert_eq!(rt; counts(&disk), (8, 3, 0));
+    Ok(())
+}
+
+#[test]
+fn a_device_behind_a_reference_is_one(rt: HostRuntime) -> Result<(), Fail> {
+    let mut disk = MemDisk::new(rt.alloc(), 8)?;
+    let mut buffer = [0; 4];
+    write_and_read(&mut disk, &mut buffer)?;
+    assert_eq!(rt; buffer, [0, 7, 8, 9]);
+    assert_eq!(rt; counts(&disk), (8, 3, 0));
+    Ok(())
+}
+
+#[test]
+fn each_call_of_a_disk_is_one_of_its_file(rt: HostRuntime) -> Result<(), Fail> {
+    let file = CountedFile {
+        rt: &rt,
+        alloc: rt.alloc(),
+        bytes: [0; 8],
+        calls: Vec::new(rt.alloc()),
+        broken: false,
+    };
+    let mut disk = FileDisk::over(file, 8);
+    let mut buffer = [1; 2];
+    write(&mut disk, 3, &[7, 8, 9])?;
+    disk.sync()?;
+    read(&mut disk, 4, &mut buffer)?;
+    assert_eq!(rt; buffer, [8, 9]);
+    assert_eq!(rt; counts(&disk), (8, 3, 0));
+    let mut file = disk.into_file();
+    file.broken = true;
+    let mut disk = FileDisk::over(file, 8);
+    assert_eq!(rt; disk.sync(), Err(DeviceFault));
+    assert_eq!(rt; counts(&disk), (8, 1, 1));
+    let file = disk.into_file();
+    let calls = [
+        Call::Write(3, [7, 8, 9].to_vec(rt.alloc())?, true),
+        Call::Sync(true),
+        Call::Read(4, [8, 9].to_vec(rt.alloc())?, true),
+        Call::Sync(false),
+    ];
+    assert_eq!(rt; file.calls.as_slice(), calls.as_slice());
+    Ok(())
+}
+
+#[test]
+fn a_file_keeps_what_was_written(rt: HostRuntime) -> Result<(), Fail> {
+    let path = "a_file_keeps_what_was_written";
+    fs::write(&rt, path, "an older and longer content")?;
+    let mut disk = FileDisk::create(&rt, path, 8)?;
+    assert_eq!(rt; disk.len(), 8);
+    let mut buffer = [0; 4];
+    write_and_read(&mut disk, &mut buffer)?;
+    assert_eq!(rt; buffer, [0, 7, 8, 9]);
+    assert_eq!(rt; counts(&disk), (8, 3, 0));
+    let mut again = FileDisk::open(&rt, path)?;
+    assert_eq!(rt; again.len(), 8);
+    let mut whole = [1; 8];
+    read(&mut again, 0, &mut whole)?;
+    assert_eq!(rt; whole, [0, 0, 7, 8, 9, 0, 0, 0]);
+    // Another hand cuts the file: a read past its end fails, and is counted.
+    fs::write(&rt, path, "cut")?;
+    assert_eq!(rt; read(&mut again, 0, &mut whole), Err(DeviceFault));
+    assert_eq!(rt; counts(&again), (8, 2, 1));
+    fs::remove_file(&rt, path)?;
+    assert!(rt; FileDisk::open(&rt, path).is_err());
+    Ok(())
+}
+
+// `/dev/null` can be opened, but not synced (POSIX.1-2024, `fsync`, the error EINVAL).
+#[test]
+fn a_sync_that_the_system_refuses_is_a_fault(rt: HostRuntime) -> Result<(), Fail> {
+    let mut disk = FileDisk::open(&rt, "/dev/null")?;
+    assert_eq!(rt; disk.sync(), Err(DeviceFault));
+    assert_eq!(rt; counts(&disk), (0, 1, 1));
+    Ok(())
+}

@@ -1,0 +1,118 @@
+// The volume of most tests, of the files `a` of 5,000 bytes and `b` of 4,096 with 4 record slots, and what tests do to
+// blocks and disks.
+use device::MemDisk;
+use recovery::{Volume, open};
+use std::alloc::Global;
+use std::test::Fail;
+use volume_codec::FileSpec;
+
+pub(crate) const FILES: [(&str, u64); 2] = [("a", 5000), ("b", 4096)];
+
+pub(crate) const SPECS: [FileSpec; 2] = [
+    FileSpec {
+        name: "a",
+        length: 5000,
+        capacity: 5000,
+    },
+    FileSpec {
+        name: "b",
+        length: 4096,
+        capacity: 4096,
+    },
+];
+
+/// The volume has 10 blocks in layout 1, and 16 in layout 2.
+pub(crate) const LENGTH_ONE: usize = 40_960;
+
+/// How many bytes it has in layout 2.
+pub(crate) const LENGTH_TWO: usize = 65_536;
+
+/// Where the journals of layout 2 begin with their gates; descriptor and records follow, a block each.
+pub(crate) const JOURNAL_A: usize = 4096;
+
+/// Journal A is layout 1's too, and journal B layout 2's alone.
+pub(crate) const JOURNAL_B: usize = 28_672;
+
+/// What makes the volume's super block in layout 1 a damaged one: bytes, and where in the block they are written.
+pub(crate) const DAMAGES: [(usize, &[u8]); 17] = [
+    (7, b"2"),
+    (8, &[0, 0, 0, 0]),
+    (8, &[0, 0, 0, 65]),
+    (12, &[0, 0, 0, 0]),
+    (12, &[0, 0, 3, 0xFD]),
+    (12, &[0, 0, 0, 5]),
+    (16, &[0, 0, 0, 9]),
+    (16, &[0, 0, 0, 11]),
+    (20, &[1]),
+    (80, b"a"),
+    (33, &[0, 0x61]),
+    (32, b" "),
+    (32, &[0xC3]),
+    (64, &[0, 0, 0, 0, 0, 0, 0, 0]),
+    (64, &[0, 0, 0, 0, 0, 0, 0x10, 0]),
+    (64, &[0, 0, 0, 0, 0, 0, 0x20, 1]),
+    (4095, &[1]),
+];
+
+/// Writes bytes into a block or an image, with the rest left as it was.
+pub(crate) fn put(image: &mut [u8], at: usize, bytes: &[u8]) {
+    for (i, byte) in bytes.iter().enumerate() {
+        if let Some(place) = image.get_mut(at.saturating_add(i)) {
+            *place = *byte;
+        }
+    }
+}
+
+// Writes the super block of the two files and 4 slots, whose first home blocks are these.
+fn put_super(image: &mut [u8], magic: &[u8], blocks: u8, first: u8, second: u8) {
+    put(image, 0, magic);
+    put(image, 8, &[0, 0, 0, 2, 0, 0, 0, 4, 0, 0, 0, blocks]);
+    put(image, 32, b"a");
+    put(image, 64, &[0, 0, 0, 0, 0, 0, 0x13, 0x88]);
+    put(image, 72, &[0, 0, 0, first, 0, 0, 0, 2]);
+    put(image, 80, b"b");
+    put(image, 112, &[0, 0, 0, 0, 0, 0, 0x10, 0]);
+    put(image, 120, &[0, 0, 0, second, 0, 0, 0, 1]);
+}
+
+/// Writes the volume's super block in layout 1: homes 7 and 8, and 9.
+pub(crate) fn put_super_one(image: &mut [u8]) {
+    put_super(image, b"FAMSYNC1", 10, 7, 9);
+}
+
+/// Writes the volume's super block in layout 2: homes 13 and 14, and 15.
+pub(crate) fn put_super_two(image: &mut [u8]) {
+    put_super(image, b"FAMSYNC2", 16, 13, 15);
+}
+
+// Names of one character each.
+const NAMES: &str = "abcdefghijklmnopqrstuvwxyzABCDEFGHIJKLMNOPQRSTUVWXYZ0123456789-_+";
+
+/// 65 files of one page each, with names of one character.
+pub(crate) fn many_files() -> [(&'static str, u64); 65] {
+    let mut files = [("", 4096); 65];
+    for i in 0..65 {
+        files[i] = (NAMES.get(i..i + 1).unwrap_or(""), 4096);
+    }
+    files
+}
+
+/// A crash of a disk of as many bytes as the choice.
+pub(crate) fn crash(disk: &mut MemDisk<Global>, choice: &[u8]) -> Result<(), Fail> {
+    if choice.len() != disk.bytes().len() {
+        return Err("the choice is as long as the disk".into());
+    }
+    disk.stop(choice);
+    Ok(())
+}
+
+/// The volume of a disk that opens.
+pub(crate) fn volume_of(
+    alloc: Global,
+    disk: MemDisk<Global>,
+) -> Result<Volume<MemDisk<Global>, Global>, Fail> {
+    match open(alloc, disk) {
+        Ok(volume) => Ok(volume),
+        Err((refusal, _)) => Err(refusal.into()),
+    }
+}
