@@ -10,8 +10,6 @@ mod failing;
 mod fault;
 mod file;
 mod memory;
-#[cfg(test)]
-mod tests;
 
 pub use block_file::BlockFile;
 pub use device::Device;

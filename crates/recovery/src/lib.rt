@@ -14,6 +14,3 @@ pub use laws::{
 };
 pub use opening::open;
 pub use volume::Volume;
-
-#[cfg(test)]
-mod tests;

@@ -18,6 +18,3 @@ pub use laws::{files_from_contents, one_reading, parts_of_layouts, recovered_fro
 pub use layout::{CLOSED_GATE, Layout, OPEN_GATE};
 pub use rules::{MAX_FILES, MAX_NAME, MAX_SLOTS, block_count_as, block_count_of, specs_of};
 pub use super_block::{Super, read_super, write_super, write_super_as};
-
-#[cfg(test)]
-mod tests;
