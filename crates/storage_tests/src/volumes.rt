@@ -1,6 +1,6 @@
 // Images of small volumes in both layouts, byte for byte: what formatting makes, how each is opened or refused and with
 // how many device calls, and what crashes within an opening leave; and the limits.
-ghost use Rattle.std.specs.Prelude.{◌≤◌};
+ghost use Rattle.std.specs.Prelude.{◌≡◌, ◌≤◌, length};
 
 use crate::sample::{
     DAMAGES, FILES, JOURNAL_A, JOURNAL_B, LENGTH_ONE, LENGTH_TWO, SPECS, crash, many_files, put,
@@ -99,20 +99,39 @@ fn cut_opening(
     Ok(disk.bytes().to_vec(alloc)?)
 }
 
-// Three bytes of a file.
-fn bytes_at(volume: &mut Volume<Disk, Global>, file: usize, at: u64) -> Result<[u8; 3], Fail> {
-    if file >= volume.file_count() || volume.length(file) < 3 || at > volume.length(file) - 3 {
+// Reads a part of a file.
+fn read(
+    volume: &mut Volume<Disk, Global>,
+    file: usize,
+    at: u64,
+    buffer: &mut [u8],
+) -> Result<(), Fail>
+    ensures { length buffer.new ≡ length buffer.old }
+{
+    let len = buffer.len() as u64;
+    if file >= volume.file_count() || volume.length(file) < len || at > volume.length(file) - len {
         return Err("the file has these bytes".into());
     }
-    let mut bytes = [1; 3];
-    volume.read_file(file, at, &mut bytes)?;
-    Ok(bytes)
+    Ok(volume.read_file(file, at, buffer)?)
+}
+
+// The name, the length and the capacity of a file.
+fn file(volume: &Volume<Disk, Global>, number: usize) -> Option<(&str, u64, u64)> {
+    if number >= volume.file_count() {
+        return None;
+    }
+    Some((
+        volume.name(number),
+        volume.length(number),
+        volume.capacity(number),
+    ))
 }
 
 // The first byte of the first file as an image opens, and the device calls with one for that read.
 fn first_byte(alloc: Global, image: &[u8]) -> Result<(u8, u64), Fail> {
     let mut volume = opened(alloc, image)?;
-    let bytes = bytes_at(&mut volume, 0, 0)?;
+    let mut bytes = [1];
+    read(&mut volume, 0, 0, &mut bytes)?;
     Ok((bytes[0], volume.into_device().calls()))
 }
 
@@ -202,21 +221,17 @@ fn a_volume_tells_its_files(rt: HostRuntime) -> Result<(), Fail> {
     put(&mut image, 57_343, &[7, 8]);
     put(&mut image, 65_535, &[9]);
     let mut volume = opened(rt.alloc(), &image)?;
-    assert_eq!(rt; volume.layout(), Layout::Two);
-    assert_eq!(rt; volume.file_count(), 2);
-    assert_eq!(rt; volume.name(0), "a");
-    assert_eq!(rt; volume.length(0), 5000);
-    assert_eq!(rt; volume.capacity(0), 5000);
-    assert_eq!(rt; volume.name(1), "b");
-    assert_eq!(rt; volume.length(1), 4096);
+    assert_eq!(rt; (volume.layout(), volume.file_count()), (Layout::Two, 2));
+    assert_eq!(rt; file(&volume, 0), Some(("a", 5000, 5000)));
+    assert_eq!(rt; file(&volume, 1), Some(("b", 4096, 4096)));
     let mut bytes = [1; 4];
-    volume.read_file(0, 4094, &mut bytes)?;
+    read(&mut volume, 0, 4094, &mut bytes)?;
     assert_eq!(rt; bytes, [0, 7, 8, 0]);
     let mut last = [1];
-    volume.read_file(1, 4095, &mut last)?;
+    read(&mut volume, 1, 4095, &mut last)?;
     assert_eq!(rt; last, [9]);
     // A read of no bytes makes no device call.
-    volume.read_file(1, 4096, &mut [])?;
+    read(&mut volume, 1, 4096, &mut [])?;
     assert_eq!(rt; volume.table().block_count(), 16);
     let (table, disk) = volume.into_parts();
     assert_eq!(rt; table.geometry().max_frames(), 4);
@@ -422,10 +437,11 @@ fn a_volume_at_its_limits(rt: HostRuntime) -> Result<(), Fail> {
     }
     let mut volume = opened(rt.alloc(), &image)?;
     assert_eq!(rt; volume.file_count(), 64);
-    assert_eq!(rt; volume.name(63), "_");
-    assert_eq!(rt; volume.length(63), 3_919_872);
+    assert_eq!(rt; file(&volume, 63), Some(("_", 3_919_872, 3_919_872)));
     assert_eq!(rt; volume.table().geometry().max_frames(), 1020);
-    assert_eq!(rt; bytes_at(&mut volume, 63, 4096 * 956)?, [7, 0xFA, 0]);
+    let mut bytes = [1; 3];
+    read(&mut volume, 63, 4096 * 956, &mut bytes)?;
+    assert_eq!(rt; bytes, [7, 0xFA, 0]);
     // 2 * 1,020 + 7 calls, and the read.
     assert_eq!(rt; volume.into_device().calls(), 2048);
     Ok(())
