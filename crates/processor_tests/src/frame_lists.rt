@@ -57,50 +57,98 @@ fn copy_ends_with(rt: &impl Abort, frames: &Frames, page: FilePage, bytes: [u8; 
     &frames.copy_bytes(copy)[4093..] == bytes.as_slice()
 }
 
+const SECOND: FilePage = FilePage { file: 0, page: 9 };
+
+// How many frames there are, how many copies, and how many frames are free.
+fn counts(frames: &Frames) -> (u32, u32, u32) {
+    (frames.count(), frames.copy_count(), frames.free_count())
+}
+
+// The page of a frame.
+fn page_of(frames: &Frames, frame: FrameNumber) -> Option<FilePage> {
+    frames.page(frame)
+}
+
+// The frame of a page.
+fn frame_of(frames: &Frames, page: FilePage) -> Option<FrameNumber> {
+    frames.find(page)
+}
+
+// Whether these are the frames in use, by their pages.
+fn are_in_order(frames: &Frames, expected: &[FrameNumber]) -> bool {
+    frames.in_order() == expected
+}
+
+// Takes both frames, for the first page and then the second one.
+fn take_both(rt: &impl Abort, frames: &mut Frames) -> Result<(FrameNumber, FrameNumber), Refusal> {
+    let first = take_new(frames, FIRST)?;
+    let second = take_new(frames, SECOND)?;
+    assert_ne!(rt; first, second);
+    assert_eq!(rt; counts(frames), (2, 0, 0));
+    let third = FilePage { file: 0, page: 0 };
+    assert_eq!(rt; take_new(frames, third), Err(Refusal::NoFrame));
+    Ok((first, second))
+}
+
 #[test]
 fn takes_each_frame_once(rt: HostRuntime) -> Result<(), Fail> {
     let mut frames = Frames::new(rt.alloc(), 2, 0)?;
-    assert_eq!(rt;
-        (frames.count(), frames.copy_count(), frames.free_count()),
-        (2, 0, 2)
-    );
-    let first = take_new(&mut frames, FIRST)?;
-    let second = take_new(&mut frames, FilePage { file: 0, page: 9 })?;
-    assert_ne!(rt; first, second);
-    assert_eq!(rt; frames.free_count(), 0);
-    assert_eq!(rt;
-        take_new(&mut frames, FilePage { file: 0, page: 0 }),
-        Err(Refusal::NoFrame)
-    );
-    assert_eq!(rt; frames.page(first), Some(FIRST));
-    assert_eq!(rt; frames.find(FIRST), Some(first));
-    assert_eq!(rt; frames.in_order(), [second, first].as_slice());
-    assert_eq!(rt; copy_new(&mut frames, FIRST), Err(Refusal::Held));
-    give(&rt, &mut frames, second);
-    assert_eq!(rt; frames.page(second), None);
-    assert_eq!(rt; frames.find(FilePage { file: 0, page: 9 }), None);
-    assert_eq!(rt; frames.in_order(), [first].as_slice());
-    assert_eq!(rt;
-        take_new(&mut frames, FilePage { file: 2, page: 0 }),
-        Ok(second)
-    );
+    assert_eq!(rt; counts(&frames), (2, 0, 2));
+    let (first, second) = take_both(&rt, &mut frames)?;
+    have_both(&rt, &mut frames, first, second);
+    give_second(&rt, &mut frames, first, second);
     Ok(())
+}
+
+fn have_both(rt: &impl Abort, frames: &mut Frames, first: FrameNumber, second: FrameNumber) {
+    assert_eq!(rt; page_of(frames, first), Some(FIRST));
+    assert_eq!(rt; frame_of(frames, FIRST), Some(first));
+    assert!(rt; are_in_order(frames, &[second, first]));
+    assert_eq!(rt; copy_new(frames, FIRST), Err(Refusal::Held));
+}
+
+// The second frame is given back, and taken again.
+fn give_second(rt: &impl Abort, frames: &mut Frames, first: FrameNumber, second: FrameNumber) {
+    give(rt, frames, second);
+    assert_eq!(rt; page_of(frames, second), None);
+    assert_eq!(rt; frame_of(frames, SECOND), None);
+    assert!(rt; are_in_order(frames, &[first]));
+    let third = FilePage { file: 2, page: 0 };
+    assert_eq!(rt; take_new(frames, third), Ok(second));
+}
+
+// The copy of a page.
+fn copied(frames: &Frames, page: FilePage) -> Option<CopyNumber> {
+    frames.copy_of(page)
+}
+
+fn is_unused(frames: &Frames) -> bool {
+    frames.is_unused()
+}
+
+// Copies a frame between two stores to it.
+fn copy_between(
+    rt: &impl Abort,
+    frames: &mut Frames,
+) -> Result<(FrameNumber, CopyNumber), Refusal> {
+    let frame = take_filled(frames, FIRST, 64)?;
+    write(rt, frames, frame, 4094, &[65, 66]);
+    let copy = copy_new(frames, FIRST)?;
+    write(rt, frames, frame, 4095, &[67]);
+    Ok((frame, copy))
 }
 
 #[test]
 fn copy_keeps_what_was_written(rt: HostRuntime) -> Result<(), Fail> {
     let mut frames = Frames::new(rt.alloc(), 1, 1)?;
-    assert!(rt; frames.is_unused());
-    let frame = take_filled(&mut frames, FIRST, 64)?;
-    write(&rt, &mut frames, frame, 4094, &[65, 66]);
-    let copy = copy_new(&mut frames, FIRST)?;
-    write(&rt, &mut frames, frame, 4095, &[67]);
-    assert_eq!(rt; frames.copy_of(FIRST), Some(copy));
+    assert!(rt; is_unused(&frames));
+    let (frame, copy) = copy_between(&rt, &mut frames)?;
+    assert_eq!(rt; copied(&frames, FIRST), Some(copy));
     assert!(rt; copy_ends_with(&rt, &frames, FIRST, [64, 65, 66]));
     assert!(rt; ends_with(&rt, &frames, frame, [64, 65, 67]));
     give_copy(&rt, &mut frames, FIRST);
-    assert_eq!(rt; frames.copy_of(FIRST), None);
-    assert!(rt; !frames.is_unused());
+    assert_eq!(rt; copied(&frames, FIRST), None);
+    assert!(rt; !is_unused(&frames));
     Ok(())
 }
 

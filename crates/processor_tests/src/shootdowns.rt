@@ -172,31 +172,31 @@ impl Bench {
     }
 }
 
-#[test]
-fn a_change_waits_for_the_interrupted(rt: HostRuntime) -> Result<(), Fail> {
-    let mut bench = Bench::new(rt.alloc(), 4, 8)?;
-    let pcid = bench.make(&rt)?;
+// Processors 0, 1 and 3 enter a space, of which processor 0 begins to unmap pages while processor 3 is idle.
+fn begin_beside_idle(rt: &impl Abort, bench: &mut Bench, pcid: Pcid) {
     for p in [0, 1, 3] {
         assert_eq!(rt; bench.switch(p, pcid, false), Ok(()));
     }
     assert_eq!(rt; bench.switch(2, 2, false), Err(Refusal::Einval));
     assert_eq!(rt; bench.idle(3), Ok(()));
-    bench.fill(&rt, 1, 16);
-    let unmap = Change::Unmap { pcid, range: RANGE };
+    bench.fill(rt, 1, 16);
     assert_eq!(rt; bench.begin_unmap(0, pcid), Ok(()));
-    assert_eq!(rt;
-        bench.lock(),
-        Some(Lock {
-            holder: 0,
-            change: unmap
-        })
-    );
+}
+
+// What is refused while processor 0 unmaps pages of a space, and processor 1 is interrupted.
+fn refused_while_locked(rt: &impl Abort, bench: &mut Bench, pcid: Pcid) {
+    let change = Change::Unmap { pcid, range: RANGE };
+    assert_eq!(rt; bench.lock(), Some(Lock { holder: 0, change }));
     assert_eq!(rt; bench.begin_unmap(2, pcid), Err(Refusal::Locked));
     assert_eq!(rt; bench.switch(2, pcid, true), Err(Refusal::Locked));
     assert_eq!(rt; bench.wake(3), Err(Refusal::Locked));
     assert_eq!(rt; bench.idle(1), Err(Refusal::Locked));
+}
+
+// Processor 1 goes on until it acknowledges.
+fn stall_interrupted(rt: &impl Abort, bench: &mut Bench) {
     assert_eq!(rt; bench.admit(1), Ok(()));
-    assert!(rt; bench.caches(&rt, 1, 16));
+    assert!(rt; bench.caches(rt, 1, 16));
     assert_eq!(rt; bench.change(0), Err(Refusal::NotYet(1)));
     assert_eq!(rt; bench.change(1), Err(Refusal::Locked));
     assert_eq!(rt; bench.ack(2), Ok(false));
@@ -204,38 +204,66 @@ fn a_change_waits_for_the_interrupted(rt: HostRuntime) -> Result<(), Fail> {
     assert_eq!(rt; bench.ack(1), Ok(false));
     assert_eq!(rt; bench.admit(1), Err(Refusal::Stalled));
     assert_eq!(rt; bench.resume(1), Err(Refusal::Locked));
-    bench.fill(&rt, 1, 17);
-    assert_eq!(rt; bench.change(0), Ok(Some(unmap)));
+    bench.fill(rt, 1, 17);
+}
+
+// The change is made once, and processor 1 resumes without what it made stale.
+fn change_once(rt: &impl Abort, bench: &mut Bench, change: Change) {
+    assert_eq!(rt; bench.change(0), Ok(Some(change)));
     assert_eq!(rt; bench.lock(), None);
     assert_eq!(rt; bench.change(0), Ok(None));
     assert_eq!(rt; bench.resume(1), Ok(true));
     assert_eq!(rt; bench.resume(1), Ok(false));
-    assert!(rt; !bench.caches(&rt, 1, 16) && !bench.caches(&rt, 1, 17));
+    assert!(rt; !bench.caches(rt, 1, 16) && !bench.caches(rt, 1, 17));
+}
+
+fn wake_once(rt: &impl Abort, bench: &mut Bench) {
     assert_eq!(rt; bench.wake(3), Ok(true));
     assert_eq!(rt; bench.wake(3), Ok(false));
     assert_eq!(rt; bench.state(3), Ok(ProcState::Active));
     assert_eq!(rt; bench.admit(4), Err(Refusal::Einval));
+}
+
+#[test]
+fn a_change_waits_for_the_interrupted(rt: HostRuntime) -> Result<(), Fail> {
+    let mut bench = Bench::new(rt.alloc(), 4, 8)?;
+    let pcid = bench.make(&rt)?;
+    begin_beside_idle(&rt, &mut bench, pcid);
+    refused_while_locked(&rt, &mut bench, pcid);
+    stall_interrupted(&rt, &mut bench);
+    change_once(&rt, &mut bench, Change::Unmap { pcid, range: RANGE });
+    wake_once(&rt, &mut bench);
     Ok(())
 }
 
-// Only processors are interrupted whose space has an entry of the page.
-#[test]
-fn a_reclaim_touches_the_spaces_with_an_entry(rt: HostRuntime) -> Result<(), Fail> {
-    let mut bench = Bench::new(rt.alloc(), 3, 8)?;
+// Each of three processors in a space of its own, with two pages in its TLB.
+fn enter_own_spaces(rt: &impl Abort, bench: &mut Bench) -> Result<(), Refusal> {
     for p in 0..3 {
-        let pcid = bench.make(&rt)?;
+        let pcid = bench.make(rt)?;
         assert_eq!(rt; bench.switch(p, pcid, false), Ok(()));
-        bench.fill(&rt, p, 16);
-        bench.fill(&rt, p, 17);
+        bench.fill(rt, p, 16);
+        bench.fill(rt, p, 17);
     }
-    bench.set_first(&rt, 2, Entry::absent());
-    let page = FilePage { file: 2, page: 0 };
+    Ok(())
+}
+
+// Processor 0 reclaims a page that the space of processor 1 has no entry of.
+fn reclaim(rt: &impl Abort, bench: &mut Bench, page: FilePage) {
     assert_eq!(rt; bench.begin(0, Change::Reclaim { page }), Ok(()));
     assert_eq!(rt; bench.state(1), Ok(ProcState::Active));
     assert_eq!(rt; bench.state(2), Ok(ProcState::Interrupted));
     assert_eq!(rt; bench.ack(2), Ok(true));
     assert_eq!(rt; bench.change(0), Ok(Some(Change::Reclaim { page })));
     assert_eq!(rt; bench.resume(2), Ok(true));
+}
+
+// Only processors are interrupted whose space has an entry of the page.
+#[test]
+fn a_reclaim_touches_the_spaces_with_an_entry(rt: HostRuntime) -> Result<(), Fail> {
+    let mut bench = Bench::new(rt.alloc(), 3, 8)?;
+    enter_own_spaces(&rt, &mut bench)?;
+    bench.set_first(&rt, 2, Entry::absent());
+    reclaim(&rt, &mut bench, FilePage { file: 2, page: 0 });
     for p in 0..3 {
         assert_eq!(rt; bench.caches(&rt, p, 16), p == 1);
         assert!(rt; bench.caches(&rt, p, 17));
@@ -243,23 +271,57 @@ fn a_reclaim_touches_the_spaces_with_an_entry(rt: HostRuntime) -> Result<(), Fai
     Ok(())
 }
 
+// Processor 1 caches pages of a space, and is in space 0 when pages of it are unmapped.
+fn unmap_elsewhere(rt: &impl Abort, bench: &mut Bench, pcid: Pcid) -> Result<(), Refusal> {
+    assert_eq!(rt; bench.switch(1, pcid, false), Ok(()));
+    for page in [15, 16, 19] {
+        bench.fill(rt, 1, page);
+    }
+    assert_eq!(rt; bench.switch(1, 0, true), Ok(()));
+    assert_eq!(rt; bench.begin_unmap(0, pcid), Ok(()));
+    assert!(rt; bench.change(0)?.is_some());
+    Ok(())
+}
+
+fn switch_back(rt: &impl Abort, bench: &mut Bench, pcid: Pcid) {
+    assert_eq!(rt; bench.switch(1, pcid, true), Ok(()));
+    assert!(rt; bench.caches(rt, 1, 15));
+    assert!(rt; !bench.caches(rt, 1, 16) && !bench.caches(rt, 1, 19));
+    assert_eq!(rt; bench.switch(1, pcid, false), Ok(()));
+    assert!(rt; !bench.caches(rt, 1, 15));
+}
+
 // A switch that keeps its space's entries drops those that a change made stale meanwhile.
 #[test]
 fn entries_that_were_kept_go_with_the_mapping(rt: HostRuntime) -> Result<(), Fail> {
     let mut bench = Bench::new(rt.alloc(), 2, 8)?;
     let pcid = bench.make(&rt)?;
-    assert_eq!(rt; bench.switch(1, pcid, false), Ok(()));
-    for page in [15, 16, 19] {
-        bench.fill(&rt, 1, page);
+    unmap_elsewhere(&rt, &mut bench, pcid)?;
+    switch_back(&rt, &mut bench, pcid);
+    Ok(())
+}
+
+// Pages of a space are unmapped so many times.
+fn unmap_often(rt: &impl Abort, bench: &mut Bench, pcid: Pcid, changes: u8) {
+    for _ in 0..changes {
+        let unmap = Change::Unmap { pcid, range: RANGE };
+        assert_eq!(rt; bench.begin_unmap(0, pcid), Ok(()));
+        assert_eq!(rt; bench.change(0), Ok(Some(unmap)));
     }
-    assert_eq!(rt; bench.switch(1, 0, true), Ok(()));
-    assert_eq!(rt; bench.begin_unmap(0, pcid), Ok(()));
-    assert!(rt; bench.change(0)?.is_some());
+}
+
+// Processor 1 caches a page of a space, and a new space that it was in before is changed so many times.
+fn change_beside(
+    rt: &impl Abort,
+    bench: &mut Bench,
+    kept: Pcid,
+    changes: u8,
+) -> Result<(), Refusal> {
+    let pcid = bench.make(rt)?;
     assert_eq!(rt; bench.switch(1, pcid, true), Ok(()));
-    assert!(rt; bench.caches(&rt, 1, 15));
-    assert!(rt; !bench.caches(&rt, 1, 16) && !bench.caches(&rt, 1, 19));
-    assert_eq!(rt; bench.switch(1, pcid, false), Ok(()));
-    assert!(rt; !bench.caches(&rt, 1, 15));
+    assert_eq!(rt; bench.switch(1, kept, true), Ok(()));
+    bench.fill(rt, 1, 16);
+    unmap_often(rt, bench, pcid, changes);
     Ok(())
 }
 
@@ -269,37 +331,47 @@ fn a_queue_of_eight(rt: HostRuntime) -> Result<(), Fail> {
     let mut bench = Bench::new(rt.alloc(), 2, 8)?;
     let kept = bench.make(&rt)?;
     for changes in 2..4 {
-        let pcid = bench.make(&rt)?;
-        assert_eq!(rt; bench.switch(1, pcid, true), Ok(()));
-        assert_eq!(rt; bench.switch(1, kept, true), Ok(()));
-        bench.fill(&rt, 1, 16);
-        for _ in 0..changes {
-            let unmap = Change::Unmap { pcid, range: RANGE };
-            assert_eq!(rt; bench.begin_unmap(0, pcid), Ok(()));
-            assert_eq!(rt; bench.change(0), Ok(Some(unmap)));
-        }
+        change_beside(&rt, &mut bench, kept, changes)?;
         assert_eq!(rt; bench.switch(1, kept, true), Ok(()));
         assert_eq!(rt; bench.caches(&rt, 1, 16), changes == 2);
     }
     Ok(())
 }
 
-#[test]
-fn a_pcid_is_used_again(rt: HostRuntime) -> Result<(), Fail> {
-    let mut bench = Bench::new(rt.alloc(), 2, 8)?;
-    let pcid = bench.make(&rt)?;
+// A space is destroyed once processor 1, which caches a page of it, has left it.
+fn leave_and_destroy(rt: &impl Abort, bench: &mut Bench, pcid: Pcid) {
     assert_eq!(rt; bench.switch(1, pcid, false), Ok(()));
-    bench.fill(&rt, 1, 16);
+    bench.fill(rt, 1, 16);
     assert_eq!(rt; bench.may_destroy(0), Err(Refusal::Einval));
     assert_eq!(rt; bench.may_destroy(2), Err(Refusal::Einval));
     assert_eq!(rt; bench.may_destroy(pcid), Err(Refusal::Busy));
     assert_eq!(rt; bench.switch(1, 0, true), Ok(()));
     assert_eq!(rt; bench.may_destroy(pcid), Ok(()));
-    bench.destroy(&rt, pcid);
+    bench.destroy(rt, pcid);
+}
+
+#[test]
+fn a_pcid_is_used_again(rt: HostRuntime) -> Result<(), Fail> {
+    let mut bench = Bench::new(rt.alloc(), 2, 8)?;
+    let pcid = bench.make(&rt)?;
+    leave_and_destroy(&rt, &mut bench, pcid);
     assert_eq!(rt; bench.create(), Ok(pcid));
     assert_eq!(rt; bench.switch(1, pcid, true), Ok(()));
     assert!(rt; !bench.caches(&rt, 1, 16));
     Ok(())
+}
+
+// Processor p caches 65 pages, one more than it has entries for, and drops some.
+fn cache_65(rt: &impl Abort, bench: &mut Bench, p: ProcessorNumber) {
+    assert_eq!(rt; bench.admit_free(p), Ok(()));
+    for page in 0..65 {
+        bench.fill(rt, p, page);
+    }
+    assert!(rt; !bench.caches(rt, p, 0) && bench.caches(rt, p, 1));
+    bench.drop_newest(rt, p);
+    assert!(rt; !bench.caches(rt, p, 64) && bench.caches(rt, p, 63));
+    bench.drop_page(rt, p, 1);
+    assert!(rt; !bench.caches(rt, p, 1) && bench.caches(rt, p, 2));
 }
 
 #[test]
@@ -307,15 +379,7 @@ fn sixteen_processors_cache_64_entries_each(rt: HostRuntime) -> Result<(), Fail>
     let mut bench = Bench::new(rt.alloc(), 16, 64)?;
     assert_eq!(rt; bench.processors(), 16);
     for p in 0..16 {
-        assert_eq!(rt; bench.admit_free(p), Ok(()));
-        for page in 0..65 {
-            bench.fill(&rt, p, page);
-        }
-        assert!(rt; !bench.caches(&rt, p, 0) && bench.caches(&rt, p, 1));
-        bench.drop_newest(&rt, p);
-        assert!(rt; !bench.caches(&rt, p, 64) && bench.caches(&rt, p, 63));
-        bench.drop_page(&rt, p, 1);
-        assert!(rt; !bench.caches(&rt, p, 1) && bench.caches(&rt, p, 2));
+        cache_65(&rt, &mut bench, p);
     }
     assert_eq!(rt; bench.state(16), Err(Refusal::Einval));
     Ok(())

@@ -2,6 +2,7 @@
 use mappings::{PageRange, Place, Rights};
 use page_entry::{Entry, FilePage, PAGE, PageNumber, Pcid, Refusal};
 use spaces::{ALL_PAGES, Change, Spaces};
+use std::alloc::{AllocError, Global};
 use std::process::Abort;
 use std::test::Fail;
 
@@ -62,118 +63,206 @@ fn set(rt: &impl Abort, spaces: &mut Spaces, pcid: Pcid, page: PageNumber, entry
     spaces.set_entry(pcid, page, entry);
 }
 
+// Makes a space, of the lowest PCID that is free.
+fn create(spaces: &mut Spaces) -> Result<Pcid, Refusal> {
+    spaces.create()
+}
+
+// What a page of a space maps.
+fn place_of(spaces: &Spaces, pcid: Pcid, page: PageNumber) -> Option<Place> {
+    spaces.place(pcid, page)
+}
+
+// The entry of a page of a space.
+fn entry_of(spaces: &Spaces, pcid: Pcid, page: PageNumber) -> Entry {
+    spaces.entry(pcid, page)
+}
+
+// Removes a space that has to be there.
+fn remove(rt: &impl Abort, spaces: &mut Spaces, pcid: Pcid) {
+    assert!(rt; pcid > 0 && spaces.has(pcid));
+    spaces.remove(pcid);
+    assert!(rt; !spaces.has(pcid));
+}
+
+// Makes all spaces.
+fn create_all(rt: &impl Abort, spaces: &mut Spaces) {
+    for pcid in 1..4096 {
+        assert_eq!(rt; create(spaces), Ok(pcid));
+    }
+    assert_eq!(rt; create(spaces), Err(Refusal::Enomem));
+    assert_eq!(rt; spaces.pcids().last(), Some(4095));
+}
+
 #[test]
 fn pcids_are_the_lowest_that_are_free(rt: HostRuntime) -> Result<(), Fail> {
     let mut spaces = Spaces::new(rt.alloc())?;
-    for pcid in 1..4096 {
-        assert_eq!(rt; spaces.create(), Ok(pcid));
-    }
-    assert_eq!(rt; spaces.create(), Err(Refusal::Enomem));
-    assert_eq!(rt; spaces.pcids().last(), Some(4095));
+    create_all(&rt, &mut spaces);
     for pcid in [4095, 3, 7] {
-        assert!(rt; pcid > 0 && spaces.has(pcid));
-        spaces.remove(pcid);
-        assert!(rt; !spaces.has(pcid));
+        remove(&rt, &mut spaces, pcid);
     }
     for pcid in [3, 7, 4095] {
-        assert_eq!(rt; spaces.create(), Ok(pcid));
+        assert_eq!(rt; create(&mut spaces), Ok(pcid));
     }
-    assert_eq!(rt; spaces.create(), Err(Refusal::Enomem));
+    assert_eq!(rt; create(&mut spaces), Err(Refusal::Enomem));
     Ok(())
+}
+
+// The last page of a mapping of the most pages.
+const LAST: PageNumber = 16 + 65_535;
+
+// Maps the most pages that a mapping may have.
+fn map_most(rt: &impl Abort, spaces: &mut Spaces, pcid: Pcid) {
+    assert_eq!(rt; map(spaces, pcid, 65_537, PLACE), Err(Refusal::Einval));
+    assert_eq!(rt; map(spaces, pcid, 65_536, PLACE), Ok(()));
+    assert_eq!(rt; map(spaces, pcid, 1, PLACE), Err(Refusal::Overlap));
+}
+
+// All of them are mapped, and none after them.
+fn most_are_mapped(rt: &impl Abort, spaces: &Spaces, pcid: Pcid) {
+    assert!(rt; spaces.maps_each(pcid, 16 * PAGE, 65_536 * PAGE));
+    assert!(rt; !spaces.maps_each(pcid, 16 * PAGE, 65_536 * PAGE + 1));
+    let last = Place {
+        page: 65_535,
+        ..PLACE
+    };
+    assert_eq!(rt; place_of(spaces, pcid, LAST), Some(last));
+}
+
+// The first dirty page of a space, which has to be there.
+fn first_dirty(rt: &impl Abort, spaces: &Spaces, pcid: Pcid) -> Option<PageNumber> {
+    assert!(rt; spaces.has(pcid));
+    spaces.dirty_pages(pcid, ALL_PAGES).next()
+}
+
+// Whether a space maps one of the pages between the first and the last one.
+fn maps_inner(spaces: &Spaces, pcid: Pcid) -> bool {
+    let inner = PageRange {
+        first: 17,
+        count: 65_534,
+    };
+    spaces.maps_some(pcid, inner)
 }
 
 #[test]
 fn a_mapping_has_65_536_pages(rt: HostRuntime) -> Result<(), Fail> {
     let mut spaces = Spaces::new(rt.alloc())?;
-    let pcid = spaces.create()?;
-    assert_eq!(rt; map(&mut spaces, pcid, 65_537, PLACE), Err(Refusal::Einval));
-    assert_eq!(rt; map(&mut spaces, pcid, 65_536, PLACE), Ok(()));
-    assert_eq!(rt; map(&mut spaces, pcid, 1, PLACE), Err(Refusal::Overlap));
-    assert!(rt; spaces.maps_each(pcid, 16 * PAGE, 65_536 * PAGE));
-    assert!(rt; !spaces.maps_each(pcid, 16 * PAGE, 65_536 * PAGE + 1));
-    let last = 16 + 65_535;
-    assert_eq!(rt;
-        spaces.place(pcid, last),
-        Some(Place {
-            page: 65_535,
-            ..PLACE
-        })
-    );
-    set(&rt, &mut spaces, pcid, last, stored(7));
-    assert_eq!(rt; spaces.entry(pcid, last), stored(7));
-    assert!(rt; spaces.has(pcid));
-    assert_eq!(rt; spaces.dirty_pages(pcid, ALL_PAGES).next(), Some(last));
+    let pcid = create(&mut spaces)?;
+    map_most(&rt, &mut spaces, pcid);
+    most_are_mapped(&rt, &spaces, pcid);
+    set(&rt, &mut spaces, pcid, LAST, stored(7));
+    assert_eq!(rt; entry_of(&spaces, pcid, LAST), stored(7));
+    assert_eq!(rt; first_dirty(&rt, &spaces, pcid), Some(LAST));
     assert_eq!(rt; unmap(&mut spaces, pcid, 17, 65_534), Ok(()));
-    assert_eq!(rt; spaces.place(pcid, 16), Some(PLACE));
-    let inner = PageRange {
-        first: 17,
-        count: 65_534,
-    };
-    assert!(rt; !spaces.maps_some(pcid, inner));
-    assert_eq!(rt; spaces.entry(pcid, last), stored(7));
+    assert_eq!(rt; place_of(&spaces, pcid, 16), Some(PLACE));
+    assert!(rt; !maps_inner(&spaces, pcid));
+    assert_eq!(rt; entry_of(&spaces, pcid, LAST), stored(7));
     Ok(())
+}
+
+// Four pages of a space, with an entry each.
+fn map_stored(rt: &impl Abort, spaces: &mut Spaces, pcid: Pcid) -> Result<(), Refusal> {
+    map(spaces, pcid, 4, PLACE)?;
+    for page in 16..20 {
+        set(rt, spaces, pcid, page, stored(page as u32));
+    }
+    Ok(())
+}
+
+// Takes the right to store from two pages.
+fn make_read_only(rt: &impl Abort, spaces: &mut Spaces, pcid: Pcid, read_only: Entry) {
+    assert_eq!(rt; protect(spaces, pcid, 17, 2, Rights::Read), Ok(()));
+    assert_eq!(rt; entry_of(spaces, pcid, 17), read_only);
+    let place = Place {
+        page: 1,
+        rights: Rights::Read,
+        ..PLACE
+    };
+    assert_eq!(rt; place_of(spaces, pcid, 17), Some(place));
+}
+
+// Gives it back, but not to the entries.
+fn make_writable(rt: &impl Abort, spaces: &mut Spaces, pcid: Pcid, read_only: Entry) {
+    assert_eq!(rt; protect(spaces, pcid, 17, 2, Rights::ReadWrite), Ok(()));
+    assert_eq!(rt; entry_of(spaces, pcid, 17), read_only);
+    let place = Place { page: 1, ..PLACE };
+    assert_eq!(rt; place_of(spaces, pcid, 17), Some(place));
 }
 
 #[test]
 fn entries_lose_writable_with_the_right(rt: HostRuntime) -> Result<(), Fail> {
     let mut spaces = Spaces::new(rt.alloc())?;
-    let pcid = spaces.create()?;
-    map(&mut spaces, pcid, 4, PLACE)?;
-    for page in 16..20 {
-        set(&rt, &mut spaces, pcid, page, stored(page as u32));
-    }
+    let pcid = create(&mut spaces)?;
+    map_stored(&rt, &mut spaces, pcid)?;
     let read_only = stored(17).with_writable(false);
-    assert_eq!(rt; protect(&mut spaces, pcid, 17, 2, Rights::Read), Ok(()));
-    assert_eq!(rt; spaces.entry(pcid, 17), read_only);
-    assert_eq!(rt;
-        spaces.place(pcid, 17),
-        Some(Place {
-            page: 1,
-            rights: Rights::Read,
-            ..PLACE
-        })
-    );
-    assert_eq!(rt;
-        protect(&mut spaces, pcid, 17, 2, Rights::ReadWrite),
-        Ok(())
-    );
-    assert_eq!(rt; spaces.entry(pcid, 17), read_only);
-    assert_eq!(rt; spaces.place(pcid, 17), Some(Place { page: 1, ..PLACE }));
-    assert_eq!(rt; spaces.entry(pcid, 19), stored(19));
-    assert_eq!(rt;
-        protect(&mut spaces, pcid, 17, 4, Rights::Read),
-        Err(Refusal::Enomem)
-    );
+    make_read_only(&rt, &mut spaces, pcid, read_only);
+    make_writable(&rt, &mut spaces, pcid, read_only);
+    assert_eq!(rt; entry_of(&spaces, pcid, 19), stored(19));
+    let done = protect(&mut spaces, pcid, 17, 4, Rights::Read);
+    assert_eq!(rt; done, Err(Refusal::Enomem));
     Ok(())
+}
+
+// Three spaces that map two pages each.
+fn map_three(rt: &impl Abort, spaces: &mut Spaces) -> Result<(), Refusal> {
+    for expected in 1..4 {
+        let pcid = create(spaces)?;
+        assert_eq!(rt; pcid, expected);
+        map(spaces, pcid, 2, PLACE)?;
+    }
+    Ok(())
+}
+
+// Whether these are the pages of spaces with an entry of a page of a file.
+fn has_entries_of(
+    alloc: Global,
+    spaces: &Spaces,
+    page: FilePage,
+    expected: &[(Pcid, PageNumber)],
+) -> Result<bool, AllocError> {
+    let listed: Vec<(Pcid, PageNumber)> = spaces.entries_of(page).collect(alloc)?;
+    Ok(listed.as_slice() == expected)
+}
+
+// Whether a change touches a space or not, and affects its page 17 or not.
+fn touches(spaces: &Spaces, change: Change, pcid: Pcid, touched: bool) -> bool {
+    spaces.touches(&change, pcid) == touched && spaces.affects(&change, pcid, 17) == touched
+}
+
+// A change touches the spaces with an entry, and a checkpoint all of them.
+fn touches_spaces(rt: &impl Abort, spaces: &Spaces, change: Change) {
+    for (pcid, touched) in [(1, true), (2, false), (3, true)] {
+        assert!(rt; touches(spaces, change, pcid, touched));
+        assert!(rt; spaces.touches(&Change::Checkpoint, pcid));
+    }
+}
+
+// Protects frame 9.
+fn protect_frame(spaces: &mut Spaces) {
+    let mut noted = [false; 10];
+    noted[9] = true;
+    spaces.protect_frames(&noted);
+}
+
+fn clear_entries_of(spaces: &mut Spaces, page: FilePage) {
+    spaces.clear_entries_of(page);
 }
 
 #[test]
 fn changes_reach_every_space(rt: HostRuntime) -> Result<(), Fail> {
     let mut spaces = Spaces::new(rt.alloc())?;
     let page = FilePage { file: 2, page: 1 };
-    for expected in 1..4 {
-        let pcid = spaces.create()?;
-        assert_eq!(rt; pcid, expected);
-        map(&mut spaces, pcid, 2, PLACE)?;
-    }
+    map_three(&rt, &mut spaces)?;
     for pcid in [1, 3] {
         set(&rt, &mut spaces, pcid, 17, stored(9));
     }
-    let listed: Vec<(Pcid, PageNumber)> = spaces.entries_of(page).collect(rt.alloc())?;
-    assert_eq!(rt; listed.as_slice(), [(1, 17), (3, 17)].as_slice());
-    let reclaim = Change::Reclaim { page };
-    for (pcid, touched) in [(1, true), (2, false), (3, true)] {
-        assert_eq!(rt; spaces.touches(&reclaim, pcid), touched);
-        assert_eq!(rt; spaces.affects(&reclaim, pcid, 17), touched);
-        assert!(rt; spaces.touches(&Change::Checkpoint, pcid));
-    }
-    let mut noted = [false; 10];
-    noted[9] = true;
-    spaces.protect_frames(&noted);
-    assert_eq!(rt; spaces.entry(1, 17), stored(9).protected());
-    assert_eq!(rt; spaces.entry(3, 17), stored(9).protected());
-    spaces.clear_entries_of(page);
-    assert_eq!(rt; spaces.entries_of(page).next(), None);
-    assert_eq!(rt; spaces.entry(3, 17), Entry::absent());
+    assert!(rt; has_entries_of(rt.alloc(), &spaces, page, &[(1, 17), (3, 17)])?);
+    touches_spaces(&rt, &spaces, Change::Reclaim { page });
+    protect_frame(&mut spaces);
+    assert_eq!(rt; entry_of(&spaces, 1, 17), stored(9).protected());
+    assert_eq!(rt; entry_of(&spaces, 3, 17), stored(9).protected());
+    clear_entries_of(&mut spaces, page);
+    assert!(rt; has_entries_of(rt.alloc(), &spaces, page, &[])?);
+    assert_eq!(rt; entry_of(&spaces, 3, 17), Entry::absent());
     Ok(())
 }
