@@ -11,6 +11,8 @@ use page_entry::{Entry, FilePage, FrameNumber, PageNumber, ProcessorNumber, Refu
 use shootdown::Shootdown;
 use spaces::Spaces;
 use std::alloc::Global;
+use std::marker::Model;
+use std::process::Abort;
 use std::test::Fail;
 
 // The first two pages of file 0.
@@ -147,50 +149,133 @@ impl Bench {
     }
 }
 
+// A bench whose TLBs cohere with its entries, which map frames in use.
+#[derive(Drop)]
+struct Trial {
+    bench: Bench,
+}
+
+impl Model for Trial {
+    ghost use Rattle.cpu.specs.Access.{hardware, IsReachable};
+
+    ghost Value = { Unit {0} };
+
+    ghost view = { λ t. tt };
+
+    ghost invariant = { λ t. IsReachable (hardware t.bench.shootdown t.bench.spaces.map t.bench.frames) };
+}
+
+impl Trial {
+    fn new(alloc: Global) -> Result<Self, Fail> {
+        Ok(Trial {
+            bench: Bench::new(alloc)?,
+        })
+    }
+
+    fn loads(&mut self, p: ProcessorNumber, va: u64, bytes: &[u8]) -> Result<bool, Refusal> {
+        self.bench.loads(p, va, bytes)
+    }
+
+    fn store(&mut self, p: ProcessorNumber, va: u64, bytes: &[u8]) -> Result<(), Refusal> {
+        self.bench.store(p, va, bytes)
+    }
+
+    fn fill(&mut self, p: ProcessorNumber, page: PageNumber) -> Result<bool, Refusal> {
+        self.bench.fill(p, page)
+    }
+
+    fn evict(&mut self, p: ProcessorNumber, slot: usize) -> Result<bool, Refusal> {
+        self.bench.evict(p, slot)
+    }
+
+    fn bits(&self, page: PageNumber) -> u64 {
+        self.bench.bits(page)
+    }
+}
+
+// Processor 0 stores what processor 1 loads.
+fn store_first(rt: &impl Abort, trial: &mut Trial) {
+    let loaded = (trial.loads(0, 0x1_0000, &[0; 8]), trial.bits(16));
+    assert_eq!(rt; loaded, (Ok(true), 0x27));
+    let stored = (trial.store(0, 0x1_0ffe, &[65, 66]), trial.bits(16));
+    assert_eq!(rt; stored, (Ok(()), 0x67));
+    assert_eq!(rt; trial.loads(1, 0x1_0ffd, &[0, 65, 66]), Ok(true));
+}
+
+// Processor 1 stores what processor 0 loads.
+fn store_second(rt: &impl Abort, trial: &mut Trial) {
+    assert_eq!(rt; trial.store(1, 0x1_0ffd, &[64]), Ok(()));
+    assert_eq!(rt; trial.loads(0, 0x1_0ffd, &[64, 65, 66]), Ok(true));
+    let loaded = (trial.loads(0, 0x1_1000, &[0]), trial.bits(17));
+    assert_eq!(rt; loaded, (Ok(true), 0x25));
+}
+
 #[test]
 fn a_store_is_loaded_by_another_processor(rt: HostRuntime) -> Result<(), Fail> {
-    let mut bench = Bench::new(rt.alloc())?;
-    assert_eq!(rt; bench.loads(0, 0x1_0000, &[0; 8]), Ok(true));
-    assert_eq!(rt; bench.bits(16), 0x27);
-    assert_eq!(rt; bench.store(0, 0x1_0ffe, &[65, 66]), Ok(()));
-    assert_eq!(rt; bench.bits(16), 0x67);
-    assert_eq!(rt; bench.loads(1, 0x1_0ffd, &[0, 65, 66]), Ok(true));
-    assert_eq!(rt; bench.store(1, 0x1_0ffd, &[64]), Ok(()));
-    assert_eq!(rt; bench.loads(0, 0x1_0ffd, &[64, 65, 66]), Ok(true));
-    assert_eq!(rt; bench.loads(0, 0x1_1000, &[0]), Ok(true));
-    assert_eq!(rt; bench.bits(17), 0x25);
+    let mut trial = Trial::new(rt.alloc())?;
+    store_first(&rt, &mut trial);
+    store_second(&rt, &mut trial);
     Ok(())
+}
+
+// Accesses that their processor's MMU refuses.
+fn faults(rt: &impl Abort, trial: &mut Trial) {
+    for va in [0x1_2000, (1 << 47) - 1] {
+        assert_eq!(rt; trial.loads(0, va, &[0]), Err(Refusal::Fault(4)));
+    }
+    for (va, code) in [(0x1_2000, 6), (0x1_1000, 7)] {
+        assert_eq!(rt; trial.store(0, va, &[1]), Err(Refusal::Fault(code)));
+    }
+}
+
+// Accesses of no bytes, of too many, over the end of a page, over the last address, and by no processor.
+fn invalid_accesses(rt: &impl Abort, trial: &mut Trial) {
+    let over = trial.loads(0, 0x1_0fff, &[0; 2]);
+    let long = trial.loads(0, 0x1_0000, &[0; 9]);
+    let other = trial.loads(2, 0x1_0000, &[0]);
+    let invalid = Err(Refusal::Einval);
+    assert_eq!(rt; (over, long, other), (invalid, invalid, invalid));
+    let none = trial.store(0, 0x1_0000, &[]);
+    let high = trial.store(0, 1 << 47, &[1]);
+    assert_eq!(rt; (none, high), (Err(Refusal::Einval), Err(Refusal::Einval)));
 }
 
 #[test]
 fn accesses_are_refused_in_order(rt: HostRuntime) -> Result<(), Fail> {
-    let mut bench = Bench::new(rt.alloc())?;
-    assert_eq!(rt; bench.loads(0, 0x1_2000, &[0]), Err(Refusal::Fault(4)));
-    assert_eq!(rt; bench.store(0, 0x1_2000, &[1]), Err(Refusal::Fault(6)));
-    assert_eq!(rt; bench.store(0, 0x1_1000, &[1]), Err(Refusal::Fault(7)));
-    assert_eq!(rt; bench.loads(0, 0x1_0fff, &[0; 2]), Err(Refusal::Einval));
-    assert_eq!(rt; bench.loads(0, 0x1_0000, &[0; 9]), Err(Refusal::Einval));
-    assert_eq!(rt; bench.store(0, 0x1_0000, &[]), Err(Refusal::Einval));
-    assert_eq!(rt; bench.store(0, 1 << 47, &[1]), Err(Refusal::Einval));
-    assert_eq!(rt; bench.loads(0, (1 << 47) - 1, &[0]), Err(Refusal::Fault(4)));
-    assert_eq!(rt; bench.loads(2, 0x1_0000, &[0]), Err(Refusal::Einval));
+    let mut trial = Trial::new(rt.alloc())?;
+    faults(&rt, &mut trial);
+    invalid_accesses(&rt, &mut trial);
     Ok(())
+}
+
+fn fill_both(rt: &impl Abort, trial: &mut Trial) {
+    assert_eq!(rt; trial.evict(0, 0), Ok(false));
+    for (page, bits) in [(17, 0x25), (16, 0x27)] {
+        let filled = (trial.fill(0, page), trial.bits(page));
+        assert_eq!(rt; filled, (Ok(true), bits));
+    }
+}
+
+fn fill_neither(rt: &impl Abort, trial: &mut Trial) {
+    let answers = (
+        trial.fill(0, 18),
+        trial.fill(0, u64::MAX),
+        trial.fill(2, 16),
+    );
+    assert_eq!(rt; answers, (Ok(false), Ok(false), Err(Refusal::Einval)));
+}
+
+fn evict_one(rt: &impl Abort, trial: &mut Trial) {
+    let answers = (trial.evict(0, 1), trial.evict(0, 1), trial.evict(2, 0));
+    assert_eq!(rt; answers, (Ok(true), Ok(false), Err(Refusal::Einval)));
 }
 
 // A TLB of two entries.
 #[test]
 fn a_tlb_fills_and_evicts_unasked(rt: HostRuntime) -> Result<(), Fail> {
-    let mut bench = Bench::new(rt.alloc())?;
-    assert_eq!(rt; bench.evict(0, 0), Ok(false));
-    assert_eq!(rt; bench.fill(0, 17), Ok(true));
-    assert_eq!(rt; bench.bits(17), 0x25);
-    assert_eq!(rt; bench.fill(0, 16), Ok(true));
-    assert_eq!(rt; bench.bits(16), 0x27);
-    assert_eq!(rt; bench.fill(0, 18), Ok(false));
-    assert_eq!(rt; bench.fill(0, u64::MAX), Ok(false));
-    assert_eq!(rt; bench.fill(2, 16), Err(Refusal::Einval));
-    assert_eq!(rt; bench.evict(0, 1), Ok(true));
-    assert_eq!(rt; bench.evict(0, 1), Ok(false));
-    assert_eq!(rt; bench.evict(2, 0), Err(Refusal::Einval));
+    let mut trial = Trial::new(rt.alloc())?;
+    fill_both(&rt, &mut trial);
+    fill_neither(&rt, &mut trial);
+    evict_one(&rt, &mut trial);
     Ok(())
 }

@@ -9,6 +9,7 @@ use mappings::Rights;
 use page_entry::{Entry, FilePage, FrameNumber, PAGE, PageNumber, Pcid, Refusal};
 use spaces::Spaces;
 use std::alloc::Global;
+use std::marker::Model;
 use std::process::Abort;
 use std::test::Fail;
 
@@ -196,91 +197,199 @@ impl Parts {
     }
 }
 
+// Parts whose entries map frames of the pages that their own pages map.
+#[derive(Drop)]
+struct Trial {
+    parts: Parts,
+}
+
+impl Model for Trial {
+    ghost use Rattle.std.specs.Prelude.{◌≡◌, length};
+    ghost use Rattle.checkpoint.specs.Backing.{AreBacked};
+
+    ghost Value = { Unit {0} };
+
+    ghost view = { λ t. tt };
+
+    ghost invariant = { λ t. (length t.parts.checkpoint.notes ≡ length t.parts.frames.frames)
+        × AreBacked t.parts.frames t.parts.checkpoint t.parts.spaces.map };
+}
+
+impl Trial {
+    fn new(alloc: Global) -> Result<Self, Fail> {
+        Ok(Trial {
+            parts: Parts::new(alloc)?,
+        })
+    }
+
+    // The entry of a page, as a load or a store leaves it.
+    fn present(&self, rt: &impl Abort, page: FilePage, stored: bool) -> Entry {
+        present(self.parts.frame(rt, page), stored)
+    }
+
+    fn entry(&self, pcid: Pcid, page: PageNumber) -> Entry {
+        self.parts.spaces.entry(pcid, page)
+    }
+
+    fn has(&self, pcid: Pcid) -> bool {
+        self.parts.spaces.has(pcid)
+    }
+
+    fn enter(&mut self, rt: &impl Abort, pcid: Pcid, page: PageNumber, stored: bool) {
+        self.parts.enter(rt, pcid, page, stored);
+    }
+
+    fn unmap(&mut self, pcid: Pcid, page: u32) -> Result<(), Refusal> {
+        self.parts.unmap(pcid, page)
+    }
+
+    fn destroy(&mut self, rt: &impl Abort, pcid: Pcid) {
+        self.parts.destroy(rt, pcid);
+    }
+
+    fn clear(&mut self, page: FilePage) {
+        self.parts.clear(page);
+    }
+
+    fn mark(&mut self, freezes: bool) -> usize {
+        self.parts.mark(freezes)
+    }
+
+    fn copy_out(&mut self, page: FilePage) -> Result<(), Refusal> {
+        self.parts.copy_out(page)
+    }
+
+    fn release(&mut self, rt: &impl Abort) {
+        self.parts.release(rt);
+    }
+
+    fn release_all(&mut self) {
+        self.parts.release_all();
+    }
+
+    fn is_dirty(&self, rt: &impl Abort, page: FilePage) -> bool {
+        self.parts.is_dirty(rt, page)
+    }
+
+    // Whether these are the frozen pages, in their order.
+    fn are_frozen(&self, expected: &[FilePage]) -> bool {
+        self.parts.checkpoint.frozen() == expected
+    }
+
+    fn is_frozen(&self, page: FilePage) -> bool {
+        self.parts.checkpoint.is_frozen(page)
+    }
+
+    fn is_held(&self, page: FilePage) -> bool {
+        self.parts.checkpoint.is_held(&self.parts.frames, page)
+    }
+
+    fn copied(&self, page: FilePage) -> bool {
+        self.parts.checkpoint.copied(&self.parts.frames, page)
+    }
+}
+
+// Loads and stores of both spaces, of which one page is unmapped then.
+fn dirty_three(rt: &impl Abort, trial: &mut Trial) -> Result<(), Refusal> {
+    trial.enter(rt, 1, 16, true);
+    trial.enter(rt, 1, 17, true);
+    trial.enter(rt, 2, 32, false);
+    trial.enter(rt, 2, 33, true);
+    trial.enter(rt, 2, 34, false);
+    trial.unmap(1, 17)
+}
+
+// The entries of what a mark has gathered are protected, and no others.
+fn entries_are_protected(rt: &impl Abort, trial: &Trial) {
+    let third = trial.present(rt, THIRD, true).protected();
+    let fourth = trial.present(rt, FOURTH, false);
+    let entries = (trial.entry(1, 16), trial.entry(2, 32), trial.entry(2, 34));
+    assert_eq!(rt; entries, (third, third, fourth));
+    assert_eq!(rt; trial.entry(1, 17), Entry::absent());
+}
+
 #[test]
 fn a_mark_gathers_every_space(rt: HostRuntime) -> Result<(), Fail> {
-    let mut parts = Parts::new(rt.alloc())?;
-    parts.enter(&rt, 1, 16, true);
-    parts.enter(&rt, 1, 17, true);
-    parts.enter(&rt, 2, 32, false);
-    parts.enter(&rt, 2, 33, true);
-    parts.enter(&rt, 2, 34, false);
-    parts.unmap(1, 17)?;
+    let mut trial = Trial::new(rt.alloc())?;
+    dirty_three(&rt, &mut trial)?;
     for (page, dirty) in [
         (FIRST, true),
         (SECOND, true),
         (THIRD, true),
         (FOURTH, false),
     ] {
-        assert_eq!(rt; parts.is_dirty(&rt, page), dirty);
+        assert_eq!(rt; trial.is_dirty(&rt, page), dirty);
     }
-    assert_eq!(rt; parts.mark(true), 3);
-    assert_eq!(rt;
-        parts.checkpoint.frozen(),
-        [FIRST, SECOND, THIRD].as_slice()
-    );
-    let third = present(parts.frame(&rt, THIRD), true).protected();
-    assert_eq!(rt; parts.spaces.entry(1, 16), third);
-    assert_eq!(rt; parts.spaces.entry(2, 32), third);
-    assert_eq!(rt; parts.spaces.entry(1, 17), Entry::absent());
-    let fourth = present(parts.frame(&rt, FOURTH), false);
-    assert_eq!(rt; parts.spaces.entry(2, 34), fourth);
+    assert_eq!(rt; trial.mark(true), 3);
+    assert!(rt; trial.are_frozen(&[FIRST, SECOND, THIRD]));
+    entries_are_protected(&rt, &trial);
     for page in [FIRST, SECOND, THIRD, FOURTH] {
-        assert!(rt; !parts.is_dirty(&rt, page));
-        assert_eq!(rt; parts.checkpoint.is_frozen(page), page != FOURTH);
+        assert!(rt; !trial.is_dirty(&rt, page));
+        assert_eq!(rt; trial.is_frozen(page), page != FOURTH);
     }
     Ok(())
 }
 
+// A mark of three pages, two of which are copied.
+fn freeze_three(rt: &impl Abort, trial: &mut Trial) -> Result<(), Refusal> {
+    trial.enter(rt, 1, 16, true);
+    trial.enter(rt, 1, 17, true);
+    trial.enter(rt, 2, 33, true);
+    assert_eq!(rt; trial.mark(true), 3);
+    assert!(rt; trial.is_held(THIRD));
+    trial.copy_out(FIRST)?;
+    trial.copy_out(THIRD)
+}
+
+// The first page's record is written.
+fn release_first(rt: &impl Abort, trial: &mut Trial) {
+    assert!(rt; trial.is_frozen(THIRD) && trial.copied(THIRD) && !trial.is_held(THIRD));
+    trial.release(rt);
+    assert!(rt; trial.are_frozen(&[SECOND, THIRD]));
+    assert!(rt; !trial.copied(FIRST) && trial.copied(THIRD));
+}
+
 #[test]
 fn pages_are_frozen_until_their_records_are_written(rt: HostRuntime) -> Result<(), Fail> {
-    let mut parts = Parts::new(rt.alloc())?;
-    parts.enter(&rt, 1, 16, true);
-    parts.enter(&rt, 1, 17, true);
-    parts.enter(&rt, 2, 33, true);
-    assert_eq!(rt; parts.mark(true), 3);
-    assert!(rt; parts.checkpoint.is_held(&parts.frames, THIRD));
-    parts.copy_out(FIRST)?;
-    parts.copy_out(THIRD)?;
-    assert!(rt; parts.checkpoint.is_frozen(THIRD));
-    assert!(rt; parts.checkpoint.copied(&parts.frames, THIRD));
-    assert!(rt; !parts.checkpoint.is_held(&parts.frames, THIRD));
-    parts.release(&rt);
-    assert_eq!(rt; parts.checkpoint.frozen(), [SECOND, THIRD].as_slice());
-    assert!(rt; !parts.checkpoint.copied(&parts.frames, FIRST));
-    assert!(rt; parts.checkpoint.copied(&parts.frames, THIRD));
-    parts.release_all();
-    assert!(rt; parts.checkpoint.frozen().is_empty());
-    assert!(rt; !parts.checkpoint.copied(&parts.frames, THIRD));
-    assert_eq!(rt; parts.mark(true), 0);
+    let mut trial = Trial::new(rt.alloc())?;
+    freeze_three(&rt, &mut trial)?;
+    release_first(&rt, &mut trial);
+    trial.release_all();
+    assert!(rt; trial.are_frozen(&[]) && !trial.copied(THIRD));
+    assert_eq!(rt; trial.mark(true), 0);
     Ok(())
 }
 
 #[test]
 fn a_mark_on_a_broken_machine_freezes_nothing(rt: HostRuntime) -> Result<(), Fail> {
-    let mut parts = Parts::new(rt.alloc())?;
-    parts.enter(&rt, 1, 16, true);
-    assert_eq!(rt; parts.mark(false), 1);
-    assert!(rt; parts.checkpoint.frozen().is_empty());
-    assert!(rt; !parts.checkpoint.is_frozen(THIRD));
-    assert!(rt; !parts.is_dirty(&rt, THIRD));
+    let mut trial = Trial::new(rt.alloc())?;
+    trial.enter(&rt, 1, 16, true);
+    assert_eq!(rt; trial.mark(false), 1);
+    assert!(rt; trial.are_frozen(&[]) && !trial.is_frozen(THIRD));
+    assert!(rt; !trial.is_dirty(&rt, THIRD));
     Ok(())
+}
+
+// Two dirty pages, whose entries go with their space and their page.
+fn dirty_two(rt: &impl Abort, trial: &mut Trial) {
+    trial.enter(rt, 1, 16, true);
+    trial.enter(rt, 2, 32, false);
+    trial.enter(rt, 2, 33, true);
+    trial.enter(rt, 2, 34, false);
+    trial.destroy(rt, 2);
+    assert!(rt; !trial.has(2));
+    trial.clear(THIRD);
+    assert_eq!(rt; trial.entry(1, 16), Entry::absent());
 }
 
 #[test]
 fn what_was_dirty_stays_noted(rt: HostRuntime) -> Result<(), Fail> {
-    let mut parts = Parts::new(rt.alloc())?;
-    parts.enter(&rt, 1, 16, true);
-    parts.enter(&rt, 2, 32, false);
-    parts.enter(&rt, 2, 33, true);
-    parts.enter(&rt, 2, 34, false);
-    parts.destroy(&rt, 2);
-    assert!(rt; !parts.spaces.has(2));
-    parts.clear(THIRD);
-    assert_eq!(rt; parts.spaces.entry(1, 16), Entry::absent());
+    let mut trial = Trial::new(rt.alloc())?;
+    dirty_two(&rt, &mut trial);
     for (page, dirty) in [(FIRST, true), (THIRD, true), (FOURTH, false)] {
-        assert_eq!(rt; parts.is_dirty(&rt, page), dirty);
+        assert_eq!(rt; trial.is_dirty(&rt, page), dirty);
     }
-    assert_eq!(rt; parts.mark(true), 2);
-    assert_eq!(rt; parts.checkpoint.frozen(), [FIRST, THIRD].as_slice());
+    assert_eq!(rt; trial.mark(true), 2);
+    assert!(rt; trial.are_frozen(&[FIRST, THIRD]));
     Ok(())
 }

@@ -13,6 +13,7 @@ use mappings::{Place, Rights};
 use page_entry::{Entry, FileNumber, FilePage, FrameNumber, PAGE, PageNumber, Pcid, Refusal};
 use spaces::Spaces;
 use std::alloc::Global;
+use std::marker::Model;
 use std::process::Abort;
 use std::test::Fail;
 
@@ -44,9 +45,6 @@ const MAPPED: [Row; 4] = [
         Rights::ReadWrite,
     ),
 ];
-
-// Bytes of the volume.
-const LENGTH: u64 = 40_960;
 
 // How many bytes a file has.
 fn length_of(file: FileNumber) -> u64 {
@@ -172,36 +170,26 @@ impl Parts {
     }
 }
 
-#[test]
-fn refusals_come_in_order(rt: HostRuntime) -> Result<(), Fail> {
-    let mut device = MemDisk::new(rt.alloc(), LENGTH)?;
-    let mut parts = Parts::new(rt.alloc(), 1, 0)?;
-    for (va, write, why) in [
-        (1 << 47, true, Refusal::Einval),
-        ((1 << 47) - 1, true, Refusal::SegvMapErr),
-        (65_536, true, Refusal::SegvMapErr),
-        (20_480, true, Refusal::SegvAccErr),
-        (12_288, true, Refusal::BusAdrErr),
-    ] {
-        assert_eq!(rt; parts.serve(&mut device, va, write, true), Err(why));
-    }
-    assert_eq!(rt; device.calls(), 0);
-    assert_eq!(rt; parts.serve(&mut device, 4096, true, false), Ok(()));
-    assert_eq!(rt; device.calls(), 1);
-    for (va, why) in [(12_288, Refusal::BusAdrErr), (8192, Refusal::NoFrame)] {
-        assert_eq!(rt; parts.serve(&mut device, va, false, true), Err(why));
-    }
-    parts.store(&rt, 1, 65);
-    assert_eq!(rt; parts.mark(), 1);
-    let frozen = parts.entry(1);
-    assert_eq!(rt;
-        parts.serve(&mut device, 4096, true, true),
-        Err(Refusal::Held)
-    );
-    assert_eq!(rt; parts.serve(&mut device, 4096, false, true), Ok(()));
-    assert_eq!(rt; parts.entry(1), frozen);
-    assert_eq!(rt; device.calls(), 1);
-    Ok(())
+// Parts that faults are served in, with the device of their volume.
+#[derive(Drop)]
+struct Trial {
+    parts: Parts,
+    device: FailingDisk<MemDisk<Global>>,
+}
+
+impl Model for Trial {
+    ghost use Rattle.std.specs.Prelude.{◌≡◌, true, length};
+    ghost use Rattle.std.specs.List.{All};
+    ghost use Rattle.checkpoint.specs.Backing.{AreBacked};
+    ghost use Rattle.fault.specs.Fault.{is_in_memory};
+
+    ghost Value = { Unit {0} };
+
+    ghost view = { λ t. tt };
+
+    ghost invariant = { λ t. (length t.parts.checkpoint.notes ≡ length t.parts.frames.frames)
+        × AreBacked t.parts.frames t.parts.checkpoint t.parts.spaces.map
+        × All (λ page. is_in_memory t.parts.frames page ≡ true) t.parts.checkpoint.frozen };
 }
 
 // A volume whose file 0 has 66 as its last byte, with 67 after it.
@@ -212,66 +200,193 @@ fn volume(alloc: Global) -> Result<MemDisk<Global>, Fail> {
     Ok(MemDisk::from_bytes(alloc, bytes)?)
 }
 
+impl Trial {
+    // With so many frames and copies, and a device whose n-th call fails, unless that is 0.
+    fn new(alloc: Global, frames: FrameNumber, copies: CopyNumber, n: u64) -> Result<Self, Fail> {
+        let device = FailingDisk::new(volume(alloc)?, n);
+        let parts = Parts::new(alloc, frames, copies)?;
+        Ok(Trial { parts, device })
+    }
+
+    fn serve(&mut self, va: u64, write: bool, broken: bool) -> Result<(), Refusal> {
+        self.parts.serve(&mut self.device, va, write, broken)
+    }
+
+    fn store(&mut self, rt: &impl Abort, page: PageNumber, byte: u8) {
+        self.parts.store(rt, page, byte);
+    }
+
+    fn mark(&mut self) -> usize {
+        self.parts.mark()
+    }
+
+    fn entry(&self, page: PageNumber) -> Entry {
+        self.parts.entry(page)
+    }
+
+    // Whether no frame was ever in use.
+    fn is_unused(&self) -> bool {
+        self.parts.frames.is_unused()
+    }
+
+    // Some bytes of the frame with the last page of file 0.
+    fn last_bytes(&self, rt: &impl Abort) -> &[u8] {
+        &self.parts.bytes(rt, FilePage { file: 0, page: 1 })[902..906]
+    }
+
+    // The first bytes of the frame with a page, and of its copy.
+    fn first_bytes(&self, rt: &impl Abort, page: FilePage) -> (u8, u8) {
+        (self.parts.bytes(rt, page)[0], self.parts.copy(rt, page)[0])
+    }
+
+    // How many calls the device had.
+    fn calls(&self) -> u64 {
+        self.device.calls()
+    }
+
+    // How many calls of the device failed.
+    fn faults(&self) -> u64 {
+        self.device.faults()
+    }
+}
+
+// Stores that no fault serves, in the order in which they are judged.
+fn refused_stores(rt: &impl Abort, trial: &mut Trial) {
+    for (va, why) in [
+        (1 << 47, Refusal::Einval),
+        ((1 << 47) - 1, Refusal::SegvMapErr),
+        (65_536, Refusal::SegvMapErr),
+        (20_480, Refusal::SegvAccErr),
+        (12_288, Refusal::BusAdrErr),
+    ] {
+        assert_eq!(rt; trial.serve(va, true, true), Err(why));
+    }
+    assert_eq!(rt; trial.calls(), 0);
+}
+
+// Loads that no fault serves once the one frame is in use.
+fn refused_loads(rt: &impl Abort, trial: &mut Trial) {
+    assert_eq!(rt; trial.serve(4096, true, false), Ok(()));
+    assert_eq!(rt; trial.calls(), 1);
+    for (va, why) in [(12_288, Refusal::BusAdrErr), (8192, Refusal::NoFrame)] {
+        assert_eq!(rt; trial.serve(va, false, true), Err(why));
+    }
+}
+
+// A store to a frozen page, without a copy.
+fn refused_frozen(rt: &impl Abort, trial: &mut Trial) {
+    trial.store(rt, 1, 65);
+    assert_eq!(rt; trial.mark(), 1);
+    let frozen = trial.entry(1);
+    let served = (
+        trial.serve(4096, true, true),
+        trial.serve(4096, false, true),
+    );
+    assert_eq!(rt; served, (Err(Refusal::Held), Ok(())));
+    assert_eq!(rt; (trial.entry(1), trial.calls()), (frozen, 1));
+}
+
+#[test]
+fn refusals_come_in_order(rt: HostRuntime) -> Result<(), Fail> {
+    let mut trial = Trial::new(rt.alloc(), 1, 0, 0)?;
+    refused_stores(&rt, &mut trial);
+    refused_loads(&rt, &mut trial);
+    refused_frozen(&rt, &mut trial);
+    Ok(())
+}
+
+// The last page of file 0 is read in, for a load and then a store.
+fn read_last(rt: &impl Abort, trial: &mut Trial) {
+    let served = (
+        trial.serve(8192, false, false),
+        trial.serve(8192, true, false),
+    );
+    assert_eq!(rt; (served, trial.calls()), ((Ok(()), Ok(())), 1));
+    assert_eq!(rt; trial.last_bytes(rt), [0, 66, 0, 0].as_slice());
+    let entry = trial.entry(2);
+    let (accessed, dirty) = (entry.accessed(), entry.dirty());
+    assert!(rt; entry.present() && entry.writable() && !accessed && !dirty);
+}
+
+// The page of file 1 is read in, which three pages map.
+fn read_shared(rt: &impl Abort, trial: &mut Trial) {
+    for va in [16_384, 20_480, 32_768] {
+        assert_eq!(rt; trial.serve(va, false, false), Ok(()));
+    }
+    assert_eq!(rt; trial.calls(), 2);
+    let entry = trial.entry(4);
+    let expected = (entry.with_writable(false), entry);
+    assert_eq!(rt; (trial.entry(5), trial.entry(8)), expected);
+}
+
 #[test]
 fn a_page_is_read_once(rt: HostRuntime) -> Result<(), Fail> {
-    let mut device = volume(rt.alloc())?;
-    let mut parts = Parts::new(rt.alloc(), 4, 2)?;
-    assert_eq!(rt; parts.serve(&mut device, 8192, false, false), Ok(()));
-    assert_eq!(rt; parts.serve(&mut device, 8192, true, false), Ok(()));
-    assert_eq!(rt; device.calls(), 1);
-    let last = FilePage { file: 0, page: 1 };
-    assert_eq!(rt; &parts.bytes(&rt, last)[902..906], [0, 66, 0, 0].as_slice());
-    let entry = parts.entry(2);
-    assert!(rt; entry.present() && entry.writable());
-    assert!(rt; !entry.accessed() && !entry.dirty());
-    for va in [16_384, 20_480, 32_768] {
-        assert_eq!(rt; parts.serve(&mut device, va, false, false), Ok(()));
-    }
-    assert_eq!(rt; device.calls(), 2);
-    assert_eq!(rt; parts.entry(5), parts.entry(4).with_writable(false));
-    assert_eq!(rt; parts.entry(8), parts.entry(4));
+    let mut trial = Trial::new(rt.alloc(), 4, 2, 0)?;
+    read_last(&rt, &mut trial);
+    read_shared(&rt, &mut trial);
     Ok(())
+}
+
+// A page is stored to and marked; its entry, as it was before the mark and without the dirty bit, comes back.
+fn freeze(rt: &impl Abort, trial: &mut Trial) -> Entry {
+    assert_eq!(rt; trial.serve(16_384, true, false), Ok(()));
+    trial.store(rt, 4, 1);
+    let mapped = trial.entry(4).with_dirty(false);
+    let marked = (trial.mark(), trial.entry(4));
+    assert_eq!(rt; marked, (1, mapped.with_writable(false)));
+    mapped
+}
+
+// Stores through both of its entries.
+fn store_frozen(rt: &impl Abort, trial: &mut Trial, mapped: Entry) {
+    for va in [32_768, 16_384] {
+        assert_eq!(rt; trial.serve(va, true, false), Ok(()));
+    }
+    assert_eq!(rt; (trial.entry(4), trial.entry(8)), (mapped, mapped));
+    trial.store(rt, 8, 2);
 }
 
 #[test]
 fn a_frozen_page_is_copied_once(rt: HostRuntime) -> Result<(), Fail> {
-    let mut device = MemDisk::new(rt.alloc(), LENGTH)?;
-    let mut parts = Parts::new(rt.alloc(), 4, 1)?;
+    let mut trial = Trial::new(rt.alloc(), 4, 1, 0)?;
+    let mapped = freeze(&rt, &mut trial);
+    store_frozen(&rt, &mut trial, mapped);
     let page = FilePage { file: 1, page: 0 };
-    assert_eq!(rt; parts.serve(&mut device, 16_384, true, false), Ok(()));
-    parts.store(&rt, 4, 1);
-    let mapped = parts.entry(4).with_dirty(false);
-    assert_eq!(rt; parts.mark(), 1);
-    assert_eq!(rt; parts.entry(4), mapped.with_writable(false));
-    assert_eq!(rt; parts.serve(&mut device, 32_768, true, false), Ok(()));
-    assert_eq!(rt; parts.serve(&mut device, 16_384, true, false), Ok(()));
-    assert_eq!(rt; parts.entry(4), mapped);
-    assert_eq!(rt; parts.entry(8), mapped);
-    parts.store(&rt, 8, 2);
-    assert_eq!(rt; parts.bytes(&rt, page)[0], 2);
-    assert_eq!(rt; parts.copy(&rt, page)[0], 1);
-    assert_eq!(rt; device.calls(), 1);
+    assert_eq!(rt; trial.first_bytes(&rt, page), (2, 1));
+    assert_eq!(rt; trial.calls(), 1);
     Ok(())
+}
+
+// A store of a broken machine makes no call, and the call of another one fails.
+fn fail_reads(rt: &impl Abort, trial: &mut Trial) {
+    let broken = (trial.serve(4096, true, true), trial.calls());
+    assert_eq!(rt; broken, (Err(Refusal::Device), 0));
+    let failed = (
+        trial.serve(4096, true, false),
+        trial.calls(),
+        trial.faults(),
+    );
+    assert_eq!(rt; failed, (Err(Refusal::Device), 1, 1));
+}
+
+// Nothing has changed, and the page is read in when it is asked for again.
+fn read_again(rt: &impl Abort, trial: &mut Trial) {
+    assert_eq!(rt;
+        (trial.entry(1), trial.is_unused()),
+        (Entry::absent(), true)
+    );
+    let served = (
+        trial.serve(4096, false, false),
+        trial.serve(4096, true, true),
+    );
+    assert_eq!(rt; served, (Ok(()), Ok(())));
+    assert_eq!(rt; (trial.calls(), trial.faults()), (2, 1));
 }
 
 #[test]
 fn a_failed_read_changes_nothing(rt: HostRuntime) -> Result<(), Fail> {
-    let mut device = FailingDisk::new(MemDisk::new(rt.alloc(), LENGTH)?, 1);
-    let mut parts = Parts::new(rt.alloc(), 4, 2)?;
-    assert_eq!(rt;
-        parts.serve(&mut device, 4096, true, true),
-        Err(Refusal::Device)
-    );
-    assert_eq!(rt; device.calls(), 0);
-    assert_eq!(rt;
-        parts.serve(&mut device, 4096, true, false),
-        Err(Refusal::Device)
-    );
-    assert_eq!(rt; (device.calls(), device.faults()), (1, 1));
-    assert_eq!(rt; parts.entry(1), Entry::absent());
-    assert!(rt; parts.frames.is_unused());
-    assert_eq!(rt; parts.serve(&mut device, 4096, false, false), Ok(()));
-    assert_eq!(rt; parts.serve(&mut device, 4096, true, true), Ok(()));
-    assert_eq!(rt; (device.calls(), device.faults()), (2, 1));
+    let mut trial = Trial::new(rt.alloc(), 4, 2, 1)?;
+    fail_reads(&rt, &mut trial);
+    read_again(&rt, &mut trial);
     Ok(())
 }

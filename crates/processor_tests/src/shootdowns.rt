@@ -177,8 +177,8 @@ fn begin_beside_idle(rt: &impl Abort, bench: &mut Bench, pcid: Pcid) {
     for p in [0, 1, 3] {
         assert_eq!(rt; bench.switch(p, pcid, false), Ok(()));
     }
-    assert_eq!(rt; bench.switch(2, 2, false), Err(Refusal::Einval));
-    assert_eq!(rt; bench.idle(3), Ok(()));
+    let answers = (bench.switch(2, 2, false), bench.idle(3));
+    assert_eq!(rt; answers, (Err(Refusal::Einval), Ok(())));
     bench.fill(rt, 1, 16);
     assert_eq!(rt; bench.begin_unmap(0, pcid), Ok(()));
 }
@@ -187,40 +187,42 @@ fn begin_beside_idle(rt: &impl Abort, bench: &mut Bench, pcid: Pcid) {
 fn refused_while_locked(rt: &impl Abort, bench: &mut Bench, pcid: Pcid) {
     let change = Change::Unmap { pcid, range: RANGE };
     assert_eq!(rt; bench.lock(), Some(Lock { holder: 0, change }));
-    assert_eq!(rt; bench.begin_unmap(2, pcid), Err(Refusal::Locked));
-    assert_eq!(rt; bench.switch(2, pcid, true), Err(Refusal::Locked));
+    let begun = bench.begin_unmap(2, pcid);
+    let answers = (begun, bench.switch(2, pcid, true), bench.idle(1));
+    let locked = Err(Refusal::Locked);
+    assert_eq!(rt; answers, (locked, locked, locked));
     assert_eq!(rt; bench.wake(3), Err(Refusal::Locked));
-    assert_eq!(rt; bench.idle(1), Err(Refusal::Locked));
 }
 
-// Processor 1 goes on until it acknowledges.
-fn stall_interrupted(rt: &impl Abort, bench: &mut Bench) {
+// No change is handed out before processor 1, which goes on, has acknowledged.
+fn change_too_early(rt: &impl Abort, bench: &mut Bench) {
     assert_eq!(rt; bench.admit(1), Ok(()));
     assert!(rt; bench.caches(rt, 1, 16));
-    assert_eq!(rt; bench.change(0), Err(Refusal::NotYet(1)));
-    assert_eq!(rt; bench.change(1), Err(Refusal::Locked));
-    assert_eq!(rt; bench.ack(2), Ok(false));
-    assert_eq!(rt; bench.ack(1), Ok(true));
-    assert_eq!(rt; bench.ack(1), Ok(false));
-    assert_eq!(rt; bench.admit(1), Err(Refusal::Stalled));
-    assert_eq!(rt; bench.resume(1), Err(Refusal::Locked));
+    let answers = (bench.change(0), bench.change(1));
+    assert_eq!(rt; answers, (Err(Refusal::NotYet(1)), Err(Refusal::Locked)));
+}
+
+// Processor 1 acknowledges once, and stalls.
+fn stall(rt: &impl Abort, bench: &mut Bench) {
+    let answers = (bench.ack(2), bench.ack(1), bench.ack(1));
+    assert_eq!(rt; answers, (Ok(false), Ok(true), Ok(false)));
+    let answers = (bench.admit(1), bench.resume(1));
+    assert_eq!(rt; answers, (Err(Refusal::Stalled), Err(Refusal::Locked)));
     bench.fill(rt, 1, 17);
 }
 
 // The change is made once, and processor 1 resumes without what it made stale.
 fn change_once(rt: &impl Abort, bench: &mut Bench, change: Change) {
-    assert_eq!(rt; bench.change(0), Ok(Some(change)));
-    assert_eq!(rt; bench.lock(), None);
-    assert_eq!(rt; bench.change(0), Ok(None));
-    assert_eq!(rt; bench.resume(1), Ok(true));
-    assert_eq!(rt; bench.resume(1), Ok(false));
+    let answers = (bench.change(0), bench.lock(), bench.change(0));
+    assert_eq!(rt; answers, (Ok(Some(change)), None, Ok(None)));
+    let answers = (bench.resume(1), bench.resume(1));
+    assert_eq!(rt; answers, (Ok(true), Ok(false)));
     assert!(rt; !bench.caches(rt, 1, 16) && !bench.caches(rt, 1, 17));
 }
 
 fn wake_once(rt: &impl Abort, bench: &mut Bench) {
-    assert_eq!(rt; bench.wake(3), Ok(true));
-    assert_eq!(rt; bench.wake(3), Ok(false));
-    assert_eq!(rt; bench.state(3), Ok(ProcState::Active));
+    let answers = (bench.wake(3), bench.wake(3), bench.state(3));
+    assert_eq!(rt; answers, (Ok(true), Ok(false), Ok(ProcState::Active)));
     assert_eq!(rt; bench.admit(4), Err(Refusal::Einval));
 }
 
@@ -230,7 +232,8 @@ fn a_change_waits_for_the_interrupted(rt: HostRuntime) -> Result<(), Fail> {
     let pcid = bench.make(&rt)?;
     begin_beside_idle(&rt, &mut bench, pcid);
     refused_while_locked(&rt, &mut bench, pcid);
-    stall_interrupted(&rt, &mut bench);
+    change_too_early(&rt, &mut bench);
+    stall(&rt, &mut bench);
     change_once(&rt, &mut bench, Change::Unmap { pcid, range: RANGE });
     wake_once(&rt, &mut bench);
     Ok(())
@@ -250,11 +253,11 @@ fn enter_own_spaces(rt: &impl Abort, bench: &mut Bench) -> Result<(), Refusal> {
 // Processor 0 reclaims a page that the space of processor 1 has no entry of.
 fn reclaim(rt: &impl Abort, bench: &mut Bench, page: FilePage) {
     assert_eq!(rt; bench.begin(0, Change::Reclaim { page }), Ok(()));
-    assert_eq!(rt; bench.state(1), Ok(ProcState::Active));
-    assert_eq!(rt; bench.state(2), Ok(ProcState::Interrupted));
-    assert_eq!(rt; bench.ack(2), Ok(true));
-    assert_eq!(rt; bench.change(0), Ok(Some(Change::Reclaim { page })));
-    assert_eq!(rt; bench.resume(2), Ok(true));
+    let states = (bench.state(1), bench.state(2));
+    assert_eq!(rt; states, (Ok(ProcState::Active), Ok(ProcState::Interrupted)));
+    let answers = (bench.ack(2), bench.change(0), bench.resume(2));
+    let reclaim = Change::Reclaim { page };
+    assert_eq!(rt; answers, (Ok(true), Ok(Some(reclaim)), Ok(true)));
 }
 
 // Only processors are interrupted whose space has an entry of the page.
@@ -277,8 +280,8 @@ fn unmap_elsewhere(rt: &impl Abort, bench: &mut Bench, pcid: Pcid) -> Result<(),
     for page in [15, 16, 19] {
         bench.fill(rt, 1, page);
     }
-    assert_eq!(rt; bench.switch(1, 0, true), Ok(()));
-    assert_eq!(rt; bench.begin_unmap(0, pcid), Ok(()));
+    let answers = (bench.switch(1, 0, true), bench.begin_unmap(0, pcid));
+    assert_eq!(rt; answers, (Ok(()), Ok(())));
     assert!(rt; bench.change(0)?.is_some());
     Ok(())
 }
@@ -305,8 +308,8 @@ fn entries_that_were_kept_go_with_the_mapping(rt: HostRuntime) -> Result<(), Fai
 fn unmap_often(rt: &impl Abort, bench: &mut Bench, pcid: Pcid, changes: u8) {
     for _ in 0..changes {
         let unmap = Change::Unmap { pcid, range: RANGE };
-        assert_eq!(rt; bench.begin_unmap(0, pcid), Ok(()));
-        assert_eq!(rt; bench.change(0), Ok(Some(unmap)));
+        let answers = (bench.begin_unmap(0, pcid), bench.change(0));
+        assert_eq!(rt; answers, (Ok(()), Ok(Some(unmap))));
     }
 }
 
@@ -318,8 +321,8 @@ fn change_beside(
     changes: u8,
 ) -> Result<(), Refusal> {
     let pcid = bench.make(rt)?;
-    assert_eq!(rt; bench.switch(1, pcid, true), Ok(()));
-    assert_eq!(rt; bench.switch(1, kept, true), Ok(()));
+    let answers = (bench.switch(1, pcid, true), bench.switch(1, kept, true));
+    assert_eq!(rt; answers, (Ok(()), Ok(())));
     bench.fill(rt, 1, 16);
     unmap_often(rt, bench, pcid, changes);
     Ok(())
@@ -342,11 +345,11 @@ fn a_queue_of_eight(rt: HostRuntime) -> Result<(), Fail> {
 fn leave_and_destroy(rt: &impl Abort, bench: &mut Bench, pcid: Pcid) {
     assert_eq!(rt; bench.switch(1, pcid, false), Ok(()));
     bench.fill(rt, 1, 16);
-    assert_eq!(rt; bench.may_destroy(0), Err(Refusal::Einval));
-    assert_eq!(rt; bench.may_destroy(2), Err(Refusal::Einval));
-    assert_eq!(rt; bench.may_destroy(pcid), Err(Refusal::Busy));
-    assert_eq!(rt; bench.switch(1, 0, true), Ok(()));
-    assert_eq!(rt; bench.may_destroy(pcid), Ok(()));
+    let answers = (bench.may_destroy(0), bench.may_destroy(2));
+    assert_eq!(rt; answers, (Err(Refusal::Einval), Err(Refusal::Einval)));
+    let before = bench.may_destroy(pcid);
+    let answers = (before, bench.switch(1, 0, true), bench.may_destroy(pcid));
+    assert_eq!(rt; answers, (Err(Refusal::Busy), Ok(()), Ok(())));
     bench.destroy(rt, pcid);
 }
 
@@ -355,8 +358,8 @@ fn a_pcid_is_used_again(rt: HostRuntime) -> Result<(), Fail> {
     let mut bench = Bench::new(rt.alloc(), 2, 8)?;
     let pcid = bench.make(&rt)?;
     leave_and_destroy(&rt, &mut bench, pcid);
-    assert_eq!(rt; bench.create(), Ok(pcid));
-    assert_eq!(rt; bench.switch(1, pcid, true), Ok(()));
+    let answers = (bench.create(), bench.switch(1, pcid, true));
+    assert_eq!(rt; answers, (Ok(pcid), Ok(())));
     assert!(rt; !bench.caches(&rt, 1, 16));
     Ok(())
 }
