@@ -224,6 +224,13 @@ impl Trial {
         self.parts.entry(page)
     }
 
+    // Whether the entry of a page is present, writable, accessed and dirty.
+    fn bits(&self, page: PageNumber) -> [bool; 4] {
+        let entry = self.parts.entry(page);
+        let (present, writable) = (entry.present(), entry.writable());
+        [present, writable, entry.accessed(), entry.dirty()]
+    }
+
     // Whether no frame was ever in use.
     fn is_unused(&self) -> bool {
         self.parts.frames.is_unused()
@@ -248,6 +255,16 @@ impl Trial {
     fn faults(&self) -> u64 {
         self.device.faults()
     }
+}
+
+// An entry without its dirty bit.
+fn clean(entry: Entry) -> Entry {
+    entry.with_dirty(false)
+}
+
+// An entry without its writable bit.
+fn read_only(entry: Entry) -> Entry {
+    entry.with_writable(false)
 }
 
 // Stores that no fault serves, in the order in which they are judged.
@@ -303,9 +320,7 @@ fn read_last(rt: &impl Abort, trial: &mut Trial) {
     );
     assert_eq!(rt; (served, trial.calls()), ((Ok(()), Ok(())), 1));
     assert_eq!(rt; trial.last_bytes(rt), [0, 66, 0, 0].as_slice());
-    let entry = trial.entry(2);
-    let (accessed, dirty) = (entry.accessed(), entry.dirty());
-    assert!(rt; entry.present() && entry.writable() && !accessed && !dirty);
+    assert_eq!(rt; trial.bits(2), [true, true, false, false]);
 }
 
 // The page of file 1 is read in, which three pages map.
@@ -315,8 +330,8 @@ fn read_shared(rt: &impl Abort, trial: &mut Trial) {
     }
     assert_eq!(rt; trial.calls(), 2);
     let entry = trial.entry(4);
-    let expected = (entry.with_writable(false), entry);
-    assert_eq!(rt; (trial.entry(5), trial.entry(8)), expected);
+    let entries = (trial.entry(5), trial.entry(8));
+    assert_eq!(rt; entries, (read_only(entry), entry));
 }
 
 #[test]
@@ -329,11 +344,11 @@ fn a_page_is_read_once(rt: HostRuntime) -> Result<(), Fail> {
 
 // A page is stored to and marked; its entry, as it was before the mark and without the dirty bit, comes back.
 fn freeze(rt: &impl Abort, trial: &mut Trial) -> Entry {
-    assert_eq!(rt; trial.serve(16_384, true, false), Ok(()));
+    assert!(rt; trial.serve(16_384, true, false) == Ok(()));
     trial.store(rt, 4, 1);
-    let mapped = trial.entry(4).with_dirty(false);
+    let mapped = clean(trial.entry(4));
     let marked = (trial.mark(), trial.entry(4));
-    assert_eq!(rt; marked, (1, mapped.with_writable(false)));
+    assert!(rt; marked == (1, read_only(mapped)));
     mapped
 }
 
@@ -360,27 +375,24 @@ fn a_frozen_page_is_copied_once(rt: HostRuntime) -> Result<(), Fail> {
 // A store of a broken machine makes no call, and the call of another one fails.
 fn fail_reads(rt: &impl Abort, trial: &mut Trial) {
     let broken = (trial.serve(4096, true, true), trial.calls());
-    assert_eq!(rt; broken, (Err(Refusal::Device), 0));
+    assert!(rt; broken == (Err(Refusal::Device), 0));
     let failed = (
         trial.serve(4096, true, false),
         trial.calls(),
         trial.faults(),
     );
-    assert_eq!(rt; failed, (Err(Refusal::Device), 1, 1));
+    assert!(rt; failed == (Err(Refusal::Device), 1, 1));
 }
 
 // Nothing has changed, and the page is read in when it is asked for again.
 fn read_again(rt: &impl Abort, trial: &mut Trial) {
-    assert_eq!(rt;
-        (trial.entry(1), trial.is_unused()),
-        (Entry::absent(), true)
-    );
+    assert!(rt; (trial.entry(1), trial.is_unused()) == (Entry::absent(), true));
     let served = (
         trial.serve(4096, false, false),
         trial.serve(4096, true, true),
     );
-    assert_eq!(rt; served, (Ok(()), Ok(())));
-    assert_eq!(rt; (trial.calls(), trial.faults()), (2, 1));
+    assert!(rt; served == (Ok(()), Ok(())));
+    assert!(rt; (trial.calls(), trial.faults()) == (2, 1));
 }
 
 #[test]

@@ -84,16 +84,16 @@ fn take_both(rt: &impl Abort, frames: &mut Frames) -> Result<(FrameNumber, Frame
     let first = take_new(frames, FIRST)?;
     let second = take_new(frames, SECOND)?;
     assert_ne!(rt; first, second);
-    assert_eq!(rt; counts(frames), (2, 0, 0));
+    assert!(rt; counts(frames) == (2, 0, 0));
     let third = FilePage { file: 0, page: 0 };
-    assert_eq!(rt; take_new(frames, third), Err(Refusal::NoFrame));
+    assert!(rt; take_new(frames, third) == Err(Refusal::NoFrame));
     Ok((first, second))
 }
 
 #[test]
 fn takes_each_frame_once(rt: HostRuntime) -> Result<(), Fail> {
     let mut frames = Frames::new(rt.alloc(), 2, 0)?;
-    assert_eq!(rt; counts(&frames), (2, 0, 2));
+    assert!(rt; counts(&frames) == (2, 0, 2));
     let (first, second) = take_both(&rt, &mut frames)?;
     have_both(&rt, &mut frames, first, second);
     give_second(&rt, &mut frames, first, second);
