@@ -221,10 +221,10 @@ fn a_store_is_loaded_by_another_processor(rt: HostRuntime) -> Result<(), Fail> {
 // Accesses that their processor's MMU refuses.
 fn faults(rt: &impl Abort, trial: &mut Trial) {
     for va in [0x1_2000, (1 << 47) - 1] {
-        assert_eq!(rt; trial.loads(0, va, &[0]), Err(Refusal::Fault(4)));
+        assert!(rt; trial.loads(0, va, &[0]) == Err(Refusal::Fault(4)));
     }
     for (va, code) in [(0x1_2000, 6), (0x1_1000, 7)] {
-        assert_eq!(rt; trial.store(0, va, &[1]), Err(Refusal::Fault(code)));
+        assert!(rt; trial.store(0, va, &[1]) == Err(Refusal::Fault(code)));
     }
 }
 
@@ -249,10 +249,10 @@ fn accesses_are_refused_in_order(rt: HostRuntime) -> Result<(), Fail> {
 }
 
 fn fill_both(rt: &impl Abort, trial: &mut Trial) {
-    assert_eq!(rt; trial.evict(0, 0), Ok(false));
+    assert!(rt; trial.evict(0, 0) == Ok(false));
     for (page, bits) in [(17, 0x25), (16, 0x27)] {
         let filled = (trial.fill(0, page), trial.bits(page));
-        assert_eq!(rt; filled, (Ok(true), bits));
+        assert!(rt; filled == (Ok(true), bits));
     }
 }
 
@@ -267,7 +267,7 @@ fn fill_neither(rt: &impl Abort, trial: &mut Trial) {
 
 fn evict_one(rt: &impl Abort, trial: &mut Trial) {
     let answers = (trial.evict(0, 1), trial.evict(0, 1), trial.evict(2, 0));
-    assert_eq!(rt; answers, (Ok(true), Ok(false), Err(Refusal::Einval)));
+    assert!(rt; answers == (Ok(true), Ok(false), Err(Refusal::Einval)));
 }
 
 // A TLB of two entries.

@@ -243,7 +243,7 @@ fn a_change_waits_for_the_interrupted(rt: HostRuntime) -> Result<(), Fail> {
 fn enter_own_spaces(rt: &impl Abort, bench: &mut Bench) -> Result<(), Refusal> {
     for p in 0..3 {
         let pcid = bench.make(rt)?;
-        assert_eq!(rt; bench.switch(p, pcid, false), Ok(()));
+        assert!(rt; bench.switch(p, pcid, false) == Ok(()));
         bench.fill(rt, p, 16);
         bench.fill(rt, p, 17);
     }
@@ -252,12 +252,12 @@ fn enter_own_spaces(rt: &impl Abort, bench: &mut Bench) -> Result<(), Refusal> {
 
 // Processor 0 reclaims a page that the space of processor 1 has no entry of.
 fn reclaim(rt: &impl Abort, bench: &mut Bench, page: FilePage) {
-    assert_eq!(rt; bench.begin(0, Change::Reclaim { page }), Ok(()));
+    assert!(rt; bench.begin(0, Change::Reclaim { page }) == Ok(()));
     let states = (bench.state(1), bench.state(2));
-    assert_eq!(rt; states, (Ok(ProcState::Active), Ok(ProcState::Interrupted)));
+    assert!(rt; states == (Ok(ProcState::Active), Ok(ProcState::Interrupted)));
     let answers = (bench.ack(2), bench.change(0), bench.resume(2));
     let reclaim = Change::Reclaim { page };
-    assert_eq!(rt; answers, (Ok(true), Ok(Some(reclaim)), Ok(true)));
+    assert!(rt; answers == (Ok(true), Ok(Some(reclaim)), Ok(true)));
 }
 
 // Only processors are interrupted whose space has an entry of the page.
@@ -276,12 +276,12 @@ fn a_reclaim_touches_the_spaces_with_an_entry(rt: HostRuntime) -> Result<(), Fai
 
 // Processor 1 caches pages of a space, and is in space 0 when pages of it are unmapped.
 fn unmap_elsewhere(rt: &impl Abort, bench: &mut Bench, pcid: Pcid) -> Result<(), Refusal> {
-    assert_eq!(rt; bench.switch(1, pcid, false), Ok(()));
+    assert!(rt; bench.switch(1, pcid, false) == Ok(()));
     for page in [15, 16, 19] {
         bench.fill(rt, 1, page);
     }
     let answers = (bench.switch(1, 0, true), bench.begin_unmap(0, pcid));
-    assert_eq!(rt; answers, (Ok(()), Ok(())));
+    assert!(rt; answers == (Ok(()), Ok(())));
     assert!(rt; bench.change(0)?.is_some());
     Ok(())
 }
@@ -309,7 +309,7 @@ fn unmap_often(rt: &impl Abort, bench: &mut Bench, pcid: Pcid, changes: u8) {
     for _ in 0..changes {
         let unmap = Change::Unmap { pcid, range: RANGE };
         let answers = (bench.begin_unmap(0, pcid), bench.change(0));
-        assert_eq!(rt; answers, (Ok(()), Ok(Some(unmap))));
+        assert!(rt; answers == (Ok(()), Ok(Some(unmap))));
     }
 }
 
@@ -343,13 +343,13 @@ fn a_queue_of_eight(rt: HostRuntime) -> Result<(), Fail> {
 
 // A space is destroyed once processor 1, which caches a page of it, has left it.
 fn leave_and_destroy(rt: &impl Abort, bench: &mut Bench, pcid: Pcid) {
-    assert_eq!(rt; bench.switch(1, pcid, false), Ok(()));
+    assert!(rt; bench.switch(1, pcid, false) == Ok(()));
     bench.fill(rt, 1, 16);
     let answers = (bench.may_destroy(0), bench.may_destroy(2));
-    assert_eq!(rt; answers, (Err(Refusal::Einval), Err(Refusal::Einval)));
+    assert!(rt; answers == (Err(Refusal::Einval), Err(Refusal::Einval)));
     let before = bench.may_destroy(pcid);
     let answers = (before, bench.switch(1, 0, true), bench.may_destroy(pcid));
-    assert_eq!(rt; answers, (Err(Refusal::Busy), Ok(()), Ok(())));
+    assert!(rt; answers == (Err(Refusal::Busy), Ok(()), Ok(())));
     bench.destroy(rt, pcid);
 }
 
