@@ -25,14 +25,30 @@ fn sample_two() -> [u8; 4096] {
 // The descriptor of mark 1 for the home blocks 7 and 8.
 fn sample_descriptor() -> [u8; 4096] {
     let mut block = [0; 4096];
-    put(&mut block, 0, &[0, 0, 0, 0, 0, 0, 0, 1, 0, 0, 0, 2]);
-    put(&mut block, 16, &[0, 0, 0, 7, 0, 0, 0, 8]);
+    put(&mut block, 0, b"\0\0\0\0\0\0\0\x01\0\0\0\x02");
+    put(&mut block, 16, b"\0\0\0\x07\0\0\0\x08");
     block
 }
 
 // What a block says.
 fn table_of(alloc: Global, block: &[u8; 4096]) -> Result<Super<Global>, Fail> {
     Ok(read_super(alloc, block)?)
+}
+
+// Its geometry.
+fn geometry_of(alloc: Global, block: &[u8; 4096]) -> Result<Geometry, Fail> {
+    Ok(table_of(alloc, block)?.geometry())
+}
+
+// Its layout, how many files it has, and its slots and blocks.
+fn counts(alloc: Global, block: &[u8; 4096]) -> Result<(Layout, usize, u32, u32), Fail> {
+    let table = table_of(alloc, block)?;
+    Ok((
+        table.layout(),
+        table.file_count(),
+        table.slots(),
+        table.block_count(),
+    ))
 }
 
 // A file of a table: its name, capacity, pages and first home block.
@@ -48,6 +64,22 @@ fn file(table: &Super<Global>, number: usize) -> Option<(&str, u64, u32, u32)> {
     ))
 }
 
+// Whether a block has this file of this number.
+fn has_file(
+    alloc: Global,
+    block: &[u8; 4096],
+    number: usize,
+    wanted: (&str, u64, u32, u32),
+) -> Result<bool, Fail> {
+    let table = table_of(alloc, block)?;
+    Ok(file(&table, number) == Some(wanted))
+}
+
+// The block of the two files' table in layout 2.
+fn block_two(alloc: Global) -> Result<[u8; 4096], Fail> {
+    Ok(Super::new(alloc, 2, &SPECS, 4)?.to_block())
+}
+
 // Where a journal has its gate, its descriptor and the record of a slot.
 fn journal(geometry: &Geometry, number: u32, slot: u32) -> Option<(u32, u32, u32)> {
     if number >= geometry.journals() || slot >= geometry.slots() {
@@ -60,45 +92,55 @@ fn journal(geometry: &Geometry, number: u32, slot: u32) -> Option<(u32, u32, u32
     ))
 }
 
+// The mark of a descriptor, how many home blocks it has, the first and the last one.
+fn described(
+    alloc: Global,
+    geometry: &Geometry,
+    block: &[u8; 4096],
+) -> Result<(u64, usize, Option<u32>, Option<u32>), Fail> {
+    let found = read_descriptor(alloc, geometry, block)?;
+    let homes = found.homes();
+    Ok((
+        found.mark(),
+        homes.len(),
+        homes.first().copied(),
+        homes.last().copied(),
+    ))
+}
+
+// How a descriptor is refused.
+fn descriptor_refusal(alloc: Global, geometry: &Geometry, block: &[u8; 4096]) -> Option<Refusal> {
+    read_descriptor(alloc, geometry, block).err()
+}
+
 #[test]
 fn layout_1_is_written_and_read(rt: HostRuntime) -> Result<(), Fail> {
     let block = write_super(rt.alloc(), &FILES, 4)?;
     assert!(rt; block == sample_one());
     assert!(rt; write_super_as(rt.alloc(), 1, &SPECS, 4) == Ok(block));
-    let table = table_of(rt.alloc(), &block)?;
-    assert_eq!(rt; (table.layout(), table.file_count()), (Layout::One, 2));
-    assert_eq!(rt; (table.slots(), table.block_count()), (4, 10));
-    assert_eq!(rt; file(&table, 0), Some(("a", 5000, 2, 7)));
-    assert_eq!(rt; file(&table, 1), Some(("b", 4096, 1, 9)));
-    let geometry = table.geometry();
-    assert_eq!(rt;
-        (geometry.layout(), geometry.journals(), geometry.slots()),
-        (Layout::One, 1, 4)
-    );
-    assert_eq!(rt; journal(&geometry, 0, 3), Some((1, 2, 6)));
-    assert_eq!(rt; (geometry.first_home(), geometry.max_frames()), (7, 4));
+    assert!(rt; counts(rt.alloc(), &block)? == (Layout::One, 2, 4, 10));
+    assert!(rt; has_file(rt.alloc(), &block, 0, ("a", 5000, 2, 7))?);
+    assert!(rt; has_file(rt.alloc(), &block, 1, ("b", 4096, 1, 9))?);
+    let geometry = geometry_of(rt.alloc(), &block)?;
+    assert!(rt; geometry.layout() == Layout::One);
+    assert!(rt; (geometry.journals(), geometry.slots()) == (1, 4));
+    assert!(rt; journal(&geometry, 0, 3) == Some((1, 2, 6)));
+    assert!(rt; (geometry.first_home(), geometry.max_frames()) == (7, 4));
     Ok(())
 }
 
 #[test]
 fn layout_2_is_written_and_read(rt: HostRuntime) -> Result<(), Fail> {
-    let block = Super::new(rt.alloc(), 2, &SPECS, 4)?.to_block();
+    let block = block_two(rt.alloc())?;
     assert!(rt; block == sample_two());
-    let table = table_of(rt.alloc(), &block)?;
-    assert_eq!(rt; (table.layout(), table.file_count()), (Layout::Two, 2));
-    assert_eq!(rt; table.block_count(), 16);
-    assert_eq!(rt; file(&table, 0), Some(("a", 5000, 2, 13)));
-    assert_eq!(rt; file(&table, 1), Some(("b", 4096, 1, 15)));
-    let geometry = table.geometry();
-    assert_eq!(rt;
-        (geometry.layout(), geometry.journals(), geometry.slots()),
-        (Layout::Two, 2, 4)
-    );
-    assert_eq!(rt; journal(&geometry, 1, 0), Some((7, 8, 9)));
-    assert_eq!(rt;
-        (geometry.first_file_home(), geometry.block_count()),
-        (13, 16)
-    );
+    assert!(rt; counts(rt.alloc(), &block)? == (Layout::Two, 2, 4, 16));
+    assert!(rt; has_file(rt.alloc(), &block, 0, ("a", 5000, 2, 13))?);
+    assert!(rt; has_file(rt.alloc(), &block, 1, ("b", 4096, 1, 15))?);
+    let geometry = geometry_of(rt.alloc(), &block)?;
+    assert!(rt; geometry.layout() == Layout::Two);
+    assert!(rt; (geometry.journals(), geometry.slots()) == (2, 4));
+    assert!(rt; journal(&geometry, 1, 0) == Some((7, 8, 9)));
+    assert!(rt; (geometry.first_file_home(), geometry.block_count()) == (13, 16));
     Ok(())
 }
 
@@ -182,35 +224,36 @@ fn limits_of_tables(rt: HostRuntime) -> Result<(), Fail> {
     let most = files.get(..64).ok_or("there are 65 files")?;
     assert!(rt; block_count_of(most, 1020) == Ok(1087));
     let block = write_super(rt.alloc(), most, 1020)?;
-    let table = table_of(rt.alloc(), &block)?;
-    assert_eq!(rt; table.file_count(), 64);
-    assert_eq!(rt; file(&table, 63), Some(("_", 4096, 1, 1086)));
+    assert!(rt; counts(rt.alloc(), &block)?.1 == 64);
+    assert!(rt; has_file(rt.alloc(), &block, 63, ("_", 4096, 1, 1086))?);
     let bytes = 4096 * (u64::from(u32::MAX) - 7);
     assert!(rt; block_count_of(&[("a", bytes)], 4) == Ok(u64::from(u32::MAX)));
     assert!(rt; block_count_of(&[("a", bytes + 1)], 4) == Err(Refusal::BadShape));
     Ok(())
 }
 
+// What makes the sample's descriptor a damaged one: bytes, and where they are written.
+const DAMAGED_DESCRIPTORS: [(usize, &[u8]); 9] = [
+    (8, b"\0\0\0\0"),
+    (8, b"\0\0\0\x05"),
+    (0, b"\0\0\0\0\0\0\0\0"),
+    (16, b"\0\0\0\x08\0\0\0\x07"),
+    (16, b"\0\0\0\x07\0\0\0\x07"),
+    (16, b"\0\0\0\x06"),
+    (20, b"\0\0\0\x0A"),
+    (15, b"\x01"),
+    (4095, b"\x01"),
+];
+
 #[test]
 fn descriptors(rt: HostRuntime) -> Result<(), Fail> {
-    let geometry = table_of(rt.alloc(), &sample_one())?.geometry();
-    let found = read_descriptor(rt.alloc(), &geometry, &sample_descriptor())?;
-    assert_eq!(rt; found.mark(), 1);
-    assert_eq!(rt; found.homes(), [7, 8].as_slice());
-    for (at, bytes) in [
-        (8, [0, 0, 0, 0].as_slice()),
-        (8, &[0, 0, 0, 5]),
-        (0, &[0, 0, 0, 0, 0, 0, 0, 0]),
-        (16, &[0, 0, 0, 8, 0, 0, 0, 7]),
-        (16, &[0, 0, 0, 7, 0, 0, 0, 7]),
-        (16, &[0, 0, 0, 6]),
-        (20, &[0, 0, 0, 10]),
-        (15, &[1]),
-        (4095, &[1]),
-    ] {
+    let geometry = geometry_of(rt.alloc(), &sample_one())?;
+    let found = described(rt.alloc(), &geometry, &sample_descriptor())?;
+    assert!(rt; found == (1, 2, Some(7), Some(8)));
+    for (at, bytes) in DAMAGED_DESCRIPTORS {
         let mut block = sample_descriptor();
         put(&mut block, at, bytes);
-        let refusal = read_descriptor(rt.alloc(), &geometry, &block).err();
+        let refusal = descriptor_refusal(rt.alloc(), &geometry, &block);
         assert_eq!(rt; refusal, Some(Refusal::Damaged), "byte {at}");
     }
     Ok(())
@@ -226,20 +269,23 @@ fn a_descriptor_is_written(rt: HostRuntime) -> Result<(), Fail> {
     Ok(())
 }
 
-// A full descriptor has 1,020 home blocks, here 1,023 to 2,042.
-#[test]
-fn a_full_descriptor(rt: HostRuntime) -> Result<(), Fail> {
-    let block = write_super(rt.alloc(), &[("a", 4096 * 1020)], 1020)?;
-    let geometry = table_of(rt.alloc(), &block)?.geometry();
+// A descriptor of mark 9 with 1,020 home blocks.
+fn full_descriptor() -> [u8; 4096] {
     let mut full = [0; 4096];
-    put(&mut full, 0, &[0, 0, 0, 0, 0, 0, 0, 9, 0, 0, 3, 0xFC]);
+    put(&mut full, 0, b"\0\0\0\0\0\0\0\x09\0\0\x03\xFC");
     for i in 0..1020u16 {
         let home = (1023 + i).to_be_bytes();
         put(&mut full, 18 + 4 * usize::from(i), &home);
     }
-    let found = read_descriptor(rt.alloc(), &geometry, &full)?;
-    assert_eq!(rt; found.mark(), 9);
-    assert_eq!(rt; found.homes().len(), 1020);
-    assert_eq!(rt; found.homes().last().copied(), Some(2042));
+    full
+}
+
+// A full descriptor has 1,020 home blocks, here 1,023 to 2,042.
+#[test]
+fn a_full_descriptor(rt: HostRuntime) -> Result<(), Fail> {
+    let block = write_super(rt.alloc(), &[("a", 4096 * 1020)], 1020)?;
+    let geometry = geometry_of(rt.alloc(), &block)?;
+    let found = described(rt.alloc(), &geometry, &full_descriptor())?;
+    assert!(rt; found == (9, 1020, Some(1023), Some(2042)));
     Ok(())
 }
