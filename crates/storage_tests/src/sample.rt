@@ -63,16 +63,24 @@ pub(crate) fn put(image: &mut [u8], at: usize, bytes: &[u8]) {
     }
 }
 
-// Writes the super block of the two files and 4 slots, whose first home blocks are these.
+// What both layouts have of the super block of the two files and 4 slots, without blocks and first home blocks.
+const TABLE: [(usize, &[u8]); 5] = [
+    (8, b"\0\0\0\x02\0\0\0\x04"),
+    (32, b"a"),
+    (64, b"\0\0\0\0\0\0\x13\x88\0\0\0\0\0\0\0\x02"),
+    (80, b"b"),
+    (112, b"\0\0\0\0\0\0\x10\0\0\0\0\0\0\0\0\x01"),
+];
+
+// Writes the super block whose files have these first home blocks.
 fn put_super(image: &mut [u8], magic: &[u8], blocks: u8, first: u8, second: u8) {
     put(image, 0, magic);
-    put(image, 8, &[0, 0, 0, 2, 0, 0, 0, 4, 0, 0, 0, blocks]);
-    put(image, 32, b"a");
-    put(image, 64, &[0, 0, 0, 0, 0, 0, 0x13, 0x88]);
-    put(image, 72, &[0, 0, 0, first, 0, 0, 0, 2]);
-    put(image, 80, b"b");
-    put(image, 112, &[0, 0, 0, 0, 0, 0, 0x10, 0]);
-    put(image, 120, &[0, 0, 0, second, 0, 0, 0, 1]);
+    for (at, bytes) in TABLE {
+        put(image, at, bytes);
+    }
+    put(image, 19, &[blocks]);
+    put(image, 75, &[first]);
+    put(image, 123, &[second]);
 }
 
 /// Writes the volume's super block in layout 1: homes 7 and 8, and 9.
@@ -88,13 +96,18 @@ pub(crate) fn put_super_two(image: &mut [u8]) {
 // Names of one character each.
 const NAMES: &str = "abcdefghijklmnopqrstuvwxyzABCDEFGHIJKLMNOPQRSTUVWXYZ0123456789-_+";
 
-/// 65 files of one page each, with names of one character.
-pub(crate) fn many_files() -> [(&'static str, u64); 65] {
+// 65 files of one page each, with these names.
+fn files_named(names: &'static str) -> [(&'static str, u64); 65] {
     let mut files = [("", 4096); 65];
     for i in 0..65 {
-        files[i] = (NAMES.get(i..i + 1).unwrap_or(""), 4096);
+        files[i] = (names.get(i..i + 1).unwrap_or(""), 4096);
     }
     files
+}
+
+/// 65 files of one page each, with names of one character.
+pub(crate) fn many_files() -> [(&'static str, u64); 65] {
+    files_named(NAMES)
 }
 
 /// A crash of a disk of as many bytes as the choice.

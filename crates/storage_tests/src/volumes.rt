@@ -24,38 +24,38 @@ enum Unsynced {
 }
 
 // A volume in layout 1.
-fn image_one(alloc: Global) -> Result<Vec<u8>, Fail> {
-    let mut image = vec![in alloc; 0; LENGTH_ONE]?;
+fn image_one() -> [u8; LENGTH_ONE] {
+    let mut image = [0; LENGTH_ONE];
     put_super_one(&mut image);
-    Ok(image)
+    image
 }
 
 // A volume in layout 2.
-fn image_two(alloc: Global) -> Result<Vec<u8>, Fail> {
-    let mut image = vec![in alloc; 0; LENGTH_TWO]?;
+fn image_two() -> [u8; LENGTH_TWO] {
+    let mut image = [0; LENGTH_TWO];
     put_super_two(&mut image);
-    Ok(image)
+    image
 }
 
-// Opens the gate of the journal here, with one record for a home block: zeros after this byte.
-fn put_journal(image: &mut [u8], at: usize, mark: u8, home: u8, byte: u8) {
+// Opens the gate of the journal here, with one record for home block 13: zeros after this byte.
+fn put_journal(image: &mut [u8], at: usize, mark: u8, byte: u8) {
     put(image, at, &[0xA7]);
     let descriptor = at.saturating_add(4096);
-    put(image, descriptor, &[0, 0, 0, 0, 0, 0, 0, mark]);
     put(
         image,
-        descriptor.saturating_add(8),
-        &[0, 0, 0, 1, 0, 0, 0, 0, 0, 0, 0, home],
+        descriptor,
+        b"\0\0\0\0\0\0\0\0\0\0\0\x01\0\0\0\0\0\0\0\x0D",
     );
+    put(image, descriptor.saturating_add(7), &[mark]);
     put(image, at.saturating_add(8192), &[byte]);
 }
 
 // A volume in layout 2 with both gates open: journal A has 65, and B has 66, each for the first home block.
-fn both_open(alloc: Global, mark_a: u8, mark_b: u8) -> Result<Vec<u8>, Fail> {
-    let mut image = image_two(alloc)?;
-    put_journal(&mut image, JOURNAL_A, mark_a, 13, 65);
-    put_journal(&mut image, JOURNAL_B, mark_b, 13, 66);
-    Ok(image)
+fn both_open(mark_a: u8, mark_b: u8) -> [u8; LENGTH_TWO] {
+    let mut image = image_two();
+    put_journal(&mut image, JOURNAL_A, mark_a, 65);
+    put_journal(&mut image, JOURNAL_B, mark_b, 66);
+    image
 }
 
 fn disk_of(alloc: Global, image: &[u8]) -> Result<Disk, Fail> {
@@ -79,23 +79,33 @@ fn refusal(alloc: Global, image: &[u8]) -> Result<Option<(Refusal, bool)>, Fail>
     }
 }
 
-// What an opening whose call of this number fails leaves of an image, after a crash. A write that fails spoils its range.
+// The disk of an image after an opening whose call of this number fails. A write that fails spoils its range.
+fn after_opening(alloc: Global, image: &[u8], call: u64) -> Result<Disk, Fail> {
+    match open(alloc, FailingDisk::new(disk_of(alloc, image)?, call)) {
+        Ok(volume) => Ok(volume.into_device().into_inner()),
+        Err((_, disk)) => Ok(disk.into_inner()),
+    }
+}
+
+// A crash of a disk that had this image before.
+fn crash_as(alloc: Global, disk: &mut Disk, image: &[u8], unsynced: Unsynced) -> Result<(), Fail> {
+    let choice = match unsynced {
+        Unsynced::Lost => image.to_vec(alloc)?,
+        Unsynced::Torn => vec![in alloc; 0x5A; image.len()]?,
+        Unsynced::Kept => disk.bytes().to_vec(alloc)?,
+    };
+    crash(disk, &choice)
+}
+
+// What an opening whose call of this number fails leaves of an image, after a crash.
 fn cut_opening(
     alloc: Global,
     image: &[u8],
     call: u64,
     unsynced: Unsynced,
 ) -> Result<Vec<u8>, Fail> {
-    let mut disk = match open(alloc, FailingDisk::new(disk_of(alloc, image)?, call)) {
-        Ok(volume) => volume.into_device().into_inner(),
-        Err((_, disk)) => disk.into_inner(),
-    };
-    let choice = match unsynced {
-        Unsynced::Lost => image.to_vec(alloc)?,
-        Unsynced::Torn => vec![in alloc; 0x5A; image.len()]?,
-        Unsynced::Kept => disk.bytes().to_vec(alloc)?,
-    };
-    crash(&mut disk, &choice)?;
+    let mut disk = after_opening(alloc, image, call)?;
+    crash_as(alloc, &mut disk, image, unsynced)?;
     Ok(disk.bytes().to_vec(alloc)?)
 }
 
@@ -127,12 +137,55 @@ fn file(volume: &Volume<Disk, Global>, number: usize) -> Option<(&str, u64, u64)
     ))
 }
 
+// Whether an image opens with this file of this number.
+fn has_file(
+    alloc: Global,
+    image: &[u8],
+    number: usize,
+    wanted: (&str, u64, u64),
+) -> Result<bool, Fail> {
+    let volume = opened(alloc, image)?;
+    Ok(file(&volume, number) == Some(wanted))
+}
+
+// What an image opens with: its layout, how many files and blocks it has, and the most frames.
+fn counts(alloc: Global, image: &[u8]) -> Result<(Layout, usize, u32, u32), Fail> {
+    let volume = opened(alloc, image)?;
+    let table = volume.table();
+    Ok((
+        volume.layout(),
+        volume.file_count(),
+        table.block_count(),
+        table.geometry().max_frames(),
+    ))
+}
+
+// How many device calls the opening of an image makes, and whether it leaves these bytes.
+fn calls_to_open(alloc: Global, image: &[u8], wanted: &[u8]) -> Result<(u64, bool), Fail> {
+    let disk = opened(alloc, image)?.into_device();
+    Ok((disk.calls(), disk.bytes() == wanted))
+}
+
+// Reads a part of a file as an image opens, and gives the device calls with one for that read.
+fn read_opened(
+    alloc: Global,
+    image: &[u8],
+    file: usize,
+    at: u64,
+    buffer: &mut [u8],
+) -> Result<u64, Fail>
+    ensures { length buffer.new ≡ length buffer.old }
+{
+    let mut volume = opened(alloc, image)?;
+    read(&mut volume, file, at, buffer)?;
+    Ok(volume.into_device().calls())
+}
+
 // The first byte of the first file as an image opens, and the device calls with one for that read.
 fn first_byte(alloc: Global, image: &[u8]) -> Result<(u8, u64), Fail> {
-    let mut volume = opened(alloc, image)?;
     let mut bytes = [1];
-    read(&mut volume, 0, 0, &mut bytes)?;
-    Ok((bytes[0], volume.into_device().calls()))
+    let calls = read_opened(alloc, image, 0, 0, &mut bytes)?;
+    Ok((bytes[0], calls))
 }
 
 // How many gates are open.
@@ -170,29 +223,56 @@ fn blocks_are_counted(rt: HostRuntime) {
     assert!(rt; blocks(&[("a", most + 1)], 4) == Err(Refusal::BadShape));
 }
 
+// Whether a disk of other bytes becomes these when it is formatted.
+fn is_formatted_as(alloc: Global, layout: u64, wanted: &[u8]) -> Result<bool, Fail> {
+    let bytes = vec![in alloc; 0xFF; wanted.len()]?;
+    let mut disk = MemDisk::from_bytes(alloc, bytes)?;
+    format_as(alloc, &mut disk, layout, &SPECS, 4)?;
+    Ok(disk.bytes() == wanted)
+}
+
+// Whether one of zeros does, in layout 1.
+fn is_formatted(alloc: Global, wanted: &[u8]) -> Result<bool, Fail> {
+    let mut disk = MemDisk::new(alloc, wanted.len() as u64)?;
+    format(alloc, &mut disk, &FILES, 4)?;
+    Ok(disk.bytes() == wanted)
+}
+
+// Zeros in the super block, from this first home on and at the gates.
+fn put_zeros(image: &mut [u8], homes: usize) {
+    put(image, 0, &[0; 4096]);
+    put(image, homes, &[0; 12_288]);
+    put(image, JOURNAL_A, &[0]);
+    put(image, JOURNAL_B, &[0]);
+}
+
 // Over a disk of other bytes that is a block too long: descriptors and records stay, and so does the last block.
 #[test]
 fn a_disk_is_formatted(rt: HostRuntime) -> Result<(), Fail> {
-    for (layout, length, homes) in [(1, LENGTH_ONE, 28_672), (2, LENGTH_TWO, 53_248)] {
-        let bytes = vec![in rt.alloc(); 0xFF; length + 4096]?;
-        let mut disk = MemDisk::from_bytes(rt.alloc(), bytes)?;
-        format_as(rt.alloc(), &mut disk, layout, &SPECS, 4)?;
-        let mut wanted = vec![in rt.alloc(); 0xFF; length + 4096]?;
-        put(&mut wanted, 0, &[0; 4096]);
-        put(&mut wanted, homes, &[0; 12_288]);
-        put(&mut wanted, JOURNAL_A, &[0]);
-        put(&mut wanted, JOURNAL_B, &[0]);
-        if layout == 1 {
-            put_super_one(&mut wanted);
-        } else {
-            put_super_two(&mut wanted);
-        }
-        assert!(rt; disk.bytes() == wanted.as_slice(), "layout {layout}");
-    }
-    let mut disk = MemDisk::new(rt.alloc(), LENGTH_ONE as u64)?;
-    format(rt.alloc(), &mut disk, &FILES, 4)?;
-    assert!(rt; disk.bytes() == image_one(rt.alloc())?.as_slice());
+    let mut one = [0xFF; LENGTH_ONE + 4096];
+    put_zeros(&mut one, 28_672);
+    put_super_one(&mut one);
+    assert!(rt; is_formatted_as(rt.alloc(), 1, &one)?, "layout 1");
+    let mut two = [0xFF; LENGTH_TWO + 4096];
+    put_zeros(&mut two, 53_248);
+    put_super_two(&mut two);
+    assert!(rt; is_formatted_as(rt.alloc(), 2, &two)?, "layout 2");
+    assert!(rt; is_formatted(rt.alloc(), &image_one())?);
     Ok(())
+}
+
+// Whether a disk is refused what no volume of it has, in any layout.
+fn refuses_shapes(alloc: Global, disk: &mut Disk) -> bool {
+    let growing = [FileSpec {
+        name: "a",
+        length: 4096,
+        capacity: 8192,
+    }];
+    let refused = Err(Refusal::BadShape);
+    format_as(alloc, disk, 0, &SPECS, 4) == refused
+        && format_as(alloc, disk, 2, &SPECS, 4) == refused
+        && format_as(alloc, disk, 3, &SPECS, 4) == refused
+        && format_as(alloc, disk, 2, &growing, 1) == refused
 }
 
 #[test]
@@ -200,85 +280,92 @@ fn what_no_volume_has_is_not_formatted(rt: HostRuntime) -> Result<(), Fail> {
     let mut disk = MemDisk::new(rt.alloc(), 40_959)?;
     assert!(rt; format(rt.alloc(), &mut disk, &FILES, 4) == Err(Refusal::BadShape));
     assert!(rt; format(rt.alloc(), &mut disk, &FILES, 0) == Err(Refusal::BadShape));
-    for layout in [0, 2, 3] {
-        let made = format_as(rt.alloc(), &mut disk, layout, &SPECS, 4);
-        assert!(rt; made == Err(Refusal::BadShape), "layout {layout}");
-    }
-    let growing = [FileSpec {
-        name: "a",
-        length: 4096,
-        capacity: 8192,
-    }];
-    let made = format_as(rt.alloc(), &mut disk, 2, &growing, 1);
-    assert!(rt; made == Err(Refusal::BadShape));
-    assert_eq!(rt; disk.calls(), 0);
+    assert!(rt; refuses_shapes(rt.alloc(), &mut disk));
+    assert!(rt; disk.calls() == 0);
     Ok(())
+}
+
+// Reads around the end of a page, the last byte, and no bytes, which makes no device call.
+fn read_parts(volume: &mut Volume<Disk, Global>) -> Result<([u8; 4], [u8; 1]), Fail> {
+    let mut bytes = [1; 4];
+    read(volume, 0, 4094, &mut bytes)?;
+    let mut last = [1];
+    read(volume, 1, 4095, &mut last)?;
+    read(volume, 1, 4096, &mut [])?;
+    Ok((bytes, last))
+}
+
+// What is read so as an image opens, and the device calls; the image is to stay as it is.
+fn parts_of(alloc: Global, image: &[u8]) -> Result<([u8; 4], [u8; 1], u64, bool), Fail> {
+    let mut volume = opened(alloc, image)?;
+    let (bytes, last) = read_parts(&mut volume)?;
+    let disk = volume.into_device();
+    Ok((bytes, last, disk.calls(), disk.bytes() == image))
 }
 
 #[test]
 fn a_volume_tells_its_files(rt: HostRuntime) -> Result<(), Fail> {
-    let mut image = image_two(rt.alloc())?;
+    let mut image = image_two();
     put(&mut image, 57_343, &[7, 8]);
     put(&mut image, 65_535, &[9]);
-    let mut volume = opened(rt.alloc(), &image)?;
-    assert_eq!(rt; (volume.layout(), volume.file_count()), (Layout::Two, 2));
-    assert_eq!(rt; file(&volume, 0), Some(("a", 5000, 5000)));
-    assert_eq!(rt; file(&volume, 1), Some(("b", 4096, 4096)));
-    let mut bytes = [1; 4];
-    read(&mut volume, 0, 4094, &mut bytes)?;
-    assert_eq!(rt; bytes, [0, 7, 8, 0]);
-    let mut last = [1];
-    read(&mut volume, 1, 4095, &mut last)?;
-    assert_eq!(rt; last, [9]);
-    // A read of no bytes makes no device call.
-    read(&mut volume, 1, 4096, &mut [])?;
-    assert_eq!(rt; volume.table().block_count(), 16);
-    let (table, disk) = volume.into_parts();
-    assert_eq!(rt; table.geometry().max_frames(), 4);
-    assert_eq!(rt; disk.calls(), 6);
-    assert!(rt; disk.bytes() == image.as_slice());
+    assert!(rt; counts(rt.alloc(), &image)? == (Layout::Two, 2, 16, 4));
+    assert!(rt; has_file(rt.alloc(), &image, 0, ("a", 5000, 5000))?);
+    assert!(rt; has_file(rt.alloc(), &image, 1, ("b", 4096, 4096))?);
+    assert!(rt; parts_of(rt.alloc(), &image)? == ([0, 7, 8, 0], [9], 6, true));
     Ok(())
+}
+
+// A volume in layout 1 whose gate is this byte, over a descriptor of other bytes.
+fn gated_one(gate: u8) -> [u8; LENGTH_ONE] {
+    let mut image = image_one();
+    put(&mut image, JOURNAL_A, &[gate]);
+    put(&mut image, JOURNAL_A + 4096, &[0xFF; 24]);
+    image
+}
+
+// One in layout 2 whose gates are.
+fn gated_two(gate: u8) -> [u8; LENGTH_TWO] {
+    let mut image = image_two();
+    for at in [JOURNAL_A, JOURNAL_B] {
+        put(&mut image, at, &[gate]);
+        put(&mut image, at + 4096, &[0xFF; 24]);
+    }
+    image
 }
 
 // A gate is open at 0xA7 alone. Under a closed one any descriptor is fine.
 #[test]
 fn closed_gates_take_3_and_4_calls(rt: HostRuntime) -> Result<(), Fail> {
     for gate in [0, 0x3C, 0xA6, 0xFF] {
-        let mut one = image_one(rt.alloc())?;
-        let mut two = image_two(rt.alloc())?;
-        for at in [JOURNAL_A, JOURNAL_B] {
-            put(&mut two, at, &[gate]);
-            put(&mut two, at + 4096, &[0xFF; 24]);
-        }
-        put(&mut one, JOURNAL_A, &[gate]);
-        put(&mut one, JOURNAL_A + 4096, &[0xFF; 24]);
-        for (image, calls) in [(&one, 3), (&two, 4)] {
-            let volume = opened(rt.alloc(), image)?;
-            let disk = volume.into_device();
-            assert_eq!(rt; disk.calls(), calls);
-            assert!(rt; disk.bytes() == image.as_slice());
-        }
+        let one = gated_one(gate);
+        assert!(rt; calls_to_open(rt.alloc(), &one, &one)? == (3, true));
+        let two = gated_two(gate);
+        assert!(rt; calls_to_open(rt.alloc(), &two, &two)? == (4, true));
     }
     Ok(())
+}
+
+// A volume in layout 1 with two records under an open gate, and homes of other bytes.
+fn two_records() -> [u8; LENGTH_ONE] {
+    let mut image = image_one();
+    put(&mut image, 4096, &[0xA7]);
+    put(&mut image, 8192, b"\0\0\0\0\0\0\0\x01\0\0\0\x02");
+    put(&mut image, 8208, b"\0\0\0\x07\0\0\0\x08");
+    put(&mut image, 12_288, &[65; 4096]);
+    put(&mut image, 16_384, &[66; 4096]);
+    put(&mut image, 28_672, &[0xFF; 12_288]);
+    image
 }
 
 // With two records 11 calls. Both home blocks become their records to the last byte, and the gate is closed.
 #[test]
 fn an_open_journal_of_layout_1_is_carried_out(rt: HostRuntime) -> Result<(), Fail> {
-    let mut image = image_one(rt.alloc())?;
-    put(&mut image, 4096, &[0xA7]);
-    put(&mut image, 8192, &[0, 0, 0, 0, 0, 0, 0, 1, 0, 0, 0, 2]);
-    put(&mut image, 8208, &[0, 0, 0, 7, 0, 0, 0, 8]);
-    put(&mut image, 12_288, &[65; 4096]);
-    put(&mut image, 16_384, &[66; 4096]);
-    put(&mut image, 28_672, &[0xFF; 12_288]);
-    let volume = opened(rt.alloc(), &image)?;
-    let disk = volume.into_device();
-    assert_eq!(rt; disk.calls(), 11);
-    put(&mut image, 28_672, &[65; 4096]);
-    put(&mut image, 32_768, &[66; 4096]);
-    put(&mut image, 4096, &[0]);
-    assert!(rt; disk.bytes() == image.as_slice());
+    let image = two_records();
+    let mut wanted = image;
+    put(&mut wanted, 28_672, &[65; 4096]);
+    put(&mut wanted, 32_768, &[66; 4096]);
+    put(&mut wanted, 4096, &[0]);
+    assert!(rt; calls_to_open(rt.alloc(), &image, &wanted)? == (11, true));
     Ok(())
 }
 
@@ -291,36 +378,40 @@ fn open_journals_of_layout_2_are_carried_out(rt: HostRuntime) -> Result<(), Fail
         (1, 2, Some(JOURNAL_B), 65, 10),
         (4, 3, Some(JOURNAL_A), 66, 10),
     ] {
-        let mut image = both_open(rt.alloc(), mark_a, mark_b)?;
+        let mut image = both_open(mark_a, mark_b);
         put(&mut image, 53_248, &[0xFF; 4096]);
         if let Some(gate) = closed {
             put(&mut image, gate, &[0]);
         }
-        let volume = opened(rt.alloc(), &image)?;
-        let disk = volume.into_device();
-        assert_eq!(rt; disk.calls(), calls);
-        put(&mut image, 53_248, &[0; 4096]);
-        put(&mut image, 53_248, &[byte]);
-        put(&mut image, JOURNAL_A, &[0]);
-        put(&mut image, JOURNAL_B, &[0]);
-        assert!(rt;
-            disk.bytes() == image.as_slice(),
-            "marks {mark_a} and {mark_b}"
-        );
+        let mut wanted = image;
+        put(&mut wanted, 53_248, &[0; 4096]);
+        put(&mut wanted, 53_248, &[byte]);
+        put(&mut wanted, JOURNAL_A, &[0]);
+        put(&mut wanted, JOURNAL_B, &[0]);
+        let found = calls_to_open(rt.alloc(), &image, &wanted)?;
+        assert!(rt; found == (calls, true), "marks {mark_a} and {mark_b}");
     }
     Ok(())
 }
 
-// An opening is cut at each of its calls: the next one finds the same, in 4 calls and 6 for each gate that is open then.
+// Whether an opening that is cut at this call is done again by the next one, in 4 calls and 6 for each gate that is
+// open then.
+fn is_done_again(alloc: Global, image: &[u8], call: u64, unsynced: Unsynced) -> Result<bool, Fail> {
+    let left = cut_opening(alloc, image, call, unsynced)?;
+    Ok(first_byte(alloc, &left)? == (66, 5 + 6 * open_gates(&left)))
+}
+
+// An opening is cut at each of its calls: the next one finds the same.
 #[test]
 fn an_opening_that_was_cut_is_done_again(rt: HostRuntime) -> Result<(), Fail> {
-    let image = both_open(rt.alloc(), 1, 2)?;
+    let image = both_open(1, 2);
     assert!(rt; first_byte(rt.alloc(), &image)? == (66, 17));
     for call in 1..17 {
         for kind in [Unsynced::Lost, Unsynced::Torn, Unsynced::Kept] {
-            let left = cut_opening(rt.alloc(), &image, call, kind)?;
-            let found = first_byte(rt.alloc(), &left)?;
-            assert!(rt; found == (66, 5 + 6 * open_gates(&left)), "call {call}");
+            assert!(rt;
+                is_done_again(rt.alloc(), &image, call, kind)?,
+                "call {call}"
+            );
         }
     }
     Ok(())
@@ -329,7 +420,7 @@ fn an_opening_that_was_cut_is_done_again(rt: HostRuntime) -> Result<(), Fail> {
 // The volume cut to each length: below a block there is no volume, and below its 10 blocks it is damaged.
 #[test]
 fn a_volume_that_is_cut_short_is_refused(rt: HostRuntime) -> Result<(), Fail> {
-    let image = image_one(rt.alloc())?;
+    let image = image_one();
     assert!(rt; refusal(rt.alloc(), &image)? == None);
     assert!(rt; image.len() == 40_960);
     for length in 0..40_960 {
@@ -348,41 +439,40 @@ fn a_volume_that_is_cut_short_is_refused(rt: HostRuntime) -> Result<(), Fail> {
 #[test]
 fn damaged_super_blocks_are_refused(rt: HostRuntime) -> Result<(), Fail> {
     for (at, bytes) in [(0, b"G"), (7, b"5")] {
-        let mut image = image_one(rt.alloc())?;
+        let mut image = image_one();
         put(&mut image, at, bytes);
         let found = refusal(rt.alloc(), &image)?;
         assert!(rt; found == Some((Refusal::NotAVolume, true)), "at {at}");
     }
     for (at, bytes) in DAMAGES {
-        let mut image = image_one(rt.alloc())?;
+        let mut image = image_one();
         put(&mut image, at, bytes);
         let found = refusal(rt.alloc(), &image)?;
         assert!(rt; found == Some((Refusal::Damaged, true)), "at {at}");
     }
-    let mut image = image_two(rt.alloc())?;
+    let mut image = image_two();
     put(&mut image, 7, b"1");
     assert!(rt; refusal(rt.alloc(), &image)? == Some((Refusal::Damaged, true)));
     Ok(())
 }
 
-// Each breaks one rule: under an open gate it is damaged, and under a closed one fine.
+// Descriptors that break one rule each.
+const DAMAGED_DESCRIPTORS: [&[u8]; 8] = [
+    b"",
+    b"\0\0\0\0\0\0\0\x01",
+    b"\0\0\0\0\0\0\0\x01\0\0\0\x05",
+    b"\0\0\0\0\0\0\0\0\0\0\0\x01\0\0\0\0\0\0\0\x07",
+    b"\0\0\0\0\0\0\0\x01\0\0\0\x02\0\0\0\0\0\0\0\x08\0\0\0\x07",
+    b"\0\0\0\0\0\0\0\x01\0\0\0\x02\0\0\0\0\0\0\0\x07\0\0\0\x07",
+    b"\0\0\0\0\0\0\0\x01\0\0\0\x01\0\0\0\0\0\0\0\x06",
+    b"\0\0\0\0\0\0\0\x01\0\0\0\x01\0\0\0\0\0\0\0\x0A",
+];
+
+// Under an open gate each is damaged, and under a closed one fine.
 #[test]
 fn damaged_descriptors_are_refused_under_an_open_gate(rt: HostRuntime) -> Result<(), Fail> {
-    for bytes in [
-        [].as_slice(),
-        &[0, 0, 0, 0, 0, 0, 0, 1],
-        &[0, 0, 0, 0, 0, 0, 0, 1, 0, 0, 0, 5],
-        &[0, 0, 0, 0, 0, 0, 0, 0, 0, 0, 0, 1, 0, 0, 0, 0, 0, 0, 0, 7],
-        &[
-            0, 0, 0, 0, 0, 0, 0, 1, 0, 0, 0, 2, 0, 0, 0, 0, 0, 0, 0, 8, 0, 0, 0, 7,
-        ],
-        &[
-            0, 0, 0, 0, 0, 0, 0, 1, 0, 0, 0, 2, 0, 0, 0, 0, 0, 0, 0, 7, 0, 0, 0, 7,
-        ],
-        &[0, 0, 0, 0, 0, 0, 0, 1, 0, 0, 0, 1, 0, 0, 0, 0, 0, 0, 0, 6],
-        &[0, 0, 0, 0, 0, 0, 0, 1, 0, 0, 0, 1, 0, 0, 0, 0, 0, 0, 0, 10],
-    ] {
-        let mut image = image_one(rt.alloc())?;
+    for bytes in DAMAGED_DESCRIPTORS {
+        let mut image = image_one();
         put(&mut image, 8192, bytes);
         assert!(rt; refusal(rt.alloc(), &image)? == None);
         put(&mut image, 4096, &[0xA7]);
@@ -391,31 +481,63 @@ fn damaged_descriptors_are_refused_under_an_open_gate(rt: HostRuntime) -> Result
     Ok(())
 }
 
-// In layout 2, also where the opening is cut at any of its calls, and whatever a crash then makes of what wasn't synced.
-#[test]
-fn damaged_journals_are_left_alone(rt: HostRuntime) -> Result<(), Fail> {
-    let mut open_over_zeros = image_two(rt.alloc())?;
-    put(&mut open_over_zeros, JOURNAL_B, &[0xA7]);
-    let mut beside_a_good_one = both_open(rt.alloc(), 1, 2)?;
-    put(&mut beside_a_good_one, JOURNAL_B + 4107, &[0]);
-    let mut below_the_homes = both_open(rt.alloc(), 1, 2)?;
-    put(&mut below_the_homes, JOURNAL_A + 4115, &[12]);
-    let mut past_the_homes = both_open(rt.alloc(), 1, 2)?;
-    put(&mut past_the_homes, JOURNAL_B + 4115, &[16]);
-    for image in [
-        open_over_zeros,
-        beside_a_good_one,
-        below_the_homes,
-        past_the_homes,
-        both_open(rt.alloc(), 3, 3)?,
-    ] {
-        assert!(rt; refusal(rt.alloc(), &image)? == Some((Refusal::Damaged, true)));
-        for call in 1..8 {
-            let left = cut_opening(rt.alloc(), &image, call, Unsynced::Torn)?;
-            assert!(rt; left.as_slice() == image.as_slice(), "call {call}");
+// Whether an image is refused as damaged, and stays as it is also where its opening is cut at any of its calls,
+// whatever a crash then makes of what wasn't synced.
+fn is_left_alone(alloc: Global, image: &[u8]) -> Result<bool, Fail> {
+    for call in 1..8 {
+        if cut_opening(alloc, image, call, Unsynced::Torn)?.as_slice() != image {
+            return Ok(false);
         }
     }
+    Ok(refusal(alloc, image)? == Some((Refusal::Damaged, true)))
+}
+
+// In layout 2: an open gate over zeros, a damaged journal beside a good one, home blocks below the homes and past them,
+// and two journals of one mark.
+#[test]
+fn damaged_journals_are_left_alone(rt: HostRuntime) -> Result<(), Fail> {
+    let mut open_over_zeros = image_two();
+    put(&mut open_over_zeros, JOURNAL_B, &[0xA7]);
+    assert!(rt; is_left_alone(rt.alloc(), &open_over_zeros)?);
+    for (at, byte) in [
+        (JOURNAL_B + 4107, 0),
+        (JOURNAL_A + 4115, 12),
+        (JOURNAL_B + 4115, 16),
+    ] {
+        let mut image = both_open(1, 2);
+        put(&mut image, at, &[byte]);
+        assert!(rt; is_left_alone(rt.alloc(), &image)?, "at {at}");
+    }
+    assert!(rt; is_left_alone(rt.alloc(), &both_open(3, 3))?);
     Ok(())
+}
+
+// A volume of these files with 1,020 record slots, where each home block from 1,023 on has a record in the open
+// journal.
+fn largest(alloc: Global, files: &[(&str, u64)]) -> Result<Vec<u8>, Fail> {
+    let mut disk = MemDisk::new(alloc, 2043 * 4096)?;
+    format(alloc, &mut disk, files, 1020)?;
+    let mut image = disk.bytes().to_vec(alloc)?;
+    put_largest(&mut image);
+    Ok(image)
+}
+
+fn put_largest(image: &mut [u8]) {
+    put(image, 4096, &[0xA7]);
+    put(image, 8192, b"\0\0\0\0\0\0\0\x01\0\0\x03\xFC");
+    for i in 0..1020u16 {
+        let home = (1023 + i).to_be_bytes();
+        put(image, 8210 + 4 * usize::from(i), &home);
+        put(image, 12_288 + 4096 * usize::from(i), &home);
+    }
+}
+
+// Whether such a volume has its last file, and a record in it, which takes 2 * 1,020 + 7 calls and the read.
+fn has_last(alloc: Global, image: &[u8]) -> Result<bool, Fail> {
+    let mut bytes = [1; 3];
+    let calls = read_opened(alloc, image, 63, 4096 * 956, &mut bytes)?;
+    let last = has_file(alloc, image, 63, ("_", 3_919_872, 3_919_872))?;
+    Ok(last && bytes == [7, 0xFA, 0] && calls == 2048)
 }
 
 // The most files, slots and records: 64 files of 1,020 home blocks, 1,023 to 2,042, each with a record in the journal.
@@ -425,24 +547,8 @@ fn a_volume_at_its_limits(rt: HostRuntime) -> Result<(), Fail> {
     files[63].1 = 4096 * 957;
     let files = files.get(..64).ok_or("there are 65 files")?;
     assert!(rt; blocks(files, 1020) == Ok(2043));
-    let mut disk = MemDisk::new(rt.alloc(), 2043 * 4096)?;
-    format(rt.alloc(), &mut disk, files, 1020)?;
-    let mut image = disk.bytes().to_vec(rt.alloc())?;
-    put(&mut image, 4096, &[0xA7]);
-    put(&mut image, 8192, &[0, 0, 0, 0, 0, 0, 0, 1, 0, 0, 3, 0xFC]);
-    for i in 0..1020u16 {
-        let home = (1023 + i).to_be_bytes();
-        put(&mut image, 8210 + 4 * usize::from(i), &home);
-        put(&mut image, 12_288 + 4096 * usize::from(i), &home);
-    }
-    let mut volume = opened(rt.alloc(), &image)?;
-    assert_eq!(rt; volume.file_count(), 64);
-    assert_eq!(rt; file(&volume, 63), Some(("_", 3_919_872, 3_919_872)));
-    assert_eq!(rt; volume.table().geometry().max_frames(), 1020);
-    let mut bytes = [1; 3];
-    read(&mut volume, 63, 4096 * 956, &mut bytes)?;
-    assert_eq!(rt; bytes, [7, 0xFA, 0]);
-    // 2 * 1,020 + 7 calls, and the read.
-    assert_eq!(rt; volume.into_device().calls(), 2048);
+    let image = largest(rt.alloc(), files)?;
+    assert!(rt; counts(rt.alloc(), &image)? == (Layout::One, 64, 2043, 1020));
+    assert!(rt; has_last(rt.alloc(), &image)?);
     Ok(())
 }
