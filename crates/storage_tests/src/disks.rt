@@ -174,14 +174,27 @@ fn a_crash_leaves_what_is_chosen_where_it_was_written(rt: HostRuntime) -> Result
     Ok(())
 }
 
+// A write of a byte and two syncs.
+fn write_and_sync_twice<D: Device>(disk: &mut D) -> Result<(), DeviceFault>
+    requires { length (D.seen disk.old) ≡ 3 }
+    ensures { length (D.seen disk.new) ≡ 3 }
+{
+    write(disk, 0, &[9])?;
+    disk.sync()?;
+    disk.sync()
+}
+
+// Whether a crash of a disk with this choice leaves these bytes.
+fn crash_leaves(disk: &mut MemDisk<Global>, choice: &[u8], wanted: &[u8]) -> Result<bool, Fail> {
+    crash(disk, choice)?;
+    Ok(disk.bytes() == wanted)
+}
+
 #[test]
 fn a_crash_after_syncs_leaves_what_a_read_gives(rt: HostRuntime) -> Result<(), Fail> {
     let mut disk = MemDisk::from_bytes(rt.alloc(), [1, 2, 3].to_vec(rt.alloc())?)?;
-    write(&mut disk, 0, &[9])?;
-    disk.sync()?;
-    disk.sync()?;
-    crash(&mut disk, &[7, 7, 7])?;
-    assert_eq!(rt; disk.bytes(), [9, 2, 3].as_slice());
+    write_and_sync_twice(&mut disk)?;
+    assert!(rt; crash_leaves(&mut disk, &[7, 7, 7], &[9, 2, 3])?);
     Ok(())
 }
 
@@ -195,54 +208,82 @@ fn a_large_disk_is_synced_often(rt: HostRuntime) -> Result<(), Fail> {
     Ok(())
 }
 
-#[test]
-fn a_write_that_fails_leaves_its_range_spoilt(rt: HostRuntime) -> Result<(), Fail> {
-    let mut disk = FailingDisk::new(MemDisk::new(rt.alloc(), 10_000)?, 2);
-    write(&mut disk, 0, &[1, 2, 3])?;
-    assert_eq!(rt; write(&mut disk, 1000, &[5; 8000]), Err(DeviceFault));
+// Whether the second one of two writes fails and leaves its range spoilt.
+fn second_write_fails<D: Device>(disk: &mut D) -> Result<bool, DeviceFault>
+    requires { length (D.seen disk.old) ≡ 10_000 }
+{
+    write(disk, 0, &[1, 2, 3])?;
+    let failed = write(disk, 1000, &[5; 8000]) == Err(DeviceFault);
     let mut buffer = [0; 3];
-    read(&mut disk, 998, &mut buffer)?;
-    assert_eq!(rt; buffer, [0, 0, 0xEE]);
-    assert_eq!(rt; counts(&disk), (10_000, 3, 1));
-    let inner = disk.into_inner();
+    read(disk, 998, &mut buffer)?;
+    Ok(failed && buffer == [0, 0, 0xEE] && counts(disk) == (10_000, 3, 1))
+}
+
+// The bytes that it leaves.
+fn spoilt() -> [u8; 10_000] {
     let mut left = [0; 10_000];
     put(&mut left, 0, &[1, 2, 3]);
     put(&mut left, 1000, &[0xEE; 8000]);
-    assert_eq!(rt; inner.bytes(), left.as_slice());
+    left
+}
+
+#[test]
+fn a_write_that_fails_leaves_its_range_spoilt(rt: HostRuntime) -> Result<(), Fail> {
+    let mut disk = FailingDisk::new(MemDisk::new(rt.alloc(), 10_000)?, 2);
+    assert!(rt; second_write_fails(&mut disk)?);
+    let inner = disk.into_inner();
+    assert!(rt; inner.bytes() == spoilt().as_slice());
     // The range of 8,000 bytes is written in two pieces.
-    assert_eq!(rt; counts(&inner), (10_000, 4, 0));
+    assert!(rt; counts(&inner) == (10_000, 4, 0));
     Ok(())
+}
+
+// Whether a sync after a write fails.
+fn sync_fails<D: Device>(disk: &mut D) -> Result<bool, DeviceFault>
+    requires { length (D.seen disk.old) ≡ 4 }
+{
+    write(disk, 1, &[7])?;
+    Ok(disk.sync() == Err(DeviceFault) && counts(disk) == (4, 2, 1))
 }
 
 #[test]
 fn a_sync_that_fails_makes_nothing_sure(rt: HostRuntime) -> Result<(), Fail> {
     let mut disk = FailingDisk::new(MemDisk::new(rt.alloc(), 4)?, 2);
-    write(&mut disk, 1, &[7])?;
-    assert_eq!(rt; disk.sync(), Err(DeviceFault));
-    assert_eq!(rt; counts(&disk), (4, 2, 1));
+    assert!(rt; sync_fails(&mut disk)?);
     let mut inner = disk.into_inner();
-    assert_eq!(rt; inner.calls(), 1);
-    crash(&mut inner, &[9, 9, 9, 9])?;
-    assert_eq!(rt; inner.bytes(), [0, 9, 0, 0].as_slice());
+    assert!(rt; inner.calls() == 1);
+    assert!(rt; crash_leaves(&mut inner, &[9, 9, 9, 9], &[0, 9, 0, 0])?);
     Ok(())
+}
+
+// Whether the first one of two reads fails and leaves its buffer.
+fn first_read_fails<D: Device>(disk: &mut D) -> Result<bool, DeviceFault>
+    requires { length (D.seen disk.old) ≡ 4 }
+{
+    let mut buffer = [5; 2];
+    let failed = read(disk, 0, &mut buffer) == Err(DeviceFault);
+    let kept = buffer == [5, 5];
+    read(disk, 0, &mut buffer)?;
+    Ok(failed && kept && buffer == [0, 0] && counts(disk) == (4, 2, 1))
+}
+
+// Whether a write, a sync and a read go well.
+fn goes_well<D: Device>(disk: &mut D) -> Result<bool, DeviceFault>
+    requires { length (D.seen disk.old) ≡ 8 }
+{
+    let mut buffer = [0; 4];
+    let disk = write_and_read(disk, &mut buffer)?;
+    Ok(buffer == [0, 7, 8, 9] && counts(&disk) == (8, 3, 0))
 }
 
 #[test]
 fn a_read_that_fails_leaves_the_buffer(rt: HostRuntime) -> Result<(), Fail> {
     let mut disk = FailingDisk::new(MemDisk::new(rt.alloc(), 4)?, 1);
-    let mut buffer = [5; 2];
-    assert_eq!(rt; read(&mut disk, 0, &mut buffer), Err(DeviceFault));
-    assert_eq!(rt; buffer, [5, 5]);
-    read(&mut disk, 0, &mut buffer)?;
-    assert_eq!(rt; buffer, [0, 0]);
-    assert_eq!(rt; counts(&disk), (4, 2, 1));
-    assert_eq!(rt; disk.into_inner().calls(), 1);
+    assert!(rt; first_read_fails(&mut disk)?);
+    assert!(rt; disk.into_inner().calls() == 1);
     // The call of number 0 never comes.
     let mut disk = FailingDisk::new(MemDisk::new(rt.alloc(), 8)?, 0);
-    let mut buffer = [0; 4];
-    write_and_read(&mut disk, &mut buffer)?;
-    assert_eq!(rt; buffer, [0, 7, 8, 9]);
-    assert_eq!(rt; counts(&disk), (8, 3, 0));
+    assert!(rt; goes_well(&mut disk)?);
     Ok(())
 }
 

@@ -1,16 +1,18 @@
-// Two write-outs over a volume of the files `a` of 5,000 bytes and `b` of 4,096, with 4 record slots: one of a page and one
-// of two pages, in both layouts. In layout 2 the second one begins while the first is still applied.
+// Two write-outs over a volume of the files `a` of 5,000 bytes and `b` of 4,096, with 4 record slots: one of a page and
+// one of two pages, in both layouts. In layout 2 the second one begins while the first is still applied.
+ghost use Rattle.std.specs.Prelude.{◌≡◌, IfOk};
+
 use crate::sample::{JOURNAL_A, JOURNAL_B, LENGTH_ONE, LENGTH_TWO, SPECS, crash, volume_of};
 use crate::trial::{Trial, step_alone};
 use device::{Device, FailingDisk, MemDisk};
 use journal::{Flush, Flushed, Stage};
-use recovery::format_as;
+use recovery::{Volume, format_as};
 use std::alloc::Global;
 use std::test::Fail;
 use volume_codec::{Geometry, read_descriptor};
 
-// In which layout two batches are written out, of how many pages each, and how many steps are made before the second one
-// begins.
+// In which layout two batches are written out, of how many pages each, and how many steps are made before the second
+// one begins.
 #[derive(Clone, Copy)]
 struct Plan {
     layout: u64,
@@ -128,11 +130,16 @@ fn descriptor(first_home: u8, mark: u8, pages: u64) -> [u8; 4096] {
     block
 }
 
-// A volume of zeros, opened.
-fn volume(alloc: Global, plan: Plan) -> Result<(Geometry, MemDisk<Global>), Fail> {
+// A disk with a volume of zeros.
+fn formatted(alloc: Global, plan: Plan) -> Result<MemDisk<Global>, Fail> {
     let mut disk = MemDisk::new(alloc, plan.length())?;
     format_as(alloc, &mut disk, plan.layout, &SPECS, 4)?;
-    let (table, disk) = volume_of(alloc, disk)?.into_parts();
+    Ok(disk)
+}
+
+// A volume of zeros, opened.
+fn volume(alloc: Global, plan: Plan) -> Result<(Geometry, MemDisk<Global>), Fail> {
+    let (table, disk) = volume_of(alloc, formatted(alloc, plan)?)?.into_parts();
     Ok((table.geometry(), disk))
 }
 
@@ -180,10 +187,8 @@ fn only_byte(bytes: &[u8]) -> Result<u8, Fail> {
     Ok(byte)
 }
 
-// What a crash of the disk leaves opens with these pages.
-fn opened(alloc: Global, mut disk: MemDisk<Global>, choice: &[u8]) -> Result<[u8; 3], Fail> {
-    crash(&mut disk, choice)?;
-    let mut volume = volume_of(alloc, disk)?;
+// The pages of a volume.
+fn pages_of(volume: &mut Volume<MemDisk<Global>, Global>) -> Result<[u8; 3], Fail> {
     if volume.file_count() != 2 || volume.length(0) != 5000 || volume.length(1) != 4096 {
         return Err("the files are there".into());
     }
@@ -198,6 +203,31 @@ fn opened(alloc: Global, mut disk: MemDisk<Global>, choice: &[u8]) -> Result<[u8
     ])
 }
 
+// What a crash of the disk leaves opens with these pages.
+fn opened(alloc: Global, mut disk: MemDisk<Global>, choice: &[u8]) -> Result<[u8; 3], Fail> {
+    crash(&mut disk, choice)?;
+    let mut volume = volume_of(alloc, disk)?;
+    pages_of(&mut volume)
+}
+
+// How many of these steps are made, and whether a device call failed in the next one.
+fn reached(alloc: Global, plan: Plan, steps: u64, fails_at: u64) -> Result<(u64, bool), Fail> {
+    let (trial, done) = stepped(alloc, plan, steps, fails_at)?;
+    Ok((done, trial.is_broken()))
+}
+
+// What opens after a crash then that leaves these bytes.
+fn left(
+    alloc: Global,
+    plan: Plan,
+    steps: u64,
+    fails_at: u64,
+    choice: &[u8],
+) -> Result<[u8; 3], Fail> {
+    let (trial, _) = stepped(alloc, plan, steps, fails_at)?;
+    opened(alloc, trial.into_disk(), choice)
+}
+
 // Whether each crash after so many steps, or where a device call fails in the next one, opens as it should. What wasn't
 // synced is left as it was after one of the last steps, lost or kept, or as other bytes.
 fn crashes_well(
@@ -207,16 +237,14 @@ fn crashes_well(
     steps: u64,
     fails_at: u64,
 ) -> Result<bool, Fail> {
-    let (trial, done) = stepped(alloc, plan, steps, fails_at)?;
-    let failed = trial.is_broken();
+    let (done, failed) = reached(alloc, plan, steps, fails_at)?;
     for (number, choice) in choices.iter().enumerate() {
         let step = number as u64;
         if step <= STEPS && (step > done || step.saturating_add(3) < done) {
             continue;
         }
-        let (trial, _) = stepped(alloc, plan, steps, fails_at)?;
         let wanted = plan.recovered(done, failed, choice);
-        if opened(alloc, trial.into_disk(), choice)? != wanted {
+        if left(alloc, plan, steps, fails_at, choice)? != wanted {
             return Ok(false);
         }
     }
@@ -249,34 +277,43 @@ fn crashes_leave_old_or_new(rt: HostRuntime) -> Result<(), Fail> {
     Ok(())
 }
 
-// Where a device call fails, its step is the last one that makes a call, and a crash then leaves what it would have left
-// within that step.
+// Whether the device call of this number fails and breaks the write-outs, which make no call more.
+fn breaks(alloc: Global, plan: Plan, call: u64) -> Result<bool, Fail> {
+    let (mut trial, done) = stepped(alloc, plan, STEPS, call)?;
+    let broken = trial.is_broken() && (trial.calls(), trial.faults()) == (call, 1);
+    let again = trial.step(&plan.pages(2)) == Some(Flushed::Broken);
+    let still = (trial.calls(), trial.faults()) == (call, 1);
+    Ok(broken && again && still && done < STEPS)
+}
+
+// Whether all calls and steps are made where the call after the last one is to fail.
+fn ends_well(alloc: Global, plan: Plan) -> Result<bool, Fail> {
+    let (trial, done) = stepped(alloc, plan, STEPS, CALLS + 1)?;
+    Ok((trial.calls(), trial.faults(), done) == (CALLS, 0, STEPS))
+}
+
+// Where a device call fails, its step is the last one that makes a call, and a crash then leaves what it would have
+// left within that step.
 #[test]
 fn each_device_call_that_fails_breaks_the_write_outs(rt: HostRuntime) -> Result<(), Fail> {
     for (number, row) in PLANS.iter().enumerate() {
         let plan = plan_of(*row);
         let choices = choices(rt.alloc(), plan)?;
         for call in 1..CALLS + 1 {
-            let (mut trial, done) = stepped(rt.alloc(), plan, STEPS, call)?;
-            assert!(rt; trial.is_broken());
-            assert_eq!(rt; (trial.calls(), trial.faults()), (call, 1));
-            assert_eq!(rt; trial.step(&plan.pages(2)), Some(Flushed::Broken));
-            assert_eq!(rt; (trial.calls(), trial.faults()), (call, 1));
-            assert!(rt; done < STEPS);
+            assert!(rt; breaks(rt.alloc(), plan, call)?);
             assert!(rt;
                 crashes_well(rt.alloc(), plan, &choices, STEPS, call)?,
                 "plan {number}, call {call}"
             );
         }
         // There is no call more.
-        let (trial, done) = stepped(rt.alloc(), plan, STEPS, CALLS + 1)?;
-        assert_eq!(rt; (trial.calls(), trial.faults(), done), (CALLS, 0, STEPS));
+        assert!(rt; ends_well(rt.alloc(), plan)?);
     }
     Ok(())
 }
 
-// What each step answers, how many device calls it makes, and whether a further batch has to wait after it. A batch of k
-// pages is committed at step k + 4, and done in 3k + 7 calls.
+// What each step answers, how many device calls it makes, and whether a further batch has to wait after it. A batch of
+// k pages is committed at step k + 4, and done in 3k + 7 calls.
 const ONE_BY_ONE: [(Flushed, u64, bool); 20] = [
     (Flushed::Going, 1, true),
     (Flushed::Going, 1, true),
@@ -324,23 +361,45 @@ const SIDE_BY_SIDE: [(Flushed, u64, bool); 20] = [
     (Flushed::Done(2), 1, false),
 ];
 
+// Whether the next step after so many goes as this row says.
+fn is_answered(
+    alloc: Global,
+    trial: &mut Trial,
+    plan: Plan,
+    steps: u64,
+    row: (Flushed, u64, bool),
+) -> Result<bool, Fail> {
+    let (answer, made, busy) = row;
+    let before = trial.calls();
+    let answered = step(alloc, trial, plan, steps)?;
+    let calls = trial.calls().saturating_sub(before);
+    Ok(answered == Some(answer) && calls == made && trial.is_busy() == busy)
+}
+
+// How many steps go as these rows say, how many device calls they make, and whether no step is left then.
+fn answered(
+    alloc: Global,
+    plan: Plan,
+    rows: &[(Flushed, u64, bool)],
+) -> Result<(u64, u64, bool), Fail> {
+    let mut trial = trial(alloc, plan, 0)?;
+    let mut steps = 0;
+    for row in rows {
+        if is_answered(alloc, &mut trial, plan, steps, *row)? {
+            steps = steps.saturating_add(1);
+        }
+    }
+    let calls = trial.calls();
+    let over = trial.stage() == None && trial.step(&plan.pages(2)) == None;
+    Ok((steps, calls, over))
+}
+
 #[test]
 fn steps_are_answered_and_counted(rt: HostRuntime) -> Result<(), Fail> {
-    for (row, wanted) in [(PLANS[0], ONE_BY_ONE), (PLANS[2], SIDE_BY_SIDE)] {
-        let plan = plan_of(row);
-        let mut trial = trial(rt.alloc(), plan, 0)?;
-        let mut calls = 0;
-        for (done, (answer, made, busy)) in wanted.iter().enumerate() {
-            let answered = step(rt.alloc(), &mut trial, plan, done as u64)?;
-            assert_eq!(rt; answered, Some(*answer), "step {done}");
-            calls = made.saturating_add(calls);
-            assert_eq!(rt; trial.calls(), calls, "step {done}");
-            assert_eq!(rt; trial.is_busy(), *busy, "step {done}");
-        }
-        assert_eq!(rt; calls, CALLS);
-        assert_eq!(rt; trial.stage(), None);
-        assert_eq!(rt; trial.step(&plan.pages(2)), None);
-    }
+    let one_by_one = answered(rt.alloc(), plan_of(PLANS[0]), &ONE_BY_ONE)?;
+    assert_eq!(rt; one_by_one, (STEPS, CALLS, true));
+    let side_by_side = answered(rt.alloc(), plan_of(PLANS[2]), &SIDE_BY_SIDE)?;
+    assert_eq!(rt; side_by_side, (STEPS, CALLS, true));
     Ok(())
 }
 
@@ -358,46 +417,75 @@ const STAGES: [Stage; 11] = [
     Stage::Finishing,
 ];
 
-// A write-out by itself, through the second journal of layout 2: gate, descriptor and records are blocks 7, 8, and 9 and 10.
+// The write-out of a descriptor's batch, through the second journal.
+fn flush_of(
+    alloc: Global,
+    geometry: &Geometry,
+    descriptor: &[u8; 4096],
+) -> Result<Flush<Global>, Fail>
+    ensures { IfOk result (λ flush. flush.geometry ≡ geometry.now) }
+{
+    let said = read_descriptor(alloc, geometry, descriptor)?;
+    if geometry.journals() != 2 {
+        return Err("layout 2 has two journals".into());
+    }
+    let homes = said.homes().to_vec(alloc)?;
+    Ok(Flush::new(*geometry, 1, said.mark(), homes))
+}
+
+// Whether it tells its batch of mark 9 and the home blocks 13 and 15, and that the first record is next.
+fn is_new(flush: &Flush<Global>) -> bool {
+    (flush.journal(), flush.mark()) == (1, 9)
+        && flush.homes() == [13, 15].as_slice()
+        && (flush.has_block(13), flush.has_block(14)) == (true, false)
+        && (flush.next_record(), flush.next_home()) == (Some(0), Some(13))
+}
+
+// Whether it tells that nothing is next.
+fn is_over(flush: &Flush<Global>) -> bool {
+    (flush.stage(), flush.next_record(), flush.next_home()) == (None, None, None)
+        && !flush.is_broken()
+}
+
+// Whether the next step after so many is of this stage, and answered as it should.
+fn passes(
+    flush: &mut Flush<Global>,
+    geometry: &Geometry,
+    disk: &mut MemDisk<Global>,
+    done: usize,
+    stage: Stage,
+) -> bool
+    requires { flush.old.geometry ≡ geometry.now }
+    ensures { flush.new.geometry ≡ geometry.now }
+{
+    let committed = flush.is_committed();
+    let answer = match done {
+        5 => Flushed::Committed(9),
+        10 => Flushed::Done(9),
+        _ => Flushed::Going,
+    };
+    let answered = step_alone(flush, geometry, disk);
+    let open = disk.bytes().get(JOURNAL_B) == Some(&0xA7);
+    committed == (done > 5) && answered == Some((stage, answer)) && open == (done >= 4 && done < 9)
+}
+
+// A write-out by itself, through the second journal of layout 2: gate, descriptor and records are blocks 7, 8, and 9
+// and 10.
 #[test]
 fn a_write_out_by_itself(rt: HostRuntime) -> Result<(), Fail> {
     let (geometry, mut disk) = volume(rt.alloc(), plan_of(PLANS[2]))?;
     let text = descriptor(13, 9, 2);
-    let said = read_descriptor(rt.alloc(), &geometry, &text)?;
-    if geometry.journals() != 2 {
-        return Err("layout 2 has two journals".into());
-    }
-    let homes = said.homes().to_vec(rt.alloc())?;
+    let mut flush = flush_of(rt.alloc(), &geometry, &text)?;
     let before = disk.calls();
-    let mut flush = Flush::new(geometry, 1, said.mark(), homes);
-    assert_eq!(rt; (flush.journal(), flush.mark()), (1, 9));
-    assert_eq!(rt; flush.homes(), [13, 15].as_slice());
-    assert_eq!(rt; (flush.has_block(13), flush.has_block(14)), (true, false));
-    assert_eq!(rt;
-        (flush.next_record(), flush.next_home()),
-        (Some(0), Some(13))
-    );
+    assert!(rt; is_new(&flush));
     for (done, stage) in STAGES.iter().enumerate() {
-        assert_eq!(rt; flush.is_committed(), done > 5);
-        let answer = match done {
-            5 => Flushed::Committed(9),
-            10 => Flushed::Done(9),
-            _ => Flushed::Going,
-        };
-        let answered = step_alone(&mut flush, &geometry, &mut disk);
-        assert_eq!(rt; answered, Some((*stage, answer)));
-        let open = done >= 4 && done < 9;
-        assert_eq!(rt; disk.bytes().get(JOURNAL_B) == Some(&0xA7), open);
+        assert!(rt; passes(&mut flush, &geometry, &mut disk, done, *stage));
     }
-    assert_eq!(rt; step_alone(&mut flush, &geometry, &mut disk), None);
-    assert_eq!(rt;
-        (flush.stage(), flush.next_record(), flush.next_home()),
-        (None, None, None)
-    );
-    assert!(rt; !flush.is_broken());
-    assert_eq!(rt; disk.calls().saturating_sub(before), 13);
+    let after = step_alone(&mut flush, &geometry, &mut disk);
+    assert!(rt; after == None && is_over(&flush));
+    assert!(rt; flush.into_homes().as_slice() == [13, 15].as_slice());
+    assert!(rt; disk.calls().saturating_sub(before) == 13);
     assert!(rt; disk.bytes().get(32_768..36_864) == Some(text.as_slice()));
-    assert_eq!(rt; flush.into_homes().as_slice(), [13, 15].as_slice());
-    assert_eq!(rt; opened(rt.alloc(), disk, &[0x5A; LENGTH_TWO])?, [8, 0, 8]);
+    assert!(rt; opened(rt.alloc(), disk, &[0x5A; LENGTH_TWO])? == [8, 0, 8]);
     Ok(())
 }
