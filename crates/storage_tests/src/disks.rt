@@ -334,11 +334,8 @@ fn a_file_keeps_what_was_written(rt: HostRuntime) -> Result<(), Fail> {
     let path = "a_file_keeps_what_was_written";
     fs::write(&rt, path, "an older and longer content")?;
     let mut disk = FileDisk::create(&rt, path, 8)?;
-    assert_eq!(rt; disk.len(), 8);
-    let mut buffer = [0; 4];
-    write_and_read(&mut disk, &mut buffer)?;
-    assert_eq!(rt; buffer, [0, 7, 8, 9]);
-    assert_eq!(rt; counts(&disk), (8, 3, 0));
+    assert!(rt; disk.len() == 8 && goes_well(&mut disk)?);
+    drop(disk);
     let mut again = FileDisk::open(&rt, path)?;
     assert_eq!(rt; again.len(), 8);
     let mut whole = [1; 8];
@@ -346,8 +343,8 @@ fn a_file_keeps_what_was_written(rt: HostRuntime) -> Result<(), Fail> {
     assert_eq!(rt; whole, [0, 0, 7, 8, 9, 0, 0, 0]);
     // Another hand cuts the file: a read past its end fails, and is counted.
     fs::write(&rt, path, "cut")?;
-    assert_eq!(rt; read(&mut again, 0, &mut whole), Err(DeviceFault));
-    assert_eq!(rt; counts(&again), (8, 2, 1));
+    let failed = read(&mut again, 0, &mut whole) == Err(DeviceFault);
+    assert!(rt; failed && counts(&again) == (8, 2, 1));
     fs::remove_file(&rt, path)?;
     assert!(rt; FileDisk::open(&rt, path).is_err());
     Ok(())
