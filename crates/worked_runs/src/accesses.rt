@@ -1,8 +1,7 @@
 // Loads, stores, faults and TLBs of one processor and two.
-use crate::notation::step_of;
-use crate::trial::{Line, START, STORE_A, TWO, made, make_lines, reply_to, zeros};
+use crate::trial::{START, STORE_A, TWO, Trial, made, make_line, reply_to, steps_in, zeros};
 use device::Device;
-use machine::{Act, Reply, Shape};
+use machine::{Act, Reply, Shape, Step};
 use page_entry::Refusal;
 use shootdown::ProcState;
 use std::test::Fail;
@@ -10,62 +9,55 @@ use std::test::Fail;
 // What one processor stored, the other one loads, and without a fault: the entry is the space's.
 #[test]
 fn a_store_is_seen_by_the_other_processor(rt: HostRuntime) -> Result<(), Fail> {
-    let load = [("1 load 4096 1", "bytes 65")];
-    let disk = made(&rt, TWO, &[&START, &STORE_A, &load])?;
+    let disk = made(&rt, TWO, &[START, STORE_A, "1 load 4096 1: bytes 65"])?;
     // Three calls opened the volume, and the fault read the page.
     assert_eq!(rt; disk.calls(), 4);
     Ok(())
 }
 
-const ONE_ENTRY: [Line; 6] = [
-    ("1 load 4096 1", "bytes 65"),
-    ("0 load 16384 1", "fault 4"),
-    ("0 fix 16384 read", "fixed"),
-    ("0 load 16384 1", "bytes 0"),
-    ("0 evict 0", "evicted"),
-    ("0 evict 0", "nothing"),
-];
+const ONE_ENTRY: &str = "1 load 4096 1: bytes 65
+    0 load 16384 1: fault 4
+    0 fix 16384 read: fixed
+    0 load 16384 1: bytes 0
+    0 evict 0: evicted
+    0 evict 0: nothing";
 
 // In a TLB of one entry each access takes the place of the one before.
 #[test]
 fn a_tlb_of_one_entry(rt: HostRuntime) -> Result<(), Fail> {
     let shape = Shape { tlb: 1, ..TWO };
-    made(&rt, shape, &[&START, &STORE_A, &ONE_ENTRY])?;
+    made(&rt, shape, &[START, STORE_A, ONE_ENTRY])?;
     Ok(())
 }
 
-const LIMITS: [Line; 10] = [
-    ("0 load 4095 2", "einval"),
-    ("0 store 140737488355328 1", "einval"),
-    ("0 load 140737488355327 1", "fault 4"),
-    ("0 fix 140737488355327 read", "segvmaperr"),
-    ("0 fix 140737488355328 read", "einval"),
-    ("0 store 4096", "einval"),
-    ("0 load 4096 0", "einval"),
-    ("0 load 4096 9", "einval"),
-    ("2 flush", "einval"),
-    ("2 ack", "einval"),
-];
+const LIMITS: &str = "0 load 4095 2: einval
+    0 store 140737488355328 1: einval
+    0 load 140737488355327 1: fault 4
+    0 fix 140737488355327 read: segvmaperr
+    0 fix 140737488355328 read: einval
+    0 store 4096: einval
+    0 load 4096 0: einval
+    0 load 4096 9: einval
+    2 flush: einval
+    2 ack: einval";
 
 // The last address is 2^47 - 1, and an access has 1 to 8 bytes of one page.
 #[test]
 fn accesses_have_limits(rt: HostRuntime) -> Result<(), Fail> {
-    made(&rt, TWO, &[&START, &LIMITS])?;
+    made(&rt, TWO, &[START, LIMITS])?;
     Ok(())
 }
 
-const EIGHT_BYTES: [Line; 5] = [
-    ("0 store 4100 1 2 3 4 5 6 7 8", "stored"),
-    ("1 load 4103 4", "bytes 4 5 6 7"),
-    ("1 store 4102 9 9", "stored"),
-    ("0 load 4100 8", "bytes 1 2 9 9 5 6 7 8"),
-    ("0 load 4096 8", "bytes 65 0 0 0 1 2 9 9"),
-];
+const EIGHT_BYTES: &str = "0 store 4100 1 2 3 4 5 6 7 8: stored
+    1 load 4103 4: bytes 4 5 6 7
+    1 store 4102 9 9: stored
+    0 load 4100 8: bytes 1 2 9 9 5 6 7 8
+    0 load 4096 8: bytes 65 0 0 0 1 2 9 9";
 
 // Stores of several bytes, and loads that overlap them.
 #[test]
 fn a_load_gives_the_latest_bytes(rt: HostRuntime) -> Result<(), Fail> {
-    made(&rt, TWO, &[&START, &STORE_A, &EIGHT_BYTES])?;
+    made(&rt, TWO, &[START, STORE_A, EIGHT_BYTES])?;
     Ok(())
 }
 
@@ -74,59 +66,65 @@ fn a_load_gives_the_latest_bytes(rt: HostRuntime) -> Result<(), Fail> {
 fn processors_tell_their_states(rt: HostRuntime) -> Result<(), Fail> {
     let mut machine = zeros(&rt, TWO)?;
     assert_eq!(rt; machine.processors(), 2);
-    for (words, wanted, states) in [
+    for (line, states) in [
+        ("0 create: space 1", [ProcState::Active, ProcState::Active]),
         (
-            "0 create",
-            "space 1",
-            [ProcState::Active, ProcState::Active],
-        ),
-        (
-            "0 msync 0 0 4",
-            "begun",
+            "0 msync 0 0 4: begun",
             [ProcState::Initiating, ProcState::Interrupted],
         ),
+        ("1 ack: acked", [ProcState::Initiating, ProcState::Stalled]),
         (
-            "1 ack",
-            "acked",
-            [ProcState::Initiating, ProcState::Stalled],
-        ),
-        (
-            "0 change",
-            "marked 1",
+            "0 change: marked 1",
             [ProcState::Active, ProcState::Stalled],
         ),
-        (
-            "1 resume",
-            "resumed",
-            [ProcState::Active, ProcState::Active],
-        ),
-        ("1 idle", "idled", [ProcState::Active, ProcState::Idle]),
+        ("1 resume: resumed", [ProcState::Active, ProcState::Active]),
+        ("1 idle: idled", [ProcState::Active, ProcState::Idle]),
     ] {
-        make_lines(&rt, &mut machine, &[(words, wanted)])?;
-        assert!(rt; machine.state(0) == Ok(states[0]), "{words}");
-        assert!(rt; machine.state(1) == Ok(states[1]), "{words}");
+        make_line(&rt, &mut machine, line)?;
+        assert!(rt; machine.state(0) == Ok(states[0]), "{line}");
+        assert!(rt; machine.state(1) == Ok(states[1]), "{line}");
     }
     assert!(rt; machine.state(2) == Err(Refusal::Einval));
     Ok(())
 }
 
+// Makes steps at once, where there is room for their replies.
+fn run_at_once(machine: &mut Trial, steps: &[Step], replies: &mut [Reply]) {
+    if replies.len() == steps.len() {
+        machine.run(steps, replies);
+    }
+}
+
+// The replies to steps at once, and to the making of a space after them. The device then had 4 calls.
+fn replies_at_once<R: AllocGlobal>(rt: &R, steps: &[Step]) -> Result<Vec<Reply>, Fail> {
+    let mut replies = vec![in rt.alloc(); Reply::Nothing; steps.len()]?;
+    let mut machine = zeros(rt, TWO)?;
+    run_at_once(&mut machine, steps, &mut replies);
+    replies.push(reply_to(&mut machine, 0, Act::Create))?;
+    if machine.into_device().calls() == 4 {
+        Ok(replies)
+    } else {
+        Err("4 device calls".into())
+    }
+}
+
+// Whether steps are answered so one by one.
+fn are_answered(machine: &mut Trial, steps: &[Step], replies: &[Reply]) -> bool {
+    for (step, reply) in steps.iter().zip(replies) {
+        if reply_to(machine, step.p, step.act) != *reply {
+            return false;
+        }
+    }
+    true
+}
+
 // A run of steps at once is answered as they are one by one.
 #[test]
 fn steps_are_made_at_once(rt: HostRuntime) -> Result<(), Fail> {
-    let mut steps = Vec::new(rt.alloc());
-    for part in [START.as_slice(), &STORE_A, &EIGHT_BYTES] {
-        for (words, _) in part {
-            steps.push(step_of(rt.alloc(), words)?)?;
-        }
-    }
-    let mut replies = vec![in rt.alloc(); Reply::Nothing; steps.len()]?;
+    let steps = steps_in(rt.alloc(), &[START, STORE_A, EIGHT_BYTES])?;
+    let replies = replies_at_once(&rt, &steps)?;
+    assert!(rt; replies.len() == steps.len() + 1 && replies.last() == Some(&Reply::Space(2)));
     let mut machine = zeros(&rt, TWO)?;
-    machine.run(&steps, &mut replies);
-    let mut wanted = zeros(&rt, TWO)?;
-    for (step, reply) in steps.iter().zip(&replies) {
-        assert_eq!(rt; wanted.step(step), *reply);
-    }
-    assert_eq!(rt; reply_to(&mut machine, 0, Act::Create), Reply::Space(2));
-    assert_eq!(rt; machine.into_device().calls(), 4);
+    assert!(rt; are_answered(&mut machine, &steps, &replies));
     Ok(())
 }

@@ -1,7 +1,8 @@
 // Crashes: what is opened after one of them.
 use crate::trial::{
-    COMMITTED, DONE, Disk, FileByte, Found, GOING, Line, MARK, ONE, START, START_ONE, STORE_A, TWO,
-    answer, booted, crash, files, formatted, made, make, make_lines, opened, opened_after,
+    COMMITTED, DONE, Disk, FileByte, GOING, GOING_2, GOING_3, GOING_4, GOING_5, MARK, ONE, START,
+    START_ONE, STORE_A, TWO, Trial, booted, crash, formatted, has, is_answered, leaves_files, made,
+    make, make_line, opens_as, parted, zeros,
 };
 use device::{Device, FailingDisk, MemDisk};
 use page_entry::Refusal;
@@ -76,8 +77,7 @@ fn is_open(image: &[u8], block: usize) -> bool {
 // Within the first sync: neither the record nor the descriptor is read under a closed gate.
 #[test]
 fn a_crash_before_the_gate_is_opened_leaves_nothing(rt: HostRuntime) -> Result<(), Fail> {
-    let disk = made(&rt, TWO, &[&START, &STORE_A, &MARK, &[GOING; 2]])?;
-    assert!(rt; opened_after(rt.alloc(), disk, 0xFF)? == files(&[], 3)?);
+    assert!(rt; leaves_files(&rt, TWO, &[START, STORE_A, MARK, GOING_2], 0xFF, &[], 3)?);
     Ok(())
 }
 
@@ -89,50 +89,46 @@ fn a_crash_at_the_gate_leaves_all_or_nothing(rt: HostRuntime) -> Result<(), Fail
         (0xA7, &[(0, 0, 65)], 9),
         (0x3C, &[], 3),
     ] {
-        let disk = made(&rt, TWO, &[&START, &STORE_A, &MARK, &[GOING; 4]])?;
-        let wanted = files(bytes, calls)?;
-        assert!(rt; opened_after(rt.alloc(), disk, left)? == wanted, "{left}");
+        let parts = [START, STORE_A, MARK, GOING_4];
+        assert!(rt;
+            leaves_files(&rt, TWO, &parts, left, bytes, calls)?,
+            "{left}"
+        );
     }
     Ok(())
 }
 
 // Stores to both pages of `a`.
-const STORE_BOTH: [Line; 6] = [
-    ("0 store 4096 65", "fault 6"),
-    ("0 fix 4096 write", "fixed"),
-    ("0 store 4096 65", "stored"),
-    ("0 store 8192 66", "fault 6"),
-    ("0 fix 8192 write", "fixed"),
-    ("0 store 8192 66", "stored"),
-];
+const STORE_BOTH: &str = "0 store 4096 65: fault 6
+    0 fix 4096 write: fixed
+    0 store 4096 65: stored
+    0 store 8192 66: fault 6
+    0 fix 8192 write: fixed
+    0 store 8192 66: stored";
 
 const BOTH: [FileByte; 2] = [(0, 0, 65), (0, 4096, 66)];
 
 // What a crash leaves of a commit of both pages within the application to block 8, which is left as 0xFF.
 fn cut_application<R: Abort + AllocGlobal>(rt: &R) -> Result<Vec<u8>, Fail> {
-    let alloc = rt.alloc();
-    let disk = made(
-        rt,
-        TWO,
-        &[
-            &START,
-            &STORE_BOTH,
-            &MARK,
-            &[GOING; 5],
-            &COMMITTED,
-            &[GOING; 2],
-        ],
-    )?;
-    assert_eq!(rt; disk.calls(), 3 + 2 + 10);
-    let mut disk = disk.into_inner();
+    let parts = [START, STORE_BOTH, MARK, GOING_5, COMMITTED, GOING_2];
+    let disk = made(rt, TWO, &parts)?;
+    if disk.calls() != 3 + 2 + 10 {
+        return Err("15 device calls".into());
+    }
+    tear(rt.alloc(), &mut disk.into_inner())
+}
+
+// A crash that leaves block 8 as 0xFF, to which the disk was written since its last sync.
+fn tear(alloc: Global, disk: &mut MemDisk<Global>) -> Result<Vec<u8>, Fail> {
     let mut choice = disk.bytes().to_vec(alloc)?;
     for byte in choice.iter_mut().skip(32_768).take(4096) {
         *byte = 0xFF;
     }
-    crash(&mut disk, &choice)?;
-    let image = disk.bytes().to_vec(alloc)?;
-    assert!(rt; image.get(32_768) == Some(&0xFF));
-    Ok(image)
+    crash(disk, &choice)?;
+    if disk.bytes().get(32_768) != Some(&0xFF) {
+        return Err("block 8 is torn".into());
+    }
+    Ok(disk.bytes().to_vec(alloc)?)
 }
 
 // How many calls open a disk in layout 1 that has both pages in its journal if its gate is open.
@@ -140,17 +136,22 @@ fn calls_to_open(image: &[u8]) -> u64 {
     if is_open(image, 1) { 11 } else { 3 }
 }
 
+// Whether a disk opens with both pages.
+fn has_both(alloc: Global, disk: MemDisk<Global>) -> Result<bool, Fail> {
+    let calls = calls_to_open(disk.bytes());
+    has(alloc, disk, &BOTH, calls)
+}
+
 // Both home blocks are written again, also where that is cut by a crash at any call.
 #[test]
 fn a_cut_application_is_done_again(rt: HostRuntime) -> Result<(), Fail> {
     let alloc = rt.alloc();
     let image = cut_application(&rt)?;
-    assert!(rt; opened(alloc, disk_of(alloc, &image)?)? == files(&BOTH, 11)?);
+    assert!(rt; has(alloc, disk_of(alloc, &image)?, &BOTH, 11)?);
     for call in 1..12 {
         for unsynced in CRASHES {
             let left = cut_opening(alloc, &image, call, unsynced)?;
-            let wanted = files(&BOTH, calls_to_open(left.bytes()))?;
-            assert!(rt; opened(alloc, left)? == wanted, "call {call}, {unsynced:?}");
+            assert!(rt; has_both(alloc, left)?, "call {call}, {unsynced:?}");
         }
     }
     Ok(())
@@ -161,8 +162,7 @@ fn opens_again(alloc: Global, image: &[u8], call: u64) -> Result<bool, Fail> {
     let disk = failed_opening(alloc, image, call)?;
     let failed = disk.calls() == call && disk.faults() == 1;
     let disk = disk.into_inner();
-    let wanted = files(&BOTH, calls_to_open(disk.bytes()))?;
-    Ok(failed && opened(alloc, disk)? == wanted)
+    Ok(failed && has_both(alloc, disk)?)
 }
 
 #[test]
@@ -175,28 +175,38 @@ fn each_device_call_of_an_opening_fails(rt: HostRuntime) -> Result<(), Fail> {
 }
 
 // The steps of a write-out of both pages.
-const WRITE_OUT: [Line; 11] = [
-    GOING,
-    GOING,
-    GOING,
-    GOING,
-    GOING,
-    ("0 flush", "committed 1"),
-    GOING,
-    GOING,
-    GOING,
-    GOING,
-    ("0 flush", "done 1"),
-];
+const WRITE_OUT: &str = "0 flush: going
+    0 flush: going
+    0 flush: going
+    0 flush: going
+    0 flush: going
+    0 flush: committed 1
+    0 flush: going
+    0 flush: going
+    0 flush: going
+    0 flush: going
+    0 flush: done 1";
 
 // Which of these steps opens the gate. The next one makes that sure.
 const GATE: usize = 5;
 
+fn write_out<R: Abort + AllocGlobal>(
+    rt: &R,
+    machine: &mut Trial,
+    steps: usize,
+) -> Result<(), Fail> {
+    for line in WRITE_OUT.lines().take(steps) {
+        make_line(rt, machine, line)?;
+    }
+    Ok(())
+}
+
 // The disk after so many of them.
 fn written_out<R: Abort + AllocGlobal>(rt: &R, steps: usize) -> Result<MemDisk<Global>, Fail> {
-    let lines = WRITE_OUT.get(..steps).ok_or("steps of a write-out")?;
-    let disk = made(rt, TWO, &[&START, &STORE_BOTH, &MARK, lines])?;
-    Ok(disk.into_inner())
+    let mut machine = zeros(rt, TWO)?;
+    make(rt, &mut machine, &[START, STORE_BOTH, MARK])?;
+    write_out(rt, &mut machine, steps)?;
+    Ok(machine.into_device().into_inner())
 }
 
 // Whether a crash that leaves this after so many of the steps is opened as it should be.
@@ -209,8 +219,8 @@ fn leaves_all_or_nothing<R: Abort + AllocGlobal>(
     crash(&mut disk, choice)?;
     let is_there = steps > GATE || steps == GATE && is_open(choice, 1);
     let bytes = if is_there { BOTH.as_slice() } else { &[] };
-    let wanted = files(bytes, calls_to_open(disk.bytes()))?;
-    Ok(opened(rt.alloc(), disk)? == wanted)
+    let calls = calls_to_open(disk.bytes());
+    has(rt.alloc(), disk, bytes, calls)
 }
 
 // The disk after each number of steps.
@@ -256,15 +266,13 @@ fn each_crash_of_a_write_out(rt: HostRuntime) -> Result<(), Fail> {
     Ok(())
 }
 
-const STORED_AGAIN: [Line; 7] = [
-    ("0 store 4096 70", "fault 7"),
-    ("0 fix 4096 write", "fixed"),
-    ("0 store 4096 70", "stored"),
-    ("0 msync 4096 4096 4", "begun"),
-    ("1 ack", "acked"),
-    ("0 change", "marked 2"),
-    ("1 resume", "resumed"),
-];
+const STORED_AGAIN: &str = "0 store 4096 70: fault 7
+    0 fix 4096 write: fixed
+    0 store 4096 70: stored
+    0 msync 4096 4096 4: begun
+    1 ack: acked
+    0 change: marked 2
+    1 resume: resumed";
 
 // Before the closed gate is synced it may be open or closed; once it is, no record that follows is read under it.
 #[test]
@@ -273,31 +281,26 @@ fn a_crash_at_the_end_leaves_what_was_committed(rt: HostRuntime) -> Result<(), F
         let disk = made(
             &rt,
             TWO,
-            &[
-                &START,
-                &STORE_A,
-                &MARK,
-                &[GOING; 4],
-                &COMMITTED,
-                &[GOING; 3],
-            ],
+            &[START, STORE_A, MARK, GOING_4, COMMITTED, GOING_3],
         )?;
-        let wanted = files(&[(0, 0, 65)], calls)?;
-        assert!(rt; opened_after(rt.alloc(), disk, left)? == wanted, "{left}");
+        assert!(rt;
+            opens_as(rt.alloc(), disk, left, &[(0, 0, 65)], calls)?,
+            "{left}"
+        );
     }
     let disk = made(
         &rt,
         TWO,
         &[
-            &START,
-            &STORE_A,
-            &MARK,
-            &[GOING; 4],
-            &COMMITTED,
-            &[GOING; 3],
-            &DONE,
-            &STORED_AGAIN,
-            &[GOING],
+            START,
+            STORE_A,
+            MARK,
+            GOING_4,
+            COMMITTED,
+            GOING_3,
+            DONE,
+            STORED_AGAIN,
+            GOING,
         ],
     )?;
     let mut disk = disk.into_inner();
@@ -306,40 +309,38 @@ fn a_crash_at_the_end_leaves_what_was_committed(rt: HostRuntime) -> Result<(), F
     *gate = 0xA7;
     crash(&mut disk, &choice)?;
     assert!(rt; disk.bytes().get(12_288) == Some(&0xFF));
-    assert!(rt; opened(rt.alloc(), disk)? == files(&[(0, 0, 65)], 3)?);
+    assert!(rt; has(rt.alloc(), disk, &[(0, 0, 65)], 3)?);
     Ok(())
 }
 
 // In layout 2 a second commit while the first is still applied. The byte is 65 in the first, and 66 in the second.
-const SIDE_BY_SIDE: [Line; 27] = [
-    ("0 msync 4096 4096 1", "begun"),
-    ("0 change", "marked 1"),
-    GOING,
-    GOING,
-    GOING,
-    GOING,
-    ("0 flush", "committed 1"),
-    ("0 store 4096 66", "fault 7"),
-    ("0 fix 4096 write", "fixed"),
-    ("0 store 4096 66", "stored"),
-    ("0 msync 4096 4096 1", "begun"),
-    ("0 change", "marked 2"),
-    GOING,
-    GOING,
-    GOING,
-    GOING,
-    ("0 flush", "committed 2"),
-    ("0 msync 4096 4096 1", "busy"),
-    GOING,
-    GOING,
-    GOING,
-    ("0 flush", "done 1"),
-    GOING,
-    GOING,
-    GOING,
-    ("0 flush", "done 2"),
-    ("0 flush", "nothing"),
-];
+const SIDE_BY_SIDE: &str = "0 msync 4096 4096 1: begun
+    0 change: marked 1
+    0 flush: going
+    0 flush: going
+    0 flush: going
+    0 flush: going
+    0 flush: committed 1
+    0 store 4096 66: fault 7
+    0 fix 4096 write: fixed
+    0 store 4096 66: stored
+    0 msync 4096 4096 1: begun
+    0 change: marked 2
+    0 flush: going
+    0 flush: going
+    0 flush: going
+    0 flush: going
+    0 flush: committed 2
+    0 msync 4096 4096 1: busy
+    0 flush: going
+    0 flush: going
+    0 flush: going
+    0 flush: done 1
+    0 flush: going
+    0 flush: going
+    0 flush: going
+    0 flush: done 2
+    0 flush: nothing";
 
 // After how many of these lines the gates of the journals are written, and not yet synced.
 const GATE_A: usize = 6;
@@ -354,41 +355,52 @@ fn side_by_side<R: Abort + AllocGlobal>(
 ) -> Result<(Disk, usize), Fail> {
     let disk = FailingDisk::new(formatted(rt.alloc(), 2)?, fails_at);
     let mut machine = booted(rt.alloc(), disk, ONE)?;
-    make(rt, &mut machine, &[&START_ONE, &STORE_A])?;
-    for (done, (words, wanted)) in SIDE_BY_SIDE.iter().take(lines).enumerate() {
-        let reply = answer(rt.alloc(), &mut machine, words)?;
-        if reply.as_str() == "device" {
-            make_lines(rt, &mut machine, &[("0 flush", "broken")])?;
-            return Ok((machine.into_device(), done));
-        }
-        assert_eq!(rt; reply.as_str(), *wanted, "{words}");
-    }
-    Ok((machine.into_device(), lines))
+    make(rt, &mut machine, &[START_ONE, STORE_A])?;
+    let done = commit_twice(rt, &mut machine, lines)?;
+    Ok((machine.into_device(), done))
 }
 
-// What is opened of a disk whose byte is this one.
-fn with_byte(byte: u8, image: &[u8]) -> Result<Found, Fail> {
+// Makes so many of these lines, or fewer where a device call fails. How many were made.
+fn commit_twice<R: Abort + AllocGlobal>(
+    rt: &R,
+    machine: &mut Trial,
+    lines: usize,
+) -> Result<usize, Fail> {
+    for (done, line) in SIDE_BY_SIDE.lines().take(lines).enumerate() {
+        let (words, wanted) = parted(line)?;
+        if !is_answered(rt.alloc(), machine, words, wanted)? {
+            make_line(rt, machine, "0 flush: broken")?;
+            return Ok(done);
+        }
+    }
+    Ok(lines)
+}
+
+// Whether a disk opens with this byte.
+fn has_byte(alloc: Global, disk: MemDisk<Global>, byte: u8) -> Result<bool, Fail> {
     // Layout 2 opens in 4 calls, and 6 for each open gate over one record.
     let mut calls = 4;
     for gate in [1, 7] {
-        if is_open(image, gate) {
+        if is_open(disk.bytes(), gate) {
             calls = 6u64.saturating_add(calls);
         }
     }
-    files(&[(0, 0, byte)], calls)
+    has(alloc, disk, &[(0, 0, byte)], calls)
 }
 
 #[test]
 fn two_write_outs_side_by_side(rt: HostRuntime) -> Result<(), Fail> {
     let (disk, _) = side_by_side(&rt, 27, 0)?;
     assert_eq!(rt; disk.calls(), 4 + 1 + 10 + 10);
-    assert!(rt; opened_after(rt.alloc(), disk, 0x5A)? == files(&[(0, 0, 66)], 4)?);
+    assert!(rt; opens_as(rt.alloc(), disk, 0x5A, &[(0, 0, 66)], 4)?);
     let (disk, _) = side_by_side(&rt, 17, 0)?;
-    assert!(rt; opened_after(rt.alloc(), disk, 0x5A)? == files(&[(0, 0, 66)], 16)?);
+    assert!(rt; opens_as(rt.alloc(), disk, 0x5A, &[(0, 0, 66)], 16)?);
     for (left, byte, calls) in [(0x00, 65, 10), (0xA7, 66, 16)] {
         let (disk, _) = side_by_side(&rt, GATE_B, 0)?;
-        let wanted = files(&[(0, 0, byte)], calls)?;
-        assert!(rt; opened_after(rt.alloc(), disk, left)? == wanted, "{left}");
+        assert!(rt;
+            opens_as(rt.alloc(), disk, left, &[(0, 0, byte)], calls)?,
+            "{left}"
+        );
     }
     Ok(())
 }
@@ -423,8 +435,7 @@ fn leaves<R: Abort + AllocGlobal>(
     let failed = disk.faults() > 0;
     let mut disk = disk.into_inner();
     crash(&mut disk, choice)?;
-    let wanted = with_byte(byte_after(done, failed, choice), disk.bytes())?;
-    Ok(opened(rt.alloc(), disk)? == wanted)
+    has_byte(rt.alloc(), disk, byte_after(done, failed, choice))
 }
 
 // The disk after each number of lines.
@@ -490,9 +501,8 @@ fn each_crash_of_an_opening_of_two_journals(rt: HostRuntime) -> Result<(), Fail>
     for call in 1..17 {
         for unsynced in CRASHES {
             let left = cut_opening(rt.alloc(), &image, call, unsynced)?;
-            let wanted = with_byte(66, left.bytes())?;
             assert!(rt;
-                opened(rt.alloc(), left)? == wanted,
+                has_byte(rt.alloc(), left, 66)?,
                 "call {call}, {unsynced:?}"
             );
         }

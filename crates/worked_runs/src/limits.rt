@@ -1,11 +1,12 @@
 // Machines at their limits.
-use crate::trial::{Line, START, TWO, Trial, formatted, make, make_lines, reply_to, zeros};
+use crate::trial::{Disk, START, TWO, Trial, booted, formatted, make, reply_to, zeros};
 use device::{Device, FailingDisk, MemDisk};
 use machine::{Act, FewBytes, Machine, Reply, Shape};
 use mappings::Rights;
 use page_entry::Refusal;
 use recovery::{format, open};
 use std::alloc::Global;
+use std::process::Abort;
 use std::test::Fail;
 
 // Shapes over a volume with 4 record slots, and whether a machine can have them.
@@ -72,13 +73,7 @@ fn with_many_frames(alloc: Global) -> Result<Trial, Fail> {
         frames: MANY,
         copies: 64,
     };
-    let mut machine = match open(alloc, FailingDisk::new(disk, 0)) {
-        Ok(volume) => match Machine::boot(alloc, volume, shape) {
-            Ok(machine) => machine,
-            Err((refusal, _)) => return Err(refusal.into()),
-        },
-        Err((refusal, _)) => return Err(refusal.into()),
-    };
+    let mut machine = booted(alloc, FailingDisk::new(disk, 0), shape)?;
     let map = Act::Map {
         space: 1,
         va: 4096,
@@ -123,89 +118,108 @@ fn stores(machine: &mut Trial, page: u64) -> Result<[Reply; 3], Fail> {
     ])
 }
 
-// A commit of as many pages as there can be: 3k + 7 device calls in 2k + 7 steps, of which k + 4 commit.
-#[test]
-fn a_commit_of_1020_pages(rt: HostRuntime) -> Result<(), Fail> {
-    let mut machine = with_many_frames(rt.alloc())?;
+// Stores to as many pages, each of which faults once, and to one more, which no frame is left for.
+fn store_to_all<R: Abort>(rt: &R, machine: &mut Trial) -> Result<(), Fail> {
     for page in 0..MANY {
-        let replies = stores(&mut machine, page)?;
+        let replies = stores(machine, page)?;
         assert!(rt;
             replies == [FAULT, Reply::Fixed, Reply::Stored],
             "page {page}"
         );
     }
-    let replies = stores(&mut machine, MANY)?;
+    let replies = stores(machine, MANY)?;
     assert!(rt; replies == [FAULT, Reply::Refused(Refusal::NoFrame), FAULT]);
+    Ok(())
+}
+
+// Marks them, and writes them out in 2k + 7 steps, of which k + 4 commit.
+fn commit_all<R: Abort>(rt: &R, machine: &mut Trial) {
     let msync = Act::Msync {
         va: 4096,
         len: 4096 * 1021,
         flags: 4,
     };
-    assert_eq!(rt; reply_to(&mut machine, 0, msync), Reply::Begun);
-    assert_eq!(rt; reply_to(&mut machine, 0, Act::Change), Reply::Marked(1));
+    assert_eq!(rt; reply_to(machine, 0, msync), Reply::Begun);
+    assert_eq!(rt; reply_to(machine, 0, Act::Change), Reply::Marked(1));
     for number in 1..2048 {
         let wanted = match number {
             1024 => Reply::Committed(1),
             2047 => Reply::Done(1),
             _ => Reply::Going,
         };
-        assert_eq!(rt;
-            reply_to(&mut machine, 0, Act::Flush),
-            wanted,
-            "step {number}"
-        );
+        assert_eq!(rt; reply_to(machine, 0, Act::Flush), wanted, "step {number}");
     }
-    assert_eq!(rt; reply_to(&mut machine, 0, Act::Flush), Reply::Nothing);
-    let disk = machine.into_device();
+    assert_eq!(rt; reply_to(machine, 0, Act::Flush), Reply::Nothing);
+}
+
+// The disk after that.
+fn with_all_committed<R: Abort + AllocGlobal>(rt: &R) -> Result<Disk, Fail> {
+    let mut machine = with_many_frames(rt.alloc())?;
+    store_to_all(rt, &mut machine)?;
+    commit_all(rt, &mut machine);
+    Ok(machine.into_device())
+}
+
+// A commit of as many pages as there can be makes 3k + 7 device calls.
+#[test]
+fn a_commit_of_1020_pages(rt: HostRuntime) -> Result<(), Fail> {
+    let disk = with_all_committed(&rt)?;
     assert_eq!(rt; disk.calls(), 3 + 1020 + 3067);
-    match open(rt.alloc(), disk.into_inner()) {
+    assert!(rt; has_many_bytes(rt.alloc(), disk.into_inner())?);
+    Ok(())
+}
+
+// Whether a disk opens with the byte of each of as many pages.
+fn has_many_bytes(alloc: Global, disk: MemDisk<Global>) -> Result<bool, Fail> {
+    match open(alloc, disk) {
         Ok(mut volume) => {
+            let mut all = true;
             for page in 0..MANY {
                 let mut byte = [1];
                 if volume.file_count() != 1 || volume.length(0) != 4096 * 1021 {
                     return Err("the file is there".into());
                 }
                 volume.read_file(0, 4096 * page, &mut byte)?;
-                assert_eq!(rt; byte[0], byte_of(page), "page {page}");
+                all = all && byte[0] == byte_of(page);
             }
-            Ok(())
+            Ok(all)
         }
         Err((refusal, _)) => Err(refusal.into()),
     }
 }
 
-const LAST_SPACE: [Line; 12] = [
-    ("0 create", "enomem"),
-    ("0 map 4095 4096 4096 1 0 rw rw", "mapped"),
-    ("0 map 1 4096 4096 1 0 r r", "mapped"),
-    ("0 switch 4095 drop", "switched"),
-    ("0 store 4096 9", "fault 6"),
-    ("0 fix 4096 write", "fixed"),
-    ("0 store 4096 9", "stored"),
-    ("1 switch 1 drop", "switched"),
-    ("1 load 4096 1", "fault 4"),
-    ("1 fix 4096 read", "fixed"),
-    ("1 load 4096 1", "bytes 9"),
-    ("0 destroy 4096", "einval"),
-];
+const LAST_SPACE: &str = "0 create: enomem
+    0 map 4095 4096 4096 1 0 rw rw: mapped
+    0 map 1 4096 4096 1 0 r r: mapped
+    0 switch 4095 drop: switched
+    0 store 4096 9: fault 6
+    0 fix 4096 write: fixed
+    0 store 4096 9: stored
+    1 switch 1 drop: switched
+    1 load 4096 1: fault 4
+    1 fix 4096 read: fixed
+    1 load 4096 1: bytes 9
+    0 destroy 4096: einval";
 
-const SPACE_AGAIN: [Line; 6] = [
-    ("0 destroy 0", "einval"),
-    ("0 destroy 4095", "busy"),
-    ("0 destroy 7", "destroyed"),
-    ("0 destroy 2000", "destroyed"),
-    ("0 create", "space 7"),
-    ("0 create", "space 2000"),
-];
+const SPACE_AGAIN: &str = "0 destroy 0: einval
+    0 destroy 4095: busy
+    0 destroy 7: destroyed
+    0 destroy 2000: destroyed
+    0 create: space 7
+    0 create: space 2000";
 
 // There are as many spaces as PCIDs but for space 0, and the lowest free one is given out.
 #[test]
 fn there_are_4095_spaces(rt: HostRuntime) -> Result<(), Fail> {
     let mut machine = zeros(&rt, TWO)?;
+    create_all(&rt, &mut machine);
+    make(&rt, &mut machine, &[LAST_SPACE, SPACE_AGAIN])
+}
+
+fn create_all<R: Abort>(rt: &R, machine: &mut Trial) {
     for space in 1..4096 {
-        assert_eq!(rt; reply_to(&mut machine, 0, Act::Create), Reply::Space(space));
+        assert_eq!(rt; reply_to(machine, 0, Act::Create), Reply::Space(space));
     }
-    make(&rt, &mut machine, &[&LAST_SPACE, &SPACE_AGAIN])
 }
 
 // Only what can be sent to a thread can be given to this.
@@ -219,8 +233,8 @@ fn a_machine_can_be_sent_to_a_thread(rt: HostRuntime) -> Result<(), Fail> {
     Ok(())
 }
 
-// What a mapping of one page of `a`, a fix and a fill of it are answered.
-fn fills(machine: &mut Trial, page: u64) -> [Reply; 3] {
+// Whether a page of `a` is mapped, fixed and filled.
+fn fills(machine: &mut Trial, page: u64) -> bool {
     let va = page.saturating_mul(4096);
     let map = Act::Map {
         space: 1,
@@ -231,11 +245,15 @@ fn fills(machine: &mut Trial, page: u64) -> [Reply; 3] {
         prot: Rights::Read,
         access: Rights::Read,
     };
-    [
-        reply_to(machine, 0, map),
-        reply_to(machine, 0, Act::Fix { va, write: false }),
-        reply_to(machine, 0, Act::Fill { page }),
-    ]
+    reply_to(machine, 0, map) == Reply::Mapped
+        && reply_to(machine, 0, Act::Fix { va, write: false }) == Reply::Fixed
+        && reply_to(machine, 0, Act::Fill { page }) == Reply::Filled
+}
+
+fn fill_all<R: Abort>(rt: &R, machine: &mut Trial) {
+    for page in 16..81 {
+        assert!(rt; fills(machine, page), "page {page}");
+    }
 }
 
 // Each page is cached, and a full TLB drops an entry for the next: one page more than there is room for.
@@ -243,71 +261,63 @@ fn fills(machine: &mut Trial, page: u64) -> [Reply; 3] {
 fn a_tlb_of_64_entries(rt: HostRuntime) -> Result<(), Fail> {
     let shape = Shape { tlb: 64, ..TWO };
     let mut machine = zeros(&rt, shape)?;
-    make(&rt, &mut machine, &[&START])?;
-    for page in 16..81 {
-        let replies = fills(&mut machine, page);
-        assert!(rt;
-            replies == [Reply::Mapped, Reply::Fixed, Reply::Filled],
-            "page {page}"
-        );
-    }
-    make(&rt, &mut machine, &[&FULL])?;
+    make(&rt, &mut machine, &[START])?;
+    fill_all(&rt, &mut machine);
+    make(&rt, &mut machine, &[FULL])?;
     // The page of the file was read in once.
     assert_eq!(rt; machine.into_device().calls(), 3 + 1);
     Ok(())
 }
 
-const FULL: [Line; 5] = [
-    ("0 evict 64", "nothing"),
-    ("0 evict 63", "evicted"),
-    ("0 evict 63", "nothing"),
-    ("0 evict 0", "evicted"),
-    ("0 evict 62", "nothing"),
-];
+const FULL: &str = "0 evict 64: nothing
+    0 evict 63: evicted
+    0 evict 63: nothing
+    0 evict 0: evicted
+    0 evict 62: nothing";
 
 // Steps that leave a machine as it was booted, and steps that don't.
-const FRESH: [Line; 8] = [
-    ("0 load 4096 1", "fault 4"),
-    ("0 store 4096 1", "fault 6"),
-    ("0 fix 4096 read", "segvmaperr"),
-    ("0 flush", "nothing"),
-    ("0 ack", "nothing"),
-    ("0 change", "nothing"),
-    ("0 evict 0", "nothing"),
-    ("0 map 1 4096 4096 0 0 rw rw", "einval"),
-];
+const FRESH: &str = "0 load 4096 1: fault 4
+    0 store 4096 1: fault 6
+    0 fix 4096 read: segvmaperr
+    0 flush: nothing
+    0 ack: nothing
+    0 change: nothing
+    0 evict 0: nothing
+    0 map 1 4096 4096 0 0 rw rw: einval";
 
-const NOT_FRESH: [Line; 3] = [
-    ("0 create", "space 1"),
-    ("1 idle", "idled"),
-    ("0 msync 0 0 4", "begun"),
-];
+const NOT_FRESH: &str = "0 create: space 1
+    1 idle: idled
+    0 msync 0 0 4: begun";
 
-const MARKED: [Line; 4] = [
-    ("0 msync 0 0 4", "begun"),
-    ("1 ack", "acked"),
-    ("0 change", "marked 1"),
-    ("1 resume", "resumed"),
-];
+const MARKED: &str = "0 msync 0 0 4: begun
+    1 ack: acked
+    0 change: marked 1
+    1 resume: resumed";
 
 // A machine tells whether it is as it was booted.
 #[test]
 fn a_machine_is_fresh_until_a_mark(rt: HostRuntime) -> Result<(), Fail> {
-    let mut machine = zeros(&rt, TWO)?;
-    assert!(rt; machine.is_fresh());
-    make(&rt, &mut machine, &[&FRESH])?;
-    assert!(rt; machine.is_fresh());
-    make(&rt, &mut machine, &[&MARKED])?;
-    assert!(rt; !machine.is_fresh());
+    assert!(rt; is_fresh_after(&rt, &[])?);
+    assert!(rt; is_fresh_after(&rt, &[FRESH])?);
+    assert!(rt; !is_fresh_after(&rt, &[FRESH, MARKED])?);
     Ok(())
 }
 
 #[test]
 fn a_machine_is_not_fresh_after_one_step(rt: HostRuntime) -> Result<(), Fail> {
-    for line in NOT_FRESH {
-        let mut machine = zeros(&rt, TWO)?;
-        make_lines(&rt, &mut machine, &[line])?;
-        assert!(rt; !machine.is_fresh(), "{}", line.0);
+    for line in NOT_FRESH.lines() {
+        assert!(rt; !is_fresh_after(&rt, &[line])?, "{line}");
     }
     Ok(())
+}
+
+fn is_fresh(machine: &Trial) -> bool {
+    machine.is_fresh()
+}
+
+// Whether a machine is as it was booted after these steps.
+fn is_fresh_after<R: Abort + AllocGlobal>(rt: &R, parts: &[&str]) -> Result<bool, Fail> {
+    let mut machine = zeros(rt, TWO)?;
+    make(rt, &mut machine, parts)?;
+    Ok(is_fresh(&machine))
 }

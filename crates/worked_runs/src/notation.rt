@@ -142,17 +142,27 @@ fn act_of(alloc: Global, name: &str, numbers: &[u64]) -> Result<Act, Fail> {
     }
 }
 
-/// The step that these words say.
-pub(crate) fn step_of(alloc: Global, words: &str) -> Result<Step, Fail> {
+// The numbers that an act's arguments are, of words whose first two are the processor and the act.
+fn numbers_in(alloc: Global, words: &str) -> Result<Vec<u64>, Fail> {
+    let mut numbers = Vec::new(alloc);
+    for word in words.split(' ').skip(2) {
+        numbers.push(number(word)?)?;
+    }
+    Ok(numbers)
+}
+
+// The processor and the act's name.
+fn begin_of(words: &str) -> Result<(u8, &str), Fail> {
     let mut words = words.split(' ');
     let p = number(words.next().ok_or("a processor")?)?;
     let name = words.next().ok_or("an act")?;
-    let mut numbers = Vec::new(alloc);
-    for word in words {
-        numbers.push(number(word)?)?;
-    }
-    Ok(Step {
-        p: u8::try_from(p)?,
-        act: act_of(alloc, name, &numbers)?,
-    })
+    Ok((u8::try_from(p)?, name))
+}
+
+/// The step that these words say.
+pub(crate) fn step_of(alloc: Global, words: &str) -> Result<Step, Fail> {
+    let (p, name) = begin_of(words)?;
+    let numbers = numbers_in(alloc, words)?;
+    let act = act_of(alloc, name, &numbers)?;
+    Ok(Step { p, act })
 }

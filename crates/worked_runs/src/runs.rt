@@ -1,7 +1,7 @@
 // Whole runs: who is told what, and the disk that comes back.
-use crate::notation::step_of;
 use crate::trial::{
-    COMMITTED, DONE, Disk, GOING, Line, MARK, START, STORE_A, TWO, files, formatted, opened_after,
+    COMMITTED, DONE, Disk, GOING_3, GOING_4, MARK, START, STORE_A, TWO, formatted, opens_as,
+    parted, steps_in,
 };
 use device::{Device, FailingDisk, MemDisk};
 use engine::{Listener, run};
@@ -33,26 +33,22 @@ fn nothing_heard(alloc: Global, most: usize) -> Heard {
     }
 }
 
-// The lines of these parts.
-fn lines_in(alloc: Global, parts: &[&[Line]]) -> Result<Vec<Line>, Fail> {
-    let mut lines = Vec::new(alloc);
-    for part in parts {
-        for line in part.iter() {
-            lines.push(*line)?;
-        }
-    }
-    Ok(lines)
-}
-
-// What was heard is what these lines want, from the first on.
+// What was heard is what the lines of these parts want, from the first on.
 fn heard_as_wanted<R: Abort + AllocGlobal>(
     rt: &R,
-    lines: &[Line],
+    parts: &[&str],
     replies: &[Reply],
 ) -> Result<(), Fail> {
-    for ((words, wanted), reply) in lines.iter().zip(replies) {
-        let reply = format!(in rt.alloc(); "{reply}")?;
-        assert_eq!(rt; reply.as_str(), *wanted, "{words}");
+    let mut heard = replies.iter();
+    for part in parts {
+        for line in part.lines() {
+            let Some(reply) = heard.next() else {
+                return Ok(());
+            };
+            let (words, wanted) = parted(line)?;
+            let reply = format!(in rt.alloc(); "{reply}")?;
+            assert_eq!(rt; reply.as_str(), wanted, "{words}");
+        }
     }
     Ok(())
 }
@@ -61,20 +57,16 @@ fn heard_as_wanted<R: Abort + AllocGlobal>(
 fn run_lines<R: Abort + AllocGlobal>(
     rt: &R,
     disk: Disk,
-    parts: &[&[Line]],
+    parts: &[&str],
     most: usize,
 ) -> Result<Disk, Fail> {
     let alloc = rt.alloc();
-    let lines = lines_in(alloc, parts)?;
-    let mut steps = Vec::new(alloc);
-    for (words, _) in &lines {
-        steps.push(step_of(alloc, words)?)?;
-    }
+    let steps = steps_in(alloc, parts)?;
     let mut heard = nothing_heard(alloc, most);
     match run(alloc, disk, TWO, &steps, &mut heard) {
         Ok(disk) => {
-            assert_eq!(rt; heard.replies.len(), lines.len().min(most));
-            heard_as_wanted(rt, &lines, &heard.replies)?;
+            assert_eq!(rt; heard.replies.len(), steps.len().min(most));
+            heard_as_wanted(rt, parts, &heard.replies)?;
             Ok(disk)
         }
         Err((refusal, _)) => Err(refusal.into()),
@@ -89,42 +81,38 @@ fn zeros_failing_at(alloc: Global, call: u64) -> Result<Disk, Fail> {
 #[test]
 fn a_run_tells_each_reply(rt: HostRuntime) -> Result<(), Fail> {
     let disk = zeros_failing_at(rt.alloc(), 0)?;
-    let commit: [&[Line]; 5] = [&START, &STORE_A, &MARK, &[GOING; 4], &COMMITTED];
+    let commit = [START, STORE_A, MARK, GOING_4, COMMITTED];
     let disk = run_lines(&rt, disk, &commit, 100)?;
     assert_eq!(rt; disk.calls(), 3 + 1 + 5);
-    assert!(rt; opened_after(rt.alloc(), disk, 0x5A)? == files(&[(0, 0, 65)], 9)?);
+    assert!(rt; opens_as(rt.alloc(), disk, 0x5A, &[(0, 0, 65)], 9)?);
     Ok(())
 }
 
-const LOAD_A: [Line; 3] = [
-    ("0 load 4096 1", "fault 4"),
-    ("0 fix 4096 read", "fixed"),
-    ("0 load 4096 1", "bytes 65"),
-];
+const LOAD_A: &str = "0 load 4096 1: fault 4
+    0 fix 4096 read: fixed
+    0 load 4096 1: bytes 65";
 
 // It ends where the listener says to stop; what wasn't committed is gone in the next run on the disk that came back,
 // and what was is there.
 #[test]
 fn a_run_stops_and_another_begins(rt: HostRuntime) -> Result<(), Fail> {
     let disk = zeros_failing_at(rt.alloc(), 0)?;
-    let disk = run_lines(&rt, disk, &[&START, &STORE_A, &MARK, &[GOING; 4]], 8)?;
+    let disk = run_lines(&rt, disk, &[START, STORE_A, MARK, GOING_4], 8)?;
     assert_eq!(rt; disk.calls(), 3 + 1);
-    let zero = [
-        ("0 load 4096 1", "fault 4"),
-        ("0 fix 4096 read", "fixed"),
-        ("0 load 4096 1", "bytes 0"),
-    ];
-    let again: [&[Line]; 6] = [
-        &START,
-        &zero,
-        &[("0 store 4096 65", "stored")],
-        &MARK,
-        &[GOING; 4],
-        &COMMITTED,
+    let zero = "0 load 4096 1: fault 4
+        0 fix 4096 read: fixed
+        0 load 4096 1: bytes 0";
+    let again = [
+        START,
+        zero,
+        "0 store 4096 65: stored",
+        MARK,
+        GOING_4,
+        COMMITTED,
     ];
     let disk = run_lines(&rt, disk, &again, 100)?;
     assert_eq!(rt; disk.calls(), 3 + 1 + 3 + 1 + 5);
-    let disk = run_lines(&rt, disk, &[&START, &LOAD_A], 100)?;
+    let disk = run_lines(&rt, disk, &[START, LOAD_A], 100)?;
     assert_eq!(rt; disk.calls(), 3 + 1 + 3 + 1 + 5 + 9 + 1);
     Ok(())
 }
@@ -134,16 +122,17 @@ fn a_run_stops_and_another_begins(rt: HostRuntime) -> Result<(), Fail> {
 #[test]
 fn a_run_on_a_disk_that_fails_gives_it_back(rt: HostRuntime) -> Result<(), Fail> {
     let disk = zeros_failing_at(rt.alloc(), 9)?;
-    let broken: [&[Line]; 5] = [
-        &START,
-        &STORE_A,
-        &MARK,
-        &[GOING; 4],
-        &[("0 flush", "device"), ("0 flush", "broken")],
+    let broken = [
+        START,
+        STORE_A,
+        MARK,
+        GOING_4,
+        "0 flush: device",
+        "0 flush: broken",
     ];
     let disk = run_lines(&rt, disk, &broken, 100)?;
     assert_eq!(rt; (disk.calls(), disk.faults()), (9, 1));
-    let disk = run_lines(&rt, disk, &[&START, &LOAD_A], 100)?;
+    let disk = run_lines(&rt, disk, &[START, LOAD_A], 100)?;
     assert_eq!(rt; (disk.calls(), disk.faults()), (9 + 9 + 1, 1));
     Ok(())
 }
@@ -186,15 +175,7 @@ fn a_run_of_no_steps(rt: HostRuntime) -> Result<(), Fail> {
     let disk = zeros_failing_at(rt.alloc(), 0)?;
     let disk = run_lines(&rt, disk, &[], 100)?;
     assert_eq!(rt; disk.calls(), 3);
-    let commit: [&[Line]; 7] = [
-        &START,
-        &STORE_A,
-        &MARK,
-        &[GOING; 4],
-        &COMMITTED,
-        &[GOING; 3],
-        &DONE,
-    ];
+    let commit = [START, STORE_A, MARK, GOING_4, COMMITTED, GOING_3, DONE];
     let disk = run_lines(&rt, disk, &commit, 100)?;
     assert_eq!(rt; disk.calls(), 3 + 3 + 1 + 10);
     let disk = run_lines(&rt, disk, &[], 100)?;

@@ -4,7 +4,7 @@ use crate::notation::step_of;
 use device::{Device, FailingDisk, MemDisk};
 use machine::{Act, Machine, Reply, Shape, Step};
 use page_entry::ProcessorNumber;
-use recovery::{format_as, open};
+use recovery::{Volume, format_as, open};
 use std::alloc::Global;
 use std::process::Abort;
 use std::test::Fail;
@@ -15,9 +15,6 @@ pub(crate) type Disk = FailingDisk<MemDisk<Global>>;
 
 /// A machine on such a disk.
 pub(crate) type Trial = Machine<Disk, Global>;
-
-/// A step in words, and its reply as it is printed.
-pub(crate) type Line = (&'static str, &'static str);
 
 /// A byte of a file: the file's number, the offset, and the byte.
 pub(crate) type FileByte = (usize, usize, u8);
@@ -51,44 +48,56 @@ pub(crate) const ONE: Shape = Shape {
     copies: 0,
 };
 
+// Steps are written one a line, each in words, with its reply as it is printed after a colon.
+
 /// Processor 0 makes a space with three pages from 4096 on mapped to `a`, and one at 16384 to `b`, and goes there.
-pub(crate) const START_ONE: [Line; 4] = [
-    ("0 create", "space 1"),
-    ("0 map 1 4096 12288 0 0 rw rw", "mapped"),
-    ("0 map 1 16384 4096 1 0 rw rw", "mapped"),
-    ("0 switch 1 drop", "switched"),
-];
+pub(crate) const START_ONE: &str = "0 create: space 1
+    0 map 1 4096 12288 0 0 rw rw: mapped
+    0 map 1 16384 4096 1 0 rw rw: mapped
+    0 switch 1 drop: switched";
 
 /// So do two.
-pub(crate) const START: [Line; 5] = [
-    ("0 create", "space 1"),
-    ("0 map 1 4096 12288 0 0 rw rw", "mapped"),
-    ("0 map 1 16384 4096 1 0 rw rw", "mapped"),
-    ("0 switch 1 drop", "switched"),
-    ("1 switch 1 drop", "switched"),
-];
+pub(crate) const START: &str = "0 create: space 1
+    0 map 1 4096 12288 0 0 rw rw: mapped
+    0 map 1 16384 4096 1 0 rw rw: mapped
+    0 switch 1 drop: switched
+    1 switch 1 drop: switched";
 
 /// A store to the first byte of `a` that faults, is served and is made.
-pub(crate) const STORE_A: [Line; 3] = [
-    ("0 store 4096 65", "fault 6"),
-    ("0 fix 4096 write", "fixed"),
-    ("0 store 4096 65", "stored"),
-];
+pub(crate) const STORE_A: &str = "0 store 4096 65: fault 6
+    0 fix 4096 write: fixed
+    0 store 4096 65: stored";
 
 /// A commit of two processors up to the first mark.
-pub(crate) const MARK: [Line; 4] = [
-    ("0 msync 4096 4096 4", "begun"),
-    ("1 ack", "acked"),
-    ("0 change", "marked 1"),
-    ("1 resume", "resumed"),
-];
+pub(crate) const MARK: &str = "0 msync 4096 4096 4: begun
+    1 ack: acked
+    0 change: marked 1
+    1 resume: resumed";
 
 /// A step of a write-out after which others follow.
-pub(crate) const GOING: Line = ("0 flush", "going");
+pub(crate) const GOING: &str = "0 flush: going";
 
-pub(crate) const COMMITTED: [Line; 1] = [("0 flush", "committed 1")];
+pub(crate) const GOING_2: &str = "0 flush: going
+    0 flush: going";
 
-pub(crate) const DONE: [Line; 1] = [("0 flush", "done 1")];
+pub(crate) const GOING_3: &str = "0 flush: going
+    0 flush: going
+    0 flush: going";
+
+pub(crate) const GOING_4: &str = "0 flush: going
+    0 flush: going
+    0 flush: going
+    0 flush: going";
+
+pub(crate) const GOING_5: &str = "0 flush: going
+    0 flush: going
+    0 flush: going
+    0 flush: going
+    0 flush: going";
+
+pub(crate) const COMMITTED: &str = "0 flush: committed 1";
+
+pub(crate) const DONE: &str = "0 flush: done 1";
 
 /// A volume of zeros.
 pub(crate) fn formatted(alloc: Global, layout: u64) -> Result<MemDisk<Global>, Fail> {
@@ -130,27 +139,67 @@ pub(crate) fn answer(
     Ok(format!(in alloc; "{reply}")?)
 }
 
-/// Makes these steps, each of which has to be answered so.
-pub(crate) fn make_lines<R: Abort + AllocGlobal>(
+/// The words and the wanted reply of a line.
+pub(crate) fn parted(line: &str) -> Result<(&str, &str), Fail> {
+    Ok(
+        line.trim_start()
+            .split_once(": ")
+            .ok_or("a reply after a colon")?,
+    )
+}
+
+/// Whether a step in words is answered so, and not that a device call failed.
+pub(crate) fn is_answered(
+    alloc: Global,
+    machine: &mut Trial,
+    words: &str,
+    wanted: &str,
+) -> Result<bool, Fail> {
+    let reply = answer(alloc, machine, words)?;
+    if reply.as_str() == wanted {
+        Ok(true)
+    } else if reply.as_str() == "device" {
+        Ok(false)
+    } else {
+        Err("the reply that is wanted".into())
+    }
+}
+
+/// The steps of these parts.
+pub(crate) fn steps_in(alloc: Global, parts: &[&str]) -> Result<Vec<Step>, Fail> {
+    let mut steps = Vec::new(alloc);
+    for part in parts {
+        for line in part.lines() {
+            let (words, _) = parted(line)?;
+            let Step { p, act } = step_of(alloc, words)?;
+            steps.push(Step { p, act })?;
+        }
+    }
+    Ok(steps)
+}
+
+/// Makes the step of this line, which has to be answered so.
+pub(crate) fn make_line<R: Abort + AllocGlobal>(
     rt: &R,
     machine: &mut Trial,
-    lines: &[Line],
+    line: &str,
 ) -> Result<(), Fail> {
-    for (words, wanted) in lines {
-        let reply = answer(rt.alloc(), machine, words)?;
-        assert_eq!(rt; reply.as_str(), *wanted, "{words}");
-    }
+    let (words, wanted) = parted(line)?;
+    let reply = answer(rt.alloc(), machine, words)?;
+    assert_eq!(rt; reply.as_str(), wanted, "{words}");
     Ok(())
 }
 
-/// Makes these steps, which come in parts.
+/// Makes these steps, each of which has to be answered so. They come in parts of some lines.
 pub(crate) fn make<R: Abort + AllocGlobal>(
     rt: &R,
     machine: &mut Trial,
-    parts: &[&[Line]],
+    parts: &[&str],
 ) -> Result<(), Fail> {
     for part in parts {
-        make_lines(rt, machine, part)?;
+        for line in part.lines() {
+            make_line(rt, machine, line)?;
+        }
     }
     Ok(())
 }
@@ -159,11 +208,25 @@ pub(crate) fn make<R: Abort + AllocGlobal>(
 pub(crate) fn made<R: Abort + AllocGlobal>(
     rt: &R,
     shape: Shape,
-    parts: &[&[Line]],
+    parts: &[&str],
 ) -> Result<Disk, Fail> {
     let mut machine = zeros(rt, shape)?;
     make(rt, &mut machine, parts)?;
     Ok(machine.into_device())
+}
+
+/// Whether they leave a disk that, after a crash that leaves this byte wherever nothing was synced, opens in so many
+/// calls with these bytes in files of zeros.
+pub(crate) fn leaves_files<R: Abort + AllocGlobal>(
+    rt: &R,
+    shape: Shape,
+    parts: &[&str],
+    left: u8,
+    bytes: &[FileByte],
+    calls: u64,
+) -> Result<bool, Fail> {
+    let disk = made(rt, shape, parts)?;
+    opens_as(rt.alloc(), disk, left, bytes, calls)
 }
 
 /// What was opened: the bytes of both files, and how many device calls that took.
@@ -200,21 +263,24 @@ pub(crate) fn files(bytes: &[FileByte], calls: u64) -> Result<Found, Fail> {
 pub(crate) fn opened(alloc: Global, disk: MemDisk<Global>) -> Result<Found, Fail> {
     let before = disk.calls();
     match open(alloc, disk) {
-        Ok(mut volume) => {
-            if volume.file_count() != 2 || volume.length(0) != 5000 || volume.length(1) != 4096 {
-                return Err("the files are there".into());
-            }
-            let mut a = [1; 5000];
-            volume.read_file(0, 0, &mut a)?;
-            let mut b = [1; 4096];
-            volume.read_file(1, 0, &mut b)?;
-            // Each file was read by one call.
-            let calls = volume.into_device().calls();
-            let calls = calls.saturating_sub(before).saturating_sub(2);
-            Ok(Found { a, b, calls })
-        }
+        Ok(volume) => what_is_found(volume, before),
         Err((refusal, _)) => Err(refusal.into()),
     }
+}
+
+// What a volume was opened with, on a disk that had so many calls before.
+fn what_is_found(mut volume: Volume<MemDisk<Global>, Global>, before: u64) -> Result<Found, Fail> {
+    if volume.file_count() != 2 || volume.length(0) != 5000 || volume.length(1) != 4096 {
+        return Err("the files are there".into());
+    }
+    let mut a = [1; 5000];
+    volume.read_file(0, 0, &mut a)?;
+    let mut b = [1; 4096];
+    volume.read_file(1, 0, &mut b)?;
+    // Each file was read by one call.
+    let calls = volume.into_device().calls();
+    let calls = calls.saturating_sub(before).saturating_sub(2);
+    Ok(Found { a, b, calls })
 }
 
 /// A crash: what was written since the last sync becomes what is chosen.
@@ -226,10 +292,26 @@ pub(crate) fn crash(disk: &mut MemDisk<Global>, choice: &[u8]) -> Result<(), Fai
     Ok(())
 }
 
-/// Opens the volume after a crash that leaves this byte wherever nothing was synced.
-pub(crate) fn opened_after(alloc: Global, disk: Disk, left: u8) -> Result<Found, Fail> {
+/// Whether a disk opens in so many calls with these bytes in files of zeros.
+pub(crate) fn has(
+    alloc: Global,
+    disk: MemDisk<Global>,
+    bytes: &[FileByte],
+    calls: u64,
+) -> Result<bool, Fail> {
+    Ok(opened(alloc, disk)? == files(bytes, calls)?)
+}
+
+/// Whether it does after a crash that leaves this byte wherever nothing was synced.
+pub(crate) fn opens_as(
+    alloc: Global,
+    disk: Disk,
+    left: u8,
+    bytes: &[FileByte],
+    calls: u64,
+) -> Result<bool, Fail> {
     let mut disk = disk.into_inner();
     let choice = vec![in alloc; left; disk.bytes().len()]?;
     crash(&mut disk, &choice)?;
-    opened(alloc, disk)
+    has(alloc, disk, bytes, calls)
 }
