@@ -11,6 +11,8 @@ mod failure;
 mod perform;
 mod printer;
 mod run;
+#[cfg(test)]
+mod runs_on_files;
 mod script;
 mod session;
 mod step;

@@ -876,7 +876,7 @@ fn is_dumped(rt: &HostRuntime, changes: &[(usize, u8)], text: &str) -> io::Resul
 }
 
 // The members of a script of two processors but for its steps.
-const TWO: &str = r#""cpus":2,"tlb":8,"frames":4,"copies":2"#;
+pub(crate) const TWO: &str = r#""cpus":2,"tlb":8,"frames":4,"copies":2"#;
 
 // Two processors share space 1: file `a` is mapped at 4,096, file `b` at 16,384.
 const START: &str =
@@ -899,16 +899,29 @@ fn two_processors(
     replies: &str,
     dump: &str,
 ) -> io::Result<bool> {
+    let steps = format!(in rt.alloc(); "{START},{steps}")?;
+    let replies = format!(in rt.alloc(); "{STARTED}{replies}")?;
+    is_answered(rt, name, shape, steps.as_str(), replies.as_str(), dump)
+}
+
+// Whether these steps on a fresh volume are answered so, and the volume then has this dump.
+pub(crate) fn is_answered(
+    rt: &HostRuntime,
+    name: &str,
+    shape: &str,
+    steps: &str,
+    replies: &str,
+    dump: &str,
+) -> io::Result<bool> {
     let alloc = rt.alloc();
     let disk = format!(in alloc; "{name}.img")?;
     let text = format!(in alloc; "{name}.json")?;
     let make = format!(in alloc; "format|{disk}|4|a=5000|b=4096")?;
     let _made = famsync(rt, make.as_str())?;
-    let script = format!(in alloc; "{{{shape},\"steps\":[{START},{steps}]}}")?;
+    let script = format!(in alloc; "{{{shape},\"steps\":[{steps}]}}")?;
     fs::write(rt, text.as_str(), script)?;
-    let out = format!(in alloc; "{STARTED}{replies}")?;
     let run = format!(in alloc; "run|{disk}|{text}")?;
-    let is_answered = prints(rt, run.as_str(), 0, out.as_str(), "")?;
+    let is_answered = prints(rt, run.as_str(), 0, replies, "")?;
     let show = format!(in alloc; "dump|{disk}")?;
     let is_left = prints(rt, show.as_str(), 0, dump, "")?;
     remove(rt, &[disk.as_str(), text.as_str()])?;
