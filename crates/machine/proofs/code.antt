@@ -13,5 +13,6 @@ pub mod Fixes
 pub mod Acting
 pub mod Stepping
 pub mod Runs
+pub mod Sums
 pub mod FirstSpace
 pub mod Freshness

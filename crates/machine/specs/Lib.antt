@@ -11,6 +11,7 @@ pub mod Booting
 pub mod Crashes
 pub mod Steps
 pub mod Runs
+pub mod Sums
 pub mod OnTrack
 pub mod Words
 pub mod inside

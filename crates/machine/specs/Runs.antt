@@ -21,8 +21,7 @@ pub record StepTaken {D : Type 0} (disk : Ghosts D) (old : Whole D) (step : Step
   pub honest : disk.is_honest new.device ↔ disk.is_honest old.device
   pub len : length (disk.seen new.device) ≡ length (disk.seen old.device)
 
--- these replies to these steps, with a machine between any two of them; so the device calls of a run are the sum of its
--- steps' calls
+-- these replies to these steps, with a machine between any two of them
 abbrev pub StepsTaken : {D : Type 0} → Ghosts D → Whole D → List Step → List Reply → Whole D → Type 0
 StepsTaken disk old [] [] new = new ≡ old
 StepsTaken {D} disk old (step ∷ steps) (reply ∷ replies) new =

@@ -1,0 +1,156 @@
+-- The device calls of steps add up.
+use Rattle.std.proofs.Common.{ℕ, ◌≡◌, ◌+◌, ◌-◌, ◌*◌, ◌^◌, ◌<◌, ◌≤◌, ◌⊎◌, inl, inr, Bool, true, false, cond, List, [], ◌∷◌, length, refl, sym, ap, subst, ◌∙◌, arith}
+use Rattle.std.specs.Prelude.{nat_lt}
+use Rattle.std.proofs.lemmas.Bool.{lt-ltb, cond-true}
+use Rattle.page_entry.specs.declared.refusal.Refusal.TheVariants as refusals
+use Rattle.device.specs.declared.device.Device.{Ghosts}
+use Rattle.device.specs.Count.{raised}
+use Rattle.journal.specs.Work.{Work, WriteAt, CopyBlock, Sync, Nothing, calls_of, HasFailed}
+use Rattle.machine.specs.declared.act.Act.{Act}
+use Rattle.machine.specs.declared.act.Act.TheVariants as acts
+use Rattle.machine.specs.declared.act.Reply.{Reply}
+use Rattle.machine.specs.declared.act.Reply.TheVariants as replies
+use Rattle.machine.specs.declared.act.Step.{Step}
+use Rattle.machine.specs.State.{State, Whole}
+use Rattle.machine.specs.Rules.{work_asked}
+use Rattle.machine.specs.Calls.{CallsOf, FixCalls, FlushCalls, reads_page, has_failed}
+use Rattle.machine.specs.Runs.{StepTaken, StepsTaken}
+use Rattle.machine.specs.Sums.{AddUpTo, CallsAddUp}
+
+-- a count that isn't at its end rises by one
+one_more : (n : ℕ) → n < 2 ^ 64 - 1 → raised n ≡ n + 1
+one_more n below = cond-true (nat_lt n (2 ^ 64 - 1)) (n + 1) n (lt-ltb n (2 ^ 64 - 1) below)
+
+-- counts rise by what they rise by from 0, which is little
+record Rise (made : ℕ → ℕ → ℕ → ℕ → Type 0) (calls calls' faults faults' : ℕ) : Type 0 where
+  first : ℕ
+  its : ℕ
+  from_0 : made 0 first 0 its
+  risen : calls' ≡ calls + first
+  failed : faults' ≡ faults + its
+  few : first ≤ 2
+  one : its ≤ 1
+
+-- a read, of which the reply says whether it failed
+fix_fault : (b : Bool) (faults faults' : ℕ) → faults < 2 ^ 64 - 1 → faults' ≡ cond b (raised faults) faults → faults' ≡ faults + cond b 1 0
+fix_fault true faults faults' below is = is ∙ one_more faults below
+fix_fault false faults faults' below is = omega (arith, is)
+
+few_fault : (b : Bool) → cond b 1 0 ≤ 1
+few_fault true = omega arith
+few_fault false = omega arith
+
+fix_rise : (reads : Bool) (reply : Reply) (calls calls' faults faults' : ℕ) → calls < 2 ^ 64 - 2 → faults < 2 ^ 64 - 1
+    → FixCalls reads reply calls calls' faults faults' → Rise (FixCalls reads reply) calls calls' faults faults'
+fix_rise true reply calls calls' faults faults' below under made = record {
+  first = 1;
+  its = cond (has_failed reply) 1 0;
+  from_0 = record { one_read = refl; its_fault = refl };
+  risen = made.one_read ∙ one_more calls (omega (arith, below));
+  failed = fix_fault (has_failed reply) faults faults' under made.its_fault;
+  few = omega arith;
+  one = few_fault (has_failed reply);
+}
+fix_rise false reply calls calls' faults faults' below under made = record {
+  first = 0;
+  its = 0;
+  from_0 = record { one_read = refl; its_fault = refl };
+  risen = omega (arith, made.one_read);
+  failed = omega (arith, made.its_fault);
+  few = omega arith;
+  one = omega arith;
+}
+
+none_rise : (calls calls' faults faults' : ℕ) → (calls' ≡ calls) × (faults' ≡ faults) → Rise (λ c c' f f'. (c' ≡ c) × (f' ≡ f)) calls calls' faults faults'
+none_rise calls calls' faults faults' same = record {
+  first = 0;
+  its = 0;
+  from_0 = (refl, refl);
+  risen = omega (arith, same.0);
+  failed = omega (arith, same.1);
+  few = omega arith;
+  one = omega arith;
+}
+
+-- the work of a step of a write-out
+few_calls : (work : Work) → calls_of work ≤ 2
+few_calls (WriteAt at bytes) = omega arith
+few_calls (CopyBlock from to) = omega arith
+few_calls Sync = omega arith
+few_calls Nothing = omega arith
+
+abbrev Worked : Work → ℕ → ℕ → ℕ → ℕ → Type 0
+Worked work calls calls' faults faults' = (calls < 2 ^ 64 - 2 → calls' ≡ calls + calls_of work) × (faults' ≡ faults)
+
+work_rise : (work : Work) (calls calls' faults faults' : ℕ) → calls < 2 ^ 64 - 2 → Worked work calls calls' faults faults' → Rise (Worked work) calls calls' faults faults'
+work_rise work calls calls' faults faults' below made = record {
+  first = calls_of work;
+  its = 0;
+  from_0 = ((λ low. omega arith), refl);
+  risen = made.0 below;
+  failed = omega (arith, made.1);
+  few = few_calls work;
+  one = omega arith;
+}
+
+-- or what was made of it
+abbrev Failed : Work → ℕ → ℕ → ℕ → ℕ → Type 0
+Failed work calls calls' faults faults' = (calls < 2 ^ 64 - 2 → HasFailed work calls calls') × (faults' ≡ raised faults)
+
+failed_first : (work : Work) (calls calls' : ℕ) → HasFailed work calls calls' → (first : ℕ) × HasFailed work 0 first × (calls' ≡ calls + first) × (first ≤ 2)
+failed_first (WriteAt at bytes) calls calls' failed = (1, refl, failed, omega arith)
+failed_first (CopyBlock from to) calls calls' (inl failed) = (1, inl refl, failed, omega arith)
+failed_first (CopyBlock from to) calls calls' (inr failed) = (2, inr refl, failed, omega arith)
+failed_first Sync calls calls' failed = (1, refl, failed, omega arith)
+failed_first Nothing calls calls' failed = absurd failed
+
+fail_rise : (work : Work) (calls calls' faults faults' : ℕ) → calls < 2 ^ 64 - 2 → faults < 2 ^ 64 - 1 → Failed work calls calls' faults faults' → Rise (Failed work) calls calls' faults faults'
+fail_rise work calls calls' faults faults' below under made =
+    let found = failed_first work calls calls' (made.0 below) in
+    record {
+      first = found.0;
+      its = 1;
+      from_0 = ((λ low. found.1), refl);
+      risen = found.2;
+      failed = made.1 ∙ one_more faults under;
+      few = found.3;
+      one = omega arith;
+    }
+
+flush_rise : (s : State) (reply : Reply) (calls calls' faults faults' : ℕ) → calls < 2 ^ 64 - 2 → faults < 2 ^ 64 - 1
+    → FlushCalls s reply calls calls' faults faults' → Rise (FlushCalls s reply) calls calls' faults faults'
+flush_rise s replies.Going calls calls' faults faults' below under made = work_rise (work_asked s) calls calls' faults faults' below made
+flush_rise s (replies.Committed number) calls calls' faults faults' below under made = work_rise (work_asked s) calls calls' faults faults' below made
+flush_rise s (replies.Done number) calls calls' faults faults' below under made = work_rise (work_asked s) calls calls' faults faults' below made
+flush_rise s (replies.Refused refusals.Device) calls calls' faults faults' below under made = fail_rise (work_asked s) calls calls' faults faults' below under made
+flush_rise s (replies.Refused why) calls calls' faults faults' below under made = none_rise calls calls' faults faults' made
+flush_rise s reply calls calls' faults faults' below under made = none_rise calls calls' faults faults' made
+
+step_rise : (s : State) (p : ℕ) (act : Act) (reply : Reply) (calls calls' faults faults' : ℕ) → calls < 2 ^ 64 - 2 → faults < 2 ^ 64 - 1
+    → CallsOf s p act reply calls calls' faults faults' → Rise (CallsOf s p act reply) calls calls' faults faults'
+step_rise s p (acts.Fix va write) reply calls calls' faults faults' below under made = fix_rise (reads_page s p va write) reply calls calls' faults faults' below under made
+step_rise s p acts.Flush reply calls calls' faults faults' below under made = flush_rise s reply calls calls' faults faults' below under made
+step_rise s p act reply calls calls' faults faults' below under made = none_rise calls calls' faults faults' made
+
+pub calls_add_up : {D : Type 0} (disk : Ghosts D) (old : Whole D) (steps : List Step) (replies : List Reply) (new : Whole D)
+    → disk.calls_made old.device + 2 * length steps < 2 ^ 64 - 2 → disk.faults_met old.device + length steps < 2 ^ 64 - 1
+    → StepsTaken disk old steps replies new → CallsAddUp disk old steps replies new
+calls_add_up {D} disk old [] [] new below under taken = record {
+  calls = 0;
+  faults = 0;
+  sums = (taken, refl, refl);
+  made = ap (λ (x : Whole D). disk.calls_made x.device) taken ∙ omega arith;
+  failed = ap (λ (x : Whole D). disk.faults_met x.device) taken ∙ omega arith;
+}
+calls_add_up {D} disk old (step ∷ steps) (reply ∷ replies) new below under (mid, here, rest) =
+    let rise = step_rise old.state step.p step.act reply (disk.calls_made old.device) (disk.calls_made mid.device) (disk.faults_met old.device) (disk.faults_met mid.device) (omega (arith, below)) (omega (arith, under)) here.calls in
+    let later = calls_add_up disk mid steps replies new (omega (arith, below, rise.risen, rise.few)) (omega (arith, under, rise.failed, rise.one)) rest in
+    record {
+      calls = rise.first + later.calls;
+      faults = rise.its + later.faults;
+      sums = (mid, rise.first, later.calls, rise.its, later.faults, here, rise.from_0, later.sums, omega arith, omega arith);
+      made = omega (arith, later.made, rise.risen);
+      failed = omega (arith, later.failed, rise.failed);
+    }
+calls_add_up disk old [] (reply ∷ replies) new below under taken = absurd taken
+calls_add_up disk old (step ∷ steps) [] new below under taken = absurd taken
