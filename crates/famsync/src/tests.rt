@@ -6,7 +6,7 @@ use std::test::Fail;
 use std::{fs, io, str};
 
 // What a run of the program gave: its status, and what it printed.
-#[derive(Debug, Drop)]
+#[derive(Drop)]
 struct Outcome {
     status: u8,
     out: Vec<u8>,
@@ -23,19 +23,32 @@ impl Outcome {
     }
 }
 
-// A run of the program. Its words are parted by `|`, and the program's name comes before them.
-fn famsync(rt: &HostRuntime, line: &str) -> io::Result<Outcome> {
-    let alloc = rt.alloc();
+// The words of a command line, parted by `|`, after the program's name.
+fn words_of(alloc: Global, line: &str) -> Result<Vec<&str>, AllocError> {
     let mut words = vec![in alloc; "famsync"]?;
     if !line.is_empty() {
         for word in line.split('|') {
             words.push(word)?;
         }
     }
+    Ok(words)
+}
+
+// A run of the program.
+fn famsync(rt: &HostRuntime, line: &str) -> io::Result<Outcome> {
+    let alloc = rt.alloc();
+    let words = words_of(alloc, line)?;
     let mut out = Vec::new(alloc);
     let mut err = Vec::new(alloc);
     let status = perform(rt, alloc, &words, &mut out, &mut err);
     Ok(Outcome { status, out, err })
+}
+
+// Makes a volume of the files `a` of 5,000 bytes and `b` of 4,096, with 4 record slots.
+fn make_volume(rt: &HostRuntime, disk: &str) -> io::Result<()> {
+    let line = format!(in rt.alloc(); "format|{disk}|4|a=5000|b=4096")?;
+    let _made = famsync(rt, line.as_str())?;
+    Ok(())
 }
 
 // Whether a run ends with this status and prints this, and nothing else.
@@ -112,13 +125,11 @@ const FIRST_DUMP: &str =
 fn the_first_script_commits_a_byte(rt: HostRuntime) -> Result<(), Fail> {
     let disk = "first_script.img";
     fs::write(&rt, "first_script.json", FIRST_SCRIPT)?;
-    let made = famsync(&rt, "format|first_script.img|4|a=5000|b=4096")?;
-    assert_eq!(rt; made.out(), "formatted 10 blocks\n");
+    let make = "format|first_script.img|4|a=5000|b=4096";
+    assert!(rt; prints(&rt, make, 0, "formatted 10 blocks\n", "")?);
     assert!(rt; holds(&rt, disk, &image(&rt, &[])?)?);
-
-    let ran = famsync(&rt, "run|first_script.img|first_script.json")?;
-    assert_eq!(rt; ran.out(), FIRST_REPLIES);
-    assert!(rt; made.status == 0 && made.err.is_empty() && ran.status == 0 && ran.err.is_empty());
+    let run = "run|first_script.img|first_script.json";
+    assert!(rt; prints(&rt, run, 0, FIRST_REPLIES, "")?);
 
     // The gate is closed again, and the descriptor, the record in block 3 and the home in block 7 are there.
     let changes = [(8199, 1), (8203, 1), (8211, 7), (12_288, 65), (28_672, 65)];
@@ -163,21 +174,23 @@ fn steps_are_answered(rt: HostRuntime) -> Result<(), Fail> {
             "einval\neinval\neinval\neinval\neinval\neinval\n",
         ),
     ] {
-        let _made = famsync(&rt, "format|steps.img|4|a=5000|b=4096")?;
-        fs::write(&rt, "steps.json", script(rt.alloc(), steps)?)?;
-        assert!(rt;
-            prints(&rt, "run|steps.img|steps.json", 0, replies, "")?,
-            "{steps}"
-        );
+        assert!(rt; answers(&rt, steps, replies)?, "{steps}");
     }
     remove(&rt, &["steps.img", "steps.json"])?;
     Ok(())
 }
 
+// Whether steps on a fresh volume are answered so.
+fn answers(rt: &HostRuntime, steps: &str, replies: &str) -> io::Result<bool> {
+    make_volume(rt, "steps.img")?;
+    fs::write(rt, "steps.json", script(rt.alloc(), steps)?)?;
+    prints(rt, "run|steps.img|steps.json", 0, replies, "")
+}
+
 // Scripts that are read in spite of how they look.
 #[test]
 fn odd_scripts_are_read(rt: HostRuntime) -> Result<(), Fail> {
-    let _made = famsync(&rt, "format|odd.img|4|a=5000|b=4096")?;
+    make_volume(&rt, "odd.img")?;
     for text in [
         r#" { "steps" : [ ] , "copies" : 0 , "frames" : 4 , "tlb" : 8 , "cpus" : 1 } "#,
         r#"{"cpus":7,"steps":1,"cpus":1,"tlb":8,"frames":4,"copies":0,"steps":[]}"#,
@@ -379,24 +392,18 @@ fn scripts_are_refused(rt: HostRuntime) -> Result<(), Fail> {
             "the member \"cpus\" is \"1\", which isn't a whole number up to 2^64 - 1\n",
         ),
     ] {
-        let said = format!(in rt.alloc(); "script \"refused.json\": {cause}")?;
-        fs::write(&rt, "refused.json", text)?;
-        assert!(rt;
-            complains(&rt, "run|none.img|refused.json", 1, said.as_str())?,
-            "{text}"
-        );
+        assert!(rt; refuses_script(&rt, text.as_bytes(), cause)?, "{text}");
     }
-    fs::write(&rt, "refused.json", b"{\"cpus\":\"\xff\"}".as_slice())?;
-    assert!(rt;
-        complains(
-            &rt,
-            "run|none.img|refused.json",
-            1,
-            "script \"refused.json\": it isn't UTF-8\n"
-        )?
-    );
+    assert!(rt; refuses_script(&rt, b"{\"cpus\":\"\xff\"}", "it isn't UTF-8\n")?);
     remove(&rt, &["refused.json"])?;
     Ok(())
+}
+
+// Whether a script is refused, and this is said of it.
+fn refuses_script(rt: &HostRuntime, text: &[u8], cause: &str) -> io::Result<bool> {
+    fs::write(rt, "refused.json", text)?;
+    let said = format!(in rt.alloc(); "script \"refused.json\": {cause}")?;
+    complains(rt, "run|none.img|refused.json", 1, said.as_str())
 }
 
 // Bad command lines, and what is said first of each. None makes a file.
@@ -455,7 +462,7 @@ fn bad_words_are_refused(rt: HostRuntime) -> Result<(), Fail> {
 // What ends with status 3, and what is said of each. No file is made, and the disk isn't changed.
 #[test]
 fn faults_are_told(rt: HostRuntime) -> Result<(), Fail> {
-    let _made = famsync(&rt, "format|fault.img|4|a=5000|b=4096")?;
+    make_volume(&rt, "fault.img")?;
     fs::write(&rt, "fault.json", script(rt.alloc(), "")?)?;
     for (line, cause) in [
         (
@@ -546,7 +553,7 @@ fn limits_are_served(rt: HostRuntime) -> Result<(), Fail> {
 // Shapes that no machine has, and what is said of each.
 #[test]
 fn shapes_are_refused(rt: HostRuntime) -> Result<(), Fail> {
-    let _made = famsync(&rt, "format|shape.img|4|a=5000|b=4096")?;
+    make_volume(&rt, "shape.img")?;
     for (shape, cause) in [
         (
             r#""cpus":0,"tlb":8,"frames":4,"copies":0"#,
@@ -577,17 +584,19 @@ fn shapes_are_refused(rt: HostRuntime) -> Result<(), Fail> {
             "frames is 5, and 1 to 4 are served, as the volume has 4 record slots",
         ),
     ] {
-        let text = format!(in rt.alloc(); "{{{shape},\"steps\":[[0,\"create\"]]}}")?;
-        fs::write(&rt, "shape.json", text)?;
-        let err = format!(in rt.alloc(); "famsync: disk \"shape.img\": badshape: {cause}\n")?;
-        assert!(rt;
-            prints(&rt, "run|shape.img|shape.json", 3, "", err.as_str())?,
-            "{shape}"
-        );
+        assert!(rt; refuses_shape(&rt, shape, cause)?, "{shape}");
     }
     assert!(rt; holds(&rt, "shape.img", &image(&rt, &[])?)?);
     remove(&rt, &["shape.img", "shape.json"])?;
     Ok(())
+}
+
+// Whether no machine of this shape is made, and this is said of it.
+fn refuses_shape(rt: &HostRuntime, shape: &str, cause: &str) -> io::Result<bool> {
+    let text = format!(in rt.alloc(); "{{{shape},\"steps\":[[0,\"create\"]]}}")?;
+    fs::write(rt, "shape.json", text)?;
+    let err = format!(in rt.alloc(); "famsync: disk \"shape.img\": badshape: {cause}\n")?;
+    prints(rt, "run|shape.img|shape.json", 3, "", err.as_str())
 }
 
 // An image of the volume of layout 2 with the same files and as many slots, and with these bytes at these offsets changed.
@@ -616,9 +625,9 @@ fn image_of_two(rt: &HostRuntime, changes: &[(usize, u8)]) -> io::Result<Vec<u8>
 // A volume of layout 2 is made and printed, with what open journals have, the newer one over the older. A run opens it first.
 #[test]
 fn a_volume_has_two_journals(rt: HostRuntime) -> Result<(), Fail> {
-    let made = famsync(&rt, "format|--layout|2|two.img|4|a=5000|b=4096")?;
-    assert_eq!(rt; made.out(), "formatted 16 blocks\n");
-    assert!(rt; made.status == 0 && holds(&rt, "two.img", &image_of_two(&rt, &[])?)?);
+    let make = "format|--layout|2|two.img|4|a=5000|b=4096";
+    assert!(rt; prints(&rt, make, 0, "formatted 16 blocks\n", "")?);
+    assert!(rt; holds(&rt, "two.img", &image_of_two(&rt, &[])?)?);
     assert!(rt; prints(&rt, "dump|two.img", 0, "a 5000\nb 4096\n", "")?);
 
     // Mark 1 has 65 in the first page of `a`, mark 2 has 66 there.
@@ -707,25 +716,31 @@ fn help_is_printed(rt: HostRuntime) -> Result<(), Fail> {
         ("dump|-h", "Usage: famsync dump <DISK>"),
         ("--version", "famsync 0.1.0\n"),
     ] {
-        let ran = famsync(&rt, line)?;
-        assert!(rt;
-            ran.status == 0 && ran.err.is_empty() && ran.out().contains(text),
-            "{line}"
-        );
+        assert!(rt; shows(&rt, line, text)?, "{line}");
     }
     Ok(())
+}
+
+// Whether a run prints a text with this in it.
+fn shows(rt: &HostRuntime, line: &str, text: &str) -> io::Result<bool> {
+    let ran = famsync(rt, line)?;
+    Ok(ran.status == 0 && ran.err.is_empty() && ran.out().contains(text))
+}
+
+// Runs the program with an output that has this much room, and whether that is told as a fault.
+fn is_cut_off(rt: &HostRuntime, words: &[&str], room: &mut [u8]) -> bool {
+    let alloc = rt.alloc();
+    let mut out = room;
+    let mut err = Vec::new(alloc);
+    let status = perform(rt, alloc, words, &mut out, &mut err);
+    status == 3 && err.starts_with("famsync: output: ".as_bytes())
 }
 
 // An output that becomes full is a fault, and so is one that is full at the end.
 #[test]
 fn a_full_output_is_a_fault(rt: HostRuntime) -> Result<(), Fail> {
     let words = ["famsync", "format", "full_output.img", "4", "a=1"];
-    let mut room = [0; 5];
-    let mut out = room.as_mut_slice();
-    let mut err = Vec::new(rt.alloc());
-    let status = perform(&rt, rt.alloc(), &words, &mut out, &mut err);
-    assert_eq!(rt; status, 3);
-    assert!(rt; err.starts_with(b"famsync: output: "));
+    assert!(rt; is_cut_off(&rt, &words, &mut [0; 5]));
     remove(&rt, &["full_output.img"])?;
     Ok(())
 }
@@ -913,19 +928,34 @@ pub(crate) fn is_answered(
     replies: &str,
     dump: &str,
 ) -> io::Result<bool> {
-    let alloc = rt.alloc();
-    let disk = format!(in alloc; "{name}.img")?;
-    let text = format!(in alloc; "{name}.json")?;
-    let make = format!(in alloc; "format|{disk}|4|a=5000|b=4096")?;
-    let _made = famsync(rt, make.as_str())?;
-    let script = format!(in alloc; "{{{shape},\"steps\":[{steps}]}}")?;
-    fs::write(rt, text.as_str(), script)?;
-    let run = format!(in alloc; "run|{disk}|{text}")?;
-    let is_answered = prints(rt, run.as_str(), 0, replies, "")?;
-    let show = format!(in alloc; "dump|{disk}")?;
-    let is_left = prints(rt, show.as_str(), 0, dump, "")?;
+    let disk = format!(in rt.alloc(); "{name}.img")?;
+    let text = format!(in rt.alloc(); "{name}.json")?;
+    let is_answered = answers_on(rt, disk.as_str(), text.as_str(), shape, steps, replies)?;
+    let is_left = has_dump(rt, disk.as_str(), dump)?;
     remove(rt, &[disk.as_str(), text.as_str()])?;
     Ok(is_answered && is_left)
+}
+
+// Whether a script of these steps, in this file, is answered so on a fresh volume.
+fn answers_on(
+    rt: &HostRuntime,
+    disk: &str,
+    text: &str,
+    shape: &str,
+    steps: &str,
+    replies: &str,
+) -> io::Result<bool> {
+    make_volume(rt, disk)?;
+    let script = format!(in rt.alloc(); "{{{shape},\"steps\":[{steps}]}}")?;
+    fs::write(rt, text, script)?;
+    let run = format!(in rt.alloc(); "run|{disk}|{text}")?;
+    prints(rt, run.as_str(), 0, replies, "")
+}
+
+// Whether a volume has this dump.
+fn has_dump(rt: &HostRuntime, disk: &str, dump: &str) -> io::Result<bool> {
+    let show = format!(in rt.alloc(); "dump|{disk}")?;
+    prints(rt, show.as_str(), 0, dump, "")
 }
 
 // A commit waits until the other processor stalls; what that stored before is in it, and what it stores after faults.
@@ -1037,17 +1067,29 @@ impl io::Write for Watcher<'_> {
     }
 }
 
-// Runs a script on a fresh volume under a watcher of its disk file, which gets what is printed through a buffer.
-fn watched<'a>(
-    rt: &'a HostRuntime,
-    disk: &'a str,
+// Runs a script on a disk under a watcher, which gets what is printed through a buffer.
+fn run_watched(
+    rt: &HostRuntime,
+    disk: &str,
+    out: &mut Watcher,
+    err: &mut Vec<u8>,
+) -> io::Result<u8> {
+    let alloc = rt.alloc();
+    let words = ["famsync", "run", disk, "watched.json"];
+    let mut buffered = BufWriter::new(alloc, out)?;
+    Ok(perform(rt, alloc, &words, &mut buffered, err))
+}
+
+// Runs a script on a fresh volume under a watcher of its disk file. Gives what the run gave, and what the watcher found.
+fn watched(
+    rt: &HostRuntime,
+    disk: &str,
     text: &str,
-    line: &'a str,
+    line: &str,
     cuts: bool,
 ) -> io::Result<(Outcome, Option<Vec<u8>>)> {
     let alloc = rt.alloc();
-    let make = format!(in alloc; "format|{disk}|4|a=5000|b=4096")?;
-    let _made = famsync(rt, make.as_str())?;
+    make_volume(rt, disk)?;
     fs::write(rt, "watched.json", text)?;
     let mut out = Watcher {
         rt,
@@ -1058,19 +1100,8 @@ fn watched<'a>(
         found: None,
     };
     let mut err = Vec::new(alloc);
-    let words = ["famsync", "run", disk, "watched.json"];
-    let mut buffered = BufWriter::new(alloc, &mut out)?;
-    let status = perform(rt, alloc, &words, &mut buffered, &mut err);
-    drop(buffered);
-    let Watcher {
-        rt: _,
-        disk: _,
-        line: _,
-        cuts: _,
-        text,
-        found,
-    } = out;
-    remove(rt, &["watched.json"])?;
+    let status = run_watched(rt, disk, &mut out, &mut err)?;
+    let Watcher { text, found, .. } = out;
     Ok((
         Outcome {
             status,
@@ -1088,7 +1119,7 @@ fn an_acknowledgement_comes_before_the_next_step(rt: HostRuntime) -> Result<(), 
     assert_eq!(rt; ran.out(), FIRST_REPLIES);
     let changes = [(4096, 0xA7), (8199, 1), (8203, 1), (8211, 7), (12_288, 65)];
     assert!(rt; ran.status == 0 && found == Some(image(&rt, &changes)?));
-    remove(&rt, &["watched.img"])?;
+    remove(&rt, &["watched.img", "watched.json"])?;
     Ok(())
 }
 
@@ -1099,35 +1130,23 @@ fn a_failed_device_call_is_told(rt: HostRuntime) -> Result<(), Fail> {
         r#"[0,"create"],[0,"map",1,4096,4096,1,0,"rw","rw"],[0,"switch",1,"drop"],[0,"load",4096,1],[0,"fix",4096,"read"],[0,"load",4096,1],[0,"fix",4096,"read"],[0,"flush"]"#;
     let text = script(rt.alloc(), steps)?;
     let (ran, _) = watched(&rt, "failing.img", text.as_str(), "switched\n", true)?;
-    assert_eq!(rt;
-        ran.out(),
-        "space 1\nmapped\nswitched\nfault 4\ndevice\nfault 4\ndevice\nnothing\n"
-    );
-    assert_eq!(rt;
-        ran.err(),
-        "famsync: script \"watched.json\": step 5: the device failed\n"
-    );
-    assert_eq!(rt; ran.status, 3);
-    remove(&rt, &["failing.img"])?;
+    let replies = "space 1\nmapped\nswitched\nfault 4\ndevice\nfault 4\ndevice\nnothing\n";
+    let told = "famsync: script \"watched.json\": step 5: the device failed\n";
+    assert!(rt; ran.status == 3 && ran.out() == replies && ran.err() == told);
+    remove(&rt, &["failing.img", "watched.json"])?;
     Ok(())
 }
 
 // Where the output fails, the run stops there: no later step is made.
 #[test]
 fn a_run_stops_with_its_output(rt: HostRuntime) -> Result<(), Fail> {
-    let _made = famsync(&rt, "format|stops.img|4|a=5000|b=4096")?;
+    make_volume(&rt, "stops.img")?;
     fs::write(&rt, "stops.json", FIRST_SCRIPT)?;
     let words = ["famsync", "run", "stops.img", "stops.json"];
     // There is room for the replies up to `marked 1`.
+    let replies = "space 1\nmapped\nswitched\nfault 6\nfixed\nstored\nbegun\nmarked 1\n";
     let mut room = [0; 62];
-    let mut out = room.as_mut_slice();
-    let mut err = Vec::new(rt.alloc());
-    let status = perform(&rt, rt.alloc(), &words, &mut out, &mut err);
-    assert_eq!(rt; status, 3);
-    assert!(rt; err.starts_with(b"famsync: output: "));
-    assert!(rt;
-        room.starts_with(b"space 1\nmapped\nswitched\nfault 6\nfixed\nstored\nbegun\nmarked 1\n")
-    );
+    assert!(rt; is_cut_off(&rt, &words, &mut room) && room.starts_with(replies.as_bytes()));
     // The step of the ninth reply wrote the record. None after it was made.
     assert!(rt; holds(&rt, "stops.img", &image(&rt, &[(12_288, 65)])?)?);
     remove(&rt, &["stops.img", "stops.json"])?;

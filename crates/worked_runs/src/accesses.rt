@@ -1,5 +1,8 @@
 // Loads, stores, faults and TLBs of one processor and two.
-use crate::trial::{START, STORE_A, TWO, Trial, made, make_line, reply_to, steps_in, zeros};
+use crate::runs::are_wanted;
+use crate::trial::{
+    START, STORE_A, TWO, Trial, calls_of, make_line, makes, reply_to, steps_in, zeros,
+};
 use device::Device;
 use machine::{Act, Reply, Shape, Step};
 use page_entry::Refusal;
@@ -9,9 +12,9 @@ use std::test::Fail;
 // What one processor stored, the other one loads, and without a fault: the entry is the space's.
 #[test]
 fn a_store_is_seen_by_the_other_processor(rt: HostRuntime) -> Result<(), Fail> {
-    let disk = made(&rt, TWO, &[START, STORE_A, "1 load 4096 1: bytes 65"])?;
+    let calls = calls_of(&rt, TWO, &[START, STORE_A, "1 load 4096 1: bytes 65"])?;
     // Three calls opened the volume, and the fault read the page.
-    assert_eq!(rt; disk.calls(), 4);
+    assert_eq!(rt; calls, 4);
     Ok(())
 }
 
@@ -26,8 +29,7 @@ const ONE_ENTRY: &str = "1 load 4096 1: bytes 65
 #[test]
 fn a_tlb_of_one_entry(rt: HostRuntime) -> Result<(), Fail> {
     let shape = Shape { tlb: 1, ..TWO };
-    made(&rt, shape, &[START, STORE_A, ONE_ENTRY])?;
-    Ok(())
+    makes(&rt, shape, &[START, STORE_A, ONE_ENTRY])
 }
 
 const LIMITS: &str = "0 load 4095 2: einval
@@ -44,8 +46,7 @@ const LIMITS: &str = "0 load 4095 2: einval
 // The last address is 2^47 - 1, and an access has 1 to 8 bytes of one page.
 #[test]
 fn accesses_have_limits(rt: HostRuntime) -> Result<(), Fail> {
-    made(&rt, TWO, &[START, LIMITS])?;
-    Ok(())
+    makes(&rt, TWO, &[START, LIMITS])
 }
 
 const EIGHT_BYTES: &str = "0 store 4100 1 2 3 4 5 6 7 8: stored
@@ -57,8 +58,7 @@ const EIGHT_BYTES: &str = "0 store 4100 1 2 3 4 5 6 7 8: stored
 // Stores of several bytes, and loads that overlap them.
 #[test]
 fn a_load_gives_the_latest_bytes(rt: HostRuntime) -> Result<(), Fail> {
-    made(&rt, TWO, &[START, STORE_A, EIGHT_BYTES])?;
-    Ok(())
+    makes(&rt, TWO, &[START, STORE_A, EIGHT_BYTES])
 }
 
 // A processor tells its state.
@@ -108,23 +108,12 @@ fn replies_at_once<R: AllocGlobal>(rt: &R, steps: &[Step]) -> Result<Vec<Reply>,
     }
 }
 
-// Whether steps are answered so one by one.
-fn are_answered(machine: &mut Trial, steps: &[Step], replies: &[Reply]) -> bool {
-    for (step, reply) in steps.iter().zip(replies) {
-        if reply_to(machine, step.p, step.act) != *reply {
-            return false;
-        }
-    }
-    true
-}
-
 // A run of steps at once is answered as they are one by one.
 #[test]
 fn steps_are_made_at_once(rt: HostRuntime) -> Result<(), Fail> {
-    let steps = steps_in(rt.alloc(), &[START, STORE_A, EIGHT_BYTES])?;
+    let parts = [START, STORE_A, EIGHT_BYTES, "0 create: space 2"];
+    let steps = steps_in(rt.alloc(), &parts[..3])?;
     let replies = replies_at_once(&rt, &steps)?;
-    assert!(rt; replies.len() == steps.len() + 1 && replies.last() == Some(&Reply::Space(2)));
-    let mut machine = zeros(&rt, TWO)?;
-    assert!(rt; are_answered(&mut machine, &steps, &replies));
+    assert!(rt; replies.len() == steps.len() + 1 && are_wanted(rt.alloc(), &parts, &replies)?);
     Ok(())
 }

@@ -1,6 +1,6 @@
 // Pages that are mapped more than once, in one space or in two, and entries that are cached while their mappings
 // change.
-use crate::trial::{COMMITTED, GOING_4, MARK, START, STORE_A, TWO, leaves_files, made};
+use crate::trial::{COMMITTED, GOING_4, MARK, START, STORE_A, TWO, leaves_files, makes};
 use std::test::Fail;
 
 // The other processor has cached the entry as one that may be written.
@@ -68,8 +68,7 @@ const UNMAPPED_BESIDE: &str = "0 map 1 32768 4096 0 0 rw rw: mapped
 
 #[test]
 fn an_alias_outlives_an_unmap(rt: HostRuntime) -> Result<(), Fail> {
-    made(&rt, TWO, &[START, STORE_A, UNMAPPED_BESIDE])?;
-    Ok(())
+    makes(&rt, TWO, &[START, STORE_A, UNMAPPED_BESIDE])
 }
 
 // A second space maps the page too, and the other processor is there.

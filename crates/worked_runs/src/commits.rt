@@ -1,18 +1,19 @@
 // Commits: marks, write-outs, pages that are stored to beside them, and pages that leave memory.
 use crate::trial::{
-    COMMITTED, DONE, Disk, GOING_3, GOING_4, MARK, START, STORE_A, TWO, leaves_files, made,
-    opens_as,
+    COMMITTED, DONE, Disk, GOING_3, GOING_4, MARK, START, STORE_A, TWO, calls_of, leaves_files,
+    made, makes, opens_as,
 };
-use device::{Device, FailingDisk};
+use device::{Device, FailingDisk, MemDisk};
 use machine::Shape;
+use std::alloc::Global;
 use std::process::Abort;
 use std::test::Fail;
 
 // Nothing was stored: the mark is durable at once, and no device call is made.
 #[test]
 fn a_commit_of_nothing_makes_no_device_call(rt: HostRuntime) -> Result<(), Fail> {
-    let disk = made(&rt, TWO, &[START, MARK, "0 flush: nothing"])?;
-    assert_eq!(rt; disk.calls(), 3);
+    let calls = calls_of(&rt, TWO, &[START, MARK, "0 flush: nothing"])?;
+    assert_eq!(rt; calls, 3);
     Ok(())
 }
 
@@ -55,6 +56,12 @@ const KEPT: &str = "0 reclaim 0 1: begun
     0 change: kept
     1 resume: resumed";
 
+// Whether a block of a disk has the last byte of `a`, and no byte after it.
+fn has_last_byte(disk: &MemDisk<Global>, block: usize) -> bool {
+    let at = block.saturating_mul(4096).saturating_add(903);
+    disk.bytes().get(at..at.saturating_add(2)) == Some([7, 0].as_slice())
+}
+
 // A byte past the file's end is memory: it isn't written out, and its page stays in memory for it.
 #[test]
 fn bytes_past_the_end_are_memory_alone(rt: HostRuntime) -> Result<(), Fail> {
@@ -73,13 +80,9 @@ fn bytes_past_the_end_are_memory_alone(rt: HostRuntime) -> Result<(), Fail> {
             "0 load 9095 2: bytes 7 8",
         ],
     )?;
-    let disk = disk.into_inner();
     // The record is in block 3 and the home is block 8.
-    for block in [3, 8] {
-        let page = disk.bytes().get(4096 * block..4096 * (block + 1));
-        let page = page.ok_or("a block of the disk")?;
-        assert!(rt; page.get(903) == Some(&7) && page.get(904) == Some(&0));
-    }
+    let disk = disk.into_inner();
+    assert!(rt; has_last_byte(&disk, 3) && has_last_byte(&disk, 8));
     let disk = FailingDisk::new(disk, 0);
     assert!(rt; opens_as(rt.alloc(), disk, 0x5A, &[(0, 4999, 7)], 3)?);
     Ok(())
@@ -171,8 +174,7 @@ fn an_idle_processor_is_not_waited_for(rt: HostRuntime) -> Result<(), Fail> {
         1 wake: locked
         0 change: marked 1
         1 wake: woken";
-    made(&rt, TWO, &[START, idle])?;
-    Ok(())
+    makes(&rt, TWO, &[START, idle])
 }
 
 const FILLED: &str = "0 msync 4096 4096 4: begun
@@ -186,8 +188,7 @@ const FILLED: &str = "0 msync 4096 4096 4: begun
 // What a stalled processor caches before the mark is dropped before it goes on.
 #[test]
 fn a_stalled_processor_caches_in_vain(rt: HostRuntime) -> Result<(), Fail> {
-    made(&rt, TWO, &[START, STORE_A, FILLED])?;
-    Ok(())
+    makes(&rt, TWO, &[START, STORE_A, FILLED])
 }
 
 const UNMAPPED: &str = "1 switch 0 keep: switched
@@ -251,7 +252,7 @@ const RECLAIMED: &str = "0 reclaim 0 0: begun
 #[test]
 fn a_committed_page_leaves_memory(rt: HostRuntime) -> Result<(), Fail> {
     let shape = Shape { frames: 1, ..TWO };
-    let disk = made(
+    let calls = calls_of(
         &rt,
         shape,
         &[
@@ -259,7 +260,7 @@ fn a_committed_page_leaves_memory(rt: HostRuntime) -> Result<(), Fail> {
         ],
     )?;
     // Three pages were read in.
-    assert_eq!(rt; disk.calls(), 3 + 3 + 10);
+    assert_eq!(rt; calls, 3 + 3 + 10);
     Ok(())
 }
 
@@ -272,8 +273,7 @@ const NOT_ITS_FRAME: &str = "0 reclaim 2 0: nofile
 // Pages that no file has, and pages that aren't in memory.
 #[test]
 fn what_is_not_in_memory_is_not_reclaimed(rt: HostRuntime) -> Result<(), Fail> {
-    made(&rt, TWO, &[START, STORE_A, NOT_ITS_FRAME])?;
-    Ok(())
+    makes(&rt, TWO, &[START, STORE_A, NOT_ITS_FRAME])
 }
 
 const STORED_MEANWHILE: &str = "1 fix 4096 write: fixed
@@ -287,7 +287,7 @@ const STORED_MEANWHILE: &str = "1 fix 4096 write: fixed
 // Whether a page may leave is decided where all have stalled.
 #[test]
 fn a_page_that_is_stored_to_meanwhile_is_kept(rt: HostRuntime) -> Result<(), Fail> {
-    made(
+    makes(
         &rt,
         TWO,
         &[
@@ -300,8 +300,7 @@ fn a_page_that_is_stored_to_meanwhile_is_kept(rt: HostRuntime) -> Result<(), Fai
             DONE,
             STORED_MEANWHILE,
         ],
-    )?;
-    Ok(())
+    )
 }
 
 const TWO_STORED: &str = "0 store 4096 1: fault 6

@@ -2,7 +2,7 @@
 use crate::trial::{
     COMMITTED, DONE, Disk, FileByte, GOING, GOING_2, GOING_3, GOING_4, GOING_5, MARK, ONE, START,
     START_ONE, STORE_A, TWO, Trial, booted, crash, formatted, has, is_answered, leaves_files, made,
-    make, make_line, opens_as, parted, zeros,
+    make, make_line, opens_as, parted, put, zeros,
 };
 use device::{Device, FailingDisk, MemDisk};
 use page_entry::Refusal;
@@ -277,40 +277,39 @@ const STORED_AGAIN: &str = "0 store 4096 70: fault 7
 // Before the closed gate is synced it may be open or closed; once it is, no record that follows is read under it.
 #[test]
 fn a_crash_at_the_end_leaves_what_was_committed(rt: HostRuntime) -> Result<(), Fail> {
+    let parts = [START, STORE_A, MARK, GOING_4, COMMITTED, GOING_3];
     for (left, calls) in [(0xA7, 9), (0x00, 3)] {
-        let disk = made(
-            &rt,
-            TWO,
-            &[START, STORE_A, MARK, GOING_4, COMMITTED, GOING_3],
-        )?;
         assert!(rt;
-            opens_as(rt.alloc(), disk, left, &[(0, 0, 65)], calls)?,
+            leaves_files(&rt, TWO, &parts, left, &[(0, 0, 65)], calls)?,
             "{left}"
         );
     }
-    let disk = made(
-        &rt,
-        TWO,
-        &[
-            START,
-            STORE_A,
-            MARK,
-            GOING_4,
-            COMMITTED,
-            GOING_3,
-            DONE,
-            STORED_AGAIN,
-            GOING,
-        ],
-    )?;
-    let mut disk = disk.into_inner();
-    let mut choice = vec![in rt.alloc(); 0xFF; 40_960]?;
-    let gate = choice.get_mut(4096).ok_or("the gate")?;
-    *gate = 0xA7;
-    crash(&mut disk, &choice)?;
-    assert!(rt; disk.bytes().get(12_288) == Some(&0xFF));
-    assert!(rt; has(rt.alloc(), disk, &[(0, 0, 65)], 3)?);
+    assert!(rt; has(rt.alloc(), torn_record(&rt)?, &[(0, 0, 65)], 3)?);
     Ok(())
+}
+
+// The next commit's first record is torn, and the gate, had it not been synced, would be open.
+fn torn_record<R: Abort + AllocGlobal>(rt: &R) -> Result<MemDisk<Global>, Fail> {
+    let parts = [
+        START,
+        STORE_A,
+        MARK,
+        GOING_4,
+        COMMITTED,
+        GOING_3,
+        DONE,
+        STORED_AGAIN,
+        GOING,
+    ];
+    let mut disk = made(rt, TWO, &parts)?.into_inner();
+    let mut choice = vec![in rt.alloc(); 0xFF; 40_960]?;
+    put(&mut choice, 4096, 0xA7)?;
+    crash(&mut disk, &choice)?;
+    if disk.bytes().get(12_288) == Some(&0xFF) {
+        Ok(disk)
+    } else {
+        Err("the record is torn".into())
+    }
 }
 
 // In layout 2 a second commit while the first is still applied. The byte is 65 in the first, and 66 in the second.
@@ -388,20 +387,32 @@ fn has_byte(alloc: Global, disk: MemDisk<Global>, byte: u8) -> Result<bool, Fail
     has(alloc, disk, &[(0, 0, byte)], calls)
 }
 
+// How many device calls all of these lines make.
+fn calls_of_both<R: Abort + AllocGlobal>(rt: &R) -> Result<u64, Fail> {
+    let (disk, _) = side_by_side(rt, 27, 0)?;
+    Ok(disk.calls())
+}
+
+// Whether the disk after so many of the lines opens in so many calls with this byte, after a crash that leaves another
+// byte wherever nothing was synced.
+fn opens_after<R: Abort + AllocGlobal>(
+    rt: &R,
+    lines: usize,
+    left: u8,
+    byte: u8,
+    calls: u64,
+) -> Result<bool, Fail> {
+    let (disk, _) = side_by_side(rt, lines, 0)?;
+    opens_as(rt.alloc(), disk, left, &[(0, 0, byte)], calls)
+}
+
 #[test]
 fn two_write_outs_side_by_side(rt: HostRuntime) -> Result<(), Fail> {
-    let (disk, _) = side_by_side(&rt, 27, 0)?;
-    assert_eq!(rt; disk.calls(), 4 + 1 + 10 + 10);
-    assert!(rt; opens_as(rt.alloc(), disk, 0x5A, &[(0, 0, 66)], 4)?);
-    let (disk, _) = side_by_side(&rt, 17, 0)?;
-    assert!(rt; opens_as(rt.alloc(), disk, 0x5A, &[(0, 0, 66)], 16)?);
-    for (left, byte, calls) in [(0x00, 65, 10), (0xA7, 66, 16)] {
-        let (disk, _) = side_by_side(&rt, GATE_B, 0)?;
-        assert!(rt;
-            opens_as(rt.alloc(), disk, left, &[(0, 0, byte)], calls)?,
-            "{left}"
-        );
-    }
+    assert_eq!(rt; calls_of_both(&rt)?, 4 + 1 + 10 + 10);
+    assert!(rt; opens_after(&rt, 27, 0x5A, 66, 4)?);
+    assert!(rt; opens_after(&rt, 17, 0x5A, 66, 16)?);
+    assert!(rt; opens_after(&rt, GATE_B, 0x00, 65, 10)?);
+    assert!(rt; opens_after(&rt, GATE_B, 0xA7, 66, 16)?);
     Ok(())
 }
 
@@ -486,11 +497,16 @@ fn each_crash_of_two_write_outs(rt: HostRuntime) -> Result<(), Fail> {
 fn each_device_call_of_two_write_outs_fails(rt: HostRuntime) -> Result<(), Fail> {
     let images = images(&rt)?;
     for call in 6..26 {
-        let (disk, _) = side_by_side(&rt, 27, call)?;
-        assert_eq!(rt; (disk.calls(), disk.faults()), (call, 1));
+        assert!(rt; fails_at(&rt, call)?, "call {call}");
         assert!(rt; all_leave(&rt, &images, 27, call)?, "call {call}");
     }
     Ok(())
+}
+
+// Whether the call of this number fails, and none is made after it.
+fn fails_at<R: Abort + AllocGlobal>(rt: &R, call: u64) -> Result<bool, Fail> {
+    let (disk, _) = side_by_side(rt, 27, call)?;
+    Ok(disk.calls() == call && disk.faults() == 1)
 }
 
 // With both gates open, an opening is cut by a crash at any call.

@@ -4,7 +4,7 @@ use device::{Device, FailingDisk, MemDisk};
 use machine::{Act, FewBytes, Machine, Reply, Shape};
 use mappings::Rights;
 use page_entry::Refusal;
-use recovery::{format, open};
+use recovery::{Volume, format, open};
 use std::alloc::Global;
 use std::process::Abort;
 use std::test::Fail;
@@ -26,10 +26,36 @@ const SHAPES: [(u64, u64, u64, u64, bool); 13] = [
     (2, 8, 4, u64::MAX, false),
 ];
 
+// A volume of zeros.
+fn zeros_opened(alloc: Global, layout: u64) -> Result<Volume<MemDisk<Global>, Global>, Fail> {
+    match open(alloc, formatted(alloc, layout)?) {
+        Ok(volume) => Ok(volume),
+        Err((refusal, _)) => Err(refusal.into()),
+    }
+}
+
+// The device calls that formatting and opening a volume make.
+fn calls_until_opened(alloc: Global, layout: u64) -> Result<u64, Fail> {
+    Ok(zeros_opened(alloc, layout)?.into_device().calls())
+}
+
+// How many processors a machine of this shape has, none where the shape is refused; and the device calls until then.
+fn booted_with(alloc: Global, layout: u64, shape: Shape) -> Result<(Option<u64>, u64), Fail> {
+    match Machine::boot(alloc, zeros_opened(alloc, layout)?, shape) {
+        Ok(machine) => {
+            let processors = u64::from(machine.processors());
+            Ok((Some(processors), machine.into_device().calls()))
+        }
+        Err((Refusal::BadShape, volume)) => Ok((None, volume.into_device().calls())),
+        Err((refusal, _)) => Err(refusal.into()),
+    }
+}
+
 // A shape is refused before a device call, and the volume is handed back.
 #[test]
 fn shapes_have_limits(rt: HostRuntime) -> Result<(), Fail> {
     for layout in [1, 2] {
+        let calls = calls_until_opened(rt.alloc(), layout)?;
         for (cpus, tlb, frames, copies, fits) in SHAPES {
             let shape = Shape {
                 cpus,
@@ -37,24 +63,8 @@ fn shapes_have_limits(rt: HostRuntime) -> Result<(), Fail> {
                 frames,
                 copies,
             };
-            let disk = formatted(rt.alloc(), layout)?;
-            let before = disk.calls();
-            let device = match open(rt.alloc(), disk) {
-                Ok(volume) => match Machine::boot(rt.alloc(), volume, shape) {
-                    Ok(machine) => {
-                        assert!(rt; fits, "{shape:?}");
-                        assert_eq!(rt; u64::from(machine.processors()), cpus);
-                        machine.into_device()
-                    }
-                    Err((refusal, volume)) => {
-                        assert!(rt; !fits && refusal == Refusal::BadShape, "{shape:?}");
-                        volume.into_device()
-                    }
-                },
-                Err((refusal, _)) => return Err(refusal.into()),
-            };
-            let opening = if layout == 1 { 3 } else { 4 };
-            assert_eq!(rt; device.calls().saturating_sub(before), opening);
+            let found = booted_with(rt.alloc(), layout, shape)?;
+            assert!(rt; found == (fits.then_some(cpus), calls), "{shape:?}");
         }
     }
     Ok(())
@@ -63,17 +73,15 @@ fn shapes_have_limits(rt: HostRuntime) -> Result<(), Fail> {
 // As many frames as a batch can have pages, over a file of one page more.
 const MANY: u64 = 1020;
 
-// A machine of one processor with as many frames, whose space maps the whole file from 4096 on.
-fn with_many_frames(alloc: Global) -> Result<Trial, Fail> {
+// A volume of that file.
+fn many_pages(alloc: Global) -> Result<MemDisk<Global>, Fail> {
     let mut disk = MemDisk::new(alloc, 4096 * (3 + 1020 + 1021))?;
     format(alloc, &mut disk, &[("a", 4096 * 1021)], 1020)?;
-    let shape = Shape {
-        cpus: 1,
-        tlb: 64,
-        frames: MANY,
-        copies: 64,
-    };
-    let mut machine = booted(alloc, FailingDisk::new(disk, 0), shape)?;
+    Ok(disk)
+}
+
+// Whether a space is made that maps the whole file from 4096 on.
+fn map_all(machine: &mut Trial) -> bool {
     let map = Act::Map {
         space: 1,
         va: 4096,
@@ -87,12 +95,21 @@ fn with_many_frames(alloc: Global) -> Result<Trial, Fail> {
         space: 1,
         keep: false,
     };
-    let replies = [
-        reply_to(&mut machine, 0, Act::Create),
-        reply_to(&mut machine, 0, map),
-        reply_to(&mut machine, 0, switch),
-    ];
-    if replies == [Reply::Space(1), Reply::Mapped, Reply::Switched] {
+    reply_to(machine, 0, Act::Create) == Reply::Space(1)
+        && reply_to(machine, 0, map) == Reply::Mapped
+        && reply_to(machine, 0, switch) == Reply::Switched
+}
+
+// A machine of one processor with as many frames, in that space.
+fn with_many_frames(alloc: Global) -> Result<Trial, Fail> {
+    let shape = Shape {
+        cpus: 1,
+        tlb: 64,
+        frames: MANY,
+        copies: 64,
+    };
+    let mut machine = booted(alloc, FailingDisk::new(many_pages(alloc)?, 0), shape)?;
+    if map_all(&mut machine) {
         Ok(machine)
     } else {
         Err("the file is mapped".into())
@@ -118,46 +135,50 @@ fn stores(machine: &mut Trial, page: u64) -> Result<[Reply; 3], Fail> {
     ])
 }
 
-// Stores to as many pages, each of which faults once, and to one more, which no frame is left for.
-fn store_to_all<R: Abort>(rt: &R, machine: &mut Trial) -> Result<(), Fail> {
+// Whether stores to as many pages fault once each and are made, and one to another page, for which no frame is left,
+// isn't.
+fn store_to_all(machine: &mut Trial) -> Result<bool, Fail> {
     for page in 0..MANY {
-        let replies = stores(machine, page)?;
-        assert!(rt;
-            replies == [FAULT, Reply::Fixed, Reply::Stored],
-            "page {page}"
-        );
+        if stores(machine, page)? != [FAULT, Reply::Fixed, Reply::Stored] {
+            return Ok(false);
+        }
     }
-    let replies = stores(machine, MANY)?;
-    assert!(rt; replies == [FAULT, Reply::Refused(Refusal::NoFrame), FAULT]);
-    Ok(())
+    Ok(stores(machine, MANY)? == [FAULT, Reply::Refused(Refusal::NoFrame), FAULT])
 }
 
-// Marks them, and writes them out in 2k + 7 steps, of which k + 4 commit.
-fn commit_all<R: Abort>(rt: &R, machine: &mut Trial) {
+// Whether they are marked, and written out in 2k + 7 steps, of which k + 4 commit.
+fn commit_all(machine: &mut Trial) -> bool {
     let msync = Act::Msync {
         va: 4096,
         len: 4096 * 1021,
         flags: 4,
     };
-    assert_eq!(rt; reply_to(machine, 0, msync), Reply::Begun);
-    assert_eq!(rt; reply_to(machine, 0, Act::Change), Reply::Marked(1));
+    if reply_to(machine, 0, msync) != Reply::Begun
+        || reply_to(machine, 0, Act::Change) != Reply::Marked(1)
+    {
+        return false;
+    }
     for number in 1..2048 {
         let wanted = match number {
             1024 => Reply::Committed(1),
             2047 => Reply::Done(1),
             _ => Reply::Going,
         };
-        assert_eq!(rt; reply_to(machine, 0, Act::Flush), wanted, "step {number}");
+        if reply_to(machine, 0, Act::Flush) != wanted {
+            return false;
+        }
     }
-    assert_eq!(rt; reply_to(machine, 0, Act::Flush), Reply::Nothing);
+    reply_to(machine, 0, Act::Flush) == Reply::Nothing
 }
 
 // The disk after that.
-fn with_all_committed<R: Abort + AllocGlobal>(rt: &R) -> Result<Disk, Fail> {
+fn with_all_committed<R: AllocGlobal>(rt: &R) -> Result<Disk, Fail> {
     let mut machine = with_many_frames(rt.alloc())?;
-    store_to_all(rt, &mut machine)?;
-    commit_all(rt, &mut machine);
-    Ok(machine.into_device())
+    if store_to_all(&mut machine)? && commit_all(&mut machine) {
+        Ok(machine.into_device())
+    } else {
+        Err("all pages are committed".into())
+    }
 }
 
 // A commit of as many pages as there can be makes 3k + 7 device calls.
@@ -169,21 +190,30 @@ fn a_commit_of_1020_pages(rt: HostRuntime) -> Result<(), Fail> {
     Ok(())
 }
 
+// The first byte of a page of the file.
+fn first_byte(volume: &mut Volume<MemDisk<Global>, Global>, page: u64) -> Result<u8, Fail> {
+    if volume.file_count() != 1 || volume.length(0) != 4096 * 1021 || page >= MANY {
+        return Err("the file is there".into());
+    }
+    let mut byte = [1];
+    volume.read_file(0, 4096 * page, &mut byte)?;
+    Ok(byte[0])
+}
+
+// Whether each of as many pages of a volume begins with its byte.
+fn are_many_bytes(volume: &mut Volume<MemDisk<Global>, Global>) -> Result<bool, Fail> {
+    for page in 0..MANY {
+        if first_byte(volume, page)? != byte_of(page) {
+            return Ok(false);
+        }
+    }
+    Ok(true)
+}
+
 // Whether a disk opens with the byte of each of as many pages.
 fn has_many_bytes(alloc: Global, disk: MemDisk<Global>) -> Result<bool, Fail> {
     match open(alloc, disk) {
-        Ok(mut volume) => {
-            let mut all = true;
-            for page in 0..MANY {
-                let mut byte = [1];
-                if volume.file_count() != 1 || volume.length(0) != 4096 * 1021 {
-                    return Err("the file is there".into());
-                }
-                volume.read_file(0, 4096 * page, &mut byte)?;
-                all = all && byte[0] == byte_of(page);
-            }
-            Ok(all)
-        }
+        Ok(mut volume) => are_many_bytes(&mut volume),
         Err((refusal, _)) => Err(refusal.into()),
     }
 }
@@ -212,24 +242,32 @@ const SPACE_AGAIN: &str = "0 destroy 0: einval
 #[test]
 fn there_are_4095_spaces(rt: HostRuntime) -> Result<(), Fail> {
     let mut machine = zeros(&rt, TWO)?;
-    create_all(&rt, &mut machine);
+    assert!(rt; create_all(&mut machine));
     make(&rt, &mut machine, &[LAST_SPACE, SPACE_AGAIN])
 }
 
-fn create_all<R: Abort>(rt: &R, machine: &mut Trial) {
+fn create_all(machine: &mut Trial) -> bool {
     for space in 1..4096 {
-        assert_eq!(rt; reply_to(machine, 0, Act::Create), Reply::Space(space));
+        if reply_to(machine, 0, Act::Create) != Reply::Space(space) {
+            return false;
+        }
     }
+    true
 }
 
 // Only what can be sent to a thread can be given to this.
 fn sends<T: Send>(_sent: &T) {}
 
+// How many processors a machine has that can be sent.
+fn processors_sent<R: AllocGlobal>(rt: &R) -> Result<u8, Fail> {
+    let machine = zeros(rt, TWO)?;
+    sends(&machine);
+    Ok(machine.processors())
+}
+
 #[test]
 fn a_machine_can_be_sent_to_a_thread(rt: HostRuntime) -> Result<(), Fail> {
-    let machine = zeros(&rt, TWO)?;
-    sends(&machine);
-    assert_eq!(rt; machine.processors(), 2);
+    assert!(rt; processors_sent(&rt)? == 2);
     Ok(())
 }
 
@@ -250,10 +288,13 @@ fn fills(machine: &mut Trial, page: u64) -> bool {
         && reply_to(machine, 0, Act::Fill { page }) == Reply::Filled
 }
 
-fn fill_all<R: Abort>(rt: &R, machine: &mut Trial) {
+fn fill_all(machine: &mut Trial) -> bool {
     for page in 16..81 {
-        assert!(rt; fills(machine, page), "page {page}");
+        if !fills(machine, page) {
+            return false;
+        }
     }
+    true
 }
 
 // Each page is cached, and a full TLB drops an entry for the next: one page more than there is room for.
@@ -262,7 +303,7 @@ fn a_tlb_of_64_entries(rt: HostRuntime) -> Result<(), Fail> {
     let shape = Shape { tlb: 64, ..TWO };
     let mut machine = zeros(&rt, shape)?;
     make(&rt, &mut machine, &[START])?;
-    fill_all(&rt, &mut machine);
+    assert!(rt; fill_all(&mut machine));
     make(&rt, &mut machine, &[FULL])?;
     // The page of the file was read in once.
     assert_eq!(rt; machine.into_device().calls(), 3 + 1);

@@ -1,5 +1,5 @@
 // Mappings, rights and address spaces.
-use crate::trial::{START, TWO, made};
+use crate::trial::{START, TWO, makes};
 use std::test::Fail;
 
 const REFUSED: &str = "0 map 1 65536 0 0 0 rw rw: einval
@@ -16,8 +16,7 @@ const REFUSED: &str = "0 map 1 65536 0 0 0 rw rw: einval
 // Calls that are refused, each for its cause.
 #[test]
 fn calls_are_refused_for_their_causes(rt: HostRuntime) -> Result<(), Fail> {
-    made(&rt, TWO, &[START, REFUSED])?;
-    Ok(())
+    makes(&rt, TWO, &[START, REFUSED])
 }
 
 const OTHER_FILE: &str = "0 unmap 1 8192 4096: begun
@@ -58,7 +57,7 @@ const TWO_PAGES: &str = "0 map 1 65536 8192 0 0 rw rw: mapped
 // A page is unmapped out of the middle and mapped to another file; rights are taken away and given back.
 #[test]
 fn rights_come_and_go(rt: HostRuntime) -> Result<(), Fail> {
-    made(
+    makes(
         &rt,
         TWO,
         &[
@@ -75,8 +74,7 @@ fn rights_come_and_go(rt: HostRuntime) -> Result<(), Fail> {
             "0 store 4096 2: fault 7",
             TWO_PAGES,
         ],
-    )?;
-    Ok(())
+    )
 }
 
 const PCID_AGAIN: &str = "0 create: space 2
@@ -97,8 +95,7 @@ const PCID_AGAIN: &str = "0 create: space 2
 // Nothing is left of a space that was destroyed where its PCID is given out again.
 #[test]
 fn a_pcid_is_given_out_again(rt: HostRuntime) -> Result<(), Fail> {
-    made(&rt, TWO, &[START, PCID_AGAIN, "1 load 4096 1: bytes 0"])?;
-    Ok(())
+    makes(&rt, TWO, &[START, PCID_AGAIN, "1 load 4096 1: bytes 0"])
 }
 
 const AWAY: &str = "1 load 16384 1: fault 4
@@ -117,7 +114,7 @@ const NINTH: &str = "0 map 1 1048576 4096 0 0 r r: mapped
 // A processor that is in another space has room for 8 invalidations of one page, and then drops these pages alone.
 #[test]
 fn eight_invalidations_leave_another_page_cached(rt: HostRuntime) -> Result<(), Fail> {
-    made(
+    makes(
         &rt,
         TWO,
         &[
@@ -128,14 +125,13 @@ fn eight_invalidations_leave_another_page_cached(rt: HostRuntime) -> Result<(), 
             "1 switch 1 keep: switched",
             "1 evict 0: evicted",
         ],
-    )?;
-    Ok(())
+    )
 }
 
 // The ninth makes it drop all.
 #[test]
 fn nine_invalidations_drop_all(rt: HostRuntime) -> Result<(), Fail> {
-    made(
+    makes(
         &rt,
         TWO,
         &[
@@ -147,6 +143,5 @@ fn nine_invalidations_drop_all(rt: HostRuntime) -> Result<(), Fail> {
             "1 switch 1 keep: switched",
             "1 evict 0: nothing",
         ],
-    )?;
-    Ok(())
+    )
 }

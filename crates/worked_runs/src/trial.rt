@@ -165,15 +165,21 @@ pub(crate) fn is_answered(
     }
 }
 
+// Adds the steps of a part.
+fn push_steps(alloc: Global, steps: &mut Vec<Step>, part: &str) -> Result<(), Fail> {
+    for line in part.lines() {
+        let (words, _) = parted(line)?;
+        let Step { p, act } = step_of(alloc, words)?;
+        steps.push(Step { p, act })?;
+    }
+    Ok(())
+}
+
 /// The steps of these parts.
 pub(crate) fn steps_in(alloc: Global, parts: &[&str]) -> Result<Vec<Step>, Fail> {
     let mut steps = Vec::new(alloc);
     for part in parts {
-        for line in part.lines() {
-            let (words, _) = parted(line)?;
-            let Step { p, act } = step_of(alloc, words)?;
-            steps.push(Step { p, act })?;
-        }
+        push_steps(alloc, &mut steps, part)?;
     }
     Ok(steps)
 }
@@ -215,6 +221,25 @@ pub(crate) fn made<R: Abort + AllocGlobal>(
     Ok(machine.into_device())
 }
 
+/// Makes these steps there.
+pub(crate) fn makes<R: Abort + AllocGlobal>(
+    rt: &R,
+    shape: Shape,
+    parts: &[&str],
+) -> Result<(), Fail> {
+    let mut machine = zeros(rt, shape)?;
+    make(rt, &mut machine, parts)
+}
+
+/// How many device calls they make, those of the opening included.
+pub(crate) fn calls_of<R: Abort + AllocGlobal>(
+    rt: &R,
+    shape: Shape,
+    parts: &[&str],
+) -> Result<u64, Fail> {
+    Ok(made(rt, shape, parts)?.calls())
+}
+
 /// Whether they leave a disk that, after a crash that leaves this byte wherever nothing was synced, opens in so many
 /// calls with these bytes in files of zeros.
 pub(crate) fn leaves_files<R: Abort + AllocGlobal>(
@@ -237,7 +262,8 @@ pub(crate) struct Found {
     pub(crate) calls: u64,
 }
 
-fn put(bytes: &mut [u8], offset: usize, byte: u8) -> Result<(), Fail> {
+/// Sets a byte.
+pub(crate) fn put(bytes: &mut [u8], offset: usize, byte: u8) -> Result<(), Fail> {
     *bytes.get_mut(offset).ok_or("a byte of the file")? = byte;
     Ok(())
 }
@@ -268,8 +294,8 @@ pub(crate) fn opened(alloc: Global, disk: MemDisk<Global>) -> Result<Found, Fail
     }
 }
 
-// What a volume was opened with, on a disk that had so many calls before.
-fn what_is_found(mut volume: Volume<MemDisk<Global>, Global>, before: u64) -> Result<Found, Fail> {
+// The bytes of both files of a volume.
+fn bytes_in(volume: &mut Volume<MemDisk<Global>, Global>) -> Result<Found, Fail> {
     if volume.file_count() != 2 || volume.length(0) != 5000 || volume.length(1) != 4096 {
         return Err("the files are there".into());
     }
@@ -277,10 +303,15 @@ fn what_is_found(mut volume: Volume<MemDisk<Global>, Global>, before: u64) -> Re
     volume.read_file(0, 0, &mut a)?;
     let mut b = [1; 4096];
     volume.read_file(1, 0, &mut b)?;
-    // Each file was read by one call.
+    Ok(Found { a, b, calls: 0 })
+}
+
+// What a volume was opened with, on a disk that had so many calls before. Each file is read by one call.
+fn what_is_found(mut volume: Volume<MemDisk<Global>, Global>, before: u64) -> Result<Found, Fail> {
+    let found = bytes_in(&mut volume)?;
     let calls = volume.into_device().calls();
     let calls = calls.saturating_sub(before).saturating_sub(2);
-    Ok(Found { a, b, calls })
+    Ok(Found { calls, ..found })
 }
 
 /// A crash: what was written since the last sync becomes what is chosen.
