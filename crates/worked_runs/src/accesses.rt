@@ -88,32 +88,43 @@ fn processors_tell_their_states(rt: HostRuntime) -> Result<(), Fail> {
     Ok(())
 }
 
-// Makes steps at once, where there is room for their replies.
-fn run_at_once(machine: &mut Trial, steps: &[Step], replies: &mut [Reply]) {
-    if replies.len() == steps.len() {
-        machine.run(steps, replies);
+// Makes steps at once, where there is room for their replies, and then a space, whose reply is added.
+fn run_at_once(machine: &mut Trial, steps: &[Step], replies: &mut Vec<Reply>) -> Result<(), Fail> {
+    if replies.len() != steps.len() {
+        return Err("room for each reply".into());
     }
+    machine.run(steps, replies.as_mut_slice());
+    replies.push(reply_to(machine, 0, Act::Create))?;
+    Ok(())
 }
 
-// The replies to steps at once, and to the making of a space after them. The device then had 4 calls.
-fn replies_at_once<R: AllocGlobal>(rt: &R, steps: &[Step]) -> Result<Vec<Reply>, Fail> {
-    let mut replies = vec![in rt.alloc(); Reply::Nothing; steps.len()]?;
+// The number of device calls after that, on zeros.
+fn calls_at_once<R: AllocGlobal>(
+    rt: &R,
+    steps: &[Step],
+    replies: &mut Vec<Reply>,
+) -> Result<u64, Fail> {
     let mut machine = zeros(rt, TWO)?;
-    run_at_once(&mut machine, steps, &mut replies);
-    replies.push(reply_to(&mut machine, 0, Act::Create))?;
-    if machine.into_device().calls() == 4 {
-        Ok(replies)
-    } else {
-        Err("4 device calls".into())
-    }
+    run_at_once(&mut machine, steps, replies)?;
+    Ok(machine.into_device().calls())
+}
+
+// Whether the steps of these parts, made at once, are answered so, and a space after them; and make so many device
+// calls.
+fn is_made_at_once<R: AllocGlobal>(rt: &R, parts: &[&str], calls: u64) -> Result<bool, Fail> {
+    let steps = steps_in(rt.alloc(), parts)?;
+    let mut replies = vec![in rt.alloc(); Reply::Nothing; steps.len()]?;
+    let made = calls_at_once(rt, &steps, &mut replies)?;
+    Ok(
+        made == calls
+            && replies.pop() == Some(Reply::Space(2))
+            && are_wanted(rt.alloc(), parts, &replies)?,
+    )
 }
 
 // A run of steps at once is answered as they are one by one.
 #[test]
 fn steps_are_made_at_once(rt: HostRuntime) -> Result<(), Fail> {
-    let parts = [START, STORE_A, EIGHT_BYTES, "0 create: space 2"];
-    let steps = steps_in(rt.alloc(), &parts[..3])?;
-    let replies = replies_at_once(&rt, &steps)?;
-    assert!(rt; replies.len() == steps.len() + 1 && are_wanted(rt.alloc(), &parts, &replies)?);
+    assert!(rt; is_made_at_once(&rt, &[START, STORE_A, EIGHT_BYTES], 4)?);
     Ok(())
 }
