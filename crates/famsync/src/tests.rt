@@ -147,33 +147,36 @@ fn script(alloc: Global, steps: &str) -> Result<String, AllocError> {
     format!(in alloc; "{{{SHAPE},\"steps\":[{steps}]}}")
 }
 
+// Lists of steps, and what each prints.
+const ANSWERED: &[(&str, &str)] = &[
+    ("", ""),
+    (r#"[0,"create"]"#, "space 1\n"),
+    // Nothing was stored: the mark is durable at once.
+    (
+        r#"[0,"create"],[0,"map",1,4096,12288,0,0,"rw","rw"],[0,"switch",1,"drop"],[0,"msync",4096,4096,4],[0,"change"],[0,"flush"]"#,
+        "space 1\nmapped\nswitched\nbegun\nmarked 1\nnothing\n",
+    ),
+    // A store, and a load that reads it.
+    (
+        r#"[0,"create"],[0,"map",1,4096,12288,0,0,"w","rw"],[0,"switch",1,"keep"],[0,"store",4096,[65]],[0,"fix",4096,"write"],[0,"store",4096,[65]],[0,"load",4096,1],[0,"load",4095,2]"#,
+        "space 1\nmapped\nswitched\nfault 6\nfixed\nstored\nbytes 65\neinval\n",
+    ),
+    // A page of another file is read in before the commit.
+    (
+        r#"[0,"create"],[0,"map",1,4096,12288,0,0,"rw","rw"],[0,"map",1,16384,4096,1,0,"r","r"],[0,"switch",1,"drop"],[0,"store",4096,[65]],[0,"fix",4096,"write"],[0,"store",4096,[65]],[0,"fix",16384,"read"],[0,"msync",4096,4096,4],[0,"change"],[0,"flush"],[0,"flush"],[0,"flush"],[0,"flush"],[0,"flush"],[0,"flush"],[0,"flush"],[0,"flush"],[0,"flush"],[0,"flush"]"#,
+        "space 1\nmapped\nmapped\nswitched\nfault 6\nfixed\nstored\nfixed\nbegun\nmarked 1\ngoing\ngoing\ngoing\ngoing\ncommitted 1\ngoing\ngoing\ngoing\ndone 1\nnothing\n",
+    ),
+    // Numbers in the ranges of scripts that the machine refuses.
+    (
+        r#"[255,"flush"],[0,"switch",65535,"keep"],[0,"load",18446744073709551615,255],[0,"store",0,[]],[0,"msync",0,18446744073709551615,255],[0,"map",65535,1,1,65535,1,"r","rw"]"#,
+        "einval\neinval\neinval\neinval\neinval\neinval\n",
+    ),
+];
+
 // Steps on a fresh volume, each list with what it prints.
 #[test]
 fn steps_are_answered(rt: HostRuntime) -> Result<(), Fail> {
-    for (steps, replies) in [
-        ("", ""),
-        (r#"[0,"create"]"#, "space 1\n"),
-        // Nothing was stored: the mark is durable at once.
-        (
-            r#"[0,"create"],[0,"map",1,4096,12288,0,0,"rw","rw"],[0,"switch",1,"drop"],[0,"msync",4096,4096,4],[0,"change"],[0,"flush"]"#,
-            "space 1\nmapped\nswitched\nbegun\nmarked 1\nnothing\n",
-        ),
-        // A store, and a load that reads it.
-        (
-            r#"[0,"create"],[0,"map",1,4096,12288,0,0,"w","rw"],[0,"switch",1,"keep"],[0,"store",4096,[65]],[0,"fix",4096,"write"],[0,"store",4096,[65]],[0,"load",4096,1],[0,"load",4095,2]"#,
-            "space 1\nmapped\nswitched\nfault 6\nfixed\nstored\nbytes 65\neinval\n",
-        ),
-        // A page of another file is read in before the commit.
-        (
-            r#"[0,"create"],[0,"map",1,4096,12288,0,0,"rw","rw"],[0,"map",1,16384,4096,1,0,"r","r"],[0,"switch",1,"drop"],[0,"store",4096,[65]],[0,"fix",4096,"write"],[0,"store",4096,[65]],[0,"fix",16384,"read"],[0,"msync",4096,4096,4],[0,"change"],[0,"flush"],[0,"flush"],[0,"flush"],[0,"flush"],[0,"flush"],[0,"flush"],[0,"flush"],[0,"flush"],[0,"flush"],[0,"flush"]"#,
-            "space 1\nmapped\nmapped\nswitched\nfault 6\nfixed\nstored\nfixed\nbegun\nmarked 1\ngoing\ngoing\ngoing\ngoing\ncommitted 1\ngoing\ngoing\ngoing\ndone 1\nnothing\n",
-        ),
-        // Numbers in the ranges of scripts that the machine refuses.
-        (
-            r#"[255,"flush"],[0,"switch",65535,"keep"],[0,"load",18446744073709551615,255],[0,"store",0,[]],[0,"msync",0,18446744073709551615,255],[0,"map",65535,1,1,65535,1,"r","rw"]"#,
-            "einval\neinval\neinval\neinval\neinval\neinval\n",
-        ),
-    ] {
+    for &(steps, replies) in ANSWERED {
         assert!(rt; answers(&rt, steps, replies)?, "{steps}");
     }
     remove(&rt, &["steps.img", "steps.json"])?;
@@ -340,58 +343,61 @@ fn refuses_step(rt: &HostRuntime, step: &str, found: &str, cause: &str) -> io::R
     )
 }
 
+// Scripts, and what is said of each.
+const BAD_SCRIPTS: &[(&str, &str)] = &[
+    ("", "it isn't JSON: "),
+    ("{", "it isn't JSON: "),
+    (
+        r#"{"cpus":1,"tlb":8,"frames":4,"copies":0,"steps":[]} x"#,
+        "it isn't JSON: ",
+    ),
+    ("[]", "it isn't an object\n"),
+    (
+        "{}",
+        "the member \"cpus\" isn't there, and cpus, tlb, frames, copies and steps have to be\n",
+    ),
+    (
+        r#"{"cpus":1,"tlb":8,"frames":4,"copies":0}"#,
+        "the member \"steps\" isn't there, and cpus, tlb, frames, copies and steps have to be\n",
+    ),
+    (
+        r#"{"cpus":1,"tlb":8,"frames":4,"steps":[]}"#,
+        "the member \"copies\" isn't there, and cpus, tlb, frames, copies and steps have to be\n",
+    ),
+    (
+        r#"{"cpus":1,"tlb":8,"frames":4,"copies":0,"steps":[],"trace":3}"#,
+        "it has a member \"trace\", and cpus, tlb, frames, copies and steps are allowed\n",
+    ),
+    (
+        r#"{"cpus":1,"tlb":8,"frames":4,"copies":0,"steps":{}}"#,
+        "the member \"steps\" isn't a list\n",
+    ),
+    (
+        r#"{"cpus":1.0,"tlb":8,"frames":4,"copies":0,"steps":[]}"#,
+        "the member \"cpus\" is 1.0, which isn't a whole number up to 2^64 - 1\n",
+    ),
+    (
+        r#"{"cpus":1,"tlb":8e0,"frames":4,"copies":0,"steps":[]}"#,
+        "the member \"tlb\" is 8.0, which isn't a whole number up to 2^64 - 1\n",
+    ),
+    (
+        r#"{"cpus":1,"tlb":8,"frames":-4,"copies":0,"steps":[]}"#,
+        "the member \"frames\" is -4, which isn't a whole number up to 2^64 - 1\n",
+    ),
+    (
+        r#"{"cpus":1,"tlb":8,"frames":4,"copies":18446744073709551616,"steps":[]}"#,
+        "the member \"copies\" is 1.8446744073709552e",
+    ),
+    (
+        r#"{"cpus":1,"cpus":"1","tlb":8,"frames":4,"copies":0,"steps":[]}"#,
+        "the member \"cpus\" is \"1\", which isn't a whole number up to 2^64 - 1\n",
+    ),
+];
+
 // Whole scripts that are refused, and what is said of each. The script is judged before the disk, which isn't there.
 #[test]
 fn scripts_are_refused(rt: HostRuntime) -> Result<(), Fail> {
-    for (text, cause) in [
-        ("", "it isn't JSON: "),
-        ("{", "it isn't JSON: "),
-        (
-            r#"{"cpus":1,"tlb":8,"frames":4,"copies":0,"steps":[]} x"#,
-            "it isn't JSON: ",
-        ),
-        ("[]", "it isn't an object\n"),
-        (
-            "{}",
-            "the member \"cpus\" isn't there, and cpus, tlb, frames, copies and steps have to be\n",
-        ),
-        (
-            r#"{"cpus":1,"tlb":8,"frames":4,"copies":0}"#,
-            "the member \"steps\" isn't there, and cpus, tlb, frames, copies and steps have to be\n",
-        ),
-        (
-            r#"{"cpus":1,"tlb":8,"frames":4,"steps":[]}"#,
-            "the member \"copies\" isn't there, and cpus, tlb, frames, copies and steps have to be\n",
-        ),
-        (
-            r#"{"cpus":1,"tlb":8,"frames":4,"copies":0,"steps":[],"trace":3}"#,
-            "it has a member \"trace\", and cpus, tlb, frames, copies and steps are allowed\n",
-        ),
-        (
-            r#"{"cpus":1,"tlb":8,"frames":4,"copies":0,"steps":{}}"#,
-            "the member \"steps\" isn't a list\n",
-        ),
-        (
-            r#"{"cpus":1.0,"tlb":8,"frames":4,"copies":0,"steps":[]}"#,
-            "the member \"cpus\" is 1.0, which isn't a whole number up to 2^64 - 1\n",
-        ),
-        (
-            r#"{"cpus":1,"tlb":8e0,"frames":4,"copies":0,"steps":[]}"#,
-            "the member \"tlb\" is 8.0, which isn't a whole number up to 2^64 - 1\n",
-        ),
-        (
-            r#"{"cpus":1,"tlb":8,"frames":-4,"copies":0,"steps":[]}"#,
-            "the member \"frames\" is -4, which isn't a whole number up to 2^64 - 1\n",
-        ),
-        (
-            r#"{"cpus":1,"tlb":8,"frames":4,"copies":18446744073709551616,"steps":[]}"#,
-            "the member \"copies\" is 1.8446744073709552e",
-        ),
-        (
-            r#"{"cpus":1,"cpus":"1","tlb":8,"frames":4,"copies":0,"steps":[]}"#,
-            "the member \"cpus\" is \"1\", which isn't a whole number up to 2^64 - 1\n",
-        ),
-    ] {
+    for &(text, cause) in BAD_SCRIPTS {
         assert!(rt; refuses_script(&rt, text.as_bytes(), cause)?, "{text}");
     }
     assert!(rt; refuses_script(&rt, b"{\"cpus\":\"\xff\"}", "it isn't UTF-8\n")?);
@@ -406,115 +412,121 @@ fn refuses_script(rt: &HostRuntime, text: &[u8], cause: &str) -> io::Result<bool
     complains(rt, "run|none.img|refused.json", 1, said.as_str())
 }
 
+// Command lines, and what is said first of each.
+const BAD_WORDS: &[(&str, &str)] = &[
+    ("", "'famsync' requires a subcommand"),
+    ("frmat", "unrecognized subcommand 'frmat'"),
+    (
+        "threads|bad.img|s.json",
+        "unrecognized subcommand 'threads'",
+    ),
+    ("a\nb", "unrecognized subcommand 'a b'"),
+    (
+        "format",
+        "the following required arguments were not provided: <DISK> <SLOTS> <FILE>...",
+    ),
+    (
+        "format|bad.img|4",
+        "the following required arguments were not provided: <FILE>...",
+    ),
+    (
+        "format|--all|bad.img|4|a=1",
+        "unexpected argument '--all' found",
+    ),
+    ("format|bad.img|-4|a=1", "unexpected argument '-4' found"),
+    ("format|--layout|two|bad.img|4|a=1", "LAYOUT is \"two\""),
+    ("format|--layout=+2|bad.img|4|a=1", "LAYOUT is \"+2\""),
+    ("format|--layout=|bad.img|4|a=1", "LAYOUT is \"\""),
+    ("format|bad.img|4x|a=1", "SLOTS is \"4x\""),
+    ("format|bad.img||a=1", "SLOTS is \"\""),
+    ("format|bad.img|+4|a=1", "SLOTS is \"+4\""),
+    (
+        "format|bad.img|18446744073709551616|a=1",
+        "SLOTS is \"18446744073709551616\"",
+    ),
+    ("format|bad.img|4|a", "FILE is \"a\""),
+    ("format|bad.img|4|a=", "FILE is \"a=\""),
+    ("format|bad.img|4|a=1|b=+1", "FILE is \"b=+1\""),
+    ("format|bad.img|4|a=5000/9000", "FILE is \"a=5000/9000\""),
+    (
+        "run|bad.img",
+        "the following required arguments were not provided: <SCRIPT>",
+    ),
+    (
+        "dump|bad.img|worse.img",
+        "unexpected argument 'worse.img' found",
+    ),
+];
+
 // Bad command lines, and what is said first of each. None makes a file.
 #[test]
 fn bad_words_are_refused(rt: HostRuntime) -> Result<(), Fail> {
-    for (line, cause) in [
-        ("", "'famsync' requires a subcommand"),
-        ("frmat", "unrecognized subcommand 'frmat'"),
-        (
-            "threads|bad.img|s.json",
-            "unrecognized subcommand 'threads'",
-        ),
-        ("a\nb", "unrecognized subcommand 'a b'"),
-        (
-            "format",
-            "the following required arguments were not provided: <DISK> <SLOTS> <FILE>...",
-        ),
-        (
-            "format|bad.img|4",
-            "the following required arguments were not provided: <FILE>...",
-        ),
-        (
-            "format|--all|bad.img|4|a=1",
-            "unexpected argument '--all' found",
-        ),
-        ("format|bad.img|-4|a=1", "unexpected argument '-4' found"),
-        ("format|--layout|two|bad.img|4|a=1", "LAYOUT is \"two\""),
-        ("format|--layout=+2|bad.img|4|a=1", "LAYOUT is \"+2\""),
-        ("format|--layout=|bad.img|4|a=1", "LAYOUT is \"\""),
-        ("format|bad.img|4x|a=1", "SLOTS is \"4x\""),
-        ("format|bad.img||a=1", "SLOTS is \"\""),
-        ("format|bad.img|+4|a=1", "SLOTS is \"+4\""),
-        (
-            "format|bad.img|18446744073709551616|a=1",
-            "SLOTS is \"18446744073709551616\"",
-        ),
-        ("format|bad.img|4|a", "FILE is \"a\""),
-        ("format|bad.img|4|a=", "FILE is \"a=\""),
-        ("format|bad.img|4|a=1|b=+1", "FILE is \"b=+1\""),
-        ("format|bad.img|4|a=5000/9000", "FILE is \"a=5000/9000\""),
-        (
-            "run|bad.img",
-            "the following required arguments were not provided: <SCRIPT>",
-        ),
-        (
-            "dump|bad.img|worse.img",
-            "unexpected argument 'worse.img' found",
-        ),
-    ] {
+    for &(line, cause) in BAD_WORDS {
         assert!(rt; complains(&rt, line, 2, cause)?, "{line}");
     }
     assert!(rt; fs::read(&rt, "bad.img").is_err());
     Ok(())
 }
 
+// Command lines, and what is said of each.
+const FAULTS: &[(&str, &str)] = &[
+    (
+        "format|none.img|0|a=1",
+        "disk \"none.img\": badshape: SLOTS is 0, and 1 to 1020 are allowed\n",
+    ),
+    (
+        "format|none.img|1021|a=1",
+        "disk \"none.img\": badshape: SLOTS is 1021, and 1 to 1020 are allowed\n",
+    ),
+    (
+        "format|none.img|4|a=0",
+        "disk \"none.img\": badshape: the length of \"a\" is 0, and lengths begin at 1\n",
+    ),
+    (
+        "format|none.img|4|=1",
+        "disk \"none.img\": badshape: the name \"\" isn't 1 to 32 characters from ! to ~\n",
+    ),
+    (
+        "format|none.img|4|a=1|a=2",
+        "disk \"none.img\": badshape: two files have the name \"a\"\n",
+    ),
+    (
+        "format|none.img|4|a b=1",
+        "disk \"none.img\": badshape: the name \"a b\" isn't 1 to 32 characters from ! to ~\n",
+    ),
+    (
+        "format|none.img|4|abcdefghijklmnopqrstuvwxyz1234567=1",
+        "disk \"none.img\": badshape: the name \"abcdefghijklmnopqrstuvwxyz1234567\" isn't 1 to 32 characters from ! to ~\n",
+    ),
+    (
+        "format|none.img|4|a=18446744073709551615",
+        "disk \"none.img\": badshape: the volume would have more than 4294967295 blocks\n",
+    ),
+    (
+        "format|--layout|3|none.img|4|a=1",
+        "disk \"none.img\": badshape: LAYOUT is 3, and 1 and 2 are served\n",
+    ),
+    (
+        "format|--layout=0|none.img|4|a=1",
+        "disk \"none.img\": badshape: LAYOUT is 0, and 1 and 2 are served\n",
+    ),
+    ("format|none/x.img|4|a=1", "file \"none/x.img\": "),
+    ("format|none/x\n.img|4|a=1", "file \"none/x\\n.img\": "),
+    ("run|none.img|none.json", "file \"none.json\": "),
+    ("run|none.img|fault.json", "file \"none.img\": "),
+    (
+        "run|fault.json|fault.json",
+        "disk \"fault.json\": notavolume: the file has 51 bytes, and a volume has 4096 at least\n",
+    ),
+    ("dump|none.img", "file \"none.img\": "),
+];
+
 // What ends with status 3, and what is said of each. No file is made, and the disk isn't changed.
 #[test]
 fn faults_are_told(rt: HostRuntime) -> Result<(), Fail> {
     make_volume(&rt, "fault.img")?;
     fs::write(&rt, "fault.json", script(rt.alloc(), "")?)?;
-    for (line, cause) in [
-        (
-            "format|none.img|0|a=1",
-            "disk \"none.img\": badshape: SLOTS is 0, and 1 to 1020 are allowed\n",
-        ),
-        (
-            "format|none.img|1021|a=1",
-            "disk \"none.img\": badshape: SLOTS is 1021, and 1 to 1020 are allowed\n",
-        ),
-        (
-            "format|none.img|4|a=0",
-            "disk \"none.img\": badshape: the length of \"a\" is 0, and lengths begin at 1\n",
-        ),
-        (
-            "format|none.img|4|=1",
-            "disk \"none.img\": badshape: the name \"\" isn't 1 to 32 characters from ! to ~\n",
-        ),
-        (
-            "format|none.img|4|a=1|a=2",
-            "disk \"none.img\": badshape: two files have the name \"a\"\n",
-        ),
-        (
-            "format|none.img|4|a b=1",
-            "disk \"none.img\": badshape: the name \"a b\" isn't 1 to 32 characters from ! to ~\n",
-        ),
-        (
-            "format|none.img|4|abcdefghijklmnopqrstuvwxyz1234567=1",
-            "disk \"none.img\": badshape: the name \"abcdefghijklmnopqrstuvwxyz1234567\" isn't 1 to 32 characters from ! to ~\n",
-        ),
-        (
-            "format|none.img|4|a=18446744073709551615",
-            "disk \"none.img\": badshape: the volume would have more than 4294967295 blocks\n",
-        ),
-        (
-            "format|--layout|3|none.img|4|a=1",
-            "disk \"none.img\": badshape: LAYOUT is 3, and 1 and 2 are served\n",
-        ),
-        (
-            "format|--layout=0|none.img|4|a=1",
-            "disk \"none.img\": badshape: LAYOUT is 0, and 1 and 2 are served\n",
-        ),
-        ("format|none/x.img|4|a=1", "file \"none/x.img\": "),
-        ("format|none/x\n.img|4|a=1", "file \"none/x\\n.img\": "),
-        ("run|none.img|none.json", "file \"none.json\": "),
-        ("run|none.img|fault.json", "file \"none.img\": "),
-        (
-            "run|fault.json|fault.json",
-            "disk \"fault.json\": notavolume: the file has 51 bytes, and a volume has 4096 at least\n",
-        ),
-        ("dump|none.img", "file \"none.img\": "),
-    ] {
+    for &(line, cause) in FAULTS {
         assert!(rt; complains(&rt, line, 3, cause)?, "{line}");
     }
     let many = format_of_files(rt.alloc(), "none.img|4", 65)?;
@@ -550,40 +562,43 @@ fn limits_are_served(rt: HostRuntime) -> Result<(), Fail> {
     Ok(())
 }
 
+// Members of scripts but for the steps, and what is said of each.
+const BAD_SHAPES: &[(&str, &str)] = &[
+    (
+        r#""cpus":0,"tlb":8,"frames":4,"copies":0"#,
+        "cpus is 0, and 1 to 16 are served",
+    ),
+    (
+        r#""cpus":17,"tlb":8,"frames":4,"copies":0"#,
+        "cpus is 17, and 1 to 16 are served",
+    ),
+    (
+        r#""cpus":1,"tlb":0,"frames":4,"copies":0"#,
+        "tlb is 0, and 1 to 64 are served",
+    ),
+    (
+        r#""cpus":1,"tlb":65,"frames":4,"copies":0"#,
+        "tlb is 65, and 1 to 64 are served",
+    ),
+    (
+        r#""cpus":1,"tlb":8,"frames":4,"copies":65"#,
+        "copies is 65, and 0 to 64 are served",
+    ),
+    (
+        r#""cpus":1,"tlb":8,"frames":0,"copies":0"#,
+        "frames is 0, and 1 to 4 are served, as the volume has 4 record slots",
+    ),
+    (
+        r#""cpus":1,"tlb":8,"frames":5,"copies":0"#,
+        "frames is 5, and 1 to 4 are served, as the volume has 4 record slots",
+    ),
+];
+
 // Shapes that no machine has, and what is said of each.
 #[test]
 fn shapes_are_refused(rt: HostRuntime) -> Result<(), Fail> {
     make_volume(&rt, "shape.img")?;
-    for (shape, cause) in [
-        (
-            r#""cpus":0,"tlb":8,"frames":4,"copies":0"#,
-            "cpus is 0, and 1 to 16 are served",
-        ),
-        (
-            r#""cpus":17,"tlb":8,"frames":4,"copies":0"#,
-            "cpus is 17, and 1 to 16 are served",
-        ),
-        (
-            r#""cpus":1,"tlb":0,"frames":4,"copies":0"#,
-            "tlb is 0, and 1 to 64 are served",
-        ),
-        (
-            r#""cpus":1,"tlb":65,"frames":4,"copies":0"#,
-            "tlb is 65, and 1 to 64 are served",
-        ),
-        (
-            r#""cpus":1,"tlb":8,"frames":4,"copies":65"#,
-            "copies is 65, and 0 to 64 are served",
-        ),
-        (
-            r#""cpus":1,"tlb":8,"frames":0,"copies":0"#,
-            "frames is 0, and 1 to 4 are served, as the volume has 4 record slots",
-        ),
-        (
-            r#""cpus":1,"tlb":8,"frames":5,"copies":0"#,
-            "frames is 5, and 1 to 4 are served, as the volume has 4 record slots",
-        ),
-    ] {
+    for &(shape, cause) in BAD_SHAPES {
         assert!(rt; refuses_shape(&rt, shape, cause)?, "{shape}");
     }
     assert!(rt; holds(&rt, "shape.img", &image(&rt, &[])?)?);
@@ -630,75 +645,80 @@ fn a_volume_has_two_journals(rt: HostRuntime) -> Result<(), Fail> {
     assert!(rt; holds(&rt, "two.img", &image_of_two(&rt, &[])?)?);
     assert!(rt; prints(&rt, "dump|two.img", 0, "a 5000\nb 4096\n", "")?);
 
-    // Mark 1 has 65 in the first page of `a`, mark 2 has 66 there.
-    let journals = [
-        (4096, 0xA7),
-        (8199, 1),
-        (8203, 1),
-        (8211, 13),
-        (12_288, 65),
-        (28_672, 0xA7),
-        (32_775, 2),
-        (32_779, 1),
-        (32_787, 13),
-        (36_864, 66),
-    ];
-    let open = image_of_two(&rt, &journals)?;
-    fs::write(&rt, "two.img", open.as_slice())?;
-    let dump = "a 5000\n000000000000 42 00 00 00 00 00 00 00 00 00 00 00 00 00 00 00\nb 4096\n";
-    assert!(rt; prints(&rt, "dump|two.img", 0, dump, "")? && holds(&rt, "two.img", &open)?);
+    fs::write(&rt, "two.img", image_of_two(&rt, &BOTH_OPEN)?)?;
+    assert!(rt; prints(&rt, "dump|two.img", 0, DUMP_OF_TWO, "")?);
+    assert!(rt; holds(&rt, "two.img", &image_of_two(&rt, &BOTH_OPEN)?)?);
 
     fs::write(&rt, "two.json", script(rt.alloc(), "")?)?;
     assert!(rt; prints(&rt, "run|two.img|two.json", 0, "", "")?);
-    let mut opened = open;
-    put(&mut opened, 4096, &[0]);
-    put(&mut opened, 28_672, &[0]);
-    put(&mut opened, 53_248, &[66]);
-    assert!(rt; holds(&rt, "two.img", &opened)?);
+    assert!(rt; holds(&rt, "two.img", &image_of_two(&rt, &BOTH_CLOSED)?)?);
     remove(&rt, &["two.img", "two.json"])?;
     Ok(())
+}
+
+// Mark 1 has 65 in the first page of `a`, mark 2 has 66 there, and both journals are open.
+const BOTH_OPEN: [(usize, u8); 10] = [
+    (4096, 0xA7),
+    (8199, 1),
+    (8203, 1),
+    (8211, 13),
+    (12_288, 65),
+    (28_672, 0xA7),
+    (32_775, 2),
+    (32_779, 1),
+    (32_787, 13),
+    (36_864, 66),
+];
+
+// They are closed, and home block 13 has what the newer one has.
+const BOTH_CLOSED: [(usize, u8); 9] = [
+    (8199, 1),
+    (8203, 1),
+    (8211, 13),
+    (12_288, 65),
+    (32_775, 2),
+    (32_779, 1),
+    (32_787, 13),
+    (36_864, 66),
+    (53_248, 66),
+];
+
+const DUMP_OF_TWO: &str =
+    "a 5000\n000000000000 42 00 00 00 00 00 00 00 00 00 00 00 00 00 00 00\nb 4096\n";
+
+// A commit, and a second one while the first isn't applied yet.
+const TWO_COMMITS: &str =
+    r#"[0,"create"],[0,"map",1,4096,12288,0,0,"rw","rw"],[0,"switch",1,"drop"],[0,"store",4096,[65]],[0,"fix",4096,"write"],[0,"store",4096,[65]],[0,"msync",4096,4096,1],[0,"change"],[0,"flush"],[0,"flush"],[0,"flush"],[0,"flush"],[0,"flush"],[0,"store",4096,[66]],[0,"fix",4096,"write"],[0,"store",4096,[66]],[0,"msync",4096,4096,1],[0,"change"],[0,"flush"],[0,"flush"],[0,"flush"],[0,"flush"],[0,"flush"],[0,"msync",4096,4096,1]"#;
+
+const TWO_COMMITTED: &str =
+    "space 1\nmapped\nswitched\nfault 6\nfixed\nstored\nbegun\nmarked 1\ngoing\ngoing\ngoing\ngoing\ncommitted 1\nfault 7\nfixed\nstored\nbegun\nmarked 2\ngoing\ngoing\ngoing\ngoing\ncommitted 2\nbusy\n";
+
+// Their applications.
+const TWO_FLUSHES: &str =
+    r#"[0,"flush"],[0,"flush"],[0,"flush"],[0,"flush"],[0,"flush"],[0,"flush"],[0,"flush"],[0,"flush"],[0,"flush"]"#;
+
+const TWO_DONE: &str = "going\ngoing\ngoing\ndone 1\ngoing\ngoing\ngoing\ndone 2\nnothing\n";
+
+// Whether steps on a fresh volume of layout 2 are answered so, and it then has the second commit's byte.
+fn follows(rt: &HostRuntime, steps: &str, replies: &str) -> io::Result<bool> {
+    let _made = famsync(rt, "format|--layout|2|follows.img|4|a=5000|b=4096")?;
+    fs::write(rt, "follows.json", script(rt.alloc(), steps)?)?;
+    Ok(
+        prints(rt, "run|follows.img|follows.json", 0, replies, "")?
+            && prints(rt, "dump|follows.img", 0, DUMP_OF_TWO, "")?,
+    )
 }
 
 // A second commit while the first isn't applied yet: each in a journal of its own.
 #[test]
 fn a_commit_follows_one_that_is_not_applied(rt: HostRuntime) -> Result<(), Fail> {
-    let _made = famsync(&rt, "format|--layout|2|follows.img|4|a=5000|b=4096")?;
-    let first =
-        r#"[0,"create"],[0,"map",1,4096,12288,0,0,"rw","rw"],[0,"switch",1,"drop"],[0,"store",4096,[65]],[0,"fix",4096,"write"],[0,"store",4096,[65]],[0,"msync",4096,4096,1],[0,"change"],[0,"flush"],[0,"flush"],[0,"flush"],[0,"flush"],[0,"flush"]"#;
-    let second =
-        r#"[0,"store",4096,[66]],[0,"fix",4096,"write"],[0,"store",4096,[66]],[0,"msync",4096,4096,1],[0,"change"],[0,"flush"],[0,"flush"],[0,"flush"],[0,"flush"],[0,"flush"],[0,"msync",4096,4096,1]"#;
-    let rest =
-        r#"[0,"flush"],[0,"flush"],[0,"flush"],[0,"flush"],[0,"flush"],[0,"flush"],[0,"flush"],[0,"flush"],[0,"flush"]"#;
-    let until_second =
-        "space 1\nmapped\nswitched\nfault 6\nfixed\nstored\nbegun\nmarked 1\ngoing\ngoing\ngoing\ngoing\ncommitted 1\nfault 7\nfixed\nstored\nbegun\nmarked 2\ngoing\ngoing\ngoing\ngoing\ncommitted 2\nbusy\n";
-    let until_end = "going\ngoing\ngoing\ndone 1\ngoing\ngoing\ngoing\ndone 2\nnothing\n";
-
     // The run ends with both journals open: their marks are 1 and 2, and home block 13 has its old bytes.
-    let steps = format!(in rt.alloc(); "{first},{second}")?;
-    fs::write(&rt, "follows.json", script(rt.alloc(), steps.as_str())?)?;
-    assert!(rt; prints(&rt, "run|follows.img|follows.json", 0, until_second, "")?);
-    let journals = [
-        (4096, 0xA7),
-        (8199, 1),
-        (8203, 1),
-        (8211, 13),
-        (12_288, 65),
-        (28_672, 0xA7),
-        (32_775, 2),
-        (32_779, 1),
-        (32_787, 13),
-        (36_864, 66),
-    ];
-    assert!(rt; holds(&rt, "follows.img", &image_of_two(&rt, &journals)?)?);
-    let dump = "a 5000\n000000000000 42 00 00 00 00 00 00 00 00 00 00 00 00 00 00 00\nb 4096\n";
-    assert!(rt; prints(&rt, "dump|follows.img", 0, dump, "")?);
+    assert!(rt; follows(&rt, TWO_COMMITS, TWO_COMMITTED)?);
+    assert!(rt; holds(&rt, "follows.img", &image_of_two(&rt, &BOTH_OPEN)?)?);
 
-    let _made = famsync(&rt, "format|--layout|2|follows.img|4|a=5000|b=4096")?;
-    let steps = format!(in rt.alloc(); "{first},{second},{rest}")?;
-    let replies = format!(in rt.alloc(); "{until_second}{until_end}")?;
-    fs::write(&rt, "follows.json", script(rt.alloc(), steps.as_str())?)?;
-    assert!(rt; prints(&rt, "run|follows.img|follows.json", 0, replies.as_str(), "")?);
-    assert!(rt; prints(&rt, "dump|follows.img", 0, dump, "")?);
+    let steps = format!(in rt.alloc(); "{TWO_COMMITS},{TWO_FLUSHES}")?;
+    let replies = format!(in rt.alloc(); "{TWO_COMMITTED}{TWO_DONE}")?;
+    assert!(rt; follows(&rt, steps.as_str(), replies.as_str())?);
     remove(&rt, &["follows.img", "follows.json"])?;
     Ok(())
 }
@@ -766,74 +786,89 @@ fn files_are_made_anew(rt: HostRuntime) -> Result<(), Fail> {
     Ok(())
 }
 
+// What is changed in the image of a volume, and what is said of it then.
+const SPOILT_IMAGES: &[(&[(usize, u8)], &str)] = &[
+    (&[(0, b'G')], FOREIGN),
+    (&[(7, b'2')], SPOILT),
+    (&[(7, b'5')], FOREIGN),
+    // The count of files.
+    (&[(11, 0)], SPOILT),
+    (&[(11, 65)], SPOILT),
+    // The record slots, and the number of blocks.
+    (&[(15, 0)], SPOILT),
+    (&[(14, 3), (15, 0xFD)], SPOILT),
+    (&[(15, 5)], SPOILT),
+    (&[(19, 9)], SPOILT),
+    (&[(19, 11)], SPOILT),
+    (&[(20, 1)], SPOILT),
+    // Names, and the length of `a`.
+    (&[(80, b'a')], SPOILT),
+    (&[(34, b'a')], SPOILT),
+    (&[(32, b' ')], SPOILT),
+    (&[(70, 0), (71, 0)], SPOILT),
+    (&[(70, 0x10), (71, 0)], SPOILT),
+    (&[(70, 0x20), (71, 1)], SPOILT),
+    (&[(4095, 1)], SPOILT),
+    // An open gate over a descriptor of zeros, and with its mark, its count and its home blocks changed.
+    (&[(4096, 0xA7)], SPOILT_JOURNAL),
+    (&[(4096, 0xA7), (8199, 1)], SPOILT_JOURNAL),
+    (
+        &[(4096, 0xA7), (8199, 1), (8203, 5), (8211, 7), (8215, 8)],
+        SPOILT_JOURNAL,
+    ),
+    (&[(4096, 0xA7), (8203, 1), (8211, 7)], SPOILT_JOURNAL),
+    (
+        &[(4096, 0xA7), (8199, 1), (8203, 2), (8211, 8), (8215, 7)],
+        SPOILT_JOURNAL,
+    ),
+    (
+        &[(4096, 0xA7), (8199, 1), (8203, 2), (8211, 7), (8215, 7)],
+        SPOILT_JOURNAL,
+    ),
+    (
+        &[(4096, 0xA7), (8199, 1), (8203, 1), (8211, 6)],
+        SPOILT_JOURNAL,
+    ),
+    (
+        &[(4096, 0xA7), (8199, 1), (8203, 1), (8211, 10)],
+        SPOILT_JOURNAL,
+    ),
+];
+
 // Images that no volume has, what is said of each, and that none is written to.
 #[test]
 fn images_are_refused(rt: HostRuntime) -> Result<(), Fail> {
     fs::write(&rt, "images.json", FIRST_SCRIPT)?;
-    let rows: [(&[(usize, u8)], &str); 26] = [
-        (&[(0, b'G')], FOREIGN),
-        (&[(7, b'2')], SPOILT),
-        (&[(7, b'5')], FOREIGN),
-        // The count of files.
-        (&[(11, 0)], SPOILT),
-        (&[(11, 65)], SPOILT),
-        // The record slots, and the number of blocks.
-        (&[(15, 0)], SPOILT),
-        (&[(14, 3), (15, 0xFD)], SPOILT),
-        (&[(15, 5)], SPOILT),
-        (&[(19, 9)], SPOILT),
-        (&[(19, 11)], SPOILT),
-        (&[(20, 1)], SPOILT),
-        // Names, and the length of `a`.
-        (&[(80, b'a')], SPOILT),
-        (&[(34, b'a')], SPOILT),
-        (&[(32, b' ')], SPOILT),
-        (&[(70, 0), (71, 0)], SPOILT),
-        (&[(70, 0x10), (71, 0)], SPOILT),
-        (&[(70, 0x20), (71, 1)], SPOILT),
-        (&[(4095, 1)], SPOILT),
-        // An open gate over a descriptor of zeros, and with its mark, its count and its home blocks changed.
-        (&[(4096, 0xA7)], SPOILT_JOURNAL),
-        (&[(4096, 0xA7), (8199, 1)], SPOILT_JOURNAL),
-        (
-            &[(4096, 0xA7), (8199, 1), (8203, 5), (8211, 7), (8215, 8)],
-            SPOILT_JOURNAL,
-        ),
-        (&[(4096, 0xA7), (8203, 1), (8211, 7)], SPOILT_JOURNAL),
-        (
-            &[(4096, 0xA7), (8199, 1), (8203, 2), (8211, 8), (8215, 7)],
-            SPOILT_JOURNAL,
-        ),
-        (
-            &[(4096, 0xA7), (8199, 1), (8203, 2), (8211, 7), (8215, 7)],
-            SPOILT_JOURNAL,
-        ),
-        (
-            &[(4096, 0xA7), (8199, 1), (8203, 1), (8211, 6)],
-            SPOILT_JOURNAL,
-        ),
-        (
-            &[(4096, 0xA7), (8199, 1), (8203, 1), (8211, 10)],
-            SPOILT_JOURNAL,
-        ),
-    ];
-    for (changes, cause) in rows {
+    for &(changes, cause) in SPOILT_IMAGES {
         assert!(rt;
             is_refused(&rt, &image(&rt, changes)?, cause)?,
             "{changes:?}"
         );
     }
-    let whole = image(&rt, &[])?;
-    let empty = "notavolume: the file has 0 bytes, and a volume has 4096 at least";
-    assert!(rt; is_refused(&rt, &[], empty)?);
-    let part = whole.get(..4095).ok_or("short")?;
-    let short = "notavolume: the file has 4095 bytes, and a volume has 4096 at least";
-    assert!(rt; is_refused(&rt, part, short)?);
-    let part = whole.get(..36_864).ok_or("short")?;
-    let cut = "damaged: the file has 36864 bytes, and its super block says 40960";
-    assert!(rt; is_refused(&rt, part, cut)?);
+    for (len, cause) in [
+        (
+            0,
+            "notavolume: the file has 0 bytes, and a volume has 4096 at least",
+        ),
+        (
+            4095,
+            "notavolume: the file has 4095 bytes, and a volume has 4096 at least",
+        ),
+        (
+            36_864,
+            "damaged: the file has 36864 bytes, and its super block says 40960",
+        ),
+    ] {
+        assert!(rt; refuses_part(&rt, len, cause)?, "{len}");
+    }
     remove(&rt, &["images.img", "images.json"])?;
     Ok(())
+}
+
+// Whether so many bytes of the image of a volume are refused so.
+fn refuses_part(rt: &HostRuntime, len: usize, cause: &str) -> io::Result<bool> {
+    let whole = image(rt, &[])?;
+    is_refused(rt, whole.get(..len).unwrap_or(&whole), cause)
 }
 
 const FOREIGN: &str = "notavolume: the file doesn't begin with FAMSYNC1 or FAMSYNC2";
