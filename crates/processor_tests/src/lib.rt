@@ -15,6 +15,8 @@ mod frame_lists;
 #[cfg(test)]
 mod mapped;
 #[cfg(test)]
+mod queues;
+#[cfg(test)]
 mod setup;
 #[cfg(test)]
 mod shootdowns;

@@ -270,6 +270,3 @@ fn forget(may_cache: &mut [bool], action: Invpcid, space: Pcid)
         }
     }
 }
-
-#[cfg(test)]
-mod tests;

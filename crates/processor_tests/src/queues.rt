@@ -1,0 +1,289 @@
+// One processor beside a plain program, which scans a list of entries and keeps all that it was told, while another
+// processor changes mappings.
+ghost use Rattle.std.specs.Prelude.{◌≤◌, ◌+◌, ◌^◌};
+ghost use Rattle.shootdown.specs.Calls.{HasUserPages};
+
+use mappings::PageRange;
+use page_entry::{PageNumber, Pcid};
+use pcid_tlb::{CachedEntry, Invpcid};
+use shootdown::{ProcState, Shootdown};
+use spaces::{Change, Spaces};
+use std::alloc::{AllocError, Global};
+use std::test::Fail;
+
+const CAPACITY: usize = 5;
+
+#[derive(Drop)]
+struct Plain {
+    space: Pcid,
+    entries: Vec<CachedEntry>,
+    told: Vec<Invpcid>,
+    // The PCIDs that were switched to and not dropped whole since.
+    known: Vec<Pcid>,
+}
+
+fn drops_pcid(action: Invpcid, pcid: Pcid) -> bool {
+    match action {
+        Invpcid::IndividualAddress(..) => false,
+        Invpcid::SingleContext(named) => named == pcid,
+        Invpcid::AllContextsAndGlobals | Invpcid::AllContexts => true,
+    }
+}
+
+fn drops(action: Invpcid, entry: CachedEntry) -> bool {
+    match action {
+        Invpcid::IndividualAddress(pcid, page) => entry.pcid == pcid && entry.page == page,
+        Invpcid::SingleContext(_) | Invpcid::AllContextsAndGlobals | Invpcid::AllContexts => {
+            drops_pcid(action, entry.pcid)
+        }
+    }
+}
+
+impl Plain {
+    fn new(alloc: Global) -> Result<Self, AllocError> {
+        Ok(Plain {
+            space: 0,
+            entries: Vec::new(alloc),
+            told: Vec::new(alloc),
+            known: vec![in alloc; 0]?,
+        })
+    }
+
+    fn cached(&self, page: PageNumber) -> Option<CachedEntry> {
+        for entry in &self.entries {
+            if entry.pcid == self.space && entry.page == page {
+                return Some(*entry);
+            }
+        }
+        None
+    }
+
+    fn fill(&mut self, entry: CachedEntry) -> Result<(), AllocError> {
+        self.entries
+            .retain(|e| !(e.pcid == entry.pcid && e.page == entry.page));
+        if self.entries.len() == CAPACITY {
+            self.entries.remove(0);
+        }
+        self.entries.push(entry)?;
+        Ok(())
+    }
+
+    // Whether there was an entry in this place.
+    fn evict(&mut self, slot: usize) -> bool {
+        let is_there = slot < self.entries.len();
+        if is_there {
+            self.entries.remove(slot);
+        }
+        is_there
+    }
+
+    fn tell(&mut self, action: Invpcid) -> Result<(), AllocError> {
+        let concerned = match action {
+            Invpcid::IndividualAddress(pcid, _) | Invpcid::SingleContext(pcid) => {
+                self.known.contains(&pcid)
+            }
+            Invpcid::AllContextsAndGlobals | Invpcid::AllContexts => true,
+        };
+        if concerned {
+            self.told.push(action)?;
+        }
+        Ok(())
+    }
+
+    // Up to 4 pages are told one by one.
+    fn tell_range(&mut self, pcid: Pcid, first: u64, count: u64) -> Result<(), AllocError> {
+        if count > 4 {
+            return self.tell(Invpcid::SingleContext(pcid));
+        }
+        for page in first..first.saturating_add(count) {
+            self.tell(Invpcid::IndividualAddress(pcid, page))?;
+        }
+        Ok(())
+    }
+
+    // What nine or more invalidations name isn't told apart: they drop everything.
+    fn drain(&mut self) {
+        let space = self.space;
+        if self.told.len() > 8 {
+            self.entries.clear();
+            self.known.retain(|pcid| *pcid == space);
+        }
+        for action in &self.told {
+            let action = *action;
+            self.entries.retain(|e| !drops(action, *e));
+            self.known
+                .retain(|pcid| *pcid == space || !drops_pcid(action, *pcid));
+        }
+        self.told.clear();
+    }
+
+    fn switch(&mut self, pcid: Pcid, keep: bool) -> Result<(), AllocError> {
+        self.drain();
+        self.space = pcid;
+        if !keep {
+            self.entries.retain(|e| e.pcid != pcid);
+        }
+        if !self.known.contains(&pcid) {
+            self.known.push(pcid)?;
+        }
+        Ok(())
+    }
+}
+
+// Processor 0 with the plain program beside it, and processor 1, which stays in space 0.
+#[derive(Drop)]
+struct Pair {
+    shootdown: Shootdown,
+    spaces: Spaces,
+    plain: Plain,
+}
+
+fn three_spaces(alloc: Global) -> Result<Spaces, Fail> {
+    let mut spaces = Spaces::new(alloc)?;
+    for _ in 0..3 {
+        spaces.create()?;
+    }
+    Ok(spaces)
+}
+
+impl Pair {
+    fn new(alloc: Global) -> Result<Self, Fail> {
+        let spaces = three_spaces(alloc)?;
+        let shootdown = Shootdown::new(alloc, 2, CAPACITY)?;
+        Ok(Pair {
+            shootdown,
+            spaces,
+            plain: Plain::new(alloc)?,
+        })
+    }
+
+    fn fill(&mut self, number: u64) -> Result<(), AllocError> {
+        if self.shootdown.state(0).is_ok() {
+            let entry = CachedEntry {
+                pcid: self.shootdown.space(0),
+                page: number % 6,
+                frame: (number / 6 % 100) as u32,
+                writable: number / 600 % 2 == 1,
+                dirty: number / 1200 % 2 == 1,
+            };
+            self.shootdown.fill(0, entry);
+            self.plain.fill(entry)?;
+        }
+        Ok(())
+    }
+
+    // Whether both have an entry in this place, or neither has.
+    fn evict(&mut self, slot: usize) -> bool {
+        self.shootdown.state(0).is_ok() && self.shootdown.evict(0, slot) == self.plain.evict(slot)
+    }
+
+    // Processor 1 makes a change, for which processor 0 stalls if it is interrupted. Whether it was.
+    fn change(&mut self, change: Change) -> Result<bool, Fail>
+        requires { HasUserPages change }
+    {
+        self.shootdown.admit_free(1)?;
+        self.shootdown.begin(1, &self.spaces, change);
+        let interrupted = self.shootdown.state(0)? == ProcState::Interrupted;
+        self.shootdown.ack(0)?;
+        if self.shootdown.change(1)?.is_some() {
+            self.shootdown.finish(1);
+        }
+        self.shootdown.resume(0)?;
+        Ok(interrupted)
+    }
+
+    // Some pages of a space are unmapped. Whether its own processor alone was interrupted, which drops them then.
+    fn unmap(&mut self, pcid: Pcid, first: u64, count: u64) -> Result<bool, Fail>
+        requires { first + count ≤ 2 ^ 35 }
+    {
+        let range = PageRange { first, count };
+        let interrupted = self.change(Change::Unmap { pcid, range })?;
+        self.plain.tell_range(pcid, first, count)?;
+        let is_here = self.plain.space == pcid;
+        if is_here {
+            self.plain.drain();
+        }
+        Ok(interrupted == is_here)
+    }
+
+    // A mark: all are interrupted.
+    fn mark(&mut self) -> Result<bool, Fail> {
+        let interrupted = self.change(Change::Checkpoint)?;
+        self.plain.tell(Invpcid::AllContexts)?;
+        self.plain.drain();
+        Ok(interrupted)
+    }
+
+    // A space goes, if nobody is in it.
+    fn forget(&mut self, pcid: Pcid) -> Result<(), AllocError> {
+        if !self.shootdown.is_current(pcid) {
+            self.shootdown.forget(pcid);
+            self.plain.tell(Invpcid::SingleContext(pcid))?;
+        }
+        Ok(())
+    }
+
+    fn switch(&mut self, pcid: Pcid, keep: bool) -> Result<(), Fail> {
+        self.shootdown.switch(0, &self.spaces, pcid, keep)?;
+        self.plain.switch(pcid, keep)?;
+        Ok(())
+    }
+
+    // A step that this number chooses. Whether both answer alike.
+    fn step(&mut self, number: u64) -> Result<bool, Fail> {
+        let argument = number / 16;
+        let pcid = (argument % 3 + 1) as Pcid;
+        match number % 16 {
+            0..=7 => self.fill(argument)?,
+            8 => return Ok(self.evict((argument % 6) as usize)),
+            9..=11 => return self.unmap(pcid, argument / 3 % 6, argument / 18 % 6 + 1),
+            12 if argument % 8 == 0 => return self.mark(),
+            12 => self.forget(pcid)?,
+            _ => self.switch(pcid, argument / 3 % 3 > 0)?,
+        }
+        Ok(true)
+    }
+
+    // Whether both cache the same for each page, and may cache the same PCIDs.
+    fn agrees(&self) -> bool {
+        if self.shootdown.state(0).is_err() {
+            return false;
+        }
+        for page in 0..6 {
+            if self.shootdown.cached(0, page) != self.plain.cached(page) {
+                return false;
+            }
+        }
+        for pcid in 0..4 {
+            if self.shootdown.may_cache(0, pcid) != self.plain.known.contains(&pcid) {
+                return false;
+            }
+        }
+        true
+    }
+
+    // Whether they agree after each of so many steps.
+    fn agree_for(&mut self, steps: u32) -> Result<bool, Fail> {
+        let mut seed = 1989;
+        for _ in 0..steps {
+            seed = next(seed);
+            if !self.step(seed >> 32)? || !self.agrees() {
+                return Ok(false);
+            }
+        }
+        Ok(true)
+    }
+}
+
+// The next of a fixed run of pseudo-random numbers.
+fn next(seed: u64) -> u64 {
+    seed.wrapping_mul(6_364_136_223_846_793_005)
+        .wrapping_add(1_442_695_040_888_963_407)
+}
+
+#[test]
+fn agrees_with_a_scanned_list(rt: HostRuntime) -> Result<(), Fail> {
+    let mut pair = Pair::new(rt.alloc())?;
+    assert!(rt; pair.agree_for(6_000)?);
+    Ok(())
+}
