@@ -17,6 +17,7 @@ pub record Hardware : Type 0 where
   pub spaces : Spaces
   pub memory : FramesState
 
+-- the hardware with these processors, page tables and frames
 abbrev pub hardware : ShootdownState → Spaces → FramesState → Hardware
 hardware shootdown spaces memory = record { shootdown = shootdown; spaces = spaces; memory = memory }
 
@@ -104,6 +105,7 @@ pub record Faults (h : Hardware) (p va count : ℕ) (write : Bool) (code : ℕ) 
   pub fault : translated h p (va / 4096) write ≡ Err code
   pub dropped : new ≡ faulted h p (va / 4096)
 
+-- processor p loaded count bytes at va: they are those of the frame that the translation reaches
 pub record LoadMade (h : Hardware) (p va count : ℕ) (bytes : List ℕ) (new : Hardware) : Type 0 where
   pub running : not_running h.shootdown p ≡ None
   pub access : IsAccess va count
@@ -113,6 +115,7 @@ pub record LoadMade (h : Hardware) (p va count : ℕ) (bytes : List ℕ) (new : 
   -- the bytes of that frame
   pub read : bytes ≡ take count (drop (va % 4096) (bytes_of (frame_at h.memory frame)))
 
+-- processor p stored these bytes at va: they went into the frame that the translation reaches, and into no other
 pub record StoreMade (h : Hardware) (p va : ℕ) (bytes : List ℕ) (new : Hardware) : Type 0 where
   pub running : not_running h.shootdown p ≡ None
   pub access : IsAccess va (length bytes)
@@ -128,6 +131,7 @@ Loads h p va count (Ok bytes) new = LoadMade h p va count bytes new
 Loads h p va count (Err (refusals.Fault code)) new = Faults h p va count false code new
 Loads h p va count (Err why) new = AccessRefused h p va count why × (new ≡ h)
 
+-- a store is made, or is refused
 abbrev pub Stores : Hardware → ℕ → ℕ → List ℕ → Result (Unit {0}) Refusal → Hardware → Type 0
 Stores h p va bytes (Ok done) new = StoreMade h p va bytes new
 Stores h p va bytes (Err (refusals.Fault code)) new = Faults h p va (length bytes) true code new
@@ -139,6 +143,7 @@ abbrev pub filled_by : Hardware → ℕ → ℕ → Option Mapped → Bool × Ha
 filled_by h p page None = (false, h)
 filled_by h p page (Some entry) = (true, walked h p page (record entry { accessed = true }))
 
+-- processor p's TLB is filled so with a page of its current space; Einval where there is no such processor
 abbrev pub Fills : Hardware → ℕ → ℕ → Result Bool Refusal → Hardware → Type 0
 Fills h p page (Ok there) new =
     (is_there h.shootdown p ≡ true)

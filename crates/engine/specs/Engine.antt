@@ -35,11 +35,12 @@ abbrev pub HasRefused : {D : Type 0} → Ghosts D → D → Shape → D → Refu
 HasRefused disk before shape after refusal = Opens disk before (Err refusal) after
     ⊎ ((table : SuperValue) × Opens disk before (Ok table) after × RefusesShape table shape refusal)
 
--- the device that is handed back, as long and as honest as it was: so the same can be done on it again
+-- the device that is handed back, whether a run was made or refused
 abbrev pub handed_back : {D : Type 0} → Result D (Refusal × D) → D
 handed_back (Ok after) = after
 handed_back (Err refused) = refused.1
 
+-- the device is as honest and as long as it was: so the same can be done on it again
 pub record KeepsDevice {D : Type 0} (disk : Ghosts D) (before after : D) : Type 0 where
   pub honest : disk.is_honest after ↔ disk.is_honest before
   pub len : length (disk.seen after) ≡ length (disk.seen before)

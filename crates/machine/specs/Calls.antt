@@ -50,6 +50,8 @@ FlushCalls s (replies.Refused refusals.Device) calls calls' faults faults' =
     (calls < 2 ^ 64 - 2 → HasFailed (work_asked s) calls calls') × (faults' ≡ raised faults)
 FlushCalls s reply calls calls' faults faults' = (calls' ≡ calls) × (faults' ≡ faults)
 
+-- the numbers of calls and of failed calls before a step of processor p and after it: serving a fault and a step of a
+-- write-out change them as above, and no other act does
 abbrev pub CallsOf : State → ℕ → Act → Reply → ℕ → ℕ → ℕ → ℕ → Type 0
 CallsOf s p (acts.Fix va write) reply calls calls' faults faults' =
     FixCalls (reads_page s p va write) reply calls calls' faults faults'

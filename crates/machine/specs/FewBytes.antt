@@ -15,5 +15,6 @@ pub record IsFew (bytes : List ℕ) (len : ℕ) : Type 0 where
   pub counted : length (first_bytes bytes len) ≡ len
   pub rest : padded_to_8 (first_bytes bytes len) ≡ bytes
 
+-- the first len of such bytes, with zeros up to eight, are these bytes again
 pub padded_again : (bytes : List ℕ) (len : ℕ) → IsFew bytes len → padded_to_8 (first_bytes bytes len) ≡ bytes
 padded_again bytes len is = is.rest

@@ -36,6 +36,7 @@ fresh table lengths shape = record {
   marks = 0;
 }
 
+-- the machine is as boot leaves it, of some shape that it can have over its volume
 pub record IsFresh (s : State) : Type 0 where
   pub shape : Shape
   pub fits : IsShape s.table shape

@@ -76,7 +76,8 @@ unmarked_after before (Acknowledge number ∷ events) = unmarked_after before ev
 abbrev pub has_unmarked : List Event → Bool
 has_unmarked history = unmarked_after false history
 
--- whether the page of a file got a store after the last mark, where this says whether it had one before
+-- whether a store to this page of a file stands after the last mark of a history, where this says whether one stood
+-- there before it
 abbrev pub touched_after : ℕ → ℕ → Bool → List Event → Bool
 touched_after file page before [] = before
 touched_after file page before (Store f offset bytes ∷ events) =
@@ -84,7 +85,7 @@ touched_after file page before (Store f offset bytes ∷ events) =
 touched_after file page before (Mark number ∷ events) = touched_after file page false events
 touched_after file page before (Acknowledge number ∷ events) = touched_after file page before events
 
--- whether the page of a file got a store after the last mark
+-- whether a store to this page of a file stands after the last mark of a history, or anywhere in one without marks
 abbrev pub is_touched : List Event → ℕ → ℕ → Bool
 is_touched history file page = touched_after file page false history
 

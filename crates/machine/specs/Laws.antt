@@ -44,6 +44,7 @@ pub record LoadsLatest (files : List File) (told : Told) (p va count : ℕ) (byt
   pub leads : place_told told p va ≡ Some place
   pub latest : bytes ≡ take count (drop (va % 4096) (after (memory_of files) told.history place.file place.page))
 
+-- a load that answers gives the latest answered stores; of every other act or reply nothing is said
 abbrev pub LoadLaw : List File → Told → ℕ → Act → Reply → Type 0
 LoadLaw files told p (acts.Load va count) (replies.Bytes bytes) = LoadsLatest files told p va count bytes
 LoadLaw files told p act reply = Unit {0}
@@ -59,6 +60,7 @@ pub record StoresAtPlace (told : Told) (p va : ℕ) : Type 0 where
   pub allowed : may_write place.rights ≡ true
   pub inside : IsInside told place
 
+-- a store that answers stands at a place that allows it; of every other act or reply nothing is said
 abbrev pub StoreLaw : Told → ℕ → Act → Reply → Type 0
 StoreLaw told p (acts.Store va bytes) replies.Stored = StoresAtPlace told p va
 StoreLaw told p act reply = Unit {0}

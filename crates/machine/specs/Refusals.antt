@@ -37,10 +37,14 @@ abbrev pub why_not : {X : Type 0} → Result X Refusal → Option Refusal
 why_not (Ok x) = None
 why_not (Err why) = Some why
 
+-- the first reason against a switch, in this order: no such processor; it isn't running; the lock is held (these three
+-- are `not_free`); no such space
 abbrev pub switch_refusal : State → ℕ → ℕ → Option Refusal
 switch_refusal s p pcid =
     first_of (not_free s.hardware.shootdown p ∷ refuse_if (not (has_space s.hardware.spaces pcid)) refusals.Einval ∷ [])
 
+-- the first reason against a destroy, in this order: those of `not_free`; no such space, or space 0; it is the current
+-- space of a processor
 abbrev pub destroy_refusal : State → ℕ → ℕ → Option Refusal
 destroy_refusal s p pcid =
     first_of (not_free s.hardware.shootdown p ∷ refuse_if (not (is_user_space s.hardware.spaces pcid)) refusals.Einval
@@ -54,15 +58,20 @@ mapping_refusal s pcid file prot access (Ok pages) =
     ∷ add_refusal (space_at s.hardware.spaces pcid).places pages.0
     (record { file = file; page = pages.1; rights = prot; access = access }) ∷ [])
 
+-- the first reason against a map, in this order: those of `not_free`; the space, the range or the offset; no such file;
+-- writing, where the file was opened for reading alone; a page of the range is mapped already
 abbrev pub map_refusal : State → ℕ → ℕ → ℕ → ℕ → ℕ → ℕ → Rights → Rights → Option Refusal
 map_refusal s p pcid va len file offset prot access =
     first_of (not_free s.hardware.shootdown p
     ∷ mapping_refusal s pcid file prot access (judged_mapping s.hardware.spaces pcid va len offset) ∷ [])
 
+-- the first reason against an unmap, in this order: those of `not_free`; the space or the range
 abbrev pub unmap_refusal : State → ℕ → ℕ → ℕ → ℕ → Option Refusal
 unmap_refusal s p pcid va len =
     first_of (not_free s.hardware.shootdown p ∷ why_not (judged_range s.hardware.spaces pcid va len) ∷ [])
 
+-- the first reason against a protect, in this order: those of `not_free`; the space or the range; a page of the range
+-- isn't mapped; writing, where the file of one was opened for reading alone
 abbrev pub protect_refusal_of : State → ℕ → ℕ → ℕ → ℕ → Rights → Option Refusal
 protect_refusal_of s p pcid va len prot =
     first_of (not_free s.hardware.shootdown p ∷ why_not (judged_protection s.hardware.spaces pcid va len prot) ∷ [])
@@ -72,6 +81,7 @@ abbrev pub pages_in_file : List TableFile → ℕ → ℕ
 pages_in_file [] file = 0
 pages_in_file (f ∷ fs) file = if file == 0 then pages_of f.capacity else pages_in_file fs (file - 1)
 
+-- the first reason against a reclaim, in this order: those of `not_free`; no such file; no such page of it
 abbrev pub reclaim_refusal : State → ℕ → FilePage → Option Refusal
 reclaim_refusal s p owner =
     first_of (not_free s.hardware.shootdown p ∷ refuse_if (nat_le (length s.table.files) owner.file) refusals.NoFile
@@ -83,6 +93,8 @@ abbrev pub is_msync : ℕ → ℕ → ℕ → Bool
 is_msync va len flags =
     (flags == 1 || flags == 3 || flags == 4 || flags == 6) && va % 4096 == 0 && nat_le (va + len) (2 ^ 47)
 
+-- the first reason against an msync, in this order: those of `not_free`; the range or the flags; a page of the range
+-- isn't mapped in the current space; the machine is broken; no further batch may begin, or marks have come to 2^32 - 1
 abbrev pub msync_refusal : State → ℕ → ℕ → ℕ → ℕ → Option Refusal
 msync_refusal s p va len flags =
     first_of (not_free s.hardware.shootdown p ∷ refuse_if (not (is_msync va len flags)) refusals.Einval
@@ -108,6 +120,7 @@ wait_refusal s p state =
     ∷ refuse_if (waits_in state (state_of s.hardware.shootdown p) && is_some s.hardware.shootdown.lock) refusals.Locked
     ∷ [])
 
+-- the first reason against an idle, in this order: no such processor; it isn't running; it is interrupted
 abbrev pub idle_refusal : State → ℕ → Option Refusal
 idle_refusal s p =
     first_of (not_running s.hardware.shootdown p
@@ -119,6 +132,7 @@ lock_refusal p waiting None = None
 lock_refusal p waiting (Some lock) =
     if lock.holder == p then (if waiting == 0 then None else Some (refusals.NotYet waiting)) else Some refusals.Locked
 
+-- the first reason against a change, in this order: no such processor; that of the lock (`lock_refusal`)
 abbrev pub change_refusal : State → ℕ → Option Refusal
 change_refusal s p =
     first_of (not_there s p ∷ lock_refusal p (interrupted s.hardware.shootdown) s.hardware.shootdown.lock ∷ [])
@@ -129,10 +143,13 @@ served_refusal s write (Err why) = Some why
 served_refusal s write (Ok place) =
     fault_refusal s.hardware.memory s.checkpoint s.write_outs.broken place (length_of s place.file) write
 
+-- the first reason against a fix, in this order: those of `not_free`; that of the address (`place_of_fault`); that of
+-- the place (`fault_refusal`)
 abbrev pub fix_refusal : State → ℕ → ℕ → Bool → Option Refusal
 fix_refusal s p va write =
     first_of (not_free s.hardware.shootdown p
     ∷ served_refusal s write (place_of_fault s.hardware.spaces (current s.hardware.shootdown p) va write) ∷ [])
 
+-- the first reason against a flush, in this order: no such processor; it isn't running; the machine is broken
 abbrev pub flush_refusal : State → ℕ → Option Refusal
 flush_refusal s p = first_of (not_running s.hardware.shootdown p ∷ refuse_if s.write_outs.broken refusals.Broken ∷ [])

@@ -1,7 +1,8 @@
 -- What a machine may reply to each act and what state it then has, by cases on the reply; what never comes is ⊥. Left
--- open are only whether a device call succeeds, what a failed write leaves in its range, which free frame is taken, and
--- whether a growth of memory is refused. Sources: POSIX.1-2024 (mmap, munmap, mprotect, msync), Intel SDM volume 3
--- (4-level paging, TLBs, PCIDs), Black and others 1989 (shootdown), Park, Kelly and Shen 2013 (failure-atomic msync).
+-- open are only whether a device call succeeds; what a step of a write-out leaves in the range that it is to write,
+-- where one of its calls fails, also where that call is a read; which free frame or copy frame is taken; and whether a
+-- growth of memory is refused. Sources: POSIX.1-2024 (mmap, munmap, mprotect, msync), Intel SDM volume 3 (4-level
+-- paging, TLBs, PCIDs), Black and others 1989 (shootdown), Park, Kelly and Shen 2013 (failure-atomic msync).
 use Rattle.std.specs.Prelude.{ℕ, ◌≡◌, ◌≢◌, ◌+◌, ◌/◌, ◌<◌, ◌⊎◌, Bool, true, false, not, List, [], ◌∷◌, map, Option, Some, None, is_some, Result, Ok, Err, slice_index_or, if◌then◌else◌}
 use Rattle.std.specs.FinMap as maps
 use Rattle.page_entry.specs.declared.numbers.FilePage.{FilePage}
@@ -42,33 +43,41 @@ pub record IsRefused (reason : Option Refusal) (why : Refusal) (s new : State) :
   pub reason_is : reason ≡ Some why
   pub unchanged : new ≡ s
 
+-- the machine with this hardware, and all else as it was
 abbrev pub with_hardware : State → Hardware → State
 with_hardware s hardware = record s { hardware = hardware }
 
+-- the machine with these processors and this lock
 abbrev pub with_shootdown : State → ShootdownState → State
 with_shootdown s shootdown = with_hardware s (record s.hardware { shootdown = shootdown })
 
+-- the machine with these address spaces
 abbrev pub with_spaces : State → Spaces → State
 with_spaces s spaces = with_hardware s (record s.hardware { spaces = spaces })
 
 -- ---- loads, stores, fills and evictions: they reach the hardware alone
 
+-- processor p loads count bytes at va: the reply is the bytes that were read, or a refusal, which may be a page fault
 abbrev pub LoadAnswers : Hardware → ℕ → ℕ → ℕ → Reply → Hardware → Type 0
 LoadAnswers h p va count (replies.Bytes bytes) new = Loads h p va count (Ok bytes) new
 LoadAnswers h p va count (replies.Refused why) new = Loads h p va count (Err why) new
 LoadAnswers h p va count reply new = ⊥
 
+-- processor p stores these bytes at va: Stored where they were written, or a refusal, which may be a page fault
 abbrev pub StoreAnswers : Hardware → ℕ → ℕ → List ℕ → Reply → Hardware → Type 0
 StoreAnswers h p va bytes replies.Stored new = Stores h p va bytes (Ok tt) new
 StoreAnswers h p va bytes (replies.Refused why) new = Stores h p va bytes (Err why) new
 StoreAnswers h p va bytes reply new = ⊥
 
+-- the TLB of processor p is filled with a page of its current space: Filled where the page has an entry, which is then
+-- cached, Nothing where it has none
 abbrev pub FillAnswers : Hardware → ℕ → ℕ → Reply → Hardware → Type 0
 FillAnswers h p page replies.Filled new = Fills h p page (Ok true) new
 FillAnswers h p page replies.Nothing new = Fills h p page (Ok false) new
 FillAnswers h p page (replies.Refused why) new = Fills h p page (Err why) new
 FillAnswers h p page reply new = ⊥
 
+-- the TLB of processor p drops the entry in a slot: Evicted where there was one, Nothing where there is no such slot
 abbrev pub EvictAnswers : Hardware → ℕ → ℕ → Reply → Hardware → Type 0
 EvictAnswers h p slot replies.Evicted new = Evicts h p slot (Ok true) new
 EvictAnswers h p slot replies.Nothing new = Evicts h p slot (Ok false) new
@@ -81,12 +90,15 @@ Reaches s Answers new = (hardware : Hardware) × Answers hardware × (new ≡ wi
 
 -- ---- processors that switch, stall, resume, idle and wake
 
+-- processor p carries out its queue and makes the space of this PCID its current one; keep says whether the TLB's
+-- entries of that PCID stay
 abbrev pub Switches : State → ℕ → ℕ → Bool → Reply → State → Type 0
 Switches s p pcid keep replies.Switched new =
     (switch_refusal s p pcid ≡ None) × (new ≡ with_shootdown s (switched_to s.hardware.shootdown p pcid keep))
 Switches s p pcid keep (replies.Refused why) new = IsRefused (switch_refusal s p pcid) why s new
 Switches s p pcid keep reply new = ⊥
 
+-- processor p stalls, if it was interrupted; in any other state nothing happens
 abbrev pub Acknowledges : State → ℕ → Reply → State → Type 0
 Acknowledges s p replies.Acked new =
     (not_there s p ≡ None) × (state_of s.hardware.shootdown p ≡ Interrupted)
@@ -96,6 +108,8 @@ Acknowledges s p replies.Nothing new =
 Acknowledges s p (replies.Refused why) new = IsRefused (not_there s p) why s new
 Acknowledges s p reply new = ⊥
 
+-- processor p, if it is stalled, carries out its queue and goes on, once the lock is free; in any other state nothing
+-- happens
 abbrev pub Resumes : State → ℕ → Reply → State → Type 0
 Resumes s p replies.Resumed new =
     (wait_refusal s p Stalled ≡ None) × (state_of s.hardware.shootdown p ≡ Stalled)
@@ -105,6 +119,8 @@ Resumes s p replies.Nothing new =
 Resumes s p (replies.Refused why) new = IsRefused (wait_refusal s p Stalled) why s new
 Resumes s p reply new = ⊥
 
+-- processor p, if it is idle, carries out its queue and goes on, once the lock is free; in any other state nothing
+-- happens
 abbrev pub Wakes : State → ℕ → Reply → State → Type 0
 Wakes s p replies.Woken new =
     (wait_refusal s p Idle ≡ None) × (state_of s.hardware.shootdown p ≡ Idle)
@@ -113,6 +129,7 @@ Wakes s p replies.Nothing new = (wait_refusal s p Idle ≡ None) × (state_of s.
 Wakes s p (replies.Refused why) new = IsRefused (wait_refusal s p Idle) why s new
 Wakes s p reply new = ⊥
 
+-- processor p goes idle: no change interrupts it until it wakes
 abbrev pub Idles : State → ℕ → Reply → State → Type 0
 Idles s p replies.Idled new = (idle_refusal s p ≡ None) × (new ≡ with_shootdown s (idled s.hardware.shootdown p))
 Idles s p (replies.Refused why) new = IsRefused (idle_refusal s p) why s new
@@ -120,6 +137,8 @@ Idles s p reply new = ⊥
 
 -- ---- spaces and mappings
 
+-- processor p makes a space that maps nothing, of the lowest free PCID; Enomem where none is free, and where one is,
+-- memory may be refused
 abbrev pub Creates : State → ℕ → Reply → State → Type 0
 Creates s p (replies.Space pcid) new =
     (not_free s.hardware.shootdown p ≡ None) × IsLowestFree s.hardware.spaces pcid
@@ -131,6 +150,7 @@ Creates s p (replies.Refused refusals.OutOfMemory) new =
 Creates s p (replies.Refused why) new = IsRefused (not_free s.hardware.shootdown p) why s new
 Creates s p reply new = ⊥
 
+-- processor p took a space away, with its mappings and its entries
 pub record SpaceDestroyed (s : State) (p pcid : ℕ) (new : State) : Type 0 where
   pub allowed : destroy_refusal s p pcid ≡ None
   -- a dirty entry that goes with the space is noted at its frame
@@ -145,11 +165,13 @@ pub record SpaceDestroyed (s : State) (p pcid : ℕ) (new : State) : Type 0 wher
     checkpoint = checkpoint;
   }
 
+-- processor p takes the space of this PCID away: Destroyed where it was taken away
 abbrev pub Destroys : State → ℕ → ℕ → Reply → State → Type 0
 Destroys s p pcid replies.Destroyed new = SpaceDestroyed s p pcid new
 Destroys s p pcid (replies.Refused why) new = IsRefused (destroy_refusal s p pcid) why s new
 Destroys s p pcid reply new = ⊥
 
+-- processor p mapped the pages of the len bytes from va on of a space to a file from the offset on; no entry was made
 pub record MapMade (s : State) (p pcid va len file offset : ℕ) (prot access : Rights) (new : State) : Type 0 where
   pub allowed : map_refusal s p pcid va len file offset prot access ≡ None
   -- the pages, and the page of the file at which they begin
@@ -159,6 +181,8 @@ pub record MapMade (s : State) (p pcid va len file offset : ℕ) (prot access : 
       (with_mapping s.hardware.spaces pcid pages.0
       (record { file = file; page = pages.1; rights = prot; access = access }))
 
+-- processor p maps the pages of the len bytes from va on of a space to a file: Mapped where they are mapped from then
+-- on; where nothing else is against it, memory may be refused
 abbrev pub Maps : State → ℕ → ℕ → ℕ → ℕ → ℕ → ℕ → Rights → Rights → Reply → State → Type 0
 Maps s p pcid va len file offset prot access replies.Mapped new = MapMade s p pcid va len file offset prot access new
 Maps s p pcid va len file offset prot access (replies.Refused refusals.OutOfMemory) new =
@@ -177,6 +201,8 @@ begin_change s p change = with_shootdown s (begun s.hardware.shootdown p s.hardw
 abbrev pub may_split : Spaces → ℕ → PageRange → Type 0
 may_split spaces pcid range = 0 < splits (space_at spaces pcid).places range.first range.count
 
+-- processor p begins to unmap the pages of the len bytes from va on of a space: Begun where one of them is mapped, Fine
+-- where none is, and then nothing is begun
 abbrev pub Unmaps : State → ℕ → ℕ → ℕ → ℕ → Reply → State → Type 0
 Unmaps s p pcid va len replies.Begun new =
     (unmap_refusal s p pcid va len ≡ None) × (range : PageRange)
@@ -193,6 +219,8 @@ Unmaps s p pcid va len (replies.Refused refusals.OutOfMemory) new =
 Unmaps s p pcid va len (replies.Refused why) new = IsRefused (unmap_refusal s p pcid va len) why s new
 Unmaps s p pcid va len reply new = ⊥
 
+-- processor p begins to give the pages of the len bytes from va on of a space these rights: Begun where each of them is
+-- mapped and may have the rights
 abbrev pub Protects : State → ℕ → ℕ → ℕ → ℕ → Rights → Reply → State → Type 0
 Protects s p pcid va len prot replies.Begun new =
     (protect_refusal_of s p pcid va len prot ≡ None) × (range : PageRange)
@@ -205,6 +233,7 @@ Protects s p pcid va len prot (replies.Refused refusals.OutOfMemory) new =
 Protects s p pcid va len prot (replies.Refused why) new = IsRefused (protect_refusal_of s p pcid va len prot) why s new
 Protects s p pcid va len prot reply new = ⊥
 
+-- processor p begins to take a page of a file out of memory: Begun where a frame has it, Nothing where none has
 abbrev pub Reclaims : State → ℕ → FilePage → Reply → State → Type 0
 Reclaims s p owner replies.Begun new =
     (reclaim_refusal s p owner ≡ None) × (is_in_memory s.hardware.memory owner ≡ true)
@@ -214,6 +243,8 @@ Reclaims s p owner replies.Nothing new =
 Reclaims s p owner (replies.Refused why) new = IsRefused (reclaim_refusal s p owner) why s new
 Reclaims s p owner reply new = ⊥
 
+-- processor p begins a commit of all stores, also of those outside the range; va, len and flags only decide whether it
+-- is refused
 abbrev pub Msyncs : State → ℕ → ℕ → ℕ → ℕ → Reply → State → Type 0
 Msyncs s p va len flags replies.Begun new =
     (msync_refusal s p va len flags ≡ None) × (new ≡ begin_change s p changes.Checkpoint)
@@ -234,6 +265,7 @@ end_change s p spaces memory checkpoint = record s {
   checkpoint = checkpoint;
 }
 
+-- processor p made the unmap that it had begun: the pages aren't mapped any more, and their entries are gone
 pub record UnmapMade (s : State) (p : ℕ) (new : State) : Type 0 where
   pub pcid : ℕ
   pub range : PageRange
@@ -243,6 +275,8 @@ pub record UnmapMade (s : State) (p : ℕ) (new : State) : Type 0 where
   pub noted : NotesTaken s.hardware.spaces (IsInRange pcid range) s.checkpoint checkpoint
   pub done : new ≡ end_change s p (without_mapping s.hardware.spaces pcid range) s.hardware.memory checkpoint
 
+-- processor p made the protect that it had begun: the pages that are mapped have the rights, and without the right to
+-- write their entries lose it
 pub record ProtectMade (s : State) (p : ℕ) (new : State) : Type 0 where
   pub pcid : ℕ
   pub range : PageRange
@@ -262,6 +296,7 @@ pub record MayLeave (s : State) (owner : FilePage) (frame : ℕ) : Type 0 where
       ≡ cut_at_end s owner (bytes_of (frame_at s.hardware.memory frame))
   pub whole : s.write_outs.broken ≡ false
 
+-- processor p made the reclaim that it had begun: the page isn't in memory any more
 pub record ReclaimMade (s : State) (p : ℕ) (new : State) : Type 0 where
   pub owner : FilePage
   pub may : MayChange s p (changes.Reclaim owner)
@@ -272,6 +307,7 @@ pub record ReclaimMade (s : State) (p : ℕ) (new : State) : Type 0 where
   pub cleared : EditsEntries (without_entries_of owner s.hardware.spaces) s.hardware.spaces spaces
   pub done : new ≡ end_change s p spaces (without_frame s.hardware.memory frame) s.checkpoint
 
+-- processor p ended the reclaim that it had begun, where the page may not leave memory: spaces and frames are as before
 pub record ReclaimKept (s : State) (p : ℕ) (new : State) : Type 0 where
   pub owner : FilePage
   pub may : MayChange s p (changes.Reclaim owner)
@@ -284,6 +320,8 @@ with_batch s mark [] = s.write_outs
 with_batch s mark (owner ∷ owners) =
     if s.write_outs.broken then s.write_outs else outs_begun s.write_outs mark (map (home_of s.table) (owner ∷ owners))
 
+-- processor p made the mark of the commit that it had begun: the dirty pages are gathered and their entries protected,
+-- and a batch of them begins if there are any and the machine isn't broken
 pub record MarkMade (s : State) (p number : ℕ) (new : State) : Type 0 where
   pub may : MayChange s p changes.Checkpoint
   -- marks are counted from 1
@@ -300,6 +338,8 @@ pub record MarkMade (s : State) (p number : ℕ) (new : State) : Type 0 where
     marks = number;
   }
 
+-- processor p makes the change that it had begun, once no processor is interrupted any more, and the reply says which;
+-- Nothing where the lock is free
 abbrev pub Changes : State → ℕ → Reply → State → Type 0
 Changes s p replies.Unmapped new = UnmapMade s p new
 Changes s p replies.Protected new = ProtectMade s p new
@@ -312,6 +352,7 @@ Changes s p reply new = ⊥
 
 -- ---- faults
 
+-- a fault of processor p at va, of a store or of a load, was served: its page is in memory and has a present entry
 pub record FixMade (s : State) (disk : List ℕ) (p va : ℕ) (write : Bool) (new : State) : Type 0 where
   pub allowed : fix_refusal s p va write ≡ None
   -- where the address leads
@@ -332,6 +373,7 @@ pub record ReadFailed (s : State) (p va : ℕ) (write : Bool) (new : State) : Ty
   pub absent : is_in_memory s.hardware.memory (page_at place) ≡ false
   pub unchanged : new ≡ s
 
+-- processor p has a fault at va served: Fixed where it was served; Device also where the one read of its page failed
 abbrev pub Fixes : State → List ℕ → ℕ → ℕ → Bool → Reply → State → Type 0
 Fixes s disk p va write replies.Fixed new = FixMade s disk p va write new
 Fixes s disk p va write (replies.Refused refusals.Device) new =
@@ -345,13 +387,14 @@ Fixes s disk p va write reply new = ⊥
 abbrev pub next_page : State → FilePage
 next_page s = slice_index_or s.checkpoint.frozen 0 (record { file = 0; page = 0 })
 
--- the bytes of a page as they were at its mark: those in its copy, if it was copied, else those in its frame
+-- the bytes of the first of these frames that is of the page; the other bytes where none is
 abbrev pub bytes_with : FilePage → List (Option Frame) → List ℕ → List ℕ
 bytes_with owner [] other = other
 bytes_with owner (None ∷ frames) other = bytes_with owner frames other
 bytes_with owner (Some frame ∷ frames) other =
     if same_page owner frame.page then frame.bytes else bytes_with owner frames other
 
+-- the bytes of a page as they were at its mark: those in its copy, if it was copied, else those in its frame
 abbrev pub bytes_at_mark : FramesState → FilePage → List ℕ
 bytes_at_mark memory owner = bytes_with owner memory.copies (bytes_with owner memory.frames [])
 
@@ -386,6 +429,7 @@ after_failure s = record s {
   write_outs = outs_after s.write_outs flushed.Device;
 }
 
+-- processor p made the next step of the write-outs, no device call of it failed, and the reply is what the step answers
 pub record FlushMade (s : State) (disk : List ℕ) (p : ℕ) (reply : Reply) (new : State) (disk' : List ℕ) : Type 0 where
   pub allowed : flush_refusal s p ≡ None
   pub some : s.write_outs.batches ≢ []
@@ -394,12 +438,16 @@ pub record FlushMade (s : State) (disk : List ℕ) (p : ℕ) (reply : Reply) (ne
       { write_outs = outs_after s.write_outs (next_answer s.write_outs) }
   pub disk_done : disk' ≡ worked disk (work_asked s)
 
+-- processor p made the next step of the write-outs, and a device call of it failed: a range that the step was to write
+-- may have any bytes, and the machine is broken
 pub record FlushFailed (s : State) (disk : List ℕ) (p : ℕ) (new : State) (disk' : List ℕ) : Type 0 where
   pub allowed : flush_refusal s p ≡ None
   pub some : s.write_outs.batches ≢ []
   pub done : new ≡ after_failure s
   pub disk_torn : TornByWork (work_asked s) disk disk'
 
+-- processor p makes the next step of the write-outs: Going, Committed or Done where its device calls succeed, Device
+-- where one fails, Nothing where each batch is done
 abbrev pub Flushes : State → List ℕ → ℕ → Reply → State → List ℕ → Type 0
 Flushes s disk p (replies.Refused refusals.Device) new disk' = FlushFailed s disk p new disk'
 Flushes s disk p (replies.Refused why) new disk' = IsRefused (flush_refusal s p) why s new × (disk' ≡ disk)
@@ -439,6 +487,7 @@ Acts s disk p acts.Change reply new disk' = Changes s p reply new × (disk' ≡ 
 Acts s disk p acts.Resume reply new disk' = Resumes s p reply new × (disk' ≡ disk)
 Acts s disk p acts.Flush reply new disk' = Flushes s disk p reply new disk'
 
+-- the same of a step, which says the processor and the act
 abbrev pub Rules : State → List ℕ → Step → Reply → State → List ℕ → Type 0
 Rules s disk step reply new disk' = Acts s disk step.p step.act reply new disk'
 

@@ -8,6 +8,7 @@ use Rattle.machine.specs.Rules.{Rules}
 use Rattle.machine.specs.Calls.{CallsOf}
 use Rattle.machine.specs.Steps.{StepMade}
 
+-- One step of a machine over any device, honest or not.
 pub record StepTaken {D : Type 0} (disk : Ghosts D) (old : Whole D) (step : Step) (reply : Reply)
     (new : Whole D) : Type 0 where
   -- there are bytes for which the rules hold, whatever the device is

@@ -21,6 +21,7 @@ pub data Pending : Type 0 where
   Unmapping : (space : ℕ) (range : PageRange) → Pending
   Protecting : (space : ℕ) (range : PageRange) (rights : Rights) → Pending
 
+-- what the steps and replies of a run have told so far
 pub record Told : Type 0 where
   -- the place of each mapped page of each space that there is
   pub spaces : maps.FinMap nat_cmp Places
@@ -59,11 +60,12 @@ mapped_in told space file prot access (Ok pages) =
     with_places told space (with_range (places_in told space) pages.0.first pages.0.count
     (record { file = file; page = pages.1; rights = prot; access = access }))
 
--- what was begun, where the bytes are a range
+-- the unmap that was begun, where the bytes are a range
 abbrev pub begun_unmap : ℕ → Result PageRange Refusal → Option Pending
 begun_unmap space (Err why) = None
 begun_unmap space (Ok range) = Some (Unmapping space range)
 
+-- the protect that was begun, where the bytes are a range
 abbrev pub begun_protect : ℕ → Rights → Result PageRange Refusal → Option Pending
 begun_protect space rights (Err why) = None
 begun_protect space rights (Ok range) = Some (Protecting space range rights)
@@ -98,10 +100,11 @@ events_of told p act reply = []
 abbrev pub with_running : Told → ℕ → Bool → Told
 with_running told p running = record told { running = slice_set told.running p running }
 
--- processor p begins a change, and ends it
+-- processor p begins a change
 abbrev pub begun_by : Told → ℕ → Option Pending → Told
 begun_by told p pending = record (with_running told p false) { locked = true; pending = pending }
 
+-- processor p ends a change
 abbrev pub ended_by : Told → ℕ → Told
 ended_by told p = record (with_running told p true) { locked = false; pending = None }
 
