@@ -1,8 +1,10 @@
 // Runs: steps one at a time, and what holds of all of them together.
-ghost use Rattle.std.specs.Prelude.{ℕ, ◌≡◌, ◌↔◌, ◌++◌, ◌≤◌, List, [], ◌∷◌, length, Contains};
+ghost use Rattle.std.specs.Prelude.{ℕ, ◌≡◌, ◌↔◌, ◌++◌, ◌≤◌, true, List, [], ◌∷◌, length, Contains};
 ghost use Rattle.page_entry.specs.declared.numbers.FilePage.{FilePage};
 ghost use Rattle.frames.specs.Frames.{frame_at, bytes_of};
+ghost use Rattle.shootdown.specs.Coherence.{Coheres};
 ghost use Rattle.checkpoint.specs.Checkpoint.{Holds};
+ghost use Rattle.checkpoint.specs.Backing.{AreBacked};
 ghost use Rattle.device.specs.Device.{Only};
 ghost use Rattle.machine.specs.declared.act.Reply.{Reply};
 ghost use Rattle.machine.specs.declared.act.Step.{Step};
@@ -11,6 +13,7 @@ ghost use Rattle.machine.specs.State.{State, Whole};
 ghost use Rattle.machine.specs.Rules.{MarkMade};
 ghost use Rattle.machine.specs.Durability.{AreFrozenProtected, HasPage};
 ghost use Rattle.machine.specs.Crashes.{Begins, Throughout};
+ghost use Rattle.machine.specs.History.{is_touched};
 ghost use Rattle.machine.specs.Told.{tell_all};
 ghost use Rattle.machine.specs.Laws.{EachStep, FaultsAreServed, ReadsBack};
 ghost use Rattle.machine.specs.Steps.{IsLawful, told_first};
@@ -78,6 +81,25 @@ impl<D: Device, A: Allocator + Copy> Machine<D, A> {
             → Holds self.now.state.hardware.memory frame owner → (Contains mark.pages owner → ⊥)
             → D.may_leave self.now.device c
             → HasPage self.now.state owner (bytes_of (frame_at self.now.state.hardware.memory frame)) c }
+    {}
+
+    /// On the track of a run, the pages that a mark gathers are those that got a store since the mark before it, or
+    /// since the start; no other page is written out.
+    pub fn gathers_what_was_stored(&self)
+        ensures { (files : List File) (start : Whole D) (steps : List Step) (replies : List Reply)
+            (p number : ℕ) (new : State) (mark : MarkMade self.now.state p number new) (owner : FilePage)
+            → IsOnTrack D.Device files start steps replies self.now
+            → (Contains mark.pages owner) ↔ (is_touched
+            (tell_all (told_first files start.state) steps replies).history owner.file owner.page ≡ true) }
+    {}
+
+    /// Of every machine, whatever was done with it: a cached entry that may still be used agrees with the page table,
+    /// and each entry of the tables maps a frame that holds its page, writable only where its mapping allows it and
+    /// the page isn't held.
+    pub fn is_coherent(&self)
+        ensures coheres { Coheres self.now.state.hardware.spaces self.now.state.hardware.shootdown }
+        ensures backed { AreBacked self.now.state.hardware.memory self.now.state.checkpoint
+            self.now.state.hardware.spaces }
     {}
 
     /// Makes the steps one after the other, and puts each one's reply into its place.

@@ -1,0 +1,13 @@
+use Rattle.std.proofs.Common.{subst}
+use Rattle.shootdown.specs.Coherence.{Coheres}
+use Rattle.checkpoint.specs.Backing.{AreBacked}
+use Rattle.machine.specs.State.{Whole}
+use Rattle.machine.proofs.machine.Machine.is_coherent.Goals as goal
+
+pub returns-clause-coheres : goal.returns-clause-coheres
+returns-clause-coheres g c =
+    subst (λ (w : Whole g.row.D.Denot). Coheres w.state.hardware.spaces w.state.hardware.shootdown) c.self.view_is c.self.invariant.sound.spaces.coheres
+
+pub returns-clause-backed : goal.returns-clause-backed
+returns-clause-backed g c =
+    subst (λ (w : Whole g.row.D.Denot). AreBacked w.state.hardware.memory w.state.checkpoint w.state.hardware.spaces) c.self.view_is c.self.invariant.sound.memory.backed
