@@ -1,9 +1,10 @@
 // The four phases of a shootdown.
 ghost use Rattle.std.specs.Prelude.{◌≡◌, None, Some, IfOk, IfSome};
 ghost use Rattle.spaces.specs.Spaces.{Spaces as AddressSpaces};
+ghost use Rattle.spaces.specs.Changes.{ChangesOnlyAffected, Grows};
 ghost use Rattle.shootdown.specs.Shootdown.{not_free, interrupted, begun, finished};
 ghost use Rattle.shootdown.specs.Calls.{HasUserPages, Acks, HandsOut, GoesOn, holder_of, is_stalled};
-ghost use Rattle.shootdown.specs.Coherence.{Coheres, KeepsCoherence, IsUnused};
+ghost use Rattle.shootdown.specs.Coherence.{Coheres, KeepsCoherence, IsUnused, IsNoWider};
 
 use super::Shootdown;
 use super::telling::begin_change;
@@ -63,6 +64,23 @@ impl<A: Allocator + Copy> Shootdown<A> {
             waiting => Err(Refusal::NotYet(waiting)),
         }
     }
+
+    /// What `change`'s caller may do between `change` and `finish`: where the tables change at pages alone that the
+    /// change affects, which nobody uses, and no change affects more by it, processors and tables cohere as before.
+    pub fn coheres_when_changed(&self)
+        ensures { (change : Change) (old new : AddressSpaces) → ChangesOnlyAffected change old new
+            → IsUnused old change self.now
+            → ((lock : Lock) → self.now.lock ≡ Some lock → IsNoWider lock.change old new)
+            → Coheres old self.now → Coheres new self.now }
+    {}
+
+    /// What may be done at any time: where the tables grow, as by a fault that is served, and no change affects more by
+    /// it, processors and tables cohere as before.
+    pub fn coheres_when_grown(&self)
+        ensures { (old new : AddressSpaces) → Grows old new
+            → ((lock : Lock) → self.now.lock ≡ Some lock → IsNoWider lock.change old new)
+            → Coheres old self.now → Coheres new self.now }
+    {}
 
     /// The end of the third phase, after the change was made: the initiator carries out its own queue and goes on, and
     /// the lock is free.
