@@ -345,22 +345,41 @@ fn a_queue_of_eight(rt: HostRuntime) -> Result<(), Fail> {
 fn leave_and_destroy(rt: &impl Abort, bench: &mut Bench, pcid: Pcid) {
     assert!(rt; bench.switch(1, pcid, false) == Ok(()));
     bench.fill(rt, 1, 16);
-    let answers = (bench.may_destroy(0), bench.may_destroy(2));
-    assert!(rt; answers == (Err(Refusal::Einval), Err(Refusal::Einval)));
     let before = bench.may_destroy(pcid);
     let answers = (before, bench.switch(1, 0, true), bench.may_destroy(pcid));
     assert!(rt; answers == (Err(Refusal::Busy), Ok(()), Ok(())));
     bench.destroy(rt, pcid);
 }
 
+// The PCID is given out again, and processor 1 doesn't find the page that it cached before.
+fn give_out_again(rt: &impl Abort, bench: &mut Bench, pcid: Pcid) {
+    let answers = (bench.create(), bench.switch(1, pcid, true));
+    assert_eq!(rt; answers, (Ok(pcid), Ok(())));
+    assert!(rt; !bench.caches(rt, 1, 16));
+}
+
 #[test]
 fn a_pcid_is_used_again(rt: HostRuntime) -> Result<(), Fail> {
     let mut bench = Bench::new(rt.alloc(), 2, 8)?;
     let pcid = bench.make(&rt)?;
+    let answers = (bench.may_destroy(0), bench.may_destroy(2));
+    assert!(rt; answers == (Err(Refusal::Einval), Err(Refusal::Einval)));
     leave_and_destroy(&rt, &mut bench, pcid);
-    let answers = (bench.create(), bench.switch(1, pcid, true));
-    assert_eq!(rt; answers, (Ok(pcid), Ok(())));
-    assert!(rt; !bench.caches(&rt, 1, 16));
+    give_out_again(&rt, &mut bench, pcid);
+    Ok(())
+}
+
+// So is the highest one, of 4,095 spaces.
+#[test]
+fn the_highest_pcid_is_used_again(rt: HostRuntime) -> Result<(), Fail> {
+    let mut bench = Bench::new(rt.alloc(), 2, 8)?;
+    for _ in 1..4095 {
+        assert!(rt; bench.create().is_ok());
+    }
+    let pcid = bench.make(&rt)?;
+    assert_eq!(rt; (pcid, bench.create()), (4095, Err(Refusal::NoSpace)));
+    leave_and_destroy(&rt, &mut bench, pcid);
+    give_out_again(&rt, &mut bench, pcid);
     Ok(())
 }
 
@@ -385,5 +404,45 @@ fn sixteen_processors_cache_64_entries_each(rt: HostRuntime) -> Result<(), Fail>
         cache_65(&rt, &mut bench, p);
     }
     assert_eq!(rt; bench.state(16), Err(Refusal::Einval));
+    Ok(())
+}
+
+// Each of 16 processors enters a space and caches a page that processor 0 then begins to unmap.
+fn enter_all(rt: &impl Abort, bench: &mut Bench, pcid: Pcid) {
+    for p in 0..16 {
+        assert!(rt; bench.switch(p, pcid, false) == Ok(()));
+        bench.fill(rt, p, 16);
+    }
+    assert!(rt; bench.begin_unmap(0, pcid) == Ok(()));
+}
+
+// The others stall one after the other; the change waits for those that go on.
+fn stall_all(rt: &impl Abort, bench: &mut Bench) {
+    for p in 1..16 {
+        let waiting = 16u8.saturating_sub(p);
+        assert_eq!(rt; bench.change(0), Err(Refusal::NotYet(waiting)));
+        assert!(rt; bench.caches(rt, p, 16));
+        assert_eq!(rt; bench.ack(p), Ok(true));
+    }
+}
+
+fn resume_all(rt: &impl Abort, bench: &mut Bench) {
+    for p in 1..16 {
+        assert_eq!(rt; bench.resume(p), Ok(true));
+    }
+    for p in 0..16 {
+        assert!(rt; !bench.caches(rt, p, 16));
+    }
+}
+
+#[test]
+fn a_change_waits_for_fifteen(rt: HostRuntime) -> Result<(), Fail> {
+    let mut bench = Bench::new(rt.alloc(), 16, 8)?;
+    let pcid = bench.make(&rt)?;
+    enter_all(&rt, &mut bench, pcid);
+    stall_all(&rt, &mut bench);
+    let unmap = Change::Unmap { pcid, range: RANGE };
+    assert!(rt; bench.change(0) == Ok(Some(unmap)));
+    resume_all(&rt, &mut bench);
     Ok(())
 }
