@@ -12,9 +12,11 @@ const START: &str = r#"[0,"create"]: space 1
     [0,"switch",1,"drop"]: switched
     [1,"switch",1,"drop"]: switched"#;
 
+// The entry is the space's, so the other processor loads without a fault, and caches it.
 const STORE_A: &str = r#"[0,"store",4096,[65]]: fault 6
     [0,"fix",4096,"write"]: fixed
-    [0,"store",4096,[65]]: stored"#;
+    [0,"store",4096,[65]]: stored
+    [1,"load",4096,1]: bytes 65"#;
 
 const MARK: &str = r#"[0,"msync",4096,4096,4]: begun
     [1,"ack"]: acked
@@ -81,10 +83,9 @@ fn a_commit_of_nothing(rt: HostRuntime) -> Result<(), Fail> {
     Ok(())
 }
 
-// The entry is the space's, so the other processor loads without a fault.
 #[test]
 fn a_store_that_the_other_processor_loads(rt: HostRuntime) -> Result<(), Fail> {
-    let parts = [START, STORE_A, r#"[1,"load",4096,1]: bytes 65"#];
+    let parts = [START, STORE_A];
     assert!(rt; leaves(&rt, "loads", TWO, &parts, ZEROS)?);
     Ok(())
 }
@@ -237,8 +238,7 @@ fn calls_are_refused_for_their_causes(rt: HostRuntime) -> Result<(), Fail> {
 
 const ONE_FRAME: &str = r#""cpus":2,"tlb":8,"frames":1,"copies":2"#;
 
-const NO_FRAME: &str = r#"[1,"load",4096,1]: bytes 65
-    [0,"store",16384,[1]]: fault 6
+const NO_FRAME: &str = r#"[0,"store",16384,[1]]: fault 6
     [0,"fix",16384,"write"]: noframe
     [0,"reclaim",0,0]: begun
     [1,"ack"]: acked
@@ -295,8 +295,7 @@ fn a_page_that_is_stored_to_meanwhile_is_kept(rt: HostRuntime) -> Result<(), Fai
 
 const ONE_ENTRY: &str = r#""cpus":2,"tlb":1,"frames":4,"copies":2"#;
 
-const EVICTED: &str = r#"[1,"load",4096,1]: bytes 65
-    [0,"load",16384,1]: fault 4
+const EVICTED: &str = r#"[0,"load",16384,1]: fault 4
     [0,"fix",16384,"read"]: fixed
     [0,"load",16384,1]: bytes 0
     [0,"evict",0]: evicted

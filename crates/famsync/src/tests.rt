@@ -756,7 +756,7 @@ fn is_cut_off(rt: &HostRuntime, words: &[&str], room: &mut [u8]) -> bool {
     status == 3 && err.starts_with("famsync: output: ".as_bytes())
 }
 
-// An output that becomes full is a fault, and so is one that is full at the end.
+// An output that becomes full is a fault.
 #[test]
 fn a_full_output_is_a_fault(rt: HostRuntime) -> Result<(), Fail> {
     let words = ["famsync", "format", "full_output.img", "4", "a=1"];

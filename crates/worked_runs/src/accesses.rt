@@ -12,14 +12,13 @@ use std::test::Fail;
 // What one processor stored, the other one loads, and without a fault: the entry is the space's.
 #[test]
 fn a_store_is_seen_by_the_other_processor(rt: HostRuntime) -> Result<(), Fail> {
-    let calls = calls_of(&rt, TWO, &[START, STORE_A, "1 load 4096 1: bytes 65"])?;
+    let calls = calls_of(&rt, TWO, &[START, STORE_A])?;
     // Three calls opened the volume, and the fault read the page.
     assert_eq!(rt; calls, 4);
     Ok(())
 }
 
-const ONE_ENTRY: &str = "1 load 4096 1: bytes 65
-    0 load 16384 1: fault 4
+const ONE_ENTRY: &str = "0 load 16384 1: fault 4
     0 fix 16384 read: fixed
     0 load 16384 1: bytes 0
     0 evict 0: evicted

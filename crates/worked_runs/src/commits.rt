@@ -212,7 +212,6 @@ fn an_unmapped_page_is_committed(rt: HostRuntime) -> Result<(), Fail> {
             &[
                 START,
                 STORE_A,
-                "1 load 4096 1: bytes 65",
                 UNMAPPED,
                 GOING_4,
                 COMMITTED,
@@ -225,8 +224,7 @@ fn an_unmapped_page_is_committed(rt: HostRuntime) -> Result<(), Fail> {
     Ok(())
 }
 
-const NO_FRAME: &str = "1 load 4096 1: bytes 65
-    0 store 16384 1: fault 6
+const NO_FRAME: &str = "0 store 16384 1: fault 6
     0 fix 16384 write: noframe
     0 reclaim 0 0: begun
     1 ack: acked

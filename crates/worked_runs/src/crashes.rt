@@ -1,7 +1,7 @@
 // Crashes: what is opened after one of them.
 use crate::trial::{
     COMMITTED, DONE, Disk, FileByte, GOING, GOING_2, GOING_3, GOING_4, GOING_5, MARK, ONE, START,
-    START_ONE, STORE_A, TWO, Trial, booted, crash, formatted, has, is_answered, leaves_files, made,
+    START_ONE, STORE_A, STORE_ONE, TWO, Trial, booted, crash, formatted, has, is_answered, leaves_files, made,
     make, make_line, opens_as, parted, put, zeros,
 };
 use device::{Device, FailingDisk, MemDisk};
@@ -354,7 +354,7 @@ fn side_by_side<R: Abort + AllocGlobal>(
 ) -> Result<(Disk, usize), Fail> {
     let disk = FailingDisk::new(formatted(rt.alloc(), 2)?, fails_at);
     let mut machine = booted(rt.alloc(), disk, ONE)?;
-    make(rt, &mut machine, &[START_ONE, STORE_A])?;
+    make(rt, &mut machine, &[START_ONE, STORE_ONE])?;
     let done = commit_twice(rt, &mut machine, lines)?;
     Ok((machine.into_device(), done))
 }

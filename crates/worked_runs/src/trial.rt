@@ -64,9 +64,15 @@ pub(crate) const START: &str = "0 create: space 1
     1 switch 1 drop: switched";
 
 /// A store to the first byte of `a` that faults, is served and is made.
-pub(crate) const STORE_A: &str = "0 store 4096 65: fault 6
+pub(crate) const STORE_ONE: &str = "0 store 4096 65: fault 6
     0 fix 4096 write: fixed
     0 store 4096 65: stored";
+
+/// The same, and the other processor loads the byte without a fault, since the entry is the space's.
+pub(crate) const STORE_A: &str = "0 store 4096 65: fault 6
+    0 fix 4096 write: fixed
+    0 store 4096 65: stored
+    1 load 4096 1: bytes 65";
 
 /// A commit of two processors up to the first mark.
 pub(crate) const MARK: &str = "0 msync 4096 4096 4: begun
