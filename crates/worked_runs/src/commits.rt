@@ -209,13 +209,7 @@ fn an_unmapped_page_is_committed(rt: HostRuntime) -> Result<(), Fail> {
         leaves_files(
             &rt,
             TWO,
-            &[
-                START,
-                STORE_A,
-                UNMAPPED,
-                GOING_4,
-                COMMITTED,
-            ],
+            &[START, STORE_A, UNMAPPED, GOING_4, COMMITTED],
             0x5A,
             &[(0, 0, 65)],
             9

@@ -1,8 +1,8 @@
 // Crashes: what is opened after one of them.
 use crate::trial::{
     COMMITTED, DONE, Disk, FileByte, GOING, GOING_2, GOING_3, GOING_4, GOING_5, MARK, ONE, START,
-    START_ONE, STORE_A, STORE_ONE, TWO, Trial, booted, crash, formatted, has, is_answered, leaves_files, made,
-    make, make_line, opens_as, parted, put, zeros,
+    START_ONE, STORE_A, STORE_ONE, TWO, Trial, booted, crash, formatted, has, is_answered,
+    leaves_files, made, make, make_line, opens_as, parted, put, zeros,
 };
 use device::{Device, FailingDisk, MemDisk};
 use page_entry::Refusal;
