@@ -1,4 +1,9 @@
 // The layers of a machine, which its acts use together.
+ghost use Rattle.shootdown.specs.Coherence.{Coheres};
+ghost use Rattle.checkpoint.specs.Backing.{AreBacked};
+ghost use Rattle.machine.specs.inside.Sound.{IsSound};
+ghost use Rattle.machine.specs.inside.Layers.{state_in};
+
 use checkpoint::Checkpoint;
 use device::Device;
 use frames::Frames;
@@ -20,4 +25,13 @@ pub(crate) struct Layers<D: Device, A: Allocator + Copy> {
     // How many marks were made since boot.
     pub(crate) marks: u32,
     pub(crate) device: D,
+}
+
+impl<D: Device, A: Allocator + Copy> Layers<D, A> {
+    // Layers that are sound go with each other: processors with page tables, and these with frames.
+    pub(crate) fn are_coherent(&self)
+        requires sound { IsSound (state_in self.now) }
+        ensures coheres { Coheres self.now.spaces.map self.now.shootdown }
+        ensures backed { AreBacked self.now.frames self.now.checkpoint self.now.spaces.map }
+    {}
 }

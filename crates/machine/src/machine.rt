@@ -2,6 +2,8 @@
 ghost use Rattle.std.specs.Prelude.{◌≡◌, ◌≢◌, ◌↔◌, ℕ, List, length, false, IsTrue, IfOk, IfErr, OnOk};
 ghost use Rattle.volume_codec.specs.Super.{geometry_of};
 ghost use Rattle.shootdown.specs.Shootdown.{is_there, state_of};
+ghost use Rattle.shootdown.specs.Coherence.{Coheres};
+ghost use Rattle.checkpoint.specs.Backing.{AreBacked};
 ghost use Rattle.machine.specs.Fresh.{IsShape, IsFresh, fresh};
 ghost use Rattle.machine.specs.Booting.{RefusesShape};
 ghost use Rattle.machine.specs.Calls.{CallsOf};
@@ -129,6 +131,17 @@ impl<D: Device, A: Allocator + Copy> Machine<D, A> {
             × (why ≡ Refusal.Einval)) }
     {
         self.layers.shootdown.state(p)
+    }
+
+    /// Of every machine, whatever was done with it: a cached entry that may still be used agrees with the page table,
+    /// and each entry of the tables maps a frame that holds its page, writable only where its mapping allows it and
+    /// the page isn't held.
+    pub fn is_coherent(&self)
+        ensures coheres { Coheres self.now.state.hardware.spaces self.now.state.hardware.shootdown }
+        ensures backed { AreBacked self.now.state.hardware.memory self.now.state.checkpoint
+            self.now.state.hardware.spaces }
+    {
+        self.layers.are_coherent();
     }
 
     /// One act of one processor. Whatever act it is, it returns, and what it refuses changes nothing but what the rules

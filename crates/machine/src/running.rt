@@ -2,9 +2,7 @@
 ghost use Rattle.std.specs.Prelude.{ℕ, ◌≡◌, ◌↔◌, ◌++◌, ◌≤◌, true, List, [], ◌∷◌, length, Contains};
 ghost use Rattle.page_entry.specs.declared.numbers.FilePage.{FilePage};
 ghost use Rattle.frames.specs.Frames.{frame_at, bytes_of};
-ghost use Rattle.shootdown.specs.Coherence.{Coheres};
 ghost use Rattle.checkpoint.specs.Checkpoint.{Holds};
-ghost use Rattle.checkpoint.specs.Backing.{AreBacked};
 ghost use Rattle.device.specs.Device.{Only};
 ghost use Rattle.machine.specs.declared.act.Reply.{Reply};
 ghost use Rattle.machine.specs.declared.act.Step.{Step};
@@ -91,15 +89,6 @@ impl<D: Device, A: Allocator + Copy> Machine<D, A> {
             → IsOnTrack D.Device files start steps replies self.now
             → (Contains mark.pages owner) ↔ (is_touched
             (tell_all (told_first files start.state) steps replies).history owner.file owner.page ≡ true) }
-    {}
-
-    /// Of every machine, whatever was done with it: a cached entry that may still be used agrees with the page table,
-    /// and each entry of the tables maps a frame that holds its page, writable only where its mapping allows it and
-    /// the page isn't held.
-    pub fn is_coherent(&self)
-        ensures coheres { Coheres self.now.state.hardware.spaces self.now.state.hardware.shootdown }
-        ensures backed { AreBacked self.now.state.hardware.memory self.now.state.checkpoint
-            self.now.state.hardware.spaces }
     {}
 
     /// Makes the steps one after the other, and puts each one's reply into its place.
