@@ -12,7 +12,7 @@ ghost use Rattle.recovery.specs.Openings.{IsLater, RecoversAs, AllRecover, Finds
 
 use device::Device;
 
-/// Bytes are a volume that recovers to files, or no volume, or a damaged one, and not two of these.
+/// Bytes that recover to files are neither those of no volume nor of a damaged one, and no bytes are of both.
 pub fn kinds_of_bytes()
     ensures volume { (bytes : List ℕ) (files : List File) → RecoversTo bytes files
         → IsNotAVolume bytes ⊎ IsDamaged bytes → ⊥ }
