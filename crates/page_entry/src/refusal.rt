@@ -44,7 +44,7 @@ pub enum Refusal {
     Overlap,
     /// There is no such file.
     NoFile,
-    /// The call has to wait for another: a write-out isn't done, or the space is in use. Or the marks' numbers are used up.
+    /// The call has to wait for another: a write-out isn't done, or the space is in use; or no mark's number is left.
     Busy,
     /// The trace is full.
     TraceFull,
