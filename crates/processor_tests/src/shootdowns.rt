@@ -377,7 +377,7 @@ fn the_highest_pcid_is_used_again(rt: HostRuntime) -> Result<(), Fail> {
         assert!(rt; bench.create().is_ok());
     }
     let pcid = bench.make(&rt)?;
-    assert_eq!(rt; (pcid, bench.create()), (4095, Err(Refusal::NoSpace)));
+    assert_eq!(rt; (pcid, bench.create()), (4095, Err(Refusal::Enomem)));
     leave_and_destroy(&rt, &mut bench, pcid);
     give_out_again(&rt, &mut bench, pcid);
     Ok(())
@@ -419,7 +419,7 @@ fn enter_all(rt: &impl Abort, bench: &mut Bench, pcid: Pcid) {
 // The others stall one after the other; the change waits for those that go on.
 fn stall_all(rt: &impl Abort, bench: &mut Bench) {
     for p in 1..16 {
-        let waiting = 16u8.saturating_sub(p);
+        let waiting = 16u32.saturating_sub(u32::from(p));
         assert_eq!(rt; bench.change(0), Err(Refusal::NotYet(waiting)));
         assert!(rt; bench.caches(rt, p, 16));
         assert_eq!(rt; bench.ack(p), Ok(true));
