@@ -82,7 +82,7 @@ impl<D: Device, A: Allocator + Copy> Machine<D, A> {
     {}
 
     /// On the track of a run, the pages that a mark gathers are those that got a store since the mark before it, or
-    /// since the start; no other page is written out.
+    /// since the start, and no other.
     pub fn gathers_what_was_stored(&self)
         ensures { (files : List File) (start : Whole D) (steps : List Step) (replies : List Reply)
             (p number : ℕ) (new : State) (mark : MarkMade self.now.state p number new) (owner : FilePage)
