@@ -66,7 +66,7 @@ module _ (g : GeometryValue) (batch : Batch) where
   abbrev calls_after : ℕ → ℕ
   calls_after n = calls_of (option_map_or (work_at g batch []) (stage_at (length batch.homes) n) Nothing)
 
-  early_calls : (n : ℕ) → n ≤ k + 4 → calls_in_steps g batch n ≡ n
+  pub early_calls : (n : ℕ) → n ≤ k + 4 → calls_in_steps g batch n ≡ n
   early_calls zero le = refl
   early_calls (suc n) le =
       let before = early_calls n (omega arith) in

@@ -4,3 +4,4 @@ pub mod track
 pub mod durable
 pub mod Joined
 pub mod Tracks
+pub mod Counted

@@ -1,12 +1,12 @@
 -- Whole runs of a machine over a device, with what a crash leaves at each moment.
-use Rattle.std.specs.Prelude.{ℕ, ◌≡◌, ◌≤◌, List, [], ◌∷◌, length}
+use Rattle.std.specs.Prelude.{ℕ, ◌≡◌, List, [], ◌∷◌}
 use Rattle.device.specs.Device.{Only, LeavesOnly}
 use Rattle.volume_codec.specs.Files.{File}
 use Rattle.volume_codec.specs.Layout.{block_at}
 use Rattle.volume_codec.specs.Recovery.{IsVolume, files_in, lengths_in}
 use Rattle.machine.specs.declared.act.Reply.{Reply}
 use Rattle.machine.specs.declared.act.Step.{Step}
-use Rattle.machine.specs.State.{State, Whole}
+use Rattle.machine.specs.State.{Whole}
 use Rattle.machine.specs.Rules.{Rules}
 use Rattle.machine.specs.Told.{Told, tell}
 use Rattle.machine.specs.Laws.{ReadsBack}

@@ -1,8 +1,7 @@
 -- Why an act is refused: of the reasons that hold, the first in this order is answered (POSIX.1-2024 for the calls on
 -- mappings; the order is this project's own).
-use Rattle.std.specs.Prelude.{ℕ, ◌+◌, ◌-◌, ◌*◌, ◌/◌, ◌%◌, ◌^◌, ◌==◌, ◌&&◌, ◌||◌, not, nat_le, nat_lt, Bool, true, false, is_some, List, [], ◌∷◌, length, Option, Some, None, Result, Ok, Err, slice_index_or, if◌then◌else◌}
+use Rattle.std.specs.Prelude.{ℕ, ◌+◌, ◌-◌, ◌%◌, ◌^◌, ◌==◌, ◌&&◌, ◌||◌, not, nat_le, Bool, true, false, is_some, List, [], ◌∷◌, length, Option, Some, None, Result, Ok, Err, if◌then◌else◌}
 use Rattle.std.specs.Option.{option_or}
-use Rattle.std.specs.List.{list_any}
 use Rattle.page_entry.specs.declared.refusal.Refusal.{Refusal}
 use Rattle.page_entry.specs.declared.refusal.Refusal.TheVariants as refusals
 use Rattle.page_entry.specs.declared.numbers.FilePage.{FilePage}
@@ -12,12 +11,12 @@ use Rattle.mappings.specs.declared.page_range.PageRange.{PageRange}
 use Rattle.mappings.specs.Judgement.{add_refusal}
 use Rattle.volume_codec.specs.Files.{TableFile}
 use Rattle.volume_codec.specs.Super.{pages_of}
-use Rattle.spaces.specs.Spaces.{Spaces, has_space, space_at}
+use Rattle.spaces.specs.Spaces.{has_space, space_at}
 use Rattle.spaces.specs.Requests.{is_user_space, judged_range, judged_mapping, judged_protection, maps_each}
 use Rattle.shootdown.specs.declared.lock.Lock.{Lock}
 use Rattle.shootdown.specs.declared.proc_state.ProcState.{ProcState}
-use Rattle.shootdown.specs.declared.proc_state.ProcState.TheVariants.{Active, Interrupted, Stalled, Initiating, Idle}
-use Rattle.shootdown.specs.Shootdown.{ShootdownState, is_there, state_of, current, not_running, not_free, interrupted, is_current}
+use Rattle.shootdown.specs.declared.proc_state.ProcState.TheVariants.{Interrupted, Stalled, Idle}
+use Rattle.shootdown.specs.Shootdown.{is_there, state_of, current, not_running, not_free, interrupted, is_current}
 use Rattle.fault.specs.Fault.{place_of_fault, fault_refusal}
 use Rattle.journal.specs.WriteOuts.{is_busy}
 use Rattle.machine.specs.State.{State, length_of}

@@ -3,7 +3,7 @@
 -- where one of its calls fails, also where that call is a read; which free frame or copy frame is taken; and whether a
 -- growth of memory is refused. Sources: POSIX.1-2024 (mmap, munmap, mprotect, msync), Intel SDM volume 3 (4-level
 -- paging, TLBs, PCIDs), Black and others 1989 (shootdown), Park, Kelly and Shen 2013 (failure-atomic msync).
-use Rattle.std.specs.Prelude.{ℕ, ◌≡◌, ◌≢◌, ◌+◌, ◌/◌, ◌<◌, ◌⊎◌, Bool, true, false, not, List, [], ◌∷◌, map, Option, Some, None, is_some, Result, Ok, Err, slice_index_or, if◌then◌else◌}
+use Rattle.std.specs.Prelude.{ℕ, ◌≡◌, ◌≢◌, ◌+◌, ◌/◌, ◌<◌, ◌⊎◌, Bool, true, false, not, List, [], ◌∷◌, map, Option, Some, None, is_some, Ok, Err, slice_index_or, if◌then◌else◌}
 use Rattle.std.specs.FinMap as maps
 use Rattle.page_entry.specs.declared.numbers.FilePage.{FilePage}
 use Rattle.page_entry.specs.declared.refusal.Refusal.{Refusal}
@@ -13,7 +13,6 @@ use Rattle.mappings.specs.declared.place.Rights.{Rights}
 use Rattle.mappings.specs.declared.page_range.PageRange.{PageRange}
 use Rattle.mappings.specs.Places.{splits}
 use Rattle.frames.specs.Frames.{FramesState, Frame, frame_at, bytes_of, without_frame, without_copies}
-use Rattle.device.specs.Device.{Torn}
 use Rattle.journal.specs.declared.flushed.Flushed.{Flushed}
 use Rattle.journal.specs.declared.flushed.Flushed.TheVariants as flushed
 use Rattle.journal.specs.Work.{Work, worked, TornByWork}
@@ -23,19 +22,18 @@ use Rattle.spaces.specs.declared.change.Change.TheVariants as changes
 use Rattle.spaces.specs.Changes.{without_entries_of}
 use Rattle.spaces.specs.Spaces.{Spaces, space_at, empty_space, with_space, with_mapping, without_mapping, SetsRights, EditsEntries, IsLowestFree}
 use Rattle.spaces.specs.Requests.{judged_range, judged_mapping, judged_protection, maps_some}
-use Rattle.shootdown.specs.declared.lock.Lock.{Lock}
 use Rattle.shootdown.specs.declared.proc_state.ProcState.TheVariants.{Interrupted, Stalled, Idle}
 use Rattle.shootdown.specs.Shootdown.{ShootdownState, current, state_of, not_free, begun, stalled, finished, resumed, idled, switched_to, destroyed}
 use Rattle.cpu.specs.Access.{Hardware, Loads, Stores, Fills, Evicts}
 use Rattle.checkpoint.specs.Checkpoint.{CheckpointState, Holds, IsDirty, Gathers, ProtectsNoted, NotesTaken, IsInRange, IsInSpace, same_page, without_notes, without_copy_of, released, thawed}
 use Rattle.checkpoint.specs.Backing.{page_at}
-use Rattle.fault.specs.Fault.{FaultServed, is_in_memory, place_of_fault, fault_refusal}
+use Rattle.fault.specs.Fault.{FaultServed, is_in_memory, place_of_fault}
 use Rattle.machine.specs.declared.act.Act.{Act}
 use Rattle.machine.specs.declared.act.Act.TheVariants as acts
 use Rattle.machine.specs.declared.act.Reply.{Reply}
 use Rattle.machine.specs.declared.act.Reply.TheVariants as replies
 use Rattle.machine.specs.declared.act.Step.{Step}
-use Rattle.machine.specs.State.{State, length_of, home_of, cut_at_end, page_from}
+use Rattle.machine.specs.State.{State, home_of, cut_at_end, page_from}
 use Rattle.machine.specs.Refusals.{switch_refusal, destroy_refusal, map_refusal, unmap_refusal, protect_refusal_of, reclaim_refusal, msync_refusal, not_there, wait_refusal, idle_refusal, change_refusal, fix_refusal, flush_refusal}
 
 -- the act was refused for the first of its reasons, and the machine is as before

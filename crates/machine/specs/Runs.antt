@@ -3,7 +3,7 @@ use Rattle.std.specs.Prelude.{ℕ, ◌≡◌, ◌↔◌, List, [], ◌∷◌, le
 use Rattle.device.specs.declared.device.Device.{Ghosts}
 use Rattle.machine.specs.declared.act.Reply.{Reply}
 use Rattle.machine.specs.declared.act.Step.{Step}
-use Rattle.machine.specs.State.{State, Whole}
+use Rattle.machine.specs.State.{Whole}
 use Rattle.machine.specs.Rules.{Rules}
 use Rattle.machine.specs.Calls.{CallsOf}
 use Rattle.machine.specs.Steps.{StepMade}

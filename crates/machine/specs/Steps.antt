@@ -1,5 +1,5 @@
 -- One step of a machine over an honest device, and the laws of one step.
-use Rattle.std.specs.Prelude.{ℕ, ◌≡◌, ◌≢◌, List, [], ◌∷◌, length}
+use Rattle.std.specs.Prelude.{ℕ, ◌≡◌, ◌≢◌, List, length}
 use Rattle.page_entry.specs.declared.refusal.Refusal.TheVariants as refusals
 use Rattle.device.specs.Device.{Only, LeavesOnly}
 use Rattle.volume_codec.specs.Files.{File}
@@ -11,8 +11,8 @@ use Rattle.machine.specs.declared.act.Reply.TheVariants as replies
 use Rattle.machine.specs.declared.act.Step.{Step}
 use Rattle.machine.specs.State.{State, Whole}
 use Rattle.machine.specs.Rules.{Rules, work_asked}
-use Rattle.machine.specs.Told.{Told, tell_all}
-use Rattle.machine.specs.Laws.{told_at_start, EachStep, LoadLaw, StoreLaw, AddressLaw}
+use Rattle.machine.specs.Told.{Told}
+use Rattle.machine.specs.Laws.{told_at_start, LoadLaw, StoreLaw, AddressLaw}
 
 -- what a step that is answered so writes or makes sure on the device: the work of a write-out's step, and else nothing
 abbrev pub step_work : State → Act → Reply → Work

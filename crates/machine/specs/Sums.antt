@@ -1,9 +1,15 @@
--- How many device calls the steps of a run make in all, and how many of these fail.
-use Rattle.std.specs.Prelude.{ℕ, ◌≡◌, ◌+◌, ◌-◌, ◌*◌, ◌^◌, ◌<◌, List, [], ◌∷◌, length}
+-- How many device calls the steps of a run make in all, and how many of these fail; and what they ask of the device for
+-- one write-out.
+use Rattle.std.specs.Prelude.{ℕ, ◌≡◌, ◌+◌, ◌==◌, if◌then◌else◌, false, List, [], ◌∷◌, ◌++◌}
+use Rattle.std.specs.Option.{option_map_or}
 use Rattle.device.specs.declared.device.Device.{Ghosts}
+use Rattle.journal.specs.Work.{Work, Nothing}
+use Rattle.journal.specs.WriteOuts.{current}
+use Rattle.machine.specs.declared.act.Act.{Act}
 use Rattle.machine.specs.declared.act.Reply.{Reply}
 use Rattle.machine.specs.declared.act.Step.{Step}
-use Rattle.machine.specs.State.{Whole}
+use Rattle.machine.specs.State.{State, Whole}
+use Rattle.machine.specs.Steps.{step_work}
 use Rattle.machine.specs.Calls.{CallsOf}
 use Rattle.machine.specs.Runs.{StepTaken}
 
@@ -25,3 +31,24 @@ pub record CallsAddUp {D : Type 0} (disk : Ghosts D) (old : Whole D) (steps : Li
   pub sums : AddUpTo disk old steps replies new calls faults
   pub made : disk.calls_made new.device ≡ disk.calls_made old.device + calls
   pub failed : disk.faults_met new.device ≡ disk.faults_met old.device + faults
+
+-- ---- one write-out
+
+-- this work, unless it is nothing
+abbrev pub listed_work : Work → List Work
+listed_work Nothing = []
+listed_work work = work ∷ []
+
+-- what a step asks of the device for the write-out of this mark: its work, where the step is one of that write-out
+abbrev pub asked_for : ℕ → State → Act → Reply → List Work
+asked_for mark s act reply =
+    if option_map_or (λ w. w.batch.mark == mark) (current s.write_outs.batches) false
+    then listed_work (step_work s act reply) else []
+
+-- these steps, answered so, ask this of the device for the write-out of a mark, in this order
+abbrev pub AskFor : {D : Type 0} → Ghosts D → ℕ → Whole D → List Step → List Reply → Whole D → List Work → Type 0
+AskFor disk mark old [] [] new works = (new ≡ old) × (works ≡ [])
+AskFor {D} disk mark old (step ∷ steps) (reply ∷ replies) new works =
+    (mid : Whole D) × (later : List Work) × StepTaken disk old step reply mid
+    × AskFor disk mark mid steps replies new later × (works ≡ asked_for mark old.state step.act reply ++ later)
+AskFor disk mark old steps replies new works = ⊥

@@ -1,18 +1,22 @@
 // What follows of a run: how many device calls it made, and what later openings find.
-ghost use Rattle.std.specs.Prelude.{ℕ, ◌+◌, ◌-◌, ◌*◌, ◌^◌, ◌<◌, List, length, Result};
+ghost use Rattle.std.specs.Prelude.{ℕ, ◌≡◌, ◌+◌, ◌-◌, ◌*◌, ◌^◌, ◌<◌, List, [], ◌∷◌, ◌++◌, length, sum_by, Result};
 ghost use Rattle.page_entry.specs.declared.refusal.Refusal.{Refusal};
 ghost use Rattle.volume_codec.specs.Files.{File};
 ghost use Rattle.volume_codec.specs.Super.{SuperValue};
 ghost use Rattle.recovery.specs.Opening.{Opens};
 ghost use Rattle.recovery.specs.Openings.{IsLater};
 ghost use Rattle.machine.specs.declared.act.Reply.{Reply};
+ghost use Rattle.machine.specs.declared.act.Reply.TheVariants.{Committed, Done};
 ghost use Rattle.machine.specs.declared.act.Step.{Step};
 ghost use Rattle.machine.specs.State.{Whole};
+ghost use Rattle.machine.specs.Rules.{MarkMade};
 ghost use Rattle.machine.specs.History.{Event};
 ghost use Rattle.machine.specs.Laws.{ReadsBack};
 ghost use Rattle.machine.specs.Later.{FindsDurable};
-ghost use Rattle.machine.specs.Runs.{StepsTaken};
-ghost use Rattle.machine.specs.Sums.{CallsAddUp};
+ghost use Rattle.journal.specs.Work.{Work, calls_of};
+ghost use Rattle.machine.specs.OnTrack.{IsOnTrack};
+ghost use Rattle.machine.specs.Runs.{StepTaken, StepsTaken};
+ghost use Rattle.machine.specs.Sums.{CallsAddUp, AskFor};
 
 use device::Device;
 use recovery::opened_again;
@@ -37,4 +41,24 @@ pub fn calls_of_steps<D: Device>(device: &D)
         → D.calls_made old.device + 2 * length steps < 2 ^ 64 - 2
         → D.faults_met old.device + length steps < 2 ^ 64 - 1
         → StepsTaken D.Device old steps replies new → CallsAddUp D.Device old steps replies new }
+{}
+
+/// The count of each write-out of a run. After a mark that gathered k pages, the steps up to the one that answers that
+/// the mark is committed make k + 4 device calls for its write-out, one each; those up to the one that answers that it
+/// is done make 3k + 7, in 2k + 7 steps of it. Whatever other steps stand between them, also another write-out's.
+pub fn counts_of_a_write_out<D: Device>(device: &D)
+    ensures committed { (files : List File) (start old marked last new : Whole D) (earlier steps : List Step)
+        (told replies : List Reply) (p number : ℕ) (mark : MarkMade old.state p number marked.state) (step : Step)
+        → IsOnTrack D.Device files start earlier told old
+        → StepsTaken D.Device marked steps replies last → StepTaken D.Device last step (Committed number) new
+        → (works : List Work)
+        × AskFor D.Device number marked (steps ++ step ∷ []) (replies ++ Committed number ∷ []) new works
+        × (length works ≡ length mark.pages + 4) × (sum_by calls_of works ≡ length mark.pages + 4) }
+    ensures done { (files : List File) (start old marked last new : Whole D) (earlier steps : List Step)
+        (told replies : List Reply) (p number : ℕ) (mark : MarkMade old.state p number marked.state) (step : Step)
+        → IsOnTrack D.Device files start earlier told old
+        → StepsTaken D.Device marked steps replies last → StepTaken D.Device last step (Done number) new
+        → (works : List Work)
+        × AskFor D.Device number marked (steps ++ step ∷ []) (replies ++ Done number ∷ []) new works
+        × (length works ≡ 2 * length mark.pages + 7) × (sum_by calls_of works ≡ 3 * length mark.pages + 7) }
 {}

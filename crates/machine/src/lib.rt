@@ -22,5 +22,5 @@ mod switching;
 
 pub use act::{Act, Reply, Shape, Step};
 pub use few_bytes::FewBytes;
-pub use laws::{calls_of_steps, opened_later};
+pub use laws::{calls_of_steps, counts_of_a_write_out, opened_later};
 pub use machine::Machine;

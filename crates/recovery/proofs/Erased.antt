@@ -1,8 +1,8 @@
 -- What erasing a range piece by piece leaves.
 use Rattle.std.proofs.Common.{◌≡◌, ◌≢◌, ◌≤◌, inl, inr, ℕ, zero, suc, ◌+◌, ◌-◌, ◌*◌, List, [], ◌∷◌, length, take, get_or, refl, sym, ◌∙◌, ap, arith}
 use Rattle.std.proofs.lemmas.Bool.{cases_lt, cases_eq}
-use Rattle.device.specs.Device.{written}
-use Rattle.device.proofs.Ranges.{length-written, written_before, written_within, written_after}
+use Rattle.device.specs.Device.{written, Torn}
+use Rattle.device.proofs.Ranges.{length-written, written_before, written_within, written_after, torn_twice, torn_wider}
 use Rattle.volume_codec.specs.Layout.{gate_block}
 use Rattle.volume_codec.specs.Text.{zeros}
 use Rattle.volume_codec.proofs.Padding.{length-zeros, take-zeros}
@@ -37,6 +37,10 @@ erase_more from at n most old mid new piece erased order few room blank is = by 
             | inr after ↦ byte i ∙ written_after mid at (zeros n) i fits (omega (arith, size)) ∙ erased.others i (inr (omega arith))
           ];
         }
+
+-- nothing else changed, also where a piece was torn
+pub torn_more : {old mid new : List ℕ} (from at n to : ℕ) → from ≤ at → Torn from (at - from) old mid → Torn at n mid new → at + n ≤ to → Torn from (to - from) old new
+torn_more from at n to order first more fits = torn_twice (torn_wider first from (to - from) (omega arith) (omega arith)) (torn_wider more from (to - from) order (omega arith))
 
 -- one gate more
 pub close_more : (slots n at gate byte : ℕ) (old mid new : List ℕ) → AreClosed slots n old mid → gate ≡ gate_block slots n → at ≡ 4096 * gate → byte ≡ 0 → at + 1 ≤ length old → new ≡ written mid at (byte ∷ [])

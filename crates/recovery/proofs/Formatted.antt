@@ -1,5 +1,5 @@
 -- A device that was erased, its gates closed and its table written is a blank volume.
-use Rattle.std.proofs.Common.{◌≡◌, ◌≢◌, ◌≤◌, ◌<◌, inr, ℕ, ◌+◌, ◌*◌, List, ◌++◌, length, get_or, length-append, sym, ◌∙◌, ap, subst, arith}
+use Rattle.std.proofs.Common.{◌≡◌, ◌≢◌, ◌≤◌, ◌<◌, ℕ, ◌+◌, ◌*◌, List, ◌++◌, length, get_or, length-append, sym, ◌∙◌, ap, subst, arith}
 use Rattle.std.proofs.lemmas.List.{ext_get_or}
 use Rattle.device.specs.Device.{written}
 use Rattle.device.proofs.Ranges.{length-written, written_after}
@@ -73,8 +73,3 @@ module _ (table : SuperValue) (g : GeometryValue) (old mid shut new block : List
         homes = λ b home. block_zeros new b (omega (arith, size, home.high))
             (λ i from to. after i (omega (arith, home.low, room)) ∙ closed.others i (no_gate i (omega (arith, home.low))) ∙ erased.zero i (omega (arith, home.low, from_low)) (omega (arith, home.high, to_high)));
       }
-
-  pub past : (i : ℕ) → 4096 * block_count table ≤ i → get_or new i 0 ≡ get_or old i 0
-  past i h =
-      let room = homes_within in
-      after i (omega arith) ∙ closed.others i (no_gate i (omega arith)) ∙ erased.others i (inr (omega (arith, to_high)))

@@ -1,6 +1,6 @@
 // The device calls that volumes are made and opened by, with a fault as a refusal.
 ghost use Rattle.std.specs.Prelude.{◌≡◌, ◌+◌, ◌*◌, ◌<◌, ◌≤◌, List, [], ◌∷◌, ℕ, length, slice_range, IfOk, IfErr, OnOk};
-ghost use Rattle.device.specs.Device.{written, TornFrom, Only, LeavesOnly};
+ghost use Rattle.device.specs.Device.{written, Torn, TornFrom, Only, LeavesOnly};
 ghost use Rattle.volume_codec.specs.Layout.{IsHome, journals_of, gate_block, record_block, block_at};
 ghost use Rattle.volume_codec.specs.Text.{zeros};
 ghost use Rattle.recovery.specs.Counts.{Rises, IsAccounted};
@@ -56,6 +56,7 @@ pub fn write<D: Device>(device: &mut D, at: u64, bytes: &[u8]) -> Result<(), Ref
 
     ensures written { D.is_honest device.old
         → OnOk result (D.seen device.new ≡ written (D.seen device.old) at bytes.now) }
+    ensures torn { D.is_honest device.old → Torn at (length bytes.now) (D.seen device.old) (D.seen device.new) }
     ensures left { (c : List ℕ) → D.may_leave device.new c → TornFrom at (length bytes.now) (D.may_leave device.old) c }
     ensures time { LeavesOnly D.moment D.left_since device.old device.new
         (TornFrom at (length bytes.now) (D.may_leave device.old)) }
@@ -89,6 +90,7 @@ pub fn write_synced<D: Device>(device: &mut D, at: u64, bytes: &[u8]) -> Result<
 
     ensures written { D.is_honest device.old
         → OnOk result (D.seen device.new ≡ written (D.seen device.old) at bytes.now) }
+    ensures torn { D.is_honest device.old → Torn at (length bytes.now) (D.seen device.old) (D.seen device.new) }
     ensures durable { D.is_honest device.old → OnOk result (Only (D.may_leave device.new) (D.seen device.new)) }
     ensures time { D.is_honest device.old → LeavesOnly D.moment D.left_since device.old device.new
         (TornFrom at (length bytes.now) (D.may_leave device.old)) }

@@ -1,6 +1,6 @@
 // A volume is made on a device.
-ghost use Rattle.std.specs.Prelude.{◌≡◌, ◌⊎◌, ◌+◌, ◌*◌, ◌<◌, ◌≤◌, List, ℕ, length, slice_index, IfOk, IfErr, OnOk};
-ghost use Rattle.device.specs.Device.{Only};
+ghost use Rattle.std.specs.Prelude.{◌≡◌, ◌⊎◌, ◌+◌, ◌-◌, ◌*◌, ◌<◌, ◌≤◌, List, ℕ, length, slice_index, IfOk, IfErr, OnOk};
+ghost use Rattle.device.specs.Device.{Torn, Only};
 ghost use Rattle.volume_codec.specs.Files.{asked_by, asked_by_pairs};
 ghost use Rattle.volume_codec.specs.Layout.{GeometryValue, IsGeometry, journals_of, gate_block, first_home, block_at};
 ghost use Rattle.volume_codec.specs.Text.{zeros};
@@ -54,6 +54,7 @@ fn erase<D: Device>(device: &mut D, from: u64, to: u64) -> Result<(), Refusal>
     requires order { from ≤ to }
     requires room { to ≤ length (D.seen device.old) }
     ensures erased { D.is_honest device.old → OnOk result (IsErased from to (D.seen device.old) (D.seen device.new)) }
+    ensures torn { D.is_honest device.old → Torn from (to - from) (D.seen device.old) (D.seen device.new) }
     ensures kept { IsAccounted D.Device device.old result device.new }
     ensures fault { IfErr result (λ refusal. refusal ≡ Refusal.Device) }
 {
@@ -72,6 +73,8 @@ fn close_gates<D: Device>(device: &mut D, geometry: &Geometry) -> Result<(), Ref
     requires { 4096 * geometry.now.blocks ≤ length (D.seen device.old) }
     ensures closed { D.is_honest device.old → OnOk result
         (AreClosed geometry.now.slots (journals_of geometry.now.layout) (D.seen device.old) (D.seen device.new)) }
+    ensures torn { D.is_honest device.old
+        → Torn 0 (4096 * geometry.now.blocks) (D.seen device.old) (D.seen device.new) }
     ensures kept { IsAccounted D.Device device.old result device.new }
     ensures fault { IfErr result (λ refusal. refusal ≡ Refusal.Device) }
 {
@@ -91,8 +94,8 @@ fn write_table<D: Device, A: Allocator + Copy>(
     requires { 4096 * block_count table.now ≤ length (D.seen device.old) }
     ensures blank { D.is_honest device.old → OnOk result (IsBlank table.now (D.seen device.new)) }
     ensures synced { D.is_honest device.old → OnOk result (Only (D.may_leave device.new) (D.seen device.new)) }
-    ensures past { D.is_honest device.old → OnOk result ((i : ℕ) → 4096 * block_count table.now ≤ i
-        → slice_index (D.seen device.new) i ≡ slice_index (D.seen device.old) i) }
+    ensures past { D.is_honest device.old → (i : ℕ) → 4096 * block_count table.now ≤ i
+        → slice_index (D.seen device.new) i ≡ slice_index (D.seen device.old) i }
     ensures kept { IsAccounted D.Device device.old result device.new }
     ensures fault { IfErr result (λ refusal. refusal ≡ Refusal.Device) }
 {
@@ -106,7 +109,8 @@ fn write_table<D: Device, A: Allocator + Copy>(
 
 /// Makes a volume in the layout of this number, with these files, all their bytes zero, and with so many record slots
 /// for each journal. `BadShape`, before any memory is taken and any device call is made, where no volume has them or
-/// the device is shorter than its blocks. `Device` where a device call failed. What lies past the volume stays.
+/// the device is shorter than its blocks. `Device` where a device call failed. What lies past the volume stays, also
+/// then.
 pub fn format_as<D: Device, A: Allocator + Copy>(
     alloc: A,
     device: &mut D,
@@ -116,6 +120,9 @@ pub fn format_as<D: Device, A: Allocator + Copy>(
 ) -> Result<(), Refusal>
     ensures formatted { D.is_honest device.old
         → OnOk result (HasFormatted D.Device layout (asked_by files.now) slots device.old device.new) }
+    ensures past { D.is_honest device.old → (table : SuperValue) (i : ℕ)
+        → IsAsked layout (asked_by files.now) slots table → 4096 * block_count table ≤ i
+        → slice_index (D.seen device.new) i ≡ slice_index (D.seen device.old) i }
     ensures refused { IfErr result (RefusesFormat layout (asked_by files.now) slots (length (D.seen device.old))) }
     ensures unchanged { IfErr result (λ refusal. (refusal ≡ Refusal.Device) ⊎ (device.new ≡ device.old)) }
     ensures kept { IsAccounted D.Device device.old result device.new }
@@ -138,6 +145,9 @@ pub fn format<D: Device, A: Allocator + Copy>(
 ) -> Result<(), Refusal>
     ensures formatted { D.is_honest device.old
         → OnOk result (HasFormatted D.Device 1 (asked_by_pairs files.now) slots device.old device.new) }
+    ensures past { D.is_honest device.old → (table : SuperValue) (i : ℕ)
+        → IsAsked 1 (asked_by_pairs files.now) slots table → 4096 * block_count table ≤ i
+        → slice_index (D.seen device.new) i ≡ slice_index (D.seen device.old) i }
     ensures refused { IfErr result (RefusesFormat 1 (asked_by_pairs files.now) slots (length (D.seen device.old))) }
     ensures unchanged { IfErr result (λ refusal. (refusal ≡ Refusal.Device) ⊎ (device.new ≡ device.old)) }
     ensures kept { IsAccounted D.Device device.old result device.new }

@@ -1,5 +1,5 @@
 -- An act that leaves the device alone, as one act of the layers.
-use Rattle.std.proofs.Common.{ℕ, ◌≡◌, ◌⊎◌, Bool, true, false, ◌&&◌, cond, List, [], length, Result, Ok, Err, is_err, is_none, refl, sym, ap, ◌∙◌, subst}
+use Rattle.std.proofs.Common.{ℕ, ◌≡◌, Bool, true, false, ◌&&◌, cond, List, [], length, Result, Ok, Err, is_err, is_none, refl, sym, ap, ◌∙◌, subst}
 use Rattle.device.specs.Count.{raised}
 use Rattle.device.specs.Device.{LeavesOnly}
 use Rattle.device.specs.declared.device.Device.{Ghosts}

@@ -1,5 +1,5 @@
 -- Space 0 alone: it maps nothing.
-use Rattle.std.proofs.Common.{ℕ, ◌≡◌, ◌<◌, Bool, true, false, cond, eqb, get_or, Option, Some, None, is_some, unwrap_or, refl, sym, ap, ◌∙◌, arith}
+use Rattle.std.proofs.Common.{ℕ, ◌≡◌, Bool, true, false, cond, eqb, get_or, Option, Some, None, is_some, unwrap_or, refl, sym, ap, ◌∙◌, arith}
 use Rattle.std.specs.Ordering.{nat_cmp}
 use Rattle.std.specs.Cmp.{nat_cmp_total}
 use Rattle.std.specs.FinMap as maps

@@ -1,5 +1,5 @@
 -- A machine is as it was made exactly where a look at its layers says so, since space 0 never maps anything.
-use Rattle.std.proofs.Common.{◌≡◌, ℕ, zero, suc, ◌<◌, ◌≤◌, Bool, true, false, not, ◌&&◌, List, [], ◌∷◌, length, replicate, Option, Some, None, refl, sym, ap, ◌∙◌, subst}
+use Rattle.std.proofs.Common.{◌≡◌, ℕ, zero, suc, ◌<◌, Bool, true, false, not, ◌&&◌, List, [], ◌∷◌, length, replicate, Option, Some, None, refl, sym, ap, ◌∙◌, subst}
 use Rattle.std.proofs.lemmas.List.{length-replicate, get_or-replicate}
 use Rattle.frames.specs.Frames.{Frame, has_used}
 use Rattle.volume_codec.specs.Super.{SuperValue}

@@ -1,5 +1,5 @@
 -- The holder of the lock, once its change is handed out.
-use Rattle.std.proofs.Common.{ℕ, ◌≡◌, ◌==◌, Bool, true, false, not, cond, [], ◌∷◌, Option, Some, None, Ok, refl, ◌∙◌}
+use Rattle.std.proofs.Common.{ℕ, ◌≡◌, Bool, true, false, not, cond, [], ◌∷◌, Option, Some, None, Ok, refl, ◌∙◌}
 use Rattle.page_entry.specs.declared.refusal.Refusal.{Refusal}
 use Rattle.page_entry.specs.declared.refusal.Refusal.TheVariants as refusals
 use Rattle.spaces.specs.declared.change.Change.{Change}

@@ -1,5 +1,5 @@
 -- Whether a page is in memory, by the search for its frame.
-use Rattle.std.proofs.Common.{ℕ, ◌≡◌, Option, Some, sym, ◌∙◌}
+use Rattle.std.proofs.Common.{ℕ, ◌≡◌, Option, Some, sym}
 use Rattle.std.specs.Option.{IfSome, IfNone, is_some}
 use Rattle.page_entry.specs.declared.numbers.FilePage.{FilePage}
 use Rattle.frames.specs.Frames.{FramesState, frame_at, page_of, HasNoFrame}

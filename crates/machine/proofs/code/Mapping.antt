@@ -1,5 +1,5 @@
 -- Why a mapping is refused.
-use Rattle.std.proofs.Common.{ℕ, ◌≡◌, ◌<◌, ◌≤◌, nat_le, ◌%◌, ◌/◌, ◌==◌, ◌&&◌, Bool, true, false, cond, [], ◌∷◌, length, Option, Some, None, not, unwrap_or, Ok, refl, sym, ap, ◌∙◌, subst}
+use Rattle.std.proofs.Common.{ℕ, ◌≡◌, ◌<◌, ◌≤◌, nat_le, Bool, true, false, cond, [], ◌∷◌, length, Option, Some, None, not, unwrap_or, Ok, refl, sym, ap, ◌∙◌, subst}
 use Rattle.page_entry.specs.declared.refusal.Refusal.{Refusal}
 use Rattle.page_entry.specs.declared.refusal.Refusal.TheVariants as refusals
 use Rattle.mappings.specs.declared.place.Place.{Place}

@@ -1,5 +1,5 @@
 -- One step of a machine, by what its layers did.
-use Rattle.std.proofs.Common.{ℕ, ◌≡◌, ◌≢◌, ◌*◌, ◌≤◌, ap, arith}
+use Rattle.std.proofs.Common.{◌≢◌, ap, arith}
 use Rattle.device.specs.declared.device.Device.{Ghosts}
 use Rattle.page_entry.specs.declared.refusal.Refusal.TheVariants as refusals
 use Rattle.volume_codec.specs.Super.{SuperValue, block_count}

@@ -1,5 +1,5 @@
 -- The device calls of steps add up.
-use Rattle.std.proofs.Common.{ℕ, ◌≡◌, ◌+◌, ◌-◌, ◌*◌, ◌^◌, ◌<◌, ◌≤◌, ◌⊎◌, inl, inr, Bool, true, false, cond, List, [], ◌∷◌, length, refl, sym, ap, subst, ◌∙◌, arith}
+use Rattle.std.proofs.Common.{ℕ, ◌≡◌, ◌+◌, ◌-◌, ◌*◌, ◌^◌, ◌<◌, ◌≤◌, inl, inr, Bool, true, false, cond, List, [], ◌∷◌, length, refl, ap, ◌∙◌, arith}
 use Rattle.std.specs.Prelude.{nat_lt}
 use Rattle.std.proofs.lemmas.Bool.{lt-ltb, cond-true}
 use Rattle.page_entry.specs.declared.refusal.Refusal.TheVariants as refusals
@@ -14,8 +14,8 @@ use Rattle.machine.specs.declared.act.Step.{Step}
 use Rattle.machine.specs.State.{State, Whole}
 use Rattle.machine.specs.Rules.{work_asked}
 use Rattle.machine.specs.Calls.{CallsOf, FixCalls, FlushCalls, reads_page, has_failed}
-use Rattle.machine.specs.Runs.{StepTaken, StepsTaken}
-use Rattle.machine.specs.Sums.{AddUpTo, CallsAddUp}
+use Rattle.machine.specs.Runs.{StepsTaken}
+use Rattle.machine.specs.Sums.{CallsAddUp}
 
 -- a count that isn't at its end rises by one
 one_more : (n : ℕ) → n < 2 ^ 64 - 1 → raised n ≡ n + 1

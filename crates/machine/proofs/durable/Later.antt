@@ -1,5 +1,5 @@
 -- What openings find after a run.
-use Rattle.std.proofs.Common.{ℕ, ◌≡◌, ◌⊎◌, true, List, Result, Ok, Err, refl, ◌∙◌}
+use Rattle.std.proofs.Common.{ℕ, true, List, Result, Ok, Err, refl}
 use Rattle.page_entry.specs.declared.refusal.Refusal.{Refusal}
 use Rattle.volume_codec.specs.Files.{File}
 use Rattle.volume_codec.specs.Layout.{block_at}

@@ -52,6 +52,7 @@ contents_more files history events s x same contents prefix are = record {
 pub record Leaves (s x : State) : Type 0 where
   pub files : SameFiles s x
   pub write_outs : x.write_outs ≡ s.write_outs
+  pub marks : x.marks ≡ s.marks
   -- no checkpoint is begun of a broken machine
   pub lock : s.write_outs.broken ≡ true → change_in x.hardware.shootdown.lock ≡ Some Checkpoint → change_in s.hardware.shootdown.lock ≡ Some Checkpoint
   pub frozen : x.checkpoint.frozen ≡ s.checkpoint.frozen

@@ -30,7 +30,7 @@ pub record QuietStep (told : Told) (s : State) (p : ℕ) (act : Act) (reply : Re
   pub same_disk : disk' ≡ disk
 
 pub leaves_itself : (s : State) → Leaves s s
-leaves_itself s = record { files = record { table = refl; lengths = refl }; write_outs = refl; lock = λ broken held. held; frozen = refl; bytes = λ owner has. refl }
+leaves_itself s = record { files = record { table = refl; lengths = refl }; write_outs = refl; marks = refl; lock = λ broken held. held; frozen = refl; bytes = λ owner has. refl }
 
 -- a change of the hardware that leaves the lock, and the bytes of frozen pages
 pub leaves_hardware : (s : State) (hardware : Hardware) → hardware.shootdown.lock ≡ s.hardware.shootdown.lock
@@ -38,6 +38,7 @@ pub leaves_hardware : (s : State) (hardware : Hardware) → hardware.shootdown.l
 leaves_hardware s hardware lock bytes = record {
   files = record { table = refl; lengths = refl };
   write_outs = refl;
+  marks = refl;
   lock = λ broken held. sym (ap change_in lock) ∙ held;
   frozen = refl;
   bytes = bytes;
@@ -49,6 +50,7 @@ pub leaves_change : (s : State) (p : ℕ) (spaces : Spaces) (memory : FramesStat
 leaves_change s p spaces memory checkpoint frozen bytes = record {
   files = record { table = refl; lengths = refl };
   write_outs = refl;
+  marks = refl;
   lock = λ broken held. absurd (none_some Checkpoint held);
   frozen = frozen;
   bytes = bytes;
@@ -59,6 +61,7 @@ pub leaves_begun : (s : State) (p : ℕ) (change : Change) → (s.write_outs.bro
 leaves_begun s p change other = record {
   files = record { table = refl; lengths = refl };
   write_outs = refl;
+  marks = refl;
   lock = λ broken held. absurd (other broken (some_same change Checkpoint held));
   frozen = refl;
   bytes = λ owner has. refl;

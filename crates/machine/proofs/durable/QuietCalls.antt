@@ -73,6 +73,7 @@ module _ (told : Told) (s : State) (disk : List ℕ) (p : ℕ) (new : State) (di
       quiet_as told s disk p new disk' x (acts.Destroy space) replies.Destroyed (record {
         files = record { table = refl; lengths = refl };
         write_outs = refl;
+        marks = refl;
         lock = λ broken held. held;
         frozen = rule.0.noted.frozen;
         bytes = λ owner has. refl;

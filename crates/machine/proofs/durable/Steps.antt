@@ -66,14 +66,14 @@ durable_as files told told' s seen seen' may same same_seen is = record {
 }
 
 -- the reply to what a step of the write-outs answers tells the answer
-going_is : (a : Flushed) → replies.Going ≡ reply_to a → a ≡ flushed.Going
+pub going_is : (a : Flushed) → replies.Going ≡ reply_to a → a ≡ flushed.Going
 going_is flushed.Going e = refl
 going_is (flushed.Committed mark) e = cc
 going_is (flushed.Done mark) e = cc
 going_is flushed.Device e = cc
 going_is flushed.Broken e = cc
 
-committed_is : (number : ℕ) (a : Flushed) → replies.Committed number ≡ reply_to a → a ≡ flushed.Committed number
+pub committed_is : (number : ℕ) (a : Flushed) → replies.Committed number ≡ reply_to a → a ≡ flushed.Committed number
 committed_is number flushed.Going e = cc
 committed_is number (flushed.Committed mark) e = ap flushed.Committed (same number mark e)
   where
@@ -83,7 +83,7 @@ committed_is number (flushed.Done mark) e = cc
 committed_is number flushed.Device e = cc
 committed_is number flushed.Broken e = cc
 
-done_is : (number : ℕ) (a : Flushed) → replies.Done number ≡ reply_to a → a ≡ flushed.Done number
+pub done_is : (number : ℕ) (a : Flushed) → replies.Done number ≡ reply_to a → a ≡ flushed.Done number
 done_is number flushed.Going e = cc
 done_is number (flushed.Committed mark) e = cc
 done_is number (flushed.Done mark) e = ap flushed.Done (same number mark e)

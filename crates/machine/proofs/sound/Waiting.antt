@@ -19,7 +19,7 @@ use Rattle.machine.specs.inside.Sound.{AreOlderCommitted}
 -- ---- one write-out
 
 -- how many home blocks a write-out has
-abbrev blocks : WriteOut → ℕ
+abbrev pub blocks : WriteOut → ℕ
 blocks w = length w.batch.homes
 
 -- a batch is committed once its records, its descriptor and its gate are written and sure

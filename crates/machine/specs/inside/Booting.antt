@@ -1,5 +1,5 @@
 -- The memory that a machine takes when it is made.
-use Rattle.std.specs.Prelude.{ℕ, ◌≡◌, ◌<◌, ◌≤◌, None}
+use Rattle.std.specs.Prelude.{◌≡◌, ◌<◌, ◌≤◌, None}
 use Rattle.volume_codec.specs.Layout.{GeometryValue}
 use Rattle.frames.specs.Frames.{all_free}
 use Rattle.spaces.specs.Spaces.{first_spaces}

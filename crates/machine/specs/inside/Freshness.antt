@@ -1,5 +1,5 @@
 -- What tells a machine that was just made.
-use Rattle.std.specs.Prelude.{ℕ, ◌≡◌, Bool, true, not, ◌&&◌, length}
+use Rattle.std.specs.Prelude.{◌≡◌, true, not, ◌&&◌, length}
 use Rattle.std.specs.List.{All}
 use Rattle.std.specs.FinMap as maps
 use Rattle.frames.specs.Frames.{has_used}

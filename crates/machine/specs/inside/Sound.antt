@@ -1,26 +1,23 @@
 -- What holds of every machine's state: the facts of its layers, and those that tie them to each other.
-use Rattle.std.specs.Prelude.{ℕ, ◌≡◌, ◌≢◌, ◌+◌, ◌*◌, ◌^◌, ◌<◌, ◌≤◌, Bool, true, false, List, [], ◌∷◌, length, map, Option, Some, None, IsSome, Contains, slice_index_or, Ok}
+use Rattle.std.specs.Prelude.{ℕ, ◌≡◌, ◌+◌, ◌*◌, ◌^◌, ◌<◌, ◌≤◌, true, false, List, [], ◌∷◌, length, map, Some, None, IsSome, slice_index_or}
 use Rattle.std.specs.List.{All}
 use Rattle.page_entry.specs.declared.numbers.FilePage.{FilePage}
 use Rattle.mappings.specs.declared.place.Place.{Place}
-use Rattle.mappings.specs.declared.place.Rights.{Rights}
-use Rattle.mappings.specs.declared.page_range.PageRange.{PageRange}
 use Rattle.mappings.specs.Judgement.{is_user_range, protect_refusal}
 use Rattle.frames.specs.Frames.{FramesState, Frame, frame_at, bytes_of}
 use Rattle.volume_codec.specs.Layout.{max_frames, journals_of}
-use Rattle.volume_codec.specs.Files.{TableFile}
-use Rattle.volume_codec.specs.Super.{SuperValue, Fits, geometry_of}
+use Rattle.volume_codec.specs.Super.{Fits, geometry_of}
 use Rattle.volume_codec.specs.Descriptor.{AreHomes}
 use Rattle.journal.specs.WriteOut.{WriteOut, has_committed}
 use Rattle.journal.specs.WriteOuts.{is_busy}
 use Rattle.spaces.specs.declared.change.Change.{Change}
 use Rattle.spaces.specs.declared.change.Change.TheVariants.{Unmap, Protect, Reclaim, Checkpoint}
-use Rattle.spaces.specs.Spaces.{Spaces, AreSpaces, has_space, space_at, place_at}
+use Rattle.spaces.specs.Spaces.{AreSpaces, has_space, space_at, place_at}
 use Rattle.spaces.specs.Requests.{is_user_space}
 use Rattle.shootdown.specs.declared.lock.Lock.{Lock}
-use Rattle.shootdown.specs.Shootdown.{ShootdownState, IsShootdown, current}
+use Rattle.shootdown.specs.Shootdown.{IsShootdown, current}
 use Rattle.shootdown.specs.Coherence.{Coheres}
-use Rattle.checkpoint.specs.Checkpoint.{CheckpointState, Holds, is_noted, is_frozen, AreRising}
+use Rattle.checkpoint.specs.Checkpoint.{Holds, is_noted, is_frozen, AreRising}
 use Rattle.checkpoint.specs.Backing.{AreBacked}
 use Rattle.fault.specs.Fault.{is_in_memory}
 use Rattle.machine.specs.State.{State, length_of, home_of}

@@ -1,5 +1,5 @@
 -- How a machine's state and its device go with what its run tells.
-use Rattle.std.specs.Prelude.{ℕ, ◌≡◌, ◌≢◌, ◌+◌, ◌<◌, ◌≤◌, ◌↔◌, ◌⊎◌, Bool, true, false, List, [], ◌++◌, length, map, Option, Some, None, is_some, Contains, slice_index_or, if◌then◌else◌}
+use Rattle.std.specs.Prelude.{ℕ, ◌≡◌, ◌≢◌, ◌<◌, ◌↔◌, ◌⊎◌, true, false, List, ◌++◌, length, map, Option, Some, None, is_some, Contains, slice_index_or}
 use Rattle.std.specs.List.{All}
 use Rattle.std.specs.FinMap as maps
 use Rattle.page_entry.specs.declared.numbers.FilePage.{FilePage}
@@ -13,11 +13,11 @@ use Rattle.spaces.specs.declared.change.Change.TheVariants.{Unmap, Protect, Recl
 use Rattle.spaces.specs.Spaces.{has_space, space_at}
 use Rattle.shootdown.specs.declared.lock.Lock.{Lock}
 use Rattle.shootdown.specs.Processors.{is_running}
-use Rattle.shootdown.specs.Shootdown.{processor_at, state_of, current}
+use Rattle.shootdown.specs.Shootdown.{state_of, current}
 use Rattle.checkpoint.specs.Checkpoint.{Holds, IsDirty}
 use Rattle.fault.specs.Fault.{is_in_memory}
 use Rattle.machine.specs.History.{Event, Memory, memory_of, after, is_touched, Mark, Acknowledge, IsMarked}
-use Rattle.machine.specs.State.{State, length_of, home_of, cut_at_end}
+use Rattle.machine.specs.State.{State, home_of, cut_at_end}
 use Rattle.machine.specs.Rules.{bytes_at_mark}
 use Rattle.machine.specs.Durability.{within_file}
 use Rattle.machine.specs.inside.Sound.{IsInFile, IsSound}

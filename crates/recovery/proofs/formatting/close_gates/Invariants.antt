@@ -1,4 +1,5 @@
-use Rattle.std.proofs.Common.{◌≡◌, length}
+use Rattle.std.proofs.Common.{◌≡◌, ◌*◌, length}
+use Rattle.device.specs.Device.{Torn}
 use Rattle.recovery.specs.inside.Erasing.{AreClosed}
 use Rattle.recovery.proofs.formatting.close_gates.Given as goal
 
@@ -6,6 +7,7 @@ abbrev pub invariant-loop-journal : goal.invariant-loop-journal
 invariant-loop-journal g l = record {
   len : length (g.D.Device.seen l.device) ≡ length (g.D.Device.seen l.initial.device);
   closed : g.D.Device.is_honest l.initial.device → g.D.Device.is_honest l.device × AreClosed l.geometry.slots l.journal (g.D.Device.seen l.initial.device) (g.D.Device.seen l.device);
+  torn : g.D.Device.is_honest l.initial.device → Torn 0 (4096 * l.geometry.blocks) (g.D.Device.seen l.initial.device) (g.D.Device.seen l.device);
   honest : g.D.Device.is_honest l.device → g.D.Device.is_honest l.initial.device;
   faults : g.D.Device.faults_met l.device ≡ g.D.Device.faults_met l.initial.device;
 }

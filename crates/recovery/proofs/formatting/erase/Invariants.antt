@@ -1,4 +1,5 @@
 use Rattle.std.proofs.Common.{◌≡◌, ◌≤◌, ◌-◌, length}
+use Rattle.device.specs.Device.{Torn}
 use Rattle.recovery.specs.inside.Erasing.{IsErased}
 use Rattle.recovery.proofs.formatting.erase.Given as goal
 
@@ -8,6 +9,7 @@ invariant-loop-at g l = record {
   high : l.at ≤ l.to;
   len : length (g.D.Device.seen l.device) ≡ length (g.D.Device.seen l.initial.device);
   erased : g.D.Device.is_honest l.initial.device → g.D.Device.is_honest l.device × IsErased l.from l.at (g.D.Device.seen l.initial.device) (g.D.Device.seen l.device);
+  torn : g.D.Device.is_honest l.initial.device → Torn l.from (l.at - l.from) (g.D.Device.seen l.initial.device) (g.D.Device.seen l.device);
   honest : g.D.Device.is_honest l.device → g.D.Device.is_honest l.initial.device;
   faults : g.D.Device.faults_met l.device ≡ g.D.Device.faults_met l.initial.device;
 }

@@ -1,6 +1,5 @@
-use Rattle.std.proofs.Common.{◌<◌, refl, ap, ◌∙◌, arith}
+use Rattle.std.proofs.Common.{refl, ap, ◌∙◌, arith}
 use Rattle.shootdown.specs.Shootdown.{ShootdownState}
-use Rattle.machine.specs.Refusals.{pages_in_file}
 use Rattle.machine.specs.Rules.{with_shootdown}
 use Rattle.machine.specs.inside.Layers.{state_in}
 use Rattle.machine.proofs.code.Reserved.{reserved_begun}

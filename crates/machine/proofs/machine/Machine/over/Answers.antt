@@ -1,4 +1,4 @@
-use Rattle.std.proofs.Common.{◌≡◌, ap, arith}
+use Rattle.std.proofs.Common.{ap, arith}
 use Rattle.std.proofs.lemmas.List.{length-map}
 use Rattle.volume_codec.specs.Files.{TableFile}
 use Rattle.shootdown.specs.Shootdown.{ShootdownState}
