@@ -6,9 +6,11 @@ ghost use Rattle.std.specs.Prelude.{◌≡◌, ◌&&◌, not, nat_lt, ◌+◌, �
 ghost use Rattle.page_entry.specs.declared.numbers.FilePage.{FilePage};
 ghost use Rattle.frames.specs.Frames.{frame_at, copy_at, page_of, bytes_of, has_free, has_used, zero_page, all_free, with_page, without_frame, with_bytes, with_copy, without_copy, HasNoFrame, HasNoCopy, AreFrames, AreInOrder};
 
+mod guesses;
 mod order;
 mod pages;
 
+use guesses::Guesses;
 use order::{insert_at, place_of};
 use page_entry::{FilePage, FrameNumber, Refusal};
 use pages::{Pages, zero_bytes};
@@ -26,6 +28,7 @@ pub struct Frames<A: Allocator + Copy = Global> {
     frames: Pages<A>,
     // The frames in use, in the order of their pages. There is room for each frame.
     order: Vec<FrameNumber, A>,
+    guesses: Guesses,
     copies: Pages<A>,
 }
 
@@ -50,6 +53,7 @@ impl<A: Allocator + Copy> Frames<A> {
         Ok(Frames {
             frames: Pages::new(alloc, frames)?,
             order: Vec::with_capacity(alloc, frames as usize)?,
+            guesses: Guesses::new(),
             copies: Pages::new(alloc, copies)?,
         })
     }
@@ -98,6 +102,18 @@ impl<A: Allocator + Copy> Frames<A> {
         ensures none { IfNone result (HasNoFrame self.now page) }
         ensures are { AreFrames self.now }
     {
+        let guess = self.guesses.guess(page);
+        if self.frames.page(guess) == Some(page) {
+            return Some(guess);
+        }
+        self.search(page)
+    }
+
+    // The frame that has a page, searched in the order.
+    fn search(&self, page: FilePage) -> Option<FrameNumber>
+        ensures found { IfSome result (λ frame. page_of (frame_at self.now frame) ≡ Some page) }
+        ensures none { IfNone result (HasNoFrame self.now page) }
+    {
         let place = place_of(&self.frames, &self.order, page);
         let frame = *self.order.get(place)?;
         if self.frames.page(frame) == Some(page) {
@@ -135,6 +151,7 @@ impl<A: Allocator + Copy> Frames<A> {
             return Err(Refusal::NoFrame);
         };
         insert_at(&mut self.order, place, frame);
+        self.guesses.put(page, frame);
         Ok(frame)
     }
 

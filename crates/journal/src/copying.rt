@@ -6,19 +6,15 @@ ghost use Rattle.volume_codec.specs.Layout.{IsHome, journals_of, record_block, b
 use device::{Device, DeviceFault};
 use volume_codec::Geometry;
 
-// A block to read into.
-fn blank_block() -> [u8; 4096] {
-    [0; 4096]
-}
-
 /// Writes record `slot` of a journal to a home block: the record is read, and then written. That is two device calls,
-/// or one where the read fails; a read that fails leaves the device's bytes.
+/// or one where the read fails; a read that fails leaves the device's bytes. The record is read into `buffer`.
 pub fn apply_record<D: Device>(
     device: &mut D,
     geometry: &Geometry,
     journal: u32,
     slot: u32,
     home: u32,
+    buffer: &mut [u8; 4096],
 ) -> Result<(), DeviceFault>
     requires long { 4096 * geometry.now.blocks ≤ length (D.seen device.old) }
     requires there { journal < journals_of geometry.now.layout }
@@ -48,8 +44,7 @@ pub fn apply_record<D: Device>(
     ensures done { IsOk result → D.faults_met device.new ≡ D.faults_met device.old }
     ensures faults_stay { 2 ^ 64 - 1 ≤ D.faults_met device.old → D.faults_met device.new ≡ D.faults_met device.old }
 {
-    let mut bytes = blank_block();
     let from = geometry.record_block(journal, slot);
-    device.read(4096 * u64::from(from), &mut bytes)?;
-    device.write(4096 * u64::from(home), &bytes)
+    device.read(4096 * u64::from(from), buffer)?;
+    device.write(4096 * u64::from(home), buffer)
 }

@@ -158,6 +158,7 @@ impl<A: Allocator + Copy> Flush<A> {
         device: &mut D,
         stage: Stage,
         bytes: &[u8; 4096],
+        buffer: &mut [u8; 4096],
     ) -> Result<(), DeviceFault>
         requires long { 4096 * self.now.geometry.blocks ≤ length (D.seen device.old) }
         requires stage { next_stage self.now.write_out ≡ Some stage }
@@ -202,7 +203,7 @@ impl<A: Allocator + Copy> Flush<A> {
             Stage::Opening => open_gate(device, &self.geometry, self.journal),
             Stage::Applying(slot) => {
                 let home = self.home_at(slot);
-                apply_record(device, &self.geometry, self.journal, slot, home)
+                apply_record(device, &self.geometry, self.journal, slot, home, buffer)
             }
             Stage::Closing => close_gate(device, &self.geometry, self.journal),
             Stage::SyncingRecords | Stage::Committing | Stage::SyncingHomes | Stage::Finishing =>
@@ -212,8 +213,14 @@ impl<A: Allocator + Copy> Flush<A> {
 
     /// The next step: what its stage asks is done. It answers what the stage does, or `Device` where a device call
     /// failed; then the write-out is broken, and every later step answers `Broken`, makes no call and changes nothing.
-    /// `bytes` are the new ones of the block `next_home`, where there is one. It takes no memory.
-    pub fn step<D: Device>(&mut self, device: &mut D, bytes: &[u8; 4096]) -> Flushed
+    /// `bytes` are the new ones of the block `next_home`, where there is one. A record that is applied is read into
+    /// `buffer`. It takes no memory.
+    pub fn step<D: Device>(
+        &mut self,
+        device: &mut D,
+        bytes: &[u8; 4096],
+        buffer: &mut [u8; 4096],
+    ) -> Flushed
         requires long { 4096 * self.old.geometry.blocks ≤ length (D.seen device.old) }
         requires going { IsSome (next_stage self.old.write_out) }
 
@@ -254,7 +261,7 @@ impl<A: Allocator + Copy> Flush<A> {
             return Flushed::Broken;
         }
         let stage = self.stage().unwrap();
-        match self.carry_out(device, stage, bytes) {
+        match self.carry_out(device, stage, bytes, buffer) {
             Ok(()) => {
                 self.steps += 1;
                 stage.answer(self.mark)

@@ -29,6 +29,8 @@ pub struct WriteOuts<A: Allocator + Copy> {
     flushes: Vec<Flush<A>, A>,
     // Lists with room for the home blocks of a batch, for the journals that have none.
     spare: Vec<Vec<u32, A>, A>,
+    // Records are read into it on their way to their home blocks.
+    buffer: [u8; 4096],
     broken: bool,
 }
 
@@ -76,6 +78,11 @@ fn spare_lists<A: Allocator + Copy>(
         lists.push(Vec::with_capacity(alloc, slots)?)?;
     }
     Ok(lists)
+}
+
+// A block to read into.
+fn blank_block() -> [u8; 4096] {
+    [0; 4096]
 }
 
 // A list of these home blocks, in the memory of another.
@@ -129,6 +136,7 @@ impl<A: Allocator + Copy> WriteOuts<A> {
             next: 0,
             flushes: Vec::with_capacity(alloc, journals)?,
             spare: spare_lists(alloc, journals, slots)?,
+            buffer: blank_block(),
             broken: false,
         })
     }
@@ -298,7 +306,7 @@ impl<A: Allocator + Copy> WriteOuts<A> {
         }
         let at = self.current_place().unwrap();
         let flush = &mut self.flushes[at];
-        let answer = flush.step(device, bytes);
+        let answer = flush.step(device, bytes, &mut self.buffer);
         settle(&mut self.flushes, &mut self.spare, &mut self.broken, answer);
         answer
     }

@@ -125,7 +125,7 @@ pub fn apply<D: Device>(
     ensures fault { IfErr result (λ refusal. refusal ≡ Refusal.Device) }
     ensures calls { OnOk result (Rises 2 (D.calls_made device.old) (D.calls_made device.new)) }
 {
-    match apply_record(device, geometry, journal, slot, home) {
+    match apply_record(device, geometry, journal, slot, home, &mut zero_block()) {
         Ok(()) => Ok(()),
         Err(_) => Err(Refusal::Device),
     }

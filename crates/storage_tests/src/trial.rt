@@ -117,5 +117,5 @@ pub(crate) fn step_alone(
     if disk.len() < 4096 * u64::from(geometry.block_count()) {
         return None;
     }
-    Some((stage, flush.step(disk, &[8; 4096])))
+    Some((stage, flush.step(disk, &[8; 4096], &mut [0; 4096])))
 }

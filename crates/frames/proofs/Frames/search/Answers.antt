@@ -2,7 +2,7 @@ use Rattle.std.proofs.Common.{◌≡◌, subst, ◌∙◌, ap, Some, None, get_o
 use Rattle.frames.specs.Frames.{FramesState, HasNoFrame, page_of}
 use Rattle.frames.specs.inside.Order.{IsPlaceOf}
 use Rattle.frames.proofs.Listing.{no_frame_elsewhere}
-use Rattle.frames.proofs.Frames.find.Goals as goal
+use Rattle.frames.proofs.Frames.search.Goals as goal
 
 -- the frame at the page's place has another page
 pub returns-else-eq-clause-none : goal.returns-else-eq-clause-none
