@@ -20,26 +20,25 @@ static double now(void) {
     return t.tv_sec * 1e6 + t.tv_nsec / 1e3;
 }
 
-// Whether one of these lines begins with a word.
-static int has_line(const char *text, size_t size, const char *word) {
+// Whether the last of these lines begins with a word. A program that flushes such a line writes it last, and the many
+// lines before it needn't be looked at, which would take time that is counted.
+static int ends_with_line(const char *text, size_t size, const char *word) {
+    if (size == 0) return 0;
+    const char *before = memrchr(text, '\n', size - 1);
+    const char *line = before ? before + 1 : text;
     size_t length = strlen(word);
-    for (const char *line = text; line && (size_t)(text + size - line) > length;) {
-        if (memcmp(line, word, length) == 0) return 1;
-        line = memchr(line, '\n', text + size - line);
-        if (line) line++;
-    }
-    return 0;
+    return (size_t)(text + size - line) >= length && memcmp(line, word, length) == 0;
 }
 
 ssize_t write(int file, const void *bytes, size_t size) {
     static ssize_t (*real)(int, const void *, size_t);
     if (!real) *(void **)&real = dlsym(RTLD_NEXT, "write");
-    if (file == STDOUT_FILENO && inside && has_line(bytes, size, getenv("LAST"))) {
+    if (file == STDOUT_FILENO && inside && ends_with_line(bytes, size, getenv("LAST"))) {
         if (count < sizeof times / sizeof *times) times[count++] = now() - start;
         inside = 0;
     }
     ssize_t written = real(file, bytes, size);
-    if (file == STDOUT_FILENO && !inside && has_line(bytes, size, getenv("FIRST"))) {
+    if (file == STDOUT_FILENO && !inside && ends_with_line(bytes, size, getenv("FIRST"))) {
         inside = 1;
         start = now();
     }

@@ -1,5 +1,5 @@
 -- A machine that was booted over an opened volume is at the start of a run, and its steps are a run.
-use Rattle.std.proofs.Common.{ℕ, List, [], refl, sym, ◌∙◌, inl, inr, subst}
+use Rattle.std.proofs.Common.{ℕ, List, refl, sym, ◌∙◌, inl, inr, subst}
 use Rattle.device.specs.declared.device.Device.{Ghosts}
 use Rattle.page_entry.specs.declared.refusal.Refusal.{Refusal}
 use Rattle.volume_codec.specs.Files.{File}

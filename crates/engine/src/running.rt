@@ -1,13 +1,13 @@
 // The main job over any disk: a volume is opened, a machine is booted, and steps are made one at a time.
-ghost use Rattle.std.specs.Prelude.{◌↔◌, ◌≡◌, List, length, take, IfOk, IfErr};
+ghost use Rattle.std.specs.Prelude.{◌↔◌, ◌≡◌, List, length, take, IfOk, IfErr, true, false};
 ghost use Rattle.machine.specs.declared.act.Reply.{Reply};
-ghost use Rattle.engine.specs.Listening.{HasListened};
+ghost use Rattle.engine.specs.Listening.{HasListened, HasHeard, HasStopped};
 ghost use Rattle.machine.specs.Runs.{StepsTaken};
 ghost use Rattle.engine.specs.Engine.{HasStarted, HasRefused, HasRun, KeepsDevice, handed_back};
 
 use crate::Listener;
 use device::Device;
-use machine::{Machine, Shape, Step};
+use machine::{Act, Machine, Shape, Step};
 use page_entry::Refusal;
 use std::alloc::Allocator;
 
@@ -33,6 +33,15 @@ pub fn start<D: Device, A: Allocator + Copy>(
     }
 }
 
+// How many steps are fetched at a time, and what stands in the room for them before the first. A step that is fetched by
+// itself, between the pages that the steps around it copy, costs a cache miss of its own.
+const PORTION: usize = 32;
+
+const NO_STEP: Step = Step {
+    p: 0,
+    act: Act::Idle,
+};
+
 // Makes one step after the other, and tells each reply before the next step, until the listener says to stop.
 fn make_steps<D: Device, A: Allocator + Copy, L: Listener>(
     machine: &mut Machine<D, A>,
@@ -42,12 +51,36 @@ fn make_steps<D: Device, A: Allocator + Copy, L: Listener>(
     ensures { (replies : List Reply) × HasListened L.hears (length steps.now) listener.old replies listener.new
         × StepsTaken D.Device machine.old (take (length replies) steps.now) replies machine.new }
 {
-    for step in steps {
-        let reply = machine.enter(step);
-        if !listener.hear(&reply) {
+    let mut portion = [NO_STEP; PORTION];
+    let mut from = 0;
+    while from < steps.len() {
+        let count = PORTION.min(steps.len() - from);
+        portion[..count].copy_from_slice(&steps[from..from + count]);
+        if !make_portion(machine, &portion[..count], listener) {
             return;
         }
+        from += count;
     }
+}
+
+// Makes these steps, and tells each reply before the next step. The answer says whether the listener never said to stop.
+fn make_portion<D: Device, A: Allocator + Copy, L: Listener>(
+    machine: &mut Machine<D, A>,
+    portion: &[Step],
+    listener: &mut L,
+) -> bool
+    ensures { (replies : List Reply)
+        × (result ≡ true → HasHeard L.hears listener.old replies listener.new × (length replies ≡ length portion.now))
+        × (result ≡ false → HasStopped L.hears listener.old replies listener.new)
+        × StepsTaken D.Device machine.old (take (length replies) portion.now) replies machine.new }
+{
+    for step in portion {
+        let reply = machine.enter(step);
+        if !listener.hear(&reply) {
+            return false;
+        }
+    }
+    true
 }
 
 /// Opens the volume of a device, boots a machine of this shape, makes the steps one at a time, tells each reply to the

@@ -64,6 +64,14 @@ fn print_line<W: io::Write>(out: &mut W, reply: &Reply) -> io::Result<()>
     if let Reply::Going = reply {
         return out.write_all(b"going\n");
     }
+    print_flushed(out, reply)
+}
+
+// Stands apart, so that the room and the checks of its formatting aren't paid for by each `going`.
+#[inline(never)]
+fn print_flushed<W: io::Write>(out: &mut W, reply: &Reply) -> io::Result<()>
+    ensures { OnOk result (Appends (W.contents out.old) (W.contents out.new) (line_of reply.now)) }
+{
     writeln!(out, "{reply}")?;
     out.flush()
 }

@@ -1,35 +1,35 @@
-use Rattle.std.proofs.Common.{◌≡◌, ℕ, ◌+◌, ◌<◌, [], ◌∷◌, ◌++◌, length, take, refl, sym, subst, inr, rules}
+use Rattle.std.proofs.Common.{◌≡◌, ℕ, ◌+◌, ◌≤◌, List, ◌++◌, length, length-append, length-take, take, drop, refl, ◌∙◌, ap, subst, inr, arith}
+use Rattle.std.proofs.lemmas.List.{length-drop}
+use Rattle.machine.specs.declared.act.Step.{Step}
 use Rattle.machine.specs.Runs.{StepsTaken}
-use Rattle.engine.proofs.Runs.{heard_more, taken_next, length_more}
+use Rattle.engine.proofs.Runs.{heard_then, stopped_then, fetched, taken_portion}
 use Rattle.engine.proofs.running.make_steps.Goals as goal
 
-pub loop-step-init : goal.loop-step-init
-loop-step-init g c = ([], refl, refl, refl)
-
-pub returns-then-not-hear : goal.returns-then-not-hear
-returns-then-not-hear g c =
-    let earlier = c.loop-step.invariant.0 in
-    let reply = c.enter-reply.result in
-    let old = c.args.machine.now in
-    let new = c.enter-reply.new.self in
+pub returns-then-not-make_portion : goal.returns-then-not-make_portion
+returns-then-not-make_portion g c =
+    let i = c.loop-from.invariant in
+    let told = c.if-not-make_portion.ensures in
     let steps = c.args.steps.now in
-    let count : length (earlier ++ reply ∷ []) ≡ c.loop-step.step-index + 1 = length_more earlier reply _ c.loop-step.invariant.1 in
-    let below : c.loop-step.step-index < length steps = search rules in
-    let taken : StepsTaken g.D.Device old (take (c.loop-step.step-index + 1) steps) (earlier ++ reply ∷ []) new =
-    taken_next g.D.Device old c.loop-step.machine new steps c.loop-step.step-index c.step-item.result earlier reply below c.step-item.is c.loop-step.invariant.3 c.enter-reply.ensures.taken in
-    let P : ℕ → Type 0 = λ n. StepsTaken g.D.Device old (take n steps) (earlier ++ reply ∷ []) new in (
-      earlier ++ reply ∷ [],
-      inr (record { earlier = earlier; last = reply; split = refl; before = c.loop-step.listener; heard = c.loop-step.invariant.2; stopped = c.if-not-hear.ensures }),
-      subst P (sym count) taken,
+    let within : c.loop-from.from + c.min-count.result ≤ length steps = omega (arith, i.2, c.min-count.ensures) in (
+      i.0 ++ told.0,
+      inr (stopped_then g.L.Listener.hears c.args.listener.now c.loop-from.listener c.make_portion.new.listener i.0 told.0 i.3 (told.2 refl)),
+      taken_portion g.D.Device c.args.machine.now c.loop-from.machine c.make_portion.new.machine steps _ c.loop-from.from c.min-count.result i.0 told.0 within (fetched steps c.loop-from.portion _ c.loop-from.from c.min-count.result within c.copy_from_slice.ensures.after) i.1 i.4 told.3,
     )
 
-pub loop-step-preserved : goal.loop-step-preserved
-loop-step-preserved g c =
-    let earlier = c.loop-step.invariant.0 in
-    let reply = c.enter-reply.result in
-    let below : c.loop-step.step-index < length c.args.steps.now = search rules in (
-      earlier ++ reply ∷ [],
-      length_more earlier reply _ c.loop-step.invariant.1,
-      heard_more g.L.Listener.hears c.args.listener.now c.loop-step.listener c.hear.new.self earlier reply c.loop-step.invariant.2 c.if-not-hear.ensures,
-      taken_next g.D.Device c.args.machine.now c.loop-step.machine c.enter-reply.new.self c.args.steps.now c.loop-step.step-index c.step-item.result earlier reply below c.step-item.is c.loop-step.invariant.3 c.enter-reply.ensures.taken,
+pub loop-from-preserved : goal.loop-from-preserved
+loop-from-preserved g c =
+    let i = c.loop-from.invariant in
+    let told = c.if-not-make_portion.ensures in
+    let steps = c.args.steps.now in
+    let heard = told.1 refl in
+    let within : c.loop-from.from + c.min-count.result ≤ length steps = omega (arith, i.2, c.min-count.ensures) in
+    let same = fetched steps c.loop-from.portion _ c.loop-from.from c.min-count.result within c.copy_from_slice.ensures.after in
+    let count : length (i.0 ++ told.0) ≡ c.loop-from.from + c.min-count.result =
+    length-append i.0 told.0 ∙ omega (arith, i.1, heard.1, ap (λ (l : List Step). length l) same, length-take c.min-count.result (drop c.loop-from.from steps), length-drop c.loop-from.from steps, within) in
+    let P : ℕ → Type 0 = λ n. StepsTaken g.D.Device c.args.machine.now (take n steps) (i.0 ++ told.0) c.make_portion.new.machine in (
+      i.0 ++ told.0,
+      count,
+      within,
+      heard_then g.L.Listener.hears c.args.listener.now c.loop-from.listener c.make_portion.new.listener i.0 told.0 i.3 heard.0,
+      subst P count (taken_portion g.D.Device c.args.machine.now c.loop-from.machine c.make_portion.new.machine steps _ c.loop-from.from c.min-count.result i.0 told.0 within same i.1 i.4 told.3),
     )
