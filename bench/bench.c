@@ -1,7 +1,8 @@
 // What `bench/run` compares famsync with.
 //
-//   bench DISK SLOTS PAGES COMMITS   makes the reads, writes and syncs of that many commits of that many pages on a
-//                                    volume of layout 1, with nothing around them, and prints the microseconds of each
+//   bench DISK SLOTS PAGES COMMITS PAUSE   makes the reads, writes and syncs of that many commits of that many pages on
+//                                          a volume of layout 1, with nothing around them, and prints the microseconds
+//                                          of each; before each it keeps its processor at work for PAUSE microseconds
 #define _GNU_SOURCE
 #include <fcntl.h>
 #include <stdint.h>
@@ -13,9 +14,10 @@
 
 enum { BLOCK = 4096 };
 
+// The time, or with PROCESSOR_TIME that for which the processor was at work for this program.
 static double now(void) {
     struct timespec t;
-    clock_gettime(CLOCK_MONOTONIC, &t);
+    clock_gettime(getenv("PROCESSOR_TIME") ? CLOCK_PROCESS_CPUTIME_ID : CLOCK_MONOTONIC, &t);
     return t.tv_sec * 1e6 + t.tv_nsec / 1e3;
 }
 
@@ -64,15 +66,17 @@ static void commit(int disk, int slots, int pages, uint64_t mark) {
 }
 
 int main(int count, char **words) {
-    if (count != 5) {
-        fputs("bench DISK SLOTS PAGES COMMITS\n", stderr);
+    if (count != 6) {
+        fputs("bench DISK SLOTS PAGES COMMITS PAUSE\n", stderr);
         return 2;
     }
     int disk = open(words[1], O_RDWR);
     if (disk < 0) fail(words[1]);
     int slots = atoi(words[2]), pages = atoi(words[3]), commits = atoi(words[4]);
+    double pause = atof(words[5]);
     for (int mark = 1; mark <= commits; mark++) {
         for (int i = 0; i < pages; i++) memory[i][0] = (unsigned char)mark;
+        for (double since = now(); now() - since < pause;) {}
         double start = now();
         commit(disk, slots, pages, mark);
         printf("%.1f\n", now() - start);

@@ -14,9 +14,10 @@ static size_t count;
 static double start;
 static int inside;
 
+// The time, or with PROCESSOR_TIME that for which the processor was at work for this program.
 static double now(void) {
     struct timespec t;
-    clock_gettime(CLOCK_MONOTONIC, &t);
+    clock_gettime(getenv("PROCESSOR_TIME") ? CLOCK_PROCESS_CPUTIME_ID : CLOCK_MONOTONIC, &t);
     return t.tv_sec * 1e6 + t.tv_nsec / 1e3;
 }
 
