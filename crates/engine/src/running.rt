@@ -33,8 +33,8 @@ pub fn start<D: Device, A: Allocator + Copy>(
     }
 }
 
-// How many steps are fetched at a time, and what stands in the room for them before the first. A step that is fetched by
-// itself, between the pages that the steps around it copy, costs a cache miss of its own.
+// How many steps are fetched at a time, and what stands in the room for them before the first. A step that is fetched
+// by itself, between the pages that the steps around it copy, costs a cache miss of its own.
 const PORTION: usize = 32;
 
 const NO_STEP: Step = Step {
@@ -63,7 +63,7 @@ fn make_steps<D: Device, A: Allocator + Copy, L: Listener>(
     }
 }
 
-// Makes these steps, and tells each reply before the next step. The answer says whether the listener never said to stop.
+// Makes these steps, and tells each reply before the next step. Answers whether the listener never said to stop.
 fn make_portion<D: Device, A: Allocator + Copy, L: Listener>(
     machine: &mut Machine<D, A>,
     portion: &[Step],
