@@ -1,8 +1,9 @@
 // What `bench/run` compares famsync with.
 //
 //   bench DISK SLOTS PAGES COMMITS PAUSE   makes the reads, writes and syncs of that many commits of that many pages on
-//                                          a volume of layout 1, with nothing around them, and prints the microseconds
-//                                          of each; before each it keeps its processor at work for PAUSE microseconds
+//                                          a volume of layout 1, with nothing around them, and prints `marked` before
+//                                          each and `done` after it; before that it stores a byte in each page, and
+//                                          keeps its processor at work for PAUSE microseconds
 #define _GNU_SOURCE
 #include <fcntl.h>
 #include <stdint.h>
@@ -13,13 +14,6 @@
 #include <unistd.h>
 
 enum { BLOCK = 4096 };
-
-// The time, or with PROCESSOR_TIME that for which the processor was at work for this program.
-static double now(void) {
-    struct timespec t;
-    clock_gettime(getenv("PROCESSOR_TIME") ? CLOCK_PROCESS_CPUTIME_ID : CLOCK_MONOTONIC, &t);
-    return t.tv_sec * 1e6 + t.tv_nsec / 1e3;
-}
 
 static void fail(const char *what) {
     perror(what);
@@ -34,6 +28,10 @@ static void sync_all(int disk) {
     if (fsync(disk) != 0) fail("fsync");
 }
 
+static void tell(const char *line) {
+    if (write(STDOUT_FILENO, line, strlen(line)) < 0) fail("write");
+}
+
 static void big_endian(unsigned char *to, uint64_t number, int bytes) {
     for (int i = bytes - 1; i >= 0; i--, number >>= 8) to[i] = number & 0xff;
 }
@@ -41,8 +39,13 @@ static void big_endian(unsigned char *to, uint64_t number, int bytes) {
 // The pages of the file.
 static unsigned char memory[1020][BLOCK];
 
-// One commit of a byte in each page: the records, the descriptor, the gate opened; the records applied, the gate
-// closed.
+static double now(void) {
+    struct timespec t;
+    clock_gettime(CLOCK_MONOTONIC, &t);
+    return t.tv_sec * 1e6 + t.tv_nsec / 1e3;
+}
+
+// One commit of these pages: the records, the descriptor, the gate opened; the records applied, the gate closed.
 static void commit(int disk, int slots, int pages, uint64_t mark) {
     static unsigned char record[BLOCK], descriptor[BLOCK];
     const unsigned char open_gate = 0xa7, closed_gate = 0;
@@ -75,11 +78,11 @@ int main(int count, char **words) {
     int slots = atoi(words[2]), pages = atoi(words[3]), commits = atoi(words[4]);
     double pause = atof(words[5]);
     for (int mark = 1; mark <= commits; mark++) {
-        for (int i = 0; i < pages; i++) memory[i][0] = (unsigned char)mark;
         for (double since = now(); now() - since < pause;) {}
-        double start = now();
+        for (int i = 0; i < pages; i++) memory[i][0] = (unsigned char)mark;
+        tell("marked\n");
         commit(disk, slots, pages, mark);
-        printf("%.1f\n", now() - start);
+        tell("done\n");
     }
     return 0;
 }
