@@ -2,6 +2,7 @@
 use crate::sample::{DAMAGES, FILES, SPECS, many_files, put, put_super_one, put_super_two};
 use page_entry::Refusal;
 use std::alloc::Global;
+use std::process::Abort;
 use std::test::Fail;
 use volume_codec::{
     FileSpec, Geometry, Layout, Super, block_count_as, block_count_of, read_descriptor, read_super,
@@ -113,19 +114,44 @@ fn descriptor_refusal(alloc: Global, geometry: &Geometry, block: &[u8; 4096]) ->
     read_descriptor(alloc, geometry, block).err()
 }
 
+// Whether a block has both files, and their home blocks begin there.
+fn has_files(alloc: Global, block: &[u8; 4096], homes: [u32; 2]) -> Result<bool, Fail> {
+    Ok(
+        has_file(alloc, block, 0, ("a", 5000, 2, homes[0]))?
+            && has_file(alloc, block, 1, ("b", 4096, 1, homes[1]))?,
+    )
+}
+
+// Whether the two files' table in layout 1 is written as this block, if the layout is named, too.
+fn is_written_by_number(alloc: Global, block: &[u8; 4096]) -> bool {
+    match write_super_as(alloc, 1, &SPECS, 4) {
+        Ok(written) => written == *block,
+        Err(_) => false,
+    }
+}
+
+fn is_sample_one(geometry: &Geometry) -> bool {
+    geometry.layout() == Layout::One
+        && (geometry.journals(), geometry.slots()) == (1, 4)
+        && journal(geometry, 0, 3) == Some((1, 2, 6))
+        && (geometry.first_home(), geometry.max_frames()) == (7, 4)
+}
+
+fn is_sample_two(geometry: &Geometry) -> bool {
+    geometry.layout() == Layout::Two
+        && (geometry.journals(), geometry.slots()) == (2, 4)
+        && journal(geometry, 1, 0) == Some((7, 8, 9))
+        && (geometry.first_file_home(), geometry.block_count()) == (13, 16)
+}
+
 #[test]
 fn layout_1_is_written_and_read(rt: HostRuntime) -> Result<(), Fail> {
     let block = write_super(rt.alloc(), &FILES, 4)?;
     assert!(rt; block == sample_one());
-    assert!(rt; write_super_as(rt.alloc(), 1, &SPECS, 4) == Ok(block));
+    assert!(rt; is_written_by_number(rt.alloc(), &block));
     assert!(rt; counts(rt.alloc(), &block)? == (Layout::One, 2, 4, 10));
-    assert!(rt; has_file(rt.alloc(), &block, 0, ("a", 5000, 2, 7))?);
-    assert!(rt; has_file(rt.alloc(), &block, 1, ("b", 4096, 1, 9))?);
-    let geometry = geometry_of(rt.alloc(), &block)?;
-    assert!(rt; geometry.layout() == Layout::One);
-    assert!(rt; (geometry.journals(), geometry.slots()) == (1, 4));
-    assert!(rt; journal(&geometry, 0, 3) == Some((1, 2, 6)));
-    assert!(rt; (geometry.first_home(), geometry.max_frames()) == (7, 4));
+    assert!(rt; has_files(rt.alloc(), &block, [7, 9])?);
+    assert!(rt; is_sample_one(&geometry_of(rt.alloc(), &block)?));
     Ok(())
 }
 
@@ -134,13 +160,8 @@ fn layout_2_is_written_and_read(rt: HostRuntime) -> Result<(), Fail> {
     let block = block_two(rt.alloc())?;
     assert!(rt; block == sample_two());
     assert!(rt; counts(rt.alloc(), &block)? == (Layout::Two, 2, 4, 16));
-    assert!(rt; has_file(rt.alloc(), &block, 0, ("a", 5000, 2, 13))?);
-    assert!(rt; has_file(rt.alloc(), &block, 1, ("b", 4096, 1, 15))?);
-    let geometry = geometry_of(rt.alloc(), &block)?;
-    assert!(rt; geometry.layout() == Layout::Two);
-    assert!(rt; (geometry.journals(), geometry.slots()) == (2, 4));
-    assert!(rt; journal(&geometry, 1, 0) == Some((7, 8, 9)));
-    assert!(rt; (geometry.first_file_home(), geometry.block_count()) == (13, 16));
+    assert!(rt; has_files(rt.alloc(), &block, [13, 15])?);
+    assert!(rt; is_sample_two(&geometry_of(rt.alloc(), &block)?));
     Ok(())
 }
 
@@ -259,13 +280,18 @@ fn descriptors(rt: HostRuntime) -> Result<(), Fail> {
     Ok(())
 }
 
-#[test]
-fn a_descriptor_is_written(rt: HostRuntime) -> Result<(), Fail> {
-    let geometry = table_of(rt.alloc(), &sample_one())?.geometry();
+// The descriptor of mark 1 for the home blocks 7 and 8 of the sample's geometry.
+fn written_descriptor(rt: &impl Abort, geometry: &Geometry) -> [u8; 4096] {
     assert_eq!(rt; geometry.first_home(), 7);
     assert_eq!(rt; geometry.block_count(), 10);
     assert_eq!(rt; geometry.slots(), 4);
-    assert!(rt; write_descriptor(&geometry, 1, &[7, 8]) == sample_descriptor());
+    write_descriptor(geometry, 1, &[7, 8])
+}
+
+#[test]
+fn a_descriptor_is_written(rt: HostRuntime) -> Result<(), Fail> {
+    let geometry = geometry_of(rt.alloc(), &sample_one())?;
+    assert!(rt; written_descriptor(&rt, &geometry) == sample_descriptor());
     Ok(())
 }
 

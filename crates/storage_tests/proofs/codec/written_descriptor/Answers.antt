@@ -1,5 +1,5 @@
 use Rattle.std.proofs.Common.{arith}
-use Rattle.storage_tests.proofs.codec.a_descriptor_is_written.Goals as goal
+use Rattle.storage_tests.proofs.codec.written_descriptor.Goals as goal
 
 pub write_descriptor-requires : goal.write_descriptor-requires
 write_descriptor-requires g c = record {
