@@ -178,30 +178,33 @@ fn layouts_have_numbers(rt: HostRuntime) {
     assert_eq!(rt; Layout::from_magic(*b"FAMSYNC5"), None);
 }
 
+// Why a block isn't read.
+fn refusal(alloc: Global, block: &[u8; 4096]) -> Option<Refusal> {
+    read_super(alloc, block).err()
+}
+
+// Why the sample's super block in layout 1 isn't read with these bytes there.
+fn refusal_with(alloc: Global, at: usize, bytes: &[u8]) -> Option<Refusal> {
+    let mut block = sample_one();
+    put(&mut block, at, bytes);
+    refusal(alloc, &block)
+}
+
 #[test]
 fn refused_super_blocks(rt: HostRuntime) {
-    let mut block = sample_one();
-    assert_eq!(rt; read_super(rt.alloc(), &block).err(), None);
+    assert!(rt; refusal(rt.alloc(), &sample_one()).is_none());
     for (at, bytes) in [(7, b"5"), (0, b"G")] {
-        block = sample_one();
-        put(&mut block, at, bytes);
-        assert_eq!(rt;
-            read_super(rt.alloc(), &block).err(),
-            Some(Refusal::NotAVolume)
-        );
+        assert!(rt; refusal_with(rt.alloc(), at, bytes) == Some(Refusal::NotAVolume));
     }
     for (at, bytes) in DAMAGES {
-        block = sample_one();
-        put(&mut block, at, bytes);
-        let refusal = read_super(rt.alloc(), &block).err();
-        assert_eq!(rt; refusal, Some(Refusal::Damaged), "byte {at}");
+        assert!(rt;
+            refusal_with(rt.alloc(), at, bytes) == Some(Refusal::Damaged),
+            "byte {at}"
+        );
     }
-    block = sample_two();
+    let mut block = sample_two();
     put(&mut block, 7, b"1");
-    assert_eq!(rt;
-        read_super(rt.alloc(), &block).err(),
-        Some(Refusal::Damaged)
-    );
+    assert!(rt; refusal(rt.alloc(), &block) == Some(Refusal::Damaged));
 }
 
 #[test]

@@ -320,12 +320,7 @@ fn each_call_of_a_disk_is_one_of_its_file(rt: HostRuntime) -> Result<(), Fail> {
         broken: false,
     };
     let mut disk = FileDisk::over(file, 8);
-    let mut buffer = [1; 2];
-    write(&mut disk, 3, &[7, 8, 9])?;
-    disk.sync()?;
-    read(&mut disk, 4, &mut buffer)?;
-    assert_eq!(rt; buffer, [8, 9]);
-    assert_eq!(rt; counts(&disk), (8, 3, 0));
+    assert!(rt; disk.len() == 8 && goes_well(&mut disk)?);
     let mut file = disk.into_file();
     file.broken = true;
     let mut disk = FileDisk::over(file, 8);
@@ -333,13 +328,29 @@ fn each_call_of_a_disk_is_one_of_its_file(rt: HostRuntime) -> Result<(), Fail> {
     assert_eq!(rt; counts(&disk), (8, 1, 1));
     let file = disk.into_file();
     let calls = [
-        Call::Write(3, [7, 8, 9].to_vec(rt.alloc())?, true),
+        Call::Write(2, [7, 8, 9].to_vec(rt.alloc())?, true),
         Call::Sync(true),
-        Call::Read(4, [8, 9].to_vec(rt.alloc())?, true),
+        Call::Read(1, [0, 7, 8, 9].to_vec(rt.alloc())?, true),
         Call::Sync(false),
     ];
     assert_eq!(rt; file.calls.as_slice(), calls.as_slice());
     Ok(())
+}
+
+// Whether a disk has what such a write has left.
+fn is_written<D: Device>(disk: &mut D) -> Result<bool, DeviceFault>
+    requires { length (D.seen disk.old) ≡ 8 }
+{
+    let mut whole = [1; 8];
+    read(disk, 0, &mut whole)?;
+    Ok(whole == [0, 0, 7, 8, 9, 0, 0, 0])
+}
+
+// Whether a read of a disk that had one call fails, and is counted.
+fn second_read_fails<D: Device>(disk: &mut D) -> bool
+    requires { length (D.seen disk.old) ≡ 8 }
+{
+    read(disk, 0, &mut [1; 8]) == Err(DeviceFault) && counts(disk) == (8, 2, 1)
 }
 
 #[test]
@@ -350,14 +361,10 @@ fn a_file_keeps_what_was_written(rt: HostRuntime) -> Result<(), Fail> {
     assert!(rt; disk.len() == 8 && goes_well(&mut disk)?);
     drop(disk);
     let mut again = FileDisk::open(&rt, path)?;
-    assert_eq!(rt; again.len(), 8);
-    let mut whole = [1; 8];
-    read(&mut again, 0, &mut whole)?;
-    assert_eq!(rt; whole, [0, 0, 7, 8, 9, 0, 0, 0]);
+    assert!(rt; again.len() == 8 && is_written(&mut again)?);
     // Another hand cuts the file: a read past its end fails, and is counted.
     fs::write(&rt, path, "cut")?;
-    let failed = read(&mut again, 0, &mut whole) == Err(DeviceFault);
-    assert!(rt; failed && counts(&again) == (8, 2, 1));
+    assert!(rt; again.len() == 8 && second_read_fails(&mut again));
     fs::remove_file(&rt, path)?;
     assert!(rt; FileDisk::open(&rt, path).is_err());
     Ok(())
