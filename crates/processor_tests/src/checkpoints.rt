@@ -308,25 +308,31 @@ fn entries_are_protected(rt: &impl Abort, trial: &Trial) {
     assert_eq!(rt; trial.entry(1, 17), Entry::absent());
 }
 
+// All pages but the fourth are dirty.
+fn three_are_dirty(rt: &impl Abort, trial: &Trial) {
+    for page in [FIRST, SECOND, THIRD] {
+        assert!(rt; trial.is_dirty(rt, page));
+    }
+    assert!(rt; !trial.is_dirty(rt, FOURTH));
+}
+
+// They are frozen, and no page is dirty.
+fn three_are_frozen(rt: &impl Abort, trial: &Trial) {
+    assert!(rt; trial.are_frozen(&[FIRST, SECOND, THIRD]));
+    for page in [FIRST, SECOND, THIRD, FOURTH] {
+        assert!(rt; !trial.is_dirty(rt, page));
+        assert_eq!(rt; trial.is_frozen(page), page != FOURTH);
+    }
+}
+
 #[test]
 fn a_mark_gathers_every_space(rt: HostRuntime) -> Result<(), Fail> {
     let mut trial = Trial::new(rt.alloc())?;
     dirty_three(&rt, &mut trial)?;
-    for (page, dirty) in [
-        (FIRST, true),
-        (SECOND, true),
-        (THIRD, true),
-        (FOURTH, false),
-    ] {
-        assert_eq!(rt; trial.is_dirty(&rt, page), dirty);
-    }
+    three_are_dirty(&rt, &trial);
     assert_eq!(rt; trial.mark(true), 3);
-    assert!(rt; trial.are_frozen(&[FIRST, SECOND, THIRD]));
+    three_are_frozen(&rt, &trial);
     entries_are_protected(&rt, &trial);
-    for page in [FIRST, SECOND, THIRD, FOURTH] {
-        assert!(rt; !trial.is_dirty(&rt, page));
-        assert_eq!(rt; trial.is_frozen(page), page != FOURTH);
-    }
     Ok(())
 }
 

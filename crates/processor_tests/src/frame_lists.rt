@@ -160,18 +160,33 @@ fn nth_page(n: u16) -> FilePage {
     }
 }
 
+// Takes a frame for each of 1,020 pages, not in their order.
+fn take_1020(frames: &mut Frames) -> Result<(), Refusal> {
+    for n in 0..1020 {
+        take_new(frames, nth_page(n * 7 % 1020))?;
+    }
+    Ok(())
+}
+
+// Whether the n-th frame in order is the n-th page's.
+fn is_nth(frames: &Frames, n: u16) -> bool {
+    match frames.find(nth_page(n)) {
+        Some(frame) => {
+            frames.page(frame) == Some(nth_page(n))
+                && frames.in_order().get(usize::from(n)).copied() == Some(frame)
+        }
+        None => false,
+    }
+}
+
 #[test]
 fn frames_of_1020_pages_in_order(rt: HostRuntime) -> Result<(), Fail> {
     let mut frames = Frames::new(rt.alloc(), 1020, 64)?;
-    for n in 0..1020 {
-        take_new(&mut frames, nth_page(n * 7 % 1020))?;
-    }
+    take_1020(&mut frames)?;
     assert_eq!(rt; frames.free_count(), 0);
     assert_eq!(rt; frames.in_order().len(), 1020);
     for n in 0..1020 {
-        let frame = frames.find(nth_page(n)).ok_or(Refusal::NoFile)?;
-        assert_eq!(rt; frames.page(frame), Some(nth_page(n)));
-        assert_eq!(rt; frames.in_order().get(usize::from(n)).copied(), Some(frame));
+        assert!(rt; is_nth(&frames, n));
     }
     Ok(())
 }

@@ -154,6 +154,66 @@ fn refusals_and_pages_of_a_file_page(rt: HostRuntime) -> Result<(), Fail> {
     Ok(())
 }
 
+// Maps pages in both, where none of them is mapped.
+fn add_to_both(
+    rt: &impl Abort,
+    space: &mut Mappings<Global>,
+    pages: &mut [Option<Place>],
+    first: usize,
+    count: usize,
+) {
+    let inside = pages.iter().skip(first).take(count);
+    let taken = inside.filter(|page| page.is_some()).count() > 0;
+    let chosen = range(first as u64, count as u64);
+    let done = space.add(chosen, place(7, 3, READ_WRITE, READ_WRITE));
+    assert_eq!(rt; done.is_err(), taken);
+    if !taken {
+        for (i, page) in pages.iter_mut().skip(first).take(count).enumerate() {
+            *page = Some(place(7, 3 + (i % 8) as u32, READ_WRITE, READ_WRITE));
+        }
+    }
+}
+
+// Unmaps pages in both.
+fn remove_from_both(
+    space: &mut Mappings<Global>,
+    pages: &mut [Option<Place>],
+    first: usize,
+    count: usize,
+) -> Result<(), Fail> {
+    let chosen = range(first as u64, count as u64);
+    space.reserve(chosen)?;
+    space.remove(chosen)?;
+    for page in pages.iter_mut().skip(first).take(count) {
+        *page = None;
+    }
+    Ok(())
+}
+
+// Takes the right to store from pages in both, where all of them are mapped.
+fn protect_both(
+    rt: &impl Abort,
+    space: &mut Mappings<Global>,
+    pages: &mut [Option<Place>],
+    first: usize,
+    count: usize,
+) -> Result<(), Fail> {
+    let inside = pages.iter().skip(first).take(count);
+    let missing = inside.filter(|page| page.is_none()).count() > 0;
+    let chosen = range(first as u64, count as u64);
+    space.reserve(chosen)?;
+    let done = space.protect(chosen, Rights::Read);
+    assert_eq!(rt; done.is_err(), missing);
+    if !missing {
+        for page in pages.iter_mut().skip(first).take(count) {
+            if let Some(place) = page {
+                place.rights = Rights::Read;
+            }
+        }
+    }
+    Ok(())
+}
+
 // Does one call on both, and compares the answers and each page.
 fn both(
     rt: &impl Abort,
@@ -163,39 +223,10 @@ fn both(
     first: usize,
     count: usize,
 ) -> Result<(), Fail> {
-    let chosen = range(first as u64, count as u64);
-    let inside = pages.iter().skip(first).take(count);
     match call {
-        0 => {
-            let taken = inside.filter(|page| page.is_some()).count() > 0;
-            let done = space.add(chosen, place(7, 3, READ_WRITE, READ_WRITE));
-            assert_eq!(rt; done.is_err(), taken);
-            if !taken {
-                for (i, page) in pages.iter_mut().skip(first).take(count).enumerate() {
-                    *page = Some(place(7, 3 + (i % 8) as u32, READ_WRITE, READ_WRITE));
-                }
-            }
-        }
-        1 => {
-            space.reserve(chosen)?;
-            space.remove(chosen)?;
-            for page in pages.iter_mut().skip(first).take(count) {
-                *page = None;
-            }
-        }
-        _ => {
-            let missing = inside.filter(|page| page.is_none()).count() > 0;
-            space.reserve(chosen)?;
-            let done = space.protect(chosen, Rights::Read);
-            assert_eq!(rt; done.is_err(), missing);
-            if !missing {
-                for page in pages.iter_mut().skip(first).take(count) {
-                    if let Some(place) = page {
-                        place.rights = Rights::Read;
-                    }
-                }
-            }
-        }
+        0 => add_to_both(rt, space, pages, first, count),
+        1 => remove_from_both(space, pages, first, count)?,
+        _ => protect_both(rt, space, pages, first, count)?,
     }
     for (number, page) in pages.iter().enumerate() {
         assert_eq!(rt; space.where_is(number as u64), *page);

@@ -144,19 +144,29 @@ fn maps_inner(spaces: &Spaces, pcid: Pcid) -> bool {
     spaces.maps_some(pcid, inner)
 }
 
+// Stores to the last page, which is the first dirty one then.
+fn store_to_last(rt: &impl Abort, spaces: &mut Spaces, pcid: Pcid) {
+    set(rt, spaces, pcid, LAST, stored(7));
+    assert_eq!(rt; entry_of(spaces, pcid, LAST), stored(7));
+    assert_eq!(rt; first_dirty(rt, spaces, pcid), Some(LAST));
+}
+
+// Unmaps all pages between the first and the last one, which stay as they were.
+fn unmap_inner(rt: &impl Abort, spaces: &mut Spaces, pcid: Pcid) {
+    assert_eq!(rt; unmap(spaces, pcid, 17, 65_534), Ok(()));
+    assert_eq!(rt; place_of(spaces, pcid, 16), Some(PLACE));
+    assert!(rt; !maps_inner(spaces, pcid));
+    assert_eq!(rt; entry_of(spaces, pcid, LAST), stored(7));
+}
+
 #[test]
 fn a_mapping_has_65_536_pages(rt: HostRuntime) -> Result<(), Fail> {
     let mut spaces = Spaces::new(rt.alloc())?;
     let pcid = create(&mut spaces)?;
     map_most(&rt, &mut spaces, pcid);
     most_are_mapped(&rt, &spaces, pcid);
-    set(&rt, &mut spaces, pcid, LAST, stored(7));
-    assert_eq!(rt; entry_of(&spaces, pcid, LAST), stored(7));
-    assert_eq!(rt; first_dirty(&rt, &spaces, pcid), Some(LAST));
-    assert_eq!(rt; unmap(&mut spaces, pcid, 17, 65_534), Ok(()));
-    assert_eq!(rt; place_of(&spaces, pcid, 16), Some(PLACE));
-    assert!(rt; !maps_inner(&spaces, pcid));
-    assert_eq!(rt; entry_of(&spaces, pcid, LAST), stored(7));
+    store_to_last(&rt, &mut spaces, pcid);
+    unmap_inner(&rt, &mut spaces, pcid);
     Ok(())
 }
 
@@ -248,21 +258,32 @@ fn clear_entries_of(spaces: &mut Spaces, page: FilePage) {
     spaces.clear_entries_of(page);
 }
 
+// Stores to page 17 of two spaces.
+fn store_in_two(rt: &impl Abort, spaces: &mut Spaces) {
+    for pcid in [1, 3] {
+        set(rt, spaces, pcid, 17, stored(9));
+    }
+}
+
+// Protects the frame that their entries map, and then clears these.
+fn protect_and_clear(rt: &impl Abort, spaces: &mut Spaces, page: FilePage) {
+    protect_frame(spaces);
+    for pcid in [1, 3] {
+        assert_eq!(rt; entry_of(spaces, pcid, 17), stored(9).protected());
+    }
+    clear_entries_of(spaces, page);
+    assert_eq!(rt; entry_of(spaces, 3, 17), Entry::absent());
+}
+
 #[test]
 fn changes_reach_every_space(rt: HostRuntime) -> Result<(), Fail> {
     let mut spaces = Spaces::new(rt.alloc())?;
     let page = FilePage { file: 2, page: 1 };
     map_three(&rt, &mut spaces)?;
-    for pcid in [1, 3] {
-        set(&rt, &mut spaces, pcid, 17, stored(9));
-    }
+    store_in_two(&rt, &mut spaces);
     assert!(rt; has_entries_of(rt.alloc(), &spaces, page, &[(1, 17), (3, 17)])?);
     touches_spaces(&rt, &spaces, Change::Reclaim { page });
-    protect_frame(&mut spaces);
-    assert_eq!(rt; entry_of(&spaces, 1, 17), stored(9).protected());
-    assert_eq!(rt; entry_of(&spaces, 3, 17), stored(9).protected());
-    clear_entries_of(&mut spaces, page);
+    protect_and_clear(&rt, &mut spaces, page);
     assert!(rt; has_entries_of(rt.alloc(), &spaces, page, &[])?);
-    assert_eq!(rt; entry_of(&spaces, 3, 17), Entry::absent());
     Ok(())
 }

@@ -1,6 +1,8 @@
 // The table beside a plain program, which scans the list of all changes.
-use page_entry::{Entry, PageNumber};
+use page_entry::{Entry, PageNumber, Refusal};
 use page_table::Table;
+use std::alloc::Global;
+use std::process::Abort;
 use std::test::Fail;
 
 // A present entry of a frame.
@@ -78,19 +80,30 @@ fn agrees_with_a_scanned_list(rt: HostRuntime) -> Result<(), Fail> {
 // One more than the last page.
 const END: PageNumber = 1 << 35;
 
-#[test]
-fn grows_with_ample_memory(rt: HostRuntime) -> Result<(), Fail> {
-    let mut table = Table::new(rt.alloc());
+// Grows an empty table by one page, which has no entry.
+fn grow_once(rt: &impl Abort, table: &mut Table<Global>) {
     assert_eq!(rt; table.get(5), Entry::absent());
     assert_eq!(rt; table.grow(3..3), Ok(()));
     assert_eq!(rt; table.grow(5..6), Ok(()));
     assert_eq!(rt; table.dirty_pages(0..END).next(), None);
-    let stored = entry(8, true, true);
+}
+
+// Grows it by 65,536 pages and by the last one, and sets the first and the last page of each.
+fn grow_by_many(table: &mut Table<Global>, stored: Entry) -> Result<(), Refusal> {
     table.grow(0..65_536)?;
     table.set(0, stored);
     table.set(65_535, stored);
     table.grow(END - 1..END)?;
     table.set(END - 1, stored);
+    Ok(())
+}
+
+#[test]
+fn grows_with_ample_memory(rt: HostRuntime) -> Result<(), Fail> {
+    let mut table = Table::new(rt.alloc());
+    grow_once(&rt, &mut table);
+    let stored = entry(8, true, true);
+    grow_by_many(&mut table, stored)?;
     let listed: Vec<PageNumber> = table.dirty_pages(1..END).collect(rt.alloc())?;
     assert_eq!(rt; listed.as_slice(), [65_535, END - 1].as_slice());
     // Each page has grown already, in two regions that touch.
