@@ -1,5 +1,5 @@
 // Two processors in one space, whose entries and bytes are those of the Intel SDM.
-ghost use Rattle.std.specs.Prelude.{IfOk, OnOk};
+ghost use Rattle.std.specs.Prelude.{OnOk};
 ghost use Rattle.shootdown.specs.Coherence.{Coheres};
 ghost use Rattle.cpu.specs.Access.{hardware, MapsInUse, IsReachable};
 
@@ -13,7 +13,6 @@ use spaces::Spaces;
 use std::alloc::Global;
 use std::marker::Model;
 use std::process::Abort;
-use std::test::Fail;
 
 // The first two pages of file 0.
 const FIRST: FilePage = FilePage { file: 0, page: 0 };
@@ -52,51 +51,70 @@ fn give_entry(
 }
 
 // Space 1, which maps pages 16 to 18 and has no entry.
-fn make_spaces(alloc: Global, frames: &Frames) -> Result<Spaces, Refusal>
-    ensures { IfOk result (λ spaces. MapsInUse spaces.map frames.now) }
+fn make_spaces(rt: &impl Abort, alloc: Global, frames: &Frames) -> Spaces
+    ensures { MapsInUse result.map frames.now }
 {
-    mapped_spaces(alloc, &[(1, 16, 3, FIRST, Rights::ReadWrite)])
+    mapped_spaces(rt, alloc, &[(1, 16, 3, FIRST, Rights::ReadWrite)])
 }
 
 // Space 1 with entries for pages 16 and 17, of the frames of the first two pages of file 0.
 fn enter_spaces(
+    rt: &impl Abort,
     alloc: Global,
     frames: &Frames,
     first: FrameNumber,
     second: FrameNumber,
-) -> Result<Spaces, Refusal>
-    ensures { IfOk result (λ spaces. MapsInUse spaces.map frames.now) }
+) -> Spaces
+    ensures { MapsInUse result.map frames.now }
 {
-    let mut spaces = make_spaces(alloc, frames)?;
-    give_entry(&mut spaces, frames, 16, first, true)?;
-    give_entry(&mut spaces, frames, 17, second, false)?;
-    Ok(spaces)
+    let mut spaces = make_spaces(rt, alloc, frames);
+    let Ok(()) = give_entry(&mut spaces, frames, 16, first, true) else {
+        panic!(rt; "no entry for page 16");
+    };
+    let Ok(()) = give_entry(&mut spaces, frames, 17, second, false) else {
+        panic!(rt; "no entry for page 17");
+    };
+    spaces
 }
 
 // Two processors in space 1, with TLBs of two entries.
-fn make_processors(alloc: Global, spaces: &Spaces) -> Result<Shootdown, Fail>
-    ensures { IfOk result (λ shootdown. Coheres spaces.now.map shootdown) }
+fn make_processors(rt: &impl Abort, alloc: Global, spaces: &Spaces) -> Shootdown
+    ensures { Coheres spaces.now.map result }
 {
-    let mut shootdown = Shootdown::new(alloc, 2, 2)?;
-    shootdown.switch(0, spaces, 1, false)?;
-    shootdown.switch(1, spaces, 1, false)?;
-    Ok(shootdown)
+    let Ok(mut shootdown) = Shootdown::new(alloc, 2, 2) else {
+        panic!(rt; "no memory for processors");
+    };
+    let Ok(()) = shootdown.switch(0, spaces, 1, false) else {
+        panic!(rt; "processor 0 isn't in space 1");
+    };
+    let Ok(()) = shootdown.switch(1, spaces, 1, false) else {
+        panic!(rt; "processor 1 isn't in space 1");
+    };
+    shootdown
+}
+
+// Takes a frame for each of the pages.
+fn take_two(rt: &impl Abort, frames: &mut Frames) -> (FrameNumber, FrameNumber) {
+    let first = take_new(frames, FIRST).expect(rt, "a frame");
+    let second = take_new(frames, SECOND).expect(rt, "a frame");
+    (first, second)
 }
 
 impl Bench {
-    fn new(alloc: Global) -> Result<Self, Fail>
-        ensures { IfOk result (λ bench. IsReachable (hardware bench.shootdown bench.spaces.map bench.frames)) }
+    fn new(rt: &impl Abort, alloc: Global) -> Self
+        ensures { IsReachable (hardware result.shootdown result.spaces.map result.frames) }
     {
-        let mut frames = Frames::new(alloc, 4, 0)?;
-        let first = take_new(&mut frames, FIRST)?;
-        let second = take_new(&mut frames, SECOND)?;
-        let spaces = enter_spaces(alloc, &frames, first, second)?;
-        let shootdown = make_processors(alloc, &spaces)?;
-        Ok(Bench {
+        let Ok(mut frames) = Frames::new(alloc, 4, 0) else {
+            panic!(rt; "no memory for frames");
+        };
+        let (first, second) = take_two(rt, &mut frames);
+        let spaces = enter_spaces(rt, alloc, &frames, first, second);
+        let shootdown = make_processors(rt, alloc, &spaces);
+        Bench {
             shootdown,
             spaces,
             frames,
-        })
+        }
     }
 
     // Whether a load gives these bytes.
@@ -166,10 +184,10 @@ impl Model for Trial {
 }
 
 impl Trial {
-    fn new(alloc: Global) -> Result<Self, Fail> {
-        Ok(Trial {
-            bench: Bench::new(alloc)?,
-        })
+    fn new(rt: &impl Abort, alloc: Global) -> Self {
+        Trial {
+            bench: Bench::new(rt, alloc),
+        }
     }
 
     fn loads(&mut self, p: ProcessorNumber, va: u64, bytes: &[u8]) -> Result<bool, Refusal> {
@@ -196,26 +214,25 @@ impl Trial {
 // Processor 0 stores what processor 1 loads.
 fn store_first(rt: &impl Abort, trial: &mut Trial) {
     let loaded = (trial.loads(0, 0x1_0000, &[0; 8]), trial.bits(16));
-    assert_eq!(rt; loaded, (Ok(true), 0x27));
+    assert!(rt; loaded == (Ok(true), 0x27));
     let stored = (trial.store(0, 0x1_0ffe, &[65, 66]), trial.bits(16));
-    assert_eq!(rt; stored, (Ok(()), 0x67));
-    assert_eq!(rt; trial.loads(1, 0x1_0ffd, &[0, 65, 66]), Ok(true));
+    assert!(rt; stored == (Ok(()), 0x67));
+    assert!(rt; trial.loads(1, 0x1_0ffd, &[0, 65, 66]) == Ok(true));
 }
 
 // Processor 1 stores what processor 0 loads.
 fn store_second(rt: &impl Abort, trial: &mut Trial) {
-    assert_eq!(rt; trial.store(1, 0x1_0ffd, &[64]), Ok(()));
-    assert_eq!(rt; trial.loads(0, 0x1_0ffd, &[64, 65, 66]), Ok(true));
+    assert!(rt; trial.store(1, 0x1_0ffd, &[64]) == Ok(()));
+    assert!(rt; trial.loads(0, 0x1_0ffd, &[64, 65, 66]) == Ok(true));
     let loaded = (trial.loads(0, 0x1_1000, &[0]), trial.bits(17));
-    assert_eq!(rt; loaded, (Ok(true), 0x25));
+    assert!(rt; loaded == (Ok(true), 0x25));
 }
 
 #[test]
-fn a_store_is_loaded_by_another_processor(rt: HostRuntime) -> Result<(), Fail> {
-    let mut trial = Trial::new(rt.alloc())?;
+fn a_store_is_loaded_by_another_processor(rt: HostRuntime) {
+    let mut trial = Trial::new(&rt, rt.alloc());
     store_first(&rt, &mut trial);
     store_second(&rt, &mut trial);
-    Ok(())
 }
 
 // Accesses that their processor's MMU refuses.
@@ -234,48 +251,47 @@ fn invalid_accesses(rt: &impl Abort, trial: &mut Trial) {
     let long = trial.loads(0, 0x1_0000, &[0; 9]);
     let other = trial.loads(2, 0x1_0000, &[0]);
     let invalid = Err(Refusal::Einval);
-    assert_eq!(rt; (over, long, other), (invalid, invalid, invalid));
+    assert!(rt; (over, long, other) == (invalid, invalid, invalid));
     let none = trial.store(0, 0x1_0000, &[]);
     let high = trial.store(0, 1 << 47, &[1]);
-    assert_eq!(rt; (none, high), (Err(Refusal::Einval), Err(Refusal::Einval)));
+    assert!(rt; (none, high) == (Err(Refusal::Einval), Err(Refusal::Einval)));
 }
 
 #[test]
-fn accesses_are_refused_in_order(rt: HostRuntime) -> Result<(), Fail> {
-    let mut trial = Trial::new(rt.alloc())?;
+fn accesses_are_refused_in_order(rt: HostRuntime) {
+    let mut trial = Trial::new(&rt, rt.alloc());
     faults(&rt, &mut trial);
     invalid_accesses(&rt, &mut trial);
-    Ok(())
+}
+
+// Whether processor 0 fills a page, whose entry has these bits then.
+fn fills(trial: &mut Trial, page: PageNumber, bits: u64) -> bool {
+    trial.fill(0, page) == Ok(true) && trial.bits(page) == bits
 }
 
 fn fill_both(rt: &impl Abort, trial: &mut Trial) {
     assert!(rt; trial.evict(0, 0) == Ok(false));
-    for (page, bits) in [(17, 0x25), (16, 0x27)] {
-        let filled = (trial.fill(0, page), trial.bits(page));
-        assert!(rt; filled == (Ok(true), bits));
-    }
+    assert!(rt; fills(trial, 17, 0x25));
+    assert!(rt; fills(trial, 16, 0x27));
 }
 
 fn fill_neither(rt: &impl Abort, trial: &mut Trial) {
-    let answers = (
-        trial.fill(0, 18),
-        trial.fill(0, u64::MAX),
-        trial.fill(2, 16),
-    );
-    assert_eq!(rt; answers, (Ok(false), Ok(false), Err(Refusal::Einval)));
+    assert!(rt; trial.fill(0, 18) == Ok(false));
+    assert!(rt; trial.fill(0, u64::MAX) == Ok(false));
+    assert!(rt; trial.fill(2, 16) == Err(Refusal::Einval));
 }
 
 fn evict_one(rt: &impl Abort, trial: &mut Trial) {
-    let answers = (trial.evict(0, 1), trial.evict(0, 1), trial.evict(2, 0));
-    assert!(rt; answers == (Ok(true), Ok(false), Err(Refusal::Einval)));
+    assert!(rt; trial.evict(0, 1) == Ok(true));
+    assert!(rt; trial.evict(0, 1) == Ok(false));
+    assert!(rt; trial.evict(2, 0) == Err(Refusal::Einval));
 }
 
 // A TLB of two entries.
 #[test]
-fn a_tlb_fills_and_evicts_unasked(rt: HostRuntime) -> Result<(), Fail> {
-    let mut trial = Trial::new(rt.alloc())?;
+fn a_tlb_fills_and_evicts_unasked(rt: HostRuntime) {
+    let mut trial = Trial::new(&rt, rt.alloc());
     fill_both(&rt, &mut trial);
     fill_neither(&rt, &mut trial);
     evict_one(&rt, &mut trial);
-    Ok(())
 }

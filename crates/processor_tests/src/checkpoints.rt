@@ -1,5 +1,5 @@
 // Marks over two address spaces: what is gathered and in which order, what is protected, frozen and released.
-ghost use Rattle.std.specs.Prelude.{◌≡◌, Some, true, length, IfOk};
+ghost use Rattle.std.specs.Prelude.{◌≡◌, Some, true, length};
 ghost use Rattle.checkpoint.specs.Backing.{AreBacked};
 
 use crate::setup::{Row, mapped_spaces, take_new};
@@ -11,7 +11,6 @@ use spaces::Spaces;
 use std::alloc::Global;
 use std::marker::Model;
 use std::process::Abort;
-use std::test::Fail;
 
 // Pages of files, in the order of their home blocks.
 const FIRST: FilePage = FilePage { file: 0, page: 0 };
@@ -32,17 +31,19 @@ const MAPPED: [Row; 5] = [
 ];
 
 // Four frames, one for each of the pages, and two copy frames.
-fn four_frames(alloc: Global) -> Result<Frames, Fail>
-    ensures { IfOk result (λ frames. length frames.frames ≡ 4) }
+fn four_frames(rt: &impl Abort, alloc: Global) -> Frames
+    ensures { length result.frames ≡ 4 }
 {
-    let mut frames = Frames::new(alloc, 4, 2)?;
+    let Ok(mut frames) = Frames::new(alloc, 4, 2) else {
+        panic!(rt; "no memory for frames");
+    };
     for page in [FOURTH, SECOND, FIRST, THIRD] {
-        take_new(&mut frames, page)?;
+        assert!(rt; take_new(&mut frames, page).is_ok());
     }
     if frames.count() != 4 {
-        return Err("there are four frames".into());
+        panic!(rt; "there aren't four frames");
     }
-    Ok(frames)
+    frames
 }
 
 // An entry of a frame, as a load or a store leaves it.
@@ -66,18 +67,20 @@ struct Parts {
 }
 
 impl Parts {
-    fn new(alloc: Global) -> Result<Self, Fail>
-        ensures sized { IfOk result (λ parts. length parts.checkpoint.notes ≡ length parts.frames.frames) }
-        ensures backed { IfOk result (λ parts. AreBacked parts.frames parts.checkpoint parts.spaces.map) }
+    fn new(rt: &impl Abort, alloc: Global) -> Self
+        ensures sized { length result.checkpoint.notes ≡ length result.frames.frames }
+        ensures backed { AreBacked result.frames result.checkpoint result.spaces.map }
     {
-        let spaces = mapped_spaces(alloc, &MAPPED)?;
-        let frames = four_frames(alloc)?;
-        let checkpoint = Checkpoint::new(alloc, 4)?;
-        Ok(Parts {
+        let spaces = mapped_spaces(rt, alloc, &MAPPED);
+        let frames = four_frames(rt, alloc);
+        let Ok(checkpoint) = Checkpoint::new(alloc, 4) else {
+            panic!(rt; "no memory for a checkpoint");
+        };
+        Parts {
             spaces,
             frames,
             checkpoint,
-        })
+        }
     }
 
     // The frame with a page.
@@ -216,10 +219,10 @@ impl Model for Trial {
 }
 
 impl Trial {
-    fn new(alloc: Global) -> Result<Self, Fail> {
-        Ok(Trial {
-            parts: Parts::new(alloc)?,
-        })
+    fn new(rt: &impl Abort, alloc: Global) -> Self {
+        Trial {
+            parts: Parts::new(rt, alloc),
+        }
     }
 
     // The entry of a page, as a load or a store leaves it.
@@ -290,22 +293,22 @@ impl Trial {
 }
 
 // Loads and stores of both spaces, of which one page is unmapped then.
-fn dirty_three(rt: &impl Abort, trial: &mut Trial) -> Result<(), Refusal> {
+fn dirty_three(rt: &impl Abort, trial: &mut Trial) {
     trial.enter(rt, 1, 16, true);
     trial.enter(rt, 1, 17, true);
     trial.enter(rt, 2, 32, false);
     trial.enter(rt, 2, 33, true);
     trial.enter(rt, 2, 34, false);
-    trial.unmap(1, 17)
+    assert!(rt; trial.unmap(1, 17).is_ok());
 }
 
-// The entries of what a mark has gathered are protected, and no others.
-fn entries_are_protected(rt: &impl Abort, trial: &Trial) {
+// Whether the entries of what a mark has gathered are protected, and no others.
+fn entries_are_protected(rt: &impl Abort, trial: &Trial) -> bool {
     let third = trial.present(rt, THIRD, true).protected();
-    let fourth = trial.present(rt, FOURTH, false);
-    let entries = (trial.entry(1, 16), trial.entry(2, 32), trial.entry(2, 34));
-    assert_eq!(rt; entries, (third, third, fourth));
-    assert_eq!(rt; trial.entry(1, 17), Entry::absent());
+    trial.entry(1, 16) == third
+        && trial.entry(2, 32) == third
+        && trial.entry(2, 34) == trial.present(rt, FOURTH, false)
+        && trial.entry(1, 17) == Entry::absent()
 }
 
 // All pages but the fourth are dirty.
@@ -319,32 +322,31 @@ fn three_are_dirty(rt: &impl Abort, trial: &Trial) {
 // They are frozen, and no page is dirty.
 fn three_are_frozen(rt: &impl Abort, trial: &Trial) {
     assert!(rt; trial.are_frozen(&[FIRST, SECOND, THIRD]));
-    for page in [FIRST, SECOND, THIRD, FOURTH] {
-        assert!(rt; !trial.is_dirty(rt, page));
-        assert_eq!(rt; trial.is_frozen(page), page != FOURTH);
+    for page in [FIRST, SECOND, THIRD] {
+        assert!(rt; trial.is_frozen(page) && !trial.is_dirty(rt, page));
     }
+    assert!(rt; !trial.is_frozen(FOURTH) && !trial.is_dirty(rt, FOURTH));
 }
 
 #[test]
-fn a_mark_gathers_every_space(rt: HostRuntime) -> Result<(), Fail> {
-    let mut trial = Trial::new(rt.alloc())?;
-    dirty_three(&rt, &mut trial)?;
+fn a_mark_gathers_every_space(rt: HostRuntime) {
+    let mut trial = Trial::new(&rt, rt.alloc());
+    dirty_three(&rt, &mut trial);
     three_are_dirty(&rt, &trial);
-    assert_eq!(rt; trial.mark(true), 3);
+    assert!(rt; trial.mark(true) == 3);
     three_are_frozen(&rt, &trial);
-    entries_are_protected(&rt, &trial);
-    Ok(())
+    assert!(rt; entries_are_protected(&rt, &trial));
 }
 
 // A mark of three pages, two of which are copied.
-fn freeze_three(rt: &impl Abort, trial: &mut Trial) -> Result<(), Refusal> {
+fn freeze_three(rt: &impl Abort, trial: &mut Trial) {
     trial.enter(rt, 1, 16, true);
     trial.enter(rt, 1, 17, true);
     trial.enter(rt, 2, 33, true);
-    assert_eq!(rt; trial.mark(true), 3);
+    assert!(rt; trial.mark(true) == 3);
     assert!(rt; trial.is_held(THIRD));
-    trial.copy_out(FIRST)?;
-    trial.copy_out(THIRD)
+    assert!(rt; trial.copy_out(FIRST).is_ok());
+    assert!(rt; trial.copy_out(THIRD).is_ok());
 }
 
 // The first page's record is written.
@@ -356,24 +358,22 @@ fn release_first(rt: &impl Abort, trial: &mut Trial) {
 }
 
 #[test]
-fn pages_are_frozen_until_their_records_are_written(rt: HostRuntime) -> Result<(), Fail> {
-    let mut trial = Trial::new(rt.alloc())?;
-    freeze_three(&rt, &mut trial)?;
+fn pages_are_frozen_until_their_records_are_written(rt: HostRuntime) {
+    let mut trial = Trial::new(&rt, rt.alloc());
+    freeze_three(&rt, &mut trial);
     release_first(&rt, &mut trial);
     trial.release_all();
     assert!(rt; trial.are_frozen(&[]) && !trial.copied(THIRD));
-    assert_eq!(rt; trial.mark(true), 0);
-    Ok(())
+    assert!(rt; trial.mark(true) == 0);
 }
 
 #[test]
-fn a_mark_on_a_broken_machine_freezes_nothing(rt: HostRuntime) -> Result<(), Fail> {
-    let mut trial = Trial::new(rt.alloc())?;
+fn a_mark_on_a_broken_machine_freezes_nothing(rt: HostRuntime) {
+    let mut trial = Trial::new(&rt, rt.alloc());
     trial.enter(&rt, 1, 16, true);
-    assert_eq!(rt; trial.mark(false), 1);
+    assert!(rt; trial.mark(false) == 1);
     assert!(rt; trial.are_frozen(&[]) && !trial.is_frozen(THIRD));
     assert!(rt; !trial.is_dirty(&rt, THIRD));
-    Ok(())
 }
 
 // Two dirty pages, whose entries go with their space and their page.
@@ -385,17 +385,16 @@ fn dirty_two(rt: &impl Abort, trial: &mut Trial) {
     trial.destroy(rt, 2);
     assert!(rt; !trial.has(2));
     trial.clear(THIRD);
-    assert_eq!(rt; trial.entry(1, 16), Entry::absent());
+    assert!(rt; trial.entry(1, 16) == Entry::absent());
 }
 
 #[test]
-fn what_was_dirty_stays_noted(rt: HostRuntime) -> Result<(), Fail> {
-    let mut trial = Trial::new(rt.alloc())?;
+fn what_was_dirty_stays_noted(rt: HostRuntime) {
+    let mut trial = Trial::new(&rt, rt.alloc());
     dirty_two(&rt, &mut trial);
     for (page, dirty) in [(FIRST, true), (THIRD, true), (FOURTH, false)] {
         assert!(rt; trial.is_dirty(&rt, page) == dirty);
     }
     assert!(rt; trial.mark(true) == 2);
     assert!(rt; trial.are_frozen(&[FIRST, THIRD]));
-    Ok(())
 }

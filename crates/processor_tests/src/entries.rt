@@ -1,5 +1,12 @@
 // The bits of page entries, and the names of refusals.
 use page_entry::{Entry, Refusal};
+use std::alloc::Global;
+use std::process::Abort;
+
+// Whether an entry has these bits, and they are its own.
+fn has_bits(entry: Entry, bits: u64) -> bool {
+    entry.bits() == bits && Entry::from_bits(bits) == Some(entry)
+}
 
 // Frame 3 as a fault maps it, after a load, after a store, and as a checkpoint leaves it.
 #[test]
@@ -16,8 +23,7 @@ fn entries_have_their_bits(rt: HostRuntime) {
         (stored, 0x3067),
         (stored.protected(), 0x3025),
     ] {
-        assert_eq!(rt; entry.bits(), bits);
-        assert_eq!(rt; Entry::from_bits(bits), Some(entry));
+        assert!(rt; has_bits(entry, bits));
     }
 }
 
@@ -26,14 +32,20 @@ fn entries_have_their_bits(rt: HostRuntime) {
 #[test]
 fn other_bits_are_no_entry(rt: HostRuntime) {
     let last = Entry::absent().with_present(true).with_frame(u32::MAX);
-    assert_eq!(rt; Entry::from_bits(0xfff_ffff_f005), Some(last));
+    assert!(rt; Entry::from_bits(0xfff_ffff_f005) == Some(last));
     for bits in [0x1000_0000_0005, 2, 0x3000, 0x3003, 0x3105, u64::MAX] {
-        assert_eq!(rt; Entry::from_bits(bits), None);
+        assert!(rt; Entry::from_bits(bits).is_none());
     }
 }
 
+// Whether a refusal prints as this name.
+fn prints_as(rt: &impl Abort, alloc: Global, refusal: Refusal, name: &str) -> bool {
+    let text = refusal.to_string(alloc).expect(rt, "memory for a name");
+    text.as_str() == name
+}
+
 #[test]
-fn refusals_print_their_names(rt: HostRuntime) -> Result<(), std::test::Fail> {
+fn refusals_print_their_names(rt: HostRuntime) {
     for (refusal, name) in [
         (Refusal::NotYet(1), "notyet 1"),
         (Refusal::Fault(6), "fault 6"),
@@ -41,8 +53,6 @@ fn refusals_print_their_names(rt: HostRuntime) -> Result<(), std::test::Fail> {
         (Refusal::OutOfMemory, "outofmemory"),
         (Refusal::NotAVolume, "notavolume"),
     ] {
-        let text = refusal.to_string(rt.alloc())?;
-        assert_eq!(rt; text.as_str(), name);
+        assert!(rt; prints_as(&rt, rt.alloc(), refusal, name), "{name}");
     }
-    Ok(())
 }

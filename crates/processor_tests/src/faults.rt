@@ -1,5 +1,5 @@
 // Faults over a volume of 10 blocks: file 0 has 5,000 bytes and home blocks 7 and 8, file 1 has 4,096 and home block 9.
-ghost use Rattle.std.specs.Prelude.{◌≡◌, ◌≤◌, ◌^◌, true, length, IfOk};
+ghost use Rattle.std.specs.Prelude.{◌≡◌, ◌≤◌, ◌^◌, true, length};
 ghost use Rattle.std.specs.List.{All};
 ghost use Rattle.checkpoint.specs.Backing.{AreBacked};
 ghost use Rattle.fault.specs.Fault.{is_in_memory};
@@ -15,7 +15,6 @@ use spaces::Spaces;
 use std::alloc::Global;
 use std::marker::Model;
 use std::process::Abort;
-use std::test::Fail;
 
 // The space with the faults.
 const SPACE: Pcid = 1;
@@ -67,20 +66,23 @@ struct Parts {
 }
 
 impl Parts {
-    fn new(alloc: Global, frames: FrameNumber, copies: CopyNumber) -> Result<Self, Fail>
-        ensures sized { IfOk result (λ parts. length parts.checkpoint.notes ≡ length parts.frames.frames) }
-        ensures backed { IfOk result (λ parts. AreBacked parts.frames parts.checkpoint parts.spaces.map) }
-        ensures frozen { IfOk result
-            (λ parts. All (λ page. is_in_memory parts.frames page ≡ true) parts.checkpoint.frozen) }
+    fn new(rt: &impl Abort, alloc: Global, frames: FrameNumber, copies: CopyNumber) -> Self
+        ensures sized { length result.checkpoint.notes ≡ length result.frames.frames }
+        ensures backed { AreBacked result.frames result.checkpoint result.spaces.map }
+        ensures frozen { All (λ page. is_in_memory result.frames page ≡ true) result.checkpoint.frozen }
     {
-        let spaces = mapped_spaces(alloc, &MAPPED)?;
-        let checkpoint = Checkpoint::new(alloc, frames)?;
-        let frames = Frames::new(alloc, frames, copies)?;
-        Ok(Parts {
+        let spaces = mapped_spaces(rt, alloc, &MAPPED);
+        let Ok(checkpoint) = Checkpoint::new(alloc, frames) else {
+            panic!(rt; "no memory for a checkpoint");
+        };
+        let Ok(frames) = Frames::new(alloc, frames, copies) else {
+            panic!(rt; "no memory for frames");
+        };
+        Parts {
             spaces,
             frames,
             checkpoint,
-        })
+        }
     }
 
     // Serves a fault at an address; of a broken machine, if it is.
@@ -193,19 +195,27 @@ impl Model for Trial {
 }
 
 // A volume whose file 0 has 66 as its last byte, with 67 after it.
-fn volume(alloc: Global) -> Result<MemDisk<Global>, Fail> {
-    let mut bytes = vec![in alloc; 0; 40_960]?;
+fn volume(rt: &impl Abort, alloc: Global) -> MemDisk<Global> {
+    let Ok(mut bytes) = vec![in alloc; 0; 40_960] else {
+        panic!(rt; "no memory for bytes");
+    };
     bytes[32_768 + 903] = 66;
     bytes[32_768 + 904] = 67;
-    Ok(MemDisk::from_bytes(alloc, bytes)?)
+    MemDisk::from_bytes(alloc, bytes).expect(rt, "memory for a volume")
 }
 
 impl Trial {
     // With so many frames and copies, and a device whose n-th call fails, unless that is 0.
-    fn new(alloc: Global, frames: FrameNumber, copies: CopyNumber, n: u64) -> Result<Self, Fail> {
-        let device = FailingDisk::new(volume(alloc)?, n);
-        let parts = Parts::new(alloc, frames, copies)?;
-        Ok(Trial { parts, device })
+    fn new(
+        rt: &impl Abort,
+        alloc: Global,
+        frames: FrameNumber,
+        copies: CopyNumber,
+        n: u64,
+    ) -> Self {
+        let device = FailingDisk::new(volume(rt, alloc), n);
+        let parts = Parts::new(rt, alloc, frames, copies);
+        Trial { parts, device }
     }
 
     fn serve(&mut self, va: u64, write: bool, broken: bool) -> Result<(), Refusal> {
@@ -276,40 +286,39 @@ fn refused_stores(rt: &impl Abort, trial: &mut Trial) {
         (20_480, Refusal::SegvAccErr),
         (12_288, Refusal::BusAdrErr),
     ] {
-        assert_eq!(rt; trial.serve(va, true, true), Err(why));
+        assert!(rt; trial.serve(va, true, true) == Err(why));
     }
-    assert_eq!(rt; trial.calls(), 0);
+    assert!(rt; trial.calls() == 0);
 }
 
 // Loads that no fault serves once the one frame is in use.
 fn refused_loads(rt: &impl Abort, trial: &mut Trial) {
-    assert_eq!(rt; trial.serve(4096, true, false), Ok(()));
-    assert_eq!(rt; trial.calls(), 1);
+    assert!(rt; trial.serve(4096, true, false) == Ok(()));
+    assert!(rt; trial.calls() == 1);
     for (va, why) in [(12_288, Refusal::BusAdrErr), (8192, Refusal::NoFrame)] {
-        assert_eq!(rt; trial.serve(va, false, true), Err(why));
+        assert!(rt; trial.serve(va, false, true) == Err(why));
     }
 }
 
 // A store to a frozen page, without a copy.
 fn refused_frozen(rt: &impl Abort, trial: &mut Trial) {
     trial.store(rt, 1, 65);
-    assert_eq!(rt; trial.mark(), 1);
+    assert!(rt; trial.mark() == 1);
     let frozen = trial.entry(1);
     let served = (
         trial.serve(4096, true, true),
         trial.serve(4096, false, true),
     );
-    assert_eq!(rt; served, (Err(Refusal::Held), Ok(())));
-    assert_eq!(rt; (trial.entry(1), trial.calls()), (frozen, 1));
+    assert!(rt; served == (Err(Refusal::Held), Ok(())));
+    assert!(rt; (trial.entry(1), trial.calls()) == (frozen, 1));
 }
 
 #[test]
-fn refusals_come_in_order(rt: HostRuntime) -> Result<(), Fail> {
-    let mut trial = Trial::new(rt.alloc(), 1, 0, 0)?;
+fn refusals_come_in_order(rt: HostRuntime) {
+    let mut trial = Trial::new(&rt, rt.alloc(), 1, 0, 0);
     refused_stores(&rt, &mut trial);
     refused_loads(&rt, &mut trial);
     refused_frozen(&rt, &mut trial);
-    Ok(())
 }
 
 // The last page of file 0 is read in, for a load and then a store.
@@ -318,28 +327,27 @@ fn read_last(rt: &impl Abort, trial: &mut Trial) {
         trial.serve(8192, false, false),
         trial.serve(8192, true, false),
     );
-    assert_eq!(rt; (served, trial.calls()), ((Ok(()), Ok(())), 1));
-    assert_eq!(rt; trial.last_bytes(rt), [0, 66, 0, 0].as_slice());
-    assert_eq!(rt; trial.bits(2), [true, true, false, false]);
+    assert!(rt; (served, trial.calls()) == ((Ok(()), Ok(())), 1));
+    assert!(rt; trial.last_bytes(rt) == [0, 66, 0, 0].as_slice());
+    assert!(rt; trial.bits(2) == [true, true, false, false]);
 }
 
 // The page of file 1 is read in, which three pages map.
 fn read_shared(rt: &impl Abort, trial: &mut Trial) {
     for va in [16_384, 20_480, 32_768] {
-        assert_eq!(rt; trial.serve(va, false, false), Ok(()));
+        assert!(rt; trial.serve(va, false, false) == Ok(()));
     }
-    assert_eq!(rt; trial.calls(), 2);
+    assert!(rt; trial.calls() == 2);
     let entry = trial.entry(4);
     let entries = (trial.entry(5), trial.entry(8));
-    assert_eq!(rt; entries, (read_only(entry), entry));
+    assert!(rt; entries == (read_only(entry), entry));
 }
 
 #[test]
-fn a_page_is_read_once(rt: HostRuntime) -> Result<(), Fail> {
-    let mut trial = Trial::new(rt.alloc(), 4, 2, 0)?;
+fn a_page_is_read_once(rt: HostRuntime) {
+    let mut trial = Trial::new(&rt, rt.alloc(), 4, 2, 0);
     read_last(&rt, &mut trial);
     read_shared(&rt, &mut trial);
-    Ok(())
 }
 
 // A page is stored to and marked; its entry, as it was before the mark and without the dirty bit, comes back.
@@ -355,21 +363,20 @@ fn freeze(rt: &impl Abort, trial: &mut Trial) -> Entry {
 // Stores through both of its entries.
 fn store_frozen(rt: &impl Abort, trial: &mut Trial, mapped: Entry) {
     for va in [32_768, 16_384] {
-        assert_eq!(rt; trial.serve(va, true, false), Ok(()));
+        assert!(rt; trial.serve(va, true, false) == Ok(()));
     }
-    assert_eq!(rt; (trial.entry(4), trial.entry(8)), (mapped, mapped));
+    assert!(rt; (trial.entry(4), trial.entry(8)) == (mapped, mapped));
     trial.store(rt, 8, 2);
 }
 
 #[test]
-fn a_frozen_page_is_copied_once(rt: HostRuntime) -> Result<(), Fail> {
-    let mut trial = Trial::new(rt.alloc(), 4, 1, 0)?;
+fn a_frozen_page_is_copied_once(rt: HostRuntime) {
+    let mut trial = Trial::new(&rt, rt.alloc(), 4, 1, 0);
     let mapped = freeze(&rt, &mut trial);
     store_frozen(&rt, &mut trial, mapped);
     let page = FilePage { file: 1, page: 0 };
-    assert_eq!(rt; trial.first_bytes(&rt, page), (2, 1));
-    assert_eq!(rt; trial.calls(), 1);
-    Ok(())
+    assert!(rt; trial.first_bytes(&rt, page) == (2, 1));
+    assert!(rt; trial.calls() == 1);
 }
 
 // A store of a broken machine makes no call, and the call of another one fails.
@@ -396,9 +403,8 @@ fn read_again(rt: &impl Abort, trial: &mut Trial) {
 }
 
 #[test]
-fn a_failed_read_changes_nothing(rt: HostRuntime) -> Result<(), Fail> {
-    let mut trial = Trial::new(rt.alloc(), 4, 2, 1)?;
+fn a_failed_read_changes_nothing(rt: HostRuntime) {
+    let mut trial = Trial::new(&rt, rt.alloc(), 4, 2, 1);
     fail_reads(&rt, &mut trial);
     read_again(&rt, &mut trial);
-    Ok(())
 }

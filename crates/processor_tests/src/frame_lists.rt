@@ -3,7 +3,6 @@ use crate::setup::take_new;
 use frames::{CopyNumber, Frames};
 use page_entry::{FilePage, FrameNumber, Refusal};
 use std::process::Abort;
-use std::test::Fail;
 
 const FIRST: FilePage = FilePage { file: 1, page: 7 };
 
@@ -64,14 +63,14 @@ fn counts(frames: &Frames) -> (u32, u32, u32) {
     (frames.count(), frames.copy_count(), frames.free_count())
 }
 
-// The page of a frame.
-fn page_of(frames: &Frames, frame: FrameNumber) -> Option<FilePage> {
-    frames.page(frame)
+// Whether this is the page of a frame, and its own one.
+fn has_page(frames: &Frames, frame: FrameNumber, page: FilePage) -> bool {
+    frames.page(frame) == Some(page) && frames.find(page) == Some(frame)
 }
 
-// The frame of a page.
-fn frame_of(frames: &Frames, page: FilePage) -> Option<FrameNumber> {
-    frames.find(page)
+// Whether neither the frame has a page, nor the page a frame.
+fn have_neither(frames: &Frames, frame: FrameNumber, page: FilePage) -> bool {
+    frames.page(frame).is_none() && frames.find(page).is_none()
 }
 
 // Whether these are the frames in use, by their pages.
@@ -80,46 +79,43 @@ fn are_in_order(frames: &Frames, expected: &[FrameNumber]) -> bool {
 }
 
 // Takes both frames, for the first page and then the second one.
-fn take_both(rt: &impl Abort, frames: &mut Frames) -> Result<(FrameNumber, FrameNumber), Refusal> {
-    let first = take_new(frames, FIRST)?;
-    let second = take_new(frames, SECOND)?;
-    assert_ne!(rt; first, second);
+fn take_both(rt: &impl Abort, frames: &mut Frames) -> (FrameNumber, FrameNumber) {
+    let first = take_new(frames, FIRST).expect(rt, "a frame");
+    let second = take_new(frames, SECOND).expect(rt, "a frame");
+    assert!(rt; first != second);
     assert!(rt; counts(frames) == (2, 0, 0));
     let third = FilePage { file: 0, page: 0 };
     assert!(rt; take_new(frames, third) == Err(Refusal::NoFrame));
-    Ok((first, second))
+    (first, second)
 }
 
 #[test]
-fn takes_each_frame_once(rt: HostRuntime) -> Result<(), Fail> {
-    let mut frames = Frames::new(rt.alloc(), 2, 0)?;
+fn takes_each_frame_once(rt: HostRuntime) {
+    let mut frames = Frames::new(rt.alloc(), 2, 0).expect(&rt, "memory");
     assert!(rt; counts(&frames) == (2, 0, 2));
-    let (first, second) = take_both(&rt, &mut frames)?;
+    let (first, second) = take_both(&rt, &mut frames);
     have_both(&rt, &mut frames, first, second);
     give_second(&rt, &mut frames, first, second);
-    Ok(())
 }
 
 fn have_both(rt: &impl Abort, frames: &mut Frames, first: FrameNumber, second: FrameNumber) {
-    assert_eq!(rt; page_of(frames, first), Some(FIRST));
-    assert_eq!(rt; frame_of(frames, FIRST), Some(first));
+    assert!(rt; has_page(frames, first, FIRST));
     assert!(rt; are_in_order(frames, &[second, first]));
-    assert_eq!(rt; copy_new(frames, FIRST), Err(Refusal::Held));
+    assert!(rt; copy_new(frames, FIRST) == Err(Refusal::Held));
 }
 
 // The second frame is given back, and taken again.
 fn give_second(rt: &impl Abort, frames: &mut Frames, first: FrameNumber, second: FrameNumber) {
     give(rt, frames, second);
-    assert_eq!(rt; page_of(frames, second), None);
-    assert_eq!(rt; frame_of(frames, SECOND), None);
+    assert!(rt; have_neither(frames, second, SECOND));
     assert!(rt; are_in_order(frames, &[first]));
     let third = FilePage { file: 2, page: 0 };
-    assert_eq!(rt; take_new(frames, third), Ok(second));
+    assert!(rt; take_new(frames, third) == Ok(second));
 }
 
-// The copy of a page.
-fn copied(frames: &Frames, page: FilePage) -> Option<CopyNumber> {
-    frames.copy_of(page)
+// Whether this is the copy of a page.
+fn is_copy(frames: &Frames, page: FilePage, expected: Option<CopyNumber>) -> bool {
+    frames.copy_of(page) == expected
 }
 
 fn is_unused(frames: &Frames) -> bool {
@@ -127,29 +123,25 @@ fn is_unused(frames: &Frames) -> bool {
 }
 
 // Copies a frame between two stores to it.
-fn copy_between(
-    rt: &impl Abort,
-    frames: &mut Frames,
-) -> Result<(FrameNumber, CopyNumber), Refusal> {
-    let frame = take_filled(frames, FIRST, 64)?;
+fn copy_between(rt: &impl Abort, frames: &mut Frames) -> (FrameNumber, CopyNumber) {
+    let frame = take_filled(frames, FIRST, 64).expect(rt, "a frame");
     write(rt, frames, frame, 4094, &[65, 66]);
-    let copy = copy_new(frames, FIRST)?;
+    let copy = copy_new(frames, FIRST).expect(rt, "a copy");
     write(rt, frames, frame, 4095, &[67]);
-    Ok((frame, copy))
+    (frame, copy)
 }
 
 #[test]
-fn copy_keeps_what_was_written(rt: HostRuntime) -> Result<(), Fail> {
-    let mut frames = Frames::new(rt.alloc(), 1, 1)?;
+fn copy_keeps_what_was_written(rt: HostRuntime) {
+    let mut frames = Frames::new(rt.alloc(), 1, 1).expect(&rt, "memory");
     assert!(rt; is_unused(&frames));
-    let (frame, copy) = copy_between(&rt, &mut frames)?;
-    assert_eq!(rt; copied(&frames, FIRST), Some(copy));
+    let (frame, copy) = copy_between(&rt, &mut frames);
+    assert!(rt; is_copy(&frames, FIRST, Some(copy)));
     assert!(rt; copy_ends_with(&rt, &frames, FIRST, [64, 65, 66]));
     assert!(rt; ends_with(&rt, &frames, frame, [64, 65, 67]));
     give_copy(&rt, &mut frames, FIRST);
-    assert_eq!(rt; copied(&frames, FIRST), None);
+    assert!(rt; is_copy(&frames, FIRST, None));
     assert!(rt; !is_unused(&frames));
-    Ok(())
 }
 
 // The n-th page of 20 files of 51 pages each.
@@ -161,11 +153,10 @@ fn nth_page(n: u16) -> FilePage {
 }
 
 // Takes a frame for each of 1,020 pages, not in their order.
-fn take_1020(frames: &mut Frames) -> Result<(), Refusal> {
+fn take_1020(rt: &impl Abort, frames: &mut Frames) {
     for n in 0..1020 {
-        take_new(frames, nth_page(n * 7 % 1020))?;
+        assert!(rt; take_new(frames, nth_page(n * 7 % 1020)).is_ok());
     }
-    Ok(())
 }
 
 // Whether the n-th frame in order is the n-th page's.
@@ -179,29 +170,36 @@ fn is_nth(frames: &Frames, n: u16) -> bool {
     }
 }
 
-#[test]
-fn frames_of_1020_pages_in_order(rt: HostRuntime) -> Result<(), Fail> {
-    let mut frames = Frames::new(rt.alloc(), 1020, 64)?;
-    take_1020(&mut frames)?;
-    assert_eq!(rt; frames.free_count(), 0);
-    assert_eq!(rt; frames.in_order().len(), 1020);
-    for n in 0..1020 {
-        assert!(rt; is_nth(&frames, n));
-    }
-    Ok(())
+// Whether so many frames are listed in order, and none is free.
+fn all_are_taken(frames: &Frames, count: usize) -> bool {
+    frames.free_count() == 0 && frames.in_order().len() == count
 }
 
 #[test]
-fn copies_64_frames(rt: HostRuntime) -> Result<(), Fail> {
-    let mut frames = Frames::new(rt.alloc(), 65, 64)?;
-    for page in 0..64 {
-        take_new(&mut frames, FilePage { file: 0, page })?;
-        copy_new(&mut frames, FilePage { file: 0, page })?;
+fn frames_of_1020_pages_in_order(rt: HostRuntime) {
+    let mut frames = Frames::new(rt.alloc(), 1020, 64).expect(&rt, "memory");
+    take_1020(&rt, &mut frames);
+    assert!(rt; all_are_taken(&frames, 1020));
+    for n in 0..1020 {
+        assert!(rt; is_nth(&frames, n));
     }
-    take_new(&mut frames, FIRST)?;
-    assert_eq!(rt; copy_new(&mut frames, FIRST), Err(Refusal::Held));
+}
+
+// Takes and copies a frame for each of 64 pages, and takes one for another page.
+fn copy_64(rt: &impl Abort, frames: &mut Frames) {
     for page in 0..64 {
-        assert!(rt; frames.copy_of(FilePage { file: 0, page }).is_some());
+        assert!(rt; take_new(frames, FilePage { file: 0, page }).is_ok());
+        assert!(rt; copy_new(frames, FilePage { file: 0, page }).is_ok());
     }
-    Ok(())
+    assert!(rt; take_new(frames, FIRST).is_ok());
+}
+
+#[test]
+fn copies_64_frames(rt: HostRuntime) {
+    let mut frames = Frames::new(rt.alloc(), 65, 64).expect(&rt, "memory");
+    copy_64(&rt, &mut frames);
+    assert!(rt; copy_new(&mut frames, FIRST) == Err(Refusal::Held));
+    for page in 0..64 {
+        assert!(rt; !is_copy(&frames, FilePage { file: 0, page }, None));
+    }
 }

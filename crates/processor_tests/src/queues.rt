@@ -9,7 +9,7 @@ use pcid_tlb::{CachedEntry, Invpcid};
 use shootdown::{ProcState, Shootdown};
 use spaces::{Change, Spaces};
 use std::alloc::{AllocError, Global};
-use std::test::Fail;
+use std::process::Abort;
 
 const CAPACITY: usize = 5;
 
@@ -138,23 +138,21 @@ struct Pair {
     plain: Plain,
 }
 
-fn three_spaces(alloc: Global) -> Result<Spaces, Fail> {
-    let mut spaces = Spaces::new(alloc)?;
+fn three_spaces(rt: &impl Abort, alloc: Global) -> Spaces {
+    let mut spaces = Spaces::new(alloc).expect(rt, "memory for spaces");
     for _ in 0..3 {
-        spaces.create()?;
+        assert!(rt; spaces.create().is_ok());
     }
-    Ok(spaces)
+    spaces
 }
 
 impl Pair {
-    fn new(alloc: Global) -> Result<Self, Fail> {
-        let spaces = three_spaces(alloc)?;
-        let shootdown = Shootdown::new(alloc, 2, CAPACITY)?;
-        Ok(Pair {
-            shootdown,
-            spaces,
-            plain: Plain::new(alloc)?,
-        })
+    fn new(rt: &impl Abort, alloc: Global) -> Self {
+        Pair {
+            shootdown: Shootdown::new(alloc, 2, CAPACITY).expect(rt, "memory for processors"),
+            spaces: three_spaces(rt, alloc),
+            plain: Plain::new(alloc).expect(rt, "memory for the plain program"),
+        }
     }
 
     fn fill(&mut self, number: u64) -> Result<(), AllocError> {
@@ -178,40 +176,52 @@ impl Pair {
     }
 
     // Processor 1 makes a change, for which processor 0 stalls if it is interrupted. Whether it was.
-    fn change(&mut self, change: Change) -> Result<bool, Fail>
+    fn change(&mut self, rt: &impl Abort, change: Change) -> bool
         requires { HasUserPages change }
     {
-        self.shootdown.admit_free(1)?;
+        let Ok(()) = self.shootdown.admit_free(1) else {
+            panic!(rt; "a change that isn't admitted");
+        };
         self.shootdown.begin(1, &self.spaces, change);
-        let interrupted = self.shootdown.state(0)? == ProcState::Interrupted;
-        self.shootdown.ack(0)?;
-        if self.shootdown.change(1)?.is_some() {
+        let Ok(state) = self.shootdown.state(0) else {
+            panic!(rt; "no processor 0");
+        };
+        self.make_change(rt);
+        state == ProcState::Interrupted
+    }
+
+    // Processor 0 acknowledges the change, which is made then, and resumes.
+    fn make_change(&mut self, rt: &impl Abort) {
+        assert!(rt; self.shootdown.ack(0).is_ok());
+        let Ok(change) = self.shootdown.change(1) else {
+            panic!(rt; "a change that isn't made");
+        };
+        if change.is_some() {
             self.shootdown.finish(1);
         }
-        self.shootdown.resume(0)?;
-        Ok(interrupted)
+        assert!(rt; self.shootdown.resume(0).is_ok());
     }
 
     // Some pages of a space are unmapped. Whether its own processor alone was interrupted, which drops them then.
-    fn unmap(&mut self, pcid: Pcid, first: u64, count: u64) -> Result<bool, Fail>
+    fn unmap(&mut self, rt: &impl Abort, pcid: Pcid, first: u64, count: u64) -> bool
         requires { first + count ≤ 2 ^ 35 }
     {
         let range = PageRange { first, count };
-        let interrupted = self.change(Change::Unmap { pcid, range })?;
-        self.plain.tell_range(pcid, first, count)?;
+        let interrupted = self.change(rt, Change::Unmap { pcid, range });
+        assert!(rt; self.plain.tell_range(pcid, first, count).is_ok());
         let is_here = self.plain.space == pcid;
         if is_here {
             self.plain.drain();
         }
-        Ok(interrupted == is_here)
+        interrupted == is_here
     }
 
     // A mark: all are interrupted.
-    fn mark(&mut self) -> Result<bool, Fail> {
-        let interrupted = self.change(Change::Checkpoint)?;
-        self.plain.tell(Invpcid::AllContexts)?;
+    fn mark(&mut self, rt: &impl Abort) -> bool {
+        let interrupted = self.change(rt, Change::Checkpoint);
+        assert!(rt; self.plain.tell(Invpcid::AllContexts).is_ok());
         self.plain.drain();
-        Ok(interrupted)
+        interrupted
     }
 
     // A space goes, if nobody is in it.
@@ -223,25 +233,24 @@ impl Pair {
         Ok(())
     }
 
-    fn switch(&mut self, pcid: Pcid, keep: bool) -> Result<(), Fail> {
-        self.shootdown.switch(0, &self.spaces, pcid, keep)?;
-        self.plain.switch(pcid, keep)?;
-        Ok(())
+    fn switch(&mut self, rt: &impl Abort, pcid: Pcid, keep: bool) {
+        assert!(rt; self.shootdown.switch(0, &self.spaces, pcid, keep).is_ok());
+        assert!(rt; self.plain.switch(pcid, keep).is_ok());
     }
 
     // A step that this number chooses. Whether both answer alike.
-    fn step(&mut self, number: u64) -> Result<bool, Fail> {
+    fn step(&mut self, rt: &impl Abort, number: u64) -> bool {
         let argument = number / 16;
         let pcid = (argument % 3 + 1) as Pcid;
         match number % 16 {
-            0..=7 => self.fill(argument)?,
-            8 => return Ok(self.evict((argument % 6) as usize)),
-            9..=11 => return self.unmap(pcid, argument / 3 % 6, argument / 18 % 6 + 1),
-            12 if argument % 8 == 0 => return self.mark(),
-            12 => self.forget(pcid)?,
-            _ => self.switch(pcid, argument / 3 % 3 > 0)?,
+            0..=7 => assert!(rt; self.fill(argument).is_ok()),
+            8 => return self.evict((argument % 6) as usize),
+            9..=11 => return self.unmap(rt, pcid, argument / 3 % 6, argument / 18 % 6 + 1),
+            12 if argument % 8 == 0 => return self.mark(rt),
+            12 => assert!(rt; self.forget(pcid).is_ok()),
+            _ => self.switch(rt, pcid, argument / 3 % 3 > 0),
         }
-        Ok(true)
+        true
     }
 
     // Whether both cache the same for each page, and may cache the same PCIDs.
@@ -263,15 +272,15 @@ impl Pair {
     }
 
     // Whether they agree after each of so many steps.
-    fn agree_for(&mut self, steps: u32) -> Result<bool, Fail> {
+    fn agree_for(&mut self, rt: &impl Abort, steps: u32) -> bool {
         let mut seed = 1989;
         for _ in 0..steps {
             seed = next(seed);
-            if !self.step(seed >> 32)? || !self.agrees() {
-                return Ok(false);
+            if !self.step(rt, seed >> 32) || !self.agrees() {
+                return false;
             }
         }
-        Ok(true)
+        true
     }
 }
 
@@ -282,8 +291,7 @@ fn next(seed: u64) -> u64 {
 }
 
 #[test]
-fn agrees_with_a_scanned_list(rt: HostRuntime) -> Result<(), Fail> {
-    let mut pair = Pair::new(rt.alloc())?;
-    assert!(rt; pair.agree_for(6_000)?);
-    Ok(())
+fn agrees_with_a_scanned_list(rt: HostRuntime) {
+    let mut pair = Pair::new(&rt, rt.alloc());
+    assert!(rt; pair.agree_for(&rt, 6_000));
 }

@@ -7,6 +7,7 @@ use mappings::{Place, Rights};
 use page_entry::{FilePage, FrameNumber, PAGE, Pcid, Refusal};
 use spaces::Spaces;
 use std::alloc::Global;
+use std::process::Abort;
 
 /// Pages of a space that map pages of a file: the space, from which page on, how many pages, from which page of which
 /// file on, and with which rights.
@@ -49,8 +50,8 @@ fn map(spaces: &mut Spaces, row: Row) -> Result<(), Refusal>
     spaces.map(pcid, range, place)
 }
 
-/// Spaces that map the pages of the rows, without entries. A space is made where a row is the first that names it.
-pub(crate) fn mapped_spaces(alloc: Global, rows: &[Row]) -> Result<Spaces, Refusal>
+// Makes spaces that map the pages of the rows, without entries, if there is memory and no row is refused.
+fn try_mapped_spaces(alloc: Global, rows: &[Row]) -> Result<Spaces, Refusal>
     ensures { IfOk result (λ spaces. (q p : ℕ) → entry_at spaces.map q p ≡ None) }
 {
     let Ok(mut spaces) = Spaces::new(alloc) else {
@@ -61,6 +62,16 @@ pub(crate) fn mapped_spaces(alloc: Global, rows: &[Row]) -> Result<Spaces, Refus
         map(&mut spaces, *row)?;
     }
     Ok(spaces)
+}
+
+/// Spaces that map the pages of the rows, without entries. A space is made where a row is the first that names it.
+pub(crate) fn mapped_spaces(rt: &impl Abort, alloc: Global, rows: &[Row]) -> Spaces
+    ensures { (q p : ℕ) → entry_at result.map q p ≡ None }
+{
+    let Ok(spaces) = try_mapped_spaces(alloc, rows) else {
+        panic!(rt; "spaces that can't be made");
+    };
+    spaces
 }
 
 /// Takes a frame for a page; `Overlap` where a frame has it.

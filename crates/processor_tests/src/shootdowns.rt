@@ -7,9 +7,8 @@ use page_entry::{Entry, FilePage, PAGE, PageNumber, Pcid, ProcessorNumber, Refus
 use pcid_tlb::CachedEntry;
 use shootdown::{Lock, ProcState, Shootdown};
 use spaces::{Change, Spaces};
-use std::alloc::{AllocError, Global};
+use std::alloc::Global;
 use std::process::Abort;
-use std::test::Fail;
 
 // The first page of file 2, with both rights.
 const PLACE: Place = Place {
@@ -34,24 +33,32 @@ struct Bench {
 
 impl Bench {
     // So many processors with empty TLBs of so many entries, all in space 0.
-    fn new(alloc: Global, processors: u8, tlb: usize) -> Result<Self, AllocError>
+    fn new(rt: &impl Abort, alloc: Global, processors: u8, tlb: usize) -> Self
         requires some { 0 < processors }
         requires few { processors ≤ 16 }
         requires roomy { 0 < tlb }
     {
-        Ok(Bench {
-            shootdown: Shootdown::new(alloc, processors, tlb)?,
-            spaces: Spaces::new(alloc)?,
-        })
+        Bench {
+            shootdown: Shootdown::new(alloc, processors, tlb).expect(rt, "memory"),
+            spaces: Spaces::new(alloc).expect(rt, "memory"),
+        }
     }
 
     // Makes a space whose pages 16 to 19 are the first ones of file 2, and gives page 16 an entry.
-    fn make(&mut self, rt: &impl Abort) -> Result<Pcid, Refusal> {
+    fn make(&mut self, rt: &impl Abort) -> Pcid {
+        let Ok(pcid) = self.map_new() else {
+            panic!(rt; "a space that can't be made");
+        };
+        let present = Entry::absent().with_present(true);
+        self.set_first(rt, pcid, present.with_frame(3));
+        pcid
+    }
+
+    // Makes a space whose pages 16 to 19 are the first ones of file 2.
+    fn map_new(&mut self) -> Result<Pcid, Refusal> {
         let pcid = self.spaces.create()?;
         let (range, _) = self.spaces.judge_mapping(pcid, 16 * PAGE, 4 * PAGE, 0)?;
         self.spaces.map(pcid, range, PLACE)?;
-        let present = Entry::absent().with_present(true);
-        self.set_first(rt, pcid, present.with_frame(3));
         Ok(pcid)
     }
 
@@ -162,8 +169,8 @@ impl Bench {
     // Evicts the newest of 64 entries.
     fn drop_newest(&mut self, rt: &impl Abort, p: ProcessorNumber) {
         assert!(rt; self.shootdown.state(p).is_ok());
-        assert!(rt; !self.shootdown.evict(p, 64));
-        assert!(rt; self.shootdown.evict(p, 63));
+        let evicted = (self.shootdown.evict(p, 64), self.shootdown.evict(p, 63));
+        assert!(rt; evicted == (false, true));
     }
 
     fn drop_page(&mut self, rt: &impl Abort, p: ProcessorNumber, page: PageNumber) {
@@ -186,12 +193,12 @@ fn begin_beside_idle(rt: &impl Abort, bench: &mut Bench, pcid: Pcid) {
 // What is refused while processor 0 unmaps pages of a space, and processor 1 is interrupted.
 fn refused_while_locked(rt: &impl Abort, bench: &mut Bench, pcid: Pcid) {
     let change = Change::Unmap { pcid, range: RANGE };
-    assert_eq!(rt; bench.lock(), Some(Lock { holder: 0, change }));
+    assert!(rt; bench.lock() == Some(Lock { holder: 0, change }));
     let begun = bench.begin_unmap(2, pcid);
     let answers = (begun, bench.switch(2, pcid, true), bench.idle(1));
     let locked = Err(Refusal::Locked);
-    assert_eq!(rt; answers, (locked, locked, locked));
-    assert_eq!(rt; bench.wake(3), Err(Refusal::Locked));
+    assert!(rt; answers == (locked, locked, locked));
+    assert!(rt; bench.wake(3) == Err(Refusal::Locked));
 }
 
 // No change is handed out before processor 1, which goes on, has acknowledged.
@@ -205,49 +212,47 @@ fn change_too_early(rt: &impl Abort, bench: &mut Bench) {
 // Processor 1 acknowledges once, and stalls.
 fn stall(rt: &impl Abort, bench: &mut Bench) {
     let answers = (bench.ack(2), bench.ack(1), bench.ack(1));
-    assert_eq!(rt; answers, (Ok(false), Ok(true), Ok(false)));
+    assert!(rt; answers == (Ok(false), Ok(true), Ok(false)));
     let answers = (bench.admit(1), bench.resume(1));
-    assert_eq!(rt; answers, (Err(Refusal::Stalled), Err(Refusal::Locked)));
+    assert!(rt; answers == (Err(Refusal::Stalled), Err(Refusal::Locked)));
     bench.fill(rt, 1, 17);
 }
 
 // The change is made once, and processor 1 resumes without what it made stale.
 fn change_once(rt: &impl Abort, bench: &mut Bench, change: Change) {
     let answers = (bench.change(0), bench.lock(), bench.change(0));
-    assert_eq!(rt; answers, (Ok(Some(change)), None, Ok(None)));
+    assert!(rt; answers == (Ok(Some(change)), None, Ok(None)));
     let answers = (bench.resume(1), bench.resume(1));
-    assert_eq!(rt; answers, (Ok(true), Ok(false)));
+    assert!(rt; answers == (Ok(true), Ok(false)));
     assert!(rt; !bench.caches(rt, 1, 16) && !bench.caches(rt, 1, 17));
 }
 
 fn wake_once(rt: &impl Abort, bench: &mut Bench) {
     let answers = (bench.wake(3), bench.wake(3), bench.state(3));
-    assert_eq!(rt; answers, (Ok(true), Ok(false), Ok(ProcState::Active)));
-    assert_eq!(rt; bench.admit(4), Err(Refusal::Einval));
+    assert!(rt; answers == (Ok(true), Ok(false), Ok(ProcState::Active)));
+    assert!(rt; bench.admit(4) == Err(Refusal::Einval));
 }
 
 #[test]
-fn a_change_waits_for_the_interrupted(rt: HostRuntime) -> Result<(), Fail> {
-    let mut bench = Bench::new(rt.alloc(), 4, 8)?;
-    let pcid = bench.make(&rt)?;
+fn a_change_waits_for_the_interrupted(rt: HostRuntime) {
+    let mut bench = Bench::new(&rt, rt.alloc(), 4, 8);
+    let pcid = bench.make(&rt);
     begin_beside_idle(&rt, &mut bench, pcid);
     refused_while_locked(&rt, &mut bench, pcid);
     change_too_early(&rt, &mut bench);
     stall(&rt, &mut bench);
     change_once(&rt, &mut bench, Change::Unmap { pcid, range: RANGE });
     wake_once(&rt, &mut bench);
-    Ok(())
 }
 
 // Each of three processors in a space of its own, with two pages in its TLB.
-fn enter_own_spaces(rt: &impl Abort, bench: &mut Bench) -> Result<(), Refusal> {
+fn enter_own_spaces(rt: &impl Abort, bench: &mut Bench) {
     for p in 0..3 {
-        let pcid = bench.make(rt)?;
+        let pcid = bench.make(rt);
         assert!(rt; bench.switch(p, pcid, false) == Ok(()));
         bench.fill(rt, p, 16);
         bench.fill(rt, p, 17);
     }
-    Ok(())
 }
 
 // Processor 0 reclaims a page that the space of processor 1 has no entry of.
@@ -262,46 +267,44 @@ fn reclaim(rt: &impl Abort, bench: &mut Bench, page: FilePage) {
 
 // Only processors are interrupted whose space has an entry of the page.
 #[test]
-fn a_reclaim_touches_the_spaces_with_an_entry(rt: HostRuntime) -> Result<(), Fail> {
-    let mut bench = Bench::new(rt.alloc(), 3, 8)?;
-    enter_own_spaces(&rt, &mut bench)?;
+fn a_reclaim_touches_the_spaces_with_an_entry(rt: HostRuntime) {
+    let mut bench = Bench::new(&rt, rt.alloc(), 3, 8);
+    enter_own_spaces(&rt, &mut bench);
     bench.set_first(&rt, 2, Entry::absent());
     reclaim(&rt, &mut bench, FilePage { file: 2, page: 0 });
     for p in 0..3 {
-        assert_eq!(rt; bench.caches(&rt, p, 16), p == 1);
+        assert!(rt; bench.caches(&rt, p, 16) == (p == 1));
         assert!(rt; bench.caches(&rt, p, 17));
     }
-    Ok(())
 }
 
 // Processor 1 caches pages of a space, and is in space 0 when pages of it are unmapped.
-fn unmap_elsewhere(rt: &impl Abort, bench: &mut Bench, pcid: Pcid) -> Result<(), Refusal> {
+fn unmap_elsewhere(rt: &impl Abort, bench: &mut Bench, pcid: Pcid) {
     assert!(rt; bench.switch(1, pcid, false) == Ok(()));
     for page in [15, 16, 19] {
         bench.fill(rt, 1, page);
     }
     let answers = (bench.switch(1, 0, true), bench.begin_unmap(0, pcid));
     assert!(rt; answers == (Ok(()), Ok(())));
-    assert!(rt; bench.change(0)?.is_some());
-    Ok(())
+    let unmap = Change::Unmap { pcid, range: RANGE };
+    assert!(rt; bench.change(0) == Ok(Some(unmap)));
 }
 
 fn switch_back(rt: &impl Abort, bench: &mut Bench, pcid: Pcid) {
-    assert_eq!(rt; bench.switch(1, pcid, true), Ok(()));
+    assert!(rt; bench.switch(1, pcid, true) == Ok(()));
     assert!(rt; bench.caches(rt, 1, 15));
     assert!(rt; !bench.caches(rt, 1, 16) && !bench.caches(rt, 1, 19));
-    assert_eq!(rt; bench.switch(1, pcid, false), Ok(()));
+    assert!(rt; bench.switch(1, pcid, false) == Ok(()));
     assert!(rt; !bench.caches(rt, 1, 15));
 }
 
 // A switch that keeps its space's entries drops those that a change made stale meanwhile.
 #[test]
-fn entries_that_were_kept_go_with_the_mapping(rt: HostRuntime) -> Result<(), Fail> {
-    let mut bench = Bench::new(rt.alloc(), 2, 8)?;
-    let pcid = bench.make(&rt)?;
-    unmap_elsewhere(&rt, &mut bench, pcid)?;
+fn entries_that_were_kept_go_with_the_mapping(rt: HostRuntime) {
+    let mut bench = Bench::new(&rt, rt.alloc(), 2, 8);
+    let pcid = bench.make(&rt);
+    unmap_elsewhere(&rt, &mut bench, pcid);
     switch_back(&rt, &mut bench, pcid);
-    Ok(())
 }
 
 // Pages of a space are unmapped so many times.
@@ -314,31 +317,24 @@ fn unmap_often(rt: &impl Abort, bench: &mut Bench, pcid: Pcid, changes: u8) {
 }
 
 // Processor 1 caches a page of a space, and a new space that it was in before is changed so many times.
-fn change_beside(
-    rt: &impl Abort,
-    bench: &mut Bench,
-    kept: Pcid,
-    changes: u8,
-) -> Result<(), Refusal> {
-    let pcid = bench.make(rt)?;
+fn change_beside(rt: &impl Abort, bench: &mut Bench, kept: Pcid, changes: u8) {
+    let pcid = bench.make(rt);
     let answers = (bench.switch(1, pcid, true), bench.switch(1, kept, true));
-    assert_eq!(rt; answers, (Ok(()), Ok(())));
+    assert!(rt; answers == (Ok(()), Ok(())));
     bench.fill(rt, 1, 16);
     unmap_often(rt, bench, pcid, changes);
-    Ok(())
 }
 
 // Eight invalidations wait in a queue; with a ninth, all that the processor caches will be dropped.
 #[test]
-fn a_queue_of_eight(rt: HostRuntime) -> Result<(), Fail> {
-    let mut bench = Bench::new(rt.alloc(), 2, 8)?;
-    let kept = bench.make(&rt)?;
+fn a_queue_of_eight(rt: HostRuntime) {
+    let mut bench = Bench::new(&rt, rt.alloc(), 2, 8);
+    let kept = bench.make(&rt);
     for changes in 2..4 {
-        change_beside(&rt, &mut bench, kept, changes)?;
-        assert_eq!(rt; bench.switch(1, kept, true), Ok(()));
-        assert_eq!(rt; bench.caches(&rt, 1, 16), changes == 2);
+        change_beside(&rt, &mut bench, kept, changes);
+        assert!(rt; bench.switch(1, kept, true) == Ok(()));
+        assert!(rt; bench.caches(&rt, 1, 16) == (changes == 2));
     }
-    Ok(())
 }
 
 // A space is destroyed once processor 1, which caches a page of it, has left it.
@@ -354,38 +350,36 @@ fn leave_and_destroy(rt: &impl Abort, bench: &mut Bench, pcid: Pcid) {
 // The PCID is given out again, and processor 1 doesn't find the page that it cached before.
 fn give_out_again(rt: &impl Abort, bench: &mut Bench, pcid: Pcid) {
     let answers = (bench.create(), bench.switch(1, pcid, true));
-    assert_eq!(rt; answers, (Ok(pcid), Ok(())));
+    assert!(rt; answers == (Ok(pcid), Ok(())));
     assert!(rt; !bench.caches(rt, 1, 16));
 }
 
 #[test]
-fn a_pcid_is_used_again(rt: HostRuntime) -> Result<(), Fail> {
-    let mut bench = Bench::new(rt.alloc(), 2, 8)?;
-    let pcid = bench.make(&rt)?;
+fn a_pcid_is_used_again(rt: HostRuntime) {
+    let mut bench = Bench::new(&rt, rt.alloc(), 2, 8);
+    let pcid = bench.make(&rt);
     let answers = (bench.may_destroy(0), bench.may_destroy(2));
     assert!(rt; answers == (Err(Refusal::Einval), Err(Refusal::Einval)));
     leave_and_destroy(&rt, &mut bench, pcid);
     give_out_again(&rt, &mut bench, pcid);
-    Ok(())
 }
 
 // So is the highest one, of 4,095 spaces.
 #[test]
-fn the_highest_pcid_is_used_again(rt: HostRuntime) -> Result<(), Fail> {
-    let mut bench = Bench::new(rt.alloc(), 2, 8)?;
+fn the_highest_pcid_is_used_again(rt: HostRuntime) {
+    let mut bench = Bench::new(&rt, rt.alloc(), 2, 8);
     for _ in 1..4095 {
         assert!(rt; bench.create().is_ok());
     }
-    let pcid = bench.make(&rt)?;
-    assert_eq!(rt; (pcid, bench.create()), (4095, Err(Refusal::Enomem)));
+    let pcid = bench.make(&rt);
+    assert!(rt; (pcid, bench.create()) == (4095, Err(Refusal::Enomem)));
     leave_and_destroy(&rt, &mut bench, pcid);
     give_out_again(&rt, &mut bench, pcid);
-    Ok(())
 }
 
 // Processor p caches 65 pages, one more than it has entries for, and drops some.
 fn cache_65(rt: &impl Abort, bench: &mut Bench, p: ProcessorNumber) {
-    assert_eq!(rt; bench.admit_free(p), Ok(()));
+    assert!(rt; bench.admit_free(p) == Ok(()));
     for page in 0..65 {
         bench.fill(rt, p, page);
     }
@@ -397,14 +391,13 @@ fn cache_65(rt: &impl Abort, bench: &mut Bench, p: ProcessorNumber) {
 }
 
 #[test]
-fn sixteen_processors_cache_64_entries_each(rt: HostRuntime) -> Result<(), Fail> {
-    let mut bench = Bench::new(rt.alloc(), 16, 64)?;
-    assert_eq!(rt; bench.processors(), 16);
+fn sixteen_processors_cache_64_entries_each(rt: HostRuntime) {
+    let mut bench = Bench::new(&rt, rt.alloc(), 16, 64);
+    assert!(rt; bench.processors() == 16);
     for p in 0..16 {
         cache_65(&rt, &mut bench, p);
     }
-    assert_eq!(rt; bench.state(16), Err(Refusal::Einval));
-    Ok(())
+    assert!(rt; bench.state(16) == Err(Refusal::Einval));
 }
 
 // Each of 16 processors enters a space and caches a page that processor 0 then begins to unmap.
@@ -420,15 +413,15 @@ fn enter_all(rt: &impl Abort, bench: &mut Bench, pcid: Pcid) {
 fn stall_all(rt: &impl Abort, bench: &mut Bench) {
     for p in 1..16 {
         let waiting = 16u32.saturating_sub(u32::from(p));
-        assert_eq!(rt; bench.change(0), Err(Refusal::NotYet(waiting)));
+        assert!(rt; bench.change(0) == Err(Refusal::NotYet(waiting)));
         assert!(rt; bench.caches(rt, p, 16));
-        assert_eq!(rt; bench.ack(p), Ok(true));
+        assert!(rt; bench.ack(p) == Ok(true));
     }
 }
 
 fn resume_all(rt: &impl Abort, bench: &mut Bench) {
     for p in 1..16 {
-        assert_eq!(rt; bench.resume(p), Ok(true));
+        assert!(rt; bench.resume(p) == Ok(true));
     }
     for p in 0..16 {
         assert!(rt; !bench.caches(rt, p, 16));
@@ -436,13 +429,12 @@ fn resume_all(rt: &impl Abort, bench: &mut Bench) {
 }
 
 #[test]
-fn a_change_waits_for_fifteen(rt: HostRuntime) -> Result<(), Fail> {
-    let mut bench = Bench::new(rt.alloc(), 16, 8)?;
-    let pcid = bench.make(&rt)?;
+fn a_change_waits_for_fifteen(rt: HostRuntime) {
+    let mut bench = Bench::new(&rt, rt.alloc(), 16, 8);
+    let pcid = bench.make(&rt);
     enter_all(&rt, &mut bench, pcid);
     stall_all(&rt, &mut bench);
     let unmap = Change::Unmap { pcid, range: RANGE };
     assert!(rt; bench.change(0) == Ok(Some(unmap)));
     resume_all(&rt, &mut bench);
-    Ok(())
 }

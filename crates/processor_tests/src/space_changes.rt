@@ -2,9 +2,7 @@
 use mappings::{PageRange, Place, Rights};
 use page_entry::{Entry, FilePage, PAGE, PageNumber, Pcid, Refusal};
 use spaces::{ALL_PAGES, Change, Spaces};
-use std::alloc::{AllocError, Global};
 use std::process::Abort;
-use std::test::Fail;
 
 // The first page of file 2, with both rights.
 const PLACE: Place = Place {
@@ -68,14 +66,19 @@ fn create(spaces: &mut Spaces) -> Result<Pcid, Refusal> {
     spaces.create()
 }
 
-// What a page of a space maps.
-fn place_of(spaces: &Spaces, pcid: Pcid, page: PageNumber) -> Option<Place> {
-    spaces.place(pcid, page)
+// Makes a space, which there is place for.
+fn created(rt: &impl Abort, spaces: &mut Spaces) -> Pcid {
+    create(spaces).expect(rt, "a space")
 }
 
-// The entry of a page of a space.
-fn entry_of(spaces: &Spaces, pcid: Pcid, page: PageNumber) -> Entry {
-    spaces.entry(pcid, page)
+// Whether this is what a page of a space maps.
+fn maps(spaces: &Spaces, pcid: Pcid, page: PageNumber, expected: Place) -> bool {
+    spaces.place(pcid, page) == Some(expected)
+}
+
+// Whether this is the entry of a page of a space.
+fn has_entry(spaces: &Spaces, pcid: Pcid, page: PageNumber, expected: Entry) -> bool {
+    spaces.entry(pcid, page) == expected
 }
 
 // Removes a space that has to be there.
@@ -88,24 +91,28 @@ fn remove(rt: &impl Abort, spaces: &mut Spaces, pcid: Pcid) {
 // Makes all spaces.
 fn create_all(rt: &impl Abort, spaces: &mut Spaces) {
     for pcid in 1..4096 {
-        assert_eq!(rt; create(spaces), Ok(pcid));
+        assert!(rt; create(spaces) == Ok(pcid));
     }
-    assert_eq!(rt; create(spaces), Err(Refusal::Enomem));
-    assert_eq!(rt; spaces.pcids().last(), Some(4095));
+    assert!(rt; create(spaces) == Err(Refusal::Enomem));
+    assert!(rt; spaces.pcids().last() == Some(4095));
+}
+
+// Removes three spaces, which are made again in the order of their PCIDs.
+fn create_again(rt: &impl Abort, spaces: &mut Spaces) {
+    for pcid in [4095, 3, 7] {
+        remove(rt, spaces, pcid);
+    }
+    for pcid in [3, 7, 4095] {
+        assert!(rt; create(spaces) == Ok(pcid));
+    }
+    assert!(rt; create(spaces) == Err(Refusal::Enomem));
 }
 
 #[test]
-fn pcids_are_the_lowest_that_are_free(rt: HostRuntime) -> Result<(), Fail> {
-    let mut spaces = Spaces::new(rt.alloc())?;
+fn pcids_are_the_lowest_that_are_free(rt: HostRuntime) {
+    let mut spaces = Spaces::new(rt.alloc()).expect(&rt, "memory");
     create_all(&rt, &mut spaces);
-    for pcid in [4095, 3, 7] {
-        remove(&rt, &mut spaces, pcid);
-    }
-    for pcid in [3, 7, 4095] {
-        assert_eq!(rt; create(&mut spaces), Ok(pcid));
-    }
-    assert_eq!(rt; create(&mut spaces), Err(Refusal::Enomem));
-    Ok(())
+    create_again(&rt, &mut spaces);
 }
 
 // The last page of a mapping of the most pages.
@@ -113,9 +120,9 @@ const LAST: PageNumber = 16 + 65_535;
 
 // Maps the most pages that a mapping may have.
 fn map_most(rt: &impl Abort, spaces: &mut Spaces, pcid: Pcid) {
-    assert_eq!(rt; map(spaces, pcid, 65_537, PLACE), Err(Refusal::Einval));
-    assert_eq!(rt; map(spaces, pcid, 65_536, PLACE), Ok(()));
-    assert_eq!(rt; map(spaces, pcid, 1, PLACE), Err(Refusal::Overlap));
+    assert!(rt; map(spaces, pcid, 65_537, PLACE) == Err(Refusal::Einval));
+    assert!(rt; map(spaces, pcid, 65_536, PLACE) == Ok(()));
+    assert!(rt; map(spaces, pcid, 1, PLACE) == Err(Refusal::Overlap));
 }
 
 // All of them are mapped, and none after them.
@@ -126,7 +133,7 @@ fn most_are_mapped(rt: &impl Abort, spaces: &Spaces, pcid: Pcid) {
         page: 65_535,
         ..PLACE
     };
-    assert_eq!(rt; place_of(spaces, pcid, LAST), Some(last));
+    assert!(rt; maps(spaces, pcid, LAST, last));
 }
 
 // The first dirty page of a space, which has to be there.
@@ -147,91 +154,91 @@ fn maps_inner(spaces: &Spaces, pcid: Pcid) -> bool {
 // Stores to the last page, which is the first dirty one then.
 fn store_to_last(rt: &impl Abort, spaces: &mut Spaces, pcid: Pcid) {
     set(rt, spaces, pcid, LAST, stored(7));
-    assert_eq!(rt; entry_of(spaces, pcid, LAST), stored(7));
-    assert_eq!(rt; first_dirty(rt, spaces, pcid), Some(LAST));
+    assert!(rt; has_entry(spaces, pcid, LAST, stored(7)));
+    assert!(rt; first_dirty(rt, spaces, pcid) == Some(LAST));
 }
 
 // Unmaps all pages between the first and the last one, which stay as they were.
 fn unmap_inner(rt: &impl Abort, spaces: &mut Spaces, pcid: Pcid) {
-    assert_eq!(rt; unmap(spaces, pcid, 17, 65_534), Ok(()));
-    assert_eq!(rt; place_of(spaces, pcid, 16), Some(PLACE));
+    assert!(rt; unmap(spaces, pcid, 17, 65_534) == Ok(()));
+    assert!(rt; maps(spaces, pcid, 16, PLACE));
     assert!(rt; !maps_inner(spaces, pcid));
-    assert_eq!(rt; entry_of(spaces, pcid, LAST), stored(7));
+    assert!(rt; has_entry(spaces, pcid, LAST, stored(7)));
 }
 
 #[test]
-fn a_mapping_has_65_536_pages(rt: HostRuntime) -> Result<(), Fail> {
-    let mut spaces = Spaces::new(rt.alloc())?;
-    let pcid = create(&mut spaces)?;
+fn a_mapping_has_65_536_pages(rt: HostRuntime) {
+    let mut spaces = Spaces::new(rt.alloc()).expect(&rt, "memory");
+    let pcid = created(&rt, &mut spaces);
     map_most(&rt, &mut spaces, pcid);
     most_are_mapped(&rt, &spaces, pcid);
     store_to_last(&rt, &mut spaces, pcid);
     unmap_inner(&rt, &mut spaces, pcid);
-    Ok(())
 }
 
 // Four pages of a space, with an entry each.
-fn map_stored(rt: &impl Abort, spaces: &mut Spaces, pcid: Pcid) -> Result<(), Refusal> {
-    map(spaces, pcid, 4, PLACE)?;
+fn map_stored(rt: &impl Abort, spaces: &mut Spaces, pcid: Pcid) {
+    assert!(rt; map(spaces, pcid, 4, PLACE) == Ok(()));
     for page in 16..20 {
         set(rt, spaces, pcid, page, stored(page as u32));
     }
-    Ok(())
 }
 
 // Takes the right to store from two pages.
 fn make_read_only(rt: &impl Abort, spaces: &mut Spaces, pcid: Pcid, read_only: Entry) {
-    assert_eq!(rt; protect(spaces, pcid, 17, 2, Rights::Read), Ok(()));
-    assert_eq!(rt; entry_of(spaces, pcid, 17), read_only);
+    assert!(rt; protect(spaces, pcid, 17, 2, Rights::Read) == Ok(()));
+    assert!(rt; has_entry(spaces, pcid, 17, read_only));
     let place = Place {
         page: 1,
         rights: Rights::Read,
         ..PLACE
     };
-    assert_eq!(rt; place_of(spaces, pcid, 17), Some(place));
+    assert!(rt; maps(spaces, pcid, 17, place));
 }
 
 // Gives it back, but not to the entries.
 fn make_writable(rt: &impl Abort, spaces: &mut Spaces, pcid: Pcid, read_only: Entry) {
-    assert_eq!(rt; protect(spaces, pcid, 17, 2, Rights::ReadWrite), Ok(()));
-    assert_eq!(rt; entry_of(spaces, pcid, 17), read_only);
+    assert!(rt; protect(spaces, pcid, 17, 2, Rights::ReadWrite) == Ok(()));
+    assert!(rt; has_entry(spaces, pcid, 17, read_only));
     let place = Place { page: 1, ..PLACE };
-    assert_eq!(rt; place_of(spaces, pcid, 17), Some(place));
+    assert!(rt; maps(spaces, pcid, 17, place));
+}
+
+// Pages of which one isn't mapped lose no right.
+fn refused_protection(rt: &impl Abort, spaces: &mut Spaces, pcid: Pcid) {
+    assert!(rt; has_entry(spaces, pcid, 19, stored(19)));
+    let done = protect(spaces, pcid, 17, 4, Rights::Read);
+    assert!(rt; done == Err(Refusal::Enomem));
 }
 
 #[test]
-fn entries_lose_writable_with_the_right(rt: HostRuntime) -> Result<(), Fail> {
-    let mut spaces = Spaces::new(rt.alloc())?;
-    let pcid = create(&mut spaces)?;
-    map_stored(&rt, &mut spaces, pcid)?;
+fn entries_lose_writable_with_the_right(rt: HostRuntime) {
+    let mut spaces = Spaces::new(rt.alloc()).expect(&rt, "memory");
+    let pcid = created(&rt, &mut spaces);
+    map_stored(&rt, &mut spaces, pcid);
     let read_only = stored(17).with_writable(false);
     make_read_only(&rt, &mut spaces, pcid, read_only);
     make_writable(&rt, &mut spaces, pcid, read_only);
-    assert_eq!(rt; entry_of(&spaces, pcid, 19), stored(19));
-    let done = protect(&mut spaces, pcid, 17, 4, Rights::Read);
-    assert_eq!(rt; done, Err(Refusal::Enomem));
-    Ok(())
+    refused_protection(&rt, &mut spaces, pcid);
 }
 
 // Three spaces that map two pages each.
-fn map_three(rt: &impl Abort, spaces: &mut Spaces) -> Result<(), Refusal> {
-    for expected in 1..4 {
-        let pcid = create(spaces)?;
-        assert_eq!(rt; pcid, expected);
-        map(spaces, pcid, 2, PLACE)?;
+fn map_three(rt: &impl Abort, spaces: &mut Spaces) {
+    for pcid in 1..4 {
+        assert!(rt; create(spaces) == Ok(pcid));
+        assert!(rt; map(spaces, pcid, 2, PLACE) == Ok(()));
     }
-    Ok(())
 }
 
-// Whether these are the pages of spaces with an entry of a page of a file.
-fn has_entries_of(
-    alloc: Global,
-    spaces: &Spaces,
-    page: FilePage,
-    expected: &[(Pcid, PageNumber)],
-) -> Result<bool, AllocError> {
-    let listed: Vec<(Pcid, PageNumber)> = spaces.entries_of(page).collect(alloc)?;
-    Ok(listed.as_slice() == expected)
+// Whether these are the pages of spaces with an entry of a page of a file, in their order.
+fn has_entries_of(spaces: &Spaces, page: FilePage, expected: &[(Pcid, PageNumber)]) -> bool {
+    let mut listed = spaces.entries_of(page);
+    for entry in expected {
+        if listed.next() != Some(*entry) {
+            return false;
+        }
+    }
+    listed.next().is_none()
 }
 
 // Whether a change touches a space or not, and affects its page 17 or not.
@@ -269,21 +276,20 @@ fn store_in_two(rt: &impl Abort, spaces: &mut Spaces) {
 fn protect_and_clear(rt: &impl Abort, spaces: &mut Spaces, page: FilePage) {
     protect_frame(spaces);
     for pcid in [1, 3] {
-        assert_eq!(rt; entry_of(spaces, pcid, 17), stored(9).protected());
+        assert!(rt; has_entry(spaces, pcid, 17, stored(9).protected()));
     }
     clear_entries_of(spaces, page);
-    assert_eq!(rt; entry_of(spaces, 3, 17), Entry::absent());
+    assert!(rt; has_entry(spaces, 3, 17, Entry::absent()));
 }
 
 #[test]
-fn changes_reach_every_space(rt: HostRuntime) -> Result<(), Fail> {
-    let mut spaces = Spaces::new(rt.alloc())?;
+fn changes_reach_every_space(rt: HostRuntime) {
+    let mut spaces = Spaces::new(rt.alloc()).expect(&rt, "memory");
     let page = FilePage { file: 2, page: 1 };
-    map_three(&rt, &mut spaces)?;
+    map_three(&rt, &mut spaces);
     store_in_two(&rt, &mut spaces);
-    assert!(rt; has_entries_of(rt.alloc(), &spaces, page, &[(1, 17), (3, 17)])?);
+    assert!(rt; has_entries_of(&spaces, page, &[(1, 17), (3, 17)]));
     touches_spaces(&rt, &spaces, Change::Reclaim { page });
     protect_and_clear(&rt, &mut spaces, page);
-    assert!(rt; has_entries_of(rt.alloc(), &spaces, page, &[])?);
-    Ok(())
+    assert!(rt; has_entries_of(&spaces, page, &[]));
 }

@@ -3,7 +3,6 @@ use crate::sample::{DAMAGES, FILES, SPECS, many_files, put, put_super_one, put_s
 use page_entry::Refusal;
 use std::alloc::Global;
 use std::process::Abort;
-use std::test::Fail;
 use volume_codec::{
     FileSpec, Geometry, Layout, Super, block_count_as, block_count_of, read_descriptor, read_super,
     write_descriptor, write_super, write_super_as,
@@ -32,53 +31,62 @@ fn sample_descriptor() -> [u8; 4096] {
 }
 
 // What a block says.
-fn table_of(alloc: Global, block: &[u8; 4096]) -> Result<Super<Global>, Fail> {
-    Ok(read_super(alloc, block)?)
+fn table_of<R: Abort + AllocGlobal>(rt: &R, block: &[u8; 4096]) -> Super<Global> {
+    read_super(rt.alloc(), block).expect(rt, "a super block")
 }
 
 // Its geometry.
-fn geometry_of(alloc: Global, block: &[u8; 4096]) -> Result<Geometry, Fail> {
-    Ok(table_of(alloc, block)?.geometry())
+fn geometry_of<R: Abort + AllocGlobal>(rt: &R, block: &[u8; 4096]) -> Geometry {
+    table_of(rt, block).geometry()
 }
 
-// Its layout, how many files it has, and its slots and blocks.
-fn counts(alloc: Global, block: &[u8; 4096]) -> Result<(Layout, usize, u32, u32), Fail> {
-    let table = table_of(alloc, block)?;
-    Ok((
+// The layout of a table, how many files it has, and its slots and blocks.
+fn counts_of(table: &Super<Global>) -> (Layout, usize, u32, u32) {
+    (
         table.layout(),
         table.file_count(),
         table.slots(),
         table.block_count(),
-    ))
+    )
 }
 
-// A file of a table: its name, capacity, pages and first home block.
-fn file(table: &Super<Global>, number: usize) -> Option<(&str, u64, u32, u32)> {
-    if number >= table.file_count() {
-        return None;
-    }
-    Some((
-        table.name(number),
-        table.capacity(number),
-        table.pages(number),
-        table.first_home(number),
-    ))
+// Those of a block.
+fn counts<R: Abort + AllocGlobal>(rt: &R, block: &[u8; 4096]) -> (Layout, usize, u32, u32) {
+    counts_of(&table_of(rt, block))
+}
+
+// Whether a file of a table has this name, capacity, pages and first home block.
+fn is_file(table: &Super<Global>, number: usize, wanted: (&str, u64, u32, u32)) -> bool {
+    number < table.file_count()
+        && table.name(number) == wanted.0
+        && table.capacity(number) == wanted.1
+        && table.pages(number) == wanted.2
+        && table.first_home(number) == wanted.3
 }
 
 // Whether a block has this file of this number.
-fn has_file(
-    alloc: Global,
+fn has_file<R: Abort + AllocGlobal>(
+    rt: &R,
     block: &[u8; 4096],
     number: usize,
     wanted: (&str, u64, u32, u32),
-) -> Result<bool, Fail> {
-    let table = table_of(alloc, block)?;
-    Ok(file(&table, number) == Some(wanted))
+) -> bool {
+    is_file(&table_of(rt, block), number, wanted)
 }
 
 // The block of the two files' table in layout 2.
-fn block_two(alloc: Global) -> Result<[u8; 4096], Fail> {
-    Ok(Super::new(alloc, 2, &SPECS, 4)?.to_block())
+fn block_two<R: Abort + AllocGlobal>(rt: &R) -> [u8; 4096] {
+    Super::new(rt.alloc(), 2, &SPECS, 4)
+        .expect(rt, "a table")
+        .to_block()
+}
+
+// The block of a table in layout 1.
+fn written<R: Abort + AllocGlobal>(rt: &R, files: &[(&str, u64)], slots: u64) -> [u8; 4096] {
+    match write_super(rt.alloc(), files, slots) {
+        Ok(block) => block,
+        Err(_) => panic!(rt; "a table"),
+    }
 }
 
 // Where a journal has its gate, its descriptor and the record of a slot.
@@ -94,32 +102,37 @@ fn journal(geometry: &Geometry, number: u32, slot: u32) -> Option<(u32, u32, u32
 }
 
 // The mark of a descriptor, how many home blocks it has, the first and the last one.
-fn described(
-    alloc: Global,
+fn described<R: Abort + AllocGlobal>(
+    rt: &R,
     geometry: &Geometry,
     block: &[u8; 4096],
-) -> Result<(u64, usize, Option<u32>, Option<u32>), Fail> {
-    let found = read_descriptor(alloc, geometry, block)?;
+) -> (u64, usize, Option<u32>, Option<u32>) {
+    let found = read_descriptor(rt.alloc(), geometry, block).expect(rt, "a descriptor");
     let homes = found.homes();
-    Ok((
+    (
         found.mark(),
         homes.len(),
         homes.first().copied(),
         homes.last().copied(),
-    ))
+    )
 }
 
-// How a descriptor is refused.
-fn descriptor_refusal(alloc: Global, geometry: &Geometry, block: &[u8; 4096]) -> Option<Refusal> {
-    read_descriptor(alloc, geometry, block).err()
+// How the sample's descriptor is refused with these bytes there.
+fn descriptor_refusal(
+    alloc: Global,
+    geometry: &Geometry,
+    at: usize,
+    bytes: &[u8],
+) -> Option<Refusal> {
+    let mut block = sample_descriptor();
+    put(&mut block, at, bytes);
+    read_descriptor(alloc, geometry, &block).err()
 }
 
 // Whether a block has both files, and their home blocks begin there.
-fn has_files(alloc: Global, block: &[u8; 4096], homes: [u32; 2]) -> Result<bool, Fail> {
-    Ok(
-        has_file(alloc, block, 0, ("a", 5000, 2, homes[0]))?
-            && has_file(alloc, block, 1, ("b", 4096, 1, homes[1]))?,
-    )
+fn has_files<R: Abort + AllocGlobal>(rt: &R, block: &[u8; 4096], homes: [u32; 2]) -> bool {
+    has_file(rt, block, 0, ("a", 5000, 2, homes[0]))
+        && has_file(rt, block, 1, ("b", 4096, 1, homes[1]))
 }
 
 // Whether the two files' table in layout 1 is written as this block, if the layout is named, too.
@@ -145,37 +158,39 @@ fn is_sample_two(geometry: &Geometry) -> bool {
 }
 
 #[test]
-fn layout_1_is_written_and_read(rt: HostRuntime) -> Result<(), Fail> {
-    let block = write_super(rt.alloc(), &FILES, 4)?;
+fn layout_1_is_written_and_read(rt: HostRuntime) {
+    let block = written(&rt, &FILES, 4);
     assert!(rt; block == sample_one());
     assert!(rt; is_written_by_number(rt.alloc(), &block));
-    assert!(rt; counts(rt.alloc(), &block)? == (Layout::One, 2, 4, 10));
-    assert!(rt; has_files(rt.alloc(), &block, [7, 9])?);
-    assert!(rt; is_sample_one(&geometry_of(rt.alloc(), &block)?));
-    Ok(())
+    assert!(rt; counts(&rt, &block) == (Layout::One, 2, 4, 10));
+    assert!(rt; has_files(&rt, &block, [7, 9]));
+    assert!(rt; is_sample_one(&geometry_of(&rt, &block)));
 }
 
 #[test]
-fn layout_2_is_written_and_read(rt: HostRuntime) -> Result<(), Fail> {
-    let block = block_two(rt.alloc())?;
+fn layout_2_is_written_and_read(rt: HostRuntime) {
+    let block = block_two(&rt);
     assert!(rt; block == sample_two());
-    assert!(rt; counts(rt.alloc(), &block)? == (Layout::Two, 2, 4, 16));
-    assert!(rt; has_files(rt.alloc(), &block, [13, 15])?);
-    assert!(rt; is_sample_two(&geometry_of(rt.alloc(), &block)?));
-    Ok(())
+    assert!(rt; counts(&rt, &block) == (Layout::Two, 2, 4, 16));
+    assert!(rt; has_files(&rt, &block, [13, 15]));
+    assert!(rt; is_sample_two(&geometry_of(&rt, &block)));
+}
+
+// Whether a layout has this number, and is the one that has it, and the one of its magic.
+fn is_numbered(layout: Layout, number: u64) -> bool {
+    Layout::from_number(number) == Some(layout)
+        && layout.number() == number
+        && Layout::from_magic(layout.magic()) == Some(layout)
 }
 
 #[test]
 fn layouts_have_numbers(rt: HostRuntime) {
-    for (number, layout) in [(1, Layout::One), (2, Layout::Two)] {
-        assert_eq!(rt; Layout::from_number(number), Some(layout));
-        assert_eq!(rt; layout.number(), number);
-        assert_eq!(rt; Layout::from_magic(layout.magic()), Some(layout));
-    }
+    assert!(rt; is_numbered(Layout::One, 1));
+    assert!(rt; is_numbered(Layout::Two, 2));
     for number in [0, 3, u64::MAX] {
-        assert_eq!(rt; Layout::from_number(number), None);
+        assert!(rt; Layout::from_number(number) == None);
     }
-    assert_eq!(rt; Layout::from_magic(*b"FAMSYNC5"), None);
+    assert!(rt; Layout::from_magic(*b"FAMSYNC5") == None);
 }
 
 // Why a block isn't read.
@@ -241,19 +256,27 @@ fn tables_outside_the_rules(rt: HostRuntime) {
     }
 }
 
+// Whether the most files, with the most slots, are written and read.
+fn are_written<R: Abort + AllocGlobal>(rt: &R, most: &[(&str, u64)]) -> bool {
+    let block = written(rt, most, 1020);
+    counts(rt, &block).1 == 64 && has_file(rt, &block, 63, ("_", 4096, 1, 1086))
+}
+
+// Whether a file may have so many bytes that there are 2^32 - 1 blocks, and not one more.
+fn most_bytes_are_taken() -> bool {
+    let bytes = 4096 * (u64::from(u32::MAX) - 7);
+    block_count_of(&[("a", bytes)], 4) == Ok(u64::from(u32::MAX))
+        && block_count_of(&[("a", bytes + 1)], 4) == Err(Refusal::BadShape)
+}
+
 #[test]
-fn limits_of_tables(rt: HostRuntime) -> Result<(), Fail> {
+fn limits_of_tables(rt: HostRuntime) {
     let files = many_files();
     assert!(rt; block_count_of(&files, 1020) == Err(Refusal::BadShape));
-    let most = files.get(..64).ok_or("there are 65 files")?;
+    let most = files.get(..64).expect(&rt, "there are 65 files");
     assert!(rt; block_count_of(most, 1020) == Ok(1087));
-    let block = write_super(rt.alloc(), most, 1020)?;
-    assert!(rt; counts(rt.alloc(), &block)?.1 == 64);
-    assert!(rt; has_file(rt.alloc(), &block, 63, ("_", 4096, 1, 1086))?);
-    let bytes = 4096 * (u64::from(u32::MAX) - 7);
-    assert!(rt; block_count_of(&[("a", bytes)], 4) == Ok(u64::from(u32::MAX)));
-    assert!(rt; block_count_of(&[("a", bytes + 1)], 4) == Err(Refusal::BadShape));
-    Ok(())
+    assert!(rt; are_written(&rt, most));
+    assert!(rt; most_bytes_are_taken());
 }
 
 // What makes the sample's descriptor a damaged one: bytes, and where they are written.
@@ -270,51 +293,50 @@ const DAMAGED_DESCRIPTORS: [(usize, &[u8]); 9] = [
 ];
 
 #[test]
-fn descriptors(rt: HostRuntime) -> Result<(), Fail> {
-    let geometry = geometry_of(rt.alloc(), &sample_one())?;
-    let found = described(rt.alloc(), &geometry, &sample_descriptor())?;
+fn descriptors(rt: HostRuntime) {
+    let geometry = geometry_of(&rt, &sample_one());
+    let found = described(&rt, &geometry, &sample_descriptor());
     assert!(rt; found == (1, 2, Some(7), Some(8)));
     for (at, bytes) in DAMAGED_DESCRIPTORS {
-        let mut block = sample_descriptor();
-        put(&mut block, at, bytes);
-        let refusal = descriptor_refusal(rt.alloc(), &geometry, &block);
-        assert_eq!(rt; refusal, Some(Refusal::Damaged), "byte {at}");
+        let refusal = descriptor_refusal(rt.alloc(), &geometry, at, bytes);
+        assert!(rt; refusal == Some(Refusal::Damaged), "byte {at}");
     }
-    Ok(())
 }
 
 // The descriptor of mark 1 for the home blocks 7 and 8 of the sample's geometry.
 fn written_descriptor(rt: &impl Abort, geometry: &Geometry) -> [u8; 4096] {
-    assert_eq!(rt; geometry.first_home(), 7);
-    assert_eq!(rt; geometry.block_count(), 10);
-    assert_eq!(rt; geometry.slots(), 4);
+    assert!(rt; geometry.first_home() == 7);
+    assert!(rt; geometry.block_count() == 10);
+    assert!(rt; geometry.slots() == 4);
     write_descriptor(geometry, 1, &[7, 8])
 }
 
 #[test]
-fn a_descriptor_is_written(rt: HostRuntime) -> Result<(), Fail> {
-    let geometry = geometry_of(rt.alloc(), &sample_one())?;
+fn a_descriptor_is_written(rt: HostRuntime) {
+    let geometry = geometry_of(&rt, &sample_one());
     assert!(rt; written_descriptor(&rt, &geometry) == sample_descriptor());
-    Ok(())
+}
+
+// Writes the home blocks of a full descriptor.
+fn put_homes(full: &mut [u8]) {
+    for i in 0..1020u16 {
+        let home = (1023 + i).to_be_bytes();
+        put(full, 18 + 4 * usize::from(i), &home);
+    }
 }
 
 // A descriptor of mark 9 with 1,020 home blocks.
 fn full_descriptor() -> [u8; 4096] {
     let mut full = [0; 4096];
     put(&mut full, 0, b"\0\0\0\0\0\0\0\x09\0\0\x03\xFC");
-    for i in 0..1020u16 {
-        let home = (1023 + i).to_be_bytes();
-        put(&mut full, 18 + 4 * usize::from(i), &home);
-    }
+    put_homes(&mut full);
     full
 }
 
 // A full descriptor has 1,020 home blocks, here 1,023 to 2,042.
 #[test]
-fn a_full_descriptor(rt: HostRuntime) -> Result<(), Fail> {
-    let block = write_super(rt.alloc(), &[("a", 4096 * 1020)], 1020)?;
-    let geometry = geometry_of(rt.alloc(), &block)?;
-    let found = described(rt.alloc(), &geometry, &full_descriptor())?;
+fn a_full_descriptor(rt: HostRuntime) {
+    let geometry = geometry_of(&rt, &written(&rt, &[("a", 4096 * 1020)], 1020));
+    let found = described(&rt, &geometry, &full_descriptor());
     assert!(rt; found == (9, 1020, Some(1023), Some(2042)));
-    Ok(())
 }

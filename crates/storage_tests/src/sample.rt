@@ -3,7 +3,7 @@
 use device::MemDisk;
 use recovery::{Volume, open};
 use std::alloc::Global;
-use std::test::Fail;
+use std::process::Abort;
 use volume_codec::FileSpec;
 
 pub(crate) const FILES: [(&str, u64); 2] = [("a", 5000), ("b", 4096)];
@@ -111,21 +111,21 @@ pub(crate) fn many_files() -> [(&'static str, u64); 65] {
 }
 
 /// A crash of a disk of as many bytes as the choice.
-pub(crate) fn crash(disk: &mut MemDisk<Global>, choice: &[u8]) -> Result<(), Fail> {
-    if choice.len() != disk.bytes().len() {
-        return Err("the choice is as long as the disk".into());
-    }
+pub(crate) fn crash(rt: &impl Abort, disk: &mut MemDisk<Global>, choice: &[u8]) {
+    assert!(rt;
+        choice.len() == disk.bytes().len(),
+        "the choice is as long as the disk"
+    );
     disk.stop(choice);
-    Ok(())
 }
 
 /// The volume of a disk that opens.
-pub(crate) fn volume_of(
-    alloc: Global,
+pub(crate) fn volume_of<R: Abort + AllocGlobal>(
+    rt: &R,
     disk: MemDisk<Global>,
-) -> Result<Volume<MemDisk<Global>, Global>, Fail> {
-    match open(alloc, disk) {
-        Ok(volume) => Ok(volume),
-        Err((refusal, _)) => Err(refusal.into()),
+) -> Volume<MemDisk<Global>, Global> {
+    match open(rt.alloc(), disk) {
+        Ok(volume) => volume,
+        Err((refusal, _)) => panic!(rt; "{refusal}"),
     }
 }

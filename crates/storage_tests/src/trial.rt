@@ -5,7 +5,7 @@ use device::{Device, FailingDisk, MemDisk};
 use journal::{Flush, Flushed, Stage, WriteOuts};
 use std::alloc::Global;
 use std::marker::Model;
-use std::test::Fail;
+use std::process::Abort;
 use volume_codec::{Geometry, read_descriptor};
 
 /// A disk in memory, one of whose calls may fail.
@@ -36,13 +36,13 @@ impl Model for Trial {
 
 impl Trial {
     /// No write-outs yet.
-    pub(crate) fn new(alloc: Global, geometry: Geometry, disk: Disk) -> Result<Self, Fail> {
-        Ok(Trial {
-            outs: WriteOuts::new(alloc, geometry)?,
+    pub(crate) fn new<R: Abort + AllocGlobal>(rt: &R, geometry: Geometry, disk: Disk) -> Self {
+        Trial {
+            outs: WriteOuts::new(rt.alloc(), geometry).expect(rt, "memory"),
             geometry,
             disk,
             mark: 0,
-        })
+        }
     }
 
     pub(crate) fn stage(&self) -> Option<Stage> {
@@ -80,14 +80,16 @@ impl Trial {
     }
 
     /// Begins the write-out of the batch that a descriptor says, under a mark above all so far.
-    pub(crate) fn begin(&mut self, alloc: Global, descriptor: &[u8; 4096]) -> Result<(), Fail> {
-        let said = read_descriptor(alloc, &self.geometry, descriptor)?;
+    pub(crate) fn begin<R: Abort + AllocGlobal>(&mut self, rt: &R, descriptor: &[u8; 4096]) {
+        let said = read_descriptor(rt.alloc(), &self.geometry, descriptor).expect(
+            rt,
+            "a descriptor",
+        );
         if self.outs.is_broken() || self.outs.is_busy() || said.mark() <= self.mark {
-            return Err("no batch may begin".into());
+            panic!(rt; "no batch may begin");
         }
         self.outs.begin(said.mark(), said.homes());
         self.mark = said.mark();
-        Ok(())
     }
 
     /// The next step, where each record is filled with the byte of its home block, counted from the first one; none
@@ -97,10 +99,15 @@ impl Trial {
         if !long || self.outs.is_empty() {
             return None;
         }
+        let byte = self.next_byte(pages);
+        Some(self.outs.step(&mut self.disk, &[byte; 4096]))
+    }
+
+    // The byte of the next step's home block.
+    fn next_byte(&self, pages: &[u8; 3]) -> u8 {
         let home = self.outs.next_home().unwrap_or(0);
         let page = home.saturating_sub(self.geometry.first_home()) as usize;
-        let byte = pages.get(page).copied().unwrap_or(0);
-        Some(self.outs.step(&mut self.disk, &[byte; 4096]))
+        pages.get(page).copied().unwrap_or(0)
     }
 }
 

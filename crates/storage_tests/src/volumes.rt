@@ -10,7 +10,7 @@ use device::{Device, FailingDisk, MemDisk};
 use page_entry::Refusal;
 use recovery::{Volume, blocks, blocks_as, format, format_as, open};
 use std::alloc::Global;
-use std::test::Fail;
+use std::process::Abort;
 use volume_codec::{FileSpec, Layout};
 
 type Disk = MemDisk<Global>;
@@ -58,134 +58,143 @@ fn both_open(mark_a: u8, mark_b: u8) -> [u8; LENGTH_TWO] {
     image
 }
 
-fn disk_of(alloc: Global, image: &[u8]) -> Result<Disk, Fail> {
-    Ok(MemDisk::from_bytes(alloc, image.to_vec(alloc)?)?)
+fn disk_of<R: Abort + AllocGlobal>(rt: &R, image: &[u8]) -> Disk {
+    let bytes = image.to_vec(rt.alloc()).expect(rt, "memory");
+    MemDisk::from_bytes(rt.alloc(), bytes).expect(rt, "memory")
 }
 
 // The volume of an image.
-fn opened(alloc: Global, image: &[u8]) -> Result<Volume<Disk, Global>, Fail> {
-    volume_of(alloc, disk_of(alloc, image)?)
+fn opened<R: Abort + AllocGlobal>(rt: &R, image: &[u8]) -> Volume<Disk, Global> {
+    volume_of(rt, disk_of(rt, image))
+}
+
+// As many bytes as asked, each this one.
+fn bytes_of<R: Abort + AllocGlobal>(rt: &R, byte: u8, len: usize) -> Vec<u8> {
+    vec![in rt.alloc(); byte; len].expect(rt, "memory")
+}
+
+// Whether a disk has the bytes of an image, after a crash too.
+fn keeps<R: Abort + AllocGlobal>(rt: &R, disk: &mut Disk, image: &[u8]) -> bool {
+    crash(rt, disk, &bytes_of(rt, 0xEE, image.len()));
+    disk.bytes() == image
 }
 
 // How an image is refused, and whether it has its bytes still, after a crash too; none where it is opened.
-fn refusal(alloc: Global, image: &[u8]) -> Result<Option<(Refusal, bool)>, Fail> {
-    match open(alloc, disk_of(alloc, image)?) {
-        Ok(_) => Ok(None),
-        Err((refusal, mut disk)) => {
-            let spoilt = vec![in alloc; 0xEE; image.len()]?;
-            crash(&mut disk, &spoilt)?;
-            Ok(Some((refusal, disk.bytes() == image)))
-        }
+fn refusal<R: Abort + AllocGlobal>(rt: &R, image: &[u8]) -> Option<(Refusal, bool)> {
+    match open(rt.alloc(), disk_of(rt, image)) {
+        Ok(_) => None,
+        Err((refusal, mut disk)) => Some((refusal, keeps(rt, &mut disk, image))),
     }
 }
 
+// A copy of bytes.
+fn copy_of<R: Abort + AllocGlobal>(rt: &R, bytes: &[u8]) -> Vec<u8> {
+    bytes.to_vec(rt.alloc()).expect(rt, "memory")
+}
+
 // The disk of an image after an opening whose call of this number fails. A write that fails spoils its range.
-fn after_opening(alloc: Global, image: &[u8], call: u64) -> Result<Disk, Fail> {
-    match open(alloc, FailingDisk::new(disk_of(alloc, image)?, call)) {
-        Ok(volume) => Ok(volume.into_device().into_inner()),
-        Err((_, disk)) => Ok(disk.into_inner()),
+fn after_opening<R: Abort + AllocGlobal>(rt: &R, image: &[u8], call: u64) -> Disk {
+    match open(rt.alloc(), FailingDisk::new(disk_of(rt, image), call)) {
+        Ok(volume) => volume.into_device().into_inner(),
+        Err((_, disk)) => disk.into_inner(),
     }
 }
 
 // A crash of a disk that had this image before.
-fn crash_as(alloc: Global, disk: &mut Disk, image: &[u8], unsynced: Unsynced) -> Result<(), Fail> {
-    let choice = match unsynced {
-        Unsynced::Lost => image.to_vec(alloc)?,
-        Unsynced::Torn => vec![in alloc; 0x5A; image.len()]?,
-        Unsynced::Kept => disk.bytes().to_vec(alloc)?,
-    };
-    crash(disk, &choice)
+fn crash_as<R: Abort + AllocGlobal>(rt: &R, disk: &mut Disk, image: &[u8], unsynced: Unsynced) {
+    match unsynced {
+        Unsynced::Lost => crash(rt, disk, image),
+        Unsynced::Torn => crash(rt, disk, &bytes_of(rt, 0x5A, image.len())),
+        Unsynced::Kept => {
+            let kept = copy_of(rt, disk.bytes());
+            crash(rt, disk, &kept);
+        }
+    }
 }
 
 // What an opening whose call of this number fails leaves of an image, after a crash.
-fn cut_opening(
-    alloc: Global,
+fn cut_opening<R: Abort + AllocGlobal>(
+    rt: &R,
     image: &[u8],
     call: u64,
     unsynced: Unsynced,
-) -> Result<Vec<u8>, Fail> {
-    let mut disk = after_opening(alloc, image, call)?;
-    crash_as(alloc, &mut disk, image, unsynced)?;
-    Ok(disk.bytes().to_vec(alloc)?)
+) -> Vec<u8> {
+    let mut disk = after_opening(rt, image, call);
+    crash_as(rt, &mut disk, image, unsynced);
+    copy_of(rt, disk.bytes())
 }
 
 // Reads a part of a file.
-fn read(
-    volume: &mut Volume<Disk, Global>,
-    file: usize,
-    at: u64,
-    buffer: &mut [u8],
-) -> Result<(), Fail>
+fn read(rt: &impl Abort, volume: &mut Volume<Disk, Global>, file: usize, at: u64, buffer: &mut [u8])
     ensures { length buffer.new ≡ length buffer.old }
 {
     let len = buffer.len() as u64;
     if file >= volume.file_count() || volume.length(file) < len || at > volume.length(file) - len {
-        return Err("the file has these bytes".into());
+        panic!(rt; "the file has these bytes");
     }
-    Ok(volume.read_file(file, at, buffer)?)
+    assert!(rt; volume.read_file(file, at, buffer).is_ok());
 }
 
-// The name, the length and the capacity of a file.
-fn file(volume: &Volume<Disk, Global>, number: usize) -> Option<(&str, u64, u64)> {
-    if number >= volume.file_count() {
-        return None;
-    }
-    Some((
-        volume.name(number),
-        volume.length(number),
-        volume.capacity(number),
-    ))
+// Whether a file has this name, length and capacity.
+fn is_file(volume: &Volume<Disk, Global>, number: usize, wanted: (&str, u64, u64)) -> bool {
+    number < volume.file_count()
+        && volume.name(number) == wanted.0
+        && volume.length(number) == wanted.1
+        && volume.capacity(number) == wanted.2
 }
 
 // Whether an image opens with this file of this number.
-fn has_file(
-    alloc: Global,
+fn has_file<R: Abort + AllocGlobal>(
+    rt: &R,
     image: &[u8],
     number: usize,
     wanted: (&str, u64, u64),
-) -> Result<bool, Fail> {
-    let volume = opened(alloc, image)?;
-    Ok(file(&volume, number) == Some(wanted))
+) -> bool {
+    is_file(&opened(rt, image), number, wanted)
 }
 
-// What an image opens with: its layout, how many files and blocks it has, and the most frames.
-fn counts(alloc: Global, image: &[u8]) -> Result<(Layout, usize, u32, u32), Fail> {
-    let volume = opened(alloc, image)?;
+// The layout of a volume, how many files and blocks it has, and the most frames.
+fn counts_of(volume: &Volume<Disk, Global>) -> (Layout, usize, u32, u32) {
     let table = volume.table();
-    Ok((
+    (
         volume.layout(),
         volume.file_count(),
         table.block_count(),
         table.geometry().max_frames(),
-    ))
+    )
+}
+
+// Those that an image opens with.
+fn counts<R: Abort + AllocGlobal>(rt: &R, image: &[u8]) -> (Layout, usize, u32, u32) {
+    counts_of(&opened(rt, image))
 }
 
 // How many device calls the opening of an image makes, and whether it leaves these bytes.
-fn calls_to_open(alloc: Global, image: &[u8], wanted: &[u8]) -> Result<(u64, bool), Fail> {
-    let disk = opened(alloc, image)?.into_device();
-    Ok((disk.calls(), disk.bytes() == wanted))
+fn calls_to_open<R: Abort + AllocGlobal>(rt: &R, image: &[u8], wanted: &[u8]) -> (u64, bool) {
+    let disk = opened(rt, image).into_device();
+    (disk.calls(), disk.bytes() == wanted)
 }
 
 // Reads a part of a file as an image opens, and gives the device calls with one for that read.
-fn read_opened(
-    alloc: Global,
+fn read_opened<R: Abort + AllocGlobal>(
+    rt: &R,
     image: &[u8],
     file: usize,
     at: u64,
     buffer: &mut [u8],
-) -> Result<u64, Fail>
+) -> u64
     ensures { length buffer.new ≡ length buffer.old }
 {
-    let mut volume = opened(alloc, image)?;
-    read(&mut volume, file, at, buffer)?;
-    Ok(volume.into_device().calls())
+    let mut volume = opened(rt, image);
+    read(rt, &mut volume, file, at, buffer);
+    volume.into_device().calls()
 }
 
 // The first byte of the first file as an image opens, and the device calls with one for that read.
-fn first_byte(alloc: Global, image: &[u8]) -> Result<(u8, u64), Fail> {
+fn first_byte<R: Abort + AllocGlobal>(rt: &R, image: &[u8]) -> (u8, u64) {
     let mut bytes = [1];
-    let calls = read_opened(alloc, image, 0, 0, &mut bytes)?;
-    Ok((bytes[0], calls))
+    let calls = read_opened(rt, image, 0, 0, &mut bytes);
+    (bytes[0], calls)
 }
 
 // How many gates are open.
@@ -224,18 +233,21 @@ fn blocks_are_counted(rt: HostRuntime) {
 }
 
 // Whether a disk of other bytes becomes these when it is formatted.
-fn is_formatted_as(alloc: Global, layout: u64, wanted: &[u8]) -> Result<bool, Fail> {
-    let bytes = vec![in alloc; 0xFF; wanted.len()]?;
-    let mut disk = MemDisk::from_bytes(alloc, bytes)?;
-    format_as(alloc, &mut disk, layout, &SPECS, 4)?;
-    Ok(disk.bytes() == wanted)
+fn is_formatted_as<R: Abort + AllocGlobal>(rt: &R, layout: u64, wanted: &[u8]) -> bool {
+    let bytes = bytes_of(rt, 0xFF, wanted.len());
+    let mut disk = MemDisk::from_bytes(rt.alloc(), bytes).expect(rt, "memory");
+    format_as(rt.alloc(), &mut disk, layout, &SPECS, 4).is_ok() && disk.bytes() == wanted
+}
+
+// A disk of zeros.
+fn zeros<R: Abort + AllocGlobal>(rt: &R, len: u64) -> Disk {
+    MemDisk::new(rt.alloc(), len).expect(rt, "memory")
 }
 
 // Whether one of zeros does, in layout 1.
-fn is_formatted(alloc: Global, wanted: &[u8]) -> Result<bool, Fail> {
-    let mut disk = MemDisk::new(alloc, wanted.len() as u64)?;
-    format(alloc, &mut disk, &FILES, 4)?;
-    Ok(disk.bytes() == wanted)
+fn is_formatted<R: Abort + AllocGlobal>(rt: &R, wanted: &[u8]) -> bool {
+    let mut disk = zeros(rt, wanted.len() as u64);
+    format(rt.alloc(), &mut disk, &FILES, 4).is_ok() && disk.bytes() == wanted
 }
 
 // Zeros in the super block, from this first home on and at the gates.
@@ -248,17 +260,16 @@ fn put_zeros(image: &mut [u8], homes: usize) {
 
 // Over a disk of other bytes that is a block too long: descriptors and records stay, and so does the last block.
 #[test]
-fn a_disk_is_formatted(rt: HostRuntime) -> Result<(), Fail> {
+fn a_disk_is_formatted(rt: HostRuntime) {
     let mut one = [0xFF; LENGTH_ONE + 4096];
     put_zeros(&mut one, 28_672);
     put_super_one(&mut one);
-    assert!(rt; is_formatted_as(rt.alloc(), 1, &one)?, "layout 1");
+    assert!(rt; is_formatted_as(&rt, 1, &one), "layout 1");
     let mut two = [0xFF; LENGTH_TWO + 4096];
     put_zeros(&mut two, 53_248);
     put_super_two(&mut two);
-    assert!(rt; is_formatted_as(rt.alloc(), 2, &two)?, "layout 2");
-    assert!(rt; is_formatted(rt.alloc(), &image_one())?);
-    Ok(())
+    assert!(rt; is_formatted_as(&rt, 2, &two), "layout 2");
+    assert!(rt; is_formatted(&rt, &image_one()));
 }
 
 // Whether a disk is refused what no volume of it has, in any layout.
@@ -275,44 +286,47 @@ fn refuses_shapes(alloc: Global, disk: &mut Disk) -> bool {
         && format_as(alloc, disk, 2, &growing, 1) == refused
 }
 
+// Whether it is also refused what is too long for it or has no slots, in layout 1.
+fn refuses_tables(alloc: Global, disk: &mut Disk) -> bool {
+    let refused = Err(Refusal::BadShape);
+    format(alloc, disk, &FILES, 4) == refused && format(alloc, disk, &FILES, 0) == refused
+}
+
 #[test]
-fn what_no_volume_has_is_not_formatted(rt: HostRuntime) -> Result<(), Fail> {
-    let mut disk = MemDisk::new(rt.alloc(), 40_959)?;
-    assert!(rt; format(rt.alloc(), &mut disk, &FILES, 4) == Err(Refusal::BadShape));
-    assert!(rt; format(rt.alloc(), &mut disk, &FILES, 0) == Err(Refusal::BadShape));
+fn what_no_volume_has_is_not_formatted(rt: HostRuntime) {
+    let mut disk = zeros(&rt, 40_959);
+    assert!(rt; refuses_tables(rt.alloc(), &mut disk));
     assert!(rt; refuses_shapes(rt.alloc(), &mut disk));
     assert!(rt; disk.calls() == 0);
-    Ok(())
 }
 
 // Reads around the end of a page, the last byte, and no bytes, which makes no device call.
-fn read_parts(volume: &mut Volume<Disk, Global>) -> Result<([u8; 4], [u8; 1]), Fail> {
+fn read_parts(rt: &impl Abort, volume: &mut Volume<Disk, Global>) -> ([u8; 4], [u8; 1]) {
     let mut bytes = [1; 4];
-    read(volume, 0, 4094, &mut bytes)?;
+    read(rt, volume, 0, 4094, &mut bytes);
     let mut last = [1];
-    read(volume, 1, 4095, &mut last)?;
-    read(volume, 1, 4096, &mut [])?;
-    Ok((bytes, last))
+    read(rt, volume, 1, 4095, &mut last);
+    read(rt, volume, 1, 4096, &mut []);
+    (bytes, last)
 }
 
 // What is read so as an image opens, and the device calls; the image is to stay as it is.
-fn parts_of(alloc: Global, image: &[u8]) -> Result<([u8; 4], [u8; 1], u64, bool), Fail> {
-    let mut volume = opened(alloc, image)?;
-    let (bytes, last) = read_parts(&mut volume)?;
+fn parts_of<R: Abort + AllocGlobal>(rt: &R, image: &[u8]) -> ([u8; 4], [u8; 1], u64, bool) {
+    let mut volume = opened(rt, image);
+    let (bytes, last) = read_parts(rt, &mut volume);
     let disk = volume.into_device();
-    Ok((bytes, last, disk.calls(), disk.bytes() == image))
+    (bytes, last, disk.calls(), disk.bytes() == image)
 }
 
 #[test]
-fn a_volume_tells_its_files(rt: HostRuntime) -> Result<(), Fail> {
+fn a_volume_tells_its_files(rt: HostRuntime) {
     let mut image = image_two();
     put(&mut image, 57_343, &[7, 8]);
     put(&mut image, 65_535, &[9]);
-    assert!(rt; counts(rt.alloc(), &image)? == (Layout::Two, 2, 16, 4));
-    assert!(rt; has_file(rt.alloc(), &image, 0, ("a", 5000, 5000))?);
-    assert!(rt; has_file(rt.alloc(), &image, 1, ("b", 4096, 4096))?);
-    assert!(rt; parts_of(rt.alloc(), &image)? == ([0, 7, 8, 0], [9], 6, true));
-    Ok(())
+    assert!(rt; counts(&rt, &image) == (Layout::Two, 2, 16, 4));
+    assert!(rt; has_file(&rt, &image, 0, ("a", 5000, 5000)));
+    assert!(rt; has_file(&rt, &image, 1, ("b", 4096, 4096)));
+    assert!(rt; parts_of(&rt, &image) == ([0, 7, 8, 0], [9], 6, true));
 }
 
 // A volume in layout 1 whose gate is this byte, over a descriptor of other bytes.
@@ -335,14 +349,13 @@ fn gated_two(gate: u8) -> [u8; LENGTH_TWO] {
 
 // A gate is open at 0xA7 alone. Under a closed one any descriptor is fine.
 #[test]
-fn closed_gates_take_3_and_4_calls(rt: HostRuntime) -> Result<(), Fail> {
+fn closed_gates_take_3_and_4_calls(rt: HostRuntime) {
     for gate in [0, 0x3C, 0xA6, 0xFF] {
         let one = gated_one(gate);
-        assert!(rt; calls_to_open(rt.alloc(), &one, &one)? == (3, true));
+        assert!(rt; calls_to_open(&rt, &one, &one) == (3, true));
         let two = gated_two(gate);
-        assert!(rt; calls_to_open(rt.alloc(), &two, &two)? == (4, true));
+        assert!(rt; calls_to_open(&rt, &two, &two) == (4, true));
     }
-    Ok(())
 }
 
 // A volume in layout 1 with two records under an open gate, and homes of other bytes.
@@ -359,69 +372,84 @@ fn two_records() -> [u8; LENGTH_ONE] {
 
 // With two records 11 calls. Both home blocks become their records to the last byte, and the gate is closed.
 #[test]
-fn an_open_journal_of_layout_1_is_carried_out(rt: HostRuntime) -> Result<(), Fail> {
+fn an_open_journal_of_layout_1_is_carried_out(rt: HostRuntime) {
     let image = two_records();
     let mut wanted = image;
     put(&mut wanted, 28_672, &[65; 4096]);
     put(&mut wanted, 32_768, &[66; 4096]);
     put(&mut wanted, 4096, &[0]);
-    assert!(rt; calls_to_open(rt.alloc(), &image, &wanted)? == (11, true));
-    Ok(())
+    assert!(rt; calls_to_open(&rt, &image, &wanted) == (11, true));
+}
+
+// A volume in layout 2 with open gates but for this one, and a first home block of other bytes.
+fn over_other_bytes(mark_a: u8, mark_b: u8, closed: Option<usize>) -> [u8; LENGTH_TWO] {
+    let mut image = both_open(mark_a, mark_b);
+    put(&mut image, 53_248, &[0xFF; 4096]);
+    if let Some(gate) = closed {
+        put(&mut image, gate, &[0]);
+    }
+    image
+}
+
+// What it becomes: the first home block has zeros after this byte, and both gates are closed.
+fn carried_out(image: &[u8; LENGTH_TWO], byte: u8) -> [u8; LENGTH_TWO] {
+    let mut wanted = *image;
+    put(&mut wanted, 53_248, &[0; 4096]);
+    put(&mut wanted, 53_248, &[byte]);
+    put(&mut wanted, JOURNAL_A, &[0]);
+    put(&mut wanted, JOURNAL_B, &[0]);
+    wanted
 }
 
 // Each open journal of one record takes 6 calls. The one with the higher mark stands, whichever it is.
 #[test]
-fn open_journals_of_layout_2_are_carried_out(rt: HostRuntime) -> Result<(), Fail> {
+fn open_journals_of_layout_2_are_carried_out(rt: HostRuntime) {
     for (mark_a, mark_b, closed, byte, calls) in [
         (1, 2, None, 66, 16),
         (4, 3, None, 65, 16),
         (1, 2, Some(JOURNAL_B), 65, 10),
         (4, 3, Some(JOURNAL_A), 66, 10),
     ] {
-        let mut image = both_open(mark_a, mark_b);
-        put(&mut image, 53_248, &[0xFF; 4096]);
-        if let Some(gate) = closed {
-            put(&mut image, gate, &[0]);
-        }
-        let mut wanted = image;
-        put(&mut wanted, 53_248, &[0; 4096]);
-        put(&mut wanted, 53_248, &[byte]);
-        put(&mut wanted, JOURNAL_A, &[0]);
-        put(&mut wanted, JOURNAL_B, &[0]);
-        let found = calls_to_open(rt.alloc(), &image, &wanted)?;
+        let image = over_other_bytes(mark_a, mark_b, closed);
+        let wanted = carried_out(&image, byte);
+        let found = calls_to_open(&rt, &image, &wanted);
         assert!(rt; found == (calls, true), "marks {mark_a} and {mark_b}");
     }
-    Ok(())
 }
 
 // Whether an opening that is cut at this call is done again by the next one, in 4 calls and 6 for each gate that is
 // open then.
-fn is_done_again(alloc: Global, image: &[u8], call: u64, unsynced: Unsynced) -> Result<bool, Fail> {
-    let left = cut_opening(alloc, image, call, unsynced)?;
-    Ok(first_byte(alloc, &left)? == (66, 5 + 6 * open_gates(&left)))
+fn is_done_again<R: Abort + AllocGlobal>(
+    rt: &R,
+    image: &[u8],
+    call: u64,
+    unsynced: Unsynced,
+) -> bool {
+    finds_the_same(rt, &cut_opening(rt, image, call, unsynced))
+}
+
+// Whether an image opens with the record of journal B, in 4 calls and 6 for each gate that is open, and the read.
+fn finds_the_same<R: Abort + AllocGlobal>(rt: &R, left: &[u8]) -> bool {
+    first_byte(rt, left) == (66, 5 + 6 * open_gates(left))
 }
 
 // An opening is cut at each of its calls: the next one finds the same.
 #[test]
-fn an_opening_that_was_cut_is_done_again(rt: HostRuntime) -> Result<(), Fail> {
+fn an_opening_that_was_cut_is_done_again(rt: HostRuntime) {
     let image = both_open(1, 2);
-    assert!(rt; first_byte(rt.alloc(), &image)? == (66, 17));
+    assert!(rt; first_byte(&rt, &image) == (66, 17));
     for call in 1..17 {
         for kind in [Unsynced::Lost, Unsynced::Torn, Unsynced::Kept] {
-            assert!(rt;
-                is_done_again(rt.alloc(), &image, call, kind)?,
-                "call {call}"
-            );
+            assert!(rt; is_done_again(&rt, &image, call, kind), "call {call}");
         }
     }
-    Ok(())
 }
 
 // The volume cut to each length: below a block there is no volume, and below its 10 blocks it is damaged.
 #[test]
-fn a_volume_that_is_cut_short_is_refused(rt: HostRuntime) -> Result<(), Fail> {
+fn a_volume_that_is_cut_short_is_refused(rt: HostRuntime) {
     let image = image_one();
-    assert!(rt; refusal(rt.alloc(), &image)? == None);
+    assert!(rt; refusal(&rt, &image) == None);
     assert!(rt; image.len() == 40_960);
     for length in 0..40_960 {
         let wanted = if length < 4096 {
@@ -429,31 +457,35 @@ fn a_volume_that_is_cut_short_is_refused(rt: HostRuntime) -> Result<(), Fail> {
         } else {
             Refusal::Damaged
         };
-        let cut = image.get(..length).ok_or("the image is longer")?;
-        let found = refusal(rt.alloc(), cut)?;
-        assert!(rt; found == Some((wanted, true)), "{length} bytes");
+        let cut = image.get(..length).expect(&rt, "the image is longer");
+        assert!(rt; refusal(&rt, cut) == Some((wanted, true)), "{length} bytes");
     }
-    Ok(())
+}
+
+// How a volume in layout 1 is refused with these bytes there.
+fn refusal_with<R: Abort + AllocGlobal>(
+    rt: &R,
+    at: usize,
+    bytes: &[u8],
+) -> Option<(Refusal, bool)> {
+    let mut image = image_one();
+    put(&mut image, at, bytes);
+    refusal(rt, &image)
 }
 
 #[test]
-fn damaged_super_blocks_are_refused(rt: HostRuntime) -> Result<(), Fail> {
+fn damaged_super_blocks_are_refused(rt: HostRuntime) {
     for (at, bytes) in [(0, b"G"), (7, b"5")] {
-        let mut image = image_one();
-        put(&mut image, at, bytes);
-        let found = refusal(rt.alloc(), &image)?;
+        let found = refusal_with(&rt, at, bytes);
         assert!(rt; found == Some((Refusal::NotAVolume, true)), "at {at}");
     }
     for (at, bytes) in DAMAGES {
-        let mut image = image_one();
-        put(&mut image, at, bytes);
-        let found = refusal(rt.alloc(), &image)?;
+        let found = refusal_with(&rt, at, bytes);
         assert!(rt; found == Some((Refusal::Damaged, true)), "at {at}");
     }
     let mut image = image_two();
     put(&mut image, 7, b"1");
-    assert!(rt; refusal(rt.alloc(), &image)? == Some((Refusal::Damaged, true)));
-    Ok(())
+    assert!(rt; refusal(&rt, &image) == Some((Refusal::Damaged, true)));
 }
 
 // Descriptors that break one rule each.
@@ -470,35 +502,34 @@ const DAMAGED_DESCRIPTORS: [&[u8]; 8] = [
 
 // Under an open gate each is damaged, and under a closed one fine.
 #[test]
-fn damaged_descriptors_are_refused_under_an_open_gate(rt: HostRuntime) -> Result<(), Fail> {
+fn damaged_descriptors_are_refused_under_an_open_gate(rt: HostRuntime) {
     for bytes in DAMAGED_DESCRIPTORS {
         let mut image = image_one();
         put(&mut image, 8192, bytes);
-        assert!(rt; refusal(rt.alloc(), &image)? == None);
+        assert!(rt; refusal(&rt, &image) == None);
         put(&mut image, 4096, &[0xA7]);
-        assert!(rt; refusal(rt.alloc(), &image)? == Some((Refusal::Damaged, true)));
+        assert!(rt; refusal(&rt, &image) == Some((Refusal::Damaged, true)));
     }
-    Ok(())
 }
 
 // Whether an image is refused as damaged, and stays as it is also where its opening is cut at any of its calls,
 // whatever a crash then makes of what wasn't synced.
-fn is_left_alone(alloc: Global, image: &[u8]) -> Result<bool, Fail> {
+fn is_left_alone<R: Abort + AllocGlobal>(rt: &R, image: &[u8]) -> bool {
     for call in 1..8 {
-        if cut_opening(alloc, image, call, Unsynced::Torn)?.as_slice() != image {
-            return Ok(false);
+        if cut_opening(rt, image, call, Unsynced::Torn).as_slice() != image {
+            return false;
         }
     }
-    Ok(refusal(alloc, image)? == Some((Refusal::Damaged, true)))
+    refusal(rt, image) == Some((Refusal::Damaged, true))
 }
 
 // In layout 2: an open gate over zeros, a damaged journal beside a good one, home blocks below the homes and past them,
 // and two journals of one mark.
 #[test]
-fn damaged_journals_are_left_alone(rt: HostRuntime) -> Result<(), Fail> {
+fn damaged_journals_are_left_alone(rt: HostRuntime) {
     let mut open_over_zeros = image_two();
     put(&mut open_over_zeros, JOURNAL_B, &[0xA7]);
-    assert!(rt; is_left_alone(rt.alloc(), &open_over_zeros)?);
+    assert!(rt; is_left_alone(&rt, &open_over_zeros));
     for (at, byte) in [
         (JOURNAL_B + 4107, 0),
         (JOURNAL_A + 4115, 12),
@@ -506,20 +537,19 @@ fn damaged_journals_are_left_alone(rt: HostRuntime) -> Result<(), Fail> {
     ] {
         let mut image = both_open(1, 2);
         put(&mut image, at, &[byte]);
-        assert!(rt; is_left_alone(rt.alloc(), &image)?, "at {at}");
+        assert!(rt; is_left_alone(&rt, &image), "at {at}");
     }
-    assert!(rt; is_left_alone(rt.alloc(), &both_open(3, 3))?);
-    Ok(())
+    assert!(rt; is_left_alone(&rt, &both_open(3, 3)));
 }
 
 // A volume of these files with 1,020 record slots, where each home block from 1,023 on has a record in the open
 // journal.
-fn largest(alloc: Global, files: &[(&str, u64)]) -> Result<Vec<u8>, Fail> {
-    let mut disk = MemDisk::new(alloc, 2043 * 4096)?;
-    format(alloc, &mut disk, files, 1020)?;
-    let mut image = disk.bytes().to_vec(alloc)?;
+fn largest<R: Abort + AllocGlobal>(rt: &R, files: &[(&str, u64)]) -> Vec<u8> {
+    let mut disk = zeros(rt, 2043 * 4096);
+    assert!(rt; format(rt.alloc(), &mut disk, files, 1020).is_ok());
+    let mut image = copy_of(rt, disk.bytes());
     put_largest(&mut image);
-    Ok(image)
+    image
 }
 
 fn put_largest(image: &mut [u8]) {
@@ -533,22 +563,21 @@ fn put_largest(image: &mut [u8]) {
 }
 
 // Whether such a volume has its last file, and a record in it, which takes 2 * 1,020 + 7 calls and the read.
-fn has_last(alloc: Global, image: &[u8]) -> Result<bool, Fail> {
+fn has_last<R: Abort + AllocGlobal>(rt: &R, image: &[u8]) -> bool {
     let mut bytes = [1; 3];
-    let calls = read_opened(alloc, image, 63, 4096 * 956, &mut bytes)?;
-    let last = has_file(alloc, image, 63, ("_", 3_919_872, 3_919_872))?;
-    Ok(last && bytes == [7, 0xFA, 0] && calls == 2048)
+    let calls = read_opened(rt, image, 63, 4096 * 956, &mut bytes);
+    let last = has_file(rt, image, 63, ("_", 3_919_872, 3_919_872));
+    last && bytes == [7, 0xFA, 0] && calls == 2048
 }
 
 // The most files, slots and records: 64 files of 1,020 home blocks, 1,023 to 2,042, each with a record in the journal.
 #[test]
-fn a_volume_at_its_limits(rt: HostRuntime) -> Result<(), Fail> {
+fn a_volume_at_its_limits(rt: HostRuntime) {
     let mut files = many_files();
     files[63].1 = 4096 * 957;
-    let files = files.get(..64).ok_or("there are 65 files")?;
+    let files = files.get(..64).expect(&rt, "there are 65 files");
     assert!(rt; blocks(files, 1020) == Ok(2043));
-    let image = largest(rt.alloc(), files)?;
-    assert!(rt; counts(rt.alloc(), &image)? == (Layout::One, 64, 2043, 1020));
-    assert!(rt; has_last(rt.alloc(), &image)?);
-    Ok(())
+    let image = largest(&rt, files);
+    assert!(rt; counts(&rt, &image) == (Layout::One, 64, 2043, 1020));
+    assert!(rt; has_last(&rt, &image));
 }

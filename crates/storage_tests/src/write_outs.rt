@@ -1,6 +1,6 @@
 // Two write-outs over a volume of the files `a` of 5,000 bytes and `b` of 4,096, with 4 record slots: one of a page and
 // one of two pages, in both layouts. In layout 2 the second one begins while the first is still applied.
-ghost use Rattle.std.specs.Prelude.{◌≡◌, IfOk};
+ghost use Rattle.std.specs.Prelude.{◌≡◌};
 
 use crate::sample::{JOURNAL_A, JOURNAL_B, LENGTH_ONE, LENGTH_TWO, SPECS, crash, volume_of};
 use crate::trial::{Trial, step_alone};
@@ -8,7 +8,7 @@ use device::{Device, FailingDisk, MemDisk};
 use journal::{Flush, Flushed, Stage};
 use recovery::{Volume, format_as};
 use std::alloc::Global;
-use std::test::Fail;
+use std::process::Abort;
 use volume_codec::{Geometry, read_descriptor};
 
 // In which layout two batches are written out, of how many pages each, and how many steps are made before the second
@@ -131,185 +131,242 @@ fn descriptor(first_home: u8, mark: u8, pages: u64) -> [u8; 4096] {
 }
 
 // A disk with a volume of zeros.
-fn formatted(alloc: Global, plan: Plan) -> Result<MemDisk<Global>, Fail> {
-    let mut disk = MemDisk::new(alloc, plan.length())?;
-    format_as(alloc, &mut disk, plan.layout, &SPECS, 4)?;
-    Ok(disk)
+fn formatted<R: Abort + AllocGlobal>(rt: &R, plan: Plan) -> MemDisk<Global> {
+    let mut disk = MemDisk::new(rt.alloc(), plan.length()).expect(rt, "memory");
+    assert!(rt; format_as(rt.alloc(), &mut disk, plan.layout, &SPECS, 4).is_ok());
+    disk
 }
 
 // A volume of zeros, opened.
-fn volume(alloc: Global, plan: Plan) -> Result<(Geometry, MemDisk<Global>), Fail> {
-    let (table, disk) = volume_of(alloc, formatted(alloc, plan)?)?.into_parts();
-    Ok((table.geometry(), disk))
+fn volume<R: Abort + AllocGlobal>(rt: &R, plan: Plan) -> (Geometry, MemDisk<Global>) {
+    let (table, disk) = volume_of(rt, formatted(rt, plan)).into_parts();
+    (table.geometry(), disk)
 }
 
 // No steps yet. The disk's call of this number is to fail.
-fn trial(alloc: Global, plan: Plan, fails_at: u64) -> Result<Trial, Fail> {
-    let (geometry, disk) = volume(alloc, plan)?;
-    Trial::new(alloc, geometry, FailingDisk::new(disk, fails_at))
+fn trial<R: Abort + AllocGlobal>(rt: &R, plan: Plan, fails_at: u64) -> Trial {
+    let (geometry, disk) = volume(rt, plan);
+    Trial::new(rt, geometry, FailingDisk::new(disk, fails_at))
 }
 
 // The next step after so many; before it the batch begins whose turn it is.
-fn step(alloc: Global, trial: &mut Trial, plan: Plan, steps: u64) -> Result<Option<Flushed>, Fail> {
+fn step<R: Abort + AllocGlobal>(
+    rt: &R,
+    trial: &mut Trial,
+    plan: Plan,
+    steps: u64,
+) -> Option<Flushed> {
     if steps == 0 {
-        trial.begin(alloc, &descriptor(plan.first_home(), 1, plan.sizes[0]))?;
+        trial.begin(rt, &descriptor(plan.first_home(), 1, plan.sizes[0]));
     }
     if steps == plan.begins {
-        trial.begin(alloc, &descriptor(plan.first_home(), 2, plan.sizes[1]))?;
+        trial.begin(rt, &descriptor(plan.first_home(), 2, plan.sizes[1]));
     }
     let begun = if steps < plan.begins { 1 } else { 2 };
-    Ok(trial.step(&plan.pages(begun)))
+    trial.step(&plan.pages(begun))
 }
 
 // A trial after so many steps, or fewer where a device call failed; and how many.
-fn stepped(alloc: Global, plan: Plan, steps: u64, fails_at: u64) -> Result<(Trial, u64), Fail> {
-    let mut trial = trial(alloc, plan, fails_at)?;
+fn stepped<R: Abort + AllocGlobal>(rt: &R, plan: Plan, steps: u64, fails_at: u64) -> (Trial, u64) {
+    let mut trial = trial(rt, plan, fails_at);
+    let done = make_steps(rt, &mut trial, plan, steps);
+    (trial, done)
+}
+
+// Makes so many steps, or fewer where a device call fails, and tells how many.
+fn make_steps<R: Abort + AllocGlobal>(rt: &R, trial: &mut Trial, plan: Plan, steps: u64) -> u64 {
     for done in 0..steps {
-        if step(alloc, &mut trial, plan, done)? == Some(Flushed::Device) {
-            return Ok((trial, done));
+        if step(rt, trial, plan, done) == Some(Flushed::Device) {
+            return done;
         }
     }
-    Ok((trial, steps))
+    steps
+}
+
+// A copy of the bytes of a disk.
+fn bytes_of<R: Abort + AllocGlobal>(rt: &R, disk: &MemDisk<Global>) -> Vec<u8> {
+    disk.bytes().to_vec(rt.alloc()).expect(rt, "memory")
 }
 
 // The bytes of the disk after so many steps.
-fn image(alloc: Global, plan: Plan, steps: u64) -> Result<Vec<u8>, Fail> {
-    let (trial, _) = stepped(alloc, plan, steps, 0)?;
-    Ok(trial.into_disk().bytes().to_vec(alloc)?)
+fn image<R: Abort + AllocGlobal>(rt: &R, plan: Plan, steps: u64) -> Vec<u8> {
+    let (trial, _) = stepped(rt, plan, steps, 0);
+    bytes_of(rt, &trial.into_disk())
 }
 
 // A byte that all of these are.
-fn only_byte(bytes: &[u8]) -> Result<u8, Fail> {
-    let byte = bytes.first().copied().ok_or("there are bytes")?;
-    if bytes.iter().any(|other| *other != byte) {
-        return Err("a page has one byte throughout".into());
-    }
-    Ok(byte)
+fn only_byte(rt: &impl Abort, bytes: &[u8]) -> u8 {
+    let byte = bytes.first().copied().expect(rt, "there are bytes");
+    assert!(rt;
+        bytes.iter().all(|other| *other == byte),
+        "a page has one byte throughout"
+    );
+    byte
 }
 
 // The pages of a volume.
-fn pages_of(volume: &mut Volume<MemDisk<Global>, Global>) -> Result<[u8; 3], Fail> {
+fn pages_of(rt: &impl Abort, volume: &mut Volume<MemDisk<Global>, Global>) -> [u8; 3] {
     if volume.file_count() != 2 || volume.length(0) != 5000 || volume.length(1) != 4096 {
-        return Err("the files are there".into());
+        panic!(rt; "the files are there");
     }
     let mut a = [0; 5000];
-    volume.read_file(0, 0, &mut a)?;
+    assert!(rt; volume.read_file(0, 0, &mut a).is_ok());
     let mut b = [0; 4096];
-    volume.read_file(1, 0, &mut b)?;
-    Ok([
-        only_byte(a.get(..4096).unwrap_or(&[]))?,
-        only_byte(a.get(4096..).unwrap_or(&[]))?,
-        only_byte(&b)?,
-    ])
+    assert!(rt; volume.read_file(1, 0, &mut b).is_ok());
+    [
+        only_byte(rt, a.get(..4096).unwrap_or(&[])),
+        only_byte(rt, a.get(4096..).unwrap_or(&[])),
+        only_byte(rt, &b),
+    ]
 }
 
 // What a crash of the disk leaves opens with these pages.
-fn opened(alloc: Global, mut disk: MemDisk<Global>, choice: &[u8]) -> Result<[u8; 3], Fail> {
-    crash(&mut disk, choice)?;
-    let mut volume = volume_of(alloc, disk)?;
-    pages_of(&mut volume)
+fn opened<R: Abort + AllocGlobal>(rt: &R, mut disk: MemDisk<Global>, choice: &[u8]) -> [u8; 3] {
+    crash(rt, &mut disk, choice);
+    pages_of(rt, &mut volume_of(rt, disk))
 }
 
 // How many of these steps are made, and whether a device call failed in the next one.
-fn reached(alloc: Global, plan: Plan, steps: u64, fails_at: u64) -> Result<(u64, bool), Fail> {
-    let (trial, done) = stepped(alloc, plan, steps, fails_at)?;
-    Ok((done, trial.is_broken()))
+fn reached<R: Abort + AllocGlobal>(rt: &R, plan: Plan, steps: u64, fails_at: u64) -> (u64, bool) {
+    let (trial, done) = stepped(rt, plan, steps, fails_at);
+    (done, trial.is_broken())
 }
 
 // What opens after a crash then that leaves these bytes.
-fn left(
-    alloc: Global,
+fn left<R: Abort + AllocGlobal>(
+    rt: &R,
     plan: Plan,
     steps: u64,
     fails_at: u64,
     choice: &[u8],
-) -> Result<[u8; 3], Fail> {
-    let (trial, _) = stepped(alloc, plan, steps, fails_at)?;
-    opened(alloc, trial.into_disk(), choice)
+) -> [u8; 3] {
+    let (trial, _) = stepped(rt, plan, steps, fails_at);
+    opened(rt, trial.into_disk(), choice)
 }
 
 // Whether each crash after so many steps, or where a device call fails in the next one, opens as it should. What wasn't
 // synced is left as it was after one of the last steps, lost or kept, or as other bytes.
-fn crashes_well(
-    alloc: Global,
+fn crashes_well<R: Abort + AllocGlobal>(
+    rt: &R,
     plan: Plan,
     choices: &[Vec<u8>],
     steps: u64,
     fails_at: u64,
-) -> Result<bool, Fail> {
-    let (done, failed) = reached(alloc, plan, steps, fails_at)?;
+) -> bool {
+    let (done, failed) = reached(rt, plan, steps, fails_at);
     for (number, choice) in choices.iter().enumerate() {
         let step = number as u64;
         if step <= STEPS && (step > done || step.saturating_add(3) < done) {
             continue;
         }
         let wanted = plan.recovered(done, failed, choice);
-        if left(alloc, plan, steps, fails_at, choice)? != wanted {
-            return Ok(false);
+        if left(rt, plan, steps, fails_at, choice) != wanted {
+            return false;
         }
     }
-    Ok(true)
+    true
 }
 
 // The bytes of the disk after each number of steps, and two lists of bytes that it never had.
-fn choices(alloc: Global, plan: Plan) -> Result<Vec<Vec<u8>>, Fail> {
-    let mut choices = Vec::new(alloc);
+fn choices<R: Abort + AllocGlobal>(rt: &R, plan: Plan) -> Vec<Vec<u8>> {
+    let mut choices = Vec::new(rt.alloc());
     for steps in 0..STEPS + 1 {
-        choices.push(image(alloc, plan, steps)?)?;
+        add(rt, &mut choices, image(rt, plan, steps));
     }
-    choices.push(vec![in alloc; 0x5A; plan.length() as usize]?)?;
-    choices.push(vec![in alloc; 0xA7; plan.length() as usize]?)?;
-    Ok(choices)
+    add(rt, &mut choices, never(rt, plan, 0x5A));
+    add(rt, &mut choices, never(rt, plan, 0xA7));
+    choices
+}
+
+// Bytes that the disk never had.
+fn never<R: Abort + AllocGlobal>(rt: &R, plan: Plan, byte: u8) -> Vec<u8> {
+    vec![in rt.alloc(); byte; plan.length() as usize].expect(rt, "memory")
+}
+
+// One choice more.
+fn add(rt: &impl Abort, choices: &mut Vec<Vec<u8>>, choice: Vec<u8>) {
+    choices.push(choice).expect(rt, "memory");
+}
+
+// Fails where a crash after any number of these steps doesn't open as it should.
+fn assert_crashes_well<R: Abort + AllocGlobal>(
+    rt: &R,
+    plan: Plan,
+    choices: &[Vec<u8>],
+    number: usize,
+) {
+    for steps in 0..STEPS + 1 {
+        assert!(rt;
+            crashes_well(rt, plan, choices, steps, 0),
+            "plan {number}, after {steps} steps"
+        );
+    }
 }
 
 #[test]
-fn crashes_leave_old_or_new(rt: HostRuntime) -> Result<(), Fail> {
+fn crashes_leave_old_or_new(rt: HostRuntime) {
     for (number, row) in PLANS.iter().enumerate() {
         let plan = plan_of(*row);
-        let choices = choices(rt.alloc(), plan)?;
-        for steps in 0..STEPS + 1 {
-            assert!(rt;
-                crashes_well(rt.alloc(), plan, &choices, steps, 0)?,
-                "plan {number}, after {steps} steps"
-            );
-        }
+        assert_crashes_well(&rt, plan, &choices(&rt, plan), number);
     }
-    Ok(())
+}
+
+// Whether the device call of this number has failed, and no other.
+fn has_failed(trial: &Trial, call: u64) -> bool {
+    trial.calls() == call && trial.faults() == 1
+}
+
+// Whether write-outs are broken by the device call of this number, and make no call more.
+fn is_broken_at(trial: &mut Trial, plan: Plan, call: u64) -> bool {
+    trial.is_broken()
+        && has_failed(trial, call)
+        && trial.step(&plan.pages(2)) == Some(Flushed::Broken)
+        && has_failed(trial, call)
 }
 
 // Whether the device call of this number fails and breaks the write-outs, which make no call more.
-fn breaks(alloc: Global, plan: Plan, call: u64) -> Result<bool, Fail> {
-    let (mut trial, done) = stepped(alloc, plan, STEPS, call)?;
-    let broken = trial.is_broken() && (trial.calls(), trial.faults()) == (call, 1);
-    let again = trial.step(&plan.pages(2)) == Some(Flushed::Broken);
-    let still = (trial.calls(), trial.faults()) == (call, 1);
-    Ok(broken && again && still && done < STEPS)
+fn breaks<R: Abort + AllocGlobal>(rt: &R, plan: Plan, call: u64) -> bool {
+    let (mut trial, done) = stepped(rt, plan, STEPS, call);
+    is_broken_at(&mut trial, plan, call) && done < STEPS
+}
+
+// Whether so many steps are all, in all calls.
+fn has_ended(trial: &Trial, done: u64) -> bool {
+    trial.calls() == CALLS && trial.faults() == 0 && done == STEPS
 }
 
 // Whether all calls and steps are made where the call after the last one is to fail.
-fn ends_well(alloc: Global, plan: Plan) -> Result<bool, Fail> {
-    let (trial, done) = stepped(alloc, plan, STEPS, CALLS + 1)?;
-    Ok((trial.calls(), trial.faults(), done) == (CALLS, 0, STEPS))
+fn ends_well<R: Abort + AllocGlobal>(rt: &R, plan: Plan) -> bool {
+    let (trial, done) = stepped(rt, plan, STEPS, CALLS + 1);
+    has_ended(&trial, done)
+}
+
+// Fails where a device call doesn't break the write-outs as it fails, or a crash then doesn't open as it should.
+fn assert_each_breaks<R: Abort + AllocGlobal>(
+    rt: &R,
+    plan: Plan,
+    choices: &[Vec<u8>],
+    number: usize,
+) {
+    for call in 1..CALLS + 1 {
+        assert!(rt; breaks(rt, plan, call));
+        assert!(rt;
+            crashes_well(rt, plan, choices, STEPS, call),
+            "plan {number}, call {call}"
+        );
+    }
 }
 
 // Where a device call fails, its step is the last one that makes a call, and a crash then leaves what it would have
 // left within that step.
 #[test]
-fn each_device_call_that_fails_breaks_the_write_outs(rt: HostRuntime) -> Result<(), Fail> {
+fn each_device_call_that_fails_breaks_the_write_outs(rt: HostRuntime) {
     for (number, row) in PLANS.iter().enumerate() {
         let plan = plan_of(*row);
-        let choices = choices(rt.alloc(), plan)?;
-        for call in 1..CALLS + 1 {
-            assert!(rt; breaks(rt.alloc(), plan, call)?);
-            assert!(rt;
-                crashes_well(rt.alloc(), plan, &choices, STEPS, call)?,
-                "plan {number}, call {call}"
-            );
-        }
+        assert_each_breaks(&rt, plan, &choices(&rt, plan), number);
         // There is no call more.
-        assert!(rt; ends_well(rt.alloc(), plan)?);
+        assert!(rt; ends_well(&rt, plan));
     }
-    Ok(())
 }
 
 // What each step answers, how many device calls it makes, and whether a further batch has to wait after it. A batch of
@@ -362,45 +419,53 @@ const SIDE_BY_SIDE: [(Flushed, u64, bool); 20] = [
 ];
 
 // Whether the next step after so many goes as this row says.
-fn is_answered(
-    alloc: Global,
+fn is_answered<R: Abort + AllocGlobal>(
+    rt: &R,
     trial: &mut Trial,
     plan: Plan,
     steps: u64,
     row: (Flushed, u64, bool),
-) -> Result<bool, Fail> {
+) -> bool {
     let (answer, made, busy) = row;
     let before = trial.calls();
-    let answered = step(alloc, trial, plan, steps)?;
+    let answered = step(rt, trial, plan, steps);
     let calls = trial.calls().saturating_sub(before);
-    Ok(answered == Some(answer) && calls == made && trial.is_busy() == busy)
+    answered == Some(answer) && calls == made && trial.is_busy() == busy
 }
 
 // How many steps go as these rows say, how many device calls they make, and whether no step is left then.
-fn answered(
-    alloc: Global,
+fn answered_of<R: Abort + AllocGlobal>(
+    rt: &R,
+    trial: &mut Trial,
     plan: Plan,
     rows: &[(Flushed, u64, bool)],
-) -> Result<(u64, u64, bool), Fail> {
-    let mut trial = trial(alloc, plan, 0)?;
+) -> (u64, u64, bool) {
     let mut steps = 0;
     for row in rows {
-        if is_answered(alloc, &mut trial, plan, steps, *row)? {
+        if is_answered(rt, trial, plan, steps, *row) {
             steps = steps.saturating_add(1);
         }
     }
     let calls = trial.calls();
     let over = trial.stage() == None && trial.step(&plan.pages(2)) == None;
-    Ok((steps, calls, over))
+    (steps, calls, over)
+}
+
+// The same, from the first step on.
+fn answered<R: Abort + AllocGlobal>(
+    rt: &R,
+    plan: Plan,
+    rows: &[(Flushed, u64, bool)],
+) -> (u64, u64, bool) {
+    answered_of(rt, &mut trial(rt, plan, 0), plan, rows)
 }
 
 #[test]
-fn steps_are_answered_and_counted(rt: HostRuntime) -> Result<(), Fail> {
-    let one_by_one = answered(rt.alloc(), plan_of(PLANS[0]), &ONE_BY_ONE)?;
-    assert_eq!(rt; one_by_one, (STEPS, CALLS, true));
-    let side_by_side = answered(rt.alloc(), plan_of(PLANS[2]), &SIDE_BY_SIDE)?;
-    assert_eq!(rt; side_by_side, (STEPS, CALLS, true));
-    Ok(())
+fn steps_are_answered_and_counted(rt: HostRuntime) {
+    let one_by_one = answered(&rt, plan_of(PLANS[0]), &ONE_BY_ONE);
+    assert!(rt; one_by_one == (STEPS, CALLS, true));
+    let side_by_side = answered(&rt, plan_of(PLANS[2]), &SIDE_BY_SIDE);
+    assert!(rt; side_by_side == (STEPS, CALLS, true));
 }
 
 const STAGES: [Stage; 11] = [
@@ -418,19 +483,19 @@ const STAGES: [Stage; 11] = [
 ];
 
 // The write-out of a descriptor's batch, through the second journal.
-fn flush_of(
-    alloc: Global,
+fn flush_of<R: Abort + AllocGlobal>(
+    rt: &R,
     geometry: &Geometry,
     descriptor: &[u8; 4096],
-) -> Result<Flush<Global>, Fail>
-    ensures { IfOk result (λ flush. flush.geometry ≡ geometry.now) }
+) -> Flush<Global>
+    ensures { result.geometry ≡ geometry.now }
 {
-    let said = read_descriptor(alloc, geometry, descriptor)?;
+    let said = read_descriptor(rt.alloc(), geometry, descriptor).expect(rt, "a descriptor");
     if geometry.journals() != 2 {
-        return Err("layout 2 has two journals".into());
+        panic!(rt; "layout 2 has two journals");
     }
-    let homes = said.homes().to_vec(alloc)?;
-    Ok(Flush::new(*geometry, 1, said.mark(), homes))
+    let homes = said.homes().to_vec(rt.alloc()).expect(rt, "memory");
+    Flush::new(*geometry, 1, said.mark(), homes)
 }
 
 // Whether it tells its batch of mark 9 and the home blocks 13 and 15, and that the first record is next.
@@ -469,23 +534,30 @@ fn passes(
     committed == (done > 5) && answered == Some((stage, answer)) && open == (done >= 4 && done < 9)
 }
 
+// Whether its steps are of all stages, each answered as it should, and nothing is next then.
+fn passes_all(flush: &mut Flush<Global>, geometry: &Geometry, disk: &mut MemDisk<Global>) -> bool
+    requires { flush.old.geometry ≡ geometry.now }
+{
+    for (done, stage) in STAGES.iter().enumerate() {
+        if !passes(flush, geometry, disk, done, *stage) {
+            return false;
+        }
+    }
+    step_alone(flush, geometry, disk) == None && is_over(flush)
+}
+
 // A write-out by itself, through the second journal of layout 2: gate, descriptor and records are blocks 7, 8, and 9
 // and 10.
 #[test]
-fn a_write_out_by_itself(rt: HostRuntime) -> Result<(), Fail> {
-    let (geometry, mut disk) = volume(rt.alloc(), plan_of(PLANS[2]))?;
+fn a_write_out_by_itself(rt: HostRuntime) {
+    let (geometry, mut disk) = volume(&rt, plan_of(PLANS[2]));
     let text = descriptor(13, 9, 2);
-    let mut flush = flush_of(rt.alloc(), &geometry, &text)?;
     let before = disk.calls();
+    let mut flush = flush_of(&rt, &geometry, &text);
     assert!(rt; is_new(&flush));
-    for (done, stage) in STAGES.iter().enumerate() {
-        assert!(rt; passes(&mut flush, &geometry, &mut disk, done, *stage));
-    }
-    let after = step_alone(&mut flush, &geometry, &mut disk);
-    assert!(rt; after == None && is_over(&flush));
+    assert!(rt; passes_all(&mut flush, &geometry, &mut disk));
     assert!(rt; flush.into_homes().as_slice() == [13, 15].as_slice());
     assert!(rt; disk.calls().saturating_sub(before) == 13);
     assert!(rt; disk.bytes().get(32_768..36_864) == Some(text.as_slice()));
-    assert!(rt; opened(rt.alloc(), disk, &[0x5A; LENGTH_TWO])? == [8, 0, 8]);
-    Ok(())
+    assert!(rt; opened(&rt, disk, &[0x5A; LENGTH_TWO]) == [8, 0, 8]);
 }

@@ -7,15 +7,13 @@ use device::Device;
 use machine::{Act, Reply, Shape, Step};
 use page_entry::Refusal;
 use shootdown::ProcState;
-use std::test::Fail;
+use std::process::Abort;
 
 // What one processor stored, the other one loads, and without a fault: the entry is the space's.
 #[test]
-fn a_store_is_seen_by_the_other_processor(rt: HostRuntime) -> Result<(), Fail> {
-    let calls = calls_of(&rt, TWO, &[START, STORE_A])?;
+fn a_store_is_seen_by_the_other_processor(rt: HostRuntime) {
     // Three calls opened the volume, and the fault read the page.
-    assert_eq!(rt; calls, 4);
-    Ok(())
+    assert!(rt; calls_of(&rt, TWO, &[START, STORE_A]) == 4);
 }
 
 const ONE_ENTRY: &str = "0 load 16384 1: fault 4
@@ -26,9 +24,9 @@ const ONE_ENTRY: &str = "0 load 16384 1: fault 4
 
 // In a TLB of one entry each access takes the place of the one before.
 #[test]
-fn a_tlb_of_one_entry(rt: HostRuntime) -> Result<(), Fail> {
+fn a_tlb_of_one_entry(rt: HostRuntime) {
     let shape = Shape { tlb: 1, ..TWO };
-    makes(&rt, shape, &[START, STORE_A, ONE_ENTRY])
+    makes(&rt, shape, &[START, STORE_A, ONE_ENTRY]);
 }
 
 const LIMITS: &str = "0 load 4095 2: einval
@@ -44,8 +42,8 @@ const LIMITS: &str = "0 load 4095 2: einval
 
 // The last address is 2^47 - 1, and an access has 1 to 8 bytes of one page.
 #[test]
-fn accesses_have_limits(rt: HostRuntime) -> Result<(), Fail> {
-    makes(&rt, TWO, &[START, LIMITS])
+fn accesses_have_limits(rt: HostRuntime) {
+    makes(&rt, TWO, &[START, LIMITS]);
 }
 
 const EIGHT_BYTES: &str = "0 store 4100 1 2 3 4 5 6 7 8: stored
@@ -56,15 +54,22 @@ const EIGHT_BYTES: &str = "0 store 4100 1 2 3 4 5 6 7 8: stored
 
 // Stores of several bytes, and loads that overlap them.
 #[test]
-fn a_load_gives_the_latest_bytes(rt: HostRuntime) -> Result<(), Fail> {
-    makes(&rt, TWO, &[START, STORE_A, EIGHT_BYTES])
+fn a_load_gives_the_latest_bytes(rt: HostRuntime) {
+    makes(&rt, TWO, &[START, STORE_A, EIGHT_BYTES]);
 }
 
-// A processor tells its state.
-#[test]
-fn processors_tell_their_states(rt: HostRuntime) -> Result<(), Fail> {
-    let mut machine = zeros(&rt, TWO)?;
-    assert_eq!(rt; machine.processors(), 2);
+// Whether the two processors are in these states.
+fn are_states(machine: &Trial, states: [ProcState; 2]) -> bool {
+    machine.state(0) == Ok(states[0]) && machine.state(1) == Ok(states[1])
+}
+
+// Whether a machine has two processors.
+fn has_two(machine: &Trial) -> bool {
+    machine.processors() == 2 && machine.state(2) == Err(Refusal::Einval)
+}
+
+// Makes each step, after which the processors have to be in its states.
+fn tell_states<R: Abort + AllocGlobal>(rt: &R, machine: &mut Trial) {
     for (line, states) in [
         ("0 create: space 1", [ProcState::Active, ProcState::Active]),
         (
@@ -79,12 +84,18 @@ fn processors_tell_their_states(rt: HostRuntime) -> Result<(), Fail> {
         ("1 resume: resumed", [ProcState::Active, ProcState::Active]),
         ("1 idle: idled", [ProcState::Active, ProcState::Idle]),
     ] {
-        make_line(&rt, &mut machine, line)?;
-        assert!(rt; machine.state(0) == Ok(states[0]), "{line}");
-        assert!(rt; machine.state(1) == Ok(states[1]), "{line}");
+        make_line(rt, machine, line);
+        assert!(rt; are_states(machine, states), "{line}");
     }
-    assert!(rt; machine.state(2) == Err(Refusal::Einval));
-    Ok(())
+}
+
+// A processor tells its state.
+#[test]
+fn processors_tell_their_states(rt: HostRuntime) {
+    let mut machine = zeros(&rt, TWO);
+    tell_states(&rt, &mut machine);
+    assert!(rt; has_two(&machine));
+    let _disk = machine.into_device();
 }
 
 // Makes steps at once, where there is room for their replies.
@@ -95,43 +106,41 @@ fn run_at_once(machine: &mut Trial, steps: &[Step], replies: &mut [Reply]) {
 }
 
 // Makes them, and then a space, whose reply is added.
-fn run_and_create(
+fn run_and_create<R: Abort + AllocGlobal>(
+    rt: &R,
     machine: &mut Trial,
     steps: &[Step],
     replies: &mut Vec<Reply>,
-) -> Result<(), Fail> {
+) {
     run_at_once(machine, steps, replies);
-    replies.push(reply_to(machine, 0, Act::Create))?;
-    Ok(())
+    let reply = reply_to(machine, 0, Act::Create);
+    replies.push(reply).expect(rt, "a list of replies");
 }
 
 // The number of device calls after that, on zeros.
-fn calls_at_once<R: AllocGlobal>(
-    rt: &R,
-    steps: &[Step],
-    replies: &mut Vec<Reply>,
-) -> Result<u64, Fail> {
-    let mut machine = zeros(rt, TWO)?;
-    run_and_create(&mut machine, steps, replies)?;
-    Ok(machine.into_device().calls())
+fn calls_at_once<R: Abort + AllocGlobal>(rt: &R, steps: &[Step], replies: &mut Vec<Reply>) -> u64 {
+    let mut machine = zeros(rt, TWO);
+    run_and_create(rt, &mut machine, steps, replies);
+    machine.into_device().calls()
+}
+
+// As many replies as there are steps, to be overwritten.
+fn no_replies<R: Abort + AllocGlobal>(rt: &R, steps: &[Step]) -> Vec<Reply> {
+    vec![in rt.alloc(); Reply::Nothing; steps.len()].expect(rt, "a list of replies")
 }
 
 // Whether the steps of these parts, made at once, are answered so, and a space after them; and make so many device
 // calls.
-fn is_made_at_once<R: AllocGlobal>(rt: &R, parts: &[&str], calls: u64) -> Result<bool, Fail> {
-    let steps = steps_in(rt.alloc(), parts)?;
-    let mut replies = vec![in rt.alloc(); Reply::Nothing; steps.len()]?;
-    let made = calls_at_once(rt, &steps, &mut replies)?;
-    Ok(
-        made == calls
-            && replies.pop() == Some(Reply::Space(2))
-            && are_wanted(rt.alloc(), parts, &replies)?,
-    )
+fn is_made_at_once<R: Abort + AllocGlobal>(rt: &R, parts: &[&str], calls: u64) -> bool {
+    let steps = steps_in(rt, parts);
+    let mut replies = no_replies(rt, &steps);
+    let made = calls_at_once(rt, &steps, &mut replies);
+    let last = replies.pop();
+    made == calls && last == Some(Reply::Space(2)) && are_wanted(rt, parts, &replies)
 }
 
 // A run of steps at once is answered as they are one by one.
 #[test]
-fn steps_are_made_at_once(rt: HostRuntime) -> Result<(), Fail> {
-    assert!(rt; is_made_at_once(&rt, &[START, STORE_A, EIGHT_BYTES], 4)?);
-    Ok(())
+fn steps_are_made_at_once(rt: HostRuntime) {
+    assert!(rt; is_made_at_once(&rt, &[START, STORE_A, EIGHT_BYTES], 4));
 }

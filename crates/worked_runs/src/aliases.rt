@@ -1,7 +1,6 @@
 // Pages that are mapped more than once, in one space or in two, and entries that are cached while their mappings
 // change.
 use crate::trial::{COMMITTED, GOING_4, MARK, START, STORE_A, TWO, leaves_files, makes};
-use std::test::Fail;
 
 // The other processor has cached the entry as one that may be written.
 const CACHED: &str = "1 store 4097 66: stored
@@ -26,7 +25,7 @@ const BY_ALIAS: &str = "0 map 1 32768 4096 0 0 rw rw: mapped
     1 load 4096 2: bytes 65 70";
 
 #[test]
-fn a_cached_entry_is_used_until_its_processor_stalls(rt: HostRuntime) -> Result<(), Fail> {
+fn a_cached_entry_is_used_until_its_processor_stalls(rt: HostRuntime) {
     assert!(rt;
         leaves_files(
             &rt,
@@ -45,9 +44,8 @@ fn a_cached_entry_is_used_until_its_processor_stalls(rt: HostRuntime) -> Result<
             0x5A,
             &[(0, 0, 65), (0, 1, 70)],
             9
-        )?
+        )
     );
-    Ok(())
 }
 
 // An unmap takes one mapping away, and the other stays. An idle processor isn't waited for; it drops the entry before
@@ -67,8 +65,8 @@ const UNMAPPED_BESIDE: &str = "0 map 1 32768 4096 0 0 rw rw: mapped
     1 load 32768 1: bytes 65";
 
 #[test]
-fn an_alias_outlives_an_unmap(rt: HostRuntime) -> Result<(), Fail> {
-    makes(&rt, TWO, &[START, STORE_A, UNMAPPED_BESIDE])
+fn an_alias_outlives_an_unmap(rt: HostRuntime) {
+    makes(&rt, TWO, &[START, STORE_A, UNMAPPED_BESIDE]);
 }
 
 // A second space maps the page too, and the other processor is there.
@@ -95,7 +93,7 @@ const MARK_OF_B: &str = "0 msync 16384 4096 4: begun
     1 store 8192 68: fault 7";
 
 #[test]
-fn a_page_of_two_spaces_is_committed_once(rt: HostRuntime) -> Result<(), Fail> {
+fn a_page_of_two_spaces_is_committed_once(rt: HostRuntime) {
     assert!(rt;
         leaves_files(
             &rt,
@@ -112,7 +110,6 @@ fn a_page_of_two_spaces_is_committed_once(rt: HostRuntime) -> Result<(), Fail> {
             0x5A,
             &[(0, 0, 65), (0, 1, 66), (0, 2, 67)],
             9
-        )?
+        )
     );
-    Ok(())
 }

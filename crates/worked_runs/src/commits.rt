@@ -7,18 +7,15 @@ use device::{Device, FailingDisk, MemDisk};
 use machine::Shape;
 use std::alloc::Global;
 use std::process::Abort;
-use std::test::Fail;
 
 // Nothing was stored: the mark is durable at once, and no device call is made.
 #[test]
-fn a_commit_of_nothing_makes_no_device_call(rt: HostRuntime) -> Result<(), Fail> {
-    let calls = calls_of(&rt, TWO, &[START, MARK, "0 flush: nothing"])?;
-    assert_eq!(rt; calls, 3);
-    Ok(())
+fn a_commit_of_nothing_makes_no_device_call(rt: HostRuntime) {
+    assert!(rt; calls_of(&rt, TWO, &[START, MARK, "0 flush: nothing"]) == 3);
 }
 
 // A commit of one page where these lines come before it.
-fn write_out<R: Abort + AllocGlobal>(rt: &R, before: &str) -> Result<Disk, Fail> {
+fn write_out<R: Abort + AllocGlobal>(rt: &R, before: &str) -> Disk {
     let end = "0 flush: nothing";
     made(
         rt,
@@ -30,17 +27,17 @@ fn write_out<R: Abort + AllocGlobal>(rt: &R, before: &str) -> Result<Disk, Fail>
 }
 
 // Whether it makes so many device calls, and its byte is there then.
-fn is_written_out<R: Abort + AllocGlobal>(rt: &R, before: &str, calls: u64) -> Result<bool, Fail> {
-    let disk = write_out(rt, before)?;
-    Ok(disk.calls() == calls && opens_as(rt.alloc(), disk, 0x5A, &[(0, 0, 65)], 3)?)
+fn is_written_out<R: Abort + AllocGlobal>(rt: &R, before: &str, calls: u64) -> bool {
+    let disk = write_out(rt, before);
+    let made = disk.calls();
+    opens_as(rt, disk, 0x5A, &[(0, 0, 65)], 3) && made == calls
 }
 
 // A write-out of one page takes 9 steps and 10 device calls, also where a page of another file was read in before.
 #[test]
-fn a_write_out_of_a_page_makes_10_device_calls(rt: HostRuntime) -> Result<(), Fail> {
-    assert!(rt; is_written_out(&rt, "", 3 + 1 + 10)?);
-    assert!(rt; is_written_out(&rt, "0 fix 16384 read: fixed", 3 + 2 + 10)?);
-    Ok(())
+fn a_write_out_of_a_page_makes_10_device_calls(rt: HostRuntime) {
+    assert!(rt; is_written_out(&rt, "", 3 + 1 + 10));
+    assert!(rt; is_written_out(&rt, "0 fix 16384 read: fixed", 3 + 2 + 10));
 }
 
 const LAST_BYTE: &str = "0 store 9095 7: fault 6
@@ -64,7 +61,7 @@ fn has_last_byte(disk: &MemDisk<Global>, block: usize) -> bool {
 
 // A byte past the file's end is memory: it isn't written out, and its page stays in memory for it.
 #[test]
-fn bytes_past_the_end_are_memory_alone(rt: HostRuntime) -> Result<(), Fail> {
+fn bytes_past_the_end_are_memory_alone(rt: HostRuntime) {
     let disk = made(
         &rt,
         TWO,
@@ -79,13 +76,12 @@ fn bytes_past_the_end_are_memory_alone(rt: HostRuntime) -> Result<(), Fail> {
             KEPT,
             "0 load 9095 2: bytes 7 8",
         ],
-    )?;
+    );
     // The record is in block 3 and the home is block 8.
     let disk = disk.into_inner();
     assert!(rt; has_last_byte(&disk, 3) && has_last_byte(&disk, 8));
     let disk = FailingDisk::new(disk, 0);
-    assert!(rt; opens_as(rt.alloc(), disk, 0x5A, &[(0, 4999, 7)], 3)?);
-    Ok(())
+    assert!(rt; opens_as(&rt, disk, 0x5A, &[(0, 4999, 7)], 3));
 }
 
 const ALIAS: &str = "0 map 1 32768 4096 1 0 rw rw: mapped
@@ -103,7 +99,7 @@ const ALIAS_COPIED: &str = "1 store 32768 2: fault 7
 
 // No alias of a frozen page can be stored to until its bytes are copied; the copy is what is written out.
 #[test]
-fn a_frozen_page_is_stored_to_once_it_is_copied(rt: HostRuntime) -> Result<(), Fail> {
+fn a_frozen_page_is_stored_to_once_it_is_copied(rt: HostRuntime) {
     assert!(rt;
         leaves_files(
             &rt,
@@ -112,9 +108,8 @@ fn a_frozen_page_is_stored_to_once_it_is_copied(rt: HostRuntime) -> Result<(), F
             0x5A,
             &[(1, 0, 1)],
             9
-        )?
+        )
     );
-    Ok(())
 }
 
 const ALIAS_HELD: &str = "1 store 32768 2: fault 7
@@ -126,7 +121,7 @@ const ALIAS_HELD: &str = "1 store 32768 2: fault 7
 
 // Without copy frames it is held until its record is written.
 #[test]
-fn a_frozen_page_is_held_without_copy_frames(rt: HostRuntime) -> Result<(), Fail> {
+fn a_frozen_page_is_held_without_copy_frames(rt: HostRuntime) {
     let shape = Shape { copies: 0, ..TWO };
     assert!(rt;
         leaves_files(
@@ -136,9 +131,8 @@ fn a_frozen_page_is_held_without_copy_frames(rt: HostRuntime) -> Result<(), Fail
             0x5A,
             &[(1, 0, 1)],
             9
-        )?
+        )
     );
-    Ok(())
 }
 
 const STORES_UNTIL_ACK: &str = "0 msync 4096 4096 4: begun
@@ -152,7 +146,7 @@ const STORES_UNTIL_ACK: &str = "0 msync 4096 4096 4: begun
 
 // A mark has what interrupted processors stored until they stalled.
 #[test]
-fn a_mark_is_made_where_all_have_stalled(rt: HostRuntime) -> Result<(), Fail> {
+fn a_mark_is_made_where_all_have_stalled(rt: HostRuntime) {
     assert!(rt;
         leaves_files(
             &rt,
@@ -161,20 +155,19 @@ fn a_mark_is_made_where_all_have_stalled(rt: HostRuntime) -> Result<(), Fail> {
             0x5A,
             &[(0, 0, 65), (0, 1, 66)],
             9
-        )?
+        )
     );
-    Ok(())
 }
 
 // A commit doesn't wait for an idle processor, which can't wake before the mark.
 #[test]
-fn an_idle_processor_is_not_waited_for(rt: HostRuntime) -> Result<(), Fail> {
+fn an_idle_processor_is_not_waited_for(rt: HostRuntime) {
     let idle = "1 idle: idled
         0 msync 4096 4096 4: begun
         1 wake: locked
         0 change: marked 1
         1 wake: woken";
-    makes(&rt, TWO, &[START, idle])
+    makes(&rt, TWO, &[START, idle]);
 }
 
 const FILLED: &str = "0 msync 4096 4096 4: begun
@@ -187,8 +180,8 @@ const FILLED: &str = "0 msync 4096 4096 4: begun
 
 // What a stalled processor caches before the mark is dropped before it goes on.
 #[test]
-fn a_stalled_processor_caches_in_vain(rt: HostRuntime) -> Result<(), Fail> {
-    makes(&rt, TWO, &[START, STORE_A, FILLED])
+fn a_stalled_processor_caches_in_vain(rt: HostRuntime) {
+    makes(&rt, TWO, &[START, STORE_A, FILLED]);
 }
 
 const UNMAPPED: &str = "1 switch 0 keep: switched
@@ -204,7 +197,7 @@ const UNMAPPED: &str = "1 switch 0 keep: switched
 
 // A processor that was in another space drops what an unmap made stale; and the page stays dirty.
 #[test]
-fn an_unmapped_page_is_committed(rt: HostRuntime) -> Result<(), Fail> {
+fn an_unmapped_page_is_committed(rt: HostRuntime) {
     assert!(rt;
         leaves_files(
             &rt,
@@ -213,9 +206,8 @@ fn an_unmapped_page_is_committed(rt: HostRuntime) -> Result<(), Fail> {
             0x5A,
             &[(0, 0, 65)],
             9
-        )?
+        )
     );
-    Ok(())
 }
 
 const NO_FRAME: &str = "0 store 16384 1: fault 6
@@ -242,7 +234,7 @@ const RECLAIMED: &str = "0 reclaim 0 0: begun
 // With one frame another page comes in where the one before has left, and that one is read in again as it was
 // committed.
 #[test]
-fn a_committed_page_leaves_memory(rt: HostRuntime) -> Result<(), Fail> {
+fn a_committed_page_leaves_memory(rt: HostRuntime) {
     let shape = Shape { frames: 1, ..TWO };
     let calls = calls_of(
         &rt,
@@ -250,10 +242,9 @@ fn a_committed_page_leaves_memory(rt: HostRuntime) -> Result<(), Fail> {
         &[
             START, STORE_A, NO_FRAME, MARK, GOING_4, COMMITTED, GOING_3, DONE, RECLAIMED,
         ],
-    )?;
+    );
     // Three pages were read in.
-    assert_eq!(rt; calls, 3 + 3 + 10);
-    Ok(())
+    assert!(rt; calls == 3 + 3 + 10);
 }
 
 const NOT_ITS_FRAME: &str = "0 reclaim 2 0: nofile
@@ -264,8 +255,8 @@ const NOT_ITS_FRAME: &str = "0 reclaim 2 0: nofile
 
 // Pages that no file has, and pages that aren't in memory.
 #[test]
-fn what_is_not_in_memory_is_not_reclaimed(rt: HostRuntime) -> Result<(), Fail> {
-    makes(&rt, TWO, &[START, STORE_A, NOT_ITS_FRAME])
+fn what_is_not_in_memory_is_not_reclaimed(rt: HostRuntime) {
+    makes(&rt, TWO, &[START, STORE_A, NOT_ITS_FRAME]);
 }
 
 const STORED_MEANWHILE: &str = "1 fix 4096 write: fixed
@@ -278,7 +269,7 @@ const STORED_MEANWHILE: &str = "1 fix 4096 write: fixed
 
 // Whether a page may leave is decided where all have stalled.
 #[test]
-fn a_page_that_is_stored_to_meanwhile_is_kept(rt: HostRuntime) -> Result<(), Fail> {
+fn a_page_that_is_stored_to_meanwhile_is_kept(rt: HostRuntime) {
     makes(
         &rt,
         TWO,
@@ -292,7 +283,7 @@ fn a_page_that_is_stored_to_meanwhile_is_kept(rt: HostRuntime) -> Result<(), Fai
             DONE,
             STORED_MEANWHILE,
         ],
-    )
+    );
 }
 
 const TWO_STORED: &str = "0 store 4096 1: fault 6
@@ -318,7 +309,7 @@ const ONE_COPY: &str = "0 store 4096 2: fault 7
 
 // The one copy frame is free again once the first record is written.
 #[test]
-fn a_copy_frame_is_used_again(rt: HostRuntime) -> Result<(), Fail> {
+fn a_copy_frame_is_used_again(rt: HostRuntime) {
     let shape = Shape { copies: 1, ..TWO };
     assert!(rt;
         leaves_files(
@@ -328,7 +319,6 @@ fn a_copy_frame_is_used_again(rt: HostRuntime) -> Result<(), Fail> {
             0x5A,
             &[(0, 0, 1), (1, 0, 1)],
             11
-        )?
+        )
     );
-    Ok(())
 }

@@ -1,6 +1,6 @@
 // Device calls that fail: what the steps answer then, and what is opened later.
 use crate::trial::{
-    COMMITTED, Disk, FileByte, GOING_4, MARK, START, STORE_A, TWO, Trial, booted, crash, files,
+    COMMITTED, Disk, FileByte, GOING_4, MARK, START, STORE_A, TWO, Trial, booted, crash_to, files,
     formatted, has, is_answered, make, make_line, opened, opens_as,
 };
 use device::{Device, FailingDisk, MemDisk};
@@ -8,24 +8,18 @@ use page_entry::Refusal;
 use recovery::open;
 use std::alloc::Global;
 use std::process::Abort;
-use std::test::Fail;
 
 // A machine of two processors on zeros in this layout. The disk's call of this number fails.
-fn failing(alloc: Global, layout: u64, call: u64) -> Result<Trial, Fail> {
-    let disk = formatted(alloc, layout)?;
-    booted(alloc, FailingDisk::new(disk, call), TWO)
+fn failing<R: Abort + AllocGlobal>(rt: &R, layout: u64, call: u64) -> Trial {
+    let disk = formatted(rt, layout);
+    booted(rt, FailingDisk::new(disk, call), TWO)
 }
 
 // The disk that these steps leave there.
-fn made_failing<R: Abort + AllocGlobal>(
-    rt: &R,
-    layout: u64,
-    call: u64,
-    parts: &[&str],
-) -> Result<Disk, Fail> {
-    let mut machine = failing(rt.alloc(), layout, call)?;
-    make(rt, &mut machine, parts)?;
-    Ok(machine.into_device())
+fn made_failing<R: Abort + AllocGlobal>(rt: &R, layout: u64, call: u64, parts: &[&str]) -> Disk {
+    let mut machine = failing(rt, layout, call);
+    make(rt, &mut machine, parts);
+    machine.into_device()
 }
 
 // Whether a disk had so many calls, of which one failed.
@@ -34,21 +28,29 @@ fn fails_once(disk: &Disk, calls: u64) -> bool {
 }
 
 // Whether it had, and opens in so many calls with the byte 65 at the start of `a` after a crash.
-fn fails_once_and_opens(alloc: Global, disk: Disk, calls: u64, opening: u64) -> Result<bool, Fail> {
-    Ok(fails_once(&disk, calls) && opens_as(alloc, disk, 0x5A, &[(0, 0, 65)], opening)?)
+fn fails_once_and_opens<R: Abort + AllocGlobal>(
+    rt: &R,
+    disk: Disk,
+    calls: u64,
+    opening: u64,
+) -> bool {
+    let fails = fails_once(&disk, calls);
+    opens_as(rt, disk, 0x5A, &[(0, 0, 65)], opening) && fails
+}
+
+// A disk whose opening was cut at its first sync.
+fn cut_at_a_sync<R: Abort + AllocGlobal>(rt: &R, disk: Disk) -> MemDisk<Global> {
+    match open(rt.alloc(), FailingDisk::new(disk.into_inner(), 2)) {
+        Err((Refusal::Device, disk)) => disk.into_inner(),
+        _ => panic!(rt; "the sync fails"),
+    }
 }
 
 // What is left of a disk where a crash comes within the first sync of an opening.
-fn crashed_within_a_sync(alloc: Global, disk: Disk, left: u8) -> Result<MemDisk<Global>, Fail> {
-    match open(alloc, FailingDisk::new(disk.into_inner(), 2)) {
-        Err((Refusal::Device, disk)) => {
-            let mut disk = disk.into_inner();
-            let choice = vec![in alloc; left; disk.bytes().len()]?;
-            crash(&mut disk, &choice)?;
-            Ok(disk)
-        }
-        _ => Err("the sync fails".into()),
-    }
+fn crashed_within_a_sync<R: Abort + AllocGlobal>(rt: &R, disk: Disk, left: u8) -> MemDisk<Global> {
+    let mut disk = cut_at_a_sync(rt, disk);
+    crash_to(rt, &mut disk, left);
+    disk
 }
 
 const AFTER_A_FAULT: &str = "0 flush: device
@@ -60,19 +62,22 @@ const AFTER_A_FAULT: &str = "0 flush: device
     0 fix 16384 read: device";
 
 // The ninth call, which would make the open gate sure. Loads and stores go on, in memory alone.
-fn broken_at_the_commit<R: Abort + AllocGlobal>(rt: &R) -> Result<Disk, Fail> {
+fn broken_at_the_commit<R: Abort + AllocGlobal>(rt: &R) -> Disk {
     made_failing(rt, 1, 9, &[START, STORE_A, MARK, GOING_4, AFTER_A_FAULT])
 }
 
+// Whether its ninth call failed alone, and it opens in nine with the byte 65 at the start of `a`, without a crash.
+fn fails_once_and_has_byte<R: Abort + AllocGlobal>(rt: &R, disk: Disk) -> bool {
+    let fails = fails_once(&disk, 9);
+    has(rt, disk.into_inner(), &[(0, 0, 65)], 9) && fails
+}
+
 #[test]
-fn a_machine_breaks_at_a_device_call_that_fails(rt: HostRuntime) -> Result<(), Fail> {
+fn a_machine_breaks_at_a_device_call_that_fails(rt: HostRuntime) {
     // The fix that was refused for the machine made no call.
-    assert!(rt; fails_once(&broken_at_the_commit(&rt)?, 9));
-    let disk = broken_at_the_commit(&rt)?.into_inner();
-    assert!(rt; has(rt.alloc(), disk, &[(0, 0, 65)], 9)?);
-    assert!(rt; opens_after_a_crash(&rt, 0x00, &[], 3)?);
-    assert!(rt; opens_after_a_crash(&rt, 0xA7, &[(0, 0, 65)], 9)?);
-    Ok(())
+    assert!(rt; fails_once_and_has_byte(&rt, broken_at_the_commit(&rt)));
+    assert!(rt; opens_after_a_crash(&rt, 0x00, &[], 3));
+    assert!(rt; opens_after_a_crash(&rt, 0xA7, &[(0, 0, 65)], 9));
 }
 
 // What is opened after a crash within the first sync of the next opening.
@@ -81,20 +86,19 @@ fn opens_after_a_crash<R: Abort + AllocGlobal>(
     left: u8,
     bytes: &[FileByte],
     calls: u64,
-) -> Result<bool, Fail> {
-    let disk = crashed_within_a_sync(rt.alloc(), broken_at_the_commit(rt)?, left)?;
-    has(rt.alloc(), disk, bytes, calls)
+) -> bool {
+    let disk = crashed_within_a_sync(rt, broken_at_the_commit(rt), left);
+    has(rt, disk, bytes, calls)
 }
 
 // A read that fails: the fault isn't served then, and the machine isn't broken.
 #[test]
-fn a_fault_whose_read_fails_is_not_served(rt: HostRuntime) -> Result<(), Fail> {
+fn a_fault_whose_read_fails_is_not_served(rt: HostRuntime) {
     let refused = "0 store 4096 65: fault 6
         0 fix 4096 write: device";
     let parts = [START, refused, STORE_A, MARK, GOING_4, COMMITTED];
-    let disk = made_failing(&rt, 1, 4, &parts)?;
-    assert!(rt; fails_once_and_opens(rt.alloc(), disk, 3 + 2 + 5, 9)?);
-    Ok(())
+    let disk = made_failing(&rt, 1, 4, &parts);
+    assert!(rt; fails_once_and_opens(&rt, disk, 3 + 2 + 5, 9));
 }
 
 // Stores to both pages of `a`.
@@ -119,23 +123,23 @@ fn reply_at(step: u64) -> &'static str {
 }
 
 // Makes the steps of a write-out of two pages, up to one that fails, and gives that one's number; 0 where none does.
-fn failing_step<R: Abort + AllocGlobal>(rt: &R, machine: &mut Trial) -> Result<u64, Fail> {
+fn failing_step<R: Abort + AllocGlobal>(rt: &R, machine: &mut Trial) -> u64 {
     for step in 1..12 {
-        if !is_answered(rt.alloc(), machine, "0 flush", reply_at(step))? {
-            make_line(rt, machine, "0 flush: broken")?;
-            make_line(rt, machine, "0 flush: broken")?;
-            return Ok(step);
+        if !is_answered(rt, machine, "0 flush", reply_at(step)) {
+            make_line(rt, machine, "0 flush: broken");
+            make_line(rt, machine, "0 flush: broken");
+            return step;
         }
     }
-    Ok(0)
+    0
 }
 
 // A commit of two pages whose device call of this number fails, and which step of the write-out that was.
-fn broken_at<R: Abort + AllocGlobal>(rt: &R, call: u64) -> Result<(Disk, u64), Fail> {
-    let mut machine = failing(rt.alloc(), 1, call)?;
-    make(rt, &mut machine, &[START, STORE_BOTH, MARK])?;
-    let step = failing_step(rt, &mut machine)?;
-    Ok((machine.into_device(), step))
+fn broken_at<R: Abort + AllocGlobal>(rt: &R, call: u64) -> (Disk, u64) {
+    let mut machine = failing(rt, 1, call);
+    make(rt, &mut machine, &[START, STORE_BOTH, MARK]);
+    let step = failing_step(rt, &mut machine);
+    (machine.into_device(), step)
 }
 
 // Which call fails, in which step, and whether both pages are opened then: without a crash, and after one that leaves
@@ -163,37 +167,36 @@ fn left_of<R: Abort + AllocGlobal>(
     call: u64,
     wanted: u64,
     crash: usize,
-) -> Result<MemDisk<Global>, Fail> {
-    let (disk, step) = broken_at(rt, call)?;
+) -> MemDisk<Global> {
+    let (disk, step) = broken_at(rt, call);
     if step != wanted || disk.calls() != if step == 0 { 18 } else { call } {
-        return Err("the step whose call fails".into());
+        panic!(rt; "the step whose call {call} fails is {step}");
     }
     match crash {
-        0 => Ok(disk.into_inner()),
-        1 => crashed_within_a_sync(rt.alloc(), disk, 0x00),
-        _ => crashed_within_a_sync(rt.alloc(), disk, 0xA7),
+        0 => disk.into_inner(),
+        1 => crashed_within_a_sync(rt, disk, 0x00),
+        _ => crashed_within_a_sync(rt, disk, 0xA7),
     }
 }
 
 // Whether a disk opens with both pages or with none.
-fn has_both_or_none(alloc: Global, disk: MemDisk<Global>, both: bool) -> Result<bool, Fail> {
-    let opened = opened(alloc, disk)?;
+fn has_both_or_none<R: Abort + AllocGlobal>(rt: &R, disk: MemDisk<Global>, both: bool) -> bool {
+    let opened = opened(rt, disk);
     let bytes = if both { BOTH.as_slice() } else { &NOTHING };
-    Ok(opened == files(bytes, opened.calls)?)
+    opened == files(rt, bytes, opened.calls)
 }
 
 #[test]
-fn each_device_call_of_a_write_out_fails(rt: HostRuntime) -> Result<(), Fail> {
+fn each_device_call_of_a_write_out_fails(rt: HostRuntime) {
     for (call, step, found) in FAILING {
         for (crash, is_there) in found.iter().enumerate() {
-            let disk = left_of(&rt, call, step, crash)?;
+            let disk = left_of(&rt, call, step, crash);
             assert!(rt;
-                has_both_or_none(rt.alloc(), disk, *is_there)?,
+                has_both_or_none(&rt, disk, *is_there),
                 "call {call}, crash {crash}"
             );
         }
     }
-    Ok(())
 }
 
 const CLEAN: &str = "0 fix 16384 read: fixed";
@@ -206,12 +209,12 @@ const KEPT: &str = "0 flush: device
 
 // A broken machine, which can't read a page in again, keeps each in memory, also one that was never stored to.
 #[test]
-fn a_broken_machine_keeps_its_pages(rt: HostRuntime) -> Result<(), Fail> {
+fn a_broken_machine_keeps_its_pages(rt: HostRuntime) {
     // Two pages are read in, and the tenth call makes the open gate sure.
     let load = "0 load 16384 1: bytes 0";
     let parts = [START, STORE_A, CLEAN, MARK, GOING_4, KEPT, load];
-    assert!(rt; fails_once(&made_failing(&rt, 1, 10, &parts)?, 10));
-    Ok(())
+    let disk = made_failing(&rt, 1, 10, &parts);
+    assert!(rt; fails_once(&disk, 10));
 }
 
 // In layout 2 the write-out of the first mark breaks the machine after the next commit was begun.
@@ -231,11 +234,10 @@ const BROKEN_BEFORE_THE_MARK: &str = "0 store 4096 66: fault 7
 
 // Its mark is made all the same, but no page is frozen for it, and it isn't durable.
 #[test]
-fn a_machine_breaks_before_a_mark(rt: HostRuntime) -> Result<(), Fail> {
+fn a_machine_breaks_before_a_mark(rt: HostRuntime) {
     // 4 calls open the volume, 1 reads the page, 5 commit it, 2 apply it, and the next one syncs its home block.
     let end = BROKEN_BEFORE_THE_MARK;
     let parts = [START, STORE_A, MARK, GOING_4, COMMITTED, end];
-    let disk = made_failing(&rt, 2, 13, &parts)?;
-    assert!(rt; fails_once_and_opens(rt.alloc(), disk, 13, 10)?);
-    Ok(())
+    let disk = made_failing(&rt, 2, 13, &parts);
+    assert!(rt; fails_once_and_opens(&rt, disk, 13, 10));
 }

@@ -1,13 +1,12 @@
 // Machines at their limits.
-use crate::trial::{Disk, START, TWO, Trial, booted, formatted, make, reply_to, zeros};
+use crate::trial::{Disk, START, TWO, Trial, booted, formatted, make, reply_to, volume_on, zeros};
 use device::{Device, FailingDisk, MemDisk};
 use machine::{Act, FewBytes, Machine, Reply, Shape};
 use mappings::Rights;
 use page_entry::Refusal;
-use recovery::{Volume, format, open};
+use recovery::{Volume, format};
 use std::alloc::Global;
 use std::process::Abort;
-use std::test::Fail;
 
 // Shapes over a volume with 4 record slots, and whether a machine can have them.
 const SHAPES: [(u64, u64, u64, u64, bool); 13] = [
@@ -26,36 +25,38 @@ const SHAPES: [(u64, u64, u64, u64, bool); 13] = [
     (2, 8, 4, u64::MAX, false),
 ];
 
-// A volume of zeros.
-fn zeros_opened(alloc: Global, layout: u64) -> Result<Volume<MemDisk<Global>, Global>, Fail> {
-    match open(alloc, formatted(alloc, layout)?) {
-        Ok(volume) => Ok(volume),
-        Err((refusal, _)) => Err(refusal.into()),
-    }
+// The device calls that formatting and opening a volume make.
+fn calls_until_opened<R: Abort + AllocGlobal>(rt: &R, layout: u64) -> u64 {
+    let volume = volume_on(rt, formatted(rt, layout));
+    volume.into_device().calls()
 }
 
-// The device calls that formatting and opening a volume make.
-fn calls_until_opened(alloc: Global, layout: u64) -> Result<u64, Fail> {
-    Ok(zeros_opened(alloc, layout)?.into_device().calls())
+// How many processors a machine has, and how many device calls were made.
+fn processors_and_calls(machine: Machine<MemDisk<Global>, Global>) -> (Option<u64>, u64) {
+    let processors = u64::from(machine.processors());
+    (Some(processors), machine.into_device().calls())
 }
 
 // How many processors a machine of this shape has, none where the shape is refused; and the device calls until then.
-fn booted_with(alloc: Global, layout: u64, shape: Shape) -> Result<(Option<u64>, u64), Fail> {
-    match Machine::boot(alloc, zeros_opened(alloc, layout)?, shape) {
-        Ok(machine) => {
-            let processors = u64::from(machine.processors());
-            Ok((Some(processors), machine.into_device().calls()))
+fn booted_with<R: Abort + AllocGlobal>(
+    rt: &R,
+    volume: Volume<MemDisk<Global>, Global>,
+    shape: Shape,
+) -> (Option<u64>, u64) {
+    match Machine::boot(rt.alloc(), volume, shape) {
+        Ok(machine) => processors_and_calls(machine),
+        Err((refusal, volume)) => {
+            assert!(rt; refusal == Refusal::BadShape, "{shape:?}: {refusal}");
+            (None, volume.into_device().calls())
         }
-        Err((Refusal::BadShape, volume)) => Ok((None, volume.into_device().calls())),
-        Err((refusal, _)) => Err(refusal.into()),
     }
 }
 
 // A shape is refused before a device call, and the volume is handed back.
 #[test]
-fn shapes_have_limits(rt: HostRuntime) -> Result<(), Fail> {
+fn shapes_have_limits(rt: HostRuntime) {
     for layout in [1, 2] {
-        let calls = calls_until_opened(rt.alloc(), layout)?;
+        let calls = calls_until_opened(&rt, layout);
         for (cpus, tlb, frames, copies, fits) in SHAPES {
             let shape = Shape {
                 cpus,
@@ -63,21 +64,21 @@ fn shapes_have_limits(rt: HostRuntime) -> Result<(), Fail> {
                 frames,
                 copies,
             };
-            let found = booted_with(rt.alloc(), layout, shape)?;
+            let volume = volume_on(&rt, formatted(&rt, layout));
+            let found = booted_with(&rt, volume, shape);
             assert!(rt; found == (fits.then_some(cpus), calls), "{shape:?}");
         }
     }
-    Ok(())
 }
 
 // As many frames as a batch can have pages, over a file of one page more.
 const MANY: u64 = 1020;
 
 // A volume of that file.
-fn many_pages(alloc: Global) -> Result<MemDisk<Global>, Fail> {
-    let mut disk = MemDisk::new(alloc, 4096 * (3 + 1020 + 1021))?;
-    format(alloc, &mut disk, &[("a", 4096 * 1021)], 1020)?;
-    Ok(disk)
+fn many_pages<R: Abort + AllocGlobal>(rt: &R) -> MemDisk<Global> {
+    let mut disk = MemDisk::new(rt.alloc(), 4096 * (3 + 1020 + 1021)).expect(rt, "a disk");
+    format(rt.alloc(), &mut disk, &[("a", 4096 * 1021)], 1020).expect(rt, "a volume");
+    disk
 }
 
 // Whether a space is made that maps the whole file from 4096 on.
@@ -101,19 +102,17 @@ fn map_all(machine: &mut Trial) -> bool {
 }
 
 // A machine of one processor with as many frames, in that space.
-fn with_many_frames(alloc: Global) -> Result<Trial, Fail> {
+fn with_many_frames<R: Abort + AllocGlobal>(rt: &R) -> Trial {
     let shape = Shape {
         cpus: 1,
         tlb: 64,
         frames: MANY,
         copies: 64,
     };
-    let mut machine = booted(alloc, FailingDisk::new(many_pages(alloc)?, 0), shape)?;
-    if map_all(&mut machine) {
-        Ok(machine)
-    } else {
-        Err("the file is mapped".into())
-    }
+    let disk = FailingDisk::new(many_pages(rt), 0);
+    let mut machine = booted(rt, disk, shape);
+    assert!(rt; map_all(&mut machine), "the file is mapped");
+    machine
 }
 
 // The byte that is stored to a page: never 0.
@@ -124,11 +123,11 @@ fn byte_of(page: u64) -> u8 {
 // A store to a page that isn't in memory.
 const FAULT: Reply = Reply::Refused(Refusal::Fault(6));
 
-// What a store to a page, a fix and a store again are answered.
-fn stores(machine: &mut Trial, page: u64) -> Result<[Reply; 3], Fail> {
+// What a store to a page, a fix and a store again are answered; nothing where a byte can't be stored.
+fn stores(machine: &mut Trial, page: u64) -> Option<[Reply; 3]> {
     let va = page.saturating_add(1).saturating_mul(4096);
-    let bytes = FewBytes::new(&[byte_of(page)]).ok_or("one byte")?;
-    Ok([
+    let bytes = FewBytes::new(&[byte_of(page)])?;
+    Some([
         reply_to(machine, 0, Act::Store { va, bytes }),
         reply_to(machine, 0, Act::Fix { va, write: true }),
         reply_to(machine, 0, Act::Store { va, bytes }),
@@ -137,13 +136,13 @@ fn stores(machine: &mut Trial, page: u64) -> Result<[Reply; 3], Fail> {
 
 // Whether stores to as many pages fault once each and are made, and one to another page, for which no frame is left,
 // isn't.
-fn store_to_all(machine: &mut Trial) -> Result<bool, Fail> {
+fn store_to_all(machine: &mut Trial) -> bool {
     for page in 0..MANY {
-        if stores(machine, page)? != [FAULT, Reply::Fixed, Reply::Stored] {
-            return Ok(false);
+        if stores(machine, page) != Some([FAULT, Reply::Fixed, Reply::Stored]) {
+            return false;
         }
     }
-    Ok(stores(machine, MANY)? == [FAULT, Reply::Refused(Refusal::NoFrame), FAULT])
+    stores(machine, MANY) == Some([FAULT, Reply::Refused(Refusal::NoFrame), FAULT])
 }
 
 // Whether they are marked, and written out in 2k + 7 steps, of which k + 4 commit.
@@ -171,55 +170,49 @@ fn commit_all(machine: &mut Trial) -> bool {
     reply_to(machine, 0, Act::Flush) == Reply::Nothing
 }
 
+// Stores to as many pages, and commits them.
+fn store_and_commit<R: Abort>(rt: &R, machine: &mut Trial) {
+    assert!(rt; store_to_all(machine), "all pages are stored to");
+    assert!(rt; commit_all(machine), "all pages are committed");
+}
+
 // The disk after that.
-fn with_all_committed<R: AllocGlobal>(rt: &R) -> Result<Disk, Fail> {
-    let mut machine = with_many_frames(rt.alloc())?;
-    if store_to_all(&mut machine)? && commit_all(&mut machine) {
-        Ok(machine.into_device())
-    } else {
-        Err("all pages are committed".into())
-    }
+fn with_all_committed<R: Abort + AllocGlobal>(rt: &R) -> Disk {
+    let mut machine = with_many_frames(rt);
+    store_and_commit(rt, &mut machine);
+    machine.into_device()
 }
 
 // A commit of as many pages as there can be makes 3k + 7 device calls.
 #[test]
-fn a_commit_of_1020_pages(rt: HostRuntime) -> Result<(), Fail> {
-    let disk = with_all_committed(&rt)?;
-    assert_eq!(rt; disk.calls(), 3 + 1020 + 3067);
-    assert!(rt; has_many_bytes(rt.alloc(), disk.into_inner())?);
-    Ok(())
+fn a_commit_of_1020_pages(rt: HostRuntime) {
+    let disk = with_all_committed(&rt);
+    assert!(rt; disk.calls() == 3 + 1020 + 3067);
+    let mut volume = volume_on(&rt, disk.into_inner());
+    assert!(rt; are_many_bytes(&mut volume));
 }
 
-// The first byte of a page of the file.
-fn first_byte(volume: &mut Volume<MemDisk<Global>, Global>, page: u64) -> Result<u8, Fail> {
+// Whether a page of the file begins with its byte.
+fn has_its_byte(volume: &mut Volume<MemDisk<Global>, Global>, page: u64) -> bool {
     let at = page.saturating_mul(4096);
     if volume.file_count() != 1 || volume.length(0) <= at {
-        return Err("the page is there".into());
+        return false;
     }
-    let mut byte = [1];
-    volume.read_file(0, at, &mut byte)?;
-    Ok(byte[0])
+    let mut byte = [0];
+    volume.read_file(0, at, &mut byte).is_ok() && byte[0] == byte_of(page)
 }
 
 // Whether a volume has one file of as many pages and one more, and each of these pages begins with its byte.
-fn are_many_bytes(volume: &mut Volume<MemDisk<Global>, Global>) -> Result<bool, Fail> {
+fn are_many_bytes(volume: &mut Volume<MemDisk<Global>, Global>) -> bool {
     if volume.file_count() != 1 || volume.length(0) != 4096 * 1021 {
-        return Ok(false);
+        return false;
     }
     for page in 0..MANY {
-        if first_byte(volume, page)? != byte_of(page) {
-            return Ok(false);
+        if !has_its_byte(volume, page) {
+            return false;
         }
     }
-    Ok(true)
-}
-
-// Whether a disk opens with the byte of each of as many pages.
-fn has_many_bytes(alloc: Global, disk: MemDisk<Global>) -> Result<bool, Fail> {
-    match open(alloc, disk) {
-        Ok(mut volume) => are_many_bytes(&mut volume),
-        Err((refusal, _)) => Err(refusal.into()),
-    }
+    true
 }
 
 const LAST_SPACE: &str = "0 create: enomem
@@ -242,12 +235,18 @@ const SPACE_AGAIN: &str = "0 destroy 0: einval
     0 create: space 7
     0 create: space 2000";
 
+// Creates all spaces, of which some are used and given out again.
+fn create_and_use<R: Abort + AllocGlobal>(rt: &R, machine: &mut Trial) {
+    assert!(rt; create_all(machine));
+    make(rt, machine, &[LAST_SPACE, SPACE_AGAIN]);
+}
+
 // There are as many spaces as PCIDs but for space 0, and the lowest free one is given out.
 #[test]
-fn there_are_4095_spaces(rt: HostRuntime) -> Result<(), Fail> {
-    let mut machine = zeros(&rt, TWO)?;
-    assert!(rt; create_all(&mut machine));
-    make(&rt, &mut machine, &[LAST_SPACE, SPACE_AGAIN])
+fn there_are_4095_spaces(rt: HostRuntime) {
+    let mut machine = zeros(&rt, TWO);
+    create_and_use(&rt, &mut machine);
+    let _disk = machine.into_device();
 }
 
 fn create_all(machine: &mut Trial) -> bool {
@@ -262,17 +261,17 @@ fn create_all(machine: &mut Trial) -> bool {
 // Only what can be sent to a thread can be given to this.
 fn sends<T: Send>(_sent: &T) {}
 
-// How many processors a machine has that can be sent.
-fn processors_sent<R: AllocGlobal>(rt: &R) -> Result<u8, Fail> {
-    let machine = zeros(rt, TWO)?;
-    sends(&machine);
-    Ok(machine.processors())
+// Whether a machine has two processors, and can be sent.
+fn can_be_sent(machine: &Trial) -> bool {
+    sends(machine);
+    machine.processors() == 2
 }
 
 #[test]
-fn a_machine_can_be_sent_to_a_thread(rt: HostRuntime) -> Result<(), Fail> {
-    assert!(rt; processors_sent(&rt)? == 2);
-    Ok(())
+fn a_machine_can_be_sent_to_a_thread(rt: HostRuntime) {
+    let machine = zeros(&rt, TWO);
+    assert!(rt; can_be_sent(&machine));
+    let _disk = machine.into_device();
 }
 
 // Whether a page of `a` is mapped, fixed and filled.
@@ -301,17 +300,21 @@ fn fill_all(machine: &mut Trial) -> bool {
     true
 }
 
+// Fills a TLB of 64 entries, and takes its entries away.
+fn fill_and_evict<R: Abort + AllocGlobal>(rt: &R, machine: &mut Trial) {
+    make(rt, machine, &[START]);
+    assert!(rt; fill_all(machine));
+    make(rt, machine, &[FULL]);
+}
+
 // Each page is cached, and a full TLB drops an entry for the next: one page more than there is room for.
 #[test]
-fn a_tlb_of_64_entries(rt: HostRuntime) -> Result<(), Fail> {
+fn a_tlb_of_64_entries(rt: HostRuntime) {
     let shape = Shape { tlb: 64, ..TWO };
-    let mut machine = zeros(&rt, shape)?;
-    make(&rt, &mut machine, &[START])?;
-    assert!(rt; fill_all(&mut machine));
-    make(&rt, &mut machine, &[FULL])?;
+    let mut machine = zeros(&rt, shape);
+    fill_and_evict(&rt, &mut machine);
     // The page of the file was read in once.
-    assert_eq!(rt; machine.into_device().calls(), 3 + 1);
-    Ok(())
+    assert!(rt; machine.into_device().calls() == 3 + 1);
 }
 
 const FULL: &str = "0 evict 64: nothing
@@ -341,19 +344,17 @@ const MARKED: &str = "0 msync 0 0 4: begun
 
 // A machine tells whether it is as it was booted.
 #[test]
-fn a_machine_is_fresh_until_a_mark(rt: HostRuntime) -> Result<(), Fail> {
-    assert!(rt; is_fresh_after(&rt, &[])?);
-    assert!(rt; is_fresh_after(&rt, &[FRESH])?);
-    assert!(rt; !is_fresh_after(&rt, &[FRESH, MARKED])?);
-    Ok(())
+fn a_machine_is_fresh_until_a_mark(rt: HostRuntime) {
+    assert!(rt; is_fresh_after(&rt, &[]));
+    assert!(rt; is_fresh_after(&rt, &[FRESH]));
+    assert!(rt; !is_fresh_after(&rt, &[FRESH, MARKED]));
 }
 
 #[test]
-fn a_machine_is_not_fresh_after_one_step(rt: HostRuntime) -> Result<(), Fail> {
+fn a_machine_is_not_fresh_after_one_step(rt: HostRuntime) {
     for line in NOT_FRESH.lines() {
-        assert!(rt; !is_fresh_after(&rt, &[line])?, "{line}");
+        assert!(rt; !is_fresh_after(&rt, &[line]), "{line}");
     }
-    Ok(())
 }
 
 fn is_fresh(machine: &Trial) -> bool {
@@ -361,8 +362,10 @@ fn is_fresh(machine: &Trial) -> bool {
 }
 
 // Whether a machine is as it was booted after these steps.
-fn is_fresh_after<R: Abort + AllocGlobal>(rt: &R, parts: &[&str]) -> Result<bool, Fail> {
-    let mut machine = zeros(rt, TWO)?;
-    make(rt, &mut machine, parts)?;
-    Ok(is_fresh(&machine))
+fn is_fresh_after<R: Abort + AllocGlobal>(rt: &R, parts: &[&str]) -> bool {
+    let mut machine = zeros(rt, TWO);
+    make(rt, &mut machine, parts);
+    let fresh = is_fresh(&machine);
+    let _disk = machine.into_device();
+    fresh
 }

@@ -1,6 +1,5 @@
 // The lock: who waits for whom while a change is under way, and which calls begin one.
 use crate::trial::{COMMITTED, DONE, GOING_3, GOING_4, MARK, START, STORE_A, TWO, makes};
-use std::test::Fail;
 
 // An interrupted processor goes on, but for what asks for the lock.
 const INTERRUPTED: &str = "1 load 4096 1: bytes 65
@@ -68,23 +67,23 @@ const IDLE: &str = "1 idle: idled
 const BEGUN: &str = "0 msync 4096 4096 4: begun";
 
 #[test]
-fn an_interrupted_processor_goes_on(rt: HostRuntime) -> Result<(), Fail> {
-    makes(&rt, TWO, &[START, STORE_A, BEGUN, INTERRUPTED])
+fn an_interrupted_processor_goes_on(rt: HostRuntime) {
+    makes(&rt, TWO, &[START, STORE_A, BEGUN, INTERRUPTED]);
 }
 
 #[test]
-fn an_initiating_processor_waits(rt: HostRuntime) -> Result<(), Fail> {
-    makes(&rt, TWO, &[START, STORE_A, BEGUN, INITIATING])
+fn an_initiating_processor_waits(rt: HostRuntime) {
+    makes(&rt, TWO, &[START, STORE_A, BEGUN, INITIATING]);
 }
 
 #[test]
-fn a_stalled_processor_waits_for_the_change(rt: HostRuntime) -> Result<(), Fail> {
-    makes(&rt, TWO, &[START, STORE_A, BEGUN, STALLED])
+fn a_stalled_processor_waits_for_the_change(rt: HostRuntime) {
+    makes(&rt, TWO, &[START, STORE_A, BEGUN, STALLED]);
 }
 
 #[test]
-fn an_idle_processor_does_nothing(rt: HostRuntime) -> Result<(), Fail> {
-    makes(&rt, TWO, &[START, STORE_A, IDLE])
+fn an_idle_processor_does_nothing(rt: HostRuntime) {
+    makes(&rt, TWO, &[START, STORE_A, IDLE]);
 }
 
 // 1 is MS_ASYNC, 2 MS_INVALIDATE and 4 MS_SYNC, and one of the first and the last is asked for. A range is whole pages
@@ -136,8 +135,8 @@ const COMMITS: &str = "0 msync 4096 4096 1: begun
     1 resume: resumed";
 
 #[test]
-fn commits_are_begun_by_their_flags_and_ranges(rt: HostRuntime) -> Result<(), Fail> {
-    makes(&rt, TWO, &[START, NO_COMMITS, COMMITS])
+fn commits_are_begun_by_their_flags_and_ranges(rt: HostRuntime) {
+    makes(&rt, TWO, &[START, NO_COMMITS, COMMITS]);
 }
 
 const KEPT: &str = "0 reclaim 0 0: begun
@@ -153,7 +152,7 @@ const RECLAIMED: &str = "0 reclaim 0 0: begun
 
 // A page stays in memory until its write-out is done.
 #[test]
-fn a_page_of_a_write_out_is_kept(rt: HostRuntime) -> Result<(), Fail> {
+fn a_page_of_a_write_out_is_kept(rt: HostRuntime) {
     makes(
         &rt,
         TWO,
@@ -161,5 +160,5 @@ fn a_page_of_a_write_out_is_kept(rt: HostRuntime) -> Result<(), Fail> {
             START, STORE_A, KEPT, MARK, KEPT, GOING_4, KEPT, COMMITTED, KEPT, GOING_3, KEPT, DONE,
             RECLAIMED,
         ],
-    )
+    );
 }

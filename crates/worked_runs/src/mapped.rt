@@ -1,6 +1,5 @@
 // Mappings, rights and address spaces.
 use crate::trial::{START, TWO, makes};
-use std::test::Fail;
 
 const REFUSED: &str = "0 map 1 65536 0 0 0 rw rw: einval
     0 map 1 4097 4096 0 0 rw rw: einval
@@ -15,8 +14,8 @@ const REFUSED: &str = "0 map 1 65536 0 0 0 rw rw: einval
 
 // Calls that are refused, each for its cause.
 #[test]
-fn calls_are_refused_for_their_causes(rt: HostRuntime) -> Result<(), Fail> {
-    makes(&rt, TWO, &[START, REFUSED])
+fn calls_are_refused_for_their_causes(rt: HostRuntime) {
+    makes(&rt, TWO, &[START, REFUSED]);
 }
 
 const OTHER_FILE: &str = "0 unmap 1 8192 4096: begun
@@ -56,7 +55,7 @@ const TWO_PAGES: &str = "0 map 1 65536 8192 0 0 rw rw: mapped
 
 // A page is unmapped out of the middle and mapped to another file; rights are taken away and given back.
 #[test]
-fn rights_come_and_go(rt: HostRuntime) -> Result<(), Fail> {
+fn rights_come_and_go(rt: HostRuntime) {
     makes(
         &rt,
         TWO,
@@ -74,7 +73,7 @@ fn rights_come_and_go(rt: HostRuntime) -> Result<(), Fail> {
             "0 store 4096 2: fault 7",
             TWO_PAGES,
         ],
-    )
+    );
 }
 
 const PCID_AGAIN: &str = "0 create: space 2
@@ -94,8 +93,8 @@ const PCID_AGAIN: &str = "0 create: space 2
 
 // Nothing is left of a space that was destroyed where its PCID is given out again.
 #[test]
-fn a_pcid_is_given_out_again(rt: HostRuntime) -> Result<(), Fail> {
-    makes(&rt, TWO, &[START, PCID_AGAIN, "1 load 4096 1: bytes 0"])
+fn a_pcid_is_given_out_again(rt: HostRuntime) {
+    makes(&rt, TWO, &[START, PCID_AGAIN, "1 load 4096 1: bytes 0"]);
 }
 
 const AWAY: &str = "1 load 16384 1: fault 4
@@ -113,7 +112,7 @@ const NINTH: &str = "0 map 1 1048576 4096 0 0 r r: mapped
 
 // A processor that is in another space has room for 8 invalidations of one page, and then drops these pages alone.
 #[test]
-fn eight_invalidations_leave_another_page_cached(rt: HostRuntime) -> Result<(), Fail> {
+fn eight_invalidations_leave_another_page_cached(rt: HostRuntime) {
     makes(
         &rt,
         TWO,
@@ -125,12 +124,12 @@ fn eight_invalidations_leave_another_page_cached(rt: HostRuntime) -> Result<(), 
             "1 switch 1 keep: switched",
             "1 evict 0: evicted",
         ],
-    )
+    );
 }
 
 // The ninth makes it drop all.
 #[test]
-fn nine_invalidations_drop_all(rt: HostRuntime) -> Result<(), Fail> {
+fn nine_invalidations_drop_all(rt: HostRuntime) {
     makes(
         &rt,
         TWO,
@@ -143,5 +142,5 @@ fn nine_invalidations_drop_all(rt: HostRuntime) -> Result<(), Fail> {
             "1 switch 1 keep: switched",
             "1 evict 0: nothing",
         ],
-    )
+    );
 }

@@ -2,15 +2,14 @@
 // address.
 use machine::{Act, FewBytes, Step};
 use mappings::Rights;
-use std::alloc::Global;
-use std::test::Fail;
+use std::process::Abort;
 
 // The number that an argument is, or that its word stands for.
-fn number(word: &str) -> Result<u64, Fail> {
+fn number(word: &str) -> Option<u64> {
     match word {
-        "drop" | "read" | "r" => Ok(0),
-        "keep" | "write" | "rw" => Ok(1),
-        digits => Ok(digits.parse::<u64>()?),
+        "drop" | "read" | "r" => Some(0),
+        "keep" | "write" | "rw" => Some(1),
+        digits => digits.parse::<u64>().ok(),
     }
 }
 
@@ -22,147 +21,152 @@ fn rights(number: u64) -> Rights {
     }
 }
 
-fn alone(name: &str) -> Result<Act, Fail> {
+fn alone(name: &str) -> Option<Act> {
     match name {
-        "idle" => Ok(Act::Idle),
-        "wake" => Ok(Act::Wake),
-        "create" => Ok(Act::Create),
-        "ack" => Ok(Act::Ack),
-        "change" => Ok(Act::Change),
-        "resume" => Ok(Act::Resume),
-        "flush" => Ok(Act::Flush),
-        _ => Err("an act without arguments".into()),
+        "idle" => Some(Act::Idle),
+        "wake" => Some(Act::Wake),
+        "create" => Some(Act::Create),
+        "ack" => Some(Act::Ack),
+        "change" => Some(Act::Change),
+        "resume" => Some(Act::Resume),
+        "flush" => Some(Act::Flush),
+        _ => None,
     }
 }
 
-fn of_one(name: &str, number: u64) -> Result<Act, Fail> {
+fn of_one(name: &str, number: u64) -> Option<Act> {
     match name {
-        "fill" => Ok(Act::Fill { page: number }),
-        "evict" => Ok(Act::Evict {
-            slot: u8::try_from(number)?,
+        "fill" => Some(Act::Fill { page: number }),
+        "evict" => Some(Act::Evict {
+            slot: u8::try_from(number).ok()?,
         }),
-        "destroy" => Ok(Act::Destroy {
-            space: u16::try_from(number)?,
+        "destroy" => Some(Act::Destroy {
+            space: u16::try_from(number).ok()?,
         }),
-        _ => Err("an act with one argument".into()),
+        _ => None,
     }
 }
 
-fn of_two(name: &str, first: u64, second: u64) -> Result<Act, Fail> {
+fn of_two(name: &str, first: u64, second: u64) -> Option<Act> {
     match name {
-        "load" => Ok(Act::Load {
+        "load" => Some(Act::Load {
             va: first,
-            count: u8::try_from(second)?,
+            count: u8::try_from(second).ok()?,
         }),
-        "switch" => Ok(Act::Switch {
-            space: u16::try_from(first)?,
+        "switch" => Some(Act::Switch {
+            space: u16::try_from(first).ok()?,
             keep: second == 1,
         }),
-        "fix" => Ok(Act::Fix {
+        "fix" => Some(Act::Fix {
             va: first,
             write: second == 1,
         }),
-        "reclaim" => Ok(Act::Reclaim {
-            file: u16::try_from(first)?,
-            page: u32::try_from(second)?,
+        "reclaim" => Some(Act::Reclaim {
+            file: u16::try_from(first).ok()?,
+            page: u32::try_from(second).ok()?,
         }),
-        _ => Err("an act with two arguments".into()),
+        _ => None,
     }
 }
 
-fn unmap(space: u64, va: u64, len: u64) -> Result<Act, Fail> {
-    Ok(Act::Unmap {
-        space: u16::try_from(space)?,
-        va,
-        len,
-    })
+fn of_three(name: &str, first: u64, second: u64, third: u64) -> Option<Act> {
+    match name {
+        "msync" => Some(Act::Msync {
+            va: first,
+            len: second,
+            flags: u8::try_from(third).ok()?,
+        }),
+        "unmap" => Some(Act::Unmap {
+            space: u16::try_from(first).ok()?,
+            va: second,
+            len: third,
+        }),
+        _ => None,
+    }
 }
 
-fn protect(space: u64, va: u64, len: u64, prot: u64) -> Result<Act, Fail> {
-    Ok(Act::Protect {
-        space: u16::try_from(space)?,
-        va,
-        len,
-        prot: rights(prot),
-    })
+fn of_four(name: &str, first: u64, second: u64, third: u64, fourth: u64) -> Option<Act> {
+    match name {
+        "protect" => Some(Act::Protect {
+            space: u16::try_from(first).ok()?,
+            va: second,
+            len: third,
+            prot: rights(fourth),
+        }),
+        _ => None,
+    }
 }
 
-fn msync(va: u64, len: u64, flags: u64) -> Result<Act, Fail> {
-    Ok(Act::Msync {
-        va,
-        len,
-        flags: u8::try_from(flags)?,
-    })
-}
-
-fn map(numbers: &[u64]) -> Result<Act, Fail> {
+fn map(numbers: &[u64]) -> Option<Act> {
     let [space, va, len, file, offset, prot, access] = numbers else {
-        return Err("map has seven arguments".into());
+        return None;
     };
-    Ok(Act::Map {
-        space: u16::try_from(*space)?,
+    Some(Act::Map {
+        space: u16::try_from(*space).ok()?,
         va: *va,
         len: *len,
-        file: u16::try_from(*file)?,
+        file: u16::try_from(*file).ok()?,
         offset: *offset,
         prot: rights(*prot),
         access: rights(*access),
     })
 }
 
-fn store(alloc: Global, numbers: &[u64]) -> Result<Act, Fail> {
+// A store has at most 8 bytes.
+fn store(numbers: &[u64]) -> Option<Act> {
     let [va, rest @ ..] = numbers else {
-        return Err("store has an address".into());
+        return None;
     };
-    let mut bytes = Vec::new(alloc);
-    for number in rest {
-        bytes.push(u8::try_from(*number)?)?;
+    let mut bytes = [0; 8];
+    for (place, number) in bytes.iter_mut().zip(rest) {
+        *place = u8::try_from(*number).ok()?;
     }
-    Ok(Act::Store {
-        va: *va,
-        bytes: FewBytes::new(&bytes).ok_or("at most 8 bytes")?,
-    })
+    let bytes = FewBytes::new(bytes.get(..rest.len())?)?;
+    Some(Act::Store { va: *va, bytes })
 }
 
-fn act_of(alloc: Global, name: &str, numbers: &[u64]) -> Result<Act, Fail> {
-    if name == "store" {
-        return store(alloc, numbers);
-    }
-    if name == "map" {
-        return map(numbers);
-    }
+// An act that is neither a store nor a map. Each has its own number of arguments.
+fn of_some(name: &str, numbers: &[u64]) -> Option<Act> {
     match numbers {
         [] => alone(name),
         [number] => of_one(name, *number),
-        [va, len, flags] if name == "msync" => msync(*va, *len, *flags),
-        [space, va, len] if name == "unmap" => unmap(*space, *va, *len),
-        [space, va, len, prot] if name == "protect" => protect(*space, *va, *len, *prot),
         [first, second] => of_two(name, *first, *second),
-        _ => Err("an act with so many arguments".into()),
+        [first, second, third] => of_three(name, *first, *second, *third),
+        [first, second, third, fourth] => of_four(name, *first, *second, *third, *fourth),
+        _ => None,
+    }
+}
+
+fn act_of(name: &str, numbers: &[u64]) -> Option<Act> {
+    match name {
+        "store" => store(numbers),
+        "map" => map(numbers),
+        _ => of_some(name, numbers),
     }
 }
 
 // The numbers that an act's arguments are, of words whose first two are the processor and the act.
-fn numbers_in(alloc: Global, words: &str) -> Result<Vec<u64>, Fail> {
-    let mut numbers = Vec::new(alloc);
+fn numbers_in<R: Abort + AllocGlobal>(rt: &R, words: &str) -> Vec<u64> {
+    let mut numbers = Vec::new(rt.alloc());
     for word in words.split(' ').skip(2) {
-        numbers.push(number(word)?)?;
+        let argument = number(word).expect(rt, "a number");
+        numbers.push(argument).expect(rt, "a list of numbers");
     }
-    Ok(numbers)
+    numbers
 }
 
 // The processor and the act's name.
-fn begin_of(words: &str) -> Result<(u8, &str), Fail> {
+fn begin_of(words: &str) -> Option<(u8, &str)> {
     let mut words = words.split(' ');
-    let p = number(words.next().ok_or("a processor")?)?;
-    let name = words.next().ok_or("an act")?;
-    Ok((u8::try_from(p)?, name))
+    let p = number(words.next()?)?;
+    let name = words.next()?;
+    Some((u8::try_from(p).ok()?, name))
 }
 
 /// The step that these words say.
-pub(crate) fn step_of(alloc: Global, words: &str) -> Result<Step, Fail> {
-    let (p, name) = begin_of(words)?;
-    let numbers = numbers_in(alloc, words)?;
-    let act = act_of(alloc, name, &numbers)?;
-    Ok(Step { p, act })
+pub(crate) fn step_of<R: Abort + AllocGlobal>(rt: &R, words: &str) -> Step {
+    let (p, name) = begin_of(words).expect(rt, "a processor and an act");
+    let numbers = numbers_in(rt, words);
+    let act = act_of(name, &numbers).expect(rt, "an act with such arguments");
+    Step { p, act }
 }

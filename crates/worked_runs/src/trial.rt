@@ -7,7 +7,6 @@ use page_entry::ProcessorNumber;
 use recovery::{Volume, format_as, open};
 use std::alloc::Global;
 use std::process::Abort;
-use std::test::Fail;
 use volume_codec::FileSpec;
 
 /// A disk in memory whose calls are counted, and whose call of a chosen number fails.
@@ -106,27 +105,44 @@ pub(crate) const COMMITTED: &str = "0 flush: committed 1";
 pub(crate) const DONE: &str = "0 flush: done 1";
 
 /// A volume of zeros.
-pub(crate) fn formatted(alloc: Global, layout: u64) -> Result<MemDisk<Global>, Fail> {
-    let mut disk = MemDisk::new(alloc, if layout == 1 { 40_960 } else { 65_536 })?;
-    format_as(alloc, &mut disk, layout, &SPECS, 4)?;
-    Ok(disk)
+pub(crate) fn formatted<R: Abort + AllocGlobal>(rt: &R, layout: u64) -> MemDisk<Global> {
+    let len = if layout == 1 { 40_960 } else { 65_536 };
+    let mut disk = MemDisk::new(rt.alloc(), len).expect(rt, "a disk");
+    format_as(rt.alloc(), &mut disk, layout, &SPECS, 4).expect(rt, "a volume");
+    disk
+}
+
+/// The volume of a disk, opened.
+pub(crate) fn volume_on<R: Abort + AllocGlobal>(
+    rt: &R,
+    disk: MemDisk<Global>,
+) -> Volume<MemDisk<Global>, Global> {
+    match open(rt.alloc(), disk) {
+        Ok(volume) => volume,
+        Err((refusal, _)) => panic!(rt; "{refusal:?}"),
+    }
+}
+
+// A machine of this shape over a volume.
+fn booted_on<R: Abort + AllocGlobal>(rt: &R, volume: Volume<Disk, Global>, shape: Shape) -> Trial {
+    match Machine::boot(rt.alloc(), volume, shape) {
+        Ok(machine) => machine,
+        Err((refusal, _)) => panic!(rt; "{refusal:?}"),
+    }
 }
 
 /// A machine of this shape over the volume of a disk.
-pub(crate) fn booted(alloc: Global, disk: Disk, shape: Shape) -> Result<Trial, Fail> {
-    match open(alloc, disk) {
-        Ok(volume) => match Machine::boot(alloc, volume, shape) {
-            Ok(machine) => Ok(machine),
-            Err((refusal, _)) => Err(refusal.into()),
-        },
-        Err((refusal, _)) => Err(refusal.into()),
+pub(crate) fn booted<R: Abort + AllocGlobal>(rt: &R, disk: Disk, shape: Shape) -> Trial {
+    match open(rt.alloc(), disk) {
+        Ok(volume) => booted_on(rt, volume, shape),
+        Err((refusal, _)) => panic!(rt; "{refusal:?}"),
     }
 }
 
 /// A machine of this shape over a volume of zeros in layout 1.
-pub(crate) fn zeros<R: AllocGlobal>(rt: &R, shape: Shape) -> Result<Trial, Fail> {
-    let disk = formatted(rt.alloc(), 1)?;
-    booted(rt.alloc(), FailingDisk::new(disk, 0), shape)
+pub(crate) fn zeros<R: Abort + AllocGlobal>(rt: &R, shape: Shape) -> Trial {
+    let disk = formatted(rt, 1);
+    booted(rt, FailingDisk::new(disk, 0), shape)
 }
 
 /// The reply to an act of a processor.
@@ -134,116 +150,95 @@ pub(crate) fn reply_to(machine: &mut Trial, p: ProcessorNumber, act: Act) -> Rep
     machine.step(&Step { p, act })
 }
 
-/// How a step in words is answered.
-pub(crate) fn answer(
-    alloc: Global,
-    machine: &mut Trial,
-    words: &str,
-) -> Result<String<Global>, Fail> {
-    let Step { p, act } = step_of(alloc, words)?;
-    let reply = reply_to(machine, p, act);
-    Ok(format!(in alloc; "{reply}")?)
+// A reply as it is printed.
+fn printed<R: Abort + AllocGlobal>(rt: &R, reply: &Reply) -> String<Global> {
+    format!(in rt.alloc(); "{reply}").expect(rt, "a reply's text")
+}
+
+/// Whether a reply is printed so.
+pub(crate) fn is_printed<R: Abort + AllocGlobal>(rt: &R, reply: &Reply, wanted: &str) -> bool {
+    let text = printed(rt, reply);
+    text.as_str() == wanted
+}
+
+// How a step in words is answered.
+fn answer<R: Abort + AllocGlobal>(rt: &R, machine: &mut Trial, words: &str) -> Reply {
+    let Step { p, act } = step_of(rt, words);
+    reply_to(machine, p, act)
 }
 
 /// The words and the wanted reply of a line.
-pub(crate) fn parted(line: &str) -> Result<(&str, &str), Fail> {
-    Ok(
-        line.trim_start()
-            .split_once(": ")
-            .ok_or("a reply after a colon")?,
-    )
+pub(crate) fn parted<'a, R: Abort>(rt: &R, line: &'a str) -> (&'a str, &'a str) {
+    line.trim_start()
+        .split_once(": ")
+        .expect(rt, "a reply after a colon")
 }
 
 /// Whether a step in words is answered so, and not that a device call failed.
-pub(crate) fn is_answered(
-    alloc: Global,
+pub(crate) fn is_answered<R: Abort + AllocGlobal>(
+    rt: &R,
     machine: &mut Trial,
     words: &str,
     wanted: &str,
-) -> Result<bool, Fail> {
-    let reply = answer(alloc, machine, words)?;
-    if reply.as_str() == wanted {
-        Ok(true)
-    } else if reply.as_str() == "device" {
-        Ok(false)
-    } else {
-        Err("the reply that is wanted".into())
-    }
+) -> bool {
+    let reply = answer(rt, machine, words);
+    let is_wanted = is_printed(rt, &reply, wanted);
+    assert!(rt;
+        is_wanted || is_printed(rt, &reply, "device"),
+        "{words}: {reply}"
+    );
+    is_wanted
 }
 
 // Adds the steps of a part.
-fn push_steps(alloc: Global, steps: &mut Vec<Step>, part: &str) -> Result<(), Fail> {
+fn push_steps<R: Abort + AllocGlobal>(rt: &R, steps: &mut Vec<Step>, part: &str) {
     for line in part.lines() {
-        let (words, _) = parted(line)?;
-        let Step { p, act } = step_of(alloc, words)?;
-        steps.push(Step { p, act })?;
+        let (words, _) = parted(rt, line);
+        steps.push(step_of(rt, words)).expect(rt, "a list of steps");
     }
-    Ok(())
 }
 
 /// The steps of these parts.
-pub(crate) fn steps_in(alloc: Global, parts: &[&str]) -> Result<Vec<Step>, Fail> {
-    let mut steps = Vec::new(alloc);
+pub(crate) fn steps_in<R: Abort + AllocGlobal>(rt: &R, parts: &[&str]) -> Vec<Step> {
+    let mut steps = Vec::new(rt.alloc());
     for part in parts {
-        push_steps(alloc, &mut steps, part)?;
+        push_steps(rt, &mut steps, part);
     }
-    Ok(steps)
+    steps
 }
 
 /// Makes the step of this line, which has to be answered so.
-pub(crate) fn make_line<R: Abort + AllocGlobal>(
-    rt: &R,
-    machine: &mut Trial,
-    line: &str,
-) -> Result<(), Fail> {
-    let (words, wanted) = parted(line)?;
-    let reply = answer(rt.alloc(), machine, words)?;
-    assert_eq!(rt; reply.as_str(), wanted, "{words}");
-    Ok(())
+pub(crate) fn make_line<R: Abort + AllocGlobal>(rt: &R, machine: &mut Trial, line: &str) {
+    let (words, wanted) = parted(rt, line);
+    let reply = answer(rt, machine, words);
+    assert!(rt; is_printed(rt, &reply, wanted), "{words}: {reply}");
 }
 
 /// Makes these steps, each of which has to be answered so. They come in parts of some lines.
-pub(crate) fn make<R: Abort + AllocGlobal>(
-    rt: &R,
-    machine: &mut Trial,
-    parts: &[&str],
-) -> Result<(), Fail> {
+pub(crate) fn make<R: Abort + AllocGlobal>(rt: &R, machine: &mut Trial, parts: &[&str]) {
     for part in parts {
         for line in part.lines() {
-            make_line(rt, machine, line)?;
+            make_line(rt, machine, line);
         }
     }
-    Ok(())
 }
 
 /// Makes these steps on a machine of this shape over zeros in layout 1, and gives its disk.
-pub(crate) fn made<R: Abort + AllocGlobal>(
-    rt: &R,
-    shape: Shape,
-    parts: &[&str],
-) -> Result<Disk, Fail> {
-    let mut machine = zeros(rt, shape)?;
-    make(rt, &mut machine, parts)?;
-    Ok(machine.into_device())
+pub(crate) fn made<R: Abort + AllocGlobal>(rt: &R, shape: Shape, parts: &[&str]) -> Disk {
+    let mut machine = zeros(rt, shape);
+    make(rt, &mut machine, parts);
+    machine.into_device()
 }
 
 /// Makes these steps there.
-pub(crate) fn makes<R: Abort + AllocGlobal>(
-    rt: &R,
-    shape: Shape,
-    parts: &[&str],
-) -> Result<(), Fail> {
-    let mut machine = zeros(rt, shape)?;
-    make(rt, &mut machine, parts)
+pub(crate) fn makes<R: Abort + AllocGlobal>(rt: &R, shape: Shape, parts: &[&str]) {
+    let _disk = made(rt, shape, parts);
 }
 
 /// How many device calls they make, those of the opening included.
-pub(crate) fn calls_of<R: Abort + AllocGlobal>(
-    rt: &R,
-    shape: Shape,
-    parts: &[&str],
-) -> Result<u64, Fail> {
-    Ok(made(rt, shape, parts)?.calls())
+pub(crate) fn calls_of<R: Abort + AllocGlobal>(rt: &R, shape: Shape, parts: &[&str]) -> u64 {
+    let disk = made(rt, shape, parts);
+    disk.calls()
 }
 
 /// Whether they leave a disk that, after a crash that leaves this byte wherever nothing was synced, opens in so many
@@ -255,9 +250,9 @@ pub(crate) fn leaves_files<R: Abort + AllocGlobal>(
     left: u8,
     bytes: &[FileByte],
     calls: u64,
-) -> Result<bool, Fail> {
-    let disk = made(rt, shape, parts)?;
-    opens_as(rt.alloc(), disk, left, bytes, calls)
+) -> bool {
+    let disk = made(rt, shape, parts);
+    opens_as(rt, disk, left, bytes, calls)
 }
 
 /// What was opened: the bytes of both files, and how many device calls that took.
@@ -269,13 +264,13 @@ pub(crate) struct Found {
 }
 
 /// Sets a byte.
-pub(crate) fn put(bytes: &mut [u8], offset: usize, byte: u8) -> Result<(), Fail> {
-    *bytes.get_mut(offset).ok_or("a byte of the file")? = byte;
-    Ok(())
+pub(crate) fn put<R: Abort>(rt: &R, bytes: &mut [u8], offset: usize, byte: u8) {
+    let place = bytes.get_mut(offset).expect(rt, "a byte at the offset");
+    *place = byte;
 }
 
 /// Two files of zeros but for these bytes, opened in so many device calls.
-pub(crate) fn files(bytes: &[FileByte], calls: u64) -> Result<Found, Fail> {
+pub(crate) fn files<R: Abort>(rt: &R, bytes: &[FileByte], calls: u64) -> Found {
     let mut files = Found {
         a: [0; 5000],
         b: [0; 4096],
@@ -283,72 +278,94 @@ pub(crate) fn files(bytes: &[FileByte], calls: u64) -> Result<Found, Fail> {
     };
     for (file, offset, byte) in bytes {
         if *file == 0 {
-            put(&mut files.a, *offset, *byte)?;
+            put(rt, &mut files.a, *offset, *byte);
         } else {
-            put(&mut files.b, *offset, *byte)?;
+            put(rt, &mut files.b, *offset, *byte);
         }
     }
-    Ok(files)
+    files
 }
 
-/// Opens the volume of a disk.
-pub(crate) fn opened(alloc: Global, disk: MemDisk<Global>) -> Result<Found, Fail> {
+/// Opens the volume of a disk. Each file is read by one call.
+pub(crate) fn opened<R: Abort + AllocGlobal>(rt: &R, disk: MemDisk<Global>) -> Found {
     let before = disk.calls();
-    match open(alloc, disk) {
-        Ok(volume) => what_is_found(volume, before),
-        Err((refusal, _)) => Err(refusal.into()),
-    }
-}
-
-// The bytes of both files of a volume.
-fn bytes_in(volume: &mut Volume<MemDisk<Global>, Global>) -> Result<Found, Fail> {
-    if volume.file_count() != 2 || volume.length(0) != 5000 || volume.length(1) != 4096 {
-        return Err("the files are there".into());
-    }
-    let mut a = [1; 5000];
-    volume.read_file(0, 0, &mut a)?;
-    let mut b = [1; 4096];
-    volume.read_file(1, 0, &mut b)?;
-    Ok(Found { a, b, calls: 0 })
-}
-
-// What a volume was opened with, on a disk that had so many calls before. Each file is read by one call.
-fn what_is_found(mut volume: Volume<MemDisk<Global>, Global>, before: u64) -> Result<Found, Fail> {
-    let found = bytes_in(&mut volume)?;
+    let mut volume = volume_on(rt, disk);
+    let found = bytes_in(rt, &mut volume);
     let calls = volume.into_device().calls();
     let calls = calls.saturating_sub(before).saturating_sub(2);
-    Ok(Found { calls, ..found })
+    Found { calls, ..found }
+}
+
+// Reads the whole of a file, which is there and as long as the buffer.
+fn read_whole<R: Abort>(
+    rt: &R,
+    volume: &mut Volume<MemDisk<Global>, Global>,
+    file: usize,
+    buffer: &mut [u8],
+) {
+    if file >= volume.file_count() || volume.length(file) != buffer.len() as u64 {
+        panic!(rt; "the file {file} is there");
+    }
+    let read = volume.read_file(file, 0, buffer);
+    assert!(rt; read.is_ok(), "the file {file} is read");
+}
+
+// The bytes of both files of a volume, which has no other.
+fn bytes_in<R: Abort>(rt: &R, volume: &mut Volume<MemDisk<Global>, Global>) -> Found {
+    let mut found = Found {
+        a: [1; 5000],
+        b: [1; 4096],
+        calls: 0,
+    };
+    assert!(rt; volume.file_count() == 2, "two files are there");
+    read_whole(rt, volume, 0, &mut found.a);
+    read_whole(rt, volume, 1, &mut found.b);
+    found
+}
+
+/// A list of so many of this byte.
+pub(crate) fn all_of<R: Abort + AllocGlobal>(rt: &R, byte: u8, len: usize) -> Vec<u8> {
+    vec![in rt.alloc(); byte; len].expect(rt, "a list of bytes")
+}
+
+/// A copy of these bytes.
+pub(crate) fn copied<R: Abort + AllocGlobal>(rt: &R, bytes: &[u8]) -> Vec<u8> {
+    bytes.to_vec(rt.alloc()).expect(rt, "a copy of bytes")
 }
 
 /// A crash: what was written since the last sync becomes what is chosen.
-pub(crate) fn crash(disk: &mut MemDisk<Global>, choice: &[u8]) -> Result<(), Fail> {
+pub(crate) fn crash<R: Abort>(rt: &R, disk: &mut MemDisk<Global>, choice: &[u8]) {
     if choice.len() != disk.bytes().len() {
-        return Err("the choice is as long as the disk".into());
+        panic!(rt; "the choice is as long as the disk");
     }
     disk.stop(choice);
-    Ok(())
+}
+
+/// A crash that leaves this byte wherever nothing was synced.
+pub(crate) fn crash_to<R: Abort + AllocGlobal>(rt: &R, disk: &mut MemDisk<Global>, left: u8) {
+    let choice = all_of(rt, left, disk.bytes().len());
+    crash(rt, disk, &choice);
 }
 
 /// Whether a disk opens in so many calls with these bytes in files of zeros.
-pub(crate) fn has(
-    alloc: Global,
+pub(crate) fn has<R: Abort + AllocGlobal>(
+    rt: &R,
     disk: MemDisk<Global>,
     bytes: &[FileByte],
     calls: u64,
-) -> Result<bool, Fail> {
-    Ok(opened(alloc, disk)? == files(bytes, calls)?)
+) -> bool {
+    opened(rt, disk) == files(rt, bytes, calls)
 }
 
 /// Whether it does after a crash that leaves this byte wherever nothing was synced.
-pub(crate) fn opens_as(
-    alloc: Global,
+pub(crate) fn opens_as<R: Abort + AllocGlobal>(
+    rt: &R,
     disk: Disk,
     left: u8,
     bytes: &[FileByte],
     calls: u64,
-) -> Result<bool, Fail> {
+) -> bool {
     let mut disk = disk.into_inner();
-    let choice = vec![in alloc; left; disk.bytes().len()]?;
-    crash(&mut disk, &choice)?;
-    has(alloc, disk, bytes, calls)
+    crash_to(rt, &mut disk, left);
+    has(rt, disk, bytes, calls)
 }
