@@ -1,7 +1,6 @@
 // Worked runs through the program, on files of their own: what it prints, and the dump of the volume then.
 use crate::tests::{TWO, is_answered};
-use std::io;
-use std::test::Fail;
+use std::alloc::AllocError;
 
 // Steps are written one a line, each as in a script, with its reply as it is printed after a colon.
 
@@ -43,64 +42,65 @@ const ZEROS: &str = "a 5000\nb 4096\n";
 const WITH_65: &str =
     "a 5000\n000000000000 41 00 00 00 00 00 00 00 00 00 00 00 00 00 00 00\nb 4096\n";
 
-// Adds the steps of these lines, and the replies that are printed for them.
-fn push_lines(steps: &mut String, replies: &mut String, lines: &str) -> io::Result<()> {
-    for line in lines.lines() {
-        let Some((step, reply)) = line.trim_start().split_once(": ") else {
-            return Err(io::Error::from(io::ErrorKind::InvalidInput));
-        };
-        if !steps.is_empty() {
-            steps.push_str(",")?;
+// The steps of lines, and the replies that are printed for them.
+#[derive(Drop)]
+struct Lines {
+    steps: String,
+    replies: String,
+}
+
+impl Lines {
+    // Adds those of these lines, and tells whether each has both.
+    fn push(&mut self, lines: &str) -> Result<bool, AllocError> {
+        for line in lines.lines() {
+            let Some((step, reply)) = line.trim_start().split_once(": ") else {
+                return Ok(false);
+            };
+            if !self.steps.is_empty() {
+                self.steps.push_str(",")?;
+            }
+            self.steps.push_str(step)?;
+            self.replies.push_str(reply)?;
+            self.replies.push_str("\n")?;
         }
-        steps.push_str(step)?;
-        replies.push_str(reply)?;
-        replies.push_str("\n")?;
+        Ok(true)
     }
-    Ok(())
 }
 
 // Whether these steps on a fresh volume are answered so, and the volume then has this dump.
-fn leaves(
-    rt: &HostRuntime,
-    name: &str,
-    shape: &str,
-    parts: &[&str],
-    dump: &str,
-) -> io::Result<bool> {
-    let mut steps = String::new(rt.alloc());
-    let mut replies = String::new(rt.alloc());
-    for part in parts {
-        push_lines(&mut steps, &mut replies, part)?;
-    }
-    is_answered(rt, name, shape, steps.as_str(), replies.as_str(), dump)
+fn leaves(rt: &HostRuntime, name: &str, shape: &str, parts: &[&str], dump: &str) -> bool {
+    let mut lines = Lines {
+        steps: String::new(rt.alloc()),
+        replies: String::new(rt.alloc()),
+    };
+    let are_lines = parts.iter().all(|part| lines.push(part) == Ok(true));
+    let (steps, replies) = ([lines.steps.as_str()], [lines.replies.as_str()]);
+    are_lines && is_answered(rt, name, shape, &steps, &replies, dump)
 }
 
 // Nothing was stored: the mark is durable at once.
 #[test]
-fn a_commit_of_nothing(rt: HostRuntime) -> Result<(), Fail> {
+fn a_commit_of_nothing(rt: HostRuntime) {
     let parts = [START, MARK, NOTHING];
-    assert!(rt; leaves(&rt, "nothing", TWO, &parts, ZEROS)?);
-    Ok(())
+    assert!(rt; leaves(&rt, "nothing", TWO, &parts, ZEROS));
 }
 
 #[test]
-fn a_store_that_the_other_processor_loads(rt: HostRuntime) -> Result<(), Fail> {
+fn a_store_that_the_other_processor_loads(rt: HostRuntime) {
     let parts = [START, STORE_A];
-    assert!(rt; leaves(&rt, "loads", TWO, &parts, ZEROS)?);
-    Ok(())
+    assert!(rt; leaves(&rt, "loads", TWO, &parts, ZEROS));
 }
 
 // A write-out of one page takes 9 steps.
 #[test]
-fn a_write_out_of_a_page(rt: HostRuntime) -> Result<(), Fail> {
+fn a_write_out_of_a_page(rt: HostRuntime) {
     let parts = [START, STORE_A, MARK, WRITTEN, COMMITTED, DONE, NOTHING];
-    assert!(rt; leaves(&rt, "write_out", TWO, &parts, WITH_65)?);
-    Ok(())
+    assert!(rt; leaves(&rt, "write_out", TWO, &parts, WITH_65));
 }
 
 // So it does where a page of another file was read in before.
 #[test]
-fn a_write_out_beside_a_clean_page(rt: HostRuntime) -> Result<(), Fail> {
+fn a_write_out_beside_a_clean_page(rt: HostRuntime) {
     let parts = [
         START,
         STORE_A,
@@ -111,8 +111,7 @@ fn a_write_out_beside_a_clean_page(rt: HostRuntime) -> Result<(), Fail> {
         DONE,
         NOTHING,
     ];
-    assert!(rt; leaves(&rt, "clean", TWO, &parts, WITH_65)?);
-    Ok(())
+    assert!(rt; leaves(&rt, "clean", TWO, &parts, WITH_65));
 }
 
 const LAST_BYTE: &str = r#"[0,"store",9095,[7]]: fault 6
@@ -133,10 +132,9 @@ const LAST: &str = "a 5000\n000000001380 00 00 00 00 00 00 00 07\nb 4096\n";
 
 // A byte past the file's end isn't written out, and its page stays in memory for it.
 #[test]
-fn bytes_past_the_end_are_memory_alone(rt: HostRuntime) -> Result<(), Fail> {
+fn bytes_past_the_end_are_memory_alone(rt: HostRuntime) {
     let parts = [START, LAST_BYTE, MARK, WRITTEN, COMMITTED, DONE, KEPT];
-    assert!(rt; leaves(&rt, "past_the_end", TWO, &parts, LAST)?);
-    Ok(())
+    assert!(rt; leaves(&rt, "past_the_end", TWO, &parts, LAST));
 }
 
 const NO_COPIES: &str = r#""cpus":2,"tlb":8,"frames":4,"copies":0"#;
@@ -165,10 +163,9 @@ const B_WITH_1: &str =
 
 // Without copy frames a store to a frozen page waits until the page's record is written.
 #[test]
-fn a_frozen_page_is_held_without_copy_frames(rt: HostRuntime) -> Result<(), Fail> {
+fn a_frozen_page_is_held_without_copy_frames(rt: HostRuntime) {
     let parts = [START, ALIAS, MARK, ALIAS_HELD, GOING_3, COMMITTED];
-    assert!(rt; leaves(&rt, "held", NO_COPIES, &parts, B_WITH_1)?);
-    Ok(())
+    assert!(rt; leaves(&rt, "held", NO_COPIES, &parts, B_WITH_1));
 }
 
 const FILLED: &str = r#"[0,"msync",4096,4096,4]: begun
@@ -181,10 +178,9 @@ const FILLED: &str = r#"[0,"msync",4096,4096,4]: begun
 
 // What a stalled processor caches before the mark is dropped before it goes on.
 #[test]
-fn a_stalled_processor_caches_in_vain(rt: HostRuntime) -> Result<(), Fail> {
+fn a_stalled_processor_caches_in_vain(rt: HostRuntime) {
     let parts = [START, STORE_A, FILLED];
-    assert!(rt; leaves(&rt, "in_vain", TWO, &parts, ZEROS)?);
-    Ok(())
+    assert!(rt; leaves(&rt, "in_vain", TWO, &parts, ZEROS));
 }
 
 const UNMAPPED: &str = r#"[1,"switch",0,"keep"]: switched
@@ -200,10 +196,9 @@ const UNMAPPED: &str = r#"[1,"switch",0,"keep"]: switched
 
 // A processor that was in another space drops what an unmap made stale; and the page stays dirty.
 #[test]
-fn an_unmapped_page_is_committed(rt: HostRuntime) -> Result<(), Fail> {
+fn an_unmapped_page_is_committed(rt: HostRuntime) {
     let parts = [START, STORE_A, UNMAPPED, WRITTEN, COMMITTED];
-    assert!(rt; leaves(&rt, "unmapped", TWO, &parts, WITH_65)?);
-    Ok(())
+    assert!(rt; leaves(&rt, "unmapped", TWO, &parts, WITH_65));
 }
 
 const REFUSED: &str = r#"[0,"map",1,65536,0,0,0,"rw","rw"]: einval
@@ -230,10 +225,9 @@ const LIMITS: &str = r#"[0,"load",4095,2]: einval
 
 // Calls that are refused, each for its cause, and accesses at their limits.
 #[test]
-fn calls_are_refused_for_their_causes(rt: HostRuntime) -> Result<(), Fail> {
+fn calls_are_refused_for_their_causes(rt: HostRuntime) {
     let parts = [START, REFUSED, LIMITS];
-    assert!(rt; leaves(&rt, "refused", TWO, &parts, ZEROS)?);
-    Ok(())
+    assert!(rt; leaves(&rt, "refused", TWO, &parts, ZEROS));
 }
 
 const ONE_FRAME: &str = r#""cpus":2,"tlb":8,"frames":1,"copies":2"#;
@@ -261,12 +255,11 @@ const RECLAIMED: &str = r#"[0,"reclaim",0,0]: begun
 
 // With one frame another page comes in where the one before has left.
 #[test]
-fn a_committed_page_leaves_memory(rt: HostRuntime) -> Result<(), Fail> {
+fn a_committed_page_leaves_memory(rt: HostRuntime) {
     let parts = [
         START, STORE_A, NO_FRAME, MARK, WRITTEN, COMMITTED, DONE, RECLAIMED,
     ];
-    assert!(rt; leaves(&rt, "one_frame", ONE_FRAME, &parts, WITH_65)?);
-    Ok(())
+    assert!(rt; leaves(&rt, "one_frame", ONE_FRAME, &parts, WITH_65));
 }
 
 const STORED_MEANWHILE: &str = r#"[1,"fix",4096,"write"]: fixed
@@ -279,7 +272,7 @@ const STORED_MEANWHILE: &str = r#"[1,"fix",4096,"write"]: fixed
 
 // Whether a page may leave is decided where all have stalled.
 #[test]
-fn a_page_that_is_stored_to_meanwhile_is_kept(rt: HostRuntime) -> Result<(), Fail> {
+fn a_page_that_is_stored_to_meanwhile_is_kept(rt: HostRuntime) {
     let parts = [
         START,
         STORE_A,
@@ -289,8 +282,7 @@ fn a_page_that_is_stored_to_meanwhile_is_kept(rt: HostRuntime) -> Result<(), Fai
         DONE,
         STORED_MEANWHILE,
     ];
-    assert!(rt; leaves(&rt, "kept", TWO, &parts, WITH_65)?);
-    Ok(())
+    assert!(rt; leaves(&rt, "kept", TWO, &parts, WITH_65));
 }
 
 const ONE_ENTRY: &str = r#""cpus":2,"tlb":1,"frames":4,"copies":2"#;
@@ -303,10 +295,9 @@ const EVICTED: &str = r#"[0,"load",16384,1]: fault 4
 
 // In a TLB of one entry each access takes the place of the one before.
 #[test]
-fn a_tlb_of_one_entry(rt: HostRuntime) -> Result<(), Fail> {
+fn a_tlb_of_one_entry(rt: HostRuntime) {
     let parts = [START, STORE_A, EVICTED];
-    assert!(rt; leaves(&rt, "one_entry", ONE_ENTRY, &parts, ZEROS)?);
-    Ok(())
+    assert!(rt; leaves(&rt, "one_entry", ONE_ENTRY, &parts, ZEROS));
 }
 
 const OTHER_FILE: &str = r#"[0,"unmap",1,8192,4096]: begun
@@ -350,7 +341,7 @@ const TWO_PAGES: &str = r#"[0,"map",1,65536,8192,0,0,"rw","rw"]: mapped
 
 // A page is unmapped out of the middle and mapped to another file; rights are taken away and given back.
 #[test]
-fn rights_come_and_go(rt: HostRuntime) -> Result<(), Fail> {
+fn rights_come_and_go(rt: HostRuntime) {
     let parts = [
         START,
         OTHER_FILE,
@@ -363,8 +354,7 @@ fn rights_come_and_go(rt: HostRuntime) -> Result<(), Fail> {
         r#"[0,"store",4096,[2]]: fault 7"#,
         TWO_PAGES,
     ];
-    assert!(rt; leaves(&rt, "rights", TWO, &parts, ZEROS)?);
-    Ok(())
+    assert!(rt; leaves(&rt, "rights", TWO, &parts, ZEROS));
 }
 
 const PCID_AGAIN: &str = r#"[0,"create"]: space 2
@@ -384,10 +374,9 @@ const PCID_AGAIN: &str = r#"[0,"create"]: space 2
 
 // Nothing is left of a space that was destroyed where its PCID is given out again.
 #[test]
-fn a_pcid_is_given_out_again(rt: HostRuntime) -> Result<(), Fail> {
+fn a_pcid_is_given_out_again(rt: HostRuntime) {
     let parts = [START, PCID_AGAIN, r#"[1,"load",4096,1]: bytes 0"#];
-    assert!(rt; leaves(&rt, "pcid", TWO, &parts, ZEROS)?);
-    Ok(())
+    assert!(rt; leaves(&rt, "pcid", TWO, &parts, ZEROS));
 }
 
 const AWAY: &str = r#"[1,"load",16384,1]: fault 4
@@ -405,7 +394,7 @@ const NINTH: &str = r#"[0,"map",1,1048576,4096,0,0,"r","r"]: mapped
 
 // A processor that is in another space has room for 8 invalidations of one page, and then drops these pages alone.
 #[test]
-fn eight_invalidations_leave_another_page_cached(rt: HostRuntime) -> Result<(), Fail> {
+fn eight_invalidations_leave_another_page_cached(rt: HostRuntime) {
     let parts = [
         START,
         AWAY,
@@ -414,13 +403,12 @@ fn eight_invalidations_leave_another_page_cached(rt: HostRuntime) -> Result<(), 
         r#"[1,"switch",1,"keep"]: switched"#,
         r#"[1,"evict",0]: evicted"#,
     ];
-    assert!(rt; leaves(&rt, "eight", TWO, &parts, ZEROS)?);
-    Ok(())
+    assert!(rt; leaves(&rt, "eight", TWO, &parts, ZEROS));
 }
 
 // The ninth makes it drop all.
 #[test]
-fn nine_invalidations_drop_all(rt: HostRuntime) -> Result<(), Fail> {
+fn nine_invalidations_drop_all(rt: HostRuntime) {
     let parts = [
         START,
         AWAY,
@@ -430,6 +418,5 @@ fn nine_invalidations_drop_all(rt: HostRuntime) -> Result<(), Fail> {
         r#"[1,"switch",1,"keep"]: switched"#,
         r#"[1,"evict",0]: nothing"#,
     ];
-    assert!(rt; leaves(&rt, "nine", TWO, &parts, ZEROS)?);
-    Ok(())
+    assert!(rt; leaves(&rt, "nine", TWO, &parts, ZEROS));
 }
