@@ -1,5 +1,5 @@
 -- What a crash leaves over several calls.
-use Rattle.std.proofs.Common.{◌≤◌, ℕ, List, inl, inr, ⊎_elim, arith}
+use Rattle.std.proofs.Common.{ℕ, List, inl, inr, ⊎_elim, arith}
 use Rattle.device.specs.Device.{LeavesOnly}
 
 -- Before any call there is what may be left now. `since_now` is the device's law for old, followed by what is known of it.

@@ -14,3 +14,7 @@ on_ok (Err e) none p = cc
 pub either : {T E P Q : Type 0} (result : Result T E) → OnOk result P → OnErr result Q → P ⊎ Q
 either (Ok x) p q = inl p
 either (Err e) p q = inr q
+
+pub ok_map : {T E P Q : Type 0} (result : Result T E) → (P → Q) → OnOk result P → OnOk result Q
+ok_map (Ok x) f p = f p
+ok_map (Err e) f p = tt

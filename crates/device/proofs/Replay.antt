@@ -11,7 +11,7 @@ use Rattle.device.specs.inside.Laws.{since_now_of}
 use Rattle.device.specs.inside.Replay.{since_sync, with_choice, AreWithin, IsReplay}
 use Rattle.device.specs.Memory.Change.{write, sync}
 use Rattle.device.specs.inside.Logged.{change_of, changes_of}
-use Rattle.device.specs.declared.memory.Logged.{Logged}
+use Rattle.device.specs.declared.log.Logged.{Logged}
 use Rattle.device.proofs.Outcomes.{either}
 use Rattle.device.proofs.Ranges.{length-written, written_before, written_within, written_after, torn_from_none, torn_before, torn_after, restored, length-restored, torn_restored, restored_before, restored_within, restored_after}
 
@@ -271,7 +271,7 @@ with_choice_at (write at bytes ∷ older) choice content i same within =
     (cases_lt i (at + length bytes)))
     (cases_lt i at)
 
-within_older : (n : ℕ) (newer older : List Change) → AreWithin n (newer ++ older) → AreWithin n older
+pub within_older : (n : ℕ) (newer older : List Change) → AreWithin n (newer ++ older) → AreWithin n older
 within_older n [] older within = within
 within_older n (write at bytes ∷ newer) older within = within_older n newer older within.1
 within_older n (sync ∷ newer) older within = within_older n newer older within

@@ -1,5 +1,5 @@
--- A disk over a file, as far as contracts can see it: which calls of the file it makes, and not what the file holds.
-use Rattle.std.specs.Prelude.{⊤, ◌≡◌, ℕ, Bool, if◌then◌else◌, List, [], ◌∷◌, ◌++◌, replicate, Option, Some, None}
+-- A disk over a file: which calls of the file it makes, and what it gives of the file's bytes.
+use Rattle.std.specs.Prelude.{⊤, ◌≡◌, ℕ, Bool, if◌then◌else◌, List, [], ◌∷◌, ◌++◌, length, take, replicate, Option, Some, None}
 use Rattle.device.specs.Count.{raised}
 
 -- a call of a file: the offset and what the buffer then holds, or the offset and the bytes; and whether it succeeded
@@ -33,13 +33,17 @@ after_call disk file done = record disk {
   faults = if done then disk.faults else raised disk.faults;
 }
 
--- a list of the right length, and no more
-abbrev pub stand_in : {F : Type 0} → Opened F → List ℕ
-stand_in disk = replicate disk.size 0
+-- the bytes of a file as a disk of n bytes gives them: the first n, with zeros where the file has fewer
+unfoldable pub fitted : ℕ → List ℕ → List ℕ
+fitted n bytes = take n (bytes ++ replicate n 0)
+
+-- a disk over an honest file that is as long as the disk
+abbrev pub IsOverHonest : {F : Type 0} → (F → Type 0) → (F → List ℕ) → Opened F → Type 0
+IsOverHonest is_honest seen disk = is_honest disk.file × (length (seen disk.file) ≡ disk.size)
 
 -- nothing is known of what a crash leaves
-abbrev pub any_list : {F : Type 0} → Opened F → List ℕ → Type 0
-any_list disk c = ⊤
+abbrev pub any_list : {F : Type 0} → F → List ℕ → Type 0
+any_list file c = ⊤
 
-abbrev pub any_time : {F : Type 0} → Opened F → ℕ → List ℕ → Type 0
-any_time disk t c = ⊤
+abbrev pub any_time : {F : Type 0} → F → ℕ → List ℕ → Type 0
+any_time file t c = ⊤

@@ -3,4 +3,5 @@ pub mod Device
 pub mod Failing
 pub mod File
 pub mod Memory
+pub mod Overlay
 pub mod inside

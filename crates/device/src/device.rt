@@ -35,13 +35,13 @@ pub trait Device {
     fn len(&self) -> u64
         ensures { result ≡ length (seen self.now) };
 
-    /// Reads as many bytes as the buffer has, from an offset on.
+    /// Reads as many bytes as the buffer has, from an offset on. It changes nothing that a read gives.
     fn read(&mut self, at: u64, buffer: &mut [u8]) -> Result<(), DeviceFault>
         requires { at + length buffer.old ≤ length (seen self.old) }
 
         ensures bytes { is_honest self.old
             → OnOk result (buffer.new ≡ slice_range (seen self.old) at (at + length buffer.old)) }
-        ensures same { is_honest self.old → seen self.new ≡ seen self.old }
+        ensures same { seen self.new ≡ seen self.old }
         ensures keeps { is_honest self.old → (c : List ℕ) → may_leave self.old c → may_leave self.new c }
         ensures left { (c : List ℕ) → may_leave self.new c → may_leave self.old c }
         ensures time { LeavesOnly moment left_since self.old self.new (may_leave self.old) }

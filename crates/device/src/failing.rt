@@ -111,7 +111,7 @@ impl<D: Device> Device for FailingDisk<D> {
 
         ensures bytes { D.is_honest self.old.inner
             → OnOk result (buffer.new ≡ slice_range (D.seen self.old.inner) at (at + length buffer.old)) }
-        ensures same { D.is_honest self.old.inner → D.seen self.new.inner ≡ D.seen self.old.inner }
+        ensures same { D.seen self.new.inner ≡ D.seen self.old.inner }
         ensures keeps { D.is_honest self.old.inner
             → (c : List ℕ) → D.may_leave self.old.inner c → D.may_leave self.new.inner c }
         ensures left { (c : List ℕ) → D.may_leave self.new.inner c → D.may_leave self.old.inner c }

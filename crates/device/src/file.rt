@@ -1,21 +1,20 @@
 // A disk over a file.
-ghost use Rattle.std.specs.Prelude.{◌≡◌, ◌+◌, ◌≤◌, length, IfOk, is_ok};
-ghost use Rattle.device.specs.File.{IsCalledOnce, opened, after_call};
+ghost use Rattle.std.specs.Prelude.{◌≡◌, ◌↔◌, ℕ, ◌+◌, ◌≤◌, true, List, length, slice_range, IfOk, OnOk, IsErr, is_ok};
+ghost use Rattle.device.specs.Device.{written, Torn, TornFrom, Only, LeavesOnly};
+ghost use Rattle.device.specs.File.{IsCalledOnce, IsOverHonest, opened, after_call};
 ghost use Rattle.device.specs.File.FileCall.{read, write, sync};
 
 use crate::count::raise;
 use crate::{BlockFile, Device, DeviceFault};
-use std::fs::{File, OpenOptions};
 use std::io;
 use std::marker::Model;
-use std::rt::Files;
 
-/// A disk over a file: each of its calls makes one call of the file, with the same arguments, and tells its error as a
-/// [`DeviceFault`]. The file keeps the length that it had when it was opened, as long as nobody else changes it.
+/// A disk over a file: each of its calls makes one call of the file, with the same arguments, and passes its error on
+/// as a [`DeviceFault`]. It is as honest as its file, which has to keep the length that it had when the disk was made.
 ///
-/// No contract can say what a file gives, or what it keeps. So `is_honest` of this disk claims nothing and is never
-/// proved. What is proved of devices is proved of every honest [`Device`]; the step from there to a real file, that the
-/// file, the system and the disk under it keep the rules of `Device`, is an argument outside the logic.
+/// No contract can say what a real file gives, or what it keeps, so a real file isn't known to be honest. What is proved
+/// of devices is proved of every honest [`Device`], and so of this disk over every honest file; the step from there to
+/// a real file, that the system and the disk under it keep the rules of [`BlockFile`], is an argument outside the logic.
 #[derive(Drop)]
 pub struct FileDisk<F: BlockFile> {
     file: F,
@@ -40,42 +39,31 @@ impl<F: BlockFile> Model for FileDisk<F> {
     } };
 }
 
-impl FileDisk<File> {
-    /// Makes a file of zeros of this length in bytes. A file that is there already is replaced, and no byte of it
-    /// stays.
-    pub fn create<R: Files<File = File>>(rt: &R, path: &str, len: u64) -> io::Result<FileDisk<File>>
-        ensures { IfOk result (λ disk. disk ≡ opened disk.file len) }
-    {
-        let file = OpenOptions::new()
-            .read(true)
-            .write(true)
-            .create(true)
-            .truncate(true)
-            .open(rt, path)?;
-        file.set_len(len)?;
-        Ok(FileDisk::over(file, len))
-    }
-
-    /// Opens a file for reading and writing. Its length is the disk's.
-    pub fn open<R: Files<File = File>>(rt: &R, path: &str) -> io::Result<FileDisk<File>>
-        ensures { IfOk result (λ disk. disk ≡ opened disk.file disk.size) }
-    {
-        let file = OpenOptions::new().read(true).write(true).open(rt, path)?;
-        let size = file.metadata()?.len();
-        Ok(FileDisk::over(file, size))
-    }
-}
-
 impl<F: BlockFile> FileDisk<F> {
-    /// A disk over a file that is open for reading and writing, of this length in bytes.
-    pub fn over(file: F, len: u64) -> FileDisk<F>
-        ensures { result ≡ opened file len }
+    /// A disk over a file that is open for reading, and for writing where the disk is to be written. The file is synced
+    /// once, so that what an earlier user of it left in the system's memory is on the disk, or an error says that it
+    /// isn't; this is no call of the disk's. With an error the file is handed back.
+    pub fn over(mut file: F) -> Result<FileDisk<F>, (io::Error, F)>
+        ensures fresh { IfOk result (λ disk. disk ≡ opened disk.file disk.size) }
+        ensures synced { IfOk result (λ disk. IsCalledOnce (F.calls_made file) (F.calls_made disk.file) (sync true)) }
+
+        // Over an honest file.
+        ensures honest { F.is_honest file → IfOk result (IsOverHonest F.is_honest F.seen) }
+        ensures same { F.is_honest file → IfOk result (λ disk. F.seen disk.file ≡ F.seen file) }
+        ensures durable { F.is_honest file → IfOk result (λ disk. Only (F.may_leave disk.file) (F.seen file)) }
     {
-        FileDisk {
-            file,
-            len,
-            calls: 0,
-            faults: 0,
+        let len = match file.size() {
+            Ok(len) => len,
+            Err(fault) => return Err((fault, file)),
+        };
+        match file.sync_all() {
+            Ok(()) => Ok(FileDisk {
+                file,
+                len,
+                calls: 0,
+                faults: 0,
+            }),
+            Err(fault) => Err((fault, file)),
         }
     }
 
@@ -104,49 +92,71 @@ impl<F: BlockFile> FileDisk<F> {
 }
 
 impl<F: BlockFile> Device for FileDisk<F> {
-    ghost use Rattle.device.specs.File.{stand_in, any_list, any_time};
+    ghost use Rattle.std.specs.Prelude.{◌≡◌, length};
+    ghost use Rattle.device.specs.File.{fitted, IsOverHonest};
+    ghost use Rattle.device.specs.inside.Fitted.{fitted_is_left, fitted_is_whole};
 
-    ghost seen = { stand_in };
+    ghost seen = { λ disk. fitted disk.size (F.seen disk.file) };
 
-    ghost may_leave = { any_list };
+    ghost may_leave = { λ disk. F.may_leave disk.file };
 
-    ghost moment = { λ disk. 0 };
+    ghost moment = { λ disk. F.moment disk.file };
 
-    ghost left_since = { any_time };
+    ghost left_since = { λ disk. F.left_since disk.file };
 
     ghost calls_made = { λ disk. disk.calls };
 
     ghost faults_met = { λ disk. disk.faults };
 
-    ghost is_honest = { λ disk. ⊥ };
+    ghost is_honest = { IsOverHonest F.is_honest F.seen };
 
-    ghost seen_is_left = { λ disk honest. tt };
+    ghost seen_is_left = { λ disk honest. fitted_is_left (F.may_leave disk.file) disk.size (F.seen disk.file) honest.1 (F.seen_is_left disk.file honest.0) };
 
-    ghost left_is_whole = { λ disk c honest left. absurd honest };
+    ghost left_is_whole = { λ disk c honest left. fitted_is_whole disk.size (F.seen disk.file) c honest.1 (F.left_is_whole disk.file c honest.0 left) };
 
-    ghost now_is_since = { λ disk t c le left. tt };
+    ghost now_is_since = { λ disk. F.now_is_since disk.file };
 
-    ghost since_now = { λ disk c left. tt };
+    ghost since_now = { λ disk. F.since_now disk.file };
 
     fn len(&self) -> u64 {
         self.len
     }
 
     fn read(&mut self, at: u64, buffer: &mut [u8]) -> Result<(), DeviceFault>
-        requires { at + length buffer.old ≤ self.old.size }
         ensures asked { IsCalledOnce (F.calls_made self.old.file) (F.calls_made self.new.file)
             (read at buffer.new (is_ok result)) }
         ensures counted { self.new ≡ after_call self.old self.new.file (is_ok result) }
+
+        // What the file says of its call.
+        ensures bytes { F.is_honest self.old.file
+            → OnOk result (buffer.new ≡ slice_range (F.seen self.old.file) at (at + length buffer.old)) }
+        ensures same { F.seen self.new.file ≡ F.seen self.old.file }
+        ensures keeps { F.is_honest self.old.file
+            → (c : List ℕ) → F.may_leave self.old.file c → F.may_leave self.new.file c }
+        ensures left { (c : List ℕ) → F.may_leave self.new.file c → F.may_leave self.old.file c }
+        ensures time { LeavesOnly F.moment F.left_since self.old.file self.new.file (F.may_leave self.old.file) }
+        ensures honest { F.is_honest self.new.file ↔ F.is_honest self.old.file }
     {
         let outcome = self.file.read_exact_at(buffer, at);
         self.count(outcome)
     }
 
     fn write(&mut self, at: u64, bytes: &[u8]) -> Result<(), DeviceFault>
-        requires { at + length bytes.now ≤ self.old.size }
         ensures asked { IsCalledOnce (F.calls_made self.old.file) (F.calls_made self.new.file)
             (write at bytes.now (is_ok result)) }
         ensures counted { self.new ≡ after_call self.old self.new.file (is_ok result) }
+
+        // What the file says of its call.
+        ensures written { F.is_honest self.old.file
+            → OnOk result (F.seen self.new.file ≡ written (F.seen self.old.file) at bytes.now) }
+        ensures torn { IsErr result → F.is_honest self.old.file
+            → Torn at (length bytes.now) (F.seen self.old.file) (F.seen self.new.file) }
+        ensures left { (c : List ℕ)
+            → F.may_leave self.new.file c → TornFrom at (length bytes.now) (F.may_leave self.old.file) c }
+        ensures time { LeavesOnly F.moment F.left_since self.old.file self.new.file
+            (TornFrom at (length bytes.now) (F.may_leave self.old.file)) }
+        ensures honest { F.is_honest self.new.file ↔ F.is_honest self.old.file }
+        ensures len { F.is_honest self.old.file → length (F.seen self.new.file) ≡ length (F.seen self.old.file) }
     {
         let outcome = self.file.write_all_at(bytes, at);
         self.count(outcome)
@@ -156,6 +166,14 @@ impl<F: BlockFile> Device for FileDisk<F> {
         ensures asked { IsCalledOnce (F.calls_made self.old.file) (F.calls_made self.new.file)
             (sync (is_ok result)) }
         ensures counted { self.new ≡ after_call self.old self.new.file (is_ok result) }
+
+        // What the file says of its call.
+        ensures same { F.is_honest self.old.file → F.seen self.new.file ≡ F.seen self.old.file }
+        ensures durable { F.is_honest self.old.file
+            → OnOk result (Only (F.may_leave self.new.file) (F.seen self.old.file)) }
+        ensures left { (c : List ℕ) → F.may_leave self.new.file c → F.may_leave self.old.file c }
+        ensures time { LeavesOnly F.moment F.left_since self.old.file self.new.file (F.may_leave self.old.file) }
+        ensures honest { F.is_honest self.new.file ↔ F.is_honest self.old.file }
     {
         let outcome = self.file.sync_all();
         self.count(outcome)

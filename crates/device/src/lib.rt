@@ -9,7 +9,10 @@ mod device;
 mod failing;
 mod fault;
 mod file;
+mod log;
 mod memory;
+mod memory_file;
+mod overlay;
 
 pub use block_file::BlockFile;
 pub use device::Device;
@@ -17,3 +20,4 @@ pub use failing::FailingDisk;
 pub use fault::DeviceFault;
 pub use file::FileDisk;
 pub use memory::MemDisk;
+pub use overlay::OverlayDisk;

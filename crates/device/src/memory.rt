@@ -8,16 +8,10 @@ ghost use Rattle.device.specs.inside.Logged.{change_of, changes_of};
 ghost use Rattle.device.specs.inside.Replay.{since_sync, with_choice, AreWithin};
 
 use crate::count::raise;
+use crate::log::{Logged, log_sync, log_write, put};
 use crate::{Device, DeviceFault};
 use std::alloc::{AllocError, Allocator};
 use std::marker::Model;
-
-// A write or a sync that was done.
-#[derive(Drop)]
-enum Logged<A: Allocator + Copy> {
-    Write(u64, Vec<u8, A>),
-    Sync,
-}
 
 /// A disk in memory. It is honest, and it records its writes and syncs, so that each content that a crash might have
 /// left since any moment is known. A write or a sync whose record is refused memory fails; no other call of it fails.
@@ -229,34 +223,6 @@ impl<A: Allocator + Copy> Device for MemDisk<A> {
     fn faults(&self) -> u64 {
         self.faults
     }
-}
-
-fn log_write<A: Allocator + Copy>(
-    alloc: A,
-    log: &mut Vec<Logged<A>, A>,
-    at: u64,
-    bytes: &[u8],
-) -> Result<(), AllocError>
-    ensures ok { OnOk result (changes_of log.new.items ≡ write at bytes.now ∷ changes_of log.old.items) }
-    ensures err { OnErr result (log.new.items ≡ log.old.items) }
-{
-    log.push(Logged::Write(at, Vec::from_slice(alloc, bytes)?))?;
-    Ok(())
-}
-
-fn log_sync<A: Allocator + Copy>(log: &mut Vec<Logged<A>, A>) -> Result<(), AllocError>
-    ensures ok { OnOk result (changes_of log.new.items ≡ sync ∷ changes_of log.old.items) }
-    ensures err { OnErr result (log.new.items ≡ log.old.items) }
-{
-    log.push(Logged::Sync)?;
-    Ok(())
-}
-
-fn put(content: &mut [u8], at: usize, bytes: &[u8])
-    requires { at + length bytes.now ≤ length content.old }
-    ensures { content.new ≡ written content.old at bytes.now }
-{
-    content[at..at + bytes.len()].copy_from_slice(bytes);
 }
 
 // Puts the bytes that are chosen in the places that were written since the last sync.

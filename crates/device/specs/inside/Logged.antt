@@ -2,8 +2,8 @@
 use Rattle.std.specs.Prelude.{List, [], ◌∷◌, ◌++◌}
 use Rattle.device.specs.Memory.{Change}
 use Rattle.device.specs.Memory.Change.{write, sync}
-use Rattle.device.specs.declared.memory.Logged.{Logged}
-use Rattle.device.specs.declared.memory.Logged.TheVariants.{Write, Sync}
+use Rattle.device.specs.declared.log.Logged.{Logged}
+use Rattle.device.specs.declared.log.Logged.TheVariants.{Write, Sync}
 
 abbrev pub change_of : {A : Type 0} → Logged A → Change
 change_of (Write at bytes) = write at bytes.items

@@ -1,6 +1,6 @@
 use Rattle.std.proofs.Common.{◌≡◌, ◌-◌, ℕ, List, length, take, drop, sym, ◌∙◌, ap, subst, arith}
 use Rattle.std.proofs.lemmas.Slice.{between_to_end}
-use Rattle.device.specs.declared.memory.Logged.{Logged}
+use Rattle.device.specs.declared.log.Logged.{Logged}
 use Rattle.device.specs.inside.Logged.{changes_of}
 use Rattle.device.specs.inside.Replay.{with_choice, AreWithin}
 use Rattle.device.proofs.Replay.{AreWithin-drop, with_choice-chosen}

@@ -2,7 +2,7 @@ use Rattle.std.proofs.Common.{◌≡◌, ◌-◌, ◌+◌, ◌^◌, ℕ, List, [
 use Rattle.std.proofs.lemmas.List.{with_items_is}
 use Rattle.device.specs.Device.{Only}
 use Rattle.device.specs.Memory.{Recorded, seen_of, may_leave_of, is_unsynced, chosen_from, after_stop}
-use Rattle.device.specs.declared.memory.Logged.{Logged}
+use Rattle.device.specs.declared.log.Logged.{Logged}
 use Rattle.device.specs.inside.Logged.{changes_of}
 use Rattle.device.specs.inside.Replay.{since_sync}
 use Rattle.device.proofs.Replay.{length-changes_of, length-chosen_from, chosen_is_left, left_is_chosen, only_first, stopped_of}

@@ -2,7 +2,7 @@ use Rattle.std.proofs.Common.{List, ℕ, ◌∷◌, ◌∙◌, ap}
 use Rattle.device.specs.inside.Logged.{changes_of}
 use Rattle.device.specs.Memory.Change.{write}
 use Rattle.device.proofs.Replay.{changes_of-push}
-use Rattle.device.proofs.memory.log_write.Goals as goal
+use Rattle.device.proofs.log.log_write.Goals as goal
 
 pub returns-clause-ok : goal.returns-clause-ok
 returns-clause-ok g c =
