@@ -1,26 +1,7 @@
 //! `famsync`: makes volumes, runs scripts of a machine that maps their files, and prints the files.
 #![tactic(auto)]
 
-mod act;
-mod argument;
-mod cause;
-mod command;
-mod disk;
-mod dump;
-mod failure;
-mod perform;
-mod printer;
-mod run;
-#[cfg(test)]
-mod runs_on_files;
-mod script;
-mod session;
-mod step;
-#[cfg(test)]
-mod tests;
-mod words;
-
-use perform::perform;
+use console::perform;
 use std::io::{BufWriter, ErrorKind};
 use std::process::ExitCode;
 use std::{env, io};

@@ -1,0 +1,5 @@
+mod Cuts
+mod DumpRows
+mod Dumped
+mod Pages
+mod Printing

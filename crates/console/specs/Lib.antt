@@ -1,0 +1,5 @@
+pub mod Dump
+pub mod Failure
+pub mod Replies
+pub mod Words
+pub mod inside

@@ -1,0 +1,7 @@
+//! The program, on files of its own: what it prints, its statuses, and what it leaves in the files.
+#![tactic(auto)]
+
+#[cfg(test)]
+mod runs_on_files;
+#[cfg(test)]
+mod tests;

@@ -1,6 +1,0 @@
-mod AllOf
-mod DumpRows
-mod Names
-mod Cuts
-mod Printing
-mod Dumped

@@ -1,0 +1,2 @@
+mod AllOf
+mod Names

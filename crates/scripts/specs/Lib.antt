@@ -1,0 +1,4 @@
+pub mod Arguments
+pub mod Acts
+pub mod Script
+pub mod ScriptFault
