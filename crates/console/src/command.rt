@@ -144,6 +144,7 @@ fn trust_option<'a>(alloc: Global) -> Arg<'a> {
 fn run_command<'a>(alloc: Global) -> Result<Command<'a>, AllocError> {
     Command::new(alloc, "run")
         .about("Runs a script of steps on a volume, and prints a reply for each step")
+        .arg(trust_option(alloc))?
         .arg(word(alloc, "DISK", "The file that holds the volume"))?
         .arg(word(
             alloc,

@@ -5,6 +5,7 @@ ghost use Rattle.device.specs.Memory.{seen_of};
 use crate::sample::{crash, put};
 use device::{BlockFile, Device, DeviceFault, FailingDisk, FileDisk, MemDisk};
 use std::alloc::Global;
+use std::fs::{File, OpenOptions};
 use std::process::Abort;
 use std::{fs, io};
 
@@ -58,14 +59,37 @@ fn outcome(done: bool) -> io::Result<()>
 
 impl<R: Abort> BlockFile for CountedFile<'_, R> {
     ghost use Rattle.std.specs.Prelude.{Some, map};
+    ghost use Rattle.device.specs.File.{any_list, any_time};
     ghost use Rattle.device.specs.File.FileCall.{read, write, sync};
     ghost use Rattle.storage_tests.specs.declared.disks.Call.TheVariants.{Read, Write, Sync};
+
+    ghost seen = { λ file. [] };
+
+    ghost may_leave = { any_list };
+
+    ghost moment = { λ file. 0 };
+
+    ghost left_since = { any_time };
+
+    ghost is_honest = { λ file. ⊥ };
+
+    ghost seen_is_left = { λ file honest. tt };
+
+    ghost left_is_whole = { λ file c honest left. absurd honest };
+
+    ghost now_is_since = { λ file t c le left. tt };
+
+    ghost since_now = { λ file c left. tt };
 
     ghost calls_made = { λ file. Some (map (λ call. elim call [
       | Read at bytes done ↦ read at bytes.items done
       | Write at bytes done ↦ write at bytes.items done
       | Sync done ↦ sync done
     ]) file.calls.items) };
+
+    fn size(&self) -> io::Result<u64> {
+        Ok(8)
+    }
 
     fn read_exact_at(&mut self, buffer: &mut [u8], at: u64) -> io::Result<()> {
         let done = self.takes(at, buffer.len());
@@ -320,15 +344,12 @@ fn a_device_behind_a_reference_is_one(rt: HostRuntime) {
     assert!(rt; counts(&disk) == (8, 3, 0));
 }
 
-// Whether a sync of a disk that had no call fails, and is counted.
-fn first_sync_fails<D: Device>(disk: &mut D, len: u64) -> bool {
-    disk.sync().is_err() && counts(disk) == (len, 1, 1)
-}
-
-// Whether a file had the calls of such a write, sync and read, and a sync that failed.
+// Whether a file was synced as its disk was made, had the calls of such a write, sync and read, and was synced in vain
+// as another disk was to be made.
 fn are_the_calls(calls: &[Call]) -> bool {
     match calls {
         [
+            Call::Sync(true),
             Call::Write(2, written, true),
             Call::Sync(true),
             Call::Read(1, found, true),
@@ -350,13 +371,22 @@ fn each_call_of_a_disk_is_one_of_its_file(rt: HostRuntime) {
         calls: Vec::new(rt.alloc()),
         broken: false,
     };
-    let mut disk = FileDisk::over(file, 8);
-    assert!(rt; disk.len() == 8 && goes_well(&mut disk));
-    let mut file = disk.into_file();
+    match FileDisk::over(file) {
+        Ok(mut disk) => {
+            assert!(rt; counts(&disk) == (8, 0, 0) && goes_well(&mut disk));
+            assert!(rt; breaks(disk.into_file()));
+        }
+        Err(_) => assert!(rt; false, "the file is synced"),
+    }
+}
+
+// Whether a file that is broken from now on makes no disk, and is handed back with all its calls.
+fn breaks<R: Abort>(mut file: CountedFile<'_, R>) -> bool {
     file.broken = true;
-    let mut disk = FileDisk::over(file, 8);
-    assert!(rt; first_sync_fails(&mut disk, 8));
-    assert!(rt; are_the_calls(&disk.into_file().calls));
+    match FileDisk::over(file) {
+        Ok(_) => false,
+        Err((_, file)) => are_the_calls(&file.calls),
+    }
 }
 
 // Whether a disk has what such a write has left.
@@ -374,25 +404,49 @@ fn second_read_fails<D: Device>(disk: &mut D) -> bool
     read(disk, 0, &mut [1; 8]).is_err() && counts(disk) == (8, 2, 1)
 }
 
+// A disk over the file at a path.
+fn file_disk(rt: &HostRuntime, path: &str) -> Option<FileDisk<File>> {
+    let file = OpenOptions::new()
+        .read(true)
+        .write(true)
+        .open(rt, path)
+        .ok()?;
+    FileDisk::over(file).ok()
+}
+
+// Whether a disk over the file at a path goes well.
+fn goes_well_on_a_file(rt: &HostRuntime, path: &str) -> bool {
+    match file_disk(rt, path) {
+        Some(mut disk) => disk.len() == 8 && goes_well(&mut disk),
+        None => false,
+    }
+}
+
+// Whether a disk over the file at a path has what was written, and a read of it fails once another hand cuts the file.
+fn is_written_and_cut(rt: &HostRuntime, path: &str) -> bool {
+    match file_disk(rt, path) {
+        Some(mut disk) => {
+            disk.len() == 8
+                && is_written(&mut disk)
+                && fs::write(rt, path, "cut").is_ok()
+                && disk.len() == 8
+                && second_read_fails(&mut disk)
+        }
+        None => false,
+    }
+}
+
 #[test]
 fn a_file_keeps_what_was_written(rt: HostRuntime) {
     let path = "a_file_keeps_what_was_written";
-    assert!(rt; fs::write(&rt, path, "an older and longer content").is_ok());
-    let mut disk = FileDisk::create(&rt, path, 8).expect(&rt, "a new file");
-    assert!(rt; disk.len() == 8 && goes_well(&mut disk));
-    drop(disk);
-    let mut again = FileDisk::open(&rt, path).expect(&rt, "the file");
-    assert!(rt; again.len() == 8 && is_written(&mut again));
-    // Another hand cuts the file: a read past its end fails, and is counted.
-    assert!(rt; fs::write(&rt, path, "cut").is_ok());
-    assert!(rt; again.len() == 8 && second_read_fails(&mut again));
+    assert!(rt; fs::write(&rt, path, [0; 8]).is_ok());
+    assert!(rt; goes_well_on_a_file(&rt, path));
+    assert!(rt; is_written_and_cut(&rt, path));
     assert!(rt; fs::remove_file(&rt, path).is_ok());
-    assert!(rt; FileDisk::open(&rt, path).is_err());
 }
 
 // `/dev/null` can be opened, but not synced (POSIX.1-2024, `fsync`, the error EINVAL).
 #[test]
-fn a_sync_that_the_system_refuses_is_a_fault(rt: HostRuntime) {
-    let mut disk = FileDisk::open(&rt, "/dev/null").expect(&rt, "the file");
-    assert!(rt; first_sync_fails(&mut disk, 0));
+fn a_file_that_the_system_does_not_sync_makes_no_disk(rt: HostRuntime) {
+    assert!(rt; file_disk(&rt, "/dev/null").is_none());
 }
