@@ -42,15 +42,15 @@ blank_files table layout slots files bytes asked blank =
     let P : List TableFile → Type 0 = λ fs.
     (((i : ℕ) → first_file_home table.layout table.slots ≤ i → i < first_file_home table.layout table.slots + total_pages fs → block_at bytes i ≡ zeros 4096)
     → files_from (block_at bytes) (first_file_home table.layout table.slots) fs (map (λ (f : TableFile). f.capacity) fs) ≡ zero_files files) in
-    subst P (sym asked.files_are) (blank_from (block_at bytes) (first_file_home table.layout table.slots) files asked.lengths) (λ i low high. blank.homes i (file_block-home table i low high))
+    subst P (sym asked.files_are) (blank_from (block_at bytes) (first_file_home table.layout table.slots) files asked.lengths) (λ i low high. blank.rest.homes i (file_block-home table i low high))
 
 blank_recovers : (table : SuperValue) (bytes : List ℕ) → IsBlank table bytes → Recovers table (block_at bytes) bytes
 blank_recovers table bytes blank = record {
   batches = [];
   volume = record {
     super_block = blank.super_block;
-    long = blank.long;
-    journals = record { each = tt; all = λ j there opens. let shut = blank.gates j there in absurd (omega (arith, shut, opens)); falling = tt };
+    long = blank.rest.long;
+    journals = record { each = tt; all = λ j there opens. let shut = blank.rest.gates j there in absurd (omega (arith, shut, opens)); falling = tt };
   };
   contents_are = λ b home. refl;
 }

@@ -1,7 +1,7 @@
 -- What erasing a range piece by piece leaves.
 use Rattle.std.proofs.Common.{◌≡◌, ◌≢◌, ◌≤◌, inl, inr, ℕ, zero, suc, ◌+◌, ◌-◌, ◌*◌, List, [], ◌∷◌, length, take, get_or, refl, sym, ◌∙◌, ap, arith}
 use Rattle.std.proofs.lemmas.Bool.{cases_lt, cases_eq}
-use Rattle.device.specs.Device.{written, Torn}
+use Rattle.device.specs.Device.{written, Torn, TornFrom}
 use Rattle.device.proofs.Ranges.{length-written, written_before, written_within, written_after, torn_twice, torn_wider}
 use Rattle.volume_codec.specs.Layout.{gate_block}
 use Rattle.volume_codec.specs.Text.{zeros}
@@ -41,6 +41,12 @@ erase_more from at n most old mid new piece erased order few room blank is = by 
 -- nothing else changed, also where a piece was torn
 pub torn_more : {old mid new : List ℕ} (from at n to : ℕ) → from ≤ at → Torn from (at - from) old mid → Torn at n mid new → at + n ≤ to → Torn from (to - from) old new
 torn_more from at n to order first more fits = torn_twice (torn_wider first from (to - from) (omega arith) (omega arith)) (torn_wider more from (to - from) order (omega arith))
+
+-- nor may a crash leave other bytes elsewhere
+pub left_more : {lists mid : List ℕ → Type 0} (from size at n : ℕ) → ((c : List ℕ) → mid c → TornFrom from size lists c) → from ≤ at → at + n ≤ from + size → (c : List ℕ) → TornFrom at n mid c → TornFrom from size lists c
+left_more from size at n left order fits c torn =
+    let was = left torn.0 torn.1 in
+    (was.0, was.1, torn_twice was.2 (torn_wider torn.2 from size order fits))
 
 -- one gate more
 pub close_more : (slots n at gate byte : ℕ) (old mid new : List ℕ) → AreClosed slots n old mid → gate ≡ gate_block slots n → at ≡ 4096 * gate → byte ≡ 0 → at + 1 ≤ length old → new ≡ written mid at (byte ∷ [])

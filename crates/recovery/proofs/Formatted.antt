@@ -1,8 +1,10 @@
--- A device that was erased, its gates closed and its table written is a blank volume.
-use Rattle.std.proofs.Common.{◌≡◌, ◌≢◌, ◌≤◌, ◌<◌, ℕ, ◌+◌, ◌*◌, List, ◌++◌, length, get_or, length-append, sym, ◌∙◌, ap, subst, arith}
+-- A device that was erased, its gates closed and its table written is a blank volume, and what a crash leaves of that.
+use Rattle.std.proofs.Common.{◌≡◌, ◌≢◌, ◌≤◌, ◌<◌, ℕ, ◌+◌, ◌-◌, ◌*◌, inl, inr, List, ◌++◌, length, get_or, length-append, sym, ◌∙◌, ap, subst, arith}
 use Rattle.std.proofs.lemmas.List.{ext_get_or}
-use Rattle.device.specs.Device.{written}
-use Rattle.device.proofs.Ranges.{length-written, written_after}
+use Rattle.device.specs.Device.{written, Torn, TornFrom, Only, LeavesOnly}
+use Rattle.device.specs.declared.device.Device.{Ghosts}
+use Rattle.device.proofs.Moments.{leaves_weaker, leaves_on}
+use Rattle.device.proofs.Ranges.{torn_by_write, torn_after, torn_twice, torn_wider}
 use Rattle.volume_codec.specs.Layout.{GeometryValue, journals_of, gate_block, first_home, first_file_home, block_at}
 use Rattle.volume_codec.specs.Text.{zeros}
 use Rattle.volume_codec.specs.Super.{SuperValue, Fits, IsSuper, super_head, entries_text, super_text, geometry_of, block_count}
@@ -11,10 +13,11 @@ use Rattle.volume_codec.proofs.Layouts.{gate_block-low, first_home-within}
 use Rattle.volume_codec.proofs.Padding.{length-zeros, length-padded}
 use Rattle.volume_codec.proofs.Places.{fits_geometry}
 use Rattle.volume_codec.proofs.Spelling.{length-super_head, length-entries_text}
-use Rattle.recovery.specs.Format.{IsBlank}
+use Rattle.recovery.specs.Format.{IsEmptied, IsBlank, IsPartlyFormatted}
+use Rattle.recovery.specs.Opening.{IsUnwritten}
 use Rattle.recovery.specs.inside.Erasing.{IsErased, AreClosed}
-use Rattle.recovery.proofs.BlockRanges.{block_at-written}
-use Rattle.recovery.proofs.Erased.{get_or-zeros}
+use Rattle.recovery.proofs.BlockRanges.{block_at-before, block_at-written}
+use Rattle.recovery.proofs.Erased.{get_or-zeros, left_more}
 
 -- a block all of whose bytes are 0
 pub block_zeros : (bytes : List ℕ) (b : ℕ) → 4096 * b + 4096 ≤ length bytes → ((i : ℕ) → 4096 * b ≤ i → i < 4096 * b + 4096 → get_or bytes i 0 ≡ 0) → block_at bytes b ≡ zeros 4096
@@ -30,12 +33,9 @@ length-super_text v fits =
     length-padded 4096 (super_head v ++ entries)
     (omega (arith, length-append (super_head v) entries, length-super_head v, length-entries_text (first_file_home v.layout v.slots) v.files fits.each, fits.few_files))
 
-module _ (table : SuperValue) (g : GeometryValue) (old mid shut new block : List ℕ) (low high : ℕ) (fits : Fits table) (long : 4096 * block_count table ≤ length old) (same : g ≡ geometry_of table)
+module _ (table : SuperValue) (g : GeometryValue) (old mid shut : List ℕ) (low high : ℕ) (fits : Fits table) (long : 4096 * block_count table ≤ length old) (same : g ≡ geometry_of table)
     (at_low : low ≡ 4096 * first_home g.layout g.slots) (at_high : high ≡ 4096 * g.blocks)
-    (erased : IsErased low high old mid) (closing : AreClosed g.slots (journals_of g.layout) mid shut) (text : block ≡ super_text table) (is : new ≡ written shut 0 block) where
-  whole : length block ≡ 4096
-  whole = ap length text ∙ length-super_text table fits
-
+    (erased : IsErased low high old mid) (closing : AreClosed g.slots (journals_of g.layout) mid shut) where
   closed : AreClosed table.slots (journals_of table.layout) mid shut
   closed = let P : GeometryValue → Type 0 = λ h. AreClosed h.slots (journals_of h.layout) mid shut in subst P same closing
 
@@ -48,28 +48,87 @@ module _ (table : SuperValue) (g : GeometryValue) (old mid shut new block : List
   homes_within : first_home table.layout table.slots < block_count table
   homes_within = first_home-within (geometry_of table) (fits_geometry table fits)
 
-  size : length new ≡ length old
-  size =
-      let room = homes_within in
-      ap length is ∙ length-written shut 0 block (omega (arith, whole, closed.same_length, erased.same_length)) ∙ closed.same_length ∙ erased.same_length
-
-  after : (i : ℕ) → 4096 ≤ i → get_or new i 0 ≡ get_or shut i 0
-  after i h =
-      let room = homes_within in
-      ap (λ (bytes : List ℕ). get_or bytes i 0) is ∙ written_after shut 0 block i (omega (arith, whole, closed.same_length, erased.same_length)) (omega (arith, whole))
-
   no_gate : (i : ℕ) → 4096 * first_home table.layout table.slots ≤ i → (j : ℕ) → j < journals_of table.layout → i ≢ 4096 * gate_block table.slots j
   no_gate i h j there same = let under = gate_block-low table.layout table.slots j there in omega (arith, same)
 
-  pub blank : IsBlank table new
-  blank =
+  -- whatever block 0 holds
+  pub emptied : (c : List ℕ) → Torn 0 4096 shut c → IsEmptied table c
+  emptied c torn =
       let room = homes_within in
+      let size : length c ≡ length old = torn.same_length ∙ closed.same_length ∙ erased.same_length in
+      record {
+        long = omega (arith, size, long);
+        gates = λ j there. torn_after torn (4096 * gate_block table.slots j) (omega arith) ∙ closed.gates j there;
+        homes = λ b home. block_zeros c b (omega (arith, size, long, home.high))
+            (λ i from to. torn_after torn i (omega (arith, home.low, from)) ∙ closed.others i (no_gate i (omega (arith, home.low, from)))
+            ∙ erased.zero i (omega (arith, home.low, from_low, from)) (omega (arith, home.high, to_high, to)));
+      }
+
+  pub blank : (new block : List ℕ) → block ≡ super_text table → new ≡ written shut 0 block → IsBlank table new
+  blank new block text is =
+      let room = homes_within in
+      let whole : length block ≡ 4096 = ap length text ∙ length-super_text table fits in
+      let fit : 0 + length block ≤ length shut = omega (arith, whole, long, closed.same_length, erased.same_length) in
       let P : List ℕ → Type 0 = λ bytes. IsSuper table bytes in
-      let first : block_at new 0 ≡ block = ap (λ (bytes : List ℕ). block_at bytes 0) is ∙ block_at-written shut 0 block whole (omega (arith, closed.same_length, erased.same_length)) in
+      let Q : List ℕ → Type 0 = λ bytes. Torn 0 4096 shut bytes in
+      let first : block_at new 0 ≡ block = ap (λ (bytes : List ℕ). block_at bytes 0) is ∙ block_at-written shut 0 block whole (omega (arith, whole, fit)) in
       record {
         super_block = subst P (sym first) (record { fits = fits; spelled = text });
-        long = omega (arith, size);
-        gates = λ j there. after (4096 * gate_block table.slots j) (omega arith) ∙ closed.gates j there;
-        homes = λ b home. block_zeros new b (omega (arith, size, home.high))
-            (λ i from to. after i (omega (arith, home.low, room)) ∙ closed.others i (no_gate i (omega (arith, home.low))) ∙ erased.zero i (omega (arith, home.low, from_low)) (omega (arith, home.high, to_high)));
+        rest = emptied new (subst Q (sym is) (torn_wider (torn_by_write shut 0 block fit) 0 4096 (omega arith) (omega (arith, whole))));
       }
+
+-- block 0 is as before while what is torn lies past it
+pub partly_torn : (table : SuperValue) (lists : List ℕ → Type 0) (c : List ℕ) → 1 ≤ block_count table → TornFrom 4096 (4096 * block_count table - 4096) lists c → IsPartlyFormatted table lists c
+partly_torn table lists c some torn = record {
+  before = torn.0;
+  left = torn.1;
+  within = torn_wider torn.2 0 (4096 * block_count table) (omega arith) (omega (arith, some));
+  first = inl (block_at-before torn.2 0 (omega arith));
+}
+
+-- once the rest is emptied and synced, block 0 may be torn
+pub partly_emptied : (table : SuperValue) (lists : List ℕ → Type 0) (shut c : List ℕ) → 1 ≤ block_count table → TornFrom 4096 (4096 * block_count table - 4096) lists shut → Torn 0 4096 shut c → IsEmptied table c
+    → IsPartlyFormatted table lists c
+partly_emptied table lists shut c some was torn rest = record {
+  before = was.0;
+  left = was.1;
+  within = torn_twice (torn_wider was.2 0 (4096 * block_count table) (omega arith) (omega (arith, some))) (torn_wider torn 0 (4096 * block_count table) (omega arith) (omega (arith, some)));
+  first = inr rest;
+}
+
+module _ {D : Type 0} (disk : Ghosts D) (table : SuperValue) (old mid : D) (some : 1 ≤ block_count table) (low size last : ℕ) (past : 4096 ≤ low) (within : low + size ≤ 4096 * block_count table)
+    (is_last : last ≡ 4096 * block_count table - 4096) where
+  abbrev Partly : List ℕ → Type 0
+  Partly = IsPartlyFormatted table (disk.may_leave old)
+
+  wider : (c : List ℕ) → TornFrom low size (disk.may_leave old) c → TornFrom 4096 (4096 * block_count table - 4096) (disk.may_leave old) c
+  wider c torn = (torn.0, torn.1, torn_wider torn.2 4096 (4096 * block_count table - 4096) past (omega (arith, within)))
+
+  closed_left : ((c : List ℕ) → disk.may_leave mid c → TornFrom low size (disk.may_leave old) c) → (c : List ℕ) → TornFrom 4096 last (disk.may_leave mid) c
+      → TornFrom 4096 (4096 * block_count table - 4096) (disk.may_leave old) c
+  closed_left erasing c torn = left_more 4096 (4096 * block_count table - 4096) 4096 last (λ d may. wider d (erasing d may)) (omega arith) (omega (arith, is_last)) c torn
+
+  -- its home blocks are being erased
+  pub time_of_erasing : {new : D} → LeavesOnly disk.moment disk.left_since old new (TornFrom low size (disk.may_leave old)) → LeavesOnly disk.moment disk.left_since old new Partly
+  time_of_erasing time = leaves_weaker time (λ c torn. partly_torn table (disk.may_leave old) c some (wider c torn))
+
+  -- then its gates are being closed
+  pub time_of_closing : ((c : List ℕ) → disk.may_leave mid c → TornFrom low size (disk.may_leave old) c) → LeavesOnly disk.moment disk.left_since old mid (TornFrom low size (disk.may_leave old))
+      → {new : D} → LeavesOnly disk.moment disk.left_since mid new (TornFrom 4096 last (disk.may_leave mid)) → LeavesOnly disk.moment disk.left_since old new Partly
+  time_of_closing erasing first time = leaves_on (time_of_erasing first) time (λ c torn. partly_torn table (disk.may_leave old) c some (closed_left erasing c torn))
+
+  -- then both are synced
+  pub time_of_sync : ((c : List ℕ) → disk.may_leave mid c → TornFrom low size (disk.may_leave old) c) → {shut new : D} → ((c : List ℕ) → disk.may_leave shut c → TornFrom 4096 last (disk.may_leave mid) c)
+      → LeavesOnly disk.moment disk.left_since old shut Partly → IsUnwritten disk shut new → LeavesOnly disk.moment disk.left_since old new Partly
+  time_of_sync erasing closing first unwritten = leaves_on first unwritten.time (λ c may. partly_torn table (disk.may_leave old) c some (closed_left erasing c (closing c may)))
+
+  -- then its table is being written
+  pub time_of_table : ((c : List ℕ) → disk.may_leave mid c → TornFrom low size (disk.may_leave old) c) → {shut synced new : D} → ((c : List ℕ) → disk.may_leave shut c → TornFrom 4096 last (disk.may_leave mid) c)
+      → LeavesOnly disk.moment disk.left_since old synced Partly → IsUnwritten disk shut synced → Only (disk.may_leave synced) (disk.seen synced)
+      → ((c : List ℕ) → Torn 0 4096 (disk.seen shut) c → IsEmptied table c) → (n : ℕ) → n ≡ 4096 → LeavesOnly disk.moment disk.left_since synced new (TornFrom 0 n (disk.may_leave synced))
+      → LeavesOnly disk.moment disk.left_since old new Partly
+  time_of_table erasing closing first unwritten only rest n whole time = leaves_on first time (λ c torn.
+      let wide : Torn 0 4096 torn.0 c = torn_wider torn.2 0 4096 (omega arith) (omega (arith, whole)) in
+      let P : List ℕ → Type 0 = λ d. Torn 0 4096 d c in
+      partly_emptied table (disk.may_leave old) torn.0 c some (closed_left erasing torn.0 (closing torn.0 (unwritten.left torn.0 torn.1))) wide
+      (rest c (subst P (only torn.0 torn.1 ∙ unwritten.same) wide)))

@@ -1,11 +1,11 @@
 -- What formatting makes of a device.
-use Rattle.std.specs.Prelude.{◌≡◌, ℕ, ◌*◌, ◌<◌, ◌≤◌, List, length, map, replicate, slice_index}
-use Rattle.device.specs.Device.{Only}
+use Rattle.std.specs.Prelude.{◌≡◌, ◌⊎◌, ℕ, ◌+◌, ◌-◌, ◌*◌, ◌/◌, ◌<◌, ◌≤◌, List, length, map, replicate, slice_index}
+use Rattle.device.specs.Device.{Torn, Only}
 use Rattle.device.specs.declared.device.Device.{Ghosts}
 use Rattle.page_entry.specs.declared.refusal.Refusal.{Refusal}
 use Rattle.page_entry.specs.declared.refusal.Refusal.TheVariants.{Device, OutOfMemory, BadShape}
 use Rattle.volume_codec.specs.Files.{File, AskedFile}
-use Rattle.volume_codec.specs.Layout.{IsHome, journals_of, gate_block, block_at}
+use Rattle.volume_codec.specs.Layout.{IsHome, journals_of, gate_block, first_home, block_at}
 use Rattle.volume_codec.specs.Text.{zeros}
 use Rattle.volume_codec.specs.Super.{SuperValue, IsSuper, IsAsked, geometry_of, block_count}
 
@@ -13,17 +13,40 @@ use Rattle.volume_codec.specs.Super.{SuperValue, IsSuper, IsAsked, geometry_of, 
 abbrev pub zero_files : List AskedFile → List File
 zero_files files = map (λ f. record { name = f.name; bytes = replicate f.length 0; capacity = f.capacity }) files
 
--- a volume as formatting makes it: its table in block 0, each gate byte 0, each home block zeros
-pub record IsBlank (table : SuperValue) (bytes : List ℕ) : Type 0 where
-  pub super_block : IsSuper table (block_at bytes 0)
+-- all of a volume but its block 0, as formatting makes it: each gate byte 0, each home block zeros
+pub record IsEmptied (table : SuperValue) (bytes : List ℕ) : Type 0 where
   pub long : 4096 * block_count table ≤ length bytes
   pub gates : (j : ℕ) → j < journals_of table.layout → slice_index bytes (4096 * gate_block table.slots j) ≡ 0
   pub homes : (b : ℕ) → IsHome (geometry_of table) b → block_at bytes b ≡ zeros 4096
+
+-- a volume as formatting makes it: its table in block 0, and the rest emptied
+pub record IsBlank (table : SuperValue) (bytes : List ℕ) : Type 0 where
+  pub super_block : IsSuper table (block_at bytes 0)
+  pub rest : IsEmptied table bytes
 
 -- the table that is asked for, and a device of so many bytes is long enough for it
 pub record HasShape (layout : ℕ) (files : List AskedFile) (slots bytes : ℕ) (table : SuperValue) : Type 0 where
   pub asked : IsAsked layout files slots table
   pub long : 4096 * block_count table ≤ bytes
+
+-- What a crash leaves of a volume that is being made on a device that might have been left as one of these lists: such
+-- a list, with other bytes in the volume's blocks alone. Block 0 is as it was, or else all the rest is emptied.
+pub record IsPartlyFormatted (table : SuperValue) (lists : List ℕ → Type 0) (c : List ℕ) : Type 0 where
+  pub before : List ℕ
+  pub left : lists before
+  pub within : Torn 0 (4096 * block_count table) before c
+  pub first : (block_at c 0 ≡ block_at before 0) ⊎ IsEmptied table c
+
+-- what a crash leaves of formatting: what it might have left before it, or a volume that is being made
+abbrev pub LeftByFormat : {D : Type 0} → Ghosts D → ℕ → List AskedFile → ℕ → D → List ℕ → Type 0
+LeftByFormat disk layout files slots old c = disk.may_leave old c
+    ⊎ ((table : SuperValue) × HasShape layout files slots (length (disk.seen old)) table
+    × IsPartlyFormatted table (disk.may_leave old) c)
+
+-- how many device calls formatting makes: it writes zeros over 8 home blocks at a time, closes each gate, syncs, writes
+-- block 0 and syncs
+abbrev pub format_calls : SuperValue → ℕ
+format_calls table = (block_count table - first_home table.layout table.slots + 7) / 8 + journals_of table.layout + 3
 
 -- an honest device was formatted: it is a volume with the table that was asked for and nothing in its files, all of
 -- it is synced, and what lies past the volume is as before

@@ -1,12 +1,12 @@
 // A volume is made on a device.
-ghost use Rattle.std.specs.Prelude.{◌≡◌, ◌⊎◌, ◌+◌, ◌-◌, ◌*◌, ◌<◌, ◌≤◌, List, ℕ, length, slice_index, IfOk, IfErr, OnOk};
-ghost use Rattle.device.specs.Device.{Torn, Only};
+ghost use Rattle.std.specs.Prelude.{◌≡◌, ◌⊎◌, ◌+◌, ◌-◌, ◌*◌, ◌/◌, ◌<◌, ◌≤◌, List, ℕ, length, slice_index, IfOk, IfErr, OnOk};
+ghost use Rattle.device.specs.Device.{Torn, TornFrom, Only, LeavesOnly};
 ghost use Rattle.volume_codec.specs.Files.{asked_by, asked_by_pairs};
 ghost use Rattle.volume_codec.specs.Layout.{GeometryValue, IsGeometry, journals_of, gate_block, first_home, block_at};
 ghost use Rattle.volume_codec.specs.Text.{zeros};
 ghost use Rattle.volume_codec.specs.Super.{SuperValue, IsAsked, Fits, block_count, geometry_of};
-ghost use Rattle.recovery.specs.Counts.{IsAccounted};
-ghost use Rattle.recovery.specs.Format.{IsBlank, HasFormatted, RefusesFormat};
+ghost use Rattle.recovery.specs.Counts.{Rises, IsAccounted};
+ghost use Rattle.recovery.specs.Format.{IsBlank, IsPartlyFormatted, HasFormatted, LeftByFormat, RefusesFormat, format_calls};
 ghost use Rattle.recovery.specs.inside.Erasing.{IsErased, AreClosed};
 
 use crate::calls::{sync, write, write_synced};
@@ -55,8 +55,13 @@ fn erase<D: Device>(device: &mut D, from: u64, to: u64) -> Result<(), Refusal>
     requires room { to ≤ length (D.seen device.old) }
     ensures erased { D.is_honest device.old → OnOk result (IsErased from to (D.seen device.old) (D.seen device.new)) }
     ensures torn { D.is_honest device.old → Torn from (to - from) (D.seen device.old) (D.seen device.new) }
+    ensures left { (c : List ℕ) → D.may_leave device.new c → TornFrom from (to - from) (D.may_leave device.old) c }
+    ensures time { LeavesOnly D.moment D.left_since device.old device.new
+        (TornFrom from (to - from) (D.may_leave device.old)) }
     ensures kept { IsAccounted D.Device device.old result device.new }
     ensures fault { IfErr result (λ refusal. refusal ≡ Refusal.Device) }
+    ensures calls { OnOk result
+        (Rises ((to - from + 32767) / 32768) (D.calls_made device.old) (D.calls_made device.new)) }
 {
     let zeros = zero_piece();
     let mut at = from;
@@ -75,8 +80,14 @@ fn close_gates<D: Device>(device: &mut D, geometry: &Geometry) -> Result<(), Ref
         (AreClosed geometry.now.slots (journals_of geometry.now.layout) (D.seen device.old) (D.seen device.new)) }
     ensures torn { D.is_honest device.old
         → Torn 0 (4096 * geometry.now.blocks) (D.seen device.old) (D.seen device.new) }
+    ensures left { (c : List ℕ) → D.may_leave device.new c
+        → TornFrom 4096 (4096 * geometry.now.blocks - 4096) (D.may_leave device.old) c }
+    ensures time { LeavesOnly D.moment D.left_since device.old device.new
+        (TornFrom 4096 (4096 * geometry.now.blocks - 4096) (D.may_leave device.old)) }
     ensures kept { IsAccounted D.Device device.old result device.new }
     ensures fault { IfErr result (λ refusal. refusal ≡ Refusal.Device) }
+    ensures calls { OnOk result
+        (Rises (journals_of geometry.now.layout) (D.calls_made device.old) (D.calls_made device.new)) }
 {
     for journal in 0..geometry.journals() {
         let gate = geometry.gate_block(journal);
@@ -96,8 +107,12 @@ fn write_table<D: Device, A: Allocator + Copy>(
     ensures synced { D.is_honest device.old → OnOk result (Only (D.may_leave device.new) (D.seen device.new)) }
     ensures past { D.is_honest device.old → (i : ℕ) → 4096 * block_count table.now ≤ i
         → slice_index (D.seen device.new) i ≡ slice_index (D.seen device.old) i }
+    ensures crash { D.is_honest device.old → LeavesOnly D.moment D.left_since device.old device.new
+        (IsPartlyFormatted table.now (D.may_leave device.old)) }
     ensures kept { IsAccounted D.Device device.old result device.new }
     ensures fault { IfErr result (λ refusal. refusal ≡ Refusal.Device) }
+    ensures calls { OnOk result
+        (Rises (format_calls table.now) (D.calls_made device.old) (D.calls_made device.new)) }
 {
     let geometry = table.geometry();
     let homes = PAGE * u64::from(geometry.first_home());
@@ -111,6 +126,10 @@ fn write_table<D: Device, A: Allocator + Copy>(
 /// for each journal. `BadShape`, before any memory is taken and any device call is made, where no volume has them or
 /// the device is shorter than its blocks. `Device` where a device call failed. What lies past the volume stays, also
 /// then.
+///
+/// It writes zeros over all home blocks, 32,768 bytes at a time, closes each gate, syncs, writes the super block and
+/// syncs. A crash until the super block's write begins leaves block 0 as it was; one since then may leave any bytes in
+/// it, and leaves the home blocks zero and the gates closed.
 pub fn format_as<D: Device, A: Allocator + Copy>(
     alloc: A,
     device: &mut D,
@@ -123,6 +142,10 @@ pub fn format_as<D: Device, A: Allocator + Copy>(
     ensures past { D.is_honest device.old → (table : SuperValue) (i : ℕ)
         → IsAsked layout (asked_by files.now) slots table → 4096 * block_count table ≤ i
         → slice_index (D.seen device.new) i ≡ slice_index (D.seen device.old) i }
+    ensures crash { D.is_honest device.old → LeavesOnly D.moment D.left_since device.old device.new
+        (LeftByFormat D.Device layout (asked_by files.now) slots device.old) }
+    ensures calls { OnOk result ((table : SuperValue) → IsAsked layout (asked_by files.now) slots table
+        → Rises (format_calls table) (D.calls_made device.old) (D.calls_made device.new)) }
     ensures refused { IfErr result (RefusesFormat layout (asked_by files.now) slots (length (D.seen device.old))) }
     ensures unchanged { IfErr result (λ refusal. (refusal ≡ Refusal.Device) ⊎ (device.new ≡ device.old)) }
     ensures kept { IsAccounted D.Device device.old result device.new }
@@ -148,6 +171,10 @@ pub fn format<D: Device, A: Allocator + Copy>(
     ensures past { D.is_honest device.old → (table : SuperValue) (i : ℕ)
         → IsAsked 1 (asked_by_pairs files.now) slots table → 4096 * block_count table ≤ i
         → slice_index (D.seen device.new) i ≡ slice_index (D.seen device.old) i }
+    ensures crash { D.is_honest device.old → LeavesOnly D.moment D.left_since device.old device.new
+        (LeftByFormat D.Device 1 (asked_by_pairs files.now) slots device.old) }
+    ensures calls { OnOk result ((table : SuperValue) → IsAsked 1 (asked_by_pairs files.now) slots table
+        → Rises (format_calls table) (D.calls_made device.old) (D.calls_made device.new)) }
     ensures refused { IfErr result (RefusesFormat 1 (asked_by_pairs files.now) slots (length (D.seen device.old))) }
     ensures unchanged { IfErr result (λ refusal. (refusal ≡ Refusal.Device) ⊎ (device.new ≡ device.old)) }
     ensures kept { IsAccounted D.Device device.old result device.new }

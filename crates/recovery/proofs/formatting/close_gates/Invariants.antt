@@ -1,5 +1,6 @@
-use Rattle.std.proofs.Common.{◌≡◌, ◌*◌, length}
-use Rattle.device.specs.Device.{Torn}
+use Rattle.std.proofs.Common.{◌≡◌, ◌-◌, ◌*◌, ℕ, List, length}
+use Rattle.device.specs.Device.{Torn, TornFrom, LeavesOnly}
+use Rattle.recovery.specs.Counts.{Rises}
 use Rattle.recovery.specs.inside.Erasing.{AreClosed}
 use Rattle.recovery.proofs.formatting.close_gates.Given as goal
 
@@ -8,6 +9,9 @@ invariant-loop-journal g l = record {
   len : length (g.D.Device.seen l.device) ≡ length (g.D.Device.seen l.initial.device);
   closed : g.D.Device.is_honest l.initial.device → g.D.Device.is_honest l.device × AreClosed l.geometry.slots l.journal (g.D.Device.seen l.initial.device) (g.D.Device.seen l.device);
   torn : g.D.Device.is_honest l.initial.device → Torn 0 (4096 * l.geometry.blocks) (g.D.Device.seen l.initial.device) (g.D.Device.seen l.device);
+  left : (c : List ℕ) → g.D.Device.may_leave l.device c → TornFrom 4096 (4096 * l.geometry.blocks - 4096) (g.D.Device.may_leave l.initial.device) c;
+  time : LeavesOnly g.D.Device.moment g.D.Device.left_since l.initial.device l.device (TornFrom 4096 (4096 * l.geometry.blocks - 4096) (g.D.Device.may_leave l.initial.device));
+  calls : Rises l.journal (g.D.Device.calls_made l.initial.device) (g.D.Device.calls_made l.device);
   honest : g.D.Device.is_honest l.device → g.D.Device.is_honest l.initial.device;
   faults : g.D.Device.faults_met l.device ≡ g.D.Device.faults_met l.initial.device;
 }

@@ -1,5 +1,6 @@
-use Rattle.std.proofs.Common.{◌≡◌, ◌≤◌, ◌-◌, length}
-use Rattle.device.specs.Device.{Torn}
+use Rattle.std.proofs.Common.{◌≡◌, ◌⊎◌, ◌≤◌, ◌+◌, ◌-◌, ◌/◌, ◌%◌, ℕ, List, length}
+use Rattle.device.specs.Device.{Torn, TornFrom, LeavesOnly}
+use Rattle.recovery.specs.Counts.{Rises}
 use Rattle.recovery.specs.inside.Erasing.{IsErased}
 use Rattle.recovery.proofs.formatting.erase.Given as goal
 
@@ -10,6 +11,10 @@ invariant-loop-at g l = record {
   len : length (g.D.Device.seen l.device) ≡ length (g.D.Device.seen l.initial.device);
   erased : g.D.Device.is_honest l.initial.device → g.D.Device.is_honest l.device × IsErased l.from l.at (g.D.Device.seen l.initial.device) (g.D.Device.seen l.device);
   torn : g.D.Device.is_honest l.initial.device → Torn l.from (l.at - l.from) (g.D.Device.seen l.initial.device) (g.D.Device.seen l.device);
+  left : (c : List ℕ) → g.D.Device.may_leave l.device c → TornFrom l.from (l.to - l.from) (g.D.Device.may_leave l.initial.device) c;
+  time : LeavesOnly g.D.Device.moment g.D.Device.left_since l.initial.device l.device (TornFrom l.from (l.to - l.from) (g.D.Device.may_leave l.initial.device));
+  whole : (l.at ≡ l.to) ⊎ ((l.at - l.from) % 32768 ≡ 0);
+  calls : Rises ((l.at - l.from + 32767) / 32768) (g.D.Device.calls_made l.initial.device) (g.D.Device.calls_made l.device);
   honest : g.D.Device.is_honest l.device → g.D.Device.is_honest l.initial.device;
   faults : g.D.Device.faults_met l.device ≡ g.D.Device.faults_met l.initial.device;
 }

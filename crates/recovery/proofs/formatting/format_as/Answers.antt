@@ -1,5 +1,6 @@
-use Rattle.std.proofs.Common.{◌≡◌, inl, ap, sym, subst, ◌∙◌, arith}
+use Rattle.std.proofs.Common.{◌≡◌, inl, inr, ap, sym, subst, ◌∙◌, arith}
 use Rattle.std.proofs.lemmas.Result.{MatchResult-weaker}
+use Rattle.device.proofs.Moments.{leaves_weaker}
 use Rattle.page_entry.specs.declared.refusal.Refusal.{Refusal}
 use Rattle.page_entry.specs.declared.refusal.Refusal.TheVariants.{Device}
 use Rattle.volume_codec.specs.Files.{asked_by}
@@ -20,3 +21,10 @@ returns-clause-refused g c =
 
 pub returns-clause-unchanged : goal.returns-clause-unchanged
 returns-clause-unchanged g c = MatchResult-weaker c.write_table.result c.write_table.ensures.fault (λ x t. t) (λ (e : Refusal) (is : e ≡ Device). inl is)
+
+pub returns-clause-crash : goal.returns-clause-crash
+returns-clause-crash g c = λ honest.
+    let counted = c.in_ok-blocks.ensures.ok in
+    let same = one_asked c.args.layout (asked_by c.args.files.now) c.args.slots counted.0 c.in_ok-table.table counted.1 c.in_ok-table.ensures.ok in
+    let blocks = counted.2 ∙ ap (λ (v : SuperValue). block_count v) same in
+    leaves_weaker (c.write_table.ensures.crash honest) (λ l partly. inr (c.in_ok-table.table, record { asked = c.in_ok-table.ensures.ok; long = omega (arith, blocks) }, partly))

@@ -1,10 +1,12 @@
-use Rattle.std.proofs.Common.{◌≡◌, ℕ, List, length, get_or, ap, ◌∙◌, arith}
+use Rattle.std.proofs.Common.{◌≡◌, ◌≤◌, ℕ, ◌+◌, ◌-◌, ◌*◌, List, length, get_or, ap, ◌∙◌, arith}
 use Rattle.device.proofs.Ranges.{torn_after}
-use Rattle.volume_codec.specs.Layout.{GeometryValue}
+use Rattle.volume_codec.specs.Super.{block_count}
+use Rattle.recovery.specs.Counts.{Rises}
+use Rattle.volume_codec.specs.Layout.{GeometryValue, journals_of, first_home}
 use Rattle.volume_codec.proofs.Layouts.{first_home-within}
 use Rattle.std.proofs.lemmas.Result.{on_ok_weaker}
 use Rattle.device.specs.Device.{written}
-use Rattle.recovery.proofs.Formatted.{blank, length-super_text}
+use Rattle.recovery.proofs.Formatted.{blank, emptied, length-super_text, time_of_erasing, time_of_closing, time_of_sync, time_of_table}
 use Rattle.recovery.proofs.formatting.write_table.Goals as goal
 
 pub returns-clause-blank : goal.returns-clause-blank
@@ -15,9 +17,9 @@ returns-clause-blank g c = λ honest.
     let same = (c.in_ok-sync.ensures.unwritten honest_2).same in
     on_ok_weaker c.write_synced.result
     (λ (is : g.D.Device.seen c.write_synced.new.device ≡ written (g.D.Device.seen c.sync.new.device) 0 c.to_block.result).
-    blank c.args.table.now c.geometry-geometry.result _ _ _ _ _ _ _ c.geometry-geometry.ensures.fits c.requires c.geometry-geometry.ensures.value
+    blank c.args.table.now c.geometry-geometry.result _ _ _ _ _ c.geometry-geometry.ensures.fits c.requires c.geometry-geometry.ensures.value
     (omega (arith, c.from-homes.ensures, c.first_home.ensures.value)) (omega (arith, c.from.ensures, c.block_count.ensures.value))
-    (c.in_ok-erase.ensures.erased honest) (c.in_ok-close_gates.ensures.closed honest_1) c.to_block.ensures
+    (c.in_ok-erase.ensures.erased honest) (c.in_ok-close_gates.ensures.closed honest_1) _ _ c.to_block.ensures
     (is ∙ ap (λ (bytes : List ℕ). written bytes 0 c.to_block.result) same))
     (c.write_synced.ensures.written honest_3)
 
@@ -50,3 +52,85 @@ returns-clause-past g c = λ honest i le.
     ∙ torn_after (c.in_ok-close_gates.ensures.torn honest_1) i (omega (arith, le, blocks))
     ∙ torn_after (c.in_ok-erase.ensures.torn honest) i
     (omega (arith, le, blocks, room, c.from-homes.ensures, c.first_home.ensures.value, c.from.ensures, c.block_count.ensures.value))
+
+pub returns-in_err-sync-clause-past : goal.returns-in_err-sync-clause-past
+returns-in_err-sync-clause-past g c = λ honest i le.
+    let honest_1 = c.in_ok-erase.ensures.kept.honest.1 honest in
+    let honest_2 = c.in_ok-close_gates.ensures.kept.honest.1 honest_1 in
+    let blocks = ap (λ (h : GeometryValue). h.blocks) c.geometry-geometry.ensures.value in
+    let room = first_home-within c.geometry-geometry.result c.first_home.ensures.geometry in
+    ap (λ (bytes : List ℕ). get_or bytes i 0) (c.in_err-sync.ensures.unwritten honest_2).same
+    ∙ torn_after (c.in_ok-close_gates.ensures.torn honest_1) i (omega (arith, le, blocks))
+    ∙ torn_after (c.in_ok-erase.ensures.torn honest) i
+    (omega (arith, le, blocks, room, c.from-homes.ensures, c.first_home.ensures.value, c.from.ensures, c.block_count.ensures.value))
+
+pub returns-in_err-erase-clause-crash : goal.returns-in_err-erase-clause-crash
+returns-in_err-erase-clause-crash g c = λ honest.
+    let blocks = ap (λ (h : GeometryValue). h.blocks) c.geometry-geometry.ensures.value in
+    let room = first_home-within c.geometry-geometry.result c.first_home.ensures.geometry in
+    time_of_erasing g.D.Device c.args.table.now c.args.device.now c.args.device.now (omega (arith, blocks, room)) _ _ (4096 * c.geometry-geometry.result.blocks - 4096)
+    (omega (arith, c.from-homes.ensures, c.first_home.ensures.value))
+    (omega (arith, blocks, room, c.from-homes.ensures, c.first_home.ensures.value, c.from.ensures, c.block_count.ensures.value)) (omega (arith, blocks))
+    c.in_err-erase.ensures.time
+
+pub returns-in_err-close_gates-clause-crash : goal.returns-in_err-close_gates-clause-crash
+returns-in_err-close_gates-clause-crash g c = λ honest.
+    let blocks = ap (λ (h : GeometryValue). h.blocks) c.geometry-geometry.ensures.value in
+    let room = first_home-within c.geometry-geometry.result c.first_home.ensures.geometry in
+    time_of_closing g.D.Device c.args.table.now c.args.device.now c.erase.new.device (omega (arith, blocks, room)) _ _ (4096 * c.geometry-geometry.result.blocks - 4096)
+    (omega (arith, c.from-homes.ensures, c.first_home.ensures.value))
+    (omega (arith, blocks, room, c.from-homes.ensures, c.first_home.ensures.value, c.from.ensures, c.block_count.ensures.value)) (omega (arith, blocks))
+    c.in_ok-erase.ensures.left c.in_ok-erase.ensures.time c.in_err-close_gates.ensures.time
+
+pub returns-in_err-sync-clause-crash : goal.returns-in_err-sync-clause-crash
+returns-in_err-sync-clause-crash g c = λ honest.
+    let honest_1 = c.in_ok-erase.ensures.kept.honest.1 honest in
+    let honest_2 = c.in_ok-close_gates.ensures.kept.honest.1 honest_1 in
+    let blocks = ap (λ (h : GeometryValue). h.blocks) c.geometry-geometry.ensures.value in
+    let room = first_home-within c.geometry-geometry.result c.first_home.ensures.geometry in
+    let first =
+    time_of_closing g.D.Device c.args.table.now c.args.device.now c.erase.new.device (omega (arith, blocks, room)) _ _ (4096 * c.geometry-geometry.result.blocks - 4096)
+    (omega (arith, c.from-homes.ensures, c.first_home.ensures.value))
+    (omega (arith, blocks, room, c.from-homes.ensures, c.first_home.ensures.value, c.from.ensures, c.block_count.ensures.value)) (omega (arith, blocks))
+    c.in_ok-erase.ensures.left c.in_ok-erase.ensures.time c.in_ok-close_gates.ensures.time in
+    time_of_sync g.D.Device c.args.table.now c.args.device.now c.erase.new.device (omega (arith, blocks, room)) _ _ (4096 * c.geometry-geometry.result.blocks - 4096)
+    (omega (arith, c.from-homes.ensures, c.first_home.ensures.value))
+    (omega (arith, blocks, room, c.from-homes.ensures, c.first_home.ensures.value, c.from.ensures, c.block_count.ensures.value)) (omega (arith, blocks))
+    c.in_ok-erase.ensures.left c.in_ok-close_gates.ensures.left first (c.in_err-sync.ensures.unwritten honest_2)
+
+pub returns-clause-crash : goal.returns-clause-crash
+returns-clause-crash g c = λ honest.
+    let honest_1 = c.in_ok-erase.ensures.kept.honest.1 honest in
+    let honest_2 = c.in_ok-close_gates.ensures.kept.honest.1 honest_1 in
+    let honest_3 = c.in_ok-sync.ensures.kept.honest.1 honest_2 in
+    let blocks = ap (λ (h : GeometryValue). h.blocks) c.geometry-geometry.ensures.value in
+    let room = first_home-within c.geometry-geometry.result c.first_home.ensures.geometry in
+    let text = ap length c.to_block.ensures ∙ length-super_text c.args.table.now c.geometry-geometry.ensures.fits in
+    let rest = emptied c.args.table.now c.geometry-geometry.result _ _ _ _ _ c.geometry-geometry.ensures.fits c.requires c.geometry-geometry.ensures.value
+    (omega (arith, c.from-homes.ensures, c.first_home.ensures.value)) (omega (arith, c.from.ensures, c.block_count.ensures.value))
+    (c.in_ok-erase.ensures.erased honest) (c.in_ok-close_gates.ensures.closed honest_1) in
+    let first =
+    time_of_closing g.D.Device c.args.table.now c.args.device.now c.erase.new.device (omega (arith, blocks, room)) _ _ (4096 * c.geometry-geometry.result.blocks - 4096)
+    (omega (arith, c.from-homes.ensures, c.first_home.ensures.value))
+    (omega (arith, blocks, room, c.from-homes.ensures, c.first_home.ensures.value, c.from.ensures, c.block_count.ensures.value)) (omega (arith, blocks))
+    c.in_ok-erase.ensures.left c.in_ok-erase.ensures.time c.in_ok-close_gates.ensures.time in
+    let second =
+    time_of_sync g.D.Device c.args.table.now c.args.device.now c.erase.new.device (omega (arith, blocks, room)) _ _ (4096 * c.geometry-geometry.result.blocks - 4096)
+    (omega (arith, c.from-homes.ensures, c.first_home.ensures.value))
+    (omega (arith, blocks, room, c.from-homes.ensures, c.first_home.ensures.value, c.from.ensures, c.block_count.ensures.value)) (omega (arith, blocks))
+    c.in_ok-erase.ensures.left c.in_ok-close_gates.ensures.left first (c.in_ok-sync.ensures.unwritten honest_2) in
+    time_of_table g.D.Device c.args.table.now c.args.device.now c.erase.new.device (omega (arith, blocks, room)) _ _ (4096 * c.geometry-geometry.result.blocks - 4096)
+    (omega (arith, c.from-homes.ensures, c.first_home.ensures.value))
+    (omega (arith, blocks, room, c.from-homes.ensures, c.first_home.ensures.value, c.from.ensures, c.block_count.ensures.value)) (omega (arith, blocks))
+    c.in_ok-erase.ensures.left c.in_ok-close_gates.ensures.left second (c.in_ok-sync.ensures.unwritten honest_2) (c.in_ok-sync.ensures.durable honest_2) rest _ text (c.write_synced.ensures.time honest_3)
+
+pub returns-clause-calls : goal.returns-clause-calls
+returns-clause-calls g c =
+    let blocks = ap (λ (h : GeometryValue). h.blocks) c.geometry-geometry.ensures.value in
+    let homes = ap (λ (h : GeometryValue). first_home h.layout h.slots) c.geometry-geometry.ensures.value in
+    let journals = ap (λ (h : GeometryValue). journals_of h.layout) c.geometry-geometry.ensures.value in
+    let erasing = c.in_ok-erase.ensures.calls in
+    on_ok_weaker c.write_synced.result
+    (λ (two : Rises 2 (g.D.Device.calls_made c.sync.new.device) (g.D.Device.calls_made c.write_synced.new.device)). λ small.
+    omega (arith, blocks, homes, journals, erasing, c.in_ok-close_gates.ensures.calls, c.in_ok-sync.ensures.calls, two, c.from-homes.ensures, c.first_home.ensures.value, c.from.ensures, c.block_count.ensures.value))
+    c.write_synced.ensures.calls
