@@ -13,9 +13,9 @@ use Rattle.volume_codec.specs.Recovery.{Batch, IsVolume}
 use Rattle.volume_codec.proofs.Layouts.{first_home-within}
 use Rattle.volume_codec.proofs.Places.{fits_geometry}
 use Rattle.volume_codec.proofs.Recovered.{length-lengths_in, lengths_in-le}
-use Rattle.recovery.specs.Counts.{Rises}
+use Rattle.recovery.specs.Counts.{Rises, RisesWithin}
 use Rattle.recovery.specs.Volume.{IsSettled}
-use Rattle.recovery.specs.Opening.{IsUnwritten, IsOpened, IsBeingOpened, LeftByOpening, opening_calls, HasOpened, HasRefused, RefusesOpening}
+use Rattle.recovery.specs.Opening.{IsUnwritten, IsOpened, IsBeingOpened, LeftByOpening, opening_calls, HasOpened, HasRefused, FindsWithin, RefusesOpening}
 use Rattle.recovery.specs.inside.Reading.{carry_calls}
 use Rattle.recovery.proofs.Partly.{opened_partly, kept_block, still_waiting}
 
@@ -32,6 +32,10 @@ all_calls (b ∷ bs) =
 
 pub calls_of : (table : SuperValue) (batches : List Batch) (a b c n : ℕ) → n ≡ length batches → Rises (2 + journals_of table.layout + n) a b → Rises (carry_calls batches) b c → Rises (opening_calls table batches) a c
 calls_of table batches a b c n count first second small = let all = all_calls batches in omega (arith, small, count, first, second, all)
+
+pub most_calls_of : (table : SuperValue) (batches : List Batch) (a b c n : ℕ) → n ≡ length batches → Rises (2 + journals_of table.layout + n) a b → RisesWithin (carry_calls batches) b c
+    → RisesWithin (opening_calls table batches) a c
+most_calls_of table batches a b c n count first second small = let all = all_calls batches in omega (arith, small, count, first, second, all)
 
 -- what was opened holds the volume with its gates closed
 pub opened_volume : (table : SuperValue) (batches : List Batch) (old new : List ℕ) → IsVolume table batches old → IsOpened (geometry_of table) batches old new → IsVolume table [] new
@@ -75,10 +79,20 @@ module _ {D : Type 0} (disk : Ghosts D) (before mid : D) (table : SuperValue) (b
       }
 
   -- a device call failed on the way
-  pub has_failed : (refusal : Refusal) (after : D) → refusal ≡ Device → HasRefused disk before refusal after
-  has_failed refusal after is =
+  pub has_failed : (refusal : Refusal) (after : D) (n : ℕ) → n ≡ length batches → refusal ≡ Device → Rises (2 + journals_of table.layout + n) (disk.calls_made before) (disk.calls_made mid)
+      → RisesWithin (carry_calls batches) (disk.calls_made mid) (disk.calls_made after) → HasRefused disk before refusal after
+  has_failed refusal after n count is first second =
       let P : Refusal → Type 0 = λ e. RefusesOpening (disk.seen before) e in
-      record { reason = subst P (sym is) tt; unwritten = inr (is, (table, batches, volume)) }
+      record {
+        reason = subst P (sym is) tt;
+        done = inr (record {
+          device = is;
+          table = table;
+          batches = batches;
+          held = volume;
+          calls = most_calls_of table batches (disk.calls_made before) (disk.calls_made mid) (disk.calls_made after) n count first second;
+        });
+      }
 
 -- an opened volume is settled
 pub is_settled : {D : Type 0} (disk : Ghosts D) (before after : D) (table : SuperValue) → Fits table → 4096 * block_count table ≤ length (disk.seen after)

@@ -1,5 +1,5 @@
 -- What every call of this crate keeps of its device, and how the counts of device calls and of their faults rise.
-use Rattle.std.specs.Prelude.{◌≡◌, ◌↔◌, ℕ, ◌+◌, ◌<◌, ◌^◌, length, Result, MatchResult}
+use Rattle.std.specs.Prelude.{◌≡◌, ◌↔◌, ℕ, ◌+◌, ◌<◌, ◌≤◌, ◌^◌, length, Result, MatchResult}
 use Rattle.device.specs.declared.device.Device.{Ghosts}
 use Rattle.page_entry.specs.declared.refusal.Refusal.{Refusal}
 use Rattle.page_entry.specs.declared.refusal.Refusal.TheVariants.{Device, OutOfMemory, NotAVolume, Damaged, BadShape}
@@ -7,6 +7,10 @@ use Rattle.page_entry.specs.declared.refusal.Refusal.TheVariants.{Device, OutOfM
 -- the count rose by n; of one that comes to 2^64 - 1, where it stays, nothing is said
 abbrev pub Rises : ℕ → ℕ → ℕ → Type 0
 Rises n old new = old + n < 2 ^ 64 → new ≡ old + n
+
+-- the count rose by n at most; of one that comes to 2^64 - 1, where it stays, nothing is said
+abbrev pub RisesWithin : ℕ → ℕ → ℕ → Type 0
+RisesWithin n old new = old + n < 2 ^ 64 → new ≤ old + n
 
 -- one device call failed where the refusal is Device, and none where it is another that volumes have
 abbrev pub HasCause : ℕ → ℕ → Refusal → Type 0

@@ -6,9 +6,9 @@ use Rattle.device.specs.declared.device.Device.{Ghosts}
 use Rattle.page_entry.specs.declared.refusal.Refusal.{Refusal}
 use Rattle.page_entry.specs.declared.refusal.Refusal.TheVariants.{Device, OutOfMemory, NotAVolume, Damaged}
 use Rattle.volume_codec.specs.Layout.{GeometryValue, IsHome, journals_of, gate_block, record_block, first_home, block_at}
-use Rattle.volume_codec.specs.Super.{SuperValue, geometry_of}
+use Rattle.volume_codec.specs.Super.{SuperValue, IsSuper, geometry_of}
 use Rattle.volume_codec.specs.Recovery.{Batch, AreOpen, contents_in, IsVolume, IsNotAVolume, IsDamaged}
-use Rattle.recovery.specs.Counts.{Rises, IsAccounted}
+use Rattle.recovery.specs.Counts.{Rises, RisesWithin, IsAccounted}
 use Rattle.recovery.specs.Volume.{VolumeState}
 
 -- nothing was written, at no moment: a read gives what it gave, and a crash now, or at any moment since old, leaves
@@ -53,10 +53,6 @@ pub record IsBeingOpened (g : GeometryValue) (batches : List Batch) (old c : Lis
   pub homes : (b : ℕ) → IsHome g b → HaveNoRecord waiting b → block_at c b ≡ contents_in g.slots batches old b
   pub past : (i : ℕ) → 4096 * g.blocks ≤ i → slice_index c i ≡ slice_index old i
 
--- these bytes hold a volume
-abbrev pub HoldsVolume : List ℕ → Type 0
-HoldsVolume bytes = (table : SuperValue) × (batches : List Batch) × IsVolume table batches bytes
-
 -- what a crash leaves of an opening: what it might have left before it, or, where a read then gave a volume, that
 -- volume while its open batches are carried out
 abbrev pub LeftByOpening : {D : Type 0} → Ghosts D → D → List ℕ → Type 0
@@ -95,10 +91,30 @@ RefusesOpening bytes Device = Unit {0}
 RefusesOpening bytes OutOfMemory = Unit {0}
 RefusesOpening bytes _ = ⊥
 
--- an opening was refused: for its reason, and nothing was written, or a device call failed on a volume
+-- how many device calls it takes at most to find the open batches of a device with these bytes: one reads block 0;
+-- where a table is there, one syncs, and for each journal one reads the gate and one the descriptor
+abbrev pub FindsWithin : List ℕ → ℕ → ℕ → Type 0
+FindsWithin bytes old new = RisesWithin 1 old new
+    ⊎ ((table : SuperValue) × IsSuper table (block_at bytes 0)
+    × RisesWithin (2 + 2 * journals_of table.layout) old new)
+
+-- an opening was refused while it looked for open batches: nothing was written
+pub record HasNotBegun {D : Type 0} (disk : Ghosts D) (before after : D) : Type 0 where
+  pub unwritten : IsUnwritten disk before after
+  pub calls : FindsWithin (disk.seen before) (disk.calls_made before) (disk.calls_made after)
+
+-- a device call failed while the open batches of a volume were carried out
+pub record HasFailed {D : Type 0} (disk : Ghosts D) (before : D) (refusal : Refusal) (after : D) : Type 0 where
+  pub device : refusal ≡ Device
+  pub table : SuperValue
+  pub batches : List Batch
+  pub held : IsVolume table batches (disk.seen before)
+  pub calls : RisesWithin (opening_calls table batches) (disk.calls_made before) (disk.calls_made after)
+
+-- an opening was refused: for its reason, before it wrote anything or by a device call that failed since
 pub record HasRefused {D : Type 0} (disk : Ghosts D) (before : D) (refusal : Refusal) (after : D) : Type 0 where
   pub reason : RefusesOpening (disk.seen before) refusal
-  pub unwritten : IsUnwritten disk before after ⊎ ((refusal ≡ Device) × HoldsVolume (disk.seen before))
+  pub done : HasNotBegun disk before after ⊎ HasFailed disk before refusal after
 
 -- An opening of a device, which came to this result and left the device so. What is said of its bytes is said of an
 -- honest device.

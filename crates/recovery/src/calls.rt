@@ -3,7 +3,7 @@ ghost use Rattle.std.specs.Prelude.{◌≡◌, ◌+◌, ◌*◌, ◌<◌, ◌≤
 ghost use Rattle.device.specs.Device.{written, Torn, TornFrom, Only, LeavesOnly};
 ghost use Rattle.volume_codec.specs.Layout.{IsHome, journals_of, gate_block, record_block, block_at};
 ghost use Rattle.volume_codec.specs.Text.{zeros};
-ghost use Rattle.recovery.specs.Counts.{Rises, IsAccounted};
+ghost use Rattle.recovery.specs.Counts.{Rises, RisesWithin, IsAccounted};
 ghost use Rattle.recovery.specs.Opening.{IsUnwritten};
 
 use device::Device;
@@ -124,6 +124,7 @@ pub fn apply<D: Device>(
     ensures kept { IsAccounted D.Device device.old result device.new }
     ensures fault { IfErr result (λ refusal. refusal ≡ Refusal.Device) }
     ensures calls { OnOk result (Rises 2 (D.calls_made device.old) (D.calls_made device.new)) }
+    ensures most { RisesWithin 2 (D.calls_made device.old) (D.calls_made device.new) }
 {
     match apply_record(device, geometry, journal, slot, home, &mut zero_block()) {
         Ok(()) => Ok(()),
@@ -169,6 +170,7 @@ pub fn close<D: Device>(device: &mut D, geometry: &Geometry, journal: u32) -> Re
     ensures kept { IsAccounted D.Device device.old result device.new }
     ensures fault { IfErr result (λ refusal. refusal ≡ Refusal.Device) }
     ensures calls { OnOk result (Rises 2 (D.calls_made device.old) (D.calls_made device.new)) }
+    ensures most { RisesWithin 2 (D.calls_made device.old) (D.calls_made device.new) }
 {
     close_unsynced(device, geometry, journal)?;
     sync(device)

@@ -6,8 +6,8 @@ ghost use Rattle.volume_codec.specs.Layout.{IsGeometry, journals_of, gate_block,
 ghost use Rattle.volume_codec.specs.Super.{IsSuper, Fits, block_count, geometry_of, capacities_in};
 ghost use Rattle.volume_codec.specs.Descriptor.{AreHomes, IsDescriptor};
 ghost use Rattle.volume_codec.specs.Recovery.{AreFalling, AreOpen, IsOpen, IsVolume};
-ghost use Rattle.recovery.specs.Counts.{Rises, IsAccounted};
-ghost use Rattle.recovery.specs.Opening.{IsUnwritten, IsOpened, IsBeingOpened, RefusesOpening, Opens, opened_table, device_after};
+ghost use Rattle.recovery.specs.Counts.{Rises, RisesWithin, IsAccounted};
+ghost use Rattle.recovery.specs.Opening.{IsUnwritten, IsOpened, IsBeingOpened, FindsWithin, RefusesOpening, Opens, opened_table, device_after};
 ghost use Rattle.recovery.specs.Volume.{IsSettled};
 ghost use Rattle.recovery.specs.inside.Carrying.{IsTornAt, IsApplied, IsBeingCarried};
 ghost use Rattle.recovery.specs.inside.Reading.{batch_of, batches_of, CanCarry, carry_calls, AreRead, RefusesJournal, RefusesJournals, IsOrdered, HaveOneMark};
@@ -35,6 +35,7 @@ fn read_table<D: Device, A: Allocator + Copy>(alloc: A, device: &mut D) -> Resul
     ensures unwritten { D.is_honest device.old → IsUnwritten D.Device device.old device.new }
     ensures kept { IsAccounted D.Device device.old result device.new }
     ensures calls { OnOk result (Rises 1 (D.calls_made device.old) (D.calls_made device.new)) }
+    ensures most { RisesWithin 1 (D.calls_made device.old) (D.calls_made device.new) }
 {
     if device.len() < PAGE {
         return Err(Refusal::NotAVolume);
@@ -57,6 +58,7 @@ fn read_gates<D: Device>(device: &mut D, geometry: &Geometry) -> Result<[bool; 2
     ensures fault { IfErr result (λ refusal. refusal ≡ Refusal.Device) }
     ensures calls { OnOk result
         (Rises (journals_of geometry.now.layout) (D.calls_made device.old) (D.calls_made device.new)) }
+    ensures most { RisesWithin (journals_of geometry.now.layout) (D.calls_made device.old) (D.calls_made device.new) }
 {
     let mut gates = [false; 2];
     for journal in 0..geometry.journals() {
@@ -112,6 +114,7 @@ fn read_if_open<D: Device, A: Allocator + Copy>(
         → OnOk result (AllByRecursion (CanCarry geometry.now) (batches_of found.new.items)) }
     ensures calls { OnOk result ((n : ℕ) × (n ≤ 1) × (length found.new.items ≡ length found.old.items + n)
         × Rises n (D.calls_made device.old) (D.calls_made device.new)) }
+    ensures most { RisesWithin 1 (D.calls_made device.old) (D.calls_made device.new) }
     ensures refused { D.is_honest device.old → IfErr result (RefusesJournals geometry.now (D.seen device.old)) }
     ensures unwritten { D.is_honest device.old → IsUnwritten D.Device device.old device.new }
     ensures kept { IsAccounted D.Device device.old result device.new }
@@ -152,6 +155,7 @@ fn read_journals<D: Device, A: Allocator + Copy>(
     ensures kept { IsAccounted D.Device device.old result device.new }
     ensures calls { IfOk result (λ found.
         Rises (length found.items) (D.calls_made device.old) (D.calls_made device.new)) }
+    ensures most { RisesWithin (journals_of geometry.now.layout) (D.calls_made device.old) (D.calls_made device.new) }
 {
     let journals = geometry.journals();
     let Ok(mut found) = Vec::with_capacity(alloc, 2) else {
@@ -200,6 +204,8 @@ fn read_open<D: Device, A: Allocator + Copy>(
     ensures kept { IsAccounted D.Device device.old result device.new }
     ensures calls { IfOk result (λ found. Rises (journals_of geometry.now.layout + length found.items)
         (D.calls_made device.old) (D.calls_made device.new)) }
+    ensures most { RisesWithin (2 * journals_of geometry.now.layout)
+        (D.calls_made device.old) (D.calls_made device.new) }
 {
     let gates = read_gates(device, geometry)?;
     let mut found = read_journals(alloc, device, geometry, &gates)?;
@@ -225,6 +231,8 @@ fn judge<D: Device, A: Allocator + Copy>(
     ensures kept { IsAccounted D.Device device.old result device.new }
     ensures calls { IfOk result (λ judged. Rises (2 + journals_of judged.0.layout + length judged.1.items)
         (D.calls_made device.old) (D.calls_made device.new)) }
+    ensures most { D.is_honest device.old
+        → FindsWithin (D.seen device.old) (D.calls_made device.old) (D.calls_made device.new) }
 {
     let table = read_table(alloc, device)?;
     sync(device)?;
@@ -252,6 +260,8 @@ fn apply_records<D: Device, A: Allocator + Copy>(
     ensures fault { IfErr result (λ refusal. refusal ≡ Refusal.Device) }
     ensures calls { OnOk result
         (Rises (2 * length found.now.descriptor.homes) (D.calls_made device.old) (D.calls_made device.new)) }
+    ensures most { RisesWithin (2 * length found.now.descriptor.homes)
+        (D.calls_made device.old) (D.calls_made device.new) }
 {
     let homes = found.descriptor.homes();
     let slots = geometry.slots();
@@ -280,6 +290,8 @@ fn carry_out<D: Device, A: Allocator + Copy>(
     ensures fault { IfErr result (λ refusal. refusal ≡ Refusal.Device) }
     ensures calls { OnOk result
         (Rises (2 * length found.now.descriptor.homes + 3) (D.calls_made device.old) (D.calls_made device.new)) }
+    ensures most { RisesWithin (2 * length found.now.descriptor.homes + 3)
+        (D.calls_made device.old) (D.calls_made device.new) }
 {
     apply_records(device, geometry, found)?;
     sync(device)?;
@@ -306,6 +318,8 @@ fn carry_out_all<D: Device, A: Allocator + Copy>(
     ensures fault { IfErr result (λ refusal. refusal ≡ Refusal.Device) }
     ensures calls { OnOk result
         (Rises (carry_calls (batches_of found.items)) (D.calls_made device.old) (D.calls_made device.new)) }
+    ensures most { RisesWithin (carry_calls (batches_of found.items))
+        (D.calls_made device.old) (D.calls_made device.new) }
 {
     let mut waiting = found;
     while let Some(oldest) = waiting.pop() {
@@ -333,7 +347,8 @@ fn recover<D: Device, A: Allocator + Copy>(alloc: A, device: &mut D) -> Result<S
 /// one mark, or the device is shorter than its volume; nothing is written then. `Device` where a device call failed.
 /// `OutOfMemory` may come in the place of these, and nothing is written then either. An `Err` hands the device back.
 /// With no open journal it makes 3 device calls in layout 1 and 4 in layout 2, and 2k + 4 more for each open journal
-/// of k records.
+/// of k records. Where it is refused it makes no more than that; one where block 0 holds no table, and where nothing
+/// is written 4 in layout 1 and 6 in layout 2.
 pub fn open<D: Device, A: Allocator + Copy>(
     alloc: A,
     mut device: D,

@@ -73,3 +73,8 @@ loop-slot-preserved g c =
           (λ l torn. left_more c.args.found.now.descriptor.homes _ (g.D.Device.may_leave c.loop-slot.device) _ c.loop-slot.slot _ 4096 place refl lt (omega arith) (i.left honest only) l torn);
       calls = λ small. omega (arith, i.calls, e.calls);
     }
+
+pub returns-in_err-apply-clause-most : goal.returns-in_err-apply-clause-most
+returns-in_err-apply-clause-most g c = λ small.
+    let lt : c.loop-slot.slot < length c.args.found.now.descriptor.homes = omega (arith, ap length c.homes-homes.ensures) in
+    omega (arith, lt, c.loop-slot.invariant.calls, c.apply.ensures.most)

@@ -67,3 +67,15 @@ loop-oldest-preserved g c =
         λ small. let sum : carry_calls (batch ∷ done) ≡ 0 + (2 * length c.in-Some.oldest.descriptor.homes + 3) + carry_calls done = sum_by-append (λ (b : Batch). 2 * length b.homes + 3) (batch ∷ []) done in omega (arith, small, sum, i.under.3, e.calls),
       );
     }
+
+pub returns-in_err-carry_out-clause-most : goal.returns-in_err-carry_out-clause-most
+returns-in_err-carry_out-clause-most g c = λ small.
+    let i = c.loop-oldest.invariant in
+    let done = i.under.0 in
+    let batch = batch_of c.in-Some.oldest in
+    let waiting = batches_of c.pop.new.self.items in
+    let popped = ap batches_of c.in-Some.ensures.items ∙ map-append batch_of c.pop.new.self.items (c.in-Some.oldest ∷ []) in
+    let split = i.under.1 ∙ ap (λ w. w ++ done) popped ∙ append_assoc waiting (batch ∷ []) done in
+    let all = ap carry_calls split ∙ sum_by-append (λ (b : Batch). 2 * length b.homes + 3) waiting (batch ∷ done) in
+    let sum : carry_calls (batch ∷ done) ≡ 0 + (2 * length c.in-Some.oldest.descriptor.homes + 3) + carry_calls done = sum_by-append (λ (b : Batch). 2 * length b.homes + 3) (batch ∷ []) done in
+    omega (arith, small, all, sum, i.under.3, c.carry_out.ensures.most)

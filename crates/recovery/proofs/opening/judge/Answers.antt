@@ -1,4 +1,4 @@
-use Rattle.std.proofs.Common.{ℕ, List, Err, ap, subst, ◌∙◌, arith}
+use Rattle.std.proofs.Common.{inr, ℕ, List, Err, ap, subst, ◌∙◌, arith}
 use Rattle.std.proofs.lemmas.Result.{err_from_is_err_and}
 use Rattle.volume_codec.specs.Layout.{GeometryValue, journals_of}
 use Rattle.volume_codec.specs.Recovery.{AreOpen}
@@ -65,3 +65,21 @@ pub returns-clause-calls : goal.returns-clause-calls
 returns-clause-calls g c = λ small.
     let journals = ap (λ (h : GeometryValue). journals_of h.layout) c.geometry.ensures.value in
     omega (arith, journals, c.in_ok-table.ensures.calls, c.sync.ensures.calls, c.in_ok-found.ensures.calls)
+
+pub returns-in_err-found-clause-most : goal.returns-in_err-found-clause-most
+returns-in_err-found-clause-most g c = λ honest. inr (
+  c.in_ok-table.table,
+  c.in_ok-table.ensures.table honest,
+  λ small.
+      let journals = ap (λ (h : GeometryValue). journals_of h.layout) c.geometry.ensures.value in
+      omega (arith, small, journals, c.in_ok-table.ensures.calls, c.sync.ensures.calls, c.read_open.ensures.most),
+)
+
+pub returns-clause-most : goal.returns-clause-most
+returns-clause-most g c = λ honest. inr (
+  c.in_ok-table.table,
+  c.in_ok-table.ensures.table honest,
+  λ small.
+      let journals = ap (λ (h : GeometryValue). journals_of h.layout) c.geometry.ensures.value in
+      omega (arith, small, journals, c.in_ok-table.ensures.calls, c.sync.ensures.calls, c.read_open.ensures.most),
+)

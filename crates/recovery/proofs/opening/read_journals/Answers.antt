@@ -1,7 +1,7 @@
 use Rattle.std.proofs.Common.{◌≡◌, ◌+◌, ℕ, List, subst, sym, ◌∙◌, ap, Err, arith}
 use Rattle.std.proofs.lemmas.Result.{err_from_is_err_and}
 use Rattle.volume_codec.specs.Layout.{journals_of}
-use Rattle.recovery.specs.inside.Reading.{batches_of, AreRead}
+use Rattle.recovery.specs.inside.Reading.{batches_of, AreRead, RefusesJournals}
 use Rattle.recovery.proofs.Kept.{kept_then, kept_ok, kept_err, unwritten_then}
 use Rattle.recovery.proofs.opening.read_journals.Goals as goal
 
@@ -13,6 +13,13 @@ pub returns-in_err-read_if_open-clause-kept : goal.returns-in_err-read_if_open-c
 returns-in_err-read_if_open-clause-kept g c =
     let p = err_from_is_err_and c.from_residual.result c.from_residual.ensures.1 in
     kept_then c.loop-journal.invariant.kept (kept_err c.from_residual.result (p.1 ∙ ap Err p.2) c.in_err-read_if_open.ensures.kept)
+
+pub returns-in_err-read_if_open-clause-refused : goal.returns-in_err-read_if_open-clause-refused
+returns-in_err-read_if_open-clause-refused g c = λ honest.
+    let p = err_from_is_err_and c.from_residual.result c.from_residual.ensures.1 in
+    let i = c.loop-journal.invariant in
+    let P : List ℕ → Type 0 = λ bytes. RefusesJournals c.args.geometry.now bytes c.in_err-read_if_open.field-0.0 in
+    rw (p.1, p.2) (subst P (i.unwritten honest).same (c.in_err-read_if_open.ensures.refused (i.kept.honest.1 honest)))
 
 pub loop-journal-preserved : goal.loop-journal-preserved
 loop-journal-preserved g c =

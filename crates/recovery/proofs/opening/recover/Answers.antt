@@ -16,7 +16,8 @@ returns-in_err-carry_out_all-clause-opens g c =
     record {
       kept = kept_then e.kept (kept_err c.from_residual-in_err-carry_out_all.result (p.1 ∙ ap Err p.2) c.in_err-carry_out_all.ensures.kept);
       ended = λ honest. rw (p.1, p.2)
-          (has_failed disk c.args.device.now c.judge.new.device c.in_ok-table.table (batches_of c.in_ok-table.found.items) (e.volume honest) (e.unwritten honest) c.in_err-carry_out_all.field-0.0 c.carry_out_all.new.device c.in_err-carry_out_all.ensures.fault);
+          (has_failed disk c.args.device.now c.judge.new.device c.in_ok-table.table (batches_of c.in_ok-table.found.items) (e.volume honest) (e.unwritten honest) c.in_err-carry_out_all.field-0.0 c.carry_out_all.new.device
+          (length c.in_ok-table.found.items) (sym (length-map c.in_ok-table.found.items batch_of)) c.in_err-carry_out_all.ensures.fault e.calls c.in_err-carry_out_all.ensures.most);
       within = λ honest.
           left_within disk c.args.device.now c.judge.new.device c.in_ok-table.table (batches_of c.in_ok-table.found.items) (e.volume honest) (e.unwritten honest) c.carry_out_all.new.device
           c.geometry.result c.geometry.ensures.value (c.carry_out_all.ensures.time (e.kept.honest.1 honest));
