@@ -223,6 +223,13 @@ sync_time result disk new done refused = ⊎_elim
     (time_of_none disk (raised disk.calls) (raised disk.faults) (may_leave_of disk) (λ c left. left)))
     (either result done refused)
 
+-- a write, done or refused, makes nothing surer
+pub write_keeps : {T E : Type 0} (result : Result T E) (disk new : Recorded) (at : ℕ) (bytes : List ℕ) → at + length bytes ≤ length (seen_of disk) → OnOk result (new ≡ after_change disk (write at bytes)) → OnErr result (new ≡ after_refusal disk) → (c : List ℕ) → may_leave_of disk c → may_leave_of new c
+write_keeps result disk new at bytes fits done refused c left = ⊎_elim
+    (λ (is : new ≡ after_change disk (write at bytes)). subst (λ (d : Recorded). may_leave_of d c) (sym is) (any_torn disk.first disk.changes at bytes fits c (torn_from_none at (length bytes) left)))
+    (λ (is : new ≡ after_refusal disk). subst (λ (d : Recorded). may_leave_of d c) (sym is) left)
+    (either result done refused)
+
 -- a write that is done leaves any bytes in its range
 pub write_any : {T E : Type 0} (result : Result T E) (disk new : Recorded) (at : ℕ) (bytes : List ℕ) → at + length bytes ≤ length (seen_of disk) → OnOk result (new ≡ after_change disk (write at bytes)) → OnOk result ((c : List ℕ) → TornFrom at (length bytes) (may_leave_of disk) c → may_leave_of new c)
 write_any (Ok x) disk new at bytes fits done = λ c from. subst (λ (d : Recorded). may_leave_of d c) (sym done) (any_torn disk.first disk.changes at bytes fits c from)

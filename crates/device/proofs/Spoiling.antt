@@ -13,6 +13,7 @@ wrote_more {may_leave = may_leave} {at = at} {len = len} {old = old} {mid = mid}
     let wider : (c : List ℕ) → TornFrom from n (may_leave mid) c → TornFrom at len (may_leave old) c =
     λ c torn. let was = so_far.left torn.0 torn.1 in (was.0, was.1, torn_twice was.2 (torn_wider torn.2 at len le end)) in
     record {
+      keeps = λ honest c may. more.keeps (so_far.honest.1 honest) c (so_far.keeps honest c may);
       torn = λ honest. torn_twice (so_far.torn honest) (torn_wider (more.torn (so_far.honest.1 honest)) at len le end);
       left = λ c left. wider c (more.left c left);
       time = leaves_then so_far.time (leaves_weaker more.time wider);
@@ -24,6 +25,7 @@ wrote_more {may_leave = may_leave} {at = at} {len = len} {old = old} {mid = mid}
 pub wrote_none : {D : Type 0} {seen : D → List ℕ} {may_leave : D → List ℕ → Type 0} {moment : D → ℕ} {left_since : D → ℕ → List ℕ → Type 0} {is_honest : D → Type 0} (at len : ℕ) (device : D) → ((c : List ℕ) → left_since device (moment device) c → may_leave device c) → WroteWithin seen may_leave moment left_since is_honest at len device device
 wrote_none {seen = seen} at len device since_now = record {
   torn = λ honest. torn_none at len (seen device);
+  keeps = λ honest c may. may;
   left = λ c left. torn_from_none at len left;
   time = leaves_weaker (leaves_at_start since_now) (λ c left. torn_from_none at len left);
   honest = (λ h. h, λ h. h);

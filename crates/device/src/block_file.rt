@@ -51,6 +51,7 @@ pub trait BlockFile {
     fn write_all_at(&mut self, bytes: &[u8], at: u64) -> io::Result<()>
         ensures written { is_honest self.old → OnOk result (seen self.new ≡ written (seen self.old) at bytes.now) }
         ensures torn { IsErr result → is_honest self.old → Torn at (length bytes.now) (seen self.old) (seen self.new) }
+        ensures keeps { is_honest self.old → (c : List ℕ) → may_leave self.old c → may_leave self.new c }
         ensures left { (c : List ℕ) → may_leave self.new c → TornFrom at (length bytes.now) (may_leave self.old) c }
         ensures time { LeavesOnly moment left_since self.old self.new
             (TornFrom at (length bytes.now) (may_leave self.old)) }

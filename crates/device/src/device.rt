@@ -56,12 +56,13 @@ pub trait Device {
         ensures done { IsOk result → faults_met self.new ≡ faults_met self.old };
 
     /// Writes bytes from an offset on. Whether it succeeds or not, a crash before the next sync that succeeds may leave
-    /// any bytes in the range; where it fails, a read too may give any bytes there.
+    /// any bytes in the range; where it fails, a read too may give any bytes there. Nothing is surer than before.
     fn write(&mut self, at: u64, bytes: &[u8]) -> Result<(), DeviceFault>
         requires { at + length bytes.now ≤ length (seen self.old) }
 
         ensures written { is_honest self.old → OnOk result (seen self.new ≡ written (seen self.old) at bytes.now) }
         ensures torn { IsErr result → is_honest self.old → Torn at (length bytes.now) (seen self.old) (seen self.new) }
+        ensures keeps { is_honest self.old → (c : List ℕ) → may_leave self.old c → may_leave self.new c }
         ensures left { (c : List ℕ) → may_leave self.new c → TornFrom at (length bytes.now) (may_leave self.old) c }
         ensures time { LeavesOnly moment left_since self.old self.new
             (TornFrom at (length bytes.now) (may_leave self.old)) }

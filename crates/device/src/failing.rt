@@ -145,6 +145,8 @@ impl<D: Device> Device for FailingDisk<D> {
             → OnOk result (D.seen self.new.inner ≡ written (D.seen self.old.inner) at bytes.now) }
         ensures torn { IsErr result → D.is_honest self.old.inner
             → Torn at (length bytes.now) (D.seen self.old.inner) (D.seen self.new.inner) }
+        ensures keeps { D.is_honest self.old.inner
+            → (c : List ℕ) → D.may_leave self.old.inner c → D.may_leave self.new.inner c }
         ensures left { (c : List ℕ)
             → D.may_leave self.new.inner c → TornFrom at (length bytes.now) (D.may_leave self.old.inner) c }
         ensures time { LeavesOnly D.moment D.left_since self.old.inner self.new.inner

@@ -151,6 +151,8 @@ impl<F: BlockFile> Device for FileDisk<F> {
             → OnOk result (F.seen self.new.file ≡ written (F.seen self.old.file) at bytes.now) }
         ensures torn { IsErr result → F.is_honest self.old.file
             → Torn at (length bytes.now) (F.seen self.old.file) (F.seen self.new.file) }
+        ensures keeps { F.is_honest self.old.file
+            → (c : List ℕ) → F.may_leave self.old.file c → F.may_leave self.new.file c }
         ensures left { (c : List ℕ)
             → F.may_leave self.new.file c → TornFrom at (length bytes.now) (F.may_leave self.old.file) c }
         ensures time { LeavesOnly F.moment F.left_since self.old.file self.new.file

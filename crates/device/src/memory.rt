@@ -185,6 +185,7 @@ impl<A: Allocator + Copy> Device for MemDisk<A> {
 
         ensures written { OnOk result (seen_of self.new ≡ written (seen_of self.old) at bytes.now) }
         ensures len { length (seen_of self.new) ≡ length (seen_of self.old) }
+        ensures keeps { (c : List ℕ) → may_leave_of self.old c → may_leave_of self.new c }
         ensures left { (c : List ℕ)
             → may_leave_of self.new c → TornFrom at (length bytes.now) (may_leave_of self.old) c }
         ensures time { LeavesOnly moment_of left_since_of self.old self.new

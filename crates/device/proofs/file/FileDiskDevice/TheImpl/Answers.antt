@@ -34,6 +34,7 @@ write-tells g c =
     record {
       written = λ honest. written_fitted c.result old.size new.size c.args.at (file.seen old.file) (file.seen new.file) c.args.bytes.now size honest.1 (c.ensures.len honest.0) (c.ensures.written honest.0);
       torn = λ failed honest. torn_fitted old.size new.size c.args.at (length c.args.bytes.now) (file.seen old.file) (file.seen new.file) size honest.1 (c.ensures.len honest.0) (c.ensures.torn failed honest.0);
+      keeps = λ honest. c.ensures.keeps honest.0;
       left = c.ensures.left;
       time = search rules;
       honest = honest_over file.is_honest file.seen old new size c.ensures.honest c.ensures.len;

@@ -1,7 +1,7 @@
 use Rattle.std.proofs.Common.{rules}
 use Rattle.device.specs.Memory.Change.{write, sync}
 use Rattle.device.specs.Overlay.{as_recorded}
-use Rattle.device.proofs.Replay.{write_left, write_time, sync_time}
+use Rattle.device.proofs.Replay.{write_left, write_keeps, write_time, sync_time}
 use Rattle.device.proofs.Overlays.{as_changed, as_refused, overlay_time, length_after_write, sure_after_sync}
 use Rattle.device.proofs.overlay.OverlayDiskDevice.TheImpl.Goals as goal
 
@@ -14,6 +14,7 @@ write-tells g c =
     record {
       written = search rules;
       torn = search rules;
+      keeps = λ honest. write_keeps c.result old new c.args.at c.args.bytes.now c.requires done refused;
       left = write_left c.result old new c.args.at c.args.bytes.now c.requires done refused;
       time = overlay_time g.D.Device.seen c.args.self.now c.new.self.now _ (write_time c.result old new c.args.at c.args.bytes.now c.requires done refused);
       honest = search rules;
