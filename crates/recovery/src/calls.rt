@@ -97,6 +97,7 @@ pub fn write_synced<D: Device>(device: &mut D, at: u64, bytes: &[u8]) -> Result<
     ensures kept { IsAccounted D.Device device.old result device.new }
     ensures fault { IfErr result (λ refusal. refusal ≡ Refusal.Device) }
     ensures calls { OnOk result (Rises 2 (D.calls_made device.old) (D.calls_made device.new)) }
+    ensures most { RisesWithin 2 (D.calls_made device.old) (D.calls_made device.new) }
 {
     write(device, at, bytes)?;
     sync(device)

@@ -5,7 +5,7 @@ ghost use Rattle.volume_codec.specs.Files.{asked_by, asked_by_pairs};
 ghost use Rattle.volume_codec.specs.Layout.{GeometryValue, IsGeometry, journals_of, gate_block, first_home, block_at};
 ghost use Rattle.volume_codec.specs.Text.{zeros};
 ghost use Rattle.volume_codec.specs.Super.{SuperValue, IsAsked, Fits, block_count, geometry_of};
-ghost use Rattle.recovery.specs.Counts.{Rises, IsAccounted};
+ghost use Rattle.recovery.specs.Counts.{Rises, RisesWithin, IsAccounted};
 ghost use Rattle.recovery.specs.Format.{IsBlank, IsPartlyFormatted, HasFormatted, LeftByFormat, RefusesFormat, format_calls};
 ghost use Rattle.recovery.specs.inside.Erasing.{IsErased, AreClosed};
 
@@ -62,6 +62,7 @@ fn erase<D: Device>(device: &mut D, from: u64, to: u64) -> Result<(), Refusal>
     ensures fault { IfErr result (λ refusal. refusal ≡ Refusal.Device) }
     ensures calls { OnOk result
         (Rises ((to - from + 32767) / 32768) (D.calls_made device.old) (D.calls_made device.new)) }
+    ensures most { RisesWithin ((to - from + 32767) / 32768) (D.calls_made device.old) (D.calls_made device.new) }
 {
     let zeros = zero_piece();
     let mut at = from;
@@ -88,6 +89,7 @@ fn close_gates<D: Device>(device: &mut D, geometry: &Geometry) -> Result<(), Ref
     ensures fault { IfErr result (λ refusal. refusal ≡ Refusal.Device) }
     ensures calls { OnOk result
         (Rises (journals_of geometry.now.layout) (D.calls_made device.old) (D.calls_made device.new)) }
+    ensures most { RisesWithin (journals_of geometry.now.layout) (D.calls_made device.old) (D.calls_made device.new) }
 {
     for journal in 0..geometry.journals() {
         let gate = geometry.gate_block(journal);
@@ -113,6 +115,7 @@ fn write_table<D: Device, A: Allocator + Copy>(
     ensures fault { IfErr result (λ refusal. refusal ≡ Refusal.Device) }
     ensures calls { OnOk result
         (Rises (format_calls table.now) (D.calls_made device.old) (D.calls_made device.new)) }
+    ensures most { RisesWithin (format_calls table.now) (D.calls_made device.old) (D.calls_made device.new) }
 {
     let geometry = table.geometry();
     let homes = PAGE * u64::from(geometry.first_home());
@@ -129,7 +132,8 @@ fn write_table<D: Device, A: Allocator + Copy>(
 ///
 /// It writes zeros over all home blocks, 32,768 bytes at a time, closes each gate, syncs, writes the super block and
 /// syncs. A crash until the super block's write begins leaves block 0 as it was; one since then may leave any bytes in
-/// it, and leaves the home blocks zero and the gates closed.
+/// it, and leaves the home blocks zero and the gates closed. Where it is refused it makes no more device calls than
+/// where it is not.
 pub fn format_as<D: Device, A: Allocator + Copy>(
     alloc: A,
     device: &mut D,
@@ -146,6 +150,8 @@ pub fn format_as<D: Device, A: Allocator + Copy>(
         (LeftByFormat D.Device layout (asked_by files.now) slots device.old) }
     ensures calls { OnOk result ((table : SuperValue) → IsAsked layout (asked_by files.now) slots table
         → Rises (format_calls table) (D.calls_made device.old) (D.calls_made device.new)) }
+    ensures most { (table : SuperValue) → IsAsked layout (asked_by files.now) slots table
+        → RisesWithin (format_calls table) (D.calls_made device.old) (D.calls_made device.new) }
     ensures refused { IfErr result (RefusesFormat layout (asked_by files.now) slots (length (D.seen device.old))) }
     ensures unchanged { IfErr result (λ refusal. (refusal ≡ Refusal.Device) ⊎ (device.new ≡ device.old)) }
     ensures kept { IsAccounted D.Device device.old result device.new }
@@ -175,6 +181,8 @@ pub fn format<D: Device, A: Allocator + Copy>(
         (LeftByFormat D.Device 1 (asked_by_pairs files.now) slots device.old) }
     ensures calls { OnOk result ((table : SuperValue) → IsAsked 1 (asked_by_pairs files.now) slots table
         → Rises (format_calls table) (D.calls_made device.old) (D.calls_made device.new)) }
+    ensures most { (table : SuperValue) → IsAsked 1 (asked_by_pairs files.now) slots table
+        → RisesWithin (format_calls table) (D.calls_made device.old) (D.calls_made device.new) }
     ensures refused { IfErr result (RefusesFormat 1 (asked_by_pairs files.now) slots (length (D.seen device.old))) }
     ensures unchanged { IfErr result (λ refusal. (refusal ≡ Refusal.Device) ⊎ (device.new ≡ device.old)) }
     ensures kept { IsAccounted D.Device device.old result device.new }

@@ -80,3 +80,10 @@ returns-in_err-write-clause-time g c =
     let i = c.loop-at.invariant in
     leaves_on {P = TornFrom c.args.from (c.args.to - c.args.from) (g.D.Device.may_leave c.args.device.now)} i.time c.in_err-write.ensures.time (left_more c.args.from (c.args.to - c.args.from) c.loop-at.at _ i.left i.low
     (omega (arith, i.high, c.min-piece.ensures, length-take-le c.min-piece.result c.zero_piece-zeros.result)))
+
+pub returns-in_err-write-clause-most : goal.returns-in_err-write-clause-most
+returns-in_err-write-clause-most g c = λ small.
+    let i = c.loop-at.invariant in
+    let more : c.loop-at.at < c.args.to = omega (arith, c.loop-at-test.true) in
+    let count = calls_more c.args.from c.loop-at.at c.args.to c.min-piece.result i.low more (omega (arith, c.min-piece.ensures)) (omega (arith, c.min-piece.ensures)) i.whole in
+    omega (arith, small, i.high, count, i.calls, c.in_err-write.ensures.calls, c.min-piece.ensures)

@@ -6,7 +6,7 @@ use Rattle.page_entry.specs.declared.refusal.Refusal.TheVariants.{Device}
 use Rattle.volume_codec.specs.Files.{asked_by}
 use Rattle.volume_codec.specs.Super.{SuperValue, block_count}
 use Rattle.volume_codec.proofs.TableLemmas.{one_asked}
-use Rattle.recovery.specs.Format.{RefusesFormat}
+use Rattle.recovery.specs.Format.{RefusesFormat, format_calls}
 use Rattle.recovery.proofs.formatting.format_as.Goals as goal
 
 pub returns-clause-refused : goal.returns-clause-refused
@@ -28,3 +28,9 @@ returns-clause-crash g c = λ honest.
     let same = one_asked c.args.layout (asked_by c.args.files.now) c.args.slots counted.0 c.in_ok-table.table counted.1 c.in_ok-table.ensures.ok in
     let blocks = counted.2 ∙ ap (λ (v : SuperValue). block_count v) same in
     leaves_weaker (c.write_table.ensures.crash honest) (λ l partly. inr (c.in_ok-table.table, record { asked = c.in_ok-table.ensures.ok; long = omega (arith, blocks) }, partly))
+
+pub returns-clause-most : goal.returns-clause-most
+returns-clause-most g c = λ table asked small.
+    let same = one_asked c.args.layout (asked_by c.args.files.now) c.args.slots table c.in_ok-table.table asked c.in_ok-table.ensures.ok in
+    let count = ap (λ (v : SuperValue). format_calls v) same in
+    omega (arith, small, count, c.write_table.ensures.most)

@@ -134,3 +134,31 @@ returns-clause-calls g c =
     (λ (two : Rises 2 (g.D.Device.calls_made c.sync.new.device) (g.D.Device.calls_made c.write_synced.new.device)). λ small.
     omega (arith, blocks, homes, journals, erasing, c.in_ok-close_gates.ensures.calls, c.in_ok-sync.ensures.calls, two, c.from-homes.ensures, c.first_home.ensures.value, c.from.ensures, c.block_count.ensures.value))
     c.write_synced.ensures.calls
+
+pub returns-in_err-erase-clause-most : goal.returns-in_err-erase-clause-most
+returns-in_err-erase-clause-most g c = λ small.
+    let blocks = ap (λ (h : GeometryValue). h.blocks) c.geometry-geometry.ensures.value in
+    let homes = ap (λ (h : GeometryValue). first_home h.layout h.slots) c.geometry-geometry.ensures.value in
+    let journals = ap (λ (h : GeometryValue). journals_of h.layout) c.geometry-geometry.ensures.value in
+    omega (arith, small, blocks, homes, journals, c.in_err-erase.ensures.most, c.from-homes.ensures, c.first_home.ensures.value, c.from.ensures, c.block_count.ensures.value)
+
+pub returns-in_err-close_gates-clause-most : goal.returns-in_err-close_gates-clause-most
+returns-in_err-close_gates-clause-most g c = λ small.
+    let blocks = ap (λ (h : GeometryValue). h.blocks) c.geometry-geometry.ensures.value in
+    let homes = ap (λ (h : GeometryValue). first_home h.layout h.slots) c.geometry-geometry.ensures.value in
+    let journals = ap (λ (h : GeometryValue). journals_of h.layout) c.geometry-geometry.ensures.value in
+    omega (arith, small, blocks, homes, journals, c.in_ok-erase.ensures.calls, c.in_err-close_gates.ensures.most, c.from-homes.ensures, c.first_home.ensures.value, c.from.ensures, c.block_count.ensures.value)
+
+pub returns-in_err-sync-clause-most : goal.returns-in_err-sync-clause-most
+returns-in_err-sync-clause-most g c = λ small.
+    let blocks = ap (λ (h : GeometryValue). h.blocks) c.geometry-geometry.ensures.value in
+    let homes = ap (λ (h : GeometryValue). first_home h.layout h.slots) c.geometry-geometry.ensures.value in
+    let journals = ap (λ (h : GeometryValue). journals_of h.layout) c.geometry-geometry.ensures.value in
+    omega (arith, small, blocks, homes, journals, c.in_ok-erase.ensures.calls, c.in_ok-close_gates.ensures.calls, c.in_err-sync.ensures.calls, c.from-homes.ensures, c.first_home.ensures.value, c.from.ensures, c.block_count.ensures.value)
+
+pub returns-clause-most : goal.returns-clause-most
+returns-clause-most g c = λ small.
+    let blocks = ap (λ (h : GeometryValue). h.blocks) c.geometry-geometry.ensures.value in
+    let homes = ap (λ (h : GeometryValue). first_home h.layout h.slots) c.geometry-geometry.ensures.value in
+    let journals = ap (λ (h : GeometryValue). journals_of h.layout) c.geometry-geometry.ensures.value in
+    omega (arith, small, blocks, homes, journals, c.in_ok-erase.ensures.calls, c.in_ok-close_gates.ensures.calls, c.in_ok-sync.ensures.calls, c.write_synced.ensures.most, c.from-homes.ensures, c.first_home.ensures.value, c.from.ensures, c.block_count.ensures.value)
