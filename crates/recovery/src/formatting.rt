@@ -131,9 +131,8 @@ fn write_table<D: Device, A: Allocator + Copy>(
 /// then.
 ///
 /// It writes zeros over all home blocks, 32,768 bytes at a time, closes each gate, syncs, writes the super block and
-/// syncs. A crash until the super block's write begins leaves block 0 as it was; one since then may leave any bytes in
-/// it, and leaves the home blocks zero and the gates closed. Where it is refused it makes no more device calls than
-/// where it is not.
+/// syncs. A crash meanwhile leaves block 0 as it was, or any bytes in it and all the rest of the volume empty: home
+/// blocks of zeros, and closed gates. Where it is refused it makes no more device calls than where it is not.
 pub fn format_as<D: Device, A: Allocator + Copy>(
     alloc: A,
     device: &mut D,
