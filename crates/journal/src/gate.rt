@@ -1,6 +1,6 @@
 // A gate is opened or closed.
-ghost use Rattle.std.specs.Prelude.{◌≡◌, ◌↔◌, ℕ, ◌+◌, ◌-◌, ◌*◌, ◌^◌, ◌<◌, ◌≤◌, List, [], ◌∷◌, length, OnOk, IsOk, IsErr};
-ghost use Rattle.device.specs.Device.{written, Torn, TornFrom, LeavesOnly};
+ghost use Rattle.std.specs.Prelude.{◌*◌, ◌<◌, ◌≤◌, [], ◌∷◌, length};
+ghost use Rattle.device.specs.Did.{HasWritten};
 ghost use Rattle.volume_codec.specs.Layout.{journals_of, gate_block};
 
 use device::{Device, DeviceFault};
@@ -15,23 +15,8 @@ fn write_gate<D: Device>(
 ) -> Result<(), DeviceFault>
     requires long { 4096 * geometry.now.blocks ≤ length (D.seen device.old) }
     requires there { journal < journals_of geometry.now.layout }
-
-    ensures written { D.is_honest device.old → OnOk result (D.seen device.new
-        ≡ written (D.seen device.old) (4096 * gate_block geometry.now.slots journal) (byte ∷ [])) }
-    ensures torn { IsErr result → D.is_honest device.old
-        → Torn (4096 * gate_block geometry.now.slots journal) 1 (D.seen device.old) (D.seen device.new) }
-    ensures left { (c : List ℕ) → D.may_leave device.new c
-        → TornFrom (4096 * gate_block geometry.now.slots journal) 1 (D.may_leave device.old) c }
-    ensures time { LeavesOnly D.moment D.left_since device.old device.new
-        (TornFrom (4096 * gate_block geometry.now.slots journal) 1 (D.may_leave device.old)) }
-
-    ensures honest { D.is_honest device.new ↔ D.is_honest device.old }
-    ensures len { length (D.seen device.new) ≡ length (D.seen device.old) }
-    ensures calls { D.calls_made device.old < 2 ^ 64 - 1 → D.calls_made device.new ≡ D.calls_made device.old + 1 }
-    ensures failed { IsErr result → D.faults_met device.old < 2 ^ 64 - 1
-        → D.faults_met device.new ≡ D.faults_met device.old + 1 }
-    ensures done { IsOk result → D.faults_met device.new ≡ D.faults_met device.old }
-    ensures faults_stay { 2 ^ 64 - 1 ≤ D.faults_met device.old → D.faults_met device.new ≡ D.faults_met device.old }
+    ensures { HasWritten D.Device device.old (4096 * gate_block geometry.now.slots journal) (byte ∷ [])
+        result device.new }
 {
     let gate = geometry.gate_block(journal);
     prove!(gate < geometry.block_count());
@@ -46,23 +31,8 @@ pub(crate) fn open_gate<D: Device>(
 ) -> Result<(), DeviceFault>
     requires long { 4096 * geometry.now.blocks ≤ length (D.seen device.old) }
     requires there { journal < journals_of geometry.now.layout }
-
-    ensures opened { D.is_honest device.old → OnOk result (D.seen device.new
-        ≡ written (D.seen device.old) (4096 * gate_block geometry.now.slots journal) (0xA7 ∷ [])) }
-    ensures torn { IsErr result → D.is_honest device.old
-        → Torn (4096 * gate_block geometry.now.slots journal) 1 (D.seen device.old) (D.seen device.new) }
-    ensures left { (c : List ℕ) → D.may_leave device.new c
-        → TornFrom (4096 * gate_block geometry.now.slots journal) 1 (D.may_leave device.old) c }
-    ensures time { LeavesOnly D.moment D.left_since device.old device.new
-        (TornFrom (4096 * gate_block geometry.now.slots journal) 1 (D.may_leave device.old)) }
-
-    ensures honest { D.is_honest device.new ↔ D.is_honest device.old }
-    ensures len { length (D.seen device.new) ≡ length (D.seen device.old) }
-    ensures calls { D.calls_made device.old < 2 ^ 64 - 1 → D.calls_made device.new ≡ D.calls_made device.old + 1 }
-    ensures failed { IsErr result → D.faults_met device.old < 2 ^ 64 - 1
-        → D.faults_met device.new ≡ D.faults_met device.old + 1 }
-    ensures done { IsOk result → D.faults_met device.new ≡ D.faults_met device.old }
-    ensures faults_stay { 2 ^ 64 - 1 ≤ D.faults_met device.old → D.faults_met device.new ≡ D.faults_met device.old }
+    ensures { HasWritten D.Device device.old (4096 * gate_block geometry.now.slots journal) (0xA7 ∷ [])
+        result device.new }
 {
     write_gate(device, geometry, journal, OPEN_GATE)
 }
@@ -75,23 +45,8 @@ pub fn close_gate<D: Device>(
 ) -> Result<(), DeviceFault>
     requires long { 4096 * geometry.now.blocks ≤ length (D.seen device.old) }
     requires there { journal < journals_of geometry.now.layout }
-
-    ensures closed { D.is_honest device.old → OnOk result (D.seen device.new
-        ≡ written (D.seen device.old) (4096 * gate_block geometry.now.slots journal) (0 ∷ [])) }
-    ensures torn { IsErr result → D.is_honest device.old
-        → Torn (4096 * gate_block geometry.now.slots journal) 1 (D.seen device.old) (D.seen device.new) }
-    ensures left { (c : List ℕ) → D.may_leave device.new c
-        → TornFrom (4096 * gate_block geometry.now.slots journal) 1 (D.may_leave device.old) c }
-    ensures time { LeavesOnly D.moment D.left_since device.old device.new
-        (TornFrom (4096 * gate_block geometry.now.slots journal) 1 (D.may_leave device.old)) }
-
-    ensures honest { D.is_honest device.new ↔ D.is_honest device.old }
-    ensures len { length (D.seen device.new) ≡ length (D.seen device.old) }
-    ensures calls { D.calls_made device.old < 2 ^ 64 - 1 → D.calls_made device.new ≡ D.calls_made device.old + 1 }
-    ensures failed { IsErr result → D.faults_met device.old < 2 ^ 64 - 1
-        → D.faults_met device.new ≡ D.faults_met device.old + 1 }
-    ensures done { IsOk result → D.faults_met device.new ≡ D.faults_met device.old }
-    ensures faults_stay { 2 ^ 64 - 1 ≤ D.faults_met device.old → D.faults_met device.new ≡ D.faults_met device.old }
+    ensures { HasWritten D.Device device.old (4096 * gate_block geometry.now.slots journal) (0 ∷ [])
+        result device.new }
 {
     write_gate(device, geometry, journal, CLOSED_GATE)
 }
