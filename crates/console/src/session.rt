@@ -1,7 +1,7 @@
 // A script is run on a device, and its replies are printed as they come.
-ghost use Rattle.std.specs.Prelude.{◌≡◌, List, length, IfOk, IfErr};
+ghost use Rattle.std.specs.Prelude.{◌≡◌, List, length, take, IfOk, IfErr};
 ghost use Rattle.machine.specs.declared.act.Reply.{Reply};
-ghost use Rattle.engine.specs.Engine.{HasRefused, HasRun, KeepsDevice, handed_back};
+ghost use Rattle.engine.specs.Engine.{HasNotStarted, HasRun, KeepsDevice, handed_back};
 ghost use Rattle.console.specs.Replies.{ArePrintedOf};
 
 use crate::printer::Printer;
@@ -21,10 +21,10 @@ pub fn run_script<D: Device, A: Allocator + Copy, W: Write + Drop>(
 ) -> Result<D, (Refusal, D)>
     ensures ran { IfOk result (λ after. (replies : List Reply)
         × ArePrintedOf W.contents (length script.now.steps.items) printer.old replies printer.new
-        × HasRun D.Device device script.now.shape script.now.steps.items replies after) }
-    ensures refused { IfErr result (λ refused. HasRefused D.Device device script.now.shape refused.1 refused.0) }
+        × HasRun D.Device device script.now.shape (take (length replies) script.now.steps.items) replies after) }
+    ensures refused { IfErr result (λ refused. HasNotStarted D.Device device script.now.shape refused.1 refused.0
+        × (printer.new ≡ printer.old)) }
     ensures kept { KeepsDevice D.Device device (handed_back result) }
-    ensures unprinted { IfErr result (λ refused. printer.new ≡ printer.old) }
 {
     engine::run(alloc, device, script.shape, &script.steps, printer)
 }

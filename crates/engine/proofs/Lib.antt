@@ -1,4 +1,4 @@
 pub mod Runs
 pub mod Starts
 pub mod Crashes
-pub mod Found
+pub mod Survival

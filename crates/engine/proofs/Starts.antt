@@ -1,4 +1,4 @@
--- A machine that was booted over an opened volume is at the start of a run, and its steps are a run.
+-- A machine that was booted over an opened volume is at the start of a run.
 use Rattle.std.proofs.Common.{ℕ, List, refl, sym, ◌∙◌, inl, inr, subst}
 use Rattle.device.specs.declared.device.Device.{Ghosts}
 use Rattle.page_entry.specs.declared.refusal.Refusal.{Refusal}
@@ -11,14 +11,11 @@ use Rattle.recovery.proofs.Reopened.{opened_contents}
 use Rattle.machine.specs.declared.act.Reply.{Reply}
 use Rattle.machine.specs.declared.act.Shape.{Shape}
 use Rattle.machine.specs.declared.act.Step.{Step}
-use Rattle.machine.specs.Crashes.{Begins, Throughout}
+use Rattle.machine.specs.Crashes.{Begins}
 use Rattle.machine.specs.Fresh.{IsShape, fresh}
-use Rattle.machine.specs.Laws.{EachStep, FaultsAreServed, ReadsBack}
-use Rattle.machine.specs.Steps.{IsLawful, told_first}
-use Rattle.machine.specs.OnTrack.{IsOnTrack}
 use Rattle.machine.specs.Runs.{StepsTaken}
 use Rattle.machine.specs.State.{Whole}
-use Rattle.engine.specs.Engine.{history_of, HasStarted, HasRefused, IsRun, KeepsDevice}
+use Rattle.engine.specs.Engine.{HasStarted, HasNotStarted, KeepsDevice}
 use Rattle.engine.proofs.Runs.{taken_kept}
 
 -- the files that an honest device recovered to when it was opened
@@ -27,7 +24,7 @@ opened_files disk before volume has =
     record { table = volume.table; contents = block_at (disk.seen volume.device); recovers = opened_contents disk before volume.device volume.table has; files_are = refl }
 
 booted_begins : {D : Type 0} (disk : Ghosts D) (volume : VolumeState D) (shape : Shape) → IsShape volume.table shape → IsAtRest disk volume → disk.is_honest volume.device
-    → Begins disk.seen disk.may_leave disk.is_honest (files_of volume.table (disk.seen volume.device)) (record { state = fresh volume.table volume.lengths shape; device = volume.device })
+    → Begins disk (files_of volume.table (disk.seen volume.device)) (record { state = fresh volume.table volume.lengths shape; device = volume.device })
 booted_begins disk volume shape shaped rest honest = record {
   fresh = record { shape = shape; fits = shaped; as_booted = refl };
   volume = rest.holds;
@@ -39,38 +36,13 @@ booted_begins disk volume shape shaped rest honest = record {
 
 -- so a run may begin on it
 pub begins : {D : Type 0} (disk : Ghosts D) (before : D) (shape : Shape) (start : Whole D) (started : HasStarted disk before shape start) → disk.is_honest before
-    → (files : List File) × RecoversTo (disk.seen before) files × Begins disk.seen disk.may_leave disk.is_honest files start
+    → (files : List File) × RecoversTo (disk.seen before) files × Begins disk files start
 begins {D} disk before shape start started honest =
     let volume = started.volume in
     let here = started.opened.kept.honest.1 honest in
     let files = files_of volume.table (disk.seen volume.device) in
-    let P : Whole D → Type 0 = λ w. Begins disk.seen disk.may_leave disk.is_honest files w in
+    let P : Whole D → Type 0 = λ w. Begins disk files w in
     (files, opened_files disk before volume (started.opened.ended honest), subst P (sym started.booted) (booted_begins disk volume shape started.shaped (started.settled.at_rest here) here))
-
--- what holds of each run that led to a machine
-abbrev OfRuns : {D : Type 0} → Ghosts D → Whole D → (List File → Whole D → List Step → List Reply → Type 0) → Type 0
-OfRuns {D} disk last P = (files : List File) (start : Whole D) (steps : List Step) (replies : List Reply) → IsOnTrack disk files start steps replies last → P files start steps replies
-
--- the steps that are made on it are a run
-pub run_of : {D : Type 0} (disk : Ghosts D) (before : D) (shape : Shape) (start : Whole D) (steps : List Step) (replies : List Reply) (last : Whole D) (started : HasStarted disk before shape start)
-    → StepsTaken disk start steps replies last
-    → OfRuns disk last (λ files start steps replies. Throughout disk.seen disk.may_leave disk.moment disk.left_since files (told_first files start.state) start steps replies last)
-    → OfRuns disk last (λ files start steps replies. EachStep (IsLawful files) (told_first files start.state) steps replies)
-    → ((files : List File) (start : Whole D) (steps : List Step) (replies : List Reply) (c : List ℕ) → IsOnTrack disk files start steps replies last → disk.may_leave last.device c → ReadsBack files (history_of files start steps replies) c)
-    → OfRuns disk last (λ files start steps replies. FaultsAreServed steps replies)
-    → disk.is_honest before → IsRun disk before start steps replies last
-run_of disk before shape start steps replies last started taken headline lawful left served honest =
-    let found = begins disk before shape start started honest in
-    let on : IsOnTrack disk found.0 start steps replies last = record { begins = found.2; taken = taken } in
-    record {
-      files = found.0;
-      recovered = found.1;
-      begins = found.2;
-      through = headline found.0 start steps replies on;
-      lawful = lawful found.0 start steps replies on;
-      served = served found.0 start steps replies on;
-      left = λ c may. left found.0 start steps replies c on may;
-    }
 
 -- the device is kept by a start, by a refusal, and by a run
 pub started_kept : {D : Type 0} (disk : Ghosts D) (before : D) (shape : Shape) (start : Whole D) → HasStarted disk before shape start → KeepsDevice disk before start.device
@@ -79,7 +51,7 @@ started_kept {D} disk before shape start started =
     let kept = started.opened.kept in
     subst P (sym started.booted) (record { honest = kept.honest; len = kept.len })
 
-pub refused_kept : {D : Type 0} (disk : Ghosts D) (before : D) (shape : Shape) (after : D) (refusal : Refusal) → HasRefused disk before shape after refusal → KeepsDevice disk before after
+pub refused_kept : {D : Type 0} (disk : Ghosts D) (before : D) (shape : Shape) (after : D) (refusal : Refusal) → HasNotStarted disk before shape after refusal → KeepsDevice disk before after
 refused_kept disk before shape after refusal (inl opens) = record { honest = opens.kept.honest; len = opens.kept.len }
 refused_kept disk before shape after refusal (inr (table, opens, why)) = record { honest = opens.kept.honest; len = opens.kept.len }
 

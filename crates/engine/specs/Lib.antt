@@ -1,3 +1,3 @@
 pub mod Listening
 pub mod Engine
-pub mod Found
+pub mod Survival

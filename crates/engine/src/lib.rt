@@ -5,6 +5,6 @@ mod laws;
 mod listener;
 mod running;
 
-pub use laws::{crashed_since_refusal, crashed_since_start, opened_after_crash, opened_after_run};
+pub use laws::{crashed_since_refusal, ran_since_start};
 pub use listener::Listener;
 pub use running::{run, start};

@@ -2,10 +2,11 @@
 ghost use Rattle.std.specs.Prelude.{◌↔◌, ◌≡◌, List, length, take, IfOk, IfErr, true, false};
 ghost use Rattle.machine.specs.declared.act.Reply.{Reply};
 ghost use Rattle.engine.specs.Listening.{HasListened, HasHeard, HasStopped};
+ghost use Rattle.machine.specs.Fresh.{IsFresh};
 ghost use Rattle.machine.specs.Runs.{StepsTaken};
-ghost use Rattle.engine.specs.Engine.{HasStarted, HasRefused, HasRun, KeepsDevice, handed_back};
+ghost use Rattle.engine.specs.Engine.{HasStarted, HasNotStarted, HasRun, KeepsDevice, handed_back};
 
-use crate::Listener;
+use crate::{Listener, ran_since_start};
 use device::Device;
 use machine::{Act, Machine, Shape, Step};
 use page_entry::Refusal;
@@ -21,7 +22,8 @@ pub fn start<D: Device, A: Allocator + Copy>(
     shape: Shape,
 ) -> Result<Machine<D, A>, (Refusal, D)>
     ensures started { IfOk result (λ machine. HasStarted D.Device device shape machine) }
-    ensures refused { IfErr result (λ refused. HasRefused D.Device device shape refused.1 refused.0) }
+    ensures fresh { IfOk result (λ machine. IsFresh machine.state) }
+    ensures refused { IfErr result (λ refused. HasNotStarted D.Device device shape refused.1 refused.0) }
 {
     let volume = match recovery::open(alloc, device) {
         Ok(volume) => volume,
@@ -87,10 +89,13 @@ fn make_portion<D: Device, A: Allocator + Copy, L: Listener>(
 /// listener before the next step, and hands the device back. It ends after the last step, or where the listener says to
 /// stop.
 ///
-/// On an honest device each reply is by the rules and the laws of the machine; and whatever the steps are, also where
-/// device calls fail, what a crash at any moment leaves recovers to the volume's files after a prefix of the answered
-/// stores that is empty or ends at a mark and has every mark that was acknowledged. The same can be done again on the
-/// device that comes back, and on what a crash left of it.
+/// On an honest device each reply is by the rules and the laws of the machine. Whatever the steps are, also where device
+/// calls fail, what was stored survives (`HasRun.survives`): a crash within a step leaves what recovers to the volume's
+/// files after a prefix of the stores answered before it that is empty or ends at a mark and has every mark that was
+/// acknowledged; a crash after the last step, or none, by all of them. So it is after any number of further openings,
+/// each with a crash or none within and after it; and each opening answers exactly these files, or `Device` where a
+/// device call failed, or `OutOfMemory`, and never `NotAVolume` or `Damaged`. The same can be done again on the device
+/// that comes back, and on what a crash left of it.
 ///
 /// A refusal as of `start`; nothing was told then.
 pub fn run<D: Device, A: Allocator + Copy, L: Listener>(
@@ -102,15 +107,15 @@ pub fn run<D: Device, A: Allocator + Copy, L: Listener>(
 ) -> Result<D, (Refusal, D)>
     ensures ran { IfOk result (λ after. (replies : List Reply)
         × HasListened L.hears (length steps.now) listener.old replies listener.new
-        × HasRun D.Device device shape steps.now replies after) }
-    ensures refused { IfErr result (λ refused. HasRefused D.Device device shape refused.1 refused.0) }
+        × HasRun D.Device device shape (take (length replies) steps.now) replies after) }
+    ensures refused { IfErr result (λ refused. HasNotStarted D.Device device shape refused.1 refused.0
+        × (listener.new ≡ listener.old)) }
     ensures kept { KeepsDevice D.Device device (handed_back result) }
-    ensures untold { IfErr result (λ refused. listener.new ≡ listener.old) }
 {
     match start(alloc, device, shape) {
         Ok(mut machine) => {
             make_steps(&mut machine, steps, listener);
-            machine.keeps_the_laws();
+            ran_since_start(&machine);
             Ok(machine.into_device())
         }
         Err(refused) => Err(refused),

@@ -1,5 +1,6 @@
 -- Each step of a tracked machine keeps it tracked, so the laws hold of a run that began on a volume at rest.
 use Rattle.std.proofs.Common.{ℕ, ◌≡◌, List, [], ◌∷◌, ◌++◌, length, map, get_or, refl, sym, ap, ◌∙◌, subst, arith}
+use Rattle.device.specs.declared.device.Device.{Ghosts}
 use Rattle.volume_codec.specs.Files.{File, TableFile}
 use Rattle.volume_codec.specs.Layout.{block_at}
 use Rattle.volume_codec.proofs.Recovered.{length-lengths_in}
@@ -10,6 +11,7 @@ use Rattle.machine.specs.State.{Whole, length_of}
 use Rattle.machine.specs.Told.{Told, tell, tell_all}
 use Rattle.machine.specs.Laws.{EachStep}
 use Rattle.machine.specs.Steps.{StepMade, IsLawful, told_first}
+use Rattle.machine.specs.Runs.{StepTaken}
 use Rattle.machine.specs.inside.Following.{Follows}
 use Rattle.machine.specs.Crashes.{Begins, StepIsSafe, Throughout}
 use Rattle.machine.specs.inside.Sound.{IsSound, capacity_of}
@@ -23,9 +25,9 @@ use Rattle.machine.proofs.track.Together.{as_told_after, as_told_first, lawful_s
 
 -- ---- lists of steps and replies, one longer
 
-module _ {D : Type 0} (seen : D → List ℕ) (may_leave : D → List ℕ → Type 0) (moment : D → ℕ) (left_since : D → ℕ → List ℕ → Type 0) (files : List File) where
+module _ {D : Type 0} (Safe : Told → Whole D → Step → Reply → Whole D → Type 0) where
   abbrev Through : Told → Whole D → List Step → List Reply → Whole D → Type 0
-  Through = Throughout seen may_leave moment left_since files
+  Through = Throughout Safe
 
   -- one step more is told last
   pub tell_more : (told : Told) (old : Whole D) (steps : List Step) (replies : List Reply) (now : Whole D) (step : Step) (reply : Reply) → Through told old steps replies now
@@ -36,8 +38,8 @@ module _ {D : Type 0} (seen : D → List ℕ) (may_leave : D → List ℕ → Ty
   tell_more told old (first ∷ steps) [] now step reply run = absurd run
 
   pub through_more : (told : Told) (old : Whole D) (steps : List Step) (replies : List Reply) (now : Whole D) (step : Step) (reply : Reply) (new : Whole D) → Through told old steps replies now
-      → StepIsSafe seen may_leave moment left_since files (tell_all told steps replies) now step reply new → Through told old (steps ++ step ∷ []) (replies ++ reply ∷ []) new
-  through_more told old [] [] now step reply new run safe = (new, subst (λ (x : Whole D). StepIsSafe seen may_leave moment left_since files told x step reply new) run safe, refl)
+      → Safe (tell_all told steps replies) now step reply new → Through told old (steps ++ step ∷ []) (replies ++ reply ∷ []) new
+  through_more told old [] [] now step reply new run safe = (new, subst (λ (x : Whole D). Safe told x step reply new) run safe, refl)
   through_more told old (first ∷ steps) (answer ∷ replies) now step reply new run safe = (run.0, run.1, through_more (tell told first answer) run.0 steps replies now step reply new run.2 safe)
   through_more told old [] (answer ∷ replies) now step reply new run safe = absurd run
   through_more told old (first ∷ steps) [] now step reply new run safe = absurd run
@@ -51,15 +53,18 @@ module _ {D : Type 0} (seen : D → List ℕ) (may_leave : D → List ℕ → Ty
 
 -- ---- one step
 
-module _ {D : Type 0} (seen : D → List ℕ) (may_leave : D → List ℕ → Type 0) (moment : D → ℕ) (left_since : D → ℕ → List ℕ → Type 0) (is_honest : D → Type 0)
-    (files : List File) (told : Told) (old : Whole D) (step : Step) (reply : Reply) (new : Whole D) (t : IsTracked files told old.state (seen old.device) (may_leave old.device)) (made : StepMade seen may_leave moment left_since is_honest old step reply new) where
-  sound_after : IsSound new.state
-  sound_after = sound_kept old.state (seen old.device) step reply new.state (seen new.device) t.sound made.answered
+module _ {D : Type 0} (disk : Ghosts D) (files : List File) (told : Told) (old : Whole D) (step : Step) (reply : Reply) (new : Whole D) (t : IsTracked files told old.state (disk.seen old.device) (disk.may_leave old.device))
+    (taken : StepTaken disk old step reply new) (honest : disk.is_honest old.device) where
+  made : StepMade disk old step reply new
+  made = taken.made honest
 
-  pub tracked_kept : IsTracked files (tell told step reply) new.state (seen new.device) (may_leave new.device)
+  sound_after : IsSound new.state
+  sound_after = sound_kept old.state (disk.seen old.device) step reply new.state (disk.seen new.device) t.sound made.answered
+
+  pub tracked_kept : IsTracked files (tell told step reply) new.state (disk.seen new.device) (disk.may_leave new.device)
   tracked_kept =
-      let d = durable_kept seen may_leave moment left_since is_honest files told old step reply new t made sound_after in
-      let a = as_told_after t step reply new.state (seen new.device) made.answered (page_read files told old.state (seen old.device) (may_leave old.device) t) in
+      let d = durable_kept disk files told old step reply new t taken honest sound_after in
+      let a = as_told_after t step reply new.state (disk.seen new.device) made.answered (page_read files told old.state (disk.seen old.device) (disk.may_leave old.device) t) in
       record {
         sound = sound_after;
         files_are = a.pages.files_are;
@@ -73,21 +78,21 @@ module _ {D : Type 0} (seen : D → List ℕ) (may_leave : D → List ℕ → Ty
         written = d.written;
       }
 
-  pub step_safe : StepIsSafe seen may_leave moment left_since files told old step reply new
-  step_safe = step_is_safe seen may_leave moment left_since is_honest files told old step reply new t made sound_after tracked_kept.files_are
+  pub step_safe : StepIsSafe disk files told old step reply new
+  step_safe = step_is_safe disk files told old step reply new t taken honest sound_after tracked_kept.files_are
 
 -- ---- runs
 
-module _ {D : Type 0} (seen : D → List ℕ) (may_leave : D → List ℕ → Type 0) (moment : D → ℕ) (left_since : D → ℕ → List ℕ → Type 0) (is_honest : D → Type 0) (files : List File) (start : Whole D) where
+module _ {D : Type 0} (disk : Ghosts D) (files : List File) (start : Whole D) where
   -- they hold of no steps
-  pub follows_first : Begins seen may_leave is_honest files start → Follows seen may_leave moment left_since is_honest files start [] [] start
+  pub follows_first : Begins disk files start → Follows disk files start [] [] start
   follows_first begins =
       let s = start.state in
       let capacities : s.lengths ≡ map (λ (f : TableFile). f.capacity) s.table.files = begins.lengths_are in
-      let sound = fresh_sound s begins.fresh begins.volume.super_block.fits (ap length capacities ∙ length-lengths_in s.table (block_at (seen start.device)))
+      let sound = fresh_sound s begins.fresh begins.volume.super_block.fits (ap length capacities ∙ length-lengths_in s.table (block_at (disk.seen start.device)))
       (λ file. let same : length_of s file ≡ capacity_of s file = ap (λ (l : List ℕ). get_or l file 0) capacities in omega (arith, same)) in
-      let a = as_told_first seen may_leave is_honest files start begins in
-      let d = durable_at_start seen may_leave is_honest files start sound begins in
+      let a = as_told_first disk files start begins in
+      let d = durable_at_start disk files start sound begins in
       record {
         begins = begins;
         honest = begins.honest;
@@ -108,16 +113,16 @@ module _ {D : Type 0} (seen : D → List ℕ) (may_leave : D → List ℕ → Ty
       }
 
   -- and a step leads on
-  pub follows_more : (steps : List Step) (replies : List Reply) (now : Whole D) (step : Step) (reply : Reply) (new : Whole D) → Follows seen may_leave moment left_since is_honest files start steps replies now
-      → StepMade seen may_leave moment left_since is_honest now step reply new → Follows seen may_leave moment left_since is_honest files start (steps ++ step ∷ []) (replies ++ reply ∷ []) new
-  follows_more steps replies now step reply new on made =
+  pub follows_more : (steps : List Step) (replies : List Reply) (now : Whole D) (step : Step) (reply : Reply) (new : Whole D) → Follows disk files start steps replies now
+      → StepTaken disk now step reply new → Follows disk files start (steps ++ step ∷ []) (replies ++ reply ∷ []) new
+  follows_more steps replies now step reply new on taken =
       let first = told_first files start.state in
       let told = tell_all first steps replies in
-      let t = tracked_kept seen may_leave moment left_since is_honest files told now step reply new on.tracked made in
+      let t = tracked_kept disk files told now step reply new on.tracked taken on.honest in
       record {
         begins = on.begins;
-        honest = made.honest;
-        through = through_more seen may_leave moment left_since files first start steps replies now step reply new on.through (step_safe seen may_leave moment left_since is_honest files told now step reply new on.tracked made);
-        lawful = each_more seen may_leave moment left_since files (IsLawful files) first start steps replies now step reply on.through on.lawful (lawful_step on.tracked step reply new.state (seen new.device) made.answered);
-        tracked = subst (λ (x : Told). IsTracked files x new.state (seen new.device) (may_leave new.device)) (sym (tell_more seen may_leave moment left_since files first start steps replies now step reply on.through)) t;
+        honest = taken.honest.1 on.honest;
+        through = through_more (StepIsSafe disk files) first start steps replies now step reply new on.through (step_safe disk files told now step reply new on.tracked taken on.honest);
+        lawful = each_more (StepIsSafe disk files) (IsLawful files) first start steps replies now step reply on.through on.lawful (lawful_step on.tracked step reply new.state (disk.seen new.device) (taken.made on.honest).answered);
+        tracked = subst (λ (x : Told). IsTracked files x new.state (disk.seen new.device) (disk.may_leave new.device)) (sym (tell_more (StepIsSafe disk files) first start steps replies now step reply on.through)) t;
       }

@@ -20,4 +20,6 @@ pub mod Steps
 pub mod AtStart
 pub mod PagesRead
 pub mod StateLaws
+pub mod Gathered
 pub mod Later
+pub mod NothingStored

@@ -33,12 +33,17 @@ pub record AreFrozenProtected (s : State) : Type 0 where
   pub waiting : map (home_of s.table) s.checkpoint.frozen ≡ frozen_homes s
   pub protected : (owner : FilePage) → is_held s.hardware.memory s.checkpoint owner ≡ true → IsProtected s owner
 
+-- a page of a file that begins before the file's end
+pub record IsInFile (s : State) (owner : FilePage) : Type 0 where
+  pub there : owner.file < length s.table.files
+  pub inside : 4096 * owner.page < length_of s owner.file
+
 -- the bytes of a page up to its file's end
 abbrev pub within_file : State → FilePage → List ℕ → List ℕ
 within_file s owner bytes = take (length_of s owner.file - 4096 * owner.page) bytes
 
 -- the list recovers to contents that have, for this page, these bytes up to its file's end
-pub record HasPage (s : State) (owner : FilePage) (bytes c : List ℕ) : Type 0 where
+pub record HasPart (s : State) (owner : FilePage) (bytes c : List ℕ) : Type 0 where
   pub contents : ℕ → List ℕ
   pub recovers : Recovers s.table contents c
   pub same : within_file s owner (contents (home_of s.table owner)) ≡ within_file s owner bytes

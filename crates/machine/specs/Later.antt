@@ -1,19 +1,39 @@
--- What an opening finds after a run and a crash, and after other openings and crashes between.
-use Rattle.std.specs.Prelude.{ℕ, ◌≡◌, ◌⊎◌, List, Result, Ok, Err}
+-- What openings find after a run and a crash, and after other openings and crashes between.
+use Rattle.std.specs.Prelude.{ℕ, ◌≡◌, List, Result, Ok, Err}
+use Rattle.device.specs.declared.device.Device.{Ghosts}
 use Rattle.page_entry.specs.declared.refusal.Refusal.{Refusal}
 use Rattle.page_entry.specs.declared.refusal.Refusal.TheVariants.{Device, OutOfMemory}
 use Rattle.volume_codec.specs.Files.{File}
 use Rattle.volume_codec.specs.Super.{SuperValue}
+use Rattle.volume_codec.specs.Recovery.{RecoversTo}
+use Rattle.recovery.specs.Counts.{Rises}
+use Rattle.recovery.specs.Opening.{Opens}
 use Rattle.recovery.specs.Volume.{files_of}
 use Rattle.machine.specs.History.{Event, files_after, IsDurablePrefix}
 
--- the files of a volume are these files after a durable prefix of the history
+-- These files are those after a durable prefix of the history.
 pub record AreDurable (files : List File) (history : List Event) (found : List File) : Type 0 where
   pub prefix : List Event
   pub durable : IsDurablePrefix prefix history
   pub files_are : found ≡ files_after files prefix
 
--- an opening that gave a table found such files; one that was refused met a device call that failed, or no memory
-abbrev pub FindsDurable : List File → List Event → Result SuperValue Refusal → List ℕ → Type 0
-FindsDurable files history (Ok table) bytes = AreDurable files history (files_of table bytes)
-FindsDurable files history (Err refusal) bytes = (refusal ≡ Device) ⊎ (refusal ≡ OutOfMemory)
+-- What an opening of a device with these files comes to: exactly these files; or `Device`, where a device call of it
+-- failed; or `OutOfMemory`, where none did. It is refused for no other reason.
+abbrev pub OpensTo : {D : Type 0} → Ghosts D → List File → D → Result SuperValue Refusal → D → Type 0
+OpensTo disk files device (Ok table) after = files_of table (disk.seen after) ≡ files
+OpensTo disk files device (Err Device) after = Rises 1 (disk.faults_met device) (disk.faults_met after)
+OpensTo disk files device (Err OutOfMemory) after = disk.faults_met after ≡ disk.faults_met device
+OpensTo disk files device (Err refusal) after = ⊥
+
+-- These files are found on the device: its bytes recover to them, and each opening of it comes to them.
+pub record Finds {D : Type 0} (disk : Ghosts D) (files : List File) (device : D) : Type 0 where
+  pub recovers : RecoversTo (disk.seen device) files
+  pub opened : (result : Result SuperValue Refusal) (after : D) → Opens disk device result after
+      → OpensTo disk files device result after
+
+-- The files after some durable prefix of the history are found on the device.
+pub record FindsDurable {D : Type 0} (disk : Ghosts D) (files : List File) (history : List Event) (device : D)
+    : Type 0 where
+  pub found : List File
+  pub durable : AreDurable files history found
+  pub finds : Finds disk found device

@@ -12,5 +12,5 @@ use Rattle.machine.specs.Runs.{StepsTaken}
 -- over a volume at rest with these files, on an honest device.
 pub record IsOnTrack {D : Type 0} (disk : Ghosts D) (files : List File) (start : Whole D)
     (steps : List Step) (replies : List Reply) (now : Whole D) : Type 0 where
-  pub begins : Begins disk.seen disk.may_leave disk.is_honest files start
+  pub begins : Begins disk files start
   pub taken : StepsTaken disk start steps replies now

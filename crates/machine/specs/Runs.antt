@@ -14,8 +14,7 @@ pub record StepTaken {D : Type 0} (disk : Ghosts D) (old : Whole D) (step : Step
   -- there are bytes for which the rules hold, whatever the device is
   pub answered : (d d' : List ℕ) × Rules old.state d step reply new.state d'
   -- and of an honest device they are its own
-  pub made : disk.is_honest old.device
-      → StepMade disk.seen disk.may_leave disk.moment disk.left_since disk.is_honest old step reply new
+  pub made : disk.is_honest old.device → StepMade disk old step reply new
   -- its device calls, and those that failed
   pub calls : CallsOf old.state step.p step.act reply (disk.calls_made old.device) (disk.calls_made new.device)
       (disk.faults_met old.device) (disk.faults_met new.device)

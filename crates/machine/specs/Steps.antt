@@ -2,6 +2,7 @@
 use Rattle.std.specs.Prelude.{ℕ, ◌≡◌, ◌≢◌, List, length}
 use Rattle.page_entry.specs.declared.refusal.Refusal.TheVariants as refusals
 use Rattle.device.specs.Device.{Only, LeavesOnly}
+use Rattle.device.specs.declared.device.Device.{Ghosts}
 use Rattle.volume_codec.specs.Files.{File}
 use Rattle.journal.specs.Work.{Work, Sync, Nothing, TornFromWork}
 use Rattle.machine.specs.declared.act.Act.{Act}
@@ -23,18 +24,17 @@ step_work s acts.Flush (replies.Refused refusals.Device) = work_asked s
 step_work s act reply = Nothing
 
 -- One step of a machine over an honest device.
-pub record StepMade {D : Type 0} (seen : D → List ℕ) (may_leave : D → List ℕ → Type 0) (moment : D → ℕ)
-    (left_since : D → ℕ → List ℕ → Type 0) (is_honest : D → Type 0)
-    (old : Whole D) (step : Step) (reply : Reply) (new : Whole D) : Type 0 where
-  pub answered : Rules old.state (seen old.device) step reply new.state (seen new.device)
+pub record StepMade {D : Type 0} (disk : Ghosts D) (old : Whole D) (step : Step) (reply : Reply) (new : Whole D)
+    : Type 0 where
+  pub answered : Rules old.state (disk.seen old.device) step reply new.state (disk.seen new.device)
   -- what a crash may leave after it, and within it
-  pub left : (c : List ℕ) → may_leave new.device c
-      → TornFromWork (step_work old.state step.act reply) (may_leave old.device) c
+  pub left : (c : List ℕ) → disk.may_leave new.device c
+      → TornFromWork (step_work old.state step.act reply) (disk.may_leave old.device) c
   pub sure : reply ≢ replies.Refused refusals.Device → step_work old.state step.act reply ≡ Sync
-      → Only (may_leave new.device) (seen old.device)
-  pub within : LeavesOnly moment left_since old.device new.device
-      (TornFromWork (step_work old.state step.act reply) (may_leave old.device))
-  pub honest : is_honest new.device
+      → Only (disk.may_leave new.device) (disk.seen old.device)
+  pub within : LeavesOnly disk.moment disk.left_since old.device new.device
+      (TornFromWork (step_work old.state step.act reply) (disk.may_leave old.device))
+  pub honest : disk.is_honest new.device
 
 -- loads, stores and faults are answered by what was told
 pub record IsLawful (files : List File) (told : Told) (p : ℕ) (act : Act) (reply : Reply) : Type 0 where

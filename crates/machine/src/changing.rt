@@ -4,7 +4,7 @@ ghost use Rattle.shootdown.specs.Calls.{HandsOut};
 ghost use Rattle.checkpoint.specs.Checkpoint.{Holds};
 ghost use Rattle.machine.specs.inside.Sound.{IsSound};
 ghost use Rattle.machine.specs.Rules.{Changes, MayLeave};
-ghost use Rattle.machine.specs.inside.Layers.{state_in, reply_to, IsQuiet, AreReserved, HasPage, IsAtHome};
+ghost use Rattle.machine.specs.inside.Layers.{state_in, reply_to, IsQuiet, AreReserved, IsPageOf, IsAtHome};
 
 use crate::Reply;
 use crate::layers::Layers;
@@ -52,7 +52,7 @@ impl<D: Device, A: Allocator + Copy> Layers<D, A> {
     // home block has its bytes.
     fn is_at_home(&self, page: FilePage, frame: FrameNumber) -> bool
         requires sound { IsSound (state_in self.now) }
-        requires page { HasPage self.now.table page }
+        requires page { IsPageOf self.now.table page }
         requires held { Holds self.now.frames frame page }
         ensures { IsTrue result ↔ IsAtHome (state_in self.now) page frame }
     {
@@ -65,7 +65,7 @@ impl<D: Device, A: Allocator + Copy> Layers<D, A> {
     // The frame of a page, if the page may leave memory.
     fn frame_to_free(&self, page: FilePage) -> Option<FrameNumber>
         requires sound { IsSound (state_in self.now) }
-        requires page { HasPage self.now.table page }
+        requires page { IsPageOf self.now.table page }
         ensures leaves { IfSome result (MayLeave (state_in self.now) page) }
         ensures stays { IfNone result ((frame : ℕ) → MayLeave (state_in self.now) page frame → ⊥) }
     {

@@ -1,37 +1,42 @@
 // What follows of a run: how many device calls it made, and what later openings find.
-ghost use Rattle.std.specs.Prelude.{ℕ, ◌≡◌, ◌+◌, ◌-◌, ◌*◌, ◌^◌, ◌<◌, List, [], ◌∷◌, ◌++◌, length, sum_by, Result};
-ghost use Rattle.page_entry.specs.declared.refusal.Refusal.{Refusal};
+ghost use Rattle.std.specs.Prelude.{ℕ, ◌≡◌, ◌+◌, ◌-◌, ◌*◌, ◌^◌, ◌<◌, List, [], ◌∷◌, ◌++◌, length, sum_by};
+ghost use Rattle.device.specs.Device.{Only};
 ghost use Rattle.volume_codec.specs.Files.{File};
-ghost use Rattle.volume_codec.specs.Super.{SuperValue};
-ghost use Rattle.recovery.specs.Opening.{Opens};
+ghost use Rattle.volume_codec.specs.Recovery.{RecoversTo};
 ghost use Rattle.recovery.specs.Openings.{IsLater};
 ghost use Rattle.machine.specs.declared.act.Reply.{Reply};
 ghost use Rattle.machine.specs.declared.act.Reply.TheVariants.{Committed, Done};
 ghost use Rattle.machine.specs.declared.act.Step.{Step};
 ghost use Rattle.machine.specs.State.{Whole};
 ghost use Rattle.machine.specs.Rules.{MarkMade};
-ghost use Rattle.machine.specs.History.{Event};
+ghost use Rattle.machine.specs.History.{Event, files_after};
 ghost use Rattle.machine.specs.Laws.{ReadsBack};
-ghost use Rattle.machine.specs.Later.{FindsDurable};
+ghost use Rattle.machine.specs.Later.{AreDurable, Finds, FindsDurable};
 ghost use Rattle.journal.specs.Work.{Work, calls_of};
 ghost use Rattle.machine.specs.OnTrack.{IsOnTrack};
 ghost use Rattle.machine.specs.Runs.{StepTaken, StepsTaken};
 ghost use Rattle.machine.specs.Sums.{CallsAddUp, AskFor};
 
 use device::Device;
-use recovery::opened_again;
+use recovery::{kinds_of_bytes, opened_again, opened_as_recovered};
+use volume_codec::one_reading;
 
-/// Where all that a crash may leave of a device reads back as the files after a durable prefix of a history, each
-/// opening later, to any depth, with a crash or none within and after each before it, gives exactly such files, or
-/// meets a device call that failed, or no memory.
+/// Where a crash of an honest device leaves nothing but what a read gives, the files to which that recovers are found
+/// for good: after any number of openings, each with a crash or none within and after it (`settled`). Where all that a
+/// crash may leave of one reads back as the files after a durable prefix of a history, so it does after any number of
+/// such openings, and each opening finds exactly these files (`durable`).
 pub fn opened_later<D: Device>(device: &D)
-    ensures { (files : List File) (history : List Event) (n : ℕ) (first later after : D)
-        (result : Result SuperValue Refusal)
-        → D.is_honest first → ((c : List ℕ) → D.may_leave first c → ReadsBack files history c)
-        → IsLater D.Device n first later → Opens D.Device later result after
-        → FindsDurable files history result (D.seen after) }
+    ensures settled { (files : List File) (n : ℕ) (first later : D) → D.is_honest first
+        → Only (D.may_leave first) (D.seen first) → RecoversTo (D.seen first) files
+        → IsLater D.Device n first later → Finds D.Device files later }
+    ensures durable { (files : List File) (history : List Event) (n : ℕ) (first later : D) → D.is_honest first
+        → ((c : List ℕ) → D.may_leave first c → ReadsBack files history c)
+        → IsLater D.Device n first later → FindsDurable D.Device files history later }
 {
     opened_again(device);
+    opened_as_recovered(device);
+    kinds_of_bytes();
+    one_reading();
 }
 
 /// The device calls of steps that were made one after the other are the sum of what each step makes, and so are those
@@ -61,4 +66,11 @@ pub fn counts_of_a_write_out<D: Device>(device: &D)
         → (works : List Work)
         × AskFor D.Device number marked (steps ++ step ∷ []) (replies ++ Done number ∷ []) new works
         × (length works ≡ 2 * length mark.pages + 7) × (sum_by calls_of works ≡ 3 * length mark.pages + 7) }
+{}
+
+/// Where nothing was stored, the files are as they were: a history without events leaves them (`files`), and they are
+/// what is found after it (`found`).
+pub fn nothing_stored()
+    ensures files { (files : List File) → files_after files [] ≡ files }
+    ensures found { (files found : List File) → AreDurable files [] found → found ≡ files }
 {}

@@ -22,5 +22,6 @@ mod switching;
 
 pub use act::{Act, Reply, Shape, Step};
 pub use few_bytes::FewBytes;
-pub use laws::{calls_of_steps, counts_of_a_write_out, opened_later};
+pub use laws::{calls_of_steps, counts_of_a_write_out, nothing_stored, opened_later};
 pub use machine::Machine;
+pub use shootdown::ProcState;

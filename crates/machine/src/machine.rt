@@ -149,8 +149,7 @@ impl<D: Device, A: Allocator + Copy> Machine<D, A> {
     pub fn step(&mut self, step: &Step) -> Reply
         // Over any device there are bytes for which the rules hold.
         ensures rules { (disk disk' : List ℕ) × Rules self.old.state disk step.now result self.new.state disk' }
-        ensures made { D.is_honest self.old.device
-            → StepMade D.seen D.may_leave D.moment D.left_since D.is_honest self.old step.now result self.new }
+        ensures made { D.is_honest self.old.device → StepMade D.Device self.old step.now result self.new }
         ensures calls { CallsOf self.old.state step.now.p step.now.act result (D.calls_made self.old.device)
             (D.calls_made self.new.device) (D.faults_met self.old.device) (D.faults_met self.new.device) }
         ensures honest { D.is_honest self.new.device ↔ D.is_honest self.old.device }
@@ -172,6 +171,13 @@ impl<D: Device, A: Allocator + Copy> Machine<D, A> {
         for (i, step) in steps.iter().enumerate() {
             replies[i] = self.step(step);
         }
+    }
+
+    /// The machine's device, to look at.
+    pub fn device(&self) -> &D
+        ensures { result.now ≡ self.now.device }
+    {
+        &self.layers.device
     }
 
     /// The machine's device, as it is.

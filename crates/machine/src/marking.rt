@@ -6,7 +6,7 @@ ghost use Rattle.shootdown.specs.Calls.{HandsOut};
 ghost use Rattle.machine.specs.State.{home_of};
 ghost use Rattle.machine.specs.inside.Sound.{IsSound};
 ghost use Rattle.machine.specs.Rules.{Changes};
-ghost use Rattle.machine.specs.inside.Layers.{state_in, IsQuiet, HasPage, MayBegin, with_homes};
+ghost use Rattle.machine.specs.inside.Layers.{state_in, IsQuiet, IsPageOf, MayBegin, with_homes};
 
 use crate::Reply;
 use crate::layers::Layers;
@@ -22,7 +22,7 @@ const MOST_PAGES: usize = 1020;
 // The home blocks of pages, in their order.
 fn homes_of<A: Allocator + Copy>(table: &Super<A>, pages: &[FilePage]) -> [u32; MOST_PAGES]
     requires few { length pages.now ≤ 1020 }
-    requires pages { All (HasPage table.now) pages.now }
+    requires pages { All (IsPageOf table.now) pages.now }
     ensures { take (length pages.now) result ≡ map (home_of table.now) pages.now }
 {
     let mut homes = [0; MOST_PAGES];
@@ -36,7 +36,7 @@ impl<D: Device, A: Allocator + Copy> Layers<D, A> {
     // The frozen pages, if there are any, are written out as a batch of the last mark.
     fn write_out(&mut self)
         requires few { length self.old.checkpoint.frozen ≤ 1020 }
-        requires pages { All (HasPage self.old.table) self.old.checkpoint.frozen }
+        requires pages { All (IsPageOf self.old.table) self.old.checkpoint.frozen }
         requires batch { 0 < length self.old.checkpoint.frozen → MayBegin self.old.write_outs self.old.marks
             (map (home_of self.old.table) self.old.checkpoint.frozen) }
         ensures { self.new ≡ record self.old {

@@ -1,6 +1,7 @@
 // Runs: steps one at a time, and what holds of all of them together.
-ghost use Rattle.std.specs.Prelude.{ℕ, ◌≡◌, ◌↔◌, ◌++◌, ◌≤◌, true, List, [], ◌∷◌, length, Contains};
+ghost use Rattle.std.specs.Prelude.{ℕ, ◌≡◌, ◌≢◌, ◌↔◌, ◌++◌, ◌≤◌, true, false, List, [], ◌∷◌, length, Contains};
 ghost use Rattle.page_entry.specs.declared.numbers.FilePage.{FilePage};
+ghost use Rattle.page_entry.specs.declared.refusal.Refusal.{Refusal};
 ghost use Rattle.frames.specs.Frames.{frame_at, bytes_of};
 ghost use Rattle.checkpoint.specs.Checkpoint.{Holds};
 ghost use Rattle.device.specs.Device.{Only};
@@ -9,9 +10,9 @@ ghost use Rattle.machine.specs.declared.act.Step.{Step};
 ghost use Rattle.volume_codec.specs.Files.{File};
 ghost use Rattle.machine.specs.State.{State, Whole};
 ghost use Rattle.machine.specs.Rules.{MarkMade};
-ghost use Rattle.machine.specs.Durability.{AreFrozenProtected, HasPage};
-ghost use Rattle.machine.specs.Crashes.{Begins, Throughout};
-ghost use Rattle.machine.specs.History.{is_touched};
+ghost use Rattle.machine.specs.Durability.{AreFrozenProtected, HasPart, IsInFile};
+ghost use Rattle.machine.specs.Crashes.{Begins, StepIsSafe, Throughout};
+ghost use Rattle.machine.specs.History.{after, has_unmarked, is_touched, memory_of};
 ghost use Rattle.machine.specs.Told.{tell_all};
 ghost use Rattle.machine.specs.Laws.{EachStep, FaultsAreServed, ReadsBack};
 ghost use Rattle.machine.specs.Steps.{IsLawful, told_first};
@@ -25,18 +26,24 @@ use std::alloc::Allocator;
 impl<D: Device, A: Allocator + Copy> Machine<D, A> {
     /// A machine as it was booted over a volume at rest is on the track of a run that has made no step yet.
     pub fn begin(&self)
-        ensures { (files : List File) → Begins D.seen D.may_leave D.is_honest files self.now
+        ensures { (files : List File) → Begins D.Device files self.now
             → IsOnTrack D.Device files self.now [] [] self.now }
     {}
 
-    /// A step of a machine that is on the track of a run keeps it there, with the step and its reply added. For a
-    /// caller that makes one step at a time: what is on the track has the laws of the run, and a crash at any moment
-    /// leaves what reads back.
+    /// One step, for a caller that makes one at a time. Whatever steps led to the machine, from whatever start and over
+    /// whatever device, this one and its reply come after them (`longer`), so that a machine on the track of a run stays
+    /// there. On the track of a run, a crash within this very step leaves what reads back by the history before it, and
+    /// one after it what reads back by the history with it (`safe`).
     pub fn enter(&mut self, step: &Step) -> Reply
+        ensures not_full { result ≢ Reply.Refused Refusal.TraceFull }
         ensures taken { StepTaken D.Device self.old step.now result self.new }
-        ensures on_track { (files : List File) (start : Whole D) (steps : List Step) (replies : List Reply)
+        ensures longer { (start : Whole D) (steps : List Step) (replies : List Reply)
+            → StepsTaken D.Device start steps replies self.old
+            → StepsTaken D.Device start (steps ++ step.now ∷ []) (replies ++ result ∷ []) self.new }
+        ensures safe { (files : List File) (start : Whole D) (steps : List Step) (replies : List Reply)
             → IsOnTrack D.Device files start steps replies self.old
-            → IsOnTrack D.Device files start (steps ++ step.now ∷ []) (replies ++ result ∷ []) self.new }
+            → StepIsSafe D.Device files (tell_all (told_first files start.state) steps replies)
+            self.old step.now result self.new }
     {
         self.step(step)
     }
@@ -48,8 +55,7 @@ impl<D: Device, A: Allocator + Copy> Machine<D, A> {
     pub fn keeps_the_laws(&self)
         ensures headline { (files : List File) (start : Whole D) (steps : List Step) (replies : List Reply)
             → IsOnTrack D.Device files start steps replies self.now
-            → Throughout D.seen D.may_leave D.moment D.left_since files (told_first files start.state)
-            start steps replies self.now }
+            → Throughout (StepIsSafe D.Device files) (told_first files start.state) start steps replies self.now }
         ensures lawful { (files : List File) (start : Whole D) (steps : List Step) (replies : List Reply)
             → IsOnTrack D.Device files start steps replies self.now
             → EachStep (IsLawful files) (told_first files start.state) steps replies }
@@ -69,26 +75,40 @@ impl<D: Device, A: Allocator + Copy> Machine<D, A> {
             → AreFrozenProtected self.now.state }
     {}
 
-    /// On the track of a run, a page that a mark doesn't gather has in its frame, up to its file's end, the bytes that
-    /// the device recovers to, whatever of it a crash leaves.
+    /// On the track of a run, each page of a file, in memory or not, that a mark doesn't gather: whatever of the device a
+    /// crash leaves recovers to contents that have, up to the file's end, the bytes that the page has after the history
+    /// (`kept`). A page in memory has these bytes in its frame (`framed`).
     pub fn keeps_other_pages(&self)
-        ensures { (files : List File) (start : Whole D) (steps : List Step) (replies : List Reply)
-            (p number : ℕ) (new : State) (mark : MarkMade self.now.state p number new) (frame : ℕ) (owner : FilePage)
-            (c : List ℕ)
+        ensures kept { (files : List File) (start : Whole D) (steps : List Step) (replies : List Reply)
+            (p number : ℕ) (new : State) (mark : MarkMade self.now.state p number new) (owner : FilePage) (c : List ℕ)
             → IsOnTrack D.Device files start steps replies self.now
-            → Holds self.now.state.hardware.memory frame owner → (Contains mark.pages owner → ⊥)
+            → IsInFile self.now.state owner → (Contains mark.pages owner → ⊥)
             → D.may_leave self.now.device c
-            → HasPage self.now.state owner (bytes_of (frame_at self.now.state.hardware.memory frame)) c }
+            → HasPart self.now.state owner (after (memory_of files)
+            (tell_all (told_first files start.state) steps replies).history owner.file owner.page) c }
+        ensures framed { (files : List File) (start : Whole D) (steps : List Step) (replies : List Reply)
+            (frame : ℕ) (owner : FilePage)
+            → IsOnTrack D.Device files start steps replies self.now
+            → Holds self.now.state.hardware.memory frame owner
+            → IsInFile self.now.state owner
+            × (bytes_of (frame_at self.now.state.hardware.memory frame) ≡ after (memory_of files)
+            (tell_all (told_first files start.state) steps replies).history owner.file owner.page) }
     {}
 
     /// On the track of a run, the pages that a mark gathers are those that got a store since the mark before it, or
-    /// since the start, and no other.
+    /// since the start, and no other (`pages`). So it gathers nothing exactly where the history has no store since then
+    /// (`nothing`).
     pub fn gathers_what_was_stored(&self)
-        ensures { (files : List File) (start : Whole D) (steps : List Step) (replies : List Reply)
+        ensures pages { (files : List File) (start : Whole D) (steps : List Step) (replies : List Reply)
             (p number : ℕ) (new : State) (mark : MarkMade self.now.state p number new) (owner : FilePage)
             → IsOnTrack D.Device files start steps replies self.now
             → (Contains mark.pages owner) ↔ (is_touched
             (tell_all (told_first files start.state) steps replies).history owner.file owner.page ≡ true) }
+        ensures nothing { (files : List File) (start : Whole D) (steps : List Step) (replies : List Reply)
+            (p number : ℕ) (new : State) (mark : MarkMade self.now.state p number new)
+            → IsOnTrack D.Device files start steps replies self.now
+            → (mark.pages ≡ []) ↔ (has_unmarked
+            (tell_all (told_first files start.state) steps replies).history ≡ false) }
     {}
 
     /// Makes the steps one after the other, and puts each one's reply into its place.
@@ -104,17 +124,17 @@ impl<D: Device, A: Allocator + Copy> Machine<D, A> {
         ensures taken { StepsTaken D.Device self.old steps.now replies.new self.new }
         ensures honest { D.is_honest self.new.device ↔ D.is_honest self.old.device }
         ensures len { length (D.seen self.new.device) ≡ length (D.seen self.old.device) }
-        ensures headline { (files : List File) → Begins D.seen D.may_leave D.is_honest files self.old
-            → Throughout D.seen D.may_leave D.moment D.left_since files (told_first files self.old.state)
+        ensures headline { (files : List File) → Begins D.Device files self.old
+            → Throughout (StepIsSafe D.Device files) (told_first files self.old.state)
             self.old steps.now replies.new self.new }
-        ensures lawful { (files : List File) → Begins D.seen D.may_leave D.is_honest files self.old
+        ensures lawful { (files : List File) → Begins D.Device files self.old
             → EachStep (IsLawful files) (told_first files self.old.state) steps.now replies.new }
-        ensures served { (files : List File) → Begins D.seen D.may_leave D.is_honest files self.old
+        ensures served { (files : List File) → Begins D.Device files self.old
             → FaultsAreServed steps.now replies.new }
         // Also in the middle of a run.
-        ensures on_track { (files : List File) (start : Whole D) (earlier : List Step) (told : List Reply)
-            → IsOnTrack D.Device files start earlier told self.old
-            → IsOnTrack D.Device files start (earlier ++ steps.now) (told ++ replies.new) self.new }
+        ensures longer { (start : Whole D) (earlier : List Step) (told : List Reply)
+            → StepsTaken D.Device start earlier told self.old
+            → StepsTaken D.Device start (earlier ++ steps.now) (told ++ replies.new) self.new }
     {
         self.make_all(steps, replies);
         self.keeps_the_laws();

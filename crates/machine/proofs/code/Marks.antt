@@ -8,15 +8,16 @@ use Rattle.volume_codec.specs.Layout.{GeometryValue}
 use Rattle.journal.specs.WriteOuts.{is_busy, begun}
 use Rattle.checkpoint.specs.Checkpoint.{CheckpointState, Gathers}
 use Rattle.machine.specs.State.{State, home_of}
-use Rattle.machine.specs.inside.Sound.{IsInFile, IsSound}
+use Rattle.machine.specs.Durability.{IsInFile}
+use Rattle.machine.specs.inside.Sound.{IsSound}
 use Rattle.machine.specs.Rules.{with_batch}
-use Rattle.machine.specs.inside.Layers.{HasPage, MayBegin, with_homes}
+use Rattle.machine.specs.inside.Layers.{IsPageOf, MayBegin, with_homes}
 use Rattle.machine.proofs.sound.ByMark.{gathered_there}
 use Rattle.machine.proofs.sound.Uses.{batch_homes, newest_mark}
 use Rattle.machine.proofs.code.Table.{pages-in_file}
 
 -- a page that begins before the end of its file is one of the file's
-pub page_there : (s : State) (owner : FilePage) → IsSound s → IsInFile s owner → HasPage s.table owner
+pub page_there : (s : State) (owner : FilePage) → IsSound s → IsInFile s owner → IsPageOf s.table owner
 page_there s owner sound is = record {
   file = is.there;
   page = omega (arith, is.inside, sound.within owner.file, pages-in_file s.table.files owner.file is.there);
@@ -40,9 +41,9 @@ module _ (s : State) (sound : IsSound s) (noted : CheckpointState) (pages : List
   pub few_frozen : length noted.frozen ≤ 1020
   few_frozen = by_pages (λ (owners : List FilePage). length owners ≤ 1020) (omega arith) few_pages
 
-  pub frozen_there : All (HasPage s.table) noted.frozen
+  pub frozen_there : All (IsPageOf s.table) noted.frozen
   frozen_there =
-      by_pages (All (HasPage s.table)) (λ k d within. absurd (omega (arith, within)))
+      by_pages (All (IsPageOf s.table)) (λ k d within. absurd (omega (arith, within)))
       (λ k d within. page_there s (get_or pages k d) sound ((gathered_there s noted (not s.write_outs.broken) pages sound.memory gathers).1 k d within))
 
   frozen_if : (broken : Bool) → s.write_outs.broken ≡ broken → noted.frozen ≡ cond (not broken) pages []

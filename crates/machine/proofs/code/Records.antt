@@ -16,7 +16,8 @@ use Rattle.journal.specs.WriteOut.{WriteOut, next_stage, record_at, next_record 
 use Rattle.journal.specs.WriteOuts.{WriteOutsValue, current, has_uncommitted, outs_record, next_work, next_answer}
 use Rattle.fault.specs.Fault.{is_in_memory}
 use Rattle.machine.specs.State.{State, length_of}
-use Rattle.machine.specs.inside.Sound.{IsInFile, IsSound}
+use Rattle.machine.specs.Durability.{IsInFile}
+use Rattle.machine.specs.inside.Sound.{IsSound}
 use Rattle.machine.specs.Rules.{next_page, next_record, bytes_at_mark}
 use Rattle.machine.specs.inside.Flushing.{HasSmallMark}
 use Rattle.machine.proofs.sound.Lists.{some_from}

@@ -22,7 +22,7 @@ module _ {D Z : Type 0} (disk : Ghosts D) (old new : Layers D Z) (step : Step) (
     reserved = done.kept.still_reserved are.reserved;
   }
 
-  pub step_made : disk.is_honest old.device → StepMade disk.seen disk.may_leave disk.moment disk.left_since disk.is_honest (whole_in old) step reply (whole_in new)
+  pub step_made : disk.is_honest old.device → StepMade disk (whole_in old) step reply (whole_in new)
   step_made honest = record {
     answered = done.rules.own_disk honest;
     left = done.left;

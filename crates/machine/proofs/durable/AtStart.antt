@@ -19,10 +19,11 @@ use Rattle.journal.proofs.StandsKept.{stands_first}
 use Rattle.machine.specs.History.{Mark, Acknowledge, page_of, file_bytes, memory_of}
 use Rattle.machine.specs.State.{State, Whole, home_of, length_of, cut_at_end}
 use Rattle.machine.specs.Rules.{bytes_at_mark}
-use Rattle.machine.specs.inside.Sound.{IsInFile, IsSound}
+use Rattle.machine.specs.inside.Sound.{IsSound}
+use Rattle.device.specs.declared.device.Device.{Ghosts}
 use Rattle.machine.specs.Crashes.{Begins}
 use Rattle.machine.specs.inside.Tracking.{HasParts, AreContentsOf}
-use Rattle.machine.specs.Durability.{within_file}
+use Rattle.machine.specs.Durability.{IsInFile, within_file}
 use Rattle.machine.specs.Steps.{told_first}
 use Rattle.machine.proofs.durable.Lists.{contains_none}
 use Rattle.machine.proofs.durable.Homes.{capacity_at, page_in_capacity, home_is}
@@ -34,7 +35,7 @@ use Rattle.machine.proofs.durable.Marks.{IsDurable}
 back : (i : ℕ) → suc i - 1 ≡ i
 back i = omega arith
 
-file_bytes-next : (f : File) (fs : List File) (i : ℕ) → file_bytes (f ∷ fs) (suc i) ≡ file_bytes fs i
+pub file_bytes-next : (f : File) (fs : List File) (i : ℕ) → file_bytes (f ∷ fs) (suc i) ≡ file_bytes fs i
 file_bytes-next f fs i = cond-false (eqb (suc i) 0) f.bytes (file_bytes fs (suc i - 1)) (ne_eqb (suc i) 0 (λ e. absurd (omega arith))) ∙ ap (file_bytes fs) (back i)
 
 file_bytes-from : (contents : ℕ → List ℕ) (b : ℕ) (fs : List TableFile) (lengths : List ℕ) (i : ℕ) → i < length fs → length lengths ≡ length fs
@@ -119,11 +120,11 @@ module _ (s : State) (sound : IsSound s) (seen : List ℕ) (files : List File) (
       sym (ap (within_file s owner) (page_first owner is)
       ∙ within_cut s owner (block_at seen (home_of s.table owner)) (block_size seen (block_count s.table) (home_of s.table owner) volume.long (home_is s sound owner is).high))
 
-pub durable_at_start : {D : Type 0} (seen : D → List ℕ) (may_leave : D → List ℕ → Type 0) (is_honest : D → Type 0) (files : List File) (start : Whole D) → IsSound start.state → Begins seen may_leave is_honest files start
-    → IsDurable files (told_first files start.state) start.state (seen start.device) (may_leave start.device)
-durable_at_start seen may_leave is_honest files start sound begins =
+pub durable_at_start : {D : Type 0} (ghosts : Ghosts D) (files : List File) (start : Whole D) → IsSound start.state → Begins ghosts files start
+    → IsDurable files (told_first files start.state) start.state (ghosts.seen start.device) (ghosts.may_leave start.device)
+durable_at_start ghosts files start sound begins =
     let s = start.state in
-    let disk = seen start.device in
+    let disk = ghosts.seen start.device in
     let outs : s.write_outs ≡ none_of (geometry_of s.table) = ap (λ (x : State). x.write_outs) begins.fresh.as_booted in
     let parts = first_parts s sound disk files begins.volume begins.files_are begins.lengths_are in
     let are : AreContentsOf files [] s (block_at disk) [] = record {
@@ -136,8 +137,8 @@ durable_at_start seen may_leave is_honest files start sound begins =
     record {
       old = block_at disk;
       new = block_at disk;
-      stands = subst (λ (o : WriteOutsValue). IsStanding s.table o (block_at disk) (block_at disk) disk (may_leave start.device)) (sym outs)
-          (stands_first s.table disk (may_leave start.device) (fits_geometry s.table begins.volume.super_block.fits) begins.volume begins.synced);
+      stands = subst (λ (o : WriteOutsValue). IsStanding s.table o (block_at disk) (block_at disk) disk (ghosts.may_leave start.device)) (sym outs)
+          (stands_first s.table disk (ghosts.may_leave start.device) (fits_geometry s.table begins.volume.super_block.fits) begins.volume begins.synced);
       written = record {
         before = [];
         old_are = are;

@@ -10,7 +10,8 @@ use Rattle.volume_codec.proofs.Padding.{take-past}
 use Rattle.machine.specs.History.{Memory, bytes_of_pages, files_from_memory}
 use Rattle.machine.specs.History.{files_in as files_of}
 use Rattle.machine.specs.State.{State, home_of, length_of}
-use Rattle.machine.specs.inside.Sound.{IsInFile, IsSound}
+use Rattle.machine.specs.Durability.{IsInFile}
+use Rattle.machine.specs.inside.Sound.{IsSound}
 use Rattle.machine.specs.inside.Tracking.{HasParts, HasFiles}
 
 -- ---- the bytes of one file

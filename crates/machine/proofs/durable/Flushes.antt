@@ -29,10 +29,10 @@ use Rattle.machine.specs.History.{Event, Mark, Acknowledge, memory_of, after, is
 use Rattle.machine.specs.State.{State, home_of, cut_at_end}
 use Rattle.machine.specs.Refusals.{flush_refusal}
 use Rattle.machine.specs.Rules.{next_page, next_record, work_asked, after_record, after_failure, bytes_with, bytes_at_mark}
-use Rattle.machine.specs.inside.Sound.{IsInFile, IsSound, IsPrepared}
+use Rattle.machine.specs.inside.Sound.{IsSound, IsPrepared}
 use Rattle.machine.specs.Told.{Told}
 use Rattle.machine.specs.inside.Tracking.{change_in, AreContentsOf, HasAcknowledged, IsWritten}
-use Rattle.machine.specs.Durability.{within_file}
+use Rattle.machine.specs.Durability.{IsInFile, within_file}
 use Rattle.machine.proofs.durable.Lists.{some_same, none_some}
 use Rattle.machine.proofs.durable.Histories.{IsUntouched, quiet_untouched, touched-append, after-append, acknowledge_same, acknowledged_more}
 use Rattle.machine.proofs.durable.Pages.{bytes_with-freed}

@@ -6,7 +6,8 @@ use Rattle.volume_codec.specs.Files.{TableFile}
 use Rattle.volume_codec.specs.Layout.{IsHome, first_home}
 use Rattle.volume_codec.specs.Super.{pages_of, total_pages, geometry_of}
 use Rattle.machine.specs.State.{State, home_of}
-use Rattle.machine.specs.inside.Sound.{IsInFile, IsSound}
+use Rattle.machine.specs.Durability.{IsInFile}
+use Rattle.machine.specs.inside.Sound.{IsSound}
 
 -- the capacity of a file of a table
 abbrev pub capacity_at : List TableFile → ℕ → ℕ

@@ -10,10 +10,9 @@ use Rattle.spaces.specs.declared.change.Change.TheVariants.{Checkpoint}
 use Rattle.machine.specs.History.{Event, Memory, Mark, memory_of, after, is_touched}
 use Rattle.machine.specs.State.{State, home_of, cut_at_end}
 use Rattle.machine.specs.Rules.{bytes_at_mark}
-use Rattle.machine.specs.inside.Sound.{IsInFile}
 use Rattle.machine.specs.Told.{Told}
 use Rattle.machine.specs.inside.Tracking.{change_in, HasParts, AreContentsOf, HasAcknowledged, IsLost, IsWritten}
-use Rattle.machine.specs.Durability.{within_file}
+use Rattle.machine.specs.Durability.{IsInFile, within_file}
 use Rattle.machine.proofs.durable.Histories.{IsQuiet, quiet_acknowledges, quiet_untouched, begins_more, acknowledged_more}
 
 -- ---- the files stay

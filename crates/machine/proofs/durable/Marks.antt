@@ -18,10 +18,10 @@ use Rattle.checkpoint.specs.Checkpoint.{CheckpointState, Gathers, without_notes}
 use Rattle.machine.specs.History.{Event, Memory, Mark, Acknowledge, memory_of, after, has_unmarked, is_touched}
 use Rattle.machine.specs.State.{State, home_of, cut_at_end}
 use Rattle.machine.specs.Rules.{MarkMade, end_change, with_batch, bytes_at_mark}
-use Rattle.machine.specs.inside.Sound.{IsInFile, IsSound}
+use Rattle.machine.specs.inside.Sound.{IsSound}
 use Rattle.machine.specs.Told.{Told}
 use Rattle.machine.specs.inside.Tracking.{change_in, HasParts, AreContentsOf, HasAcknowledged, IsLost, IsWritten, IsLatest, AreTouched}
-use Rattle.machine.specs.Durability.{within_file}
+use Rattle.machine.specs.Durability.{IsInFile, within_file}
 use Rattle.machine.proofs.durable.Histories.{marked_by, after_mark, after_marked, only_itself, unmarked_by_touched, in_history, acknowledged_more}
 use Rattle.machine.proofs.durable.Waiting.{committed_frozen}
 use Rattle.machine.proofs.durable.Leaves.{contents_more}

@@ -10,8 +10,8 @@ use Rattle.frames.specs.Frames.{Frame, frame_at, bytes_of, page_of}
 use Rattle.checkpoint.specs.Checkpoint.{Holds, is_of_page, is_frozen, same_page}
 use Rattle.machine.specs.State.{State, length_of, home_of, cut_at_end}
 use Rattle.machine.specs.Rules.{bytes_with, bytes_at_mark}
-use Rattle.machine.specs.inside.Sound.{IsInFile, IsSound}
-use Rattle.machine.specs.Durability.{within_file}
+use Rattle.machine.specs.inside.Sound.{IsSound}
+use Rattle.machine.specs.Durability.{IsInFile, within_file}
 use Rattle.machine.proofs.durable.Lists.{none_some, contains_head, contains_cons, contains_unmapped}
 use Rattle.machine.proofs.durable.Pages.{holder, bytes_with-none, bytes_with-held}
 use Rattle.machine.proofs.durable.Homes.{same_home}

@@ -12,10 +12,10 @@ use Rattle.journal.specs.WriteOut.{WriteOut}
 use Rattle.journal.specs.WriteOuts.{HasBlock}
 use Rattle.machine.specs.History.{memory_of, after, is_touched}
 use Rattle.machine.specs.State.{State, home_of, page_from}
-use Rattle.machine.specs.inside.Sound.{IsInFile, IsSound}
+use Rattle.machine.specs.inside.Sound.{IsSound}
 use Rattle.machine.specs.Told.{Told}
 use Rattle.machine.specs.inside.Tracking.{IsTracked}
-use Rattle.machine.specs.Durability.{within_file}
+use Rattle.machine.specs.Durability.{IsInFile, within_file}
 use Rattle.machine.proofs.durable.Pages.{holder, list_any-holder}
 use Rattle.machine.proofs.durable.Homes.{same_home, home_is}
 

@@ -24,9 +24,9 @@ use Rattle.std.specs.Option.{option_map_or}
 use Rattle.machine.specs.History.{memory_of, after, is_touched}
 use Rattle.machine.specs.State.{State}
 use Rattle.machine.specs.Rules.{MarkMade}
-use Rattle.machine.specs.inside.Sound.{IsInFile, IsSound}
+use Rattle.machine.specs.inside.Sound.{IsSound}
 use Rattle.machine.specs.Told.{Told}
-use Rattle.machine.specs.Durability.{HasPage, AreFrozenProtected}
+use Rattle.machine.specs.Durability.{IsInFile, HasPart, AreFrozenProtected}
 use Rattle.machine.specs.inside.Tracking.{IsTracked}
 use Rattle.machine.proofs.durable.Lists.{some_same}
 use Rattle.machine.proofs.durable.Marks.{committed, clean}
@@ -74,7 +74,7 @@ left_new v old new (Some Finishing) c late left = left
 
 module _ (files : List File) (told : Told) (s : State) (seen : List ℕ) (may : List ℕ → Type 0) (t : IsTracked files told s seen may) (p number : ℕ) (new : State) (is : MarkMade s p number new) where
   -- a page that isn't gathered at a mark has the bytes that each list that a crash may leave recovers to
-  pub kept_page : (owner : FilePage) → IsInFile s owner → (Contains is.pages owner → ⊥) → (c : List ℕ) → may c → HasPage s owner (after (memory_of files) told.history owner.file owner.page) c
+  pub kept_page : (owner : FilePage) → IsInFile s owner → (Contains is.pages owner → ⊥) → (c : List ℕ) → may c → HasPart s owner (after (memory_of files) told.history owner.file owner.page) c
   kept_page owner in_file other c left =
       let none = committed files told s p number seen may t.old t.new t.sound t.latest t.touched t.stands t.written is.next is.may.lock in
       let untouched : is_touched told.history owner.file owner.page ≡ false =
@@ -84,8 +84,3 @@ module _ (files : List File) (told : Told) (s : State) (seen : List ℕ) (may : 
         recovers = left_new s.table t.old t.new (current_stage s.write_outs) c (stage_committed s.write_outs.batches none) (stands_left s.table t.old t.new s.write_outs seen may t.stands c left);
         same = clean files told s p number seen may t.old t.new t.sound t.latest t.touched t.stands t.written is.next is.may.lock owner in_file untouched;
       }
-
-  -- so has its frame, if it is in memory
-  pub kept_frame : (frame : ℕ) (owner : FilePage) → Holds s.hardware.memory frame owner → (Contains is.pages owner → ⊥) → (c : List ℕ) → may c → HasPage s owner (bytes_of (frame_at s.hardware.memory frame)) c
-  kept_frame frame owner holds other c left =
-      subst (λ (bytes : List ℕ). HasPage s owner bytes c) (sym (t.latest.latest frame owner holds)) (kept_page owner (t.sound.memory.in_files frame owner holds) other c left)

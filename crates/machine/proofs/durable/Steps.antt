@@ -7,6 +7,7 @@ use Rattle.std.proofs.lemmas.List.Elements.{All-contains, Contains-push}
 use Rattle.page_entry.specs.declared.numbers.FilePage.{FilePage}
 use Rattle.page_entry.specs.declared.refusal.Refusal.TheVariants as refusals
 use Rattle.device.specs.Device.{Only, LeavesOnly}
+use Rattle.device.specs.declared.device.Device.{Ghosts}
 use Rattle.volume_codec.specs.Files.{File}
 use Rattle.volume_codec.specs.Super.{SuperValue, geometry_of}
 use Rattle.volume_codec.specs.Descriptor.{AreHomes}
@@ -34,6 +35,7 @@ use Rattle.machine.specs.Laws.{ReadsBack}
 use Rattle.machine.specs.Crashes.{StepIsSafe}
 use Rattle.machine.specs.inside.Tracking.{HasFiles, IsTracked}
 use Rattle.machine.specs.Steps.{step_work, StepMade}
+use Rattle.machine.specs.Runs.{StepTaken}
 use Rattle.machine.proofs.durable.Leaves.{written_left}
 use Rattle.machine.proofs.durable.Quiet.{QuietStep, unchanged}
 use Rattle.machine.proofs.durable.QuietAccesses.{quiet_load, quiet_store, quiet_fill, quiet_evict}
@@ -234,22 +236,25 @@ leaves_more moment left_since old new P Q more is = record {
   keeps = is.keeps;
 }
 
-module _ {D : Type 0} (seen : D → List ℕ) (may_leave : D → List ℕ → Type 0) (moment : D → ℕ) (left_since : D → ℕ → List ℕ → Type 0) (is_honest : D → Type 0)
-    (files : List File) (told : Told) (old : Whole D) (step : Step) (reply : Reply) (new : Whole D) (t : IsTracked files told old.state (seen old.device) (may_leave old.device)) (made : StepMade seen may_leave moment left_since is_honest old step reply new)
-    (sound' : IsSound new.state) where
-  outcome : IsDurable files (record told { history = told.history ++ events_of told step.p step.act reply }) new.state (seen new.device) (may_leave new.device)
-      × ((c : List ℕ) → TornFromWork (step_work old.state step.act reply) (may_leave old.device) c → LeftWithin old.state.table t.old t.new (current_stage old.state.write_outs) c)
-  outcome = acting files told old.state (seen old.device) (may_leave old.device) t step.p new.state (seen new.device) sound' (may_leave new.device) step.act reply made.answered made.left made.sure
+module _ {D : Type 0} (disk : Ghosts D) (files : List File) (told : Told) (old : Whole D) (step : Step) (reply : Reply) (new : Whole D) (t : IsTracked files told old.state (disk.seen old.device) (disk.may_leave old.device))
+    (taken : StepTaken disk old step reply new) (honest : disk.is_honest old.device) (sound' : IsSound new.state) where
+  made : StepMade disk old step reply new
+  made = taken.made honest
+
+  outcome : IsDurable files (record told { history = told.history ++ events_of told step.p step.act reply }) new.state (disk.seen new.device) (disk.may_leave new.device)
+      × ((c : List ℕ) → TornFromWork (step_work old.state step.act reply) (disk.may_leave old.device) c → LeftWithin old.state.table t.old t.new (current_stage old.state.write_outs) c)
+  outcome = acting files told old.state (disk.seen old.device) (disk.may_leave old.device) t step.p new.state (disk.seen new.device) sound' (disk.may_leave new.device) step.act reply made.answered made.left made.sure
 
   -- what the device recovers to still goes with what is told
-  pub durable_kept : IsDurable files (tell told step reply) new.state (seen new.device) (may_leave new.device)
-  durable_kept = durable_as files (record told { history = told.history ++ events_of told step.p step.act reply }) (tell told step reply) new.state (seen new.device) (seen new.device) (may_leave new.device) refl refl outcome.0
+  pub durable_kept : IsDurable files (tell told step reply) new.state (disk.seen new.device) (disk.may_leave new.device)
+  durable_kept = durable_as files (record told { history = told.history ++ events_of told step.p step.act reply }) (tell told step reply) new.state (disk.seen new.device) (disk.seen new.device) (disk.may_leave new.device) refl refl outcome.0
 
   -- and a crash at any moment reads back
-  pub step_is_safe : HasFiles files new.state → StepIsSafe seen may_leave moment left_since files told old step reply new
+  pub step_is_safe : HasFiles files new.state → StepIsSafe disk files told old step reply new
   step_is_safe has = record {
-    answered = made.answered;
-    within = leaves_more moment left_since old.device new.device (TornFromWork (step_work old.state step.act reply) (may_leave old.device)) (ReadsBack files told.history)
+    taken = taken;
+    honest = honest;
+    within = leaves_more disk.moment disk.left_since old.device new.device (TornFromWork (step_work old.state step.act reply) (disk.may_leave old.device)) (ReadsBack files told.history)
         (λ c torn. reads_within files told old.state t.sound t.files_are t.old t.new t.written c (outcome.1 c torn)) made.within;
-    after = λ c left. reads_now files (tell told step reply) new.state (seen new.device) (may_leave new.device) sound' has durable_kept c left;
+    after = λ c left. reads_now files (tell told step reply) new.state (disk.seen new.device) (disk.may_leave new.device) sound' has durable_kept c left;
   }

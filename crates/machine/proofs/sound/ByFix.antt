@@ -28,7 +28,8 @@ use Rattle.machine.specs.declared.act.Reply.TheVariants as replies
 use Rattle.machine.specs.State.{State, length_of, home_of, cut_at_end, page_from}
 use Rattle.machine.specs.Refusals.{served_refusal, fix_refusal}
 use Rattle.machine.specs.Rules.{Fixes, FixMade}
-use Rattle.machine.specs.inside.Sound.{IsInFile, IsSound}
+use Rattle.machine.specs.Durability.{IsInFile}
+use Rattle.machine.specs.inside.Sound.{IsSound}
 use Rattle.machine.proofs.sound.Lists.{same_some, once_frames, once_copies, memory_from, AreOnce-set}
 use Rattle.machine.proofs.sound.Admitted.{first_none, free_below}
 use Rattle.machine.proofs.sound.Groups.{unchanged_sound, refused_sound}

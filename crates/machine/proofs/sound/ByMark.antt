@@ -23,8 +23,8 @@ use Rattle.fault.specs.Fault.{is_in_memory}
 use Rattle.cpu.specs.Access.{Hardware}
 use Rattle.machine.specs.State.{State, home_of}
 use Rattle.machine.specs.Rules.{end_change, with_batch, MarkMade}
-use Rattle.machine.specs.inside.Sound.{IsInFile, IsPrepared, IsMemorySound, AreWriteOutsSound, IsSound}
-use Rattle.machine.specs.Durability.{waiting_homes, frozen_homes}
+use Rattle.machine.specs.inside.Sound.{IsPrepared, IsMemorySound, AreWriteOutsSound, IsSound}
+use Rattle.machine.specs.Durability.{IsInFile, waiting_homes, frozen_homes}
 use Rattle.machine.proofs.sound.Lists.{get_or-replicate-same}
 use Rattle.machine.proofs.sound.Groups.{unchanged_sound}
 use Rattle.machine.proofs.sound.Frames.{in_memory_held}

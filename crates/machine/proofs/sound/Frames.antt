@@ -11,7 +11,8 @@ use Rattle.checkpoint.proofs.BackingLaws.{AreBacked-with_bytes}
 use Rattle.fault.specs.Fault.{is_in_memory}
 use Rattle.machine.specs.State.{State}
 use Rattle.machine.specs.Rules.{with_hardware}
-use Rattle.machine.specs.inside.Sound.{IsMemory, IsInFile, IsSound}
+use Rattle.machine.specs.Durability.{IsInFile}
+use Rattle.machine.specs.inside.Sound.{IsMemory, IsSound}
 use Rattle.machine.proofs.sound.Lists.{held_frame, same_some, once_frames, once_copies, memory_from, AreOnce-set}
 use Rattle.machine.proofs.sound.Groups.{write_outs_moved, prepared_moved}
 

@@ -17,7 +17,8 @@ use Rattle.checkpoint.proofs.PagesInUse.{has_page-list_any, list_any-has_page}
 use Rattle.checkpoint.proofs.Searches.{AreRising-tail, before_each}
 use Rattle.fault.specs.Fault.{is_in_memory}
 use Rattle.machine.specs.State.{State, home_of, length_of}
-use Rattle.machine.specs.inside.Sound.{IsInFile, capacity_of, IsSound}
+use Rattle.machine.specs.Durability.{IsInFile}
+use Rattle.machine.specs.inside.Sound.{capacity_of, IsSound}
 use Rattle.machine.proofs.sound.Lists.{held_frame, same_some}
 
 -- ---- where files lie

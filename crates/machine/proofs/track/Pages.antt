@@ -10,7 +10,7 @@ use Rattle.checkpoint.specs.Checkpoint.{Holds, IsDirty}
 use Rattle.fault.specs.Fault.{is_in_memory}
 use Rattle.machine.specs.History.{Event, Memory, memory_of, after, is_touched}
 use Rattle.machine.specs.State.{State, cut_at_end}
-use Rattle.machine.specs.inside.Sound.{IsInFile}
+use Rattle.machine.specs.Durability.{IsInFile}
 use Rattle.machine.specs.Told.{Told}
 use Rattle.machine.specs.inside.Tracking.{HasFiles, IsLatest, AreTouched, ArePlain}
 use Rattle.machine.proofs.track.Histories.{AreQuiet}

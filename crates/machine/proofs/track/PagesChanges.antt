@@ -17,7 +17,8 @@ use Rattle.machine.specs.declared.act.Reply.TheVariants as replies
 use Rattle.machine.specs.History.{Event, Memory, Mark, Acknowledge, memory_of, after, has_unmarked}
 use Rattle.machine.specs.State.{State, page_from, length_of}
 use Rattle.machine.specs.Rules.{Acts, ReclaimMade, MarkMade, FixMade}
-use Rattle.machine.specs.inside.Sound.{IsSound, IsInFile}
+use Rattle.machine.specs.Durability.{IsInFile}
+use Rattle.machine.specs.inside.Sound.{IsSound}
 use Rattle.machine.specs.Told.{Told, tell, events_of}
 use Rattle.machine.proofs.track.Histories.{quiet_nothing, quiet_acknowledge, after_mark, touched_mark}
 use Rattle.machine.proofs.track.FramePages.{is_brought, frames-copied, IsBrought-frames, IsBrought}

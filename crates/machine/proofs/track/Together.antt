@@ -6,6 +6,7 @@ use Rattle.machine.specs.declared.act.Step.{Step}
 use Rattle.machine.specs.State.{State, Whole}
 use Rattle.machine.specs.Rules.{Rules}
 use Rattle.machine.specs.Told.{Told, tell}
+use Rattle.device.specs.declared.device.Device.{Ghosts}
 use Rattle.machine.specs.Crashes.{Begins}
 use Rattle.machine.specs.Steps.{IsLawful, told_first}
 use Rattle.machine.specs.inside.Tracking.{IsArranged, IsTracked}
@@ -39,7 +40,7 @@ module _ {files : List File} {told : Told} {s : State} {seen : List ℕ} {may_le
     lawful_step = lawful files told s seen step.p step.act reply new disk' t.sound t.arranged t.latest rule
 
 -- so is a machine with which a run may begin
-pub as_told_first : {D : Type 0} (seen : D → List ℕ) (may_leave : D → List ℕ → Type 0) (is_honest : D → Type 0) (files : List File) (start : Whole D) → Begins seen may_leave is_honest files start → IsAsTold files (told_first files start.state) start.state
-as_told_first seen may_leave is_honest files start begins =
-    let has = files_at_start files start.state (seen start.device) begins.volume begins.files_are begins.lengths_are in
+pub as_told_first : {D : Type 0} (disk : Ghosts D) (files : List File) (start : Whole D) → Begins disk files start → IsAsTold files (told_first files start.state) start.state
+as_told_first disk files start begins =
+    let has = files_at_start files start.state (disk.seen start.device) begins.volume begins.files_are begins.lengths_are in
     record { arranged = arranged_at_start files start.state begins.fresh has; pages = pages_at_start files start.state begins.fresh has }

@@ -58,7 +58,7 @@ pub record IsQuiet {D Z : Type 0} (old new : Layers D Z) : Type 0 where
       → AreReserved new.shootdown.lock new.spaces.prepared
 
 -- the page is one of a file of the table
-pub record HasPage (table : SuperValue) (owner : FilePage) : Type 0 where
+pub record IsPageOf (table : SuperValue) (owner : FilePage) : Type 0 where
   pub file : owner.file < length table.files
   pub page : owner.page < pages_in_file table.files owner.file
 

@@ -22,12 +22,7 @@ use Rattle.checkpoint.specs.Backing.{AreBacked}
 use Rattle.fault.specs.Fault.{is_in_memory}
 use Rattle.machine.specs.State.{State, length_of, home_of}
 use Rattle.machine.specs.Refusals.{pages_in_file}
-use Rattle.machine.specs.Durability.{frozen_homes}
-
--- a page of a file that begins before the file's end
-pub record IsInFile (s : State) (owner : FilePage) : Type 0 where
-  pub there : owner.file < length s.table.files
-  pub inside : 4096 * owner.page < length_of s owner.file
+use Rattle.machine.specs.Durability.{IsInFile, frozen_homes}
 
 -- the capacity of the file with this number
 abbrev pub capacity_of : State → ℕ → ℕ

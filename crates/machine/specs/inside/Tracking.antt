@@ -19,8 +19,8 @@ use Rattle.fault.specs.Fault.{is_in_memory}
 use Rattle.machine.specs.History.{Event, Memory, memory_of, after, is_touched, Mark, Acknowledge, IsMarked}
 use Rattle.machine.specs.State.{State, home_of, cut_at_end}
 use Rattle.machine.specs.Rules.{bytes_at_mark}
-use Rattle.machine.specs.Durability.{within_file}
-use Rattle.machine.specs.inside.Sound.{IsInFile, IsSound}
+use Rattle.machine.specs.Durability.{IsInFile, within_file}
+use Rattle.machine.specs.inside.Sound.{IsSound}
 use Rattle.machine.specs.Told.{Told, Pending, Unmapping, Protecting, places_in}
 
 -- the unmap or protect that a lock is held for

@@ -1,4 +1,4 @@
-use Rattle.std.proofs.Common.{List, length, IfOk, subst}
+use Rattle.std.proofs.Common.{List, length, take, IfOk, subst}
 use Rattle.std.proofs.lemmas.Result.{IfOk-weaker}
 use Rattle.machine.specs.declared.act.Reply.{Reply}
 use Rattle.machine.specs.declared.act.Step.{Step}
@@ -13,7 +13,7 @@ returns-clause-ran g c =
     let old = c.args.printer.now in
     let new = c.run.new.listener in
     let shape = c.args.script.now.shape in
-    let Heard : List Step → g.row.D.Denot → Type 0 = λ steps after. (replies : List Reply) × HasListened (Prints g.W.Write.contents) (length steps) old replies new × HasRun g.D.Device c.args.device shape steps replies after in
-    let Printed : g.row.D.Denot → Type 0 = λ after. (replies : List Reply) × ArePrintedOf g.W.Write.contents (length c.args.script.now.steps.items) old replies new × HasRun g.D.Device c.args.device shape c.args.script.now.steps.items replies after in
+    let Heard : List Step → g.row.D.Denot → Type 0 = λ steps after. (replies : List Reply) × HasListened (Prints g.W.Write.contents) (length steps) old replies new × HasRun g.D.Device c.args.device shape (take (length replies) steps) replies after in
+    let Printed : g.row.D.Denot → Type 0 = λ after. (replies : List Reply) × ArePrintedOf g.W.Write.contents (length c.args.script.now.steps.items) old replies new × HasRun g.D.Device c.args.device shape (take (length replies) c.args.script.now.steps.items) replies after in
     let P : List Step → Type 0 = λ steps. IfOk c.run.result (Heard steps) in
     IfOk-weaker c.run.result (Heard c.args.script.now.steps.items) Printed (λ after heard. (heard.0, printed_of_run g.W.Write.contents (length c.args.script.now.steps.items) old heard.0 new heard.1, heard.2)) (subst P c.deref.ensures.value c.run.ensures.ran)

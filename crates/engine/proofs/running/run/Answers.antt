@@ -1,29 +1,16 @@
 use Rattle.std.proofs.Common.{length, take, sym, subst}
-use Rattle.machine.specs.State.{Whole}
 use Rattle.engine.specs.Engine.{HasRun, KeepsDevice}
-use Rattle.engine.proofs.Runs.{taken_few}
-use Rattle.engine.proofs.Starts.{run_of, run_kept, refused_kept}
+use Rattle.engine.proofs.Starts.{run_kept, refused_kept}
 use Rattle.engine.proofs.running.run.Goals as goal
 
 pub returns-in-Ok-clause-ran : goal.returns-in-Ok-clause-ran
 returns-in-Ok-clause-ran g c =
     let replies = c.make_steps.ensures.0 in
-    let made = c.make_steps.ensures.2 in
-    let start : Whole g.row.D.Denot = c.in-Ok.machine in
-    let last : Whole g.row.D.Denot = c.make_steps.new.machine in
-    let started = c.in-Ok.ensures.started in
-    let steps = c.args.steps.now in
+    let steps = take (length replies) c.args.steps.now in
     let P : g.row.D.Denot → Type 0 = λ device. HasRun g.D.Device c.args.device c.args.shape steps replies device in (
       replies,
       c.make_steps.ensures.1,
-      subst P (sym c.into_device.ensures) (record {
-        start = start;
-        started = started;
-        few = taken_few g.D.Device start steps replies last made;
-        state = last.state;
-        made = made;
-        run = run_of g.D.Device c.args.device c.args.shape start (take (length replies) steps) replies last started made c.keeps_the_laws.ensures.headline c.keeps_the_laws.ensures.lawful c.keeps_the_laws.ensures.left c.keeps_the_laws.ensures.served;
-      }),
+      subst P (sym c.into_device.ensures) (c.ran_since_start.ensures c.args.device c.args.shape c.in-Ok.machine steps replies c.in-Ok.ensures.started c.make_steps.ensures.2),
     )
 
 pub returns-in-Ok-clause-kept : goal.returns-in-Ok-clause-kept

@@ -1,9 +1,10 @@
-use Rattle.std.proofs.Common.{true}
-use Rattle.machine.proofs.durable.Later.{all_recover, finds_durable}
+use Rattle.machine.proofs.durable.Later.{found_settled, found_durable}
 use Rattle.machine.proofs.laws.opened_later.Goals as goal
 
-pub returns : goal.returns
-returns g c = λ files history n first later after result honest back is opens.
-    let lists = g.D.Device.may_leave first in
-    let among = (c.opened_again.ensures.finds n first later after result (λ found. true) honest is (all_recover files history lists back) opens).0 in
-    finds_durable files history lists result (g.D.Device.seen after) back among
+pub returns-clause-settled : goal.returns-clause-settled
+returns-clause-settled g c = λ files n first later honest only recovers is.
+    found_settled g.D.Device g.met.D.Device.seen_is_left c.opened_again.ensures.honest c.opened_again.ensures.left c.opened_as_recovered.ensures.files c.kinds_of_bytes.ensures.volume c.one_reading.ensures.files files n first later honest only recovers is
+
+pub returns-clause-durable : goal.returns-clause-durable
+returns-clause-durable g c = λ files history n first later honest back is.
+    found_durable g.D.Device g.met.D.Device.seen_is_left c.opened_again.ensures.honest c.opened_again.ensures.left c.opened_as_recovered.ensures.files c.kinds_of_bytes.ensures.volume c.one_reading.ensures.files files history n first later honest back is

@@ -7,7 +7,7 @@ use Rattle.checkpoint.specs.Checkpoint.{CheckpointState, Gathers}
 use Rattle.machine.specs.declared.layers.Layers.{Layers}
 use Rattle.machine.specs.State.{home_of}
 use Rattle.machine.specs.Rules.{MarkMade}
-use Rattle.machine.specs.inside.Layers.{state_in, HasPage, MayBegin}
+use Rattle.machine.specs.inside.Layers.{state_in, IsPageOf, MayBegin}
 use Rattle.machine.proofs.code.Holders.{may_change}
 use Rattle.machine.proofs.code.Marks.{few_frozen, frozen_there, may_begin, with_homes-batch}
 use Rattle.machine.proofs.layers.Layers.mark.Goals as goal
@@ -24,7 +24,7 @@ write_out-requires-clause-pages g c =
     let s = state_in c.args.self.now in
     let pages = c.gather.ensures.gathered.0 in
     let gathers = subst (λ b. Gathers s.hardware.spaces s.hardware.memory s.checkpoint c.gather.new.self (not b) pages) c.is_broken-freezes.ensures c.gather.ensures.gathered.2 in
-    subst (All (HasPage s.table)) (ap (λ (x : CheckpointState). x.frozen) (sym c.protect_all.ensures.notes)) (frozen_there s c.requires.sound c.gather.new.self pages gathers)
+    subst (All (IsPageOf s.table)) (ap (λ (x : CheckpointState). x.frozen) (sym c.protect_all.ensures.notes)) (frozen_there s c.requires.sound c.gather.new.self pages gathers)
 
 pub write_out-requires-clause-batch : goal.write_out-requires-clause-batch
 write_out-requires-clause-batch g c =

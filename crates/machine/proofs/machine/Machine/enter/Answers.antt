@@ -1,9 +1,20 @@
+use Rattle.machine.specs.Runs.{StepTaken}
+use Rattle.machine.specs.Steps.{told_first}
+use Rattle.machine.specs.Told.{tell_all}
+use Rattle.machine.proofs.Joined.{step_safe}
+use Rattle.machine.proofs.Tracks.{follows}
 use Rattle.machine.proofs.code.Runs.{steps_more}
 use Rattle.machine.proofs.machine.Machine.enter.Goals as goal
 
-pub returns-clause-on_track : goal.returns-clause-on_track
-returns-clause-on_track g c = λ files start steps replies on. record {
-  begins = on.begins;
-  taken = steps_more g.D.Device start steps replies c.args.self.now c.args.step.now c.step.result c.step.new.self on.taken
-      (record { answered = c.step.ensures.rules; made = c.step.ensures.made; calls = c.step.ensures.calls; honest = c.step.ensures.honest; len = c.step.ensures.len });
-}
+module _ (g : _) (c : goal.After-step g) where
+  -- the step was taken
+  taken : StepTaken g.D.Device c.args.self.now c.args.step.now c.step.result c.step.new.self
+  taken = record { answered = c.step.ensures.rules; made = c.step.ensures.made; calls = c.step.ensures.calls; honest = c.step.ensures.honest; len = c.step.ensures.len }
+
+pub returns-clause-longer : goal.returns-clause-longer
+returns-clause-longer g c = λ start steps replies before. steps_more g.D.Device start steps replies c.args.self.now c.args.step.now c.step.result c.step.new.self before (taken g c)
+
+pub returns-clause-safe : goal.returns-clause-safe
+returns-clause-safe g c = λ files start steps replies on.
+    let f = follows g.D.Device files start steps replies c.args.self.now on in
+    step_safe g.D.Device files (tell_all (told_first files start.state) steps replies) c.args.self.now c.args.step.now c.step.result c.step.new.self f.tracked (taken g c) f.honest

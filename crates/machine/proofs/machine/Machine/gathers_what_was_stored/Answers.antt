@@ -1,8 +1,15 @@
+use Rattle.machine.specs.Steps.{told_first}
+use Rattle.machine.specs.Told.{tell_all}
 use Rattle.machine.proofs.Tracks.{follows}
+use Rattle.machine.proofs.durable.Gathered.{gathers_touched, gathers_nothing}
 use Rattle.machine.proofs.machine.Machine.gathers_what_was_stored.Goals as goal
 
-pub returns : goal.returns
-returns g c = λ files start steps replies p number new mark owner on.
-    let touched = (follows g.D.Device files start steps replies c.args.self.now on).tracked.touched owner in
-    let dirty = mark.gathered.gathered.dirty owner in
-    (λ gathered. touched.1 (dirty.0 gathered), λ stored. dirty.1 (touched.0 stored))
+pub returns-clause-pages : goal.returns-clause-pages
+returns-clause-pages g c = λ files start steps replies p number new mark owner on.
+    let now = c.args.self.now in
+    gathers_touched (tell_all (told_first files start.state) steps replies) now.state p number new mark (follows g.D.Device files start steps replies now on).tracked.touched owner
+
+pub returns-clause-nothing : goal.returns-clause-nothing
+returns-clause-nothing g c = λ files start steps replies p number new mark on.
+    let now = c.args.self.now in
+    gathers_nothing (tell_all (told_first files start.state) steps replies) now.state p number new mark (follows g.D.Device files start steps replies now on).tracked.touched

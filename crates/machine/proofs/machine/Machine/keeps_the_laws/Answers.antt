@@ -20,4 +20,4 @@ returns-clause-left g c = λ files start steps replies list on.
 pub returns-clause-served : goal.returns-clause-served
 returns-clause-served g c = λ files start steps replies on.
     let through = (follows g.D.Device files start steps replies c.args.self.now on).through in
-    served_throughout g.D.Device.seen g.D.Device.may_leave g.D.Device.moment g.D.Device.left_since files (told_first files start.state) start steps replies c.args.self.now through
+    served_throughout g.D.Device files (told_first files start.state) start steps replies c.args.self.now through

@@ -13,8 +13,5 @@ pub returns-clause-served : goal.returns-clause-served
 returns-clause-served g c = λ files begins.
     c.keeps_the_laws.ensures.served files c.args.self.now c.args.steps.now c.make_all.new.replies (record { begins = begins; taken = c.make_all.ensures.steps })
 
-pub returns-clause-on_track : goal.returns-clause-on_track
-returns-clause-on_track g c = λ files start earlier told on. record {
-  begins = on.begins;
-  taken = taken_then g.D.Device start c.args.self.now c.make_all.new.self earlier told c.args.steps.now c.make_all.new.replies on.taken c.make_all.ensures.steps;
-}
+pub returns-clause-longer : goal.returns-clause-longer
+returns-clause-longer g c = λ start earlier told taken. taken_then g.D.Device start c.args.self.now c.make_all.new.self earlier told c.args.steps.now c.make_all.new.replies taken c.make_all.ensures.steps

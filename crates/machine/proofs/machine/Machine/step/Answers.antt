@@ -23,7 +23,7 @@ returns-clause-rules g c =
 pub returns-clause-made : goal.returns-clause-made
 returns-clause-made g c =
     subst (λ (w : Whole g.row.D.Denot). g.D.Device.is_honest w.device
-    → StepMade g.D.Device.seen g.D.Device.may_leave g.D.Device.moment g.D.Device.left_since g.D.Device.is_honest w c.args.step.now c.reply_to.result (whole_in c.act.new.self)) c.self.view_is
+    → StepMade g.D.Device w c.args.step.now c.reply_to.result (whole_in c.act.new.self)) c.self.view_is
     (step_made g.D.Device c.self.inside.layers c.act.new.self c.args.step.now c.reply_to.result (done g c))
 
 pub returns-clause-not_full : goal.returns-clause-not_full

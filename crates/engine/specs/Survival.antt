@@ -1,0 +1,57 @@
+-- What of a run survives the end of it and a crash at any moment, by what its steps and replies tell.
+use Rattle.std.specs.Prelude.{ℕ, List}
+use Rattle.device.specs.declared.device.Device.{Ghosts}
+use Rattle.volume_codec.specs.Files.{File}
+use Rattle.volume_codec.specs.Recovery.{RecoversTo}
+use Rattle.recovery.specs.Openings.{IsRestarted, IsLater}
+use Rattle.machine.specs.declared.act.Reply.{Reply}
+use Rattle.machine.specs.declared.act.Step.{Step}
+use Rattle.machine.specs.Crashes.{StepIsSafe, Throughout}
+use Rattle.machine.specs.History.{Event}
+use Rattle.machine.specs.Later.{AreDurable, Finds, FindsDurable}
+use Rattle.machine.specs.Laws.{EachStep, FaultsAreServed}
+use Rattle.machine.specs.State.{Whole}
+use Rattle.machine.specs.Steps.{IsLawful, told_first}
+use Rattle.machine.specs.Told.{Told, tell_all}
+
+-- what these steps and their replies tell was stored, marked and acknowledged
+abbrev pub history_of : {D : Type 0} → List File → Whole D → List Step → List Reply → List Event
+history_of files start steps replies = (tell_all (told_first files start.state) steps replies).history
+
+-- A crash left one of these lists: whichever one, these files are found, and so they are after any number of openings,
+-- each with a crash or none within and after it.
+abbrev pub KeepsFiles : {D : Type 0} → Ghosts D → List File → (List ℕ → Type 0) → Type 0
+KeepsFiles {D} disk files lists =
+    (first later : D) (n : ℕ) → IsRestarted disk lists first → IsLater disk n first later → Finds disk files later
+
+-- A crash left one of these lists: whichever one, there are files after a durable prefix of this history, and they are
+-- found, and so they are after any number of openings, each with a crash or none within and after it.
+abbrev pub FindsAfterCrash : {D : Type 0} → Ghosts D → List File → List Event → (List ℕ → Type 0) → Type 0
+FindsAfterCrash {D} disk files history lists =
+    (first : D) → IsRestarted disk lists first → (found : List File) × AreDurable files history found
+    × ((n : ℕ) (later : D) → IsLater disk n first later → Finds disk found later)
+
+-- One step, by what was told before it: what a crash at any moment within it leaves is found so by the history before
+-- it, to which an acknowledged mark belongs whole.
+pub record StepSurvives {D : Type 0} (disk : Ghosts D) (files : List File) (told : Told) (old : Whole D) (step : Step)
+    (reply : Reply) (new : Whole D) : Type 0 where
+  pub safe : StepIsSafe disk files told old step reply new
+  pub within : FindsAfterCrash disk files told.history (disk.left_since new.device (disk.moment old.device))
+
+-- These steps of a machine that was booted over a volume with these files, once its device was opened, and their
+-- replies.
+pub record Survives {D : Type 0} (disk : Ghosts D) (files : List File) (before : D) (start : Whole D)
+    (steps : List Step) (replies : List Reply) (last : Whole D) : Type 0 where
+  -- a crash within the opening, where all that one might have left before it recovers to these files
+  pub opening : ((c : List ℕ) → disk.may_leave before c → RecoversTo c files)
+      → KeepsFiles disk files (disk.left_since start.device (disk.moment before))
+  -- a crash within a step: by the history before that step
+  pub within : Throughout (StepSurvives disk files) (told_first files start.state) start steps replies last
+  -- a crash after the last step: by the whole history
+  pub after : FindsAfterCrash disk files (history_of files start steps replies) (disk.may_leave last.device)
+  -- so it is without a crash, or with one after further openings
+  pub ended : (n : ℕ) (later : D) → IsLater disk n last.device later
+      → FindsDurable disk files (history_of files start steps replies) later
+  -- loads, stores and faults are answered by what was told before them, and a fault that is served is served
+  pub lawful : EachStep (IsLawful files) (told_first files start.state) steps replies
+  pub served : FaultsAreServed steps replies

@@ -1,0 +1,8 @@
+use Rattle.machine.proofs.durable.NothingStored.{files_unchanged, found_unchanged}
+use Rattle.machine.proofs.laws.nothing_stored.Goals as goal
+
+pub returns-clause-files : goal.returns-clause-files
+returns-clause-files g files = files_unchanged files
+
+pub returns-clause-found : goal.returns-clause-found
+returns-clause-found g files = found_unchanged files
