@@ -1,5 +1,6 @@
 -- Each step of a tracked machine keeps it tracked, so the laws hold of a run that began on a volume at rest.
 use Rattle.std.proofs.Common.{ℕ, ◌≡◌, List, [], ◌∷◌, ◌++◌, length, map, get_or, refl, sym, ap, ◌∙◌, subst, arith}
+use Rattle.device.specs.Device.{LeavesOnly}
 use Rattle.device.specs.declared.device.Device.{Ghosts}
 use Rattle.volume_codec.specs.Files.{File, TableFile}
 use Rattle.volume_codec.specs.Layout.{block_at}
@@ -14,12 +15,13 @@ use Rattle.machine.specs.Steps.{StepMade, IsLawful, told_first}
 use Rattle.machine.specs.Runs.{StepTaken}
 use Rattle.machine.specs.inside.Following.{Follows}
 use Rattle.machine.specs.Crashes.{Begins, StepIsSafe, Throughout}
+use Rattle.machine.specs.Stops.{StopsInStep}
 use Rattle.machine.specs.inside.Sound.{IsSound, capacity_of}
 use Rattle.machine.specs.inside.Tracking.{IsTracked}
 use Rattle.machine.proofs.sound.Kept.{sound_kept}
 use Rattle.machine.proofs.sound.AtBoot.{fresh_sound}
 use Rattle.machine.proofs.durable.PagesRead.{page_read}
-use Rattle.machine.proofs.durable.Steps.{durable_kept, step_is_safe}
+use Rattle.machine.proofs.durable.Steps.{durable_kept, step_is_safe, step_stops}
 use Rattle.machine.proofs.durable.AtStart.{durable_at_start}
 use Rattle.machine.proofs.track.Together.{as_told_after, as_told_first, lawful_step}
 
@@ -80,6 +82,9 @@ module _ {D : Type 0} (disk : Ghosts D) (files : List File) (told : Told) (old :
 
   pub step_safe : StepIsSafe disk files told old step reply new
   step_safe = step_is_safe disk files told old step reply new t taken honest sound_after tracked_kept.files_are
+
+  pub step_stopped : LeavesOnly disk.moment disk.left_since old.device new.device (StopsInStep files told.history old.state.write_outs)
+  step_stopped = step_stops disk files told old step reply new t taken honest sound_after
 
 -- ---- runs
 

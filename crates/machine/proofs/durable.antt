@@ -3,6 +3,7 @@ pub mod Histories
 pub mod Pages
 pub mod Homes
 pub mod Leaves
+pub mod Uncommitted
 pub mod Accesses
 pub mod Waiting
 pub mod Quiet
@@ -16,6 +17,7 @@ pub mod Records
 pub mod Flushes
 pub mod FileParts
 pub mod ReadsBack
+pub mod Stopped
 pub mod Steps
 pub mod AtStart
 pub mod PagesRead

@@ -4,7 +4,7 @@ ghost use Rattle.page_entry.specs.declared.numbers.FilePage.{FilePage};
 ghost use Rattle.page_entry.specs.declared.refusal.Refusal.{Refusal};
 ghost use Rattle.frames.specs.Frames.{frame_at, bytes_of};
 ghost use Rattle.checkpoint.specs.Checkpoint.{Holds};
-ghost use Rattle.device.specs.Device.{Only};
+ghost use Rattle.device.specs.Device.{LeavesOnly, Only};
 ghost use Rattle.machine.specs.declared.act.Reply.{Reply};
 ghost use Rattle.machine.specs.declared.act.Step.{Step};
 ghost use Rattle.volume_codec.specs.Files.{File};
@@ -17,6 +17,7 @@ ghost use Rattle.machine.specs.Told.{tell_all};
 ghost use Rattle.machine.specs.Laws.{EachStep, FaultsAreServed, ReadsBack};
 ghost use Rattle.machine.specs.Steps.{IsLawful, told_first};
 ghost use Rattle.machine.specs.OnTrack.{IsOnTrack};
+ghost use Rattle.machine.specs.Stops.{Stops, StopsInStep};
 ghost use Rattle.machine.specs.Runs.{StepTaken, StepsTaken};
 
 use crate::{Machine, Reply, Step};
@@ -33,7 +34,8 @@ impl<D: Device, A: Allocator + Copy> Machine<D, A> {
     /// One step, for a caller that makes one at a time. Whatever steps led to the machine, from whatever start and over
     /// whatever device, this one and its reply come after them (`longer`), so that a machine on the track of a run stays
     /// there. On the track of a run, a crash within this very step leaves what reads back by the history before it, and
-    /// one after it what reads back by the history with it (`safe`).
+    /// one after it what reads back by the history with it (`safe`); which of a write-out's files, the old or the new ones,
+    /// its stage says (`stops`).
     pub fn enter(&mut self, step: &Step) -> Reply
         ensures not_full { result ≢ Reply.Refused Refusal.TraceFull }
         ensures taken { StepTaken D.Device self.old step.now result self.new }
@@ -44,6 +46,10 @@ impl<D: Device, A: Allocator + Copy> Machine<D, A> {
             → IsOnTrack D.Device files start steps replies self.old
             → StepIsSafe D.Device files (tell_all (told_first files start.state) steps replies)
             self.old step.now result self.new }
+        ensures stops { (files : List File) (start : Whole D) (steps : List Step) (replies : List Reply)
+            → IsOnTrack D.Device files start steps replies self.old
+            → LeavesOnly D.moment D.left_since self.old.device self.new.device (StopsInStep files
+            (tell_all (told_first files start.state) steps replies).history self.old.state.write_outs) }
     {
         self.step(step)
     }
@@ -65,6 +71,17 @@ impl<D: Device, A: Allocator + Copy> Machine<D, A> {
         ensures served { (files : List File) (start : Whole D) (steps : List Step) (replies : List Reply)
             → IsOnTrack D.Device files start steps replies self.now
             → FaultsAreServed steps replies }
+    {}
+
+    /// On the track of a run, by the write-out whose step comes next: until the step that writes its gate begins, a crash
+    /// leaves what recovers to the files after a durable prefix of the history without its mark; until the mark is
+    /// committed, to these or to those with it; and from then on to those with it. (Of a crash within a step `enter`
+    /// says so.)
+    pub fn commits_at_once(&self)
+        ensures { (files : List File) (start : Whole D) (steps : List Step) (replies : List Reply) (c : List ℕ)
+            → IsOnTrack D.Device files start steps replies self.now → D.may_leave self.now.device c
+            → Stops files (tell_all (told_first files start.state) steps replies).history
+            self.now.state.write_outs c }
     {}
 
     /// On the track of a run, no store reaches a page that was gathered by a mark until its record is written, its

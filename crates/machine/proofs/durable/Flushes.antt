@@ -1,9 +1,9 @@
 -- A step of the write-outs: Old and New stay, until the batch that wasn't committed is; then what was New is Old, too.
-use Rattle.std.proofs.Common.{◌≡◌, ◌<◌, ◌==◌, ℕ, zero, suc, cond, Bool, true, false, List, [], ◌∷◌, ◌++◌, length, drop, get_or, Option, Some, None, inl, inr, refl, sym, ap, ◌∙◌, subst, arith}
+use Rattle.std.proofs.Common.{◌≡◌, ◌<◌, ◌≤◌, ◌==◌, ℕ, zero, suc, cond, Bool, true, false, List, [], ◌∷◌, ◌++◌, length, drop, get_or, Option, Some, None, inl, inr, refl, sym, ap, ◌∙◌, subst, arith}
 use Rattle.std.specs.Option.{option_map_or}
 use Rattle.std.specs.List.{Contains, All}
 use Rattle.std.proofs.lemmas.Bool.{cond-false, both_ways, or_parts}
-use Rattle.std.proofs.lemmas.List.Elements.{Contains-get_or, Contains-push_cases, All-contains}
+use Rattle.std.proofs.lemmas.List.Elements.{Contains-get_or, Contains-push_cases, Contains-append_cases, All-contains}
 use Rattle.page_entry.specs.declared.numbers.FilePage.{FilePage}
 use Rattle.volume_codec.specs.Files.{File}
 use Rattle.volume_codec.specs.Layout.{journals_of}
@@ -15,7 +15,7 @@ use Rattle.checkpoint.specs.Checkpoint.{AreRising}
 use Rattle.journal.specs.declared.flushed.Flushed.{Flushed}
 use Rattle.journal.specs.declared.flushed.Flushed.TheVariants as flushed
 use Rattle.journal.specs.Work.{Sync, worked, TornFromWork}
-use Rattle.journal.specs.WriteOut.{WriteOut, broken_after, answer_of}
+use Rattle.journal.specs.WriteOut.{WriteOut, has_committed, broken_after, answer_of}
 use Rattle.journal.specs.WriteOuts.{WriteOutsValue, has_uncommitted, current, next_answer, outs_after, outs_home, current_stage, batches_after}
 use Rattle.journal.specs.Crash.{LeftWithin}
 use Rattle.journal.specs.inside.Standing.{IsStanding}
@@ -34,10 +34,11 @@ use Rattle.machine.specs.Told.{Told}
 use Rattle.machine.specs.inside.Tracking.{change_in, AreContentsOf, HasAcknowledged, IsWritten}
 use Rattle.machine.specs.Durability.{IsInFile, within_file}
 use Rattle.machine.proofs.durable.Lists.{some_same, none_some}
-use Rattle.machine.proofs.durable.Histories.{IsUntouched, quiet_untouched, touched-append, after-append, acknowledge_same, acknowledged_more}
+use Rattle.machine.proofs.durable.Histories.{IsUntouched, quiet_untouched, touched-append, after-append, acknowledge_same, acknowledge_no_mark, acknowledged_more}
 use Rattle.machine.proofs.durable.Pages.{bytes_with-freed}
 use Rattle.machine.proofs.durable.Leaves.{SameFiles, in_file_as, part_as, contents_more, record_as, AreFrozenRecords}
 use Rattle.machine.proofs.durable.Marks.{IsDurable}
+use Rattle.machine.proofs.durable.Uncommitted.{none_uncommitted, uncommitted_before}
 use Rattle.machine.proofs.durable.Quiet.{second_not_refused}
 use Rattle.machine.proofs.durable.Records.{size_of_record, record_is_new, commits}
 
@@ -56,15 +57,20 @@ calm_acknowledge files history number file page is = record {
   same = ap (λ (m : ℕ → ℕ → List ℕ). m file page) (after-append (memory_of files) history (Acknowledge number ∷ []));
 }
 
+-- the batches that aren't committed aren't in this prefix
+abbrev IsFresh : State → List Event → Type 0
+IsFresh x before = (y : WriteOut) → Contains x.write_outs.batches y → has_committed y ≡ false → Contains before (Mark y.batch.mark) → ⊥
+
 module _ (files : List File) (told : Told) (s x : State) (old new : ℕ → List ℕ) (w : IsWritten files told s old new) (events : List Event) (calm : AreCalm files told.history events) (same : SameFiles s x)
     (acks : (n : ℕ) → Contains events (Acknowledge n) → Contains w.marked (Mark n)) (marks : All (λ (y : WriteOut). Contains w.marked (Mark y.batch.mark)) x.write_outs.batches)
-    (ready : x.write_outs.broken ≡ true → change_in x.hardware.shootdown.lock ≡ Some Checkpoint → has_uncommitted x.write_outs.batches ≡ false) (whole : s.write_outs.broken ≡ false) (frozen : AreFrozenRecords x new) where
+    (ready : x.write_outs.broken ≡ true → change_in x.hardware.shootdown.lock ≡ Some Checkpoint → has_uncommitted x.write_outs.batches ≡ false) (whole : s.write_outs.broken ≡ false) (frozen : AreFrozenRecords x new)
+    (unmarked : (n : ℕ) → Contains events (Mark n) → ⊥) (same_marks : x.marks ≡ s.marks) where
   abbrev now : Told
   now = record told { history = told.history ++ events }
 
   -- with another Old
-  pub written_on : (other : ℕ → List ℕ) (before : List Event) → AreContentsOf files (told.history ++ events) x other before → HasAcknowledged before (told.history ++ events) → IsWritten files now x other new
-  written_on other before are acknowledged = record {
+  pub written_on : (other : ℕ → List ℕ) (before : List Event) → AreContentsOf files (told.history ++ events) x other before → HasAcknowledged before (told.history ++ events) → IsFresh x before → IsWritten files now x other new
+  written_on other before are acknowledged fresh = record {
     before = before;
     old_are = are;
     acknowledged = acknowledged;
@@ -72,6 +78,8 @@ module _ (files : List File) (told : Told) (s x : State) (old new : ℕ → List
     new_are = contents_more files told.history events s x same new w.marked w.new_are;
     grown = acknowledged_more w.marked told.history events acks w.grown;
     marks = marks;
+    fresh = fresh;
+    numbered = λ n has. elim (Contains-append_cases told.history events (Mark n) has) [ inl was ↦ subst (λ m. n ≤ m) (sym same_marks) (w.numbered n was) | inr this ↦ absurd (unmarked n this) ];
     ready = ready;
     clean = inr (λ owner is untouched.
         let still = calm owner.file owner.page untouched in
@@ -84,12 +92,12 @@ module _ (files : List File) (told : Told) (s x : State) (old new : ℕ → List
       clean owner is untouched = elim w.clean [ inl lost ↦ absurd (both_ways s.write_outs.broken whole lost.broken) | inr are ↦ are owner is untouched ]
 
   -- with the same Old
-  pub written_same : ((n : ℕ) → Contains events (Acknowledge n) → Contains w.before (Mark n)) → IsWritten files now x old new
-  written_same old_acks = written_on old w.before (contents_more files told.history events s x same old w.before w.old_are) (acknowledged_more w.before told.history events old_acks w.acknowledged)
+  pub written_same : ((n : ℕ) → Contains events (Acknowledge n) → Contains w.before (Mark n)) → IsFresh x w.before → IsWritten files now x old new
+  written_same old_acks fresh = written_on old w.before (contents_more files told.history events s x same old w.before w.old_are) (acknowledged_more w.before told.history events old_acks w.acknowledged) fresh
 
   -- where New is Old, too
-  pub written_new : IsWritten files now x new new
-  written_new = written_on new w.marked (contents_more files told.history events s x same new w.marked w.new_are) (acknowledged_more w.marked told.history events acks w.grown)
+  pub written_new : IsFresh x w.marked → IsWritten files now x new new
+  written_new fresh = written_on new w.marked (contents_more files told.history events s x same new w.marked w.new_are) (acknowledged_more w.marked told.history events acks w.grown) fresh
 
 -- ---- what the state is after a step
 
@@ -143,6 +151,10 @@ module _ (s : State) (outs : WriteOutsValue) where
   same_lock true = refl
   same_lock false = refl
 
+  same_number : (records : Bool) → (stepped s records outs).marks ≡ s.marks
+  same_number true = refl
+  same_number false = refl
+
   same_outs : (records : Bool) → (stepped s records outs).write_outs ≡ outs
   same_outs true = refl
   same_outs false = refl
@@ -188,7 +200,7 @@ module _ (files : List File) (told : Told) (s : State) (seen : List ℕ) (may : 
     new = new;
     stands = stands_failed s.table old new s.write_outs seen may (next_record s) (size_of_record s sound) stands flush_whole some is_new seen' may' left;
     written = written_same files told s (after_failure s) old new w [] (calm_none files told.history) (record { table = refl; lengths = refl }) (λ n has. absurd (omega (arith, has.1))) w.marks (λ broken held. not_busy held) flush_whole (λ k d lt. absurd (omega arith))
-        (λ n has. absurd (omega (arith, has.1)));
+        (λ n has. absurd (omega (arith, has.1))) refl (λ n has. absurd (omega (arith, has.1))) w.fresh;
   })
 
   -- all its device calls succeeded
@@ -220,6 +232,14 @@ module _ (files : List File) (told : Told) (s : State) (seen : List ℕ) (may : 
     ready_now : (next_answer s.write_outs ≡ flushed.Device → ⊥) → after_it.write_outs.broken ≡ true → change_in after_it.hardware.shootdown.lock ≡ Some Checkpoint → has_uncommitted after_it.write_outs.batches ≡ false
     ready_now other broken held = absurd (both_ways after_it.write_outs.broken (ap (λ (o : WriteOutsValue). o.broken) (same_outs s outs records) ∙ still_whole (next_answer s.write_outs) other) broken)
 
+    batches_now : (y : WriteOut) → Contains after_it.write_outs.batches y → Contains (batches_after (next_answer s.write_outs) s.write_outs.batches) y
+    batches_now y there = subst (λ (o : WriteOutsValue). Contains o.batches y) (same_outs s outs records) there
+
+    fresh_still : IsFresh after_it w.before
+    fresh_still y there early has =
+        let was = uncommitted_before (next_answer s.write_outs) s.write_outs.batches y (batches_now y there) early in
+        w.fresh was.before was.there was.early (subst (λ (b : Batch). Contains w.before (Mark b.mark)) (sym was.batch) has)
+
     -- the batch isn't committed by it, or was before
     pub flush_goes_on : (next_answer s.write_outs ≡ flushed.Device → ⊥) → IsDurable files (record told { history = told.history ++ [] }) after_it (worked seen (work_asked s)) may'
     flush_goes_on other = record {
@@ -227,7 +247,7 @@ module _ (files : List File) (told : Told) (s : State) (seen : List ℕ) (may : 
       new = new;
       stands = stands_as old stands_now;
       written = written_same files told s after_it old new w [] (calm_none files told.history) (same_files s outs records) (λ n has. absurd (omega (arith, has.1))) marks_now (ready_now other) flush_whole (stepped_records s outs records new sound w.frozen)
-          (λ n has. absurd (omega (arith, has.1)));
+          (λ n has. absurd (omega (arith, has.1))) (same_number s outs records) (λ n has. absurd (omega (arith, has.1))) fresh_still;
     }
 
     -- it is
@@ -241,7 +261,8 @@ module _ (files : List File) (told : Told) (s : State) (seen : List ℕ) (may : 
           old = new;
           new = new;
           stands = stands_as new (stands_other s.table old new new outs (worked seen (work_asked s)) may' none stands_now);
-          written = written_new files told s after_it old new w (Acknowledge number ∷ []) (calm_acknowledge files told.history number) (same_files s outs records) (acknowledges in_new) marks_now (ready_now (λ e. never number (sym is ∙ e))) flush_whole (stepped_records s outs records new sound w.frozen);
+          written = written_new files told s after_it old new w (Acknowledge number ∷ []) (calm_acknowledge files told.history number) (same_files s outs records) (acknowledges in_new) marks_now (ready_now (λ e. never number (sym is ∙ e))) flush_whole (stepped_records s outs records new sound w.frozen)
+              (acknowledge_no_mark number) (same_number s outs records) (λ y there early has. none_uncommitted outs.batches y none (batches_now y there) early);
         }
       where
         never : (n : ℕ) → flushed.Committed n ≡ flushed.Device → ⊥

@@ -60,6 +60,27 @@ only_itself history number n has = by (has_unmarked history) has
       | inr e ↦ (refl, acknowledge_same number n e)
     ]
 
+mark_same : (m n : ℕ) → Mark m ≡ Mark n → m ≡ n
+mark_same m n e = cc
+
+acknowledge_not : (m n : ℕ) → Acknowledge m ≡ Mark n → ⊥
+acknowledge_not m n e = cc
+
+-- an acknowledgement is no mark
+pub acknowledge_no_mark : (number n : ℕ) → Contains (Acknowledge number ∷ []) (Mark n) → ⊥
+acknowledge_no_mark number n has = elim (Contains-push_cases [] (Acknowledge number) (Mark n) has) [ inl none ↦ contains_none (Mark n) none | inr e ↦ acknowledge_not number n e ]
+
+-- and what a mark adds has no other mark
+pub only_marked : (history : List Event) (number n : ℕ) → Contains (marked_by history number) (Mark n) → number ≡ n
+only_marked history number n has = by (has_unmarked history) has
+  where
+    first : Contains (Mark number ∷ []) (Mark n) → number ≡ n
+    first has = elim (Contains-push_cases [] (Mark number) (Mark n) has) [ inl none ↦ absurd (contains_none (Mark n) none) | inr e ↦ mark_same number n e ]
+
+    by : (waits : Bool) → Contains (Mark number ∷ (cond waits [] (Acknowledge number ∷ []))) (Mark n) → number ≡ n
+    by true has = first has
+    by false has = elim (Contains-push_cases (Mark number ∷ []) (Acknowledge number) (Mark n) has) [ inl before ↦ first before | inr e ↦ absurd (acknowledge_not number n e) ]
+
 -- ---- events that acknowledge nothing and mark nothing: none, or a store
 
 abbrev pub IsQuiet : List Event → Type 0
@@ -74,6 +95,17 @@ quiet_acknowledges events n (inr store) has =
     elim (Contains-push_cases [] (Store store.0 store.1 store.2) (Acknowledge n) (subst (λ (l : List Event). Contains l (Acknowledge n)) store.3 has)) [
       | inl none ↦ contains_none (Acknowledge n) none
       | inr e ↦ store_not store.0 store.1 n store.2 e
+    ]
+
+store_no_mark : (file offset n : ℕ) (bytes : List ℕ) → Store file offset bytes ≡ Mark n → ⊥
+store_no_mark file offset n bytes e = cc
+
+pub quiet_marks : (events : List Event) (n : ℕ) → IsQuiet events → Contains events (Mark n) → ⊥
+quiet_marks events n (inl none) has = contains_none (Mark n) (subst (λ (l : List Event). Contains l (Mark n)) none has)
+quiet_marks events n (inr store) has =
+    elim (Contains-push_cases [] (Store store.0 store.1 store.2) (Mark n) (subst (λ (l : List Event). Contains l (Mark n)) store.3 has)) [
+      | inl none ↦ contains_none (Mark n) none
+      | inr e ↦ store_no_mark store.0 store.1 n store.2 e
     ]
 
 -- a page that a longer history hasn't touched, the shorter one hasn't, and its bytes are the same

@@ -1,7 +1,7 @@
 -- Acts that leave the write-outs and what their records are: what the device recovers to goes with what is told as before.
-use Rattle.std.proofs.Common.{◌≡◌, ◌<◌, ◌*◌, ◌-◌, ◌⊎◌, ℕ, true, false, List, ◌++◌, length, take, get_or, Some, inl, inr, sym, ap, ◌∙◌, subst}
+use Rattle.std.proofs.Common.{◌≡◌, ◌<◌, ◌≤◌, ◌*◌, ◌-◌, ◌⊎◌, ℕ, true, false, List, ◌++◌, length, take, get_or, Some, inl, inr, sym, ap, ◌∙◌, subst}
 use Rattle.std.specs.List.{Contains, All}
-use Rattle.std.proofs.lemmas.List.Elements.{Contains-get_or}
+use Rattle.std.proofs.lemmas.List.Elements.{Contains-get_or, Contains-append_cases}
 use Rattle.page_entry.specs.declared.numbers.FilePage.{FilePage}
 use Rattle.volume_codec.specs.Files.{File}
 use Rattle.volume_codec.specs.Super.{SuperValue}
@@ -13,7 +13,7 @@ use Rattle.machine.specs.Rules.{bytes_at_mark}
 use Rattle.machine.specs.Told.{Told}
 use Rattle.machine.specs.inside.Tracking.{change_in, HasParts, AreContentsOf, HasAcknowledged, IsLost, IsWritten}
 use Rattle.machine.specs.Durability.{IsInFile, within_file}
-use Rattle.machine.proofs.durable.Histories.{IsQuiet, quiet_acknowledges, quiet_untouched, begins_more, acknowledged_more}
+use Rattle.machine.proofs.durable.Histories.{IsQuiet, quiet_acknowledges, quiet_marks, quiet_untouched, begins_more, acknowledged_more}
 
 -- ---- the files stay
 
@@ -91,6 +91,11 @@ written_left files told told' events s x old new grows quiet leaves w =
       new_are = history_as (λ h. AreContentsOf files h x new w.marked) (contents_more files told.history events s x leaves.files new w.marked w.new_are);
       grown = history_as (HasAcknowledged w.marked) (acknowledged_more w.marked told.history events (λ n has. absurd (quiet_acknowledges events n quiet has)) w.grown);
       marks = subst (λ (o : WriteOutsValue). All (λ batch. Contains w.marked (Mark batch.batch.mark)) o.batches) (sym leaves.write_outs) w.marks;
+      fresh = λ y there early. w.fresh y (subst (λ (o : WriteOutsValue). Contains o.batches y) leaves.write_outs there) early;
+      numbered = history_as (λ h. (n : ℕ) → Contains h (Mark n) → n ≤ x.marks) (λ n has. elim (Contains-append_cases told.history events (Mark n) has) [
+        | inl before ↦ subst (λ m. n ≤ m) (sym leaves.marks) (w.numbered n before)
+        | inr now ↦ absurd (quiet_marks events n quiet now)
+      ]);
       ready = λ broken held.
           let was : s.write_outs.broken ≡ true = broken_as s x leaves.write_outs broken in
           ap (λ (o : WriteOutsValue). has_uncommitted o.batches) leaves.write_outs ∙ w.ready was (leaves.lock was held);

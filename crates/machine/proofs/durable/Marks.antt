@@ -2,13 +2,13 @@
 use Rattle.std.proofs.Common.{◌≡◌, ◌<◌, ◌≤◌, ◌+◌, ◌^◌, ◌==◌, ◌⊎◌, ℕ, cond, Bool, true, false, not, List, [], ◌∷◌, ◌++◌, length, map, get_or, Some, None, inl, inr, refl, sym, ap, ◌∙◌, subst, arith, append_assoc}
 use Rattle.std.specs.List.{Contains, All, AllByRecursion}
 use Rattle.std.proofs.lemmas.Bool.{cond-true, cond-false, cases_Bool, both_ways, or_parts, not_from_true, not_from_false, false_from_ne_true}
-use Rattle.std.proofs.lemmas.List.Elements.{Contains-append_left, Contains-append_cases, Contains-push, Contains-get_or, All-push, All-weaker, recursion_from_All}
+use Rattle.std.proofs.lemmas.List.Elements.{Contains-append_left, Contains-append_cases, Contains-push, Contains-push_cases, Contains-get_or, All-push, All-weaker, recursion_from_All}
 use Rattle.page_entry.specs.declared.numbers.FilePage.{FilePage}
 use Rattle.volume_codec.specs.Files.{File}
 use Rattle.volume_codec.specs.Layout.{GeometryValue, journals_of}
 use Rattle.volume_codec.specs.Super.{geometry_of}
 use Rattle.volume_codec.specs.Descriptor.{AreHomes}
-use Rattle.journal.specs.WriteOut.{WriteOut, begun_of}
+use Rattle.journal.specs.WriteOut.{WriteOut, begun_of, has_committed}
 use Rattle.journal.specs.WriteOuts.{WriteOutsValue, has_uncommitted, is_busy, next_batch, begun}
 use Rattle.journal.specs.inside.Standing.{IsStanding}
 use Rattle.journal.proofs.StandsKept.{stands_begun, stands_other}
@@ -22,9 +22,10 @@ use Rattle.machine.specs.inside.Sound.{IsSound}
 use Rattle.machine.specs.Told.{Told}
 use Rattle.machine.specs.inside.Tracking.{change_in, HasParts, AreContentsOf, HasAcknowledged, IsLost, IsWritten, IsLatest, AreTouched}
 use Rattle.machine.specs.Durability.{IsInFile, within_file}
-use Rattle.machine.proofs.durable.Histories.{marked_by, after_mark, after_marked, only_itself, unmarked_by_touched, in_history, acknowledged_more}
+use Rattle.machine.proofs.durable.Histories.{marked_by, after_mark, after_marked, only_itself, only_marked, unmarked_by_touched, in_history, acknowledged_more}
 use Rattle.machine.proofs.durable.Waiting.{committed_frozen}
 use Rattle.machine.proofs.durable.Leaves.{contents_more}
+use Rattle.machine.proofs.durable.Uncommitted.{none_uncommitted}
 use Rattle.machine.proofs.durable.Overlays.{within_cut, overlaid, overlaid-other, overlaid-at, overlaid-elsewhere, bytes_at_mark-held}
 
 -- what the device recovers to goes with what is told
@@ -46,6 +47,8 @@ written_as files told told' s old new same w =
       new_are = moved (λ h. AreContentsOf files h s new w.marked) w.new_are;
       grown = moved (HasAcknowledged w.marked) w.grown;
       marks = w.marks;
+      fresh = w.fresh;
+      numbered = moved (λ h. (n : ℕ) → Contains h (Mark n) → n ≤ s.marks) w.numbered;
       ready = w.ready;
       clean = moved (λ h. IsLost s ⊎ ((owner : FilePage) → IsInFile s owner → is_touched h owner.file owner.page ≡ false → within_file s owner (new (home_of s.table owner)) ≡ within_file s owner (after (memory_of files) h owner.file owner.page))) w.clean;
       frozen = w.frozen;
@@ -95,6 +98,21 @@ module _ (files : List File) (told : Told) (s : State) (p number : ℕ) (seen : 
   -- what was in the second prefix is in the history up to the mark
   in_made : (e : Event) → Contains w.marked e → Contains made e
   in_made e has = Contains-append_left history (Mark number ∷ []) e (in_history w.marked w.new_are.rest history e w.new_are.begins has)
+
+  -- marks are numbered still
+  made_numbered : (n : ℕ) → Contains longer (Mark n) → n ≤ number
+  made_numbered n has = elim (Contains-append_cases history (marked_by history number) (Mark n) has) [
+    | inl before ↦ (let few = w.numbered n before in omega (arith, few, next))
+    | inr this ↦ (let same = only_marked history number n this in omega (arith, same))
+  ]
+
+  -- each batch is committed
+  none_early : (y : WriteOut) → Contains s.write_outs.batches y → has_committed y ≡ false → ⊥
+  none_early y there early = none_uncommitted s.write_outs.batches y committed there early
+
+  -- the mark is in no prefix so far
+  mark_is_new : Contains w.marked (Mark number) → ⊥
+  mark_is_new has = let few = w.numbered number (in_history w.marked w.new_are.rest history (Mark number) w.new_are.begins has) in omega (arith, few, next)
 
   -- that prefix has every acknowledged mark
   made_acknowledged : HasAcknowledged made longer
@@ -165,6 +183,8 @@ module _ (files : List File) (told : Told) (s : State) (p number : ℕ) (seen : 
           new_are = made_contents s.write_outs new all_parts;
           grown = made_acknowledged;
           marks = All-weaker (λ (x : WriteOut). Contains w.marked (Mark x.batch.mark)) (λ (x : WriteOut). Contains made (Mark x.batch.mark)) (λ x has. in_made (Mark x.batch.mark) has) s.write_outs.batches w.marks;
+          fresh = λ y there early has. none_early y there early;
+          numbered = made_numbered;
           ready = λ broken held. absurd (none_now held);
           clean = inr (made_clean s.write_outs new all_parts);
           frozen = subst (λ (pages : List FilePage). All (λ owner. new (home_of s.table owner) ≡ cut_at_end s owner (bytes_at_mark s.hardware.memory owner)) pages) (sym nothing_frozen) (λ k d lt. absurd (omega arith));
@@ -203,6 +223,8 @@ module _ (files : List File) (told : Told) (s : State) (p number : ℕ) (seen : 
               new_are = contents_more files history (marked_by history number) s x (record { table = refl; lengths = refl }) new w.marked w.new_are;
               grown = acknowledged_more w.marked history (marked_by history number) (λ n has. absurd (waits n has)) w.grown;
               marks = w.marks;
+              fresh = λ y there early has. none_early y there early;
+              numbered = made_numbered;
               ready = λ broken held. absurd (none_now held);
               clean = inl (record { broken = broken; no_mark = λ held. none_now held });
               frozen = subst (λ (pages : List FilePage). All (λ owner. new (home_of s.table owner) ≡ cut_at_end s owner (bytes_at_mark s.hardware.memory owner)) pages) (sym (gathers.frozen ∙ cond-false (not s.write_outs.broken) pages [] (not_from_true s.write_outs.broken broken))) (λ k d lt. absurd (omega arith));
@@ -261,6 +283,11 @@ module _ (files : List File) (told : Told) (s : State) (p number : ℕ) (seen : 
               marks = All-push (λ (y : WriteOut). Contains made (Mark y.batch.mark)) s.write_outs.batches (begun_of (next_batch s.write_outs number homes))
                   (All-weaker (λ (y : WriteOut). Contains w.marked (Mark y.batch.mark)) (λ (y : WriteOut). Contains made (Mark y.batch.mark)) (λ y has. in_made (Mark y.batch.mark) has) s.write_outs.batches w.marks)
                   (Contains-push history (Mark number));
+              fresh = λ y there early has. elim (Contains-push_cases s.write_outs.batches (begun_of (next_batch s.write_outs number homes)) y there) [
+                | inl older ↦ none_early y older early
+                | inr e ↦ mark_is_new (subst (λ (x : WriteOut). Contains w.marked (Mark x.batch.mark)) (sym e) has)
+              ];
+              numbered = made_numbered;
               ready = λ broken held. absurd (none_now held);
               clean = inr (made_clean outs next_contents next_parts);
               frozen = subst (λ (l : List FilePage). All (λ owner. next_contents (home_of s.table owner) ≡ cut_at_end s owner (bytes_at_mark s.hardware.memory owner)) l) (sym (gathers.frozen ∙ cond-true (not s.write_outs.broken) pages [] (not_from_false s.write_outs.broken whole)))

@@ -33,6 +33,7 @@ use Rattle.machine.specs.inside.Sound.{IsSound}
 use Rattle.machine.specs.Told.{Told, tell, events_of}
 use Rattle.machine.specs.Laws.{ReadsBack}
 use Rattle.machine.specs.Crashes.{StepIsSafe}
+use Rattle.machine.specs.Stops.{StopsInStep}
 use Rattle.machine.specs.inside.Tracking.{HasFiles, IsTracked}
 use Rattle.machine.specs.Steps.{step_work, StepMade}
 use Rattle.machine.specs.Runs.{StepTaken}
@@ -45,6 +46,7 @@ use Rattle.machine.proofs.durable.QuietChanges.{quiet_change, MarkStep}
 use Rattle.machine.proofs.durable.Marks.{IsDurable, written_as, marked_durable}
 use Rattle.machine.proofs.durable.Flushes.{flush_within, flush_failed, flush_goes_on, flush_commits}
 use Rattle.machine.proofs.durable.ReadsBack.{reads_within, reads_now}
+use Rattle.machine.proofs.durable.Stopped.{stops_within}
 
 -- ---- what a crash may leave is among what it might
 
@@ -248,6 +250,11 @@ module _ {D : Type 0} (disk : Ghosts D) (files : List File) (told : Told) (old :
   -- what the device recovers to still goes with what is told
   pub durable_kept : IsDurable files (tell told step reply) new.state (disk.seen new.device) (disk.may_leave new.device)
   durable_kept = durable_as files (record told { history = told.history ++ events_of told step.p step.act reply }) (tell told step reply) new.state (disk.seen new.device) (disk.seen new.device) (disk.may_leave new.device) refl refl outcome.0
+
+  -- a crash within it leaves old files or new ones, by the stage of the write-out
+  pub step_stops : LeavesOnly disk.moment disk.left_since old.device new.device (StopsInStep files told.history old.state.write_outs)
+  step_stops = leaves_more disk.moment disk.left_since old.device new.device (TornFromWork (step_work old.state step.act reply) (disk.may_leave old.device)) (StopsInStep files told.history old.state.write_outs)
+      (λ c torn. stops_within files told old.state t.sound t.files_are t.old t.new t.written c (outcome.1 c torn)) made.within
 
   -- and a crash at any moment reads back
   pub step_is_safe : HasFiles files new.state → StepIsSafe disk files told old step reply new

@@ -1,11 +1,12 @@
 -- How a machine's state and its device go with what its run tells.
-use Rattle.std.specs.Prelude.{ℕ, ◌≡◌, ◌≢◌, ◌<◌, ◌↔◌, ◌⊎◌, true, false, List, ◌++◌, length, map, Option, Some, None, is_some, Contains, slice_index_or}
+use Rattle.std.specs.Prelude.{ℕ, ◌≡◌, ◌≢◌, ◌<◌, ◌≤◌, ◌↔◌, ◌⊎◌, true, false, List, ◌++◌, length, map, Option, Some, None, is_some, Contains, slice_index_or}
 use Rattle.std.specs.List.{All}
 use Rattle.std.specs.FinMap as maps
 use Rattle.page_entry.specs.declared.numbers.FilePage.{FilePage}
 use Rattle.frames.specs.Frames.{frame_at, bytes_of}
 use Rattle.volume_codec.specs.Files.{File}
 use Rattle.volume_codec.specs.Recovery.{lengths_in}
+use Rattle.journal.specs.WriteOut.{WriteOut, has_committed}
 use Rattle.journal.specs.WriteOuts.{has_uncommitted}
 use Rattle.journal.specs.inside.Standing.{IsStanding}
 use Rattle.spaces.specs.declared.change.Change.{Change}
@@ -109,6 +110,10 @@ pub record IsWritten (files : List File) (told : Told) (s : State) (old new : �
   pub grown : HasAcknowledged marked told.history
   -- what the uncommitted batch will acknowledge is in the second prefix
   pub marks : All (λ w. Contains marked (Mark w.batch.mark)) s.write_outs.batches
+  -- and not in the first; a mark is given a number that no mark before it has
+  pub fresh : (w : WriteOut) → Contains s.write_outs.batches w → has_committed w ≡ false
+      → Contains before (Mark w.batch.mark) → ⊥
+  pub numbered : (number : ℕ) → Contains told.history (Mark number) → number ≤ s.marks
   -- a machine that broke while a mark was under way has no batch that isn't committed
   pub ready : s.write_outs.broken ≡ true → change_in s.hardware.shootdown.lock ≡ Some Checkpoint
       → has_uncommitted s.write_outs.batches ≡ false

@@ -1,7 +1,7 @@
 use Rattle.machine.specs.Runs.{StepTaken}
 use Rattle.machine.specs.Steps.{told_first}
 use Rattle.machine.specs.Told.{tell_all}
-use Rattle.machine.proofs.Joined.{step_safe}
+use Rattle.machine.proofs.Joined.{step_safe, step_stopped}
 use Rattle.machine.proofs.Tracks.{follows}
 use Rattle.machine.proofs.code.Runs.{steps_more}
 use Rattle.machine.proofs.machine.Machine.enter.Goals as goal
@@ -18,3 +18,8 @@ pub returns-clause-safe : goal.returns-clause-safe
 returns-clause-safe g c = λ files start steps replies on.
     let f = follows g.D.Device files start steps replies c.args.self.now on in
     step_safe g.D.Device files (tell_all (told_first files start.state) steps replies) c.args.self.now c.args.step.now c.step.result c.step.new.self f.tracked (taken g c) f.honest
+
+pub returns-clause-stops : goal.returns-clause-stops
+returns-clause-stops g c = λ files start steps replies on.
+    let f = follows g.D.Device files start steps replies c.args.self.now on in
+    step_stopped g.D.Device files (tell_all (told_first files start.state) steps replies) c.args.self.now c.args.step.now c.step.result c.step.new.self f.tracked (taken g c) f.honest

@@ -1,0 +1,55 @@
+-- What a crash within a run leaves, by the write-out whose step comes next: the old files until its gate is written, the
+-- new ones once its mark is committed.
+use Rattle.std.specs.Prelude.{ℕ, ◌⊎◌, List, Option, Some, None, MatchBool, Contains}
+use Rattle.std.specs.Option.{option_map_or}
+use Rattle.volume_codec.specs.Files.{File}
+use Rattle.volume_codec.specs.Recovery.{RecoversTo}
+use Rattle.journal.specs.declared.stage.Stage.{Stage}
+use Rattle.journal.specs.declared.stage.Stage.TheVariants.{Recording, Describing, SyncingRecords, Opening, Committing}
+use Rattle.journal.specs.WriteOuts.{WriteOutsValue, current, current_stage}
+use Rattle.machine.specs.History.{Event, Mark, files_after, IsDurablePrefix}
+use Rattle.machine.specs.Laws.{ReadsBack}
+
+-- these bytes recover to the files after a durable prefix of the history that doesn't have this mark
+pub record IsOld (files : List File) (history : List Event) (number : ℕ) (c : List ℕ) : Type 0 where
+  pub prefix : List Event
+  pub durable : IsDurablePrefix prefix history
+  pub lacks : Contains prefix (Mark number) → ⊥
+  pub recovers : RecoversTo c (files_after files prefix)
+
+-- these bytes recover to the files after a durable prefix of the history that has this mark
+pub record IsNew (files : List File) (history : List Event) (number : ℕ) (c : List ℕ) : Type 0 where
+  pub prefix : List Event
+  pub durable : IsDurablePrefix prefix history
+  pub has : Contains prefix (Mark number)
+  pub recovers : RecoversTo c (files_after files prefix)
+
+-- before the step of this stage of the write-out of this mark: old until the gate is written, either until that is sure,
+-- and new from then on; where there is no write-out, all acknowledged marks are there
+abbrev pub StopsBefore : List File → List Event → ℕ → Option Stage → List ℕ → Type 0
+StopsBefore files history mark (Some (Recording i)) c = IsOld files history mark c
+StopsBefore files history mark (Some Describing) c = IsOld files history mark c
+StopsBefore files history mark (Some SyncingRecords) c = IsOld files history mark c
+StopsBefore files history mark (Some Opening) c = IsOld files history mark c
+StopsBefore files history mark (Some Committing) c = IsOld files history mark c ⊎ IsNew files history mark c
+StopsBefore files history mark (Some stage) c = IsNew files history mark c
+StopsBefore files history mark None c = ReadsBack files history c
+
+-- within that step, or after it where a device call failed: either, while the gate is written
+abbrev pub StopsWithin : List File → List Event → ℕ → Option Stage → List ℕ → Type 0
+StopsWithin files history mark (Some Opening) c = IsOld files history mark c ⊎ IsNew files history mark c
+StopsWithin files history mark stage c = StopsBefore files history mark stage c
+
+-- the mark of the write-out whose step comes next
+abbrev pub mark_of_next : WriteOutsValue → ℕ
+mark_of_next outs = option_map_or (λ w. w.batch.mark) (current outs.batches) 0
+
+-- what a crash leaves within a step of a machine with these write-outs
+abbrev pub StopsInStep : List File → List Event → WriteOutsValue → List ℕ → Type 0
+StopsInStep files history outs c = StopsWithin files history (mark_of_next outs) (current_stage outs) c
+
+-- and between two steps; a machine that broke stays as within the step that failed
+abbrev pub Stops : List File → List Event → WriteOutsValue → List ℕ → Type 0
+Stops files history outs c =
+    MatchBool outs.broken (StopsInStep files history outs c)
+    (StopsBefore files history (mark_of_next outs) (current_stage outs) c)
