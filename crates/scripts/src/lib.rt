@@ -7,3 +7,4 @@ mod script;
 mod step;
 
 pub use script::{Script, ScriptFault, StepFault};
+pub use step::read_step;

@@ -25,7 +25,7 @@ pub fn steps<A: Allocator + Copy>(
 {
     let mut steps = Vec::with_capacity(alloc, values.len()).map_err(ScriptFault::Memory)?;
     for (i, value) in values.iter().enumerate() {
-        let step = match step(value) {
+        let step = match read_step(value) {
             Ok(step) => step,
             Err(cause) => return Err(refused_step(global, i as u64 + 1, value, cause)),
         };
@@ -48,8 +48,9 @@ fn refused_step(global: Global, number: u64, value: &Value, cause: StepFault) ->
     }
 }
 
+/// The step that a value is.
 #[tactic(auto, using(crate::proofs::AllOf::list_of_items))]
-fn step(value: &Value) -> Result<Step, StepFault>
+pub fn read_step(value: &Value) -> Result<Step, StepFault>
     ensures { result_ok result ≡ step_of (view value.now) }
 {
     match value.as_array() {

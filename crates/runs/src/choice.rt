@@ -1,0 +1,74 @@
+// What a crash leaves where nothing was synced.
+use crate::failure::Failure;
+use crate::form::{byte, text};
+use serde_json::Value;
+use std::alloc::Global;
+use std::fmt;
+
+/// What a crash leaves at the places that were written since the last sync.
+#[derive(Clone, Copy, Debug)]
+pub enum Choice {
+    /// What the disk had when the run began, or the opening that is cut.
+    Old,
+    /// What a read gives.
+    New,
+    /// Of each block of 4,096 bytes the first half as a read gives it, and the second as the run found it.
+    Halves,
+    /// What the disk had so many steps earlier.
+    Back(u64),
+    /// This byte everywhere.
+    Byte(u8),
+}
+
+impl fmt::Display for Choice {
+    fn fmt<W: fmt::Write>(&self, f: &mut fmt::Formatter<W>) -> fmt::Result {
+        match self {
+            Choice::Old => f.write_str("old"),
+            Choice::New => f.write_str("new"),
+            Choice::Halves => f.write_str("halves"),
+            Choice::Back(steps) => write!(f, "back {steps}"),
+            Choice::Byte(byte) => write!(f, "{byte:02x}"),
+        }
+    }
+}
+
+/// The choices of a list of their names.
+pub fn read_choices(alloc: Global, items: &[Value]) -> Result<Vec<Choice>, Failure> {
+    let mut choices = Vec::new(alloc);
+    for item in items {
+        choices.push(read_choice_of(alloc, item)?)?;
+    }
+    Ok(choices)
+}
+
+/// The choice that a value names.
+pub fn read_choice_of(alloc: Global, value: &Value) -> Result<Choice, Failure> {
+    match read_choice(text(alloc, value, "what a crash leaves")?) {
+        Some(choice) => Ok(choice),
+        None => Err(Failure::line(
+            alloc,
+            "a crash leaves old, new, halves, back and a number, or a byte",
+        )),
+    }
+}
+
+fn read_choice(name: &str) -> Option<Choice> {
+    match name {
+        "old" => Some(Choice::Old),
+        "new" => Some(Choice::New),
+        "halves" => Some(Choice::Halves),
+        _ => match name.strip_prefix("back ") {
+            Some(steps) => Some(Choice::Back(steps.parse().ok()?)),
+            None => Some(Choice::Byte(byte(name)?)),
+        },
+    }
+}
+
+/// The first half of each block of new bytes, and the second half of each of old ones.
+pub fn halves(alloc: Global, new: &[u8], old: &[u8]) -> Result<Vec<u8>, Failure> {
+    let mut bytes = Vec::new(alloc);
+    for (i, (new, old)) in new.iter().zip(old).enumerate() {
+        bytes.push(if i % 4096 < 2048 { *new } else { *old })?;
+    }
+    Ok(bytes)
+}

@@ -1,0 +1,264 @@
+// Where a run is cut, what a crash leaves then, and what is opened.
+use crate::choice::{Choice, halves, read_choices};
+use crate::failure::Failure;
+use crate::form::{Span, list_of, number, span_of};
+use crate::image::Put;
+use crate::opening::{Wanted, compare, compare_bytes, crash, cut, read_wanted};
+use crate::trial::{Stopped, Trial, compare_count};
+use device::MemDisk;
+use serde_json::Value;
+use std::alloc::Global;
+use std::fmt;
+
+/// Where a run is stopped.
+#[derive(Clone, Copy, Debug)]
+enum Stop {
+    /// At its end.
+    End,
+    /// After so many steps.
+    After(u64),
+    /// Within the step whose device call, of this number, fails.
+    Failing(u64),
+    /// No run is made: of the disk, so many bytes are there.
+    Shortened(u64),
+}
+
+/// Where runs are stopped, one after the other.
+#[derive(Clone, Copy)]
+enum Stops {
+    End,
+    After(Span),
+    Failing(Span),
+    Shortened(Span),
+}
+
+fn read_stops(alloc: Global, value: &Value) -> Result<Stops, Failure> {
+    let after = span_of(alloc, value, "after")?;
+    let fails = span_of(alloc, value, "fails")?;
+    let shortened = span_of(alloc, value, "shortened")?;
+    match (after, fails, shortened) {
+        (None, None, None) => Ok(Stops::End),
+        (Some(span), None, None) => Ok(Stops::After(span)),
+        (None, Some(span), None) => Ok(Stops::Failing(span)),
+        (None, None, Some(span)) => Ok(Stops::Shortened(span)),
+        _ => Err(Failure::line(alloc, "a run is stopped in one way")),
+    }
+}
+
+impl fmt::Display for Stop {
+    fn fmt<W: fmt::Write>(&self, f: &mut fmt::Formatter<W>) -> fmt::Result {
+        match self {
+            Stop::End => f.write_str("at the end"),
+            Stop::After(steps) => write!(f, "after step {steps}"),
+            Stop::Failing(call) => write!(f, "where call {call} fails"),
+            Stop::Shortened(length) => write!(f, "cut to {length} bytes"),
+        }
+    }
+}
+
+/// The end of a run, or many of its kind: where it is stopped; which call of an opening then fails; what a crash
+/// leaves; and what the next opening gives.
+#[derive(Drop)]
+pub struct Ending {
+    stops: Stops,
+    // The number of the step whose device call fails, where that is said.
+    step: Option<u64>,
+    cut: Option<Span>,
+    leaves: Vec<Choice>,
+    wanted: Wanted,
+}
+
+impl Ending {
+    /// What a line says.
+    pub fn read(alloc: Global, value: &Value) -> Result<Self, Failure> {
+        Ok(Ending {
+            stops: read_stops(alloc, value)?,
+            step: match value.get("step") {
+                Some(step) => Some(number(alloc, step, "step")?),
+                None => None,
+            },
+            cut: span_of(alloc, value, "cut")?,
+            leaves: read_choices(alloc, list_of(alloc, value, "leaves")?)?,
+            wanted: read_wanted(alloc, value)?,
+        })
+    }
+
+    /// Makes all of them, and tells how many they are.
+    pub fn make(&self, alloc: Global, trial: &Trial) -> Result<u64, Failure> {
+        match self.stops {
+            Stops::End => self.make_at(alloc, trial, Stop::End),
+            Stops::After(span) => {
+                let mut count = 0u64;
+                for steps in span.first..span.end {
+                    let made = self.make_at(alloc, trial, Stop::After(steps))?;
+                    count = count.saturating_add(made);
+                }
+                Ok(count)
+            }
+            Stops::Failing(span) => {
+                let mut count = 0u64;
+                for call in span.first..span.end {
+                    let made = self.make_at(alloc, trial, Stop::Failing(call))?;
+                    count = count.saturating_add(made);
+                }
+                Ok(count)
+            }
+            Stops::Shortened(span) => {
+                let mut count = 0u64;
+                for length in span.first..span.end {
+                    let made = self.make_at(alloc, trial, Stop::Shortened(length))?;
+                    count = count.saturating_add(made);
+                }
+                Ok(count)
+            }
+        }
+    }
+
+    // Those of one stop.
+    fn make_at(&self, alloc: Global, trial: &Trial, stop: Stop) -> Result<u64, Failure> {
+        match self.cut {
+            None => self.make_cut(alloc, trial, stop, None),
+            Some(span) => {
+                let mut count = 0u64;
+                for call in span.first..span.end {
+                    let made = self.make_cut(alloc, trial, stop, Some(call))?;
+                    count = count.saturating_add(made);
+                }
+                Ok(count)
+            }
+        }
+    }
+
+    // Those of one stop and one cut.
+    fn make_cut(
+        &self,
+        alloc: Global,
+        trial: &Trial,
+        stop: Stop,
+        cut: Option<u64>,
+    ) -> Result<u64, Failure> {
+        if self.leaves.is_empty() {
+            self.make_placed(alloc, trial, stop, cut, None)?;
+            return Ok(1);
+        }
+        for choice in &self.leaves {
+            self.make_placed(alloc, trial, stop, cut, Some(*choice))?;
+        }
+        Ok(self.leaves.len() as u64)
+    }
+
+    // One of them; a fault says which.
+    fn make_placed(
+        &self,
+        alloc: Global,
+        trial: &Trial,
+        stop: Stop,
+        cut: Option<u64>,
+        choice: Option<Choice>,
+    ) -> Result<(), Failure> {
+        match self.make_one(alloc, trial, stop, cut, choice) {
+            Err(Failure::Differs(text)) => {
+                let mut place = format!(in alloc; "{stop}")?;
+                if let Some(call) = cut {
+                    place.push_str(format!(in alloc; ", an opening cut at call {call}")?.as_str())?;
+                }
+                if let Some(choice) = choice {
+                    place.push_str(format!(in alloc; ", a crash that leaves {choice}")?.as_str())?;
+                }
+                Err(Failure::Differs(format!(in alloc; "{place}: {text}")?))
+            }
+            made => made,
+        }
+    }
+
+    fn make_one(
+        &self,
+        alloc: Global,
+        trial: &Trial,
+        stop: Stop,
+        cut_at: Option<u64>,
+        choice: Option<Choice>,
+    ) -> Result<(), Failure> {
+        let Stopped { disk, done } = match stop {
+            Stop::End => trial.whole(alloc)?,
+            Stop::After(steps) => trial.after(alloc, steps)?,
+            Stop::Failing(call) => trial.failing(alloc, call)?,
+            Stop::Shortened(length) => trial.shortened(alloc, length)?,
+        };
+        if let Some(step) = self.step {
+            compare_count(
+                alloc,
+                "the step whose call fails",
+                step,
+                done.saturating_add(1),
+            )?;
+        }
+        let left = match cut_at {
+            None => self.left(alloc, trial, disk, &trial.image, done, choice)?,
+            Some(call) => {
+                let before = disk.bytes().to_vec(alloc)?;
+                let disk = cut(alloc, disk, call, &self.wanted)?;
+                let left = self.left(alloc, trial, disk, &before, done, choice)?;
+                if let Wanted::Refuses { .. } = &self.wanted {
+                    compare_bytes(alloc, "what a cut opening leaves", &before, left.bytes())?;
+                }
+                left
+            }
+        };
+        compare(alloc, left, &trial.files, &trial.gates, &self.wanted)
+    }
+
+    // What a crash leaves of a disk.
+    fn left(
+        &self,
+        alloc: Global,
+        trial: &Trial,
+        mut disk: MemDisk<Global>,
+        old: &[u8],
+        done: u64,
+        choice: Option<Choice>,
+    ) -> Result<MemDisk<Global>, Failure> {
+        if let Some(choice) = choice {
+            let bytes = chosen(alloc, trial, &disk, old, done, choice)?;
+            crash(alloc, &mut disk, &bytes)?;
+        }
+        Ok(disk)
+    }
+}
+
+/// What a crash at the end of the run leaves: a choice, but for these bytes, where nothing was synced.
+pub fn crashed(
+    alloc: Global,
+    trial: &Trial,
+    choice: Choice,
+    puts: &[Put],
+) -> Result<Vec<u8>, Failure> {
+    let Stopped { mut disk, done } = trial.whole(alloc)?;
+    let mut bytes = chosen(alloc, trial, &disk, &trial.image, done, choice)?;
+    for put in puts {
+        put.write(alloc, &mut bytes)?;
+    }
+    crash(alloc, &mut disk, &bytes)?;
+    Ok(disk.bytes().to_vec(alloc)?)
+}
+
+/// The bytes that a choice is, for a disk after so many steps.
+pub fn chosen(
+    alloc: Global,
+    trial: &Trial,
+    disk: &MemDisk<Global>,
+    old: &[u8],
+    done: u64,
+    choice: Choice,
+) -> Result<Vec<u8>, Failure> {
+    match choice {
+        Choice::Old => Ok(old.to_vec(alloc)?),
+        Choice::New => Ok(disk.bytes().to_vec(alloc)?),
+        Choice::Halves => halves(alloc, disk.bytes(), old),
+        Choice::Byte(byte) => Ok(vec![in alloc; byte; disk.bytes().len()]?),
+        Choice::Back(steps) => {
+            let stopped = trial.after(alloc, done.saturating_sub(steps))?;
+            Ok(stopped.disk.bytes().to_vec(alloc)?)
+        }
+    }
+}

@@ -1,0 +1,130 @@
+// The members of a line.
+use crate::failure::Failure;
+use serde_json::{Category, Map, Value};
+use std::alloc::Global;
+
+/// The value of a line.
+pub fn parsed(alloc: Global, line: &str) -> Result<Value, Failure> {
+    match Value::from_str(alloc, line) {
+        Ok(value) => Ok(value),
+        Err(error) => match error.classify() {
+            Category::Memory => Err(Failure::Memory(std::alloc::AllocError)),
+            _ => Err(Failure::Line(format!(in alloc; "it isn't JSON: {error}")?)),
+        },
+    }
+}
+
+/// Refuses a member that has none of these names.
+pub fn only(alloc: Global, members: &Map<String, Value>, names: &[&str]) -> Result<(), Failure> {
+    for name in members.keys() {
+        let name = name.as_str();
+        if !names.iter().any(|known| *known == name) {
+            return Err(Failure::Line(format!(in alloc; "{name:?} doesn't belong here")?));
+        }
+    }
+    Ok(())
+}
+
+/// A whole number up to 2^64 - 1.
+pub fn number(alloc: Global, value: &Value, what: &str) -> Result<u64, Failure> {
+    match value.as_u64() {
+        Some(number) => Ok(number),
+        None => Err(Failure::Line(format!(in alloc; "{what} is no whole number")?)),
+    }
+}
+
+/// The number of this name, or `otherwise` where no member has that name.
+pub fn number_or(alloc: Global, value: &Value, name: &str, otherwise: u64) -> Result<u64, Failure> {
+    match value.get(name) {
+        Some(member) => number(alloc, member, name),
+        None => Ok(otherwise),
+    }
+}
+
+/// The number of this name.
+pub fn number_of(alloc: Global, value: &Value, name: &str) -> Result<u64, Failure> {
+    number(alloc, member(alloc, value, name)?, name)
+}
+
+/// The member of this name.
+pub fn member<'a>(alloc: Global, value: &'a Value, name: &str) -> Result<&'a Value, Failure> {
+    match value.get(name) {
+        Some(member) => Ok(member),
+        None => Err(Failure::Line(format!(in alloc; "{name:?} isn't there")?)),
+    }
+}
+
+/// The text that a value is.
+pub fn text<'a>(alloc: Global, value: &'a Value, what: &str) -> Result<&'a str, Failure> {
+    match value.as_str() {
+        Some(text) => Ok(text),
+        None => Err(Failure::Line(format!(in alloc; "{what} is no text")?)),
+    }
+}
+
+/// The items of a list.
+pub fn list<'a>(alloc: Global, value: &'a Value, what: &str) -> Result<&'a [Value], Failure> {
+    match value.as_array() {
+        Some(items) => Ok(items),
+        None => Err(Failure::Line(format!(in alloc; "{what} is no list")?)),
+    }
+}
+
+/// The items of the list of this name, or none where no member has that name.
+pub fn list_of<'a>(alloc: Global, value: &'a Value, name: &str) -> Result<&'a [Value], Failure> {
+    match value.get(name) {
+        Some(member) => list(alloc, member, name),
+        None => Ok(&[]),
+    }
+}
+
+/// The numbers from a first one on, up to one that isn't among them.
+#[derive(Clone, Copy)]
+pub struct Span {
+    pub first: u64,
+    pub end: u64,
+}
+
+/// The span of this name, a list of two numbers.
+pub fn span_of(alloc: Global, value: &Value, name: &str) -> Result<Option<Span>, Failure> {
+    let Some(member) = value.get(name) else {
+        return Ok(None);
+    };
+    match list(alloc, member, name)? {
+        [first, last] => Ok(Some(read_span(alloc, first, last)?)),
+        _ => Err(Failure::line(alloc, "a span is a first and a last number")),
+    }
+}
+
+fn read_span(alloc: Global, first: &Value, last: &Value) -> Result<Span, Failure> {
+    let first = number(alloc, first, "the first number")?;
+    let last = number(alloc, last, "the last number")?;
+    match last.checked_add(1) {
+        Some(end) if first < end => Ok(Span { first, end }),
+        _ => Err(Failure::line(alloc, "the first number is no greater than the last")),
+    }
+}
+
+/// The bytes that hexadecimal digits write, two each.
+pub fn bytes(alloc: Global, text: &str) -> Result<Vec<u8>, Failure> {
+    let digits = text.as_bytes();
+    if digits.is_empty() || digits.len() % 2 != 0 {
+        return Err(Failure::line(alloc, "bytes have two hexadecimal digits each"));
+    }
+    let mut bytes = Vec::new(alloc);
+    for i in 0..digits.len() / 2 {
+        match text.get(2 * i..2 * i + 2).and_then(byte) {
+            Some(byte) => bytes.push(byte)?,
+            None => return Err(Failure::line(alloc, "bytes have two hexadecimal digits each")),
+        }
+    }
+    Ok(bytes)
+}
+
+/// The byte that two hexadecimal digits write.
+pub fn byte(text: &str) -> Option<u8> {
+    if text.len() != 2 || text.starts_with('+') {
+        return None;
+    }
+    u8::from_str_radix(text, 16).ok()
+}

@@ -1,0 +1,317 @@
+// What an opening gives, and how many device calls it makes.
+use crate::failure::Failure;
+use crate::form::{list, member, number, number_of, text};
+use crate::image::{File, Put, difference, read_put, read_puts};
+use device::{Device, FailingDisk, MemDisk};
+use page_entry::Refusal;
+use recovery::{Volume, open};
+use serde_json::Value;
+use std::alloc::Global;
+
+/// A disk in memory whose calls are counted, and whose call of a chosen number fails.
+pub type Disk = FailingDisk<MemDisk<Global>>;
+
+/// How many calls an opening makes: so many where each gate is closed, and so many more for each open one.
+#[derive(Clone, Copy, Debug)]
+pub struct Calls {
+    closed: u64,
+    open: u64,
+}
+
+impl Calls {
+    fn with(self, gates: u64) -> u64 {
+        self.closed.saturating_add(self.open.saturating_mul(gates))
+    }
+}
+
+/// Bytes of a file; all others are 0.
+#[derive(Drop)]
+pub struct FileBytes {
+    file: String,
+    put: Put,
+}
+
+/// What an opening is to give.
+#[derive(Drop)]
+pub enum Wanted {
+    /// The files have these bytes. Where `writes` is there, the opening changes these bytes of the disk and no others.
+    Opens {
+        calls: Option<Calls>,
+        bytes: Vec<FileBytes>,
+        writes: Option<Vec<Put>>,
+    },
+    /// It is refused with this word, and leaves the disk as it was.
+    Refuses {
+        word: String,
+        calls: Option<u64>,
+    },
+}
+
+/// What a line wants of an opening.
+pub fn read_wanted(alloc: Global, value: &Value) -> Result<Wanted, Failure> {
+    if let Some(word) = value.get("refuses") {
+        return Ok(Wanted::Refuses {
+            word: String::from_str(alloc, text(alloc, word, "the refusal")?)?,
+            calls: match value.get("calls") {
+                Some(calls) => Some(number(alloc, calls, "calls")?),
+                None => None,
+            },
+        });
+    }
+    Ok(Wanted::Opens {
+        calls: read_calls(alloc, member(alloc, value, "opens")?)?,
+        bytes: match value.get("bytes") {
+            Some(bytes) => all_bytes(alloc, list(alloc, bytes, "bytes")?)?,
+            None => Vec::new(alloc),
+        },
+        writes: match value.get("writes") {
+            Some(writes) => Some(read_puts(alloc, list(alloc, writes, "writes")?)?),
+            None => None,
+        },
+    })
+}
+
+// None are compared where the value is null.
+fn read_calls(alloc: Global, value: &Value) -> Result<Option<Calls>, Failure> {
+    if value.is_null() {
+        return Ok(None);
+    }
+    if let Some(closed) = value.as_u64() {
+        return Ok(Some(Calls { closed, open: 0 }));
+    }
+    Ok(Some(Calls {
+        closed: number_of(alloc, value, "closed")?,
+        open: number_of(alloc, value, "open_gate")?,
+    }))
+}
+
+fn all_bytes(alloc: Global, items: &[Value]) -> Result<Vec<FileBytes>, Failure> {
+    let mut bytes = Vec::new(alloc);
+    for item in items {
+        bytes.push(file_bytes(alloc, list(alloc, item, "bytes")?)?)?;
+    }
+    Ok(bytes)
+}
+
+fn file_bytes(alloc: Global, items: &[Value]) -> Result<FileBytes, Failure> {
+    match items {
+        [file, rest @ ..] => Ok(FileBytes {
+            file: String::from_str(alloc, text(alloc, file, "the file")?)?,
+            put: read_put(alloc, rest)?,
+        }),
+        _ => Err(Failure::line(alloc, "bytes of a file begin with its name")),
+    }
+}
+
+/// A crash that leaves these bytes.
+pub fn crash(alloc: Global, disk: &mut MemDisk<Global>, choice: &[u8]) -> Result<(), Failure> {
+    if choice.len() != disk.bytes().len() {
+        return Err(Failure::line(alloc, "what a crash leaves is as long as the disk"));
+    }
+    disk.stop(choice);
+    Ok(())
+}
+
+/// What an opening of a disk leaves whose call of this number fails. It is refused for that, or as the whole opening is
+/// to be refused.
+pub fn cut(
+    alloc: Global,
+    disk: MemDisk<Global>,
+    call: u64,
+    wanted: &Wanted,
+) -> Result<MemDisk<Global>, Failure> {
+    match open(alloc, FailingDisk::new(disk, call)) {
+        Ok(_) => Err(Failure::differs(alloc, "the opening that is cut", &"device", &"a volume")),
+        Err((Refusal::Device, disk)) => {
+            let (calls, faults) = (disk.calls(), disk.faults());
+            if calls != call || faults != 1 {
+                return Err(Failure::differs(
+                    alloc,
+                    "calls of the opening that is cut",
+                    &call,
+                    &calls,
+                ));
+            }
+            Ok(disk.into_inner())
+        }
+        Err((refusal, disk)) => {
+            let came = format!(in alloc; "{refusal}")?;
+            match wanted {
+                Wanted::Refuses { word, .. } if word.as_str() == came.as_str() => Ok(
+                    disk.into_inner(),
+                ),
+                _ => Err(Failure::differs(alloc, "the opening that is cut", &"device", &came)),
+            }
+        }
+    }
+}
+
+/// Opens a disk of these files, and compares.
+pub fn compare(
+    alloc: Global,
+    disk: MemDisk<Global>,
+    files: &[File],
+    gates: &[u64],
+    wanted: &Wanted,
+) -> Result<(), Failure> {
+    let before = disk.bytes().to_vec(alloc)?;
+    match (open(alloc, FailingDisk::new(disk, 0)), wanted) {
+        (
+            Ok(volume),
+            Wanted::Opens {
+                calls,
+                bytes,
+                writes,
+            },
+        ) => {
+            let disk = compare_files(alloc, volume, files, bytes)?;
+            let read = files.len() as u64;
+            let made = disk.calls().saturating_sub(read);
+            if let Some(calls) = calls {
+                let wanted = calls.with(open_gates(&before, gates));
+                if made != wanted {
+                    return Err(Failure::differs(alloc, "calls of the opening", &wanted, &made));
+                }
+            }
+            match writes {
+                Some(writes) => compare_image(alloc, before, writes, &disk.into_inner()),
+                None => Ok(()),
+            }
+        }
+        (Err((refusal, disk)), Wanted::Refuses { word, calls }) => {
+            let made = disk.calls();
+            compare_refusal(alloc, refusal, word.as_str())?;
+            if let Some(calls) = calls {
+                if made != *calls {
+                    return Err(Failure::differs(alloc, "calls of the opening", calls, &made));
+                }
+            }
+            is_untouched(alloc, &mut disk.into_inner(), &before)
+        }
+        (Ok(_), Wanted::Refuses { word, .. }) => Err(Failure::differs(
+            alloc,
+            "the opening",
+            word,
+            &"a volume",
+        )),
+        (Err((refusal, _)), Wanted::Opens { .. }) => Err(Failure::differs(
+            alloc,
+            "the opening",
+            &"a volume",
+            &refusal,
+        )),
+    }
+}
+
+/// Whether a refusal has this word.
+pub fn compare_refusal(alloc: Global, refusal: Refusal, word: &str) -> Result<(), Failure> {
+    let came = format!(in alloc; "{refusal}")?;
+    if came.as_str() == word {
+        Ok(())
+    } else {
+        Err(Failure::differs(alloc, "the refusal", &word, &came))
+    }
+}
+
+// Nothing was written: also a crash that would leave another byte everywhere leaves all as it was.
+fn is_untouched(alloc: Global, disk: &mut MemDisk<Global>, before: &[u8]) -> Result<(), Failure> {
+    let spoilt = vec![in alloc; 0xEE; before.len()]?;
+    crash(alloc, disk, &spoilt)?;
+    match difference(before, disk.bytes()) {
+        None => Ok(()),
+        Some(at) => Err(Failure::differs(
+            alloc,
+            "the disk",
+            &"untouched",
+            &format!(in alloc; "a change at {at}")?,
+        )),
+    }
+}
+
+fn compare_image(
+    alloc: Global,
+    mut wanted: Vec<u8>,
+    writes: &[Put],
+    disk: &MemDisk<Global>,
+) -> Result<(), Failure> {
+    for write in writes {
+        write.write(alloc, &mut wanted)?;
+    }
+    compare_bytes(alloc, "the disk", &wanted, disk.bytes())
+}
+
+/// Says at which offset bytes differ, if they do.
+pub fn compare_bytes(alloc: Global, what: &str, wanted: &[u8], came: &[u8]) -> Result<(), Failure> {
+    let Some(at) = difference(wanted, came) else {
+        return Ok(());
+    };
+    let what = format!(in alloc; "{what}, byte {at}")?;
+    match (wanted.get(at as usize), came.get(at as usize)) {
+        (Some(wanted), Some(came)) => Err(Failure::differs(alloc, what.as_str(), wanted, came)),
+        _ => Err(Failure::differs(alloc, what.as_str(), &wanted.len(), &came.len())),
+    }
+}
+
+// How many gates are open.
+fn open_gates(image: &[u8], gates: &[u64]) -> u64 {
+    let mut count = 0u64;
+    for gate in gates {
+        if image.get(*gate as usize) == Some(&0xA7) {
+            count = count.saturating_add(1);
+        }
+    }
+    count
+}
+
+// Compares names, lengths and bytes of all files. Each is read by one call.
+fn compare_files(
+    alloc: Global,
+    mut volume: Volume<Disk, Global>,
+    files: &[File],
+    bytes: &[FileBytes],
+) -> Result<Disk, Failure> {
+    let count = volume.file_count();
+    if count != files.len() {
+        return Err(Failure::differs(alloc, "files", &files.len(), &count));
+    }
+    for (number, file) in files.iter().enumerate() {
+        compare_file(alloc, &mut volume, number, file, bytes)?;
+    }
+    Ok(volume.into_device())
+}
+
+fn compare_file(
+    alloc: Global,
+    volume: &mut Volume<Disk, Global>,
+    number: usize,
+    file: &File,
+    bytes: &[FileBytes],
+) -> Result<(), Failure> {
+    let wanted = file_of(alloc, file, bytes)?;
+    if number >= volume.file_count() {
+        return Err(Failure::line(alloc, "no such file"));
+    }
+    if volume.name(number) != file.name.as_str() {
+        return Err(Failure::differs(alloc, "the file's name", &file.name, &volume.name(number)));
+    }
+    let length = volume.length(number);
+    if length != file.length {
+        return Err(Failure::differs(alloc, "the file's length", &file.length, &length));
+    }
+    let mut buffer = vec![in alloc; 0; length as usize]?;
+    if let Err(refusal) = volume.read_file(number, 0, &mut buffer) {
+        return Err(Failure::differs(alloc, "a read of the file", &"its bytes", &refusal));
+    }
+    compare_bytes(alloc, file.name.as_str(), &wanted, &buffer)
+}
+
+// The bytes that a file is to have.
+fn file_of(alloc: Global, file: &File, bytes: &[FileBytes]) -> Result<Vec<u8>, Failure> {
+    let mut wanted = vec![in alloc; 0; file.length as usize]?;
+    for part in bytes {
+        if part.file.as_str() == file.name.as_str() {
+            part.put.write(alloc, &mut wanted)?;
+        }
+    }
+    Ok(wanted)
+}

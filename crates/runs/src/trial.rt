@@ -1,0 +1,267 @@
+// A disk in memory, and a run of a machine on it that can be made again and again from the same beginning.
+use crate::failure::Failure;
+use crate::form::number_of;
+use crate::heard::Heard;
+use crate::image::File;
+use crate::opening::{Disk, compare_refusal};
+use device::{Device, FailingDisk, MemDisk};
+use machine::{Act, Reply, Shape, Step};
+use serde_json::Value;
+use std::alloc::Global;
+
+/// Steps, and how each is to be answered; the last ones may have no answer, as the run is over before them.
+#[derive(Drop)]
+pub struct Run {
+    pub shape: Shape,
+    pub fails: u64,
+    pub steps: Vec<Step>,
+    pub replies: Vec<String>,
+    /// The number of the line that has the first step.
+    pub line: u64,
+}
+
+/// What is left of a run, after how many steps.
+#[derive(Drop)]
+pub struct Stopped {
+    pub disk: MemDisk<Global>,
+    pub done: u64,
+}
+
+/// The shape of a machine.
+pub fn read_shape(alloc: Global, value: &Value) -> Result<Shape, Failure> {
+    Ok(Shape {
+        cpus: number_of(alloc, value, "cpus")?,
+        tlb: number_of(alloc, value, "tlb")?,
+        frames: number_of(alloc, value, "frames")?,
+        copies: number_of(alloc, value, "copies")?,
+    })
+}
+
+/// How a run is to end: how many device calls it makes and how many of them fail, where that is said, and why it is
+/// refused, if it is.
+#[derive(Drop)]
+pub struct Ended {
+    pub calls: Option<u64>,
+    pub faults: Option<u64>,
+    pub refused: Option<String>,
+}
+
+/// A disk of these bytes.
+pub fn disk_of(alloc: Global, image: &[u8]) -> Result<MemDisk<Global>, Failure> {
+    Ok(MemDisk::from_bytes(alloc, image.to_vec(alloc)?)?)
+}
+
+const FLUSH: Step = Step {
+    p: 0,
+    act: Act::Flush,
+};
+
+impl Run {
+    /// Makes the whole run on a disk of these bytes, and gives what is left of it.
+    pub fn make(&self, alloc: Global, image: &[u8], ended: &Ended) -> Result<Vec<u8>, Failure> {
+        let disk = FailingDisk::new(disk_of(alloc, image)?, self.fails);
+        let mut heard = Heard::new(alloc, self.replies.len() as u64, false);
+        let run = engine::run(alloc, disk, self.shape, &self.steps, &mut heard);
+        let disk = match (run, &ended.refused) {
+            (Ok(disk), None) => disk,
+            (Err((refusal, disk)), Some(word)) => {
+                compare_refusal(alloc, refusal, word.as_str())?;
+                disk
+            }
+            (Ok(_), Some(word)) => return Err(Failure::differs(
+                alloc,
+                "the run",
+                word,
+                &"a machine",
+            )),
+            (Err((refusal, _)), None) => {
+                return Err(Failure::differs(alloc, "the run", &"a machine", &refusal));
+            }
+        };
+        self.compare(alloc, &heard.replies, self.replies.len())?;
+        compare_count(
+            alloc,
+            "device calls",
+            ended.calls.unwrap_or(disk.calls()),
+            disk.calls(),
+        )?;
+        compare_count(
+            alloc,
+            "calls that failed",
+            ended.faults.unwrap_or(disk.faults()),
+            disk.faults(),
+        )?;
+        Ok(disk.into_inner().bytes().to_vec(alloc)?)
+    }
+
+    // Compares what was heard with the first so many replies.
+    fn compare(&self, alloc: Global, heard: &[Reply], count: usize) -> Result<(), Failure> {
+        for (i, (wanted, reply)) in self.replies.iter().zip(heard).enumerate() {
+            if i < count {
+                self.compare_reply(alloc, i as u64, wanted.as_str(), reply)?;
+            }
+        }
+        compare_count(alloc, "replies", count as u64, heard.len() as u64)
+    }
+
+    /// What is left after so many steps.
+    pub fn after(&self, alloc: Global, image: &[u8], count: u64) -> Result<Stopped, Failure> {
+        let Some(steps) = self.steps.get(..count as usize) else {
+            return Err(Failure::line(alloc, "there are fewer steps"));
+        };
+        let mut heard = Heard::new(alloc, u64::MAX, false);
+        let disk = FailingDisk::new(disk_of(alloc, image)?, self.fails);
+        let disk = self.run(alloc, disk, steps, &mut heard)?;
+        self.compare(alloc, &heard.replies, steps.len())?;
+        Ok(Stopped {
+            disk: disk.into_inner(),
+            done: count,
+        })
+    }
+
+    fn run(
+        &self,
+        alloc: Global,
+        disk: Disk,
+        steps: &[Step],
+        heard: &mut Heard,
+    ) -> Result<Disk, Failure> {
+        match engine::run(alloc, disk, self.shape, steps, heard) {
+            Ok(disk) => Ok(disk),
+            Err((refusal, _)) => Err(Failure::differs(alloc, "the run", &"a machine", &refusal)),
+        }
+    }
+
+    /// What is left where the device call of this number fails in a step. That breaks the machine: the step is answered
+    /// `device`, and two flushes after it `broken`, without a call more.
+    pub fn failing(&self, alloc: Global, image: &[u8], call: u64) -> Result<Stopped, Failure> {
+        let done = self.steps_before(alloc, image, call)?;
+        let mut steps = Vec::new(alloc);
+        for step in self.steps.iter().take(done).chain(self.steps.get(done)) {
+            steps.push(*step)?;
+        }
+        steps.push(FLUSH)?;
+        steps.push(FLUSH)?;
+        let mut heard = Heard::new(alloc, u64::MAX, false);
+        let disk = FailingDisk::new(disk_of(alloc, image)?, call);
+        let disk = self.run(alloc, disk, &steps, &mut heard)?;
+        self.compare_broken(alloc, done as u64, heard.replies.get(done..).unwrap_or(&[]))?;
+        compare_count(alloc, "device calls", call, disk.calls())?;
+        compare_count(alloc, "calls that failed", 1, disk.faults())?;
+        Ok(Stopped {
+            disk: disk.into_inner(),
+            done: done as u64,
+        })
+    }
+
+    // How many steps are answered as they should before the one whose device call fails.
+    fn steps_before(&self, alloc: Global, image: &[u8], call: u64) -> Result<usize, Failure> {
+        let mut heard = Heard::new(alloc, u64::MAX, true);
+        let disk = FailingDisk::new(disk_of(alloc, image)?, call);
+        let disk = self.run(alloc, disk, &self.steps, &mut heard)?;
+        if disk.faults() != 1 {
+            return Err(Failure::differs(alloc, "calls that failed", &1, &disk.faults()));
+        }
+        let Some(failed) = heard.replies.pop() else {
+            return Err(Failure::differs(alloc, "the step whose call fails", &"device", &"none"));
+        };
+        let done = heard.replies.len();
+        self.compare_reply(alloc, done as u64, "device", &failed)?;
+        self.compare(alloc, &heard.replies, done)?;
+        Ok(done)
+    }
+
+    // The step of this number, counted from 0, breaks the machine: two flushes after it are answered so.
+    fn compare_broken(&self, alloc: Global, number: u64, replies: &[Reply]) -> Result<(), Failure> {
+        match replies {
+            [failed, first, second] => {
+                self.compare_reply(alloc, number, "device", failed)?;
+                self.compare_reply(alloc, number, "broken", first)?;
+                self.compare_reply(alloc, number, "broken", second)
+            }
+            _ => Err(Failure::differs(
+                alloc,
+                "replies of a machine that breaks",
+                &3,
+                &replies.len(),
+            )),
+        }
+    }
+
+    // Compares the reply of the step of this number, counted from 0.
+    fn compare_reply(
+        &self,
+        alloc: Global,
+        step: u64,
+        wanted: &str,
+        reply: &Reply,
+    ) -> Result<(), Failure> {
+        let came = format!(in alloc; "{reply}")?;
+        if came.as_str() == wanted {
+            return Ok(());
+        }
+        let line = self.line.saturating_add(step);
+        let what = format!(in alloc; "the step in line {line}")?;
+        Err(Failure::differs(alloc, what.as_str(), &wanted, &came))
+    }
+}
+
+/// Compares a count.
+pub fn compare_count(alloc: Global, what: &str, wanted: u64, came: u64) -> Result<(), Failure> {
+    if wanted == came {
+        Ok(())
+    } else {
+        Err(Failure::differs(alloc, what, &wanted, &came))
+    }
+}
+
+/// The bytes, the files and the gates of a disk.
+#[derive(Drop)]
+pub struct Trial {
+    pub image: Vec<u8>,
+    pub files: Vec<File>,
+    /// Where the gates are.
+    pub gates: Vec<u64>,
+    /// The last run, if there was one on these bytes.
+    pub run: Option<Run>,
+}
+
+impl Trial {
+    /// What is left at the end of the run.
+    pub fn whole(&self, alloc: Global) -> Result<Stopped, Failure> {
+        match &self.run {
+            Some(run) => run.after(alloc, &self.image, run.replies.len() as u64),
+            None => Ok(Stopped {
+                disk: disk_of(alloc, &self.image)?,
+                done: 0,
+            }),
+        }
+    }
+
+    /// The disk before any run, cut to so many bytes.
+    pub fn shortened(&self, alloc: Global, length: u64) -> Result<Stopped, Failure> {
+        match (&self.run, self.image.get(..length as usize)) {
+            (None, Some(image)) => Ok(Stopped {
+                disk: disk_of(alloc, image)?,
+                done: 0,
+            }),
+            _ => Err(Failure::line(alloc, "a longer disk is cut, before any run")),
+        }
+    }
+
+    /// What is left after so many steps.
+    pub fn after(&self, alloc: Global, count: u64) -> Result<Stopped, Failure> {
+        match &self.run {
+            Some(run) => run.after(alloc, &self.image, count),
+            None => Err(Failure::line(alloc, "there is no run")),
+        }
+    }
+
+    /// What is left where the device call of this number fails.
+    pub fn failing(&self, alloc: Global, call: u64) -> Result<Stopped, Failure> {
+        match &self.run {
+            Some(run) => run.failing(alloc, &self.image, call),
+            None => Err(Failure::line(alloc, "there is no run")),
+        }
+    }
+}
