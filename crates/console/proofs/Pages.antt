@@ -56,8 +56,10 @@ page_read xs page n part long below is =
 -- the rows up to the page after this one
 rows_to_next : (bytes : List ℕ) (p k : ℕ) → k ≤ 256 → (k ≡ 256) ⊎ (length bytes ≤ 16 * (256 * p + k)) → rows_before bytes (256 * p + k) ≡ rows_before bytes (256 * (p + 1))
 rows_to_next bytes p k le end = ⊎_elim
-    (λ (full : k ≡ 256). ap (rows_before bytes) (omega (arith, full)))
-    (λ (past : length bytes ≤ 16 * (256 * p + k)). sym (rows_past bytes (256 * p + k) (256 - k) past) ∙ ap (rows_before bytes) (omega (arith, le)))
+    (λ (full : k ≡ 256). let same : 256 * p + k ≡ 256 * (p + 1) = omega (arith, full) in ap (rows_before bytes) same)
+    (λ (past : length bytes ≤ 16 * (256 * p + k)).
+        let same : (256 * p + k) + (256 - k) ≡ 256 * (p + 1) = omega (arith, le) in
+        sym (rows_past bytes (256 * p + k) (256 - k) past) ∙ ap (rows_before bytes) same)
     end
 
 -- one page more
@@ -72,3 +74,22 @@ page_more old mid new bytes p n part long below size is before this =
       (λ (last : n ≤ 4096 * p + 4096). inr (omega (arith, last, size, below, long)))
       (cases_lt (4096 * p + 4096) n) in
     subst Q (rows_of_page bytes p k some ∙ rows_to_next bytes p k some end) (appends_both old mid new (rows_before bytes (256 * p)) (rows_at (4096 * p) (page_of bytes p) k) before (subst P is this))
+
+-- a row of a page, as it is cut out of it
+pub row_cut : (bytes : List ℕ) (n to : ℕ) → 16 * n < length bytes → to ≡ min (length bytes) (16 * n + 16) → slice_range bytes (16 * n) to ≡ row_of bytes n
+row_cut bytes n to below is =
+    let few : to - 16 * n ≡ min 16 (length (drop (16 * n) bytes)) = omega (arith, is, length-drop (16 * n) bytes, below) in
+    ap (λ k. take k (drop (16 * n) bytes)) few ∙ take_min 16 (drop (16 * n) bytes)
+
+-- one row more
+pub row_more_at : (old mid new : Option (List ℕ)) (at : ℕ) (bytes row : List ℕ) (n : ℕ) → row ≡ row_of bytes n → Appends old mid (rows_at at bytes n) → Appends mid new (row_line (at + 16 * n) row) → Appends old new (rows_at at bytes (n + 1))
+row_more_at old mid new at bytes row n is before this =
+    let P : List ℕ → Type 0 = λ (r : List ℕ). Appends mid new (row_line (at + 16 * n) r) in
+    let Q : List ℕ → Type 0 = λ text. Appends old new text in
+    subst Q (ap (rows_at at bytes) (sym (add-one n))) (appends_both old mid new (rows_at at bytes n) (row_line (at + 16 * n) (row_of bytes n)) before (subst P is this))
+
+-- all rows
+pub rows_all : (bytes : List ℕ) (n pages : ℕ) → length bytes ≡ n → n ≤ 4096 * pages → rows_before bytes (256 * pages) ≡ rows_before bytes (row_count n)
+rows_all bytes n pages long past =
+    let split : 256 * pages ≡ row_count n + (256 * pages - row_count n) = omega (arith, past) in
+    ap (rows_before bytes) split ∙ rows_past bytes (row_count n) (256 * pages - row_count n) (omega (arith, long))
