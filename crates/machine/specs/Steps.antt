@@ -1,10 +1,10 @@
 -- One step of a machine over an honest device, and the laws of one step.
-use Rattle.std.specs.Prelude.{ℕ, ◌≡◌, ◌≢◌, List, length}
+use Rattle.std.specs.Prelude.{ℕ, ◌≡◌, ◌≢◌, ◌+◌, ◌-◌, ◌^◌, ◌<◌, List, length}
 use Rattle.page_entry.specs.declared.refusal.Refusal.TheVariants as refusals
 use Rattle.device.specs.Device.{Only, LeavesOnly}
 use Rattle.device.specs.declared.device.Device.{Ghosts}
 use Rattle.volume_codec.specs.Files.{File}
-use Rattle.journal.specs.Work.{Work, Sync, Nothing, TornFromWork}
+use Rattle.journal.specs.Work.{Work, CopyBlock, Sync, Nothing, TornFromWork}
 use Rattle.machine.specs.declared.act.Act.{Act}
 use Rattle.machine.specs.declared.act.Act.TheVariants as acts
 use Rattle.machine.specs.declared.act.Reply.{Reply}
@@ -34,6 +34,10 @@ pub record StepMade {D : Type 0} (disk : Ghosts D) (old : Whole D) (step : Step)
       → Only (disk.may_leave new.device) (disk.seen old.device)
   pub within : LeavesOnly disk.moment disk.left_since old.device new.device
       (TornFromWork (step_work old.state step.act reply) (disk.may_leave old.device))
+  -- of a block that was to be copied the read alone was made, and failed: nothing was written
+  pub unread : (from to : ℕ) → reply ≡ replies.Refused refusals.Device
+      → step_work old.state step.act reply ≡ CopyBlock from to → disk.calls_made old.device < 2 ^ 64 - 2
+      → disk.calls_made new.device ≡ disk.calls_made old.device + 1 → disk.seen new.device ≡ disk.seen old.device
   pub honest : disk.is_honest new.device
 
 -- loads, stores and faults are answered by what was told

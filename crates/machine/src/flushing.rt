@@ -9,7 +9,7 @@ ghost use Rattle.machine.specs.Refusals.{flush_refusal};
 ghost use Rattle.machine.specs.inside.Sound.{IsMemory, IsSound};
 ghost use Rattle.machine.specs.Rules.{bytes_at_mark, work_asked, Flushes};
 ghost use Rattle.machine.specs.inside.Layers.{state_in, reply_to, AnswersBy, KeepsReserved};
-ghost use Rattle.machine.specs.inside.Flushing.{HasSmallMark, IsThere, bytes_from, reply_of_flush, memory_after, checkpoint_after, FlushesDevice};
+ghost use Rattle.machine.specs.inside.Flushing.{HasSmallMark, IsThere, bytes_from, reply_of_flush, memory_after, checkpoint_after, FlushesDevice, IsUnread};
 
 use crate::Reply;
 use crate::layers::Layers;
@@ -103,6 +103,7 @@ impl<D: Device, A: Allocator + Copy> Layers<D, A> {
             (λ d d'. Flushes (state_in self.old) d p (reply_to result) (state_in self.new) d')
             (D.seen self.old.device) (D.seen self.new.device) }
         ensures device { FlushesDevice D.Device (state_in self.old) (reply_to result) self.old.device self.new.device }
+        ensures unread { IsUnread D.Device (state_in self.old) (reply_to result) self.old.device self.new.device }
         ensures kept { KeepsReserved self.old self.new }
     {
         let bytes = bytes_from(&self.frames, source);
@@ -123,6 +124,7 @@ impl<D: Device, A: Allocator + Copy> Layers<D, A> {
             (λ d d'. Flushes (state_in self.old) d p (reply_to result) (state_in self.new) d')
             (D.seen self.old.device) (D.seen self.new.device) }
         ensures device { FlushesDevice D.Device (state_in self.old) (reply_to result) self.old.device self.new.device }
+        ensures unread { IsUnread D.Device (state_in self.old) (reply_to result) self.old.device self.new.device }
         ensures kept { KeepsReserved self.old self.new }
     {
         let page = self.checkpoint.frozen()[0];
@@ -145,6 +147,7 @@ impl<D: Device, A: Allocator + Copy> Layers<D, A> {
             (λ d d'. Flushes (state_in self.old) d p (reply_to result) (state_in self.new) d')
             (D.seen self.old.device) (D.seen self.new.device) }
         ensures device { FlushesDevice D.Device (state_in self.old) (reply_to result) self.old.device self.new.device }
+        ensures unread { IsUnread D.Device (state_in self.old) (reply_to result) self.old.device self.new.device }
         ensures kept { KeepsReserved self.old self.new }
     {
         if self.write_outs.next_record().is_some() {
@@ -162,6 +165,7 @@ impl<D: Device, A: Allocator + Copy> Layers<D, A> {
             (λ d d'. Flushes (state_in self.old) d p (reply_to result) (state_in self.new) d')
             (D.seen self.old.device) (D.seen self.new.device) }
         ensures device { FlushesDevice D.Device (state_in self.old) (reply_to result) self.old.device self.new.device }
+        ensures unread { IsUnread D.Device (state_in self.old) (reply_to result) self.old.device self.new.device }
         ensures kept { KeepsReserved self.old self.new }
     {
         self.shootdown.admit(p)?;

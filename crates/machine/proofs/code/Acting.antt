@@ -20,7 +20,7 @@ use Rattle.machine.specs.Rules.{Acts, Fixes, Flushes}
 use Rattle.machine.specs.Calls.{CallsOf, reads_page, has_failed}
 use Rattle.machine.specs.Steps.{step_work}
 use Rattle.machine.specs.inside.Layers.{state_in, reply_to, AnswersBy, KeepsReserved, IsQuiet}
-use Rattle.machine.specs.inside.Flushing.{FlushesDevice}
+use Rattle.machine.specs.inside.Flushing.{FlushesDevice, IsUnread}
 use Rattle.machine.specs.inside.Acting.{ActDone}
 
 -- the laws of a device that these lemmas rest on
@@ -46,6 +46,7 @@ module _ {D Z : Type 0} (disk : Ghosts D) (since_now : SinceNow disk) (old new :
         };
         left = λ c may. subst (λ (w : Work). TornFromWork w (disk.may_leave old.device) c) asked (subst (λ (x : D). disk.may_leave x c) quiet.same_device may);
         sure = λ honest other sync. absurd (let both = asked ∙ sync in cc);
+        unread = λ honest from to refused copy few calls. absurd (let both = asked ∙ copy in cc);
         time = subst (λ (x : D). LeavesOnly disk.moment disk.left_since old.device x (TornFromWork (step_work (state_in old) step.act reply) (disk.may_leave old.device))) same
             (subst (λ (w : Work). LeavesOnly disk.moment disk.left_since old.device old.device (TornFromWork w (disk.may_leave old.device))) asked (leaves_at_start (λ c left. since_now old.device c left)));
         honest = ((λ h. subst disk.is_honest quiet.same_device h), (λ h. subst disk.is_honest same h));
@@ -60,8 +61,8 @@ module _ {D Z : Type 0} (disk : Ghosts D) (since_now : SinceNow disk) (old new :
 
 pub flush_done : {D Z : Type 0} (disk : Ghosts D) (old new : Layers D Z) (step : Step) (reply : Reply) → step.act ≡ acts.Flush
     → AnswersBy (disk.is_honest old.device) (λ d d'. Flushes (state_in old) d step.p reply (state_in new) d') (disk.seen old.device) (disk.seen new.device)
-    → FlushesDevice disk (state_in old) reply old.device new.device → KeepsReserved old new → ActDone disk old step reply new
-flush_done {D} disk old new step reply is rules device kept =
+    → FlushesDevice disk (state_in old) reply old.device new.device → IsUnread disk (state_in old) reply old.device new.device → KeepsReserved old new → ActDone disk old step reply new
+flush_done {D} disk old new step reply is rules device unread kept =
     let here = sym is in
     record {
       rules = record {
@@ -70,6 +71,7 @@ flush_done {D} disk old new step reply is rules device kept =
       };
       left = λ c may. subst (λ (a : Act). TornFromWork (step_work (state_in old) a reply) (disk.may_leave old.device) c) here (device.left c may);
       sure = λ honest other sync. device.sure honest other (ap (λ (a : Act). step_work (state_in old) a reply) here ∙ sync);
+      unread = λ honest from to refused copy few calls. unread honest from to refused (ap (λ (a : Act). step_work (state_in old) a reply) here ∙ copy) few calls;
       time = subst (λ (a : Act). LeavesOnly disk.moment disk.left_since old.device new.device (TornFromWork (step_work (state_in old) a reply) (disk.may_leave old.device))) here device.time;
       honest = device.honest;
       len = device.len;
@@ -110,6 +112,7 @@ fix_done {D} disk since_now old new step va write result is rules fixed untouche
       };
       left = λ c may. subst (λ (w : Work). TornFromWork w (disk.may_leave old.device) c) nothing (left reads refl c may);
       sure = λ honest other sync. absurd (let both = nothing ∙ sync in cc);
+      unread = λ honest from to refused copy few calls. absurd (let both = nothing ∙ copy in cc);
       time = subst (λ (w : Work). LeavesOnly disk.moment disk.left_since old.device new.device (TornFromWork w (disk.may_leave old.device))) nothing (time reads refl);
       honest = honest reads refl;
       len = len reads refl;

@@ -76,6 +76,14 @@ module _ (honest : Type 0) (s : State) (disk disk' : List ℕ) (p : ℕ) (allowe
   }
   flushes_by flushed.Broken answered whole worked_so torn = absurd (whole refl)
 
+-- the reply tells that a device call failed
+pub device_is : (a : Flushed) → reply_by (reply_of_flush a) ≡ replies.Refused refusals.Device → a ≡ flushed.Device
+device_is flushed.Going e = cc
+device_is (flushed.Committed mark) e = cc
+device_is (flushed.Done mark) e = cc
+device_is flushed.Device e = refl
+device_is flushed.Broken e = cc
+
 -- ---- refused before the device is asked
 
 abbrev pub IsCalm : Refusal → Type 0

@@ -28,6 +28,7 @@ module _ {D Z : Type 0} (disk : Ghosts D) (old new : Layers D Z) (step : Step) (
     left = done.left;
     sure = done.sure honest;
     within = done.time;
+    unread = done.unread honest;
     honest = done.honest.1 honest;
   }
 

@@ -1,9 +1,9 @@
 -- What one act of a machine's layers does, over any device.
-use Rattle.std.specs.Prelude.{ℕ, ◌≡◌, ◌≢◌, ◌↔◌, List, length}
+use Rattle.std.specs.Prelude.{ℕ, ◌≡◌, ◌≢◌, ◌↔◌, ◌+◌, ◌-◌, ◌^◌, ◌<◌, List, length}
 use Rattle.device.specs.Device.{Only, LeavesOnly}
 use Rattle.device.specs.declared.device.Device.{Ghosts}
 use Rattle.page_entry.specs.declared.refusal.Refusal.TheVariants as refusals
-use Rattle.journal.specs.Work.{Sync, TornFromWork}
+use Rattle.journal.specs.Work.{Sync, CopyBlock, TornFromWork}
 use Rattle.machine.specs.declared.act.Act.{Act}
 use Rattle.machine.specs.declared.act.Act.TheVariants as acts
 use Rattle.machine.specs.declared.act.Reply.{Reply}
@@ -25,6 +25,9 @@ pub record ActDone {D Z : Type 0} (disk : Ghosts D) (old : Layers D Z) (step : S
       → step_work (state_in old) step.act reply ≡ Sync → Only (disk.may_leave new.device) (disk.seen old.device)
   pub time : LeavesOnly disk.moment disk.left_since old.device new.device
       (TornFromWork (step_work (state_in old) step.act reply) (disk.may_leave old.device))
+  pub unread : disk.is_honest old.device → (from to : ℕ) → reply ≡ replies.Refused refusals.Device
+      → step_work (state_in old) step.act reply ≡ CopyBlock from to → disk.calls_made old.device < 2 ^ 64 - 2
+      → disk.calls_made new.device ≡ disk.calls_made old.device + 1 → disk.seen new.device ≡ disk.seen old.device
   pub honest : disk.is_honest new.device ↔ disk.is_honest old.device
   pub len : length (disk.seen new.device) ≡ length (disk.seen old.device)
   pub calls : CallsOf (state_in old) step.p step.act reply (disk.calls_made old.device) (disk.calls_made new.device)

@@ -1,5 +1,5 @@
 -- What private calls promise of a step of the write-outs.
-use Rattle.std.specs.Prelude.{ℕ, ◌≡◌, ◌≢◌, ◌<◌, ◌↔◌, ◌^◌, Bool, true, false, List, length, Result, Ok, Err}
+use Rattle.std.specs.Prelude.{ℕ, ◌≡◌, ◌≢◌, ◌+◌, ◌-◌, ◌<◌, ◌↔◌, ◌^◌, Bool, true, false, List, length, Result, Ok, Err}
 use Rattle.device.specs.Device.{Only, LeavesOnly}
 use Rattle.device.specs.declared.device.Device.{Ghosts}
 use Rattle.page_entry.specs.declared.refusal.Refusal.{Refusal}
@@ -8,7 +8,7 @@ use Rattle.page_entry.specs.declared.numbers.FilePage.{FilePage}
 use Rattle.frames.specs.Frames.{FramesState, without_copies}
 use Rattle.journal.specs.declared.flushed.Flushed.{Flushed}
 use Rattle.journal.specs.declared.flushed.Flushed.TheVariants as flushed
-use Rattle.journal.specs.Work.{Sync, TornFromWork}
+use Rattle.journal.specs.Work.{Sync, CopyBlock, TornFromWork}
 use Rattle.checkpoint.specs.Checkpoint.{CheckpointState, without_copy_of, released, thawed}
 use Rattle.fault.specs.Fault.{is_in_memory}
 use Rattle.machine.specs.declared.act.Act.TheVariants.{Flush}
@@ -64,6 +64,13 @@ released_pages false c = c
 abbrev pub checkpoint_after : Flushed → Bool → CheckpointState → CheckpointState
 checkpoint_after flushed.Device writes c = thawed c
 checkpoint_after answer writes c = released_pages writes c
+
+-- Of a block that a step of the write-outs was to copy the read alone was made, and failed: then a read gives what it
+-- gave.
+abbrev pub IsUnread : {D : Type 0} → Ghosts D → State → Reply → D → D → Type 0
+IsUnread disk s reply old new = disk.is_honest old → (from to : ℕ) → reply ≡ replies.Refused refusals.Device
+    → step_work s Flush reply ≡ CopyBlock from to → disk.calls_made old < 2 ^ 64 - 2
+    → disk.calls_made new ≡ disk.calls_made old + 1 → disk.seen new ≡ disk.seen old
 
 -- what a step of the write-outs does to the device
 pub record FlushesDevice {D : Type 0} (disk : Ghosts D) (s : State) (reply : Reply) (old new : D) : Type 0 where

@@ -1,15 +1,17 @@
 use Rattle.std.proofs.Common.{◌≡◌, Result, sym, ap, ◌∙◌, subst, ⊎_elim}
 use Rattle.page_entry.specs.declared.refusal.Refusal.{Refusal}
-use Rattle.journal.specs.Work.{Work, worked, TornByWork}
+use Rattle.journal.specs.Work.{Work, CopyBlock, worked, TornByWork}
 use Rattle.journal.specs.WriteOuts.{next_work}
 use Rattle.machine.specs.declared.act.Reply.{Reply}
 use Rattle.machine.specs.declared.layers.Layers.{Layers}
 use Rattle.machine.specs.State.{State}
-use Rattle.machine.specs.Rules.{Flushes}
+use Rattle.machine.specs.Rules.{Flushes, work_asked}
+use Rattle.machine.specs.declared.act.Act.TheVariants as acts
+use Rattle.machine.specs.Steps.{step_work}
 use Rattle.machine.specs.inside.Layers.{state_in, AnswersBy, reply_to as reply_by}
-use Rattle.machine.specs.inside.Flushing.{HasSmallMark, memory_after, checkpoint_after}
+use Rattle.machine.specs.inside.Flushing.{HasSmallMark, IsUnread, memory_after, checkpoint_after}
 use Rattle.machine.proofs.code.Records.{is_next_page, small-next_answer}
-use Rattle.machine.proofs.code.Flushes.{stepped, flushes_by}
+use Rattle.machine.proofs.code.Flushes.{stepped, flushes_by, device_is}
 use Rattle.machine.proofs.layers.Layers.step_with.Goals as goal
 
 pub settle-requires-clause-some : goal.settle-requires-clause-some
@@ -43,3 +45,15 @@ returns-clause-rules g c = λ p allowed.
     let replied = subst (λ (x : Result Reply Refusal). AnswersBy honest (λ d d'. Flushes s d p (reply_by x) (stepped s answer) d') disk (seen c.step-answer.new.device)) (sym c.reply_to_flush.ensures) made in
     let there = subst (λ (n : State). AnswersBy honest (λ d d'. Flushes s d p (reply_by c.reply_to_flush.result) n d') disk (seen c.step-answer.new.device)) (sym state) replied in
     subst (λ (w : Layers g.row.D.Denot g.row.A.Denot). AnswersBy honest (λ d d'. Flushes s d p (reply_by c.reply_to_flush.result) (state_in w) d') disk (seen w.device)) (sym c.settle.ensures) there
+
+pub returns-clause-unread : goal.returns-clause-unread
+returns-clause-unread g c =
+    let s : State = state_in c.args.self.now in
+    let old = c.args.self.now.device in
+    let asked = ap (next_work s.write_outs) c.bytes_from-bytes.ensures ∙ c.requires.bytes in
+    let Made : Layers g.row.D.Denot g.row.A.Denot → Type 0 = λ w. IsUnread g.D.Device s (reply_by c.reply_to_flush.result) old w.device in
+    let made : IsUnread g.D.Device s (reply_by c.reply_to_flush.result) old c.step-answer.new.device = λ honest from to refused copy few calls.
+    (let failed = device_is c.step-answer.result (ap reply_by (sym c.reply_to_flush.ensures) ∙ refused) in
+    let work : work_asked s ≡ CopyBlock from to = ap (λ (r : Reply). step_work s acts.Flush r) (sym refused) ∙ copy in
+    c.step-answer.ensures.failed_read few honest failed from to (asked ∙ work) calls) in
+    subst Made (sym c.settle.ensures) made
