@@ -15,7 +15,7 @@ use Rattle.volume_codec.proofs.Places.{fits_geometry}
 use Rattle.volume_codec.proofs.Recovered.{length-lengths_in, lengths_in-le}
 use Rattle.recovery.specs.Counts.{Rises, RisesWithin}
 use Rattle.recovery.specs.Volume.{IsSettled}
-use Rattle.recovery.specs.Opening.{IsUnwritten, IsOpened, IsBeingOpened, LeftByOpening, opening_calls, HasOpened, HasRefused, FindsWithin, RefusesOpening}
+use Rattle.recovery.specs.Opening.{IsUnwritten, IsOpened, IsBeingOpened, LeftByOpening, opening_calls, HasOpened, HasRefused, RefusesOpening}
 use Rattle.recovery.specs.inside.Reading.{carry_calls}
 use Rattle.recovery.proofs.Partly.{opened_partly, kept_block, still_waiting}
 

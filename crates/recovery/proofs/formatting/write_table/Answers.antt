@@ -1,6 +1,5 @@
-use Rattle.std.proofs.Common.{◌≡◌, ◌≤◌, ℕ, ◌+◌, ◌-◌, ◌*◌, List, length, get_or, ap, ◌∙◌, arith}
+use Rattle.std.proofs.Common.{◌≡◌, ℕ, ◌-◌, ◌*◌, List, length, get_or, ap, ◌∙◌, arith}
 use Rattle.device.proofs.Ranges.{torn_after}
-use Rattle.volume_codec.specs.Super.{block_count}
 use Rattle.recovery.specs.Counts.{Rises}
 use Rattle.volume_codec.specs.Layout.{GeometryValue, journals_of, first_home}
 use Rattle.volume_codec.proofs.Layouts.{first_home-within}
