@@ -164,7 +164,7 @@ weighed (suc zero) weight less some = grind (arith, nat_tests)
 weighed (suc (suc bit)) weight less some = absurd (omega arith)
 
 -- what a test of one bit says of any number
-test_bit : (n k : ℕ) → 0 < 2 ^ k → (bit_and n (2 ^ k) == 2 ^ k) ≡ has_bit n k
+pub test_bit : (n k : ℕ) → 0 < 2 ^ k → (bit_and n (2 ^ k) == 2 ^ k) ≡ has_bit n k
 test_bit n k some = ap (λ x. x == 2 ^ k) (and_pow n k) ∙ weighed (n / 2 ^ k % 2) (2 ^ k) (omega arith) some
 
 -- the entry that is made of these bits, one by one

@@ -96,6 +96,14 @@ impl Entry {
         }
     }
 
+    /// The entry that bits which are known to be an entry's are; `from_bits` is for bits that may not be.
+    pub fn of_bits(bits: u64) -> Self
+        requires { IsEntry bits }
+        ensures { result ≡ entry_of bits }
+    {
+        Entry(bits)
+    }
+
     /// The entry as the processor reads it: bit 0 present, 1 writable, 2 user, 5 accessed, 6 dirty, 51:12 the frame.
     pub fn bits(self) -> u64
         ensures bits { result ≡ bits_of self }

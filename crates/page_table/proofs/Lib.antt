@@ -7,3 +7,9 @@ mod Growth
 mod Joins
 mod Splices
 mod DirtyParts
+mod Trees
+mod Masks
+mod Links
+mod View
+mod Ranges
+mod PageEdits

@@ -16,8 +16,8 @@ pub(crate) enum Change<'a> {
     Protect(&'a [bool]),
 }
 
-// What the change leaves of an entry.
-fn changed(change: Change, entry: Entry) -> Entry
+/// What the change leaves of an entry.
+pub(crate) fn changed(change: Change, entry: Entry) -> Entry
     ensures { result ≡ changed change.entry entry }
 {
     match change {

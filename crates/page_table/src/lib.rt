@@ -4,9 +4,14 @@
 
 mod change;
 mod dirty_pages;
+mod growing;
+mod lanes;
+mod leaves;
+mod nodes;
 mod region;
 mod regions;
 mod table;
 
 pub use dirty_pages::DirtyPages;
+pub use lanes::dirty_mask;
 pub use table::Table;

@@ -1,0 +1,44 @@
+// Which entries of a node are dirty, tested eight at a time.
+ghost use Rattle.std.specs.Prelude.{◌≡◌, ◌<◌, ◌/◌, ◌%◌, ℕ, length, map, slice_index_or};
+ghost use Rattle.std.specs.Simd.Lanes.{mask_l};
+ghost use Rattle.page_entry.specs.Entry.{has_bit};
+
+use std::simd::prelude::*;
+
+/// The dirty bit of an entry, bit 6 (Intel SDM volume 3, "4-Level Paging").
+const DIRTY: u64 = 64;
+
+// A bit for each of eight entries, the first lowest: whether it is dirty.
+fn dirty_lanes(entries: u64x8) -> u64
+    ensures { result ≡ mask_l (map (λ entry. has_bit entry 6) entries) }
+{
+    (entries & u64x8::splat(DIRTY))
+        .simd_eq(u64x8::splat(DIRTY))
+        .to_bitmask()
+}
+
+// A bit for each of 64 entries, the first lowest: whether it is dirty.
+fn dirty_word(entries: &[u64]) -> u64
+    requires { length entries.now ≡ 64 }
+    ensures { result ≡ mask_l (map (λ entry. has_bit entry 6) entries.now) }
+{
+    let mut word = 0;
+    let mut from = 64;
+    while from > 0 {
+        from -= 8;
+        word = word * 256 + dirty_lanes(u64x8::from_slice(&entries[from..from + 8]));
+    }
+    word
+}
+
+/// A bit for each entry of a node: bit i of word w is the dirty bit, bit 6, of entry 64w+i.
+pub fn dirty_mask(entries: &[u64; 512]) -> [u64; 8]
+    ensures { (i : ℕ) → i < 512
+        → has_bit (slice_index_or result (i / 64) 0) (i % 64) ≡ has_bit (slice_index_or entries.now i 0) 6 }
+{
+    let mut mask = [0; 8];
+    for place in 0..8 {
+        mask[place] = dirty_word(&entries[place * 64..place * 64 + 64]);
+    }
+    mask
+}

@@ -1,0 +1,76 @@
+// The nodes of a table: how a walk goes down from the root, and which pages have a leaf.
+ghost use Rattle.std.specs.Prelude.{◌≡◌, ◌≤◌, ◌<◌, ◌+◌, ◌-◌, ◌*◌, ◌/◌, ◌^◌, ℕ, length};
+ghost use Rattle.page_table.specs.inside.Nodes.{word, walk, IsWalkable, IsPastGap, IsFirstGrown};
+
+use page_entry::PageNumber;
+
+/// Words of a node.
+pub(crate) const NODE: u64 = 512;
+
+/// The pages that four levels can have: those of addresses of 48 bits.
+pub(crate) const PAGES: PageNumber = 1 << 36;
+
+/// Pages below a word of the root.
+pub(crate) const ROOT_BLOCK: PageNumber = 1 << 27;
+
+/// Pages below a word of a node of the second level.
+pub(crate) const MIDDLE_BLOCK: PageNumber = 1 << 18;
+
+// A word of a node; 0 where there is no node.
+fn word(words: &[u64], node: u64, place: u64) -> u64
+    requires node { node * 512 ≤ length words.now }
+    requires place { place < 512 }
+    ensures { result ≡ word words.now node place }
+{
+    if node == 0 {
+        return 0;
+    }
+    words[((node - 1) * NODE + place) as usize]
+}
+
+/// What a walk over so many levels reads that leads to the block.
+pub(crate) fn walk(words: &[u64], depth: u64, block: u64) -> u64
+    requires words { IsWalkable words.now }
+    requires depth { depth ≤ 4 }
+    ensures { result ≡ walk words.now depth block }
+{
+    if depth == 0 {
+        return if block == 0 { 1 } else { 0 };
+    }
+    word(words, walk(words, depth - 1, block / NODE), block % NODE)
+}
+
+// The first page after the largest block that has no node and has this page; the page itself if it has a leaf.
+fn past_gap(words: &[u64], page: PageNumber) -> PageNumber
+    requires words { IsWalkable words.now }
+    requires page { page < 2 ^ 36 }
+    ensures { IsPastGap words.now page result }
+{
+    if walk(words, 1, page / ROOT_BLOCK) == 0 {
+        return (page / ROOT_BLOCK + 1) * ROOT_BLOCK;
+    }
+    if walk(words, 2, page / MIDDLE_BLOCK) == 0 {
+        return (page / MIDDLE_BLOCK + 1) * MIDDLE_BLOCK;
+    }
+    if walk(words, 3, page / NODE) == 0 {
+        return (page / NODE + 1) * NODE;
+    }
+    page
+}
+
+/// The first page from `start` on and below `end` that has a leaf. It goes over missing blocks, not over pages.
+pub(crate) fn first_grown(words: &[u64], start: PageNumber, end: PageNumber) -> Option<PageNumber>
+    requires words { IsWalkable words.now }
+    requires end { end ≤ 2 ^ 36 }
+    ensures { IsFirstGrown words.now start end result }
+{
+    let mut page = start;
+    while page < end {
+        let next = past_gap(words, page);
+        if next == page {
+            return Some(page);
+        }
+        page = next;
+    }
+    None
+}
