@@ -79,9 +79,9 @@ get-range_read_only entries first end q = get-changed_by (λ page entry. if in_r
     by_entry false None = refl
     by_entry false (Some entry) = refl
 
--- two tables with the same entry at each page, grown at the same pages, are the same table
-pub same_table : (s t : TableState) → ((q : ℕ) → maps.get s.entries q ≡ maps.get t.entries q) → ((q : ℕ) → is_grown s q ≡ is_grown t q) → s ≡ t
-same_table s t entries grown =
+-- two tables with the same entry at each page, grown at the same pages, with as many nodes are the same table
+pub same_table : (s t : TableState) → ((q : ℕ) → maps.get s.entries q ≡ maps.get t.entries q) → ((q : ℕ) → is_grown s q ≡ is_grown t q) → s.nodes ≡ t.nodes → s ≡ t
+same_table s t entries grown nodes =
     let es = same_entries s.entries t.entries entries in
     let gs = sets.same_set nat_cmp_total maps.nat_cmp-IsAntisymmetric s.grown t.grown grown in
-    λ i. record { entries = es i; grown = gs i }
+    λ i. record { entries = es i; grown = gs i; nodes = nodes i }

@@ -1,15 +1,10 @@
 pub mod Entries
 pub mod Dirty
-mod Lookup
-mod Edits
-mod Tables
-mod Growth
-mod Joins
-mod Splices
-mod DirtyParts
-mod Trees
 mod Masks
+mod Trees
 mod Links
-mod View
 mod Ranges
 mod PageEdits
+mod View
+mod Dirties
+mod Tables

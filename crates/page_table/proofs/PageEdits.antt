@@ -1,8 +1,8 @@
 -- What edits of parts of leaves do page by page.
-use Rattle.std.proofs.Common.{◌≡◌, ◌≢◌, ℕ, zero, suc, ◌+◌, ◌-◌, ◌*◌, ◌/◌, ◌%◌, ◌^◌, ◌<◌, ◌≤◌, Bool, true, false, cond, List, [], ◌∷◌, ◌++◌, length, map, get_or, take, drop, min, Option, Some, None, refl, sym, ap, ◌∙◌, subst, inl, inr, arith}
-use Rattle.std.proofs.lemmas.Bool.{cases_lt}
+use Rattle.std.proofs.Common.{◌≡◌, ◌≢◌, ℕ, zero, suc, ◌+◌, ◌-◌, ◌*◌, ◌/◌, ◌%◌, ◌^◌, ◌<◌, ◌≤◌, Bool, true, false, cond, List, [], ◌∷◌, ◌++◌, length, map, get_or, set, take, drop, min, Option, Some, None, refl, sym, ap, ◌∙◌, subst, inl, inr, arith}
+use Rattle.std.proofs.lemmas.Bool.{cases_eq, cases_lt}
 use Rattle.std.proofs.lemmas.Bool.Decides.{nat_tests}
-use Rattle.std.proofs.lemmas.List.{length-map, length-take, length-drop, length-append, get_or-take, get_or-drop, get_or-map}
+use Rattle.std.proofs.lemmas.List.{length-map, length-take, length-drop, length-append, get_or-take, get_or-drop, get_or-map, length-set, get_or-set_same, get_or-set_other}
 use Rattle.std.proofs.Math.ListN.{get_or-append}
 use Rattle.std.proofs.Math.Seq.{get_or-append_right}
 use borrow.Rule.Slice.PartMut.{put_mid, Post-is}
@@ -11,8 +11,8 @@ use Rattle.page_entry.proofs.Bits.{IsSmall, IsSmall-entry_of, IsEntry-bits_of}
 use Rattle.page_table.specs.Table.{in_range, is_marked}
 use Rattle.page_table.specs.declared.change.Change.{Change}
 use Rattle.page_table.specs.declared.change.Change.TheVariants.{Clear, MakeReadOnly, Protect}
-use Rattle.page_table.specs.inside.Regions.{changed}
-use Rattle.page_table.specs.inside.Nodes.{word, walk, IsTree, IsTable, IsFound, AreEntries, changed_bits, EditsPages}
+use Rattle.page_table.specs.inside.Changes.{changed, changed_bits}
+use Rattle.page_table.specs.inside.Nodes.{word, walk, IsTree, IsTable, IsFound, AreEntries, EditsPages}
 use Rattle.page_table.proofs.Trees.{walk-suc, walk-none, walk-zero, walk-edited, lookup-edited, IsTree-edited, word_of_node}
 
 -- a change leaves an entry's bits
@@ -204,3 +204,19 @@ pub same_default : (xs : List ℕ) (i d e : ℕ) → i < length xs → get_or xs
 same_default [] i d e less = absurd (omega arith)
 same_default (x ∷ xs) zero d e less = refl
 same_default (x ∷ xs) (suc i) d e less = same_default xs i d e (omega arith)
+
+-- one page's entry set
+pub EditsPages-set : (ws : List ℕ) (page e node : ℕ) → IsTable ws → 0 < walk ws 3 (page / 512) → IsEntry e → node ≡ walk ws 3 (page / 512) → EditsPages (λ _. e) page (page + 1) ws (set ws ((node - 1) * 512 + page % 512) e)
+EditsPages-set ws page e node table leaf entry node_is =
+    subst (λ (n : ℕ). EditsPages (λ _. e) page (page + 1) ws (set ws ((n - 1) * 512 + page % 512) e)) (sym node_is)
+    (EditsPages-leaf (λ _. e) page (page + 1) ws _ (λ n is. entry) table leaf (omega arith) (omega arith) (simp length-set) each)
+  where
+    each : (i : ℕ) → get_or (set ws ((walk ws 3 (page / 512) - 1) * 512 + page % 512) e) i 0 ≡ cond (in_range ((walk ws 3 (page / 512) - 1) * 512 + page % 512) ((walk ws 3 (page / 512) - 1) * 512 + page % 512 + (page + 1 - page)) i) e (get_or ws i 0)
+    each i = elim (cases_eq i ((walk ws 3 (page / 512) - 1) * 512 + page % 512)) [
+      | inl same ↦
+          let inside : in_range ((walk ws 3 (page / 512) - 1) * 512 + page % 512) ((walk ws 3 (page / 512) - 1) * 512 + page % 512 + (page + 1 - page)) i ≡ true = grind (arith, nat_tests) in
+          ap (λ n. get_or (set ws ((walk ws 3 (page / 512) - 1) * 512 + page % 512) e) n 0) same ∙ get_or-set_same ws ((walk ws 3 (page / 512) - 1) * 512 + page % 512) e 0 (omega (arith, table.tree.walkable.within 3 (page / 512) (omega arith))) ∙ rw inside refl
+      | inr other ↦
+          let out : in_range ((walk ws 3 (page / 512) - 1) * 512 + page % 512) ((walk ws 3 (page / 512) - 1) * 512 + page % 512 + (page + 1 - page)) i ≡ false = grind (arith, nat_tests) in
+          get_or-set_other ws ((walk ws 3 (page / 512) - 1) * 512 + page % 512) i e 0 other ∙ rw out refl
+    ]

@@ -1,6 +1,6 @@
 -- A page table as a map from page to entry, with the pages that have grown. A page is the number of 4 KiB of linear
 -- addresses; a range has the pages from `first` up to and without `end`.
-use Rattle.std.specs.Prelude.{ℕ, ◌≡◌, ◌≤◌, ◌<◌, Bool, true, false, not, ◌&&◌, nat_le, nat_lt, if◌then◌else◌, slice_index_or, List, map, Option, Some, None, refl}
+use Rattle.std.specs.Prelude.{ℕ, ◌-◌, ◌/◌, ◌≡◌, ◌≤◌, ◌<◌, Bool, true, false, not, ◌&&◌, nat_le, nat_lt, if◌then◌else◌, slice_index_or, List, map, Option, Some, None, refl}
 use Rattle.std.specs.List.{filter}
 use Rattle.std.specs.Ordering.{nat_cmp}
 use Rattle.std.specs.Coded.{Coded, code_by, coded×, coded_ℕ, coded_bool}
@@ -8,10 +8,12 @@ use Rattle.std.specs.FinMap as maps
 use Rattle.std.specs.FinSet as sets
 use Rattle.page_entry.specs.Entry.{Mapped}
 
--- the present entries, by their pages; and the pages that have grown, whose entries can be set without memory
+-- the present entries, by their pages; the pages that have grown, whose entries can be set without memory; and how many
+-- nodes there are
 pub record TableState : Type 0 where
   pub entries : maps.FinMap nat_cmp Mapped
   pub grown : sets.FinSet nat_cmp
+  pub nodes : ℕ
 
 -- an entry is stored as the tuple of its fields
 abbrev pub mapped_code : Coded Mapped
@@ -21,16 +23,16 @@ mapped_code =
     (λ p. record { frame = p.0; writable = p.1.0; accessed = p.1.1.0; dirty = p.1.1.1 })
     (λ _. refl)
 
--- a table is stored as the pair of its fields
+-- a table is stored as the tuple of its fields
 abbrev pub table_code : Coded TableState
 table_code =
-    code_by (maps.FinMap nat_cmp Mapped × sets.FinSet nat_cmp)
-    (coded× (maps.code coded_ℕ mapped_code) (sets.code coded_ℕ))
-    (λ t. (t.entries, t.grown)) (λ p. record { entries = p.0; grown = p.1 }) (λ _. refl)
+    code_by (maps.FinMap nat_cmp Mapped × (sets.FinSet nat_cmp × ℕ))
+    (coded× (maps.code coded_ℕ mapped_code) (coded× (sets.code coded_ℕ) coded_ℕ))
+    (λ t. (t.entries, (t.grown, t.nodes))) (λ p. record { entries = p.0; grown = p.1.0; nodes = p.1.1 }) (λ _. refl)
 
--- a table that maps nothing and has grown nowhere
+-- a table that maps nothing and has grown nowhere: the root alone
 abbrev pub empty_table : TableState
-empty_table = record { entries = maps.empty; grown = sets.empty }
+empty_table = record { entries = maps.empty; grown = sets.empty; nodes = 1 }
 
 -- whether the page's entry can be set without memory
 abbrev pub is_grown : TableState → ℕ → Bool
@@ -83,8 +85,11 @@ dirty_in entries first end = dirty_among (maps.entries entries) first end
 abbrev pub HasGrown : ℕ → ℕ → TableState → Type 0
 HasGrown first end table = (page : ℕ) → first ≤ page → page < end → is_grown table page ≡ true
 
--- the same entries, and room: each page of the range has grown, and what had grown still has
+-- The same entries, and room: each page of the range has grown, what had grown still has, and no other page has but
+-- those that share a block of 512 pages, the pages of one node, with a page of the range.
 pub record GrowsOver (first end : ℕ) (old new : TableState) : Type 0 where
   pub same_entries : new.entries ≡ old.entries
   pub range_grown : HasGrown first end new
   pub still_grown : (page : ℕ) → is_grown old page ≡ true → is_grown new page ≡ true
+  pub no_more : (page : ℕ) → is_grown new page ≡ true → is_grown old page ≡ false
+      → (first / 512 ≤ page / 512) × (page / 512 ≤ (end - 1) / 512)

@@ -1,2 +1,2 @@
-pub mod Regions
+pub mod Changes
 pub mod Nodes

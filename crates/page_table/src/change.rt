@@ -1,7 +1,7 @@
 // What is done to the entries of a range.
-ghost use Rattle.std.specs.Prelude.{◌≡◌, map};
+ghost use Rattle.std.specs.Prelude.{◌≡◌};
 ghost use Rattle.page_table.specs.Table.{is_marked};
-ghost use Rattle.page_table.specs.inside.Regions.{changed};
+ghost use Rattle.page_table.specs.inside.Changes.{changed};
 
 use page_entry::{Entry, FrameNumber};
 
@@ -40,14 +40,5 @@ fn is_marked(marked: &[bool], frame: FrameNumber) -> bool
     match marked.get(frame as usize) {
         Some(mark) => *mark,
         None => false,
-    }
-}
-
-/// Changes each of the entries.
-pub(crate) fn change_all(entries: &mut [Entry], change: Change)
-    ensures { entries.new ≡ map (changed change.entry) entries.old }
-{
-    for entry in entries.iter_mut() {
-        *entry = changed(change, *entry);
     }
 }

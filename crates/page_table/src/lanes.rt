@@ -1,5 +1,6 @@
 // Which entries of a node are dirty, tested eight at a time.
-ghost use Rattle.std.specs.Prelude.{◌≡◌, ◌<◌, ◌/◌, ◌%◌, ℕ, length, map, slice_index_or};
+ghost use Rattle.std.specs.Prelude.{◌≡◌, ◌<◌, ◌≤◌, ◌/◌, ◌%◌, ℕ, length, map, slice_index_or};
+ghost use Rattle.page_table.specs.inside.Nodes.{IsFirstSet};
 ghost use Rattle.std.specs.Simd.Lanes.{mask_l};
 ghost use Rattle.page_entry.specs.Entry.{has_bit};
 
@@ -41,4 +42,20 @@ pub fn dirty_mask(entries: &[u64; 512]) -> [u64; 8]
         mask[place] = dirty_word(&entries[place * 64..place * 64 + 64]);
     }
     mask
+}
+
+/// The first bit of a mask from this place on that is set.
+pub(crate) fn first_set(mask: &[u64], from: u64) -> Option<u64>
+    requires { length mask.now ≡ 8 }
+    ensures { IsFirstSet mask.now from result }
+{
+    let mut place = from;
+    while place < 512 {
+        let word = mask[(place / 64) as usize] >> (place % 64);
+        if word != 0 {
+            return Some(place + word.trailing_zeros() as u64);
+        }
+        place = (place / 64 + 1) * 64;
+    }
+    None
 }

@@ -1,7 +1,8 @@
 // What is done to the entries of a range of pages, leaf by leaf.
 ghost use Rattle.std.specs.Prelude.{◌≡◌, ◌≤◌, ◌<◌, ◌+◌, ◌*◌, ◌/◌, ℕ, length, map, slice_index_or};
 ghost use Rattle.page_entry.specs.Entry.{IsEntry};
-ghost use Rattle.page_table.specs.inside.Nodes.{walk, IsTable, EditsPages, AreEntries, changed_bits};
+ghost use Rattle.page_table.specs.inside.Nodes.{walk, IsTable, EditsPages, AreEntries};
+ghost use Rattle.page_table.specs.inside.Changes.{changed_bits};
 
 use crate::change::{Change, changed};
 use crate::nodes::{NODE, PAGES, first_grown, walk};
@@ -44,4 +45,15 @@ pub(crate) fn change_pages(words: &mut [u64], range: &Range<PageNumber>, change:
         change_leaf(words, first..past, change);
         page = past;
     }
+}
+
+/// Sets the entry of a page that has a leaf.
+pub(crate) fn set_page(words: &mut [u64], page: PageNumber, entry: u64)
+    requires table { IsTable words.old }
+    requires leaf { 0 < walk words.old 3 (page / 512) }
+    requires entry { IsEntry entry }
+    ensures { EditsPages (λ _. entry) page (page + 1) words.old words.new }
+{
+    let node = walk(words, 3, page / NODE);
+    words[((node - 1) * NODE + page % NODE) as usize] = entry;
 }

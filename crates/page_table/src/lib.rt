@@ -8,8 +8,6 @@ mod growing;
 mod lanes;
 mod leaves;
 mod nodes;
-mod region;
-mod regions;
 mod table;
 
 pub use dirty_pages::DirtyPages;

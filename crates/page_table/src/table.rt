@@ -1,25 +1,25 @@
 // The table: a map from page to entry that grows by ranges.
-ghost use Rattle.std.specs.Prelude.{◌≡◌, ◌≤◌, ◌<◌, ◌^◌, IsTrue, OnOk, IfErr, Ok};
+ghost use Rattle.std.specs.Prelude.{◌≡◌, ◌≤◌, ◌<◌, ◌^◌, IsTrue, IfOk, OnOk, IfErr, Ok};
 ghost use Rattle.std.specs.FinMap as maps;
 ghost use Rattle.page_table.specs.Table.{empty_table, is_grown, put_entry, outside_range, frames_protected, range_read_only, dirty_in, HasGrown, GrowsOver};
 
 use crate::DirtyPages;
 use crate::change::Change;
-use crate::region::Region;
-use crate::regions::{add_region, change_within, first_after, first_missing, meeting, missing_end};
+use crate::growing::{link_pages, needed};
+use crate::leaves::{change_pages, set_page};
+use crate::nodes::{NODE, PAGES, walk};
 use page_entry::{Entry, PageNumber, Refusal};
-use std::alloc::Allocator;
+use std::alloc::{AllocError, Allocator};
 use std::marker::Model;
 use std::ops::Range;
 
-/// One more than the last page of user addresses, which are below 2^47.
-const END_PAGE: PageNumber = 1 << 35;
-
 /// A page table: a map from page to entry, absent where nothing was set. Pages are those of user addresses, below
-/// 2^35 (Intel SDM volume 3, "4-Level Paging").
+/// 2^35 (Intel SDM volume 3, "4-Level Paging"). It is made of nodes of 512 words in four levels, which stay until the
+/// table is dropped.
 #[derive(Drop)]
 pub struct Table<A: Allocator + Copy> {
-    regions: Vec<Region<A>, A>,
+    // The words of all nodes, one node after the other, the root first.
+    words: Vec<u64, A>,
 }
 
 impl<A: Allocator + Copy> Model for Table<A> {
@@ -29,26 +29,33 @@ impl<A: Allocator + Copy> Model for Table<A> {
 
     ghost coded = { table_code };
 
-    ghost use Rattle.page_table.specs.inside.Regions.{table_of, IsOrdered};
+    ghost use Rattle.page_table.specs.inside.Nodes.{table_of, IsTable};
 
-    ghost view = { λ t. table_of t.regions.items };
+    ghost view = { λ t. table_of t.words.items };
 
-    ghost invariant = { λ t. IsOrdered 0 t.regions.items };
+    ghost invariant = { λ t. IsTable t.words.items };
 }
 
 impl<A: Allocator + Copy> Table<A> {
-    /// A table that maps nothing and has grown nowhere. It takes no memory yet.
-    #[tactic(auto, using(crate::proofs::Lookup::no_regions))]
-    pub fn new(alloc: A) -> Self
-        ensures { result ≡ empty_table }
+    /// A table that maps nothing and has grown nowhere: a root alone. Fails where memory is refused.
+    pub fn new(alloc: A) -> Result<Self, AllocError>
+        ensures { IfOk result (λ table. table ≡ empty_table) }
     {
-        Self {
-            regions: Vec::new(alloc),
-        }
+        let mut words = Vec::new(alloc);
+        words.resize(NODE as usize, 0)?;
+        Ok(Self { words })
     }
 
-    /// Makes all growth that `set` of a page of the range needs; no entry changes. It takes memory only where a page of
-    /// the range hasn't grown yet. Where memory is refused the table stays as it was.
+    /// How many nodes there are.
+    pub fn nodes(&self) -> u64
+        ensures { result ≡ self.now.nodes }
+    {
+        self.words.len() as u64 / NODE
+    }
+
+    /// Makes all growth that `set` of a page of the range needs; no entry changes. Every node that the range needs is
+    /// made before the first one is linked, so where memory is refused the table stays as it was. It takes memory only
+    /// where a page of the range hasn't grown yet.
     ///
     /// # Errors
     /// `OutOfMemory`.
@@ -58,27 +65,26 @@ impl<A: Allocator + Copy> Table<A> {
         ensures err { IfErr result (λ e. (e ≡ Refusal.OutOfMemory) × (self.new ≡ self.old)) }
         ensures enough { HasGrown range.start range.end self.old → (result ≡ Ok tt) × (self.new ≡ self.old) }
     {
-        let first = first_missing(&self.regions, range.start);
-        if range.end <= first {
+        if range.end <= range.start {
             return Ok(());
         }
-        let end = missing_end(&self.regions, range.end);
-        match add_region(&mut self.regions, first..end) {
-            Ok(()) => Ok(()),
-            Err(_) => Err(Refusal::OutOfMemory),
+        let count = needed(&self.words, range.start, range.end);
+        if count == 0 {
+            return Ok(());
         }
+        let used = self.words.len() as u64 / NODE;
+        let Ok(()) = self.words.resize(((used + count) * NODE) as usize, 0) else {
+            return Err(Refusal::OutOfMemory);
+        };
+        link_pages(&mut self.words, range.start, range.end, used);
+        Ok(())
     }
 
     /// The page's entry.
     pub fn get(&self, page: PageNumber) -> Entry
         ensures { result ≡ maps.get self.now.entries page }
     {
-        let at = first_after(&self.regions, page);
-        if at < self.regions.len() {
-            self.regions[at].get(page)
-        } else {
-            Entry::absent()
-        }
+        Entry::of_bits(walk(&self.words, 4, page))
     }
 
     /// Sets the entry of a page that has grown; an absent one leaves the page without an entry. It takes no memory.
@@ -86,23 +92,21 @@ impl<A: Allocator + Copy> Table<A> {
         requires { IsTrue (is_grown self.old page) }
         ensures { self.new ≡ record self.old { entries = put_entry self.old.entries page entry } }
     {
-        let at = first_after(&self.regions, page);
-        let region = &mut self.regions[at];
-        region.set(page, entry);
+        set_page(&mut self.words, page, entry.bits());
     }
 
     /// Makes every entry of the range absent. It takes no memory, and what has grown stays.
     pub fn clear(&mut self, range: Range<PageNumber>)
         ensures { self.new ≡ record self.old { entries = outside_range self.old.entries range.start range.end } }
     {
-        change_within(&mut self.regions, &range, Change::Clear);
+        change_pages(&mut self.words, &range, Change::Clear);
     }
 
     /// Takes the right to write from every entry of the range. It takes no memory.
     pub fn make_read_only(&mut self, range: Range<PageNumber>)
         ensures { self.new ≡ record self.old { entries = range_read_only self.old.entries range.start range.end } }
     {
-        change_within(&mut self.regions, &range, Change::MakeReadOnly);
+        change_pages(&mut self.words, &range, Change::MakeReadOnly);
     }
 
     /// Takes the right to write and the dirty bit from every entry that maps a marked frame: one whose number is below
@@ -110,16 +114,13 @@ impl<A: Allocator + Copy> Table<A> {
     pub fn protect_frames(&mut self, marked: &[bool])
         ensures { self.new ≡ record self.old { entries = frames_protected self.old.entries marked.now } }
     {
-        change_within(&mut self.regions, &(0..END_PAGE), Change::Protect(marked));
+        change_pages(&mut self.words, &(0..PAGES), Change::Protect(marked));
     }
 
     /// The pages of the range whose entries are dirty, in rising order.
-    pub fn dirty_pages<'a>(&'a self, range: Range<PageNumber>) -> DirtyPages<'a, A>
+    pub fn dirty_pages<'a>(&'a self, range: Range<PageNumber>) -> DirtyPages<'a>
         ensures { result ≡ dirty_in self.now.entries range.start range.end }
     {
-        DirtyPages {
-            regions: &self.regions[meeting(&self.regions, &range)],
-            range,
-        }
+        DirtyPages::new(&self.words, range)
     }
 }

@@ -2,7 +2,7 @@
 ghost use Rattle.std.specs.Prelude.{◌≤◌, ◌^◌};
 ghost use Rattle.page_table.specs.Table.{GrowsOver};
 
-use page_entry::{Entry, PageNumber};
+use page_entry::{Entry, PAGE, PageNumber};
 use page_table::Table;
 use std::alloc::Global;
 use std::ops::Range;
@@ -132,7 +132,7 @@ fn agrees_with_a_scanned_list(rt: HostRuntime) {
         for second in 10..14 {
             for from in 9..15 {
                 for to in 9..15 {
-                    let mut table = Table::new(rt.alloc());
+                    let mut table = Table::new(rt.alloc()).expect(&rt, "memory for a root");
                     compare(&rt, &mut table, first, second, from, to);
                 }
             }
@@ -171,7 +171,7 @@ fn lists(table: &Table<Global>, range: Range<PageNumber>, expected: &[PageNumber
     listed.next().is_none()
 }
 
-// Grows it by pages of which each has grown already then, in two regions that touch.
+// Grows it by pages of which each has grown already then, in two nodes that touch.
 fn grow_over_two(rt: &impl Abort, table: &mut Table<Global>, stored: Entry) {
     grow(rt, table, 65_536..65_540);
     assert!(rt; table.grow(65_530..65_540) == Ok(()));
@@ -180,7 +180,7 @@ fn grow_over_two(rt: &impl Abort, table: &mut Table<Global>, stored: Entry) {
 
 #[test]
 fn grows_with_ample_memory(rt: HostRuntime) {
-    let mut table = Table::new(rt.alloc());
+    let mut table = Table::new(rt.alloc()).expect(&rt, "memory for a root");
     grow_once(&rt, &mut table);
     let stored = entry(8, true, true);
     grow_by_many(&rt, &mut table, stored);
@@ -188,7 +188,7 @@ fn grows_with_ample_memory(rt: HostRuntime) {
     grow_over_two(&rt, &mut table, stored);
 }
 
-// Sets two pages of a region to two entries, and the last page to the first one.
+// Sets two neighbouring pages to two entries, and the last page to the first one.
 fn set_three(rt: &impl Abort, table: &mut Table<Global>, first: Entry, second: Entry) {
     grow(rt, table, 7..10);
     table.set(7, first);
@@ -207,7 +207,7 @@ fn first_is_protected(table: &Table<Global>, first: Entry, second: Entry) -> boo
 
 #[test]
 fn protects_marked_frames_and_ranges(rt: HostRuntime) {
-    let mut table = Table::new(rt.alloc());
+    let mut table = Table::new(rt.alloc()).expect(&rt, "memory for a root");
     let first = entry(1, true, true).with_writable(true);
     let second = entry(2, true, true).with_writable(true);
     set_three(&rt, &mut table, first, second);
@@ -217,4 +217,30 @@ fn protects_marked_frames_and_ranges(rt: HostRuntime) {
     table.make_read_only(8..10);
     assert!(rt; table.get(8) == second.with_writable(false));
     assert!(rt; lists(&table, 0..END, &[8]));
+}
+
+// Grows a table by the page of an address, and has to find so many nodes then.
+fn grow_to(rt: &impl Abort, table: &mut Table<Global>, address: u64, nodes: u64) {
+    let page = address / PAGE;
+    assert!(rt; page < END);
+    grow(rt, table, page..page + 1);
+    assert!(rt;
+        table.nodes() == nodes,
+        "{} nodes at {address}",
+        table.nodes()
+    );
+}
+
+// A table is a root alone at first. The first page of user addresses has a node on each of the three levels below it;
+// the fifth page shares them, the page behind the first 2 MiB has a leaf of its own, and the last one has three nodes.
+#[test]
+fn grows_by_the_nodes_that_a_page_needs(rt: HostRuntime) {
+    let mut table = Table::new(rt.alloc()).expect(&rt, "memory for a root");
+    assert!(rt; table.nodes() == 1);
+    grow_to(&rt, &mut table, 4_096, 4);
+    grow_to(&rt, &mut table, 16_384, 4);
+    grow_to(&rt, &mut table, 2_101_248, 5);
+    grow_to(&rt, &mut table, 140_737_488_351_232, 8);
+    assert!(rt; table.grow(0..0) == Ok(()));
+    assert!(rt; table.nodes() == 8);
 }

@@ -1,6 +1,5 @@
 -- What a change affects and touches, which updates let the page tables only grow, and which change affected entries alone.
 use Rattle.std.proofs.Common.{◌≡◌, ℕ, Bool, true, false, cond, not, eqb, ◌==◌, ◌&&◌, List, [], ◌∷◌, ◌++◌, map, filter, Option, Some, None, is_some, IsSome, unwrap_or, refl, sym, ap, ◌∙◌, subst, arith, Contains}
-use Rattle.std.specs.List.{flat_map}
 use Rattle.std.specs.Iterator.{YieldsFirst}
 use Rattle.std.specs.FinMap as maps
 use Rattle.std.proofs.lemmas.Bool.{false≢true}

@@ -20,17 +20,19 @@ use Rattle.spaces.proofs.ChangeLaws.{in_pages_mapping, Contains-pages_mapping}
 -- of these pages, those of `rest` are ahead
 pub record ClearsEach (old : TableState) (pages : List ℕ) (table : TableState) (rest : List ℕ) : Type 0 where
   pub same_room : table.grown ≡ old.grown
+  pub same_nodes : table.nodes ≡ old.nodes
   pub ahead : All (λ page. is_grown table page ≡ true) rest
   pub cleared : without_each table.entries rest ≡ without_each old.entries pages
 
 pub clears_none : (old : TableState) (pages : List ℕ) → All (λ page. is_grown old page ≡ true) pages → ClearsEach old pages old pages
-clears_none old pages grown = record { same_room = refl; ahead = grown; cleared = refl }
+clears_none old pages grown = record { same_room = refl; same_nodes = refl; ahead = grown; cleared = refl }
 
 pub clears_more : (old table new : TableState) (pages rest : List ℕ) (page : ℕ) (entry : Option Mapped) → ClearsEach old pages table (page ∷ rest) → entry ≡ None → new ≡ record table { entries = put_entry table.entries page entry } → ClearsEach old pages new rest
 clears_more old table new pages rest page entry clears none is =
     let now : new ≡ record table { entries = maps.remove table.entries page } = is ∙ ap (λ e. record table { entries = put_entry table.entries page e }) none in
     record {
       same_room = ap (λ (t : TableState). t.grown) now ∙ clears.same_room;
+      same_nodes = ap (λ (t : TableState). t.nodes) now ∙ clears.same_nodes;
       ahead = λ k d within. ap (λ (t : TableState). is_grown t (get_or rest k d)) now ∙ clears.ahead (suc k) d (omega arith);
       cleared = ap (λ (t : TableState). without_each t.entries rest) now ∙ clears.cleared;
     }
@@ -92,4 +94,4 @@ clears_room old table pages rest page clears = clears.ahead 0 0 (omega arith)
 
 -- nothing is ahead
 pub clears_all : (old table : TableState) (pages : List ℕ) → ClearsEach old pages table [] → table ≡ record old { entries = without_each old.entries pages }
-clears_all old table pages clears = λ i. record { entries = clears.cleared i; grown = clears.same_room i }
+clears_all old table pages clears = λ i. record { entries = clears.cleared i; grown = clears.same_room i; nodes = clears.same_nodes i }

@@ -1,5 +1,5 @@
 // One address space: its page table and its mappings.
-ghost use Rattle.std.specs.Prelude.{◌≡◌, ◌+◌, ◌≤◌, ◌<◌, All, Some, None, true, IsSome, OnOk, OnErr, IfErr, unwrap_or, if◌then◌else◌};
+ghost use Rattle.std.specs.Prelude.{◌≡◌, ◌+◌, ◌≤◌, ◌<◌, All, Some, None, true, IsSome, IfOk, OnOk, OnErr, IfErr, unwrap_or, if◌then◌else◌};
 ghost use Rattle.std.specs.FinMap as maps;
 ghost use Rattle.page_entry.specs.declared.refusal.Refusal.TheVariants.{OutOfMemory};
 ghost use Rattle.page_table.specs.Table.{is_grown, put_entry, outside_range, range_read_only, frames_protected};
@@ -13,7 +13,7 @@ use crate::entry_pages::EntryPages;
 use mappings::{Mappings, PageRange, PagesOf, Place, Rights};
 use page_entry::{Entry, FilePage, PageNumber, Refusal};
 use page_table::Table;
-use std::alloc::Allocator;
+use std::alloc::{AllocError, Allocator};
 use std::marker::Model;
 
 /// An address space: a page table, and the mappings that say what its entries may become.
@@ -36,14 +36,13 @@ impl<A: Allocator + Copy> Model for Space<A> {
 }
 
 impl<A: Allocator + Copy> Space<A> {
-    /// A space that maps nothing. It takes no memory.
-    pub(crate) fn new(alloc: A) -> Self
-        ensures { space_of result ≡ empty_space }
+    /// A space that maps nothing. Fails where memory for its table's root is refused.
+    pub(crate) fn new(alloc: A) -> Result<Self, AllocError>
+        ensures { IfOk result (λ space. space_of space ≡ empty_space) }
     {
-        Space {
-            table: Table::new(alloc),
-            mappings: Mappings::new(alloc),
-        }
+        let table = Table::new(alloc)?;
+        let mappings = Mappings::new(alloc);
+        Ok(Space { table, mappings })
     }
 
     /// Its page table.

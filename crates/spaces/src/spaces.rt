@@ -69,7 +69,8 @@ impl<A: Allocator + Copy> Spaces<A> {
         ensures { IfOk result (λ spaces. spaces ≡ record { map = first_spaces; prepared = None }) }
     {
         let mut slots = Vec::new(alloc);
-        slots.push(Some(Space::new(alloc)))?;
+        let first = Space::new(alloc)?;
+        slots.push(Some(first))?;
         Ok(Spaces {
             slots,
             prepared: None,
@@ -129,7 +130,7 @@ impl<A: Allocator + Copy> Spaces<A> {
     }
 
     /// The pages of the range whose entries are dirty, in rising order.
-    pub fn dirty_pages(&self, pcid: Pcid, range: PageRange) -> DirtyPages<'_, A>
+    pub fn dirty_pages(&self, pcid: Pcid, range: PageRange) -> DirtyPages<'_>
         requires there { has_space self.now.map pcid ≡ true }
         requires fits { range.first + range.count < 2 ^ 64 }
         ensures { result ≡ dirty_in (space_at self.now.map pcid).entries range.first (range.first + range.count) }
@@ -295,7 +296,9 @@ impl<A: Allocator + Copy> Spaces<A> {
         if free == PCIDS {
             return Err(Refusal::Enomem);
         }
-        let space = Space::new(*self.slots.allocator());
+        let Ok(space) = Space::new(*self.slots.allocator()) else {
+            return Err(Refusal::OutOfMemory);
+        };
         if free < self.slots.len() {
             self.slots[free] = Some(space);
             return Ok(free as Pcid);

@@ -1,13 +1,11 @@
 -- The nodes of a table: 512 words each, one after the other in one list. Nodes are numbered from 1, the root; a word of
 -- the last level is an entry's bits, and any other one the number of a node of the next level, or 0 for none (Intel SDM
 -- volume 3, "4-Level Paging": four levels, indexed by bits 47:39, 38:30, 29:21 and 20:12 of an address).
-use Rattle.std.specs.Prelude.{ℕ, zero, suc, ◌+◌, ◌-◌, ◌*◌, ◌/◌, ◌%◌, ◌^◌, ◌≡◌, ◌≤◌, ◌<◌, ◌==◌, Bool, nat_lt, if◌then◌else◌, List, [], ◌∷◌, length, slice_index_or, Option, Some, None}
+use Rattle.std.specs.Prelude.{ℕ, zero, suc, ◌+◌, ◌-◌, ◌*◌, ◌/◌, ◌%◌, ◌^◌, ◌≡◌, ◌≤◌, ◌<◌, ◌==◌, Bool, nat_lt, true, false, if◌then◌else◌, List, [], ◌∷◌, length, slice_index_or, Option, Some, None}
 use Rattle.std.specs.FinMap as maps
 use Rattle.std.specs.FinSet as sets
-use Rattle.page_entry.specs.Entry.{Mapped, entry_of, bits_of, IsEntry}
+use Rattle.page_entry.specs.Entry.{Mapped, entry_of, has_bit, IsEntry}
 use Rattle.page_table.specs.Table.{TableState, in_range}
-use Rattle.page_table.specs.declared.change.Change.{Change}
-use Rattle.page_table.specs.inside.Regions.{changed}
 
 -- a word of a node; 0 where there is no node
 abbrev pub word : List ℕ → ℕ → ℕ → ℕ
@@ -69,10 +67,6 @@ IsFirstGrown words start end (Some page) = IsFound words start end page
 abbrev pub AreEntries : List ℕ → Type 0
 AreEntries words = (i : ℕ) → i < length words → IsEntry (slice_index_or words i 0)
 
--- what a change leaves of an entry's bits
-abbrev pub changed_bits : Change → ℕ → ℕ
-changed_bits change bits = bits_of (changed change (entry_of bits))
-
 -- f done to the entry of each page of the range; the nodes stay
 pub record EditsPages (f : ℕ → ℕ) (start end : ℕ) (old new : List ℕ) : Type 0 where
   pub table : IsTable new
@@ -131,4 +125,56 @@ unfoldable pub table_of : List ℕ → TableState
 table_of words = record {
   entries = maps.from_sorted (present_from (lookup words) 0 (2 ^ 36));
   grown = sets.from_list (pages_from (has_leaf words) 0 (2 ^ 36));
+  nodes = length words / 512;
 }
+
+-- whether a bit of a mask of 512 bits is set
+abbrev pub is_set : List ℕ → ℕ → Bool
+is_set mask i = has_bit (slice_index_or mask (i / 64) 0) (i % 64)
+
+-- the first bit from `from` on that is set
+pub record IsSet (mask : List ℕ) (from place : ℕ) : Type 0 where
+  pub low : from ≤ place
+  pub high : place < 512
+  pub here : is_set mask place ≡ true
+  pub before : (i : ℕ) → from ≤ i → i < place → is_set mask i ≡ false
+
+-- the first bit from `from` on that is set, if there is one
+abbrev pub IsFirstSet : List ℕ → ℕ → Option ℕ → Type 0
+IsFirstSet mask from None = (i : ℕ) → from ≤ i → i < 512 → is_set mask i ≡ false
+IsFirstSet mask from (Some place) = IsSet mask from place
+
+-- the mask of the entries of a block of 512 pages: whether each of them is dirty
+pub record IsLeafMask (words : List ℕ) (block : ℕ) (mask : List ℕ) : Type 0 where
+  pub bits : (i : ℕ) → i < 512 → is_set mask i ≡ has_bit (walk words 4 (block * 512 + i)) 6
+
+-- a list of dirty pages has a table and the mask of the block that its first page is in
+pub record AreDirtyPages (words : List ℕ) (start : ℕ) (mask : List ℕ) : Type 0 where
+  pub table : IsTable words
+  pub mask_of : IsLeafMask words (start / 512) mask
+
+-- the first page of the range that a mask has, of the block that the range's first page is in
+pub record IsOfLeaf (mask : List ℕ) (start end page : ℕ) : Type 0 where
+  pub low : start ≤ page
+  pub high : page < end
+  pub block : page / 512 ≡ start / 512
+  pub here : is_set mask (page % 512) ≡ true
+  pub before : (q : ℕ) → start ≤ q → q < page → is_set mask (q % 512) ≡ false
+
+-- the first page of the range that a mask has, if it has one
+abbrev pub IsFirstOfLeaf : List ℕ → ℕ → ℕ → Option ℕ → Type 0
+IsFirstOfLeaf mask start end None =
+    (q : ℕ) → start ≤ q → q < end → q / 512 ≡ start / 512 → is_set mask (q % 512) ≡ false
+IsFirstOfLeaf mask start end (Some page) = IsOfLeaf mask start end page
+
+-- the first page of a range whose entry is dirty
+pub record IsDirtyPage (words : List ℕ) (start end page : ℕ) : Type 0 where
+  pub low : start ≤ page
+  pub high : page < end
+  pub here : has_bit (walk words 4 page) 6 ≡ true
+  pub before : (q : ℕ) → start ≤ q → q < page → has_bit (walk words 4 q) 6 ≡ false
+
+-- the first page of a range whose entry is dirty, if there is one
+abbrev pub IsFirstDirty : List ℕ → ℕ → ℕ → Option ℕ → Type 0
+IsFirstDirty words start end None = (q : ℕ) → start ≤ q → q < end → has_bit (walk words 4 q) 6 ≡ false
+IsFirstDirty words start end (Some page) = IsDirtyPage words start end page

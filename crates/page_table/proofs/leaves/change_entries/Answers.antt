@@ -1,6 +1,6 @@
 use Rattle.std.proofs.Common.{arith}
 use Rattle.std.proofs.lemmas.List.Edits.{map_over_more}
-use Rattle.page_table.specs.inside.Nodes.{changed_bits}
+use Rattle.page_table.specs.inside.Changes.{changed_bits}
 use Rattle.page_table.proofs.PageEdits.{same_default}
 use Rattle.page_table.proofs.leaves.change_entries.Goals as goal
 

@@ -1,5 +1,5 @@
 use Rattle.std.proofs.Common.{◌≡◌, ◌++◌, map, take, drop}
-use Rattle.page_table.specs.inside.Nodes.{changed_bits}
+use Rattle.page_table.specs.inside.Changes.{changed_bits}
 use Rattle.page_table.proofs.leaves.change_entries.Given as goal
 
 -- the entries so far have changed, the others not yet

@@ -1,5 +1,5 @@
 use Rattle.std.proofs.Common.{arith}
-use Rattle.page_table.specs.inside.Nodes.{changed_bits}
+use Rattle.page_table.specs.inside.Changes.{changed_bits}
 use Rattle.page_table.proofs.PageEdits.{part_entries, EditsPages-part, IsEntry-changed}
 use Rattle.page_table.proofs.leaves.change_leaf.Goals as goal
 

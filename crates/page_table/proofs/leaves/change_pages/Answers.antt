@@ -1,5 +1,5 @@
 use Rattle.std.proofs.Common.{arith}
-use Rattle.page_table.specs.inside.Nodes.{changed_bits}
+use Rattle.page_table.specs.inside.Changes.{changed_bits}
 use Rattle.page_table.proofs.PageEdits.{EditsPages-more, EditsPages-all, changed-zero}
 use Rattle.page_table.proofs.leaves.change_pages.Goals as goal
 

@@ -1,5 +1,6 @@
 use Rattle.std.proofs.Common.{◌≤◌, ◌<◌, ◌-◌}
-use Rattle.page_table.specs.inside.Nodes.{EditsPages, changed_bits}
+use Rattle.page_table.specs.inside.Changes.{changed_bits}
+use Rattle.page_table.specs.inside.Nodes.{EditsPages}
 use Rattle.page_table.proofs.leaves.change_pages.Given as goal
 
 -- the pages so far have changed

@@ -1,35 +1,58 @@
-use Rattle.std.proofs.Common.{subst, sym}
+use Rattle.std.proofs.Common.{◌≡◌, ℕ, ◌+◌, ◌*◌, ◌/◌, List, length, get_or, sym, ap, ◌∙◌, subst, arith}
+use Rattle.std.proofs.lemmas.List.{with_items_is}
 use Rattle.page_table.specs.Table.{TableState, HasGrown, GrowsOver}
-use Rattle.page_table.specs.inside.Regions.{IsMissing, IsMissingEnd, table_of}
-use Rattle.page_table.proofs.Growth.{HasGrown-missing, GrowsOver-added, GrowsOver-none}
+use Rattle.page_table.specs.inside.Nodes.{needed, IsTree, table_of}
+use Rattle.page_table.proofs.Tables.{GrowsOver-none, GrowsOver-linked, HasGrown-needed, needed-none, needed-alike, IsTree-alike, alike_with_zeros}
+use Rattle.page_table.proofs.table.Table.grow.Given as given
 use Rattle.page_table.proofs.table.Table.grow.Goals as goal
-use Rattle.page_table.proofs.table.Table.grow.Goals.{in-Ok, in-Err}
 
--- no page of the range is missing
-pub returns-then-range-first-clause-ok : goal.returns-then-range-first-clause-ok
-returns-then-range-first-clause-ok g c =
-    let rs = c.self.inside.regions.items in
+-- nothing is needed
+pub returns-then-count-eq0-clause-ok : goal.returns-then-count-eq0-clause-ok
+returns-then-count-eq0-clause-ok g c =
     let range = c.args.range in
-    let missing = subst (λ rs. IsMissing rs range.start c.first_missing-first.result) c.deref.ensures.value c.first_missing-first.ensures in
-    subst (λ (t : TableState). GrowsOver range.start range.end t t) c.self.view_is (GrowsOver-none rs range.start range.end _ missing c.if-range-first.true)
+    let none : needed c.self.inside.words.items range.start range.end ≡ 0 = ap (λ (ws : List ℕ). needed ws range.start range.end) (sym c.deref.ensures.value) ∙ sym c.needed-count.ensures.value ∙ c.if-count-eq0.true in
+    GrowsOver-none range.start range.end c.args.self.now (subst (HasGrown range.start range.end) c.self.view_is (HasGrown-needed c.self.inside.words.items range.start range.end (omega arith) none))
 
+-- something is needed, so not each page of the range has grown
+pub returns-in_default-clause-enough : goal.returns-in_default-clause-enough
+returns-in_default-clause-enough g c = λ all.
+    let range = c.args.range in
+    let none = needed-none c.self.inside.words.items range.start range.end (omega arith) (subst (HasGrown range.start range.end) (sym c.self.view_is) all) in
+    let count : c.needed-count.result ≡ 0 = c.needed-count.ensures.value ∙ ap (λ (ws : List ℕ). needed ws range.start range.end) c.deref.ensures.value ∙ none in
+    absurd (let some = c.if-count-eq0.false in omega arith)
+
+-- the nodes that are made are blank
+alike : (g : given.Over) (c : goal.After-deref_mut g) (i : ℕ) → get_or c.deref_mut.result.now i 0 ≡ get_or c.self.inside.words.items i 0
+alike g c i =
+    ap (λ (l : List ℕ). get_or l i 0) c.deref_mut.ensures.value
+    ∙ alike_with_zeros c.self.inside.words.items c.resize.new.self.items ((c.len.result / 512 + c.needed-count.result) * 512) _ (omega (arith, c.len.ensures, c.self.inside.words.ok.0, c.self.invariant.whole)) c.in-Ok.ensures.items i
+
+pub link_pages-requires-clause-tree : goal.link_pages-requires-clause-tree
+link_pages-requires-clause-tree g c =
+    let used : length c.self.inside.words.items / 512 ≡ c.len.result / 512 = omega (arith, c.len.ensures, c.self.inside.words.ok.0) in
+    subst (IsTree c.deref_mut.result.now) used (IsTree-alike c.self.inside.words.items c.deref_mut.result.now (length c.self.inside.words.items / 512) (alike g c) (omega (arith, ap length c.deref_mut.ensures.value, c.in-Ok.ensures.len, c.resize.new.self.ok.0, c.len.ensures, c.self.inside.words.ok.0, c.self.invariant.whole)) c.self.invariant.tree)
+
+pub link_pages-requires-clause-room : goal.link_pages-requires-clause-room
+link_pages-requires-clause-room g c =
+    let range = c.args.range in
+    let count : needed c.deref_mut.result.now range.start range.end ≡ c.needed-count.result =
+    needed-alike c.self.inside.words.items c.deref_mut.result.now range.start range.end (alike g c) ∙ ap (λ (ws : List ℕ). needed ws range.start range.end) (sym c.deref.ensures.value) ∙ sym c.needed-count.ensures.value in
+    omega (arith, count, ap length c.deref_mut.ensures.value, c.in-Ok.ensures.len, c.resize.new.self.ok.0)
+
+-- every node is made, and then linked
 pub returns-clause-ok : goal.returns-clause-ok
 returns-clause-ok g c =
-    let rs = c.self.inside.regions.items in
     let range = c.args.range in
-    let missing = subst (λ rs. IsMissing rs range.start c.first_missing-first.result) c.deref.ensures.value c.first_missing-first.ensures in
-    let end = subst (λ rs. IsMissingEnd rs range.end c.missing_end-end.result) c.deref-2.ensures.value c.missing_end-end.ensures in
-    elim c.match-add_region.branch [
-      | in-Ok w ↦
-          let new = table_of c.add_region.new.regions.items in
-          rw w.result-is (subst (λ (t : TableState). GrowsOver range.start range.end t new) c.self.view_is (GrowsOver-added rs c.add_region.new.regions.items range.start range.end _ _ c.self.invariant missing end w.in-Ok.ensures.ok))
-      | in-Err w ↦ rw w.result-is tt
-    ]
+    let new = c.link_pages.new.words in
+    let items = with_items_is c.resize.new.self new (omega (arith, c.link_pages.ensures.size, ap length c.deref_mut.ensures.value, c.deref_mut.ensures.len)) in
+    let same = λ (i : ℕ). ap (λ (l : List ℕ). get_or l i 0) c.deref_mut.ensures.value ∙ alike_with_zeros c.self.inside.words.items c.resize.new.self.items ((c.len.result / 512 + c.needed-count.result) * 512) _ (omega (arith, c.len.ensures, c.self.inside.words.ok.0, c.self.invariant.whole)) c.in-Ok.ensures.items i in
+    let over = GrowsOver-linked range.start range.end c.self.inside.words.items c.deref_mut.result.now new (omega arith) same c.link_pages.ensures in
+    let grown = subst (λ (t : TableState). GrowsOver range.start range.end t (table_of new)) c.self.view_is over in
+    subst (λ (t : TableState). GrowsOver range.start range.end c.args.self.now t) (sym (ap table_of items)) grown
 
--- a page of the range is missing
 pub returns-clause-enough : goal.returns-clause-enough
 returns-clause-enough g c = λ all.
-    let rs = c.self.inside.regions.items in
     let range = c.args.range in
-    let missing = subst (λ rs. IsMissing rs range.start c.first_missing-first.result) c.deref.ensures.value c.first_missing-first.ensures in
-    absurd (HasGrown-missing rs range.start range.end _ (subst (HasGrown range.start range.end) (sym c.self.view_is) all) missing c.if-range-first.false)
+    let none = needed-none c.self.inside.words.items range.start range.end (omega arith) (subst (HasGrown range.start range.end) (sym c.self.view_is) all) in
+    let count : c.needed-count.result ≡ 0 = c.needed-count.ensures.value ∙ ap (λ (ws : List ℕ). needed ws range.start range.end) c.deref.ensures.value ∙ none in
+    absurd (let some = c.if-count-eq0.false in omega arith)

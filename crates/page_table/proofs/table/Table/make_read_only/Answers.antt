@@ -1,18 +1,12 @@
-use Rattle.std.proofs.Common.{map, length, sym, ap, ◌∙◌, subst, arith}
-use Rattle.std.proofs.lemmas.List.{with_items_is, length-map}
-use Rattle.page_table.specs.declared.change.Change.TheVariants.{MakeReadOnly}
+use Rattle.std.proofs.Common.{length, ap, ◌∙◌, arith}
+use Rattle.std.proofs.lemmas.List.{with_items_is}
 use Rattle.page_table.specs.Table.{TableState, range_read_only}
-use Rattle.page_table.specs.inside.Regions.{IsOrdered, changed_region, table_of}
-use Rattle.page_table.proofs.Edits.{IsOrdered-changed}
+use Rattle.page_table.specs.inside.Nodes.{table_of}
 use Rattle.page_table.proofs.Tables.{table_of-read_only}
 use Rattle.page_table.proofs.table.Table.make_read_only.Goals as goal
 
-pub invariant_of-self : goal.invariant_of-self
-invariant_of-self g c =
-    let items = with_items_is c.self.inside.regions c.change_within.new.regions (omega (arith, ap length c.change_within.ensures, length-map c.deref_mut.result.now (changed_region MakeReadOnly c.args.range.start c.args.range.end), ap length c.deref_mut.ensures.value, c.deref_mut.ensures.len)) ∙ c.change_within.ensures ∙ ap (map (changed_region MakeReadOnly c.args.range.start c.args.range.end)) c.deref_mut.ensures.value in
-    subst (IsOrdered 0) (sym items) (IsOrdered-changed MakeReadOnly c.args.range.start c.args.range.end 0 _ c.self.invariant)
-
 pub returns : goal.returns
 returns g c =
-    let items = with_items_is c.self.inside.regions c.change_within.new.regions (omega (arith, ap length c.change_within.ensures, length-map c.deref_mut.result.now (changed_region MakeReadOnly c.args.range.start c.args.range.end), ap length c.deref_mut.ensures.value, c.deref_mut.ensures.len)) ∙ c.change_within.ensures ∙ ap (map (changed_region MakeReadOnly c.args.range.start c.args.range.end)) c.deref_mut.ensures.value in
-    ap table_of items ∙ table_of-read_only c.args.range.start c.args.range.end _ c.self.invariant ∙ ap (λ (t : TableState). record t { entries = range_read_only t.entries c.args.range.start c.args.range.end }) c.self.view_is
+    let items = with_items_is c.self.inside.words c.change_pages.new.words (omega (arith, c.change_pages.ensures.size, ap length c.deref_mut.ensures.value, c.deref_mut.ensures.len)) in
+    ap table_of items ∙ table_of-read_only c.args.range.start c.args.range.end c.deref_mut.result.now c.change_pages.new.words c.change_pages.ensures
+    ∙ ap (λ (t : TableState). record t { entries = range_read_only t.entries c.args.range.start c.args.range.end }) (ap table_of c.deref_mut.ensures.value ∙ c.self.view_is)

@@ -1,44 +1,16 @@
-use Rattle.std.proofs.Common.{◌≡◌, true, is_some, get_or, set, sym, ap, ◌∙◌, subst, arith}
-use Rattle.page_table.specs.Table.{TableState, is_grown, put_entry}
-use Rattle.page_table.specs.inside.Regions.{RegionState, IsOrdered, IsFirstAfter, covers, slot, table_of}
-use Rattle.page_table.proofs.Lookup.{covers_at, is_grown-table_of}
-use Rattle.page_table.proofs.Edits.{put, IsOrdered-set}
-use Rattle.page_table.proofs.Tables.{table_of-set}
+use Rattle.std.proofs.Common.{ℕ, ◌<◌, ◌/◌, List, length, sym, ap, ◌∙◌, subst, arith}
+use Rattle.std.proofs.lemmas.List.{with_items_is}
+use Rattle.page_table.specs.Table.{TableState, put_entry}
+use Rattle.page_table.specs.inside.Nodes.{walk, table_of}
+use Rattle.page_table.proofs.Tables.{table_of-set, leaf_of_grown}
 use Rattle.page_table.proofs.table.Table.set.Goals as goal
 
-pub index_mut-region-requires : goal.index_mut-region-requires
-index_mut-region-requires g c =
-    let rs = c.self.inside.regions.items in
-    let page = c.args.page in
-    let after = subst (λ rs. IsFirstAfter rs page c.first_after-at.result) c.deref.ensures.value c.first_after-at.ensures in
-    let grown : is_some (slot rs page) ≡ true = sym (is_grown-table_of rs page) ∙ ap (λ (t : TableState). is_grown t page) c.self.view_is ∙ c.requires in
-    omega (arith, (covers_at rs c.self.invariant page c.first_after-at.result after grown).0, c.self.inside.regions.ok.0)
-
-pub set-requires : goal.set-requires
-set-requires g c =
-    let rs = c.self.inside.regions.items in
-    let page = c.args.page in
-    let after = subst (λ rs. IsFirstAfter rs page c.first_after-at.result) c.deref.ensures.value c.first_after-at.ensures in
-    let grown : is_some (slot rs page) ≡ true = sym (is_grown-table_of rs page) ∙ ap (λ (t : TableState). is_grown t page) c.self.view_is ∙ c.requires in
-    subst (λ (r : RegionState). covers r page ≡ true) (sym c.index_mut-region.ensures.value) ((covers_at rs c.self.invariant page c.first_after-at.result after grown).1 _)
-
-pub invariant_of-self : goal.invariant_of-self
-invariant_of-self g c =
-    let rs = c.self.inside.regions.items in
-    let at = c.first_after-at.result in
-    let read = c.index_mut-region.result.now in
-    let written : c.set.new.self ≡ put (get_or rs at read) c.args.page c.args.entry = c.set.ensures ∙ ap (λ (r : RegionState). put r c.args.page c.args.entry) c.index_mut-region.ensures.value in
-    subst (λ (r : RegionState). IsOrdered 0 (set rs at r)) (sym written) (IsOrdered-set 0 rs at c.args.page read c.args.entry c.self.invariant)
+pub set_page-requires-clause-leaf : goal.set_page-requires-clause-leaf
+set_page-requires-clause-leaf g c =
+    subst (λ (ws : List ℕ). 0 < walk ws 3 (c.args.page / 512)) (sym c.deref_mut.ensures.value) (leaf_of_grown c.self.inside.words.items c.args.self.now c.args.page c.self.view_is c.requires)
 
 pub returns : goal.returns
 returns g c =
-    let rs = c.self.inside.regions.items in
-    let page = c.args.page in
-    let at = c.first_after-at.result in
-    let read = c.index_mut-region.result.now in
-    let after = subst (λ rs. IsFirstAfter rs page at) c.deref.ensures.value c.first_after-at.ensures in
-    let grown : is_some (slot rs page) ≡ true = sym (is_grown-table_of rs page) ∙ ap (λ (t : TableState). is_grown t page) c.self.view_is ∙ c.requires in
-    let here = covers_at rs c.self.invariant page at after grown in
-    let written : c.set.new.self ≡ put (get_or rs at read) page c.args.entry = c.set.ensures ∙ ap (λ (r : RegionState). put r page c.args.entry) c.index_mut-region.ensures.value in
-    ap (λ (r : RegionState). table_of (set rs at r)) written ∙ table_of-set rs at page read c.args.entry c.self.invariant here.0 (here.1 read) grown
-    ∙ ap (λ (t : TableState). record t { entries = put_entry t.entries page c.args.entry }) c.self.view_is
+    let items = with_items_is c.self.inside.words c.set_page.new.words (omega (arith, c.set_page.ensures.size, ap length c.deref_mut.ensures.value, c.deref_mut.ensures.len)) in
+    ap table_of items ∙ table_of-set c.args.page c.args.entry c.bits.result c.deref_mut.result.now c.set_page.new.words c.bits.ensures.bits c.set_page.ensures
+    ∙ ap (λ (t : TableState). record t { entries = put_entry t.entries c.args.page c.args.entry }) (ap table_of c.deref_mut.ensures.value ∙ c.self.view_is)

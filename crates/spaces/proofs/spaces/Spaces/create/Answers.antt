@@ -11,12 +11,19 @@ returns-then-free-eq-PCIDS-clause-refused g c =
     let first = subst (λ l. IsFirstFree l at) c.deref.ensures.value c.first_free-free.ensures in
     subst (λ (s : SpacesState). (pcid : ℕ) → IsLowestFree s.map pcid → ⊥) c.self.view_is (none_free slots c.self.inside.prepared c.self.invariant at first c.if-free-eq-PCIDS.true)
 
+pub returns-in_default-clause-refused : goal.returns-in_default-clause-refused
+returns-in_default-clause-refused g c =
+    let slots = c.self.inside.slots.items in
+    let at = c.first_free-free.result in
+    let first = subst (λ l. IsFirstFree l at) c.deref.ensures.value c.first_free-free.ensures in
+    (at, subst (λ (s : SpacesState). IsLowestFree s.map at) c.self.view_is (lowest_free slots c.self.inside.prepared c.self.invariant at first c.if-free-eq-PCIDS.false))
+
 pub invariant_of-self : goal.invariant_of-self
 invariant_of-self g c =
     let slots = c.self.inside.slots.items in
     let at = c.first_free-free.result in
     let first = subst (λ l. IsFirstFree l at) c.deref.ensures.value c.first_free-free.ensures in
-    slots_filled slots c.self.inside.prepared c.self.invariant at first.free c.new-space.result c.new-space.ensures (omega (arith, c.self.inside.slots.ok.0))
+    slots_filled slots c.self.inside.prepared c.self.invariant at first.free c.in-Ok.space c.in-Ok.ensures (omega (arith, c.self.inside.slots.ok.0))
 
 pub returns-then-free-len-clause-lowest : goal.returns-then-free-len-clause-lowest
 returns-then-free-len-clause-lowest g c =
@@ -30,7 +37,7 @@ returns-then-free-len-clause-created g c =
     let slots = c.self.inside.slots.items in
     let at = c.first_free-free.result in
     let first = subst (λ l. IsFirstFree l at) c.deref.ensures.value c.first_free-free.ensures in
-    let made = set-create slots c.self.inside.prepared c.self.invariant at first.free c.new-space.result c.new-space.ensures (omega (arith, c.self.inside.slots.ok.0)) in
+    let made = set-create slots c.self.inside.prepared c.self.invariant at first.free c.in-Ok.space c.in-Ok.ensures (omega (arith, c.self.inside.slots.ok.0)) in
     (λ i. record { map = made i; prepared = c.self.inside.prepared })
     ∙ ap (λ (s : SpacesState). record s { map = with_space s.map at empty_space }) c.self.view_is
 
@@ -51,9 +58,9 @@ invariant_of-self-2 g c =
     let slots = c.self.inside.slots.items in
     let at = c.first_free-free.result in
     let first = subst (λ l. IsFirstFree l at) c.deref.ensures.value c.first_free-free.ensures in
-    let pushed : c.push.new.self.items ≡ slots ++ Some c.new-space.result ∷ [] = c.push.ensures.items ∙ ap (λ b. cond b (slots ++ Some c.new-space.result ∷ []) slots) (succeeded c.push.result (sym c.is_err.ensures.value ∙ c.if-is_err.false)) in
+    let pushed : c.push.new.self.items ≡ slots ++ Some c.in-Ok.space ∷ [] = c.push.ensures.items ∙ ap (λ b. cond b (slots ++ Some c.in-Ok.space ∷ []) slots) (succeeded c.push.result (sym c.is_err.ensures.value ∙ c.if-is_err.false)) in
     let last : at ≡ length slots = omega (arith, first.within, c.self.inside.slots.ok.0) in
-    subst (λ l. AreSlots l c.self.inside.prepared) (sym pushed) (slots_pushed slots c.self.inside.prepared c.self.invariant at first.free c.new-space.result c.new-space.ensures last (lowest_free slots c.self.inside.prepared c.self.invariant at first c.if-free-eq-PCIDS.false).small)
+    subst (λ l. AreSlots l c.self.inside.prepared) (sym pushed) (slots_pushed slots c.self.inside.prepared c.self.invariant at first.free c.in-Ok.space c.in-Ok.ensures last (lowest_free slots c.self.inside.prepared c.self.invariant at first c.if-free-eq-PCIDS.false).small)
 
 pub returns-clause-lowest : goal.returns-clause-lowest
 returns-clause-lowest g c =
@@ -67,8 +74,8 @@ returns-clause-created g c =
     let slots = c.self.inside.slots.items in
     let at = c.first_free-free.result in
     let first = subst (λ l. IsFirstFree l at) c.deref.ensures.value c.first_free-free.ensures in
-    let pushed : c.push.new.self.items ≡ slots ++ Some c.new-space.result ∷ [] = c.push.ensures.items ∙ ap (λ b. cond b (slots ++ Some c.new-space.result ∷ []) slots) (succeeded c.push.result (sym c.is_err.ensures.value ∙ c.if-is_err.false)) in
+    let pushed : c.push.new.self.items ≡ slots ++ Some c.in-Ok.space ∷ [] = c.push.ensures.items ∙ ap (λ b. cond b (slots ++ Some c.in-Ok.space ∷ []) slots) (succeeded c.push.result (sym c.is_err.ensures.value ∙ c.if-is_err.false)) in
     let last : at ≡ length slots = omega (arith, first.within, c.self.inside.slots.ok.0) in
-    let made = ap spaces_of pushed ∙ push-create slots c.self.inside.prepared c.self.invariant at first.free c.new-space.result c.new-space.ensures last in
+    let made = ap spaces_of pushed ∙ push-create slots c.self.inside.prepared c.self.invariant at first.free c.in-Ok.space c.in-Ok.ensures last in
     (λ i. record { map = made i; prepared = c.self.inside.prepared })
     ∙ ap (λ (s : SpacesState). record s { map = with_space s.map at empty_space }) c.self.view_is

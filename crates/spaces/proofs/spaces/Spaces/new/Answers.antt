@@ -6,11 +6,11 @@ use Rattle.spaces.proofs.spaces.Spaces.new.Goals as goal
 
 pub invariant_of-result : goal.invariant_of-result
 invariant_of-result g c =
-    let is = c.in_ok-push.ensures.items ∙ ap (λ (l : List (Option SpaceState)). l ++ Some c.new.result ∷ []) c.new-slots.ensures.items in
-    subst (λ l. AreSlots l None) (sym is) (slots_first c.new.result c.new.ensures)
+    let is = c.in_ok-push.ensures.items ∙ ap (λ (l : List (Option SpaceState)). l ++ Some c.in_ok-first.first ∷ []) c.new-slots.ensures.items in
+    subst (λ l. AreSlots l None) (sym is) (slots_first c.in_ok-first.first c.in_ok-first.ensures)
 
 pub returns : goal.returns
 returns g c =
-    let is = c.in_ok-push.ensures.items ∙ ap (λ (l : List (Option SpaceState)). l ++ Some c.new.result ∷ []) c.new-slots.ensures.items in
-    let now = ap spaces_of is ∙ spaces_of-first c.new.result c.new.ensures in
+    let is = c.in_ok-push.ensures.items ∙ ap (λ (l : List (Option SpaceState)). l ++ Some c.in_ok-first.first ∷ []) c.new-slots.ensures.items in
+    let now = ap spaces_of is ∙ spaces_of-first c.in_ok-first.first c.in_ok-first.ensures in
     λ i. record { map = now i; prepared = None }
