@@ -1,6 +1,6 @@
 -- What is written of a volume's files.
-use Rattle.std.proofs.Common.{◌≡◌, ◌<◌, ℕ, zero, suc, add-one, ◌+◌, ◌-◌, ◌*◌, min, List, [], ◌∷◌, ◌++◌, length, map, take, drop, slice_get, slice_range, Option, Some, Result, Ok, Err, OnOk, refl, sym, ◌∙◌, ap, subst, arith, length-drop, append-nil}
-use Rattle.std.proofs.lemmas.List.{take_min, length-map}
+use Rattle.std.proofs.Common.{◌≡◌, ◌<◌, ℕ, zero, suc, add-one, ◌+◌, List, [], ◌∷◌, ◌++◌, length, map, take, slice_get, Option, Some, Result, Ok, Err, OnOk, refl, sym, ◌∙◌, ap, subst, arith, append-nil}
+use Rattle.std.proofs.lemmas.List.{length-map}
 use Rattle.std.proofs.lemmas.Grind.{flat_map-append}
 use Rattle.device.specs.declared.device.Device.{Ghosts}
 use Rattle.volume_codec.specs.Files.{File, TableFile}
@@ -11,7 +11,7 @@ use Rattle.volume_codec.proofs.Blocks.{length-block_at}
 use Rattle.volume_codec.proofs.Recovered.{length-file}
 use Rattle.recovery.specs.Volume.{VolumeState, IsSettled, files_of, bytes_of}
 use Rattle.std.specs.Io.KnownBytes.{Appends}
-use Rattle.console.specs.Dump.{row_of, row_line, rows_before, file_text, dump_text, IsOnlyRead, AreFilesOf}
+use Rattle.console.specs.Dump.{file_text, dump_text, IsOnlyRead, AreFilesOf}
 use Rattle.console.proofs.Printing.{appends_both}
 
 named_from : (contents : ℕ → List ℕ) (b : ℕ) (fs : List TableFile) → map (λ (f : File). f.name) (files_from contents b fs (map (λ (f : TableFile). f.capacity) fs)) ≡ map (λ (f : TableFile). f.name) fs

@@ -1,5 +1,5 @@
 -- The rows of a file, a page at a time.
-use Rattle.std.proofs.Common.{◌≡◌, ◌<◌, ◌≤◌, ◌⊎◌, inl, inr, ⊎_elim, ℕ, zero, suc, add-one, ◌+◌, ◌-◌, ◌*◌, ◌/◌, min, List, [], ◌∷◌, ◌++◌, length, take, drop, Option, refl, sym, ◌∙◌, ap, subst, arith, length-drop, length-take, append-nil, append_assoc, slice_range}
+use Rattle.std.proofs.Common.{◌≡◌, ◌<◌, ◌≤◌, ◌⊎◌, inl, inr, ⊎_elim, ℕ, zero, suc, add-one, ◌+◌, ◌-◌, ◌*◌, min, List, [], ◌++◌, length, take, drop, Option, sym, ◌∙◌, ap, subst, arith, length-drop, append-nil, append_assoc, slice_range}
 use Rattle.std.proofs.lemmas.Bool.{cases_lt}
 use Rattle.std.proofs.lemmas.List.{take_min, drop-drop, drop_all, take-take, drop-take}
 use Rattle.std.specs.Io.KnownBytes.{Appends}
@@ -58,8 +58,8 @@ rows_to_next : (bytes : List ℕ) (p k : ℕ) → k ≤ 256 → (k ≡ 256) ⊎ 
 rows_to_next bytes p k le end = ⊎_elim
     (λ (full : k ≡ 256). let same : 256 * p + k ≡ 256 * (p + 1) = omega (arith, full) in ap (rows_before bytes) same)
     (λ (past : length bytes ≤ 16 * (256 * p + k)).
-        let same : (256 * p + k) + (256 - k) ≡ 256 * (p + 1) = omega (arith, le) in
-        sym (rows_past bytes (256 * p + k) (256 - k) past) ∙ ap (rows_before bytes) same)
+    let same : (256 * p + k) + (256 - k) ≡ 256 * (p + 1) = omega (arith, le) in
+    sym (rows_past bytes (256 * p + k) (256 - k) past) ∙ ap (rows_before bytes) same)
     end
 
 -- one page more
@@ -70,9 +70,9 @@ page_more old mid new bytes p n part long below size is before this =
     let P : List ℕ → Type 0 = λ page. Appends mid new (rows_at (4096 * p) page k) in
     let Q : List ℕ → Type 0 = λ text. Appends old new text in
     let end : (k ≡ 256) ⊎ (length bytes ≤ 16 * (256 * p + k)) = ⊎_elim
-      (λ (full : 4096 * p + 4096 < n). inl (omega (arith, full, size)))
-      (λ (last : n ≤ 4096 * p + 4096). inr (omega (arith, last, size, below, long)))
-      (cases_lt (4096 * p + 4096) n) in
+    (λ (full : 4096 * p + 4096 < n). inl (omega (arith, full, size)))
+    (λ (last : n ≤ 4096 * p + 4096). inr (omega (arith, last, size, below, long)))
+    (cases_lt (4096 * p + 4096) n) in
     subst Q (rows_of_page bytes p k some ∙ rows_to_next bytes p k some end) (appends_both old mid new (rows_before bytes (256 * p)) (rows_at (4096 * p) (page_of bytes p) k) before (subst P is this))
 
 -- a row of a page, as it is cut out of it

@@ -78,7 +78,9 @@ where
                 cause: Some(Cause::Call),
             },
         }),
-        Err((Refusal::Device, disk)) if disk.was_refused_memory() => Err(Failure::Memory(AllocError)),
+        Err((Refusal::Device, disk)) if disk.was_refused_memory() => Err(Failure::Memory(
+            AllocError,
+        )),
         Err((refusal, mut disk)) => Err(Failure::Disk {
             path,
             cause: refused_to_open(alloc, refusal, &mut disk),

@@ -54,9 +54,9 @@ where
     // Both files are locked until the end.
     let old = old_file(rt, path, &place)?;
     let file = new_file(rt, path, &new)?;
-    let _file = match made(rt, alloc, path, &place, plan, blocks, old.as_ref(), file)
-        .and_then(|file| renamed(rt, path, &new, &place, file))
-    {
+    let _file = match made(rt, alloc, path, &place, plan, blocks, old.as_ref(), file).and_then(
+        |file| renamed(rt, path, &new, &place, file),
+    ) {
         Ok(file) => file,
         Err(failure) => {
             // Where it can't be taken away either, the next format says that it is there.
@@ -169,9 +169,8 @@ where
     for piece in 0..bytes.div_ceil(PIECE) {
         let at = piece.saturating_mul(PIECE);
         let count = bytes.saturating_sub(at).min(zeros.len() as u64);
-        file.write_all_at(&zeros[..count as usize], at).map_err(
-            |cause| Failure::File { path, cause },
-        )?;
+        file.write_all_at(&zeros[..count as usize], at)
+            .map_err(|cause| Failure::File { path, cause })?;
     }
     Ok(())
 }

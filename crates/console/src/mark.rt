@@ -35,7 +35,11 @@ impl<'a, R: Files<File = File> + AllocGlobal> Mark<'a, R> {
 
     /// The path of its file, alone.
     pub fn into_path(self) -> String {
-        let Mark { rt: _, place: _, path } = self;
+        let Mark {
+            rt: _,
+            place: _,
+            path,
+        } = self;
         path
     }
 

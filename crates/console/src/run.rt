@@ -38,7 +38,9 @@ where
     let disk = open_disk(rt, path, &place, Access::Write, trust, note)?;
     if trust {
         // It could be synced, so what is read of it from here on is on the disk.
-        Mark::of(rt, &place)?.remove().map_err(|cause| Failure::File { path, cause })?;
+        Mark::of(rt, &place)?
+            .remove()
+            .map_err(|cause| Failure::File { path, cause })?;
     }
     let mut printer = Printer::new(out);
     match run_script(alloc, disk, &steps, &mut printer) {

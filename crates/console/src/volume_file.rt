@@ -48,7 +48,9 @@ where
     for _ in 0..TRIES {
         let file = open(rt, path, place, access)?;
         lock(path, &file, access)?;
-        let found = file.metadata().map_err(|cause| Failure::File { path, cause })?;
+        let found = file
+            .metadata()
+            .map_err(|cause| Failure::File { path, cause })?;
         if is_at(rt, place, &found) {
             judge(path, &found, access)?;
             return Ok(file);

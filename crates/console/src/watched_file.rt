@@ -28,7 +28,11 @@ impl<'a, F: BlockFile, R: Files<File = File> + AllocGlobal> WatchedFile<'a, F, R
 impl<F: BlockFile + Drop, R: Files<File = File> + AllocGlobal> WatchedFile<'_, F, R> {
     /// What is to be said of the syncs that failed.
     pub fn into_note(self) -> SyncNote {
-        let WatchedFile { file: _, mark, marked } = self;
+        let WatchedFile {
+            file: _,
+            mark,
+            marked,
+        } = self;
         match marked {
             None => SyncNote::Nothing,
             Some(Ok(())) => SyncNote::Marked(mark.into_path()),
@@ -94,7 +98,10 @@ impl fmt::Display for SyncNote {
     fn fmt<W: fmt::Write>(&self, f: &mut fmt::Formatter<W>) -> fmt::Result {
         match self {
             SyncNote::Nothing => Ok(()),
-            SyncNote::Marked(mark) => write!(f, "; a sync of the disk failed, and {mark:?} marks it"),
+            SyncNote::Marked(mark) => write!(
+                f,
+                "; a sync of the disk failed, and {mark:?} marks it"
+            ),
             SyncNote::Unmarked(mark, cause) => write!(
                 f,
                 "; a sync of the disk failed, and {mark:?}, which is to mark it, can't be made: {cause}"

@@ -1,4 +1,3 @@
-use Rattle.std.proofs.Common.{Ok}
 use Rattle.recovery.specs.Volume.{files_of}
 use Rattle.console.proofs.Dumped.{ok_map}
 use Rattle.console.proofs.disk.print_volume.Goals as goal
