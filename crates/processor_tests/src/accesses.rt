@@ -235,35 +235,6 @@ fn a_store_is_loaded_by_another_processor(rt: HostRuntime) {
     store_second(&rt, &mut trial);
 }
 
-// Accesses that their processor's MMU refuses.
-fn faults(rt: &impl Abort, trial: &mut Trial) {
-    for va in [0x1_2000, (1 << 47) - 1] {
-        assert!(rt; trial.loads(0, va, &[0]) == Err(Refusal::Fault(4)));
-    }
-    for (va, code) in [(0x1_2000, 6), (0x1_1000, 7)] {
-        assert!(rt; trial.store(0, va, &[1]) == Err(Refusal::Fault(code)));
-    }
-}
-
-// Accesses of no bytes, of too many, over the end of a page, over the last address, and by no processor.
-fn invalid_accesses(rt: &impl Abort, trial: &mut Trial) {
-    let over = trial.loads(0, 0x1_0fff, &[0; 2]);
-    let long = trial.loads(0, 0x1_0000, &[0; 9]);
-    let other = trial.loads(2, 0x1_0000, &[0]);
-    let invalid = Err(Refusal::Einval);
-    assert!(rt; (over, long, other) == (invalid, invalid, invalid));
-    let none = trial.store(0, 0x1_0000, &[]);
-    let high = trial.store(0, 1 << 47, &[1]);
-    assert!(rt; (none, high) == (Err(Refusal::Einval), Err(Refusal::Einval)));
-}
-
-#[test]
-fn accesses_are_refused_in_order(rt: HostRuntime) {
-    let mut trial = Trial::new(&rt, rt.alloc());
-    faults(&rt, &mut trial);
-    invalid_accesses(&rt, &mut trial);
-}
-
 // Whether processor 0 fills a page, whose entry has these bits then.
 fn fills(trial: &mut Trial, page: PageNumber, bits: u64) -> bool {
     trial.fill(0, page) == Ok(true) && trial.bits(page) == bits

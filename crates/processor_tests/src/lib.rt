@@ -1,5 +1,5 @@
 //! The processors' side of a machine, crate by crate: page entries, TLBs, frames, page tables, mappings, spaces,
-//! shootdowns, accesses, checkpoints and faults.
+//! accesses, checkpoints and faults. Shootdowns are in the runs as text.
 #![tactic(auto)]
 
 #[cfg(test)]
@@ -18,8 +18,6 @@ mod mapped;
 mod queues;
 #[cfg(test)]
 mod setup;
-#[cfg(test)]
-mod shootdowns;
 #[cfg(test)]
 mod space_changes;
 #[cfg(test)]

@@ -1,5 +1,5 @@
-// The bytes of a small volume in each layout, the blocks that are refused, and the limits.
-use crate::sample::{DAMAGES, FILES, SPECS, many_files, put, put_super_one, put_super_two};
+// The bytes of a small volume in each layout, and the limits. Which blocks are refused is in the runs as text.
+use crate::sample::{FILES, SPECS, many_files, put, put_super_one, put_super_two};
 use page_entry::Refusal;
 use std::alloc::Global;
 use std::process::Abort;
@@ -117,18 +117,6 @@ fn described<R: Abort + AllocGlobal>(
     )
 }
 
-// How the sample's descriptor is refused with these bytes there.
-fn descriptor_refusal(
-    alloc: Global,
-    geometry: &Geometry,
-    at: usize,
-    bytes: &[u8],
-) -> Option<Refusal> {
-    let mut block = sample_descriptor();
-    put(&mut block, at, bytes);
-    read_descriptor(alloc, geometry, &block).err()
-}
-
 // Whether a block has both files, and their home blocks begin there.
 fn has_files<R: Abort + AllocGlobal>(rt: &R, block: &[u8; 4096], homes: [u32; 2]) -> bool {
     has_file(rt, block, 0, ("a", 5000, 2, homes[0]))
@@ -193,35 +181,6 @@ fn layouts_have_numbers(rt: HostRuntime) {
     assert!(rt; Layout::from_magic(*b"FAMSYNC5") == None);
 }
 
-// Why a block isn't read.
-fn refusal(alloc: Global, block: &[u8; 4096]) -> Option<Refusal> {
-    read_super(alloc, block).err()
-}
-
-// Why the sample's super block in layout 1 isn't read with these bytes there.
-fn refusal_with(alloc: Global, at: usize, bytes: &[u8]) -> Option<Refusal> {
-    let mut block = sample_one();
-    put(&mut block, at, bytes);
-    refusal(alloc, &block)
-}
-
-#[test]
-fn refused_super_blocks(rt: HostRuntime) {
-    assert!(rt; refusal(rt.alloc(), &sample_one()).is_none());
-    for (at, bytes) in [(7, b"5"), (0, b"G")] {
-        assert!(rt; refusal_with(rt.alloc(), at, bytes) == Some(Refusal::NotAVolume));
-    }
-    for (at, bytes) in DAMAGES {
-        assert!(rt;
-            refusal_with(rt.alloc(), at, bytes) == Some(Refusal::Damaged),
-            "byte {at}"
-        );
-    }
-    let mut block = sample_two();
-    put(&mut block, 7, b"1");
-    assert!(rt; refusal(rt.alloc(), &block) == Some(Refusal::Damaged));
-}
-
 #[test]
 fn tables_outside_the_rules(rt: HostRuntime) {
     assert!(rt; block_count_of(&FILES, 4) == Ok(10));
@@ -277,30 +236,6 @@ fn limits_of_tables(rt: HostRuntime) {
     assert!(rt; block_count_of(most, 1020) == Ok(1087));
     assert!(rt; are_written(&rt, most));
     assert!(rt; most_bytes_are_taken());
-}
-
-// What makes the sample's descriptor a damaged one: bytes, and where they are written.
-const DAMAGED_DESCRIPTORS: [(usize, &[u8]); 9] = [
-    (8, b"\0\0\0\0"),
-    (8, b"\0\0\0\x05"),
-    (0, b"\0\0\0\0\0\0\0\0"),
-    (16, b"\0\0\0\x08\0\0\0\x07"),
-    (16, b"\0\0\0\x07\0\0\0\x07"),
-    (16, b"\0\0\0\x06"),
-    (20, b"\0\0\0\x0A"),
-    (15, b"\x01"),
-    (4095, b"\x01"),
-];
-
-#[test]
-fn descriptors(rt: HostRuntime) {
-    let geometry = geometry_of(&rt, &sample_one());
-    let found = described(&rt, &geometry, &sample_descriptor());
-    assert!(rt; found == (1, 2, Some(7), Some(8)));
-    for (at, bytes) in DAMAGED_DESCRIPTORS {
-        let refusal = descriptor_refusal(rt.alloc(), &geometry, at, bytes);
-        assert!(rt; refusal == Some(Refusal::Damaged), "byte {at}");
-    }
 }
 
 // The descriptor of mark 1 for the home blocks 7 and 8 of the sample's geometry.

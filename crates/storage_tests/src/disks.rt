@@ -373,7 +373,8 @@ fn each_call_of_a_disk_is_one_of_its_file(rt: HostRuntime) {
     };
     match FileDisk::over(file) {
         Ok(mut disk) => {
-            assert!(rt; counts(&disk) == (8, 0, 0) && goes_well(&mut disk));
+            assert!(rt; counts(&disk) == (8, 0, 0));
+            assert!(rt; disk.len() == 8 && goes_well(&mut disk));
             assert!(rt; breaks(disk.into_file()));
         }
         Err(_) => assert!(rt; false, "the file is synced"),

@@ -27,32 +27,8 @@ pub(crate) const LENGTH_ONE: usize = 40_960;
 /// How many bytes it has in layout 2.
 pub(crate) const LENGTH_TWO: usize = 65_536;
 
-/// Where the journals of layout 2 begin with their gates; descriptor and records follow, a block each.
-pub(crate) const JOURNAL_A: usize = 4096;
-
-/// Journal A is layout 1's too, and journal B layout 2's alone.
+/// Where the second journal of layout 2 begins with its gate; its descriptor and records follow, a block each.
 pub(crate) const JOURNAL_B: usize = 28_672;
-
-/// What makes the volume's super block in layout 1 a damaged one: bytes, and where in the block they are written.
-pub(crate) const DAMAGES: [(usize, &[u8]); 17] = [
-    (7, b"2"),
-    (8, &[0, 0, 0, 0]),
-    (8, &[0, 0, 0, 65]),
-    (12, &[0, 0, 0, 0]),
-    (12, &[0, 0, 3, 0xFD]),
-    (12, &[0, 0, 0, 5]),
-    (16, &[0, 0, 0, 9]),
-    (16, &[0, 0, 0, 11]),
-    (20, &[1]),
-    (80, b"a"),
-    (33, &[0, 0x61]),
-    (32, b" "),
-    (32, &[0xC3]),
-    (64, &[0, 0, 0, 0, 0, 0, 0, 0]),
-    (64, &[0, 0, 0, 0, 0, 0, 0x10, 0]),
-    (64, &[0, 0, 0, 0, 0, 0, 0x20, 1]),
-    (4095, &[1]),
-];
 
 /// Writes bytes into a block or an image, with the rest left as it was.
 pub(crate) fn put(image: &mut [u8], at: usize, bytes: &[u8]) {

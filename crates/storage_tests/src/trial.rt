@@ -53,30 +53,9 @@ impl Trial {
         self.outs.is_busy()
     }
 
-    pub(crate) fn is_broken(&self) -> bool {
-        self.outs.is_broken()
-    }
-
     /// How many calls the disk had.
     pub(crate) fn calls(&self) -> u64 {
         self.disk.calls()
-    }
-
-    /// How many calls of the disk failed.
-    pub(crate) fn faults(&self) -> u64 {
-        self.disk.faults()
-    }
-
-    /// The disk in memory.
-    pub(crate) fn into_disk(self) -> MemDisk<Global> {
-        let Trial {
-            outs,
-            geometry: _,
-            disk,
-            mark: _,
-        } = self;
-        drop(outs);
-        disk.into_inner()
     }
 
     /// Begins the write-out of the batch that a descriptor says, under a mark above all so far.

@@ -1,8 +1,8 @@
-// Two write-outs over a volume of the files `a` of 5,000 bytes and `b` of 4,096, with 4 record slots: one of a page and
-// one of two pages, in both layouts. In layout 2 the second one begins while the first is still applied.
+// Two write-outs over a volume of the files `a` of 5,000 bytes and `b` of 4,096, with 4 record slots, of a page and of
+// two: in layout 1 one after the other, and in layout 2 side by side. What a crash leaves of them is in the runs as text.
 ghost use Rattle.std.specs.Prelude.{◌≡◌};
 
-use crate::sample::{JOURNAL_A, JOURNAL_B, LENGTH_ONE, LENGTH_TWO, SPECS, crash, volume_of};
+use crate::sample::{JOURNAL_B, LENGTH_ONE, LENGTH_TWO, SPECS, crash, volume_of};
 use crate::trial::{Trial, step_alone};
 use device::{Device, FailingDisk, MemDisk};
 use journal::{Flush, Flushed, Stage};
@@ -20,29 +20,23 @@ struct Plan {
     begins: u64,
 }
 
-// In layout 1 the second batch begins once the first is done, and in layout 2 at any time from its commit on.
-const PLANS: [(u64, [u64; 2], u64); 6] = [
-    (1, [1, 2], 9),
-    (1, [2, 1], 11),
-    (2, [1, 2], 5),
-    (2, [1, 2], 8),
-    (2, [2, 1], 6),
-    (2, [2, 1], 11),
-];
+// In layout 1 the second batch begins once the first is done, and in layout 2 here once it is committed.
+const ONE_AFTER_THE_OTHER: Plan = Plan {
+    layout: 1,
+    sizes: [1, 2],
+    begins: 9,
+};
+
+const BESIDE: Plan = Plan {
+    layout: 2,
+    sizes: [1, 2],
+    begins: 5,
+};
 
 // A batch of one page takes 9 steps and 10 device calls, and one of two pages 11 and 13.
 const STEPS: u64 = 20;
 
 const CALLS: u64 = 23;
-
-fn plan_of(row: (u64, [u64; 2], u64)) -> Plan {
-    let (layout, sizes, begins) = row;
-    Plan {
-        layout,
-        sizes,
-        begins,
-    }
-}
 
 impl Plan {
     // The first home block.
@@ -56,25 +50,6 @@ impl Plan {
             LENGTH_ONE as u64
         } else {
             LENGTH_TWO as u64
-        }
-    }
-
-    // Where the batch's gate is.
-    fn gate(self, batch: usize) -> usize {
-        if self.layout == 2 && batch == 1 {
-            JOURNAL_B
-        } else {
-            JOURNAL_A
-        }
-    }
-
-    // After which step the batch's gate was written, and not yet synced: the records, the descriptor and a sync come
-    // before it.
-    fn opening(self, batch: usize) -> u64 {
-        if batch == 0 {
-            self.sizes[0].saturating_add(3)
-        } else {
-            self.begins.saturating_add(self.sizes[1]).saturating_add(3)
         }
     }
 
@@ -95,26 +70,6 @@ impl Plan {
             }
         }
         pages
-    }
-
-    // Whether a crash after so many steps leaves the batch, where it leaves these bytes at places that weren't synced;
-    // `failed` says that a device call of one more step failed.
-    fn leaves(self, batch: usize, steps: u64, failed: bool, choice: &[u8]) -> bool {
-        let opening = self.opening(batch);
-        let torn = steps == opening || failed && steps.saturating_add(1) == opening;
-        let open = choice.get(self.gate(batch)) == Some(&0xA7);
-        steps > opening || torn && open
-    }
-
-    // What is opened after such a crash.
-    fn recovered(self, steps: u64, failed: bool, choice: &[u8]) -> [u8; 3] {
-        if self.leaves(1, steps, failed, choice) {
-            self.pages(2)
-        } else if self.leaves(0, steps, failed, choice) {
-            self.pages(1)
-        } else {
-            self.pages(0)
-        }
     }
 }
 
@@ -143,10 +98,10 @@ fn volume<R: Abort + AllocGlobal>(rt: &R, plan: Plan) -> (Geometry, MemDisk<Glob
     (table.geometry(), disk)
 }
 
-// No steps yet. The disk's call of this number is to fail.
-fn trial<R: Abort + AllocGlobal>(rt: &R, plan: Plan, fails_at: u64) -> Trial {
+// No steps yet.
+fn trial<R: Abort + AllocGlobal>(rt: &R, plan: Plan) -> Trial {
     let (geometry, disk) = volume(rt, plan);
-    Trial::new(rt, geometry, FailingDisk::new(disk, fails_at))
+    Trial::new(rt, geometry, FailingDisk::new(disk, 0))
 }
 
 // The next step after so many; before it the batch begins whose turn it is.
@@ -164,34 +119,6 @@ fn step<R: Abort + AllocGlobal>(
     }
     let begun = if steps < plan.begins { 1 } else { 2 };
     trial.step(&plan.pages(begun))
-}
-
-// A trial after so many steps, or fewer where a device call failed; and how many.
-fn stepped<R: Abort + AllocGlobal>(rt: &R, plan: Plan, steps: u64, fails_at: u64) -> (Trial, u64) {
-    let mut trial = trial(rt, plan, fails_at);
-    let done = make_steps(rt, &mut trial, plan, steps);
-    (trial, done)
-}
-
-// Makes so many steps, or fewer where a device call fails, and tells how many.
-fn make_steps<R: Abort + AllocGlobal>(rt: &R, trial: &mut Trial, plan: Plan, steps: u64) -> u64 {
-    for done in 0..steps {
-        if step(rt, trial, plan, done) == Some(Flushed::Device) {
-            return done;
-        }
-    }
-    steps
-}
-
-// A copy of the bytes of a disk.
-fn bytes_of<R: Abort + AllocGlobal>(rt: &R, disk: &MemDisk<Global>) -> Vec<u8> {
-    disk.bytes().to_vec(rt.alloc()).expect(rt, "memory")
-}
-
-// The bytes of the disk after so many steps.
-fn image<R: Abort + AllocGlobal>(rt: &R, plan: Plan, steps: u64) -> Vec<u8> {
-    let (trial, _) = stepped(rt, plan, steps, 0);
-    bytes_of(rt, &trial.into_disk())
 }
 
 // A byte that all of these are.
@@ -224,149 +151,6 @@ fn pages_of(rt: &impl Abort, volume: &mut Volume<MemDisk<Global>, Global>) -> [u
 fn opened<R: Abort + AllocGlobal>(rt: &R, mut disk: MemDisk<Global>, choice: &[u8]) -> [u8; 3] {
     crash(rt, &mut disk, choice);
     pages_of(rt, &mut volume_of(rt, disk))
-}
-
-// How many of these steps are made, and whether a device call failed in the next one.
-fn reached<R: Abort + AllocGlobal>(rt: &R, plan: Plan, steps: u64, fails_at: u64) -> (u64, bool) {
-    let (trial, done) = stepped(rt, plan, steps, fails_at);
-    (done, trial.is_broken())
-}
-
-// What opens after a crash then that leaves these bytes.
-fn left<R: Abort + AllocGlobal>(
-    rt: &R,
-    plan: Plan,
-    steps: u64,
-    fails_at: u64,
-    choice: &[u8],
-) -> [u8; 3] {
-    let (trial, _) = stepped(rt, plan, steps, fails_at);
-    opened(rt, trial.into_disk(), choice)
-}
-
-// Whether each crash after so many steps, or where a device call fails in the next one, opens as it should. What wasn't
-// synced is left as it was after one of the last steps, lost or kept, or as other bytes.
-fn crashes_well<R: Abort + AllocGlobal>(
-    rt: &R,
-    plan: Plan,
-    choices: &[Vec<u8>],
-    steps: u64,
-    fails_at: u64,
-) -> bool {
-    let (done, failed) = reached(rt, plan, steps, fails_at);
-    for (number, choice) in choices.iter().enumerate() {
-        let step = number as u64;
-        if step <= STEPS && (step > done || step.saturating_add(3) < done) {
-            continue;
-        }
-        let wanted = plan.recovered(done, failed, choice);
-        if left(rt, plan, steps, fails_at, choice) != wanted {
-            return false;
-        }
-    }
-    true
-}
-
-// The bytes of the disk after each number of steps, and two lists of bytes that it never had.
-fn choices<R: Abort + AllocGlobal>(rt: &R, plan: Plan) -> Vec<Vec<u8>> {
-    let mut choices = Vec::new(rt.alloc());
-    for steps in 0..STEPS + 1 {
-        add(rt, &mut choices, image(rt, plan, steps));
-    }
-    add(rt, &mut choices, never(rt, plan, 0x5A));
-    add(rt, &mut choices, never(rt, plan, 0xA7));
-    choices
-}
-
-// Bytes that the disk never had.
-fn never<R: Abort + AllocGlobal>(rt: &R, plan: Plan, byte: u8) -> Vec<u8> {
-    vec![in rt.alloc(); byte; plan.length() as usize].expect(rt, "memory")
-}
-
-// One choice more.
-fn add(rt: &impl Abort, choices: &mut Vec<Vec<u8>>, choice: Vec<u8>) {
-    choices.push(choice).expect(rt, "memory");
-}
-
-// Fails where a crash after any number of these steps doesn't open as it should.
-fn assert_crashes_well<R: Abort + AllocGlobal>(
-    rt: &R,
-    plan: Plan,
-    choices: &[Vec<u8>],
-    number: usize,
-) {
-    for steps in 0..STEPS + 1 {
-        assert!(rt;
-            crashes_well(rt, plan, choices, steps, 0),
-            "plan {number}, after {steps} steps"
-        );
-    }
-}
-
-#[test]
-fn crashes_leave_old_or_new(rt: HostRuntime) {
-    for (number, row) in PLANS.iter().enumerate() {
-        let plan = plan_of(*row);
-        assert_crashes_well(&rt, plan, &choices(&rt, plan), number);
-    }
-}
-
-// Whether the device call of this number has failed, and no other.
-fn has_failed(trial: &Trial, call: u64) -> bool {
-    trial.calls() == call && trial.faults() == 1
-}
-
-// Whether write-outs are broken by the device call of this number, and make no call more.
-fn is_broken_at(trial: &mut Trial, plan: Plan, call: u64) -> bool {
-    trial.is_broken()
-        && has_failed(trial, call)
-        && trial.step(&plan.pages(2)) == Some(Flushed::Broken)
-        && has_failed(trial, call)
-}
-
-// Whether the device call of this number fails and breaks the write-outs, which make no call more.
-fn breaks<R: Abort + AllocGlobal>(rt: &R, plan: Plan, call: u64) -> bool {
-    let (mut trial, done) = stepped(rt, plan, STEPS, call);
-    is_broken_at(&mut trial, plan, call) && done < STEPS
-}
-
-// Whether so many steps are all, in all calls.
-fn has_ended(trial: &Trial, done: u64) -> bool {
-    trial.calls() == CALLS && trial.faults() == 0 && done == STEPS
-}
-
-// Whether all calls and steps are made where the call after the last one is to fail.
-fn ends_well<R: Abort + AllocGlobal>(rt: &R, plan: Plan) -> bool {
-    let (trial, done) = stepped(rt, plan, STEPS, CALLS + 1);
-    has_ended(&trial, done)
-}
-
-// Fails where a device call doesn't break the write-outs as it fails, or a crash then doesn't open as it should.
-fn assert_each_breaks<R: Abort + AllocGlobal>(
-    rt: &R,
-    plan: Plan,
-    choices: &[Vec<u8>],
-    number: usize,
-) {
-    for call in 1..CALLS + 1 {
-        assert!(rt; breaks(rt, plan, call));
-        assert!(rt;
-            crashes_well(rt, plan, choices, STEPS, call),
-            "plan {number}, call {call}"
-        );
-    }
-}
-
-// Where a device call fails, its step is the last one that makes a call, and a crash then leaves what it would have
-// left within that step.
-#[test]
-fn each_device_call_that_fails_breaks_the_write_outs(rt: HostRuntime) {
-    for (number, row) in PLANS.iter().enumerate() {
-        let plan = plan_of(*row);
-        assert_each_breaks(&rt, plan, &choices(&rt, plan), number);
-        // There is no call more.
-        assert!(rt; ends_well(&rt, plan));
-    }
 }
 
 // What each step answers, how many device calls it makes, and whether a further batch has to wait after it. A batch of
@@ -457,14 +241,14 @@ fn answered<R: Abort + AllocGlobal>(
     plan: Plan,
     rows: &[(Flushed, u64, bool)],
 ) -> (u64, u64, bool) {
-    answered_of(rt, &mut trial(rt, plan, 0), plan, rows)
+    answered_of(rt, &mut trial(rt, plan), plan, rows)
 }
 
 #[test]
 fn steps_are_answered_and_counted(rt: HostRuntime) {
-    let one_by_one = answered(&rt, plan_of(PLANS[0]), &ONE_BY_ONE);
+    let one_by_one = answered(&rt, ONE_AFTER_THE_OTHER, &ONE_BY_ONE);
     assert!(rt; one_by_one == (STEPS, CALLS, true));
-    let side_by_side = answered(&rt, plan_of(PLANS[2]), &SIDE_BY_SIDE);
+    let side_by_side = answered(&rt, BESIDE, &SIDE_BY_SIDE);
     assert!(rt; side_by_side == (STEPS, CALLS, true));
 }
 
@@ -550,7 +334,7 @@ fn passes_all(flush: &mut Flush<Global>, geometry: &Geometry, disk: &mut MemDisk
 // and 10.
 #[test]
 fn a_write_out_by_itself(rt: HostRuntime) {
-    let (geometry, mut disk) = volume(&rt, plan_of(PLANS[2]));
+    let (geometry, mut disk) = volume(&rt, BESIDE);
     let text = descriptor(13, 9, 2);
     let before = disk.calls();
     let mut flush = flush_of(&rt, &geometry, &text);
