@@ -584,8 +584,8 @@ const FAULTS: &[(&str, &str)] = &[
         "format|--layout=0|none.img|4|a=1",
         "disk \"none.img\": badshape: LAYOUT is 0, and 1 and 2 are served\n",
     ),
-    ("format|none/x.img|4|a=1", "file \"none/x.img\": "),
-    ("format|none/x\n.img|4|a=1", "file \"none/x\\n.img\": "),
+    ("format|none/x.img|4|a=1", "file \"none/x.img.new\": "),
+    ("format|none/x\n.img|4|a=1", "file \"none/x\\n.img.new\": "),
     ("run|none.img|none.json", "file \"none.json\": "),
     ("run|none.img|fault.json", "file \"none.img\": "),
     (
@@ -827,12 +827,12 @@ fn a_commit_follows_one_that_is_not_applied(rt: HostRuntime) {
 fn help_is_printed(rt: HostRuntime) {
     for (line, text) in [
         ("--help", "Usage: famsync <COMMAND>"),
-        ("help|run", "Usage: famsync run <DISK> <SCRIPT>"),
+        ("help|run", "Usage: famsync run [OPTIONS] <DISK> <SCRIPT>"),
         (
             "format|--help",
             "Usage: famsync format [OPTIONS] <DISK> <SLOTS> <FILE>...",
         ),
-        ("dump|-h", "Usage: famsync dump <DISK>"),
+        ("dump|-h", "Usage: famsync dump [OPTIONS] <DISK>"),
         ("--version", "famsync 0.1.0\n"),
     ] {
         assert!(rt; shows(&rt, line, text), "{line}");
