@@ -1,0 +1,119 @@
+//! A horizon: two numbers of marks, which threads raise and read without a lock. `stalled` is that of the last mark,
+//! to which writers had to wait, and `committed` that of the last acknowledged one. Both only rise, and `committed`
+//! is never above `stalled`.
+#![tactic(auto)]
+
+ghost use Rattle.std.specs.Prelude.{◌≡◌, ◌≤◌, IfOk};
+ghost use Rattle.horizon.specs.Seen.{HasLooked};
+
+mod rule;
+
+use rule::{Holder, RaiseCommitted, RaiseStalled, Read, Same, Words};
+use std::alloc::{AllocError, Global};
+use std::marker::Model;
+use std::sync::Wait;
+
+/// The two numbers, to be shared by reference. Contracts see it as the identity of its cell.
+#[derive(Drop)]
+pub struct Horizon {
+    words: Words,
+}
+
+impl Model for Horizon {
+    ghost use Rattle.atomic_table.specs.Seated.{TableId, table_id_coded};
+
+    ghost Value = { TableId };
+
+    ghost coded = { table_id_coded };
+
+    ghost view = { λ h. h.words.table.shared.table_id };
+}
+
+/// What one holder of a horizon has seen of it: the greatest numbers of its own calls.
+#[derive(Drop)]
+pub struct Seen {
+    holder: Holder,
+}
+
+impl Model for Seen {
+    ghost use Rattle.std.specs.Prelude.{◌≤◌};
+    ghost use Rattle.crossbeam_utils.specs.Seq.{cell_view};
+    ghost use Rattle.horizon.specs.Seen.{SeenState, seen_code};
+
+    ghost Value = { SeenState };
+
+    ghost coded = { seen_code };
+
+    ghost view = { λ s. record { cell = s.holder.table_id; stalled = (cell_view s.holder).stalled; committed = (cell_view s.holder).committed } };
+
+    ghost invariant = { λ s. (cell_view s.holder).committed ≤ (cell_view s.holder).stalled };
+}
+
+impl Horizon {
+    /// A horizon at which both numbers are 0, and a first holder. Fails where memory is refused.
+    pub fn new(alloc: Global) -> Result<(Self, Seen), AllocError>
+        ensures { IfOk result (λ h. h.1 ≡ record { cell = h.0; stalled = 0; committed = 0 }) }
+    {
+        let (words, holder) = Words::ruled(alloc, [0, 0])?;
+        Ok((Horizon { words }, Seen { holder }))
+    }
+
+    /// A further holder, which has seen as much as this one. It takes no memory.
+    pub fn another(&self, seen: &mut Seen) -> Seen
+        requires own { seen.old.cell ≡ self.now }
+        ensures same { seen.new ≡ seen.old }
+        ensures made { result ≡ seen.old }
+    {
+        Seen {
+            holder: self.words.split_pass::<Same>(&mut seen.holder),
+        }
+    }
+
+    /// Both numbers, of one moment.
+    pub fn read<R: Wait>(&self, rt: &R, seen: &mut Seen) -> (u64, u64)
+        requires own { seen.old.cell ≡ self.now }
+        ensures result { result ≡ (seen.new.stalled, seen.new.committed) }
+        ensures looked { HasLooked seen.old seen.new }
+    {
+        let words = self.words.load_as::<Read, R>(rt, &mut seen.holder);
+        (words[0], words[1])
+    }
+
+    /// Raises `stalled` to a mark's number, if it is lower.
+    pub fn raise_stalled<R: Wait>(&self, rt: &R, seen: &mut Seen, mark: u64)
+        requires own { seen.old.cell ≡ self.now }
+        ensures raised { mark ≤ seen.new.stalled }
+        ensures looked { HasLooked seen.old seen.new }
+    {
+        for _ in rt.forever() {
+            let found = self.words.load_as::<Read, R>(rt, &mut seen.holder);
+            let raised = [found[0].max(mark), found[1]];
+            if self
+                .words
+                .compare_exchange_as::<RaiseStalled, R>(rt, &mut seen.holder, found, raised)
+                .is_ok()
+            {
+                return;
+            }
+        }
+    }
+
+    /// Raises each of the two numbers to a mark's number, if it is lower.
+    pub fn raise_committed<R: Wait>(&self, rt: &R, seen: &mut Seen, mark: u64)
+        requires own { seen.old.cell ≡ self.now }
+        ensures raised { mark ≤ seen.new.committed }
+        ensures looked { HasLooked seen.old seen.new }
+    {
+        for _ in rt.forever() {
+            let found = self.words.load_as::<Read, R>(rt, &mut seen.holder);
+            let raised = [found[0].max(mark), found[1].max(mark)];
+            if self
+                .words
+                .compare_exchange_as::<RaiseCommitted, R>(rt, &mut seen.holder, found, raised)
+                .is_ok()
+            {
+                return;
+            }
+        }
+    }
+}

@@ -1,0 +1,52 @@
+// The rule of the two words: what holds of them between any two steps, and the three kinds of step.
+ghost use Rattle.horizon.specs.inside.Rule.{IsKept, Reads, RaisesStalled, RaisesCommitted};
+
+use atomic_table::Split;
+use crossbeam_utils::atomic::seq_cell::{Pass, RuledSeqCell};
+use crossbeam_utils::rule::{Outcome, Protocol};
+
+/// What a holder has seen. No value of it is made.
+pub struct View {
+    pub stalled: u64,
+    pub committed: u64,
+}
+
+/// Both words rise, and committed stays at most stalled.
+pub struct Rising;
+
+impl Protocol<[u64; 2], View> for Rising {
+    ghost holds = { IsKept };
+
+    ghost first = { record { stalled = 0; committed = 0 } };
+}
+
+pub struct Read;
+
+impl Outcome<[u64; 2], View> for Read {
+    ghost then = { Reads };
+}
+
+pub struct RaiseStalled;
+
+impl Outcome<[u64; 2], View> for RaiseStalled {
+    ghost then = { RaisesStalled };
+}
+
+pub struct RaiseCommitted;
+
+impl Outcome<[u64; 2], View> for RaiseCommitted {
+    ghost then = { RaisesCommitted };
+}
+
+/// A further holder has seen as much as the one that it is made from.
+pub struct Same;
+
+impl Split<View> for Same {
+    ghost left = { λ v. v };
+
+    ghost right = { λ v. v };
+}
+
+pub type Words = RuledSeqCell<[u64; 2], View, Rising, 2>;
+
+pub type Holder = Pass<[u64; 2], View>;
