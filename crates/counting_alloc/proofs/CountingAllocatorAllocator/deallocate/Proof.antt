@@ -30,13 +30,13 @@ use denote.Triple.Table.{entered, cited}
 use denote.Triple.Walked.{Stays, stay_dropped, walk_of, ends_at, walked, Goes-dropped, walk_Meets}
 use mir.Val.{vunit}
 use base.Logic.{never_e}
-use base.Fml.{ffalse, fsep, froom}
-use types.Kit.{Item, ‵, raw, ◌⊛◌, later, given, ◌$◌, ◌∵◌, !, qed, by, move, keep, use1, use2, split, split3, join, learn, fsplit, fjoin, feq_i, suffices, await, done}
+use types.Kit.{Item, ‵, raw, ◌⊛◌, later, given, ◌$◌, ◌∵◌, !, qed, by, move, keep, use1, use2, split, split3, join, learn, fsplit, fjoin, feq_i, suffices, await, done, ⋆}
 use types.Run.{unit_lit}
 use types.ByLocal.{alloc_all, pass_all, free_all, look_at, get, through, sets, lands_as}
 use denote.RawPtr.{Ptr, block_ptr, null_ptr, ptr_val, rawptr_vals, rawptr_Tells}
 use denote.Builtin.{usize, RawPtr, RefOf}
 use denote.Triple.Call.{calls_at}
+use Rattle.std.specs.Allocator.{owned_block}
 use Rattle.std.proofs.alloc.Calls.{Al, α, seen, token, gives_key, Gives, at_gives, Gives-goes, Gives-Gives}
 use Rattle.counting_alloc.proofs.CountCalls.{Release, at_release, Release-goes, Release-gives}
 use Rattle.counting_alloc.proofs.release.Symbol as c_sym
@@ -82,36 +82,45 @@ module _ (Z : Al) {M : Type 1} {𝓤 : Ura M} (𝓛 : Logic 𝓤) (at_mem : Memo
     abbrev entry : Ptr → Item 𝓤
     entry x = (‵ (flft κ₁ q₁) ⊛ ‵ (flft κ₂ q₂) ⊛ ‵ ftrue) ⊛ ‵ (owns (types_at (ended Z).signature.params (bound x).0.0) (bound x).0.3 (bound x).0.4)
 
-    abbrev Said : Type 0
-    Said = (capped (size τ) ≡ n) × (capped (align τ) ≡ a)
+    abbrev asked : Ptr → Item 𝓤
+    asked x = raw (fact 𝓤 (κ₂ ⊑ Z.row.lives)) ⊛ raw (fact 𝓤 ((capped (size τ) ≡ n) × (capped (align τ) ≡ a))) ⊛ ‵ (owned_block (token Z r.now.inner) τ x)
+
+    -- the block is gone, and the lifetimes' tokens are handed back
+    exits : (x : Ptr) → ent 𝓤 (⋆ 𝓛 (‵ (flft κ₁ q₁) ∷ (‵ (flft κ₂ q₂) ⊛ ‵ ftrue) ∷ [])) (Post x vunit)
+    exits x =
+        qed 𝓛 (‵ (flft κ₁ q₁) ∷ (‵ (flft κ₂ q₂) ⊛ ‵ ftrue) ∷ []) ∵
+        suffices ! _ (ends_at 𝓛 (ended Z) (stayed Z) held (bound x) vunit tt (tt, (tt, (tt, (tt, tt)))) (tt, (tt, (tt, (tt, tt))))) $
+        nothing ! $ feq_i ! (List Val) (vunit ∷ []) (vunit ∷ []) refl $ nothing ! $ nothing ! $ fjoin ! $ nothing ! $ fjoin ! $ nothing ! $ fjoin ! $ nothing ! $ fjoin ! $ join ! $
+        move ! (2 ∷ 3 ∷ []) $ join ! $ join ! $ done !
 
     walk : n < 2 ^ 64 → a < 2 ^ 64 → (x : Ptr) → ent 𝓤 ((walk_of 𝓛 (ended Z) (stayed Z) held).pre (bound x)) (WpFn 𝓤 H 𝓣.C 𝓣.Λ (here Z) (vs x) (Post x))
-    walk fn fa null_ptr =
-        qed 𝓛 (entry null_ptr ∷ (raw (fact 𝓤 (κ₂ ⊑ Z.row.lives)) ⊛ raw (fact 𝓤 Said) ⊛ ‵ (fsep ffalse (token Z r.now.inner τ null_ptr))) ∷ []) ∵
-        move ! (1 ∷ []) $ split3 ! $ move ! (2 ∷ []) $ fsplit ! $ keep ! (0 ∷ []) $ by ! (never_e 𝓤 _)
+    walk fn fa null_ptr = qed 𝓛 (entry null_ptr ∷ asked null_ptr ∷ []) ∵ move ! (1 ∷ []) $ split3 ! $ move ! (2 ∷ []) $ fsplit ! $ keep ! (0 ∷ []) $ by ! (never_e 𝓤 _)
     walk fn fa (block_ptr b o) =
         let h : Z.row.Denot = r.now.inner in
+        let k = r.now.counts in
         let p : ℕ × ℕ = (r.ref_ptr.0, r.ref_ptr.1 + up (align (α Z)) 0) in
         let c : ℕ × ℕ = (r.ref_ptr.0, r.ref_ptr.1 + up 8 (up (align (α Z)) 0 + size (α Z))) in
         let x : Ptr = block_ptr b o in
-        let y : (Gives Z 𝓛 at_mem run).Ghost = at_gives Z 𝓛 at_mem run κ₁ q₁ p h b o n a τ in
-        qed 𝓛 (entry x ∷ (raw (fact 𝓤 (κ₂ ⊑ Z.row.lives)) ⊛ raw (fact 𝓤 Said) ⊛ ‵ (fsep (froom τ b o) (token Z h τ x))) ∷ []) ∵
-        move ! (1 ∷ []) $ split3 ! $ heard ! (κ₂ ⊑ Z.row.lives) (λ le. heard ! Said (λ said. move ! (1 ∷ []) $
+        let counted : (Release 𝓛 at_mem run).Ghost = at_release 𝓛 at_mem run κ₁ q₁ c k n in
+        let passed : (Gives Z 𝓛 at_mem run).Ghost = at_gives Z 𝓛 at_mem run κ₁ q₁ p h b o n a τ in
+        let fm = fm_of 𝓤 H 𝓛.laws 𝓣 in
+        qed 𝓛 (entry x ∷ asked x ∷ []) ∵
+        move ! (1 ∷ []) $ split3 ! $ heard ! (κ₂ ⊑ Z.row.lives) (λ le. heard ! ((capped (size τ) ≡ n) × (capped (align τ) ≡ a)) (λ said. move ! (1 ∷ []) $
+        -- a `&` to each field, the two lifetimes' tokens, and the block
         split ! $ split ! $ move ! (2 ∷ []) $ fsplit ! $ fsplit ! $ move ! (1 ∷ []) $ unhide ! $ fsplit ! $ fsplit ! $ use1 𝓛 (‵ (seen Z κ₁ p h)) (id⊢ 𝓤 _) $ move ! (1 ∷ []) $ fsplit ! $ keep ! (0 ∷ 6 ∷ 2 ∷ 7 ∷ 8 ∷ []) $
         enter ! 𝓣.C 𝓣.Λ (here Z) (vs x) _ $ alloc_all ! (λ l. pass_all ! refl ((tt, tt), ((tt, tt), ((tt, record { fits = fn }), ((tt, record { fits = fa }), tt)))) $
+        -- it is counted
         sets ! (addr ! (through ! refl (fld ! refl (stop !)))) refl (tt, tt) $
-        use2 𝓛 (raw ((Release 𝓛 at_mem run).pre (at_release 𝓛 at_mem run κ₁ q₁ c r.now.counts n))) (Release-goes 𝓛 at_mem run κ₁ q₁ c r.now.counts n fn) $
-        calls_at ! (fm_of 𝓤 H 𝓛.laws 𝓣) (Release 𝓛 at_mem run) kn (at_release 𝓛 at_mem run κ₁ q₁ c r.now.counts n) (and_then ! (get ! refl) (and_then ! (get ! refl) (no_more !))) (λ u.
-        use1 𝓛 (later (given (u ≡ vunit) (‵ (flft κ₁ q₁)))) (Release-gives 𝓛 at_mem run κ₁ q₁ c r.now.counts n u) $ await ! tt $ learn ! (λ eu. lands_as ! eu refl (tt, tt) $ move ! (1 ∷ []) $
+        use2 𝓛 (raw ((Release 𝓛 at_mem run).pre counted)) (Release-goes 𝓛 at_mem run κ₁ q₁ c k n fn) $
+        calls_at ! fm (Release 𝓛 at_mem run) kn counted (and_then ! (get ! refl) (and_then ! (get ! refl) (no_more !))) (λ u.
+        use1 𝓛 (later (given (u ≡ vunit) (‵ (flft κ₁ q₁)))) (Release-gives 𝓛 at_mem run κ₁ q₁ c k n u) $ await ! tt $ learn ! (λ is_unit. lands_as ! is_unit refl (tt, tt) $ move ! (1 ∷ []) $
+        -- and given back
         sets ! (addr ! (through ! refl (fld ! refl (stop !)))) refl (tt, tt) $
         join ! $ move ! (2 ∷ []) $ fsplit ! $ move ! (1 ∷ 2 ∷ []) $ join ! $ move ! (1 ∷ 0 ∷ []) $ join ! $
-        use1 𝓛 (raw ((Gives Z 𝓛 at_mem run).pre y)) (Gives-goes Z 𝓛 at_mem run κ₁ q₁ p h (⊑_trans κ₁ κ₂ Z.row.lives inn le) b o n a τ said.0 said.1 fn fa) $
-        calls_at ! (fm_of 𝓤 H 𝓛.laws 𝓣) (Gives Z 𝓛 at_mem run) de y (and_then ! (get ! refl) (and_then ! (get ! refl) (and_then ! (get ! refl) (and_then ! (get ! refl) (no_more !))))) (λ v.
-        use1 𝓛 (later (given (v ≡ vunit) (‵ (flft κ₁ q₁)))) (Gives-Gives Z 𝓛 at_mem run κ₁ q₁ p h b o n a τ v) $ await ! tt $ learn ! (λ e.
-        lands_as ! e refl (tt, tt) $ sets ! (of_opd ! (unit_lit !)) refl (tt, tt) $ returns ! (look_at ! 0 refl) $ free_all ! refl $
-        suffices ! _ (ends_at 𝓛 (ended Z) (stayed Z) held (bound x) vunit tt (tt, (tt, (tt, (tt, tt)))) (tt, (tt, (tt, (tt, tt))))) $
-        nothing ! $ feq_i ! (List Val) (vunit ∷ []) (vunit ∷ []) refl $ nothing ! $ nothing ! $ fjoin ! $ nothing ! $ fjoin ! $ nothing ! $ fjoin ! $ nothing ! $ fjoin ! $ join ! $
-        move ! (2 ∷ 3 ∷ []) $ join ! $ join ! $ done !)))))))
+        use1 𝓛 (raw ((Gives Z 𝓛 at_mem run).pre passed)) (Gives-goes Z 𝓛 at_mem run κ₁ q₁ p h (⊑_trans κ₁ κ₂ Z.row.lives inn le) b o n a τ said.0 said.1 fn fa) $
+        calls_at ! fm (Gives Z 𝓛 at_mem run) de passed (and_then ! (get ! refl) (and_then ! (get ! refl) (and_then ! (get ! refl) (and_then ! (get ! refl) (no_more !))))) (λ v.
+        use1 𝓛 (later (given (v ≡ vunit) (‵ (flft κ₁ q₁)))) (Gives-Gives Z 𝓛 at_mem run κ₁ q₁ p h b o n a τ v) $ await ! tt $ learn ! (λ is_done. lands_as ! is_done refl (tt, tt) $
+        sets ! (of_opd ! (unit_lit !)) refl (tt, tt) $ returns ! (look_at ! 0 refl) $ free_all ! refl $ keep ! (0 ∷ 1 ∷ []) $ by ! (exits x))))))))
 
 pub deallocate_spec : {M : Type 1} → stated.statement M
 unfolding tables_of
