@@ -1,19 +1,25 @@
-//! A horizon: two numbers of marks, which threads raise and read without a lock. `stalled` is that of the last mark,
-//! to which writers had to wait, and `committed` that of the last acknowledged one. Both only rise, and `committed`
-//! is never above `stalled`.
+//! A horizon: how far the marks of a history have come, as two numbers that threads raise and read without a lock.
+//! `stalled` is the number of the last mark, for which the processors were stalled, and `committed` that of the last
+//! acknowledged one, which is durable (failure-atomic `msync`, Park et al. 2013). Marks are counted from 1, so 0
+//! stands for none; the numbers are from 0 to 2^64 - 1. Both only rise, and `committed` is never above `stalled`.
+//!
+//! A call that takes `rt` may wait for another thread's step: what it ensures holds if it returns.
 #![tactic(auto)]
 
 ghost use Rattle.std.specs.Prelude.{◌≡◌, ◌≤◌, IfOk};
 ghost use Rattle.horizon.specs.Seen.{HasLooked};
 
 mod rule;
+#[cfg(test)]
+mod tests;
 
 use rule::{Holder, RaiseCommitted, RaiseStalled, Read, Same, Words};
 use std::alloc::{AllocError, Global};
 use std::marker::Model;
 use std::sync::Wait;
 
-/// The two numbers, to be shared by reference. Contracts see it as the identity of its cell.
+/// The two numbers, to be shared by reference. Contracts see it as its cell's identity, by which holders of different
+/// horizons are told apart.
 #[derive(Drop)]
 pub struct Horizon {
     words: Words,
@@ -29,7 +35,8 @@ impl Model for Horizon {
     ghost view = { λ h. h.words.table.shared.table_id };
 }
 
-/// What one holder of a horizon has seen of it: the greatest numbers of its own calls.
+/// What one holder of a horizon has seen of it: the mark numbers after its last call, which it never sees lower again.
+/// It may go to another thread. Only its own calls change it.
 #[derive(Drop)]
 pub struct Seen {
     holder: Holder,
@@ -50,7 +57,7 @@ impl Model for Seen {
 }
 
 impl Horizon {
-    /// A horizon at which both numbers are 0, and a first holder. Fails where memory is refused.
+    /// A horizon at which both numbers are 0, and its first holder. Fails where memory is refused.
     pub fn new(alloc: Global) -> Result<(Self, Seen), AllocError>
         ensures { IfOk result (λ h. h.1 ≡ record { cell = h.0; stalled = 0; committed = 0 }) }
     {
@@ -69,7 +76,8 @@ impl Horizon {
         }
     }
 
-    /// Both numbers, of one moment.
+    /// The mark numbers stalled and committed, both of one moment: at least what this holder has seen before. If the
+    /// call returns.
     pub fn read<R: Wait>(&self, rt: &R, seen: &mut Seen) -> (u64, u64)
         requires own { seen.old.cell ≡ self.now }
         ensures result { result ≡ (seen.new.stalled, seen.new.committed) }
@@ -79,7 +87,8 @@ impl Horizon {
         (words[0], words[1])
     }
 
-    /// Raises `stalled` to a mark's number, if it is lower.
+    /// Makes stalled the greater of itself and a mark's number, in one step. If the call returns, this holder has seen
+    /// the numbers after that step.
     pub fn raise_stalled<R: Wait>(&self, rt: &R, seen: &mut Seen, mark: u64)
         requires own { seen.old.cell ≡ self.now }
         ensures raised { mark ≤ seen.new.stalled }
@@ -98,7 +107,8 @@ impl Horizon {
         }
     }
 
-    /// Raises each of the two numbers to a mark's number, if it is lower.
+    /// Makes each of the two numbers the greater of itself and a mark's number, in one step. If the call returns, this
+    /// holder has seen the numbers after that step.
     pub fn raise_committed<R: Wait>(&self, rt: &R, seen: &mut Seen, mark: u64)
         requires own { seen.old.cell ≡ self.now }
         ensures raised { mark ≤ seen.new.committed }
