@@ -10,3 +10,4 @@ pub mod ReleaseLaws
 pub mod SpacesLaws
 pub mod Dirtiness
 pub mod Fresh
+pub mod Public

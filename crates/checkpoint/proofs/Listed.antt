@@ -1,5 +1,5 @@
 -- The pages that a walk comes to: those of a range whose entries are dirty, and those that map a page of a file.
-use Rattle.std.proofs.Common.{ℕ, ◌≡◌, ◌+◌, ◌^◌, Bool, false, List, [], ◌∷◌, ◌++◌, Contains, Some, is_some, refl, sym, ap, subst, ◌∙◌, append_assoc, append-nil}
+use Rattle.std.proofs.Common.{ℕ, ◌≡◌, ◌+◌, Bool, false, List, [], ◌∷◌, ◌++◌, Contains, Some, is_some, refl, sym, ap, subst, ◌∙◌, append_assoc, append-nil}
 use Rattle.std.proofs.lemmas.Bool.{false≢true, and_parts, and_from}
 use Rattle.std.proofs.lemmas.List.Elements.{Contains-append_right}
 use Rattle.page_entry.specs.Entry.{Mapped, is_dirty}

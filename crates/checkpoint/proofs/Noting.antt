@@ -1,5 +1,5 @@
 -- Notes that are taken of the dirty entries of some pages, joined and narrowed.
-use Rattle.std.proofs.Common.{ℕ, ◌≡◌, ◌⊎◌, ◌↔◌, ◌<◌, Bool, true, false, List, [], ◌∷◌, ◌++◌, Contains, length, set, get_or, Some, None, refl, sym, ap, subst, ◌∙◌, inl, inr, ⊎_elim}
+use Rattle.std.proofs.Common.{arith, ℕ, ◌≡◌, ◌⊎◌, ◌↔◌, ◌<◌, Bool, true, false, List, [], ◌∷◌, ◌++◌, Contains, length, set, get_or, Some, None, refl, sym, ap, subst, ◌∙◌, inl, inr, ⊎_elim}
 use Rattle.std.proofs.lemmas.Bool.{cases_eq, true_from_ne_false, false≢true}
 use Rattle.std.proofs.lemmas.List.Elements.{Contains-push, Contains-push_cases, Contains-append_left}
 use Rattle.std.proofs.lemmas.List.{get_or-set_same, get_or-set_other, length-set}
@@ -160,19 +160,24 @@ AreNoted-no_space spaces pcid notes gone = record {
   );
 }
 
--- a walk over the spaces notes one more
-pub AreNoted-next_space : (spaces : Spaces) (walked : List ℕ) (pcid : ℕ) (old mid new : List Bool) → AreNoted spaces (λ q p. Contains walked q) old mid → AreNoted spaces (IsInSpace pcid) mid new
-    → AreNoted spaces (λ q p. Contains (walked ++ pcid ∷ []) q) old new
-AreNoted-next_space spaces walked pcid old mid new before step =
-    AreNoted-then before step (λ q p. (
-      λ h. ⊎_elim (λ was. inl was) (λ here. inr (sym here)) (Contains-push_cases walked pcid q h),
-      λ h. ⊎_elim (λ was. Contains-append_left walked (pcid ∷ []) q was) (λ here. subst (Contains (walked ++ pcid ∷ [])) (sym here) (Contains-push walked pcid)) h,
-    ))
+-- no page yet
+pub AreNoted-start : (spaces : Spaces) (notes : List Bool) → AreNoted spaces (λ q p. Contains {X = ℕ × ℕ} [] (q, p)) notes notes
+AreNoted-start spaces notes = record {
+  same_length = refl;
+  noted = λ frame. (λ was. inl was, λ h. ⊎_elim (λ was. was) (λ d. absurd (let less = d.there.1 in omega arith)) h);
+}
 
--- until it came to all
-pub AreNoted-all_spaces : (spaces : Spaces) (walked : List ℕ) (old new : List Bool) → walked ≡ maps.keys spaces → AreNoted spaces (λ q p. Contains walked q) old new → AreNoted spaces IsAnyPage old new
-AreNoted-all_spaces spaces walked old new all are =
-    AreNoted-as (λ q p entry present dirty. (λ _. tt, λ _. subst (λ xs. Contains xs q) (sym all) (Contains-pcids spaces q (has_space-entry spaces q p entry present)))) are
+-- the dirty entries of all spaces
+pub AreNoted-all : (spaces : Spaces) (old new : List Bool) → length new ≡ length old
+    → ((frame : ℕ) → (get_or new frame false ≡ true) ↔ ((get_or old frame false ≡ true) ⊎ ((pcid : ℕ) × (page : ℕ) × (entry : Mapped) × (entry_at spaces pcid page ≡ Some entry) × (entry.frame ≡ frame) × (entry.dirty ≡ true))))
+    → AreNoted spaces IsAnyPage old new
+AreNoted-all spaces old new size noted = record {
+  same_length = size;
+  noted = λ frame. (
+    λ now. ⊎_elim inl (λ d. inr (record { pcid = d.0; page = d.1; there = tt; entry = d.2; present = d.3; same_frame = d.4; dirty = d.5 })) ((noted frame).0 now),
+    λ h. (noted frame).1 (⊎_elim inl (λ d. inr (d.pcid, d.page, d.entry, d.present, d.same_frame, d.dirty)) h),
+  );
+}
 
 -- a page without a dirty entry has none
 pub is_dirty-at : (spaces : Spaces) (pcid page : ℕ) → is_dirty (entry_at spaces pcid page) ≡ true → IsDirtyAt spaces pcid page

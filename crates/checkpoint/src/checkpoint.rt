@@ -170,7 +170,7 @@ impl<A: Allocator + Copy> Checkpoint<A> {
 
     /// Unmaps a range for which room was prepared, and notes the frames of its dirty entries.
     pub fn unmap(&mut self, spaces: &mut Spaces<A>, pcid: Pcid, range: PageRange)
-        requires prepared { spaces.old.prepared ≡ Some (pcid, range) }
+        requires prepared { spaces.old.prepared ≡ Some (pcid, range, None) }
         requires space { is_user_space spaces.old.map pcid ≡ true }
         requires pages { is_user_range range ≡ true }
         requires notes { HasNotes spaces.old.map (length self.old.notes) }
@@ -223,7 +223,7 @@ impl<A: Allocator + Copy> Checkpoint<A> {
         if self.is_noted(frame) {
             return true;
         }
-        match frames.page(frame) {
+        match frames.owner(frame) {
             Some(page) => has_dirty_entry(spaces, page),
             None => false,
         }

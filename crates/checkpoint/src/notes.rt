@@ -61,9 +61,7 @@ pub(crate) fn note_all<A: Allocator + Copy>(notes: &mut [bool], spaces: &Spaces<
     requires { HasNotes spaces.now.map (length notes.old) }
     ensures { AreNoted spaces.now.map IsAnyPage notes.old notes.new }
 {
-    for pcid in spaces.pcids() {
-        note_space(notes, spaces, pcid);
-    }
+    spaces.note_dirty(notes);
 }
 
 /// Notes the frame of each dirty entry whose page maps this page of a file, in every space.
@@ -106,7 +104,7 @@ pub(crate) fn list_noted<A: Allocator + Copy>(
 {
     pages.clear();
     for frame in frames.in_order() {
-        let page = frames.page(*frame).unwrap();
+        let page = frames.owner(*frame).unwrap();
         if notes[*frame as usize] {
             pages.push_reserved(page);
         }

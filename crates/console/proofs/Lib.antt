@@ -1,5 +1,3 @@
 mod Cuts
-mod DumpRows
-mod Dumped
-mod Pages
 mod Printing
+mod Replaying

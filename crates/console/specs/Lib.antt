@@ -1,5 +1,4 @@
-pub mod Dump
 pub mod Failure
+pub mod Replay
 pub mod Replies
 pub mod Words
-pub mod inside

@@ -30,6 +30,12 @@ pub enum Job<'a, A: Allocator + Copy> {
         disk: &'a str,
         trust: bool,
     },
+    /// Run a trace again on a copy of a volume, also of one that is marked as suspect where it is trusted.
+    Replay {
+        disk: &'a str,
+        trace: &'a str,
+        trust: bool,
+    },
     /// Print this text: help, or the version.
     Show(String),
 }
@@ -55,6 +61,11 @@ fn job_of<'a, A: Allocator + Copy>(
         Some(("run", words)) => Ok(Job::Run {
             disk: text(words, "DISK"),
             script: text(words, "SCRIPT"),
+            trust: words.get_flag("trust"),
+        }),
+        Some(("replay", words)) => Ok(Job::Replay {
+            disk: text(words, "DISK"),
+            trace: text(words, "TRACE"),
             trust: words.get_flag("trust"),
         }),
         Some((_, words)) => Ok(Job::Dump {
@@ -102,6 +113,7 @@ fn program<'a>(alloc: Global) -> Result<Command<'a>, AllocError> {
         .subcommand_required(true)
         .subcommand(format_command(alloc)?)?
         .subcommand(run_command(alloc)?)?
+        .subcommand(replay_command(alloc)?)?
         .subcommand(dump_command(alloc)?)
 }
 
@@ -151,6 +163,16 @@ fn run_command<'a>(alloc: Global) -> Result<Command<'a>, AllocError> {
             "SCRIPT",
             "The file that holds the script, a JSON object",
         ))
+}
+
+fn replay_command<'a>(alloc: Global) -> Result<Command<'a>, AllocError> {
+    Command::new(alloc, "replay")
+        .about(
+            "Runs a trace again on a copy of a volume, and prints whether each reply is the same",
+        )
+        .arg(trust_option(alloc))?
+        .arg(word(alloc, "DISK", "The file that holds the volume"))?
+        .arg(word(alloc, "TRACE", "The file that holds the trace"))
 }
 
 fn dump_command<'a>(alloc: Global) -> Result<Command<'a>, AllocError> {

@@ -2,11 +2,13 @@
 ghost use Rattle.std.specs.Prelude.{◌≡◌};
 ghost use Rattle.console.specs.Failure.{status_of};
 
-use crate::cause::Refused;
+use crate::shape::ShapeCause;
 use scripts::ScriptFault;
 use std::alloc::AllocError;
 use std::io;
 use thiserror::Error;
+use traces::TraceFault;
+use volume_files::FileFailure;
 
 /// Why a run of the program doesn't end with status 0. Its text is one line.
 #[derive(Debug, Drop, Error)]
@@ -26,39 +28,21 @@ pub enum Failure<'a> {
     /// The script was refused, before anything was opened.
     #[error("script {path:?}: {cause}")]
     Script { path: &'a str, cause: ScriptFault },
-    /// A real file couldn't be made, opened or read.
-    #[error("file {path:?}: {cause}")]
-    File { path: &'a str, cause: io::Error },
-    /// A file beside a volume couldn't be made, or taken away.
-    #[error("file {path:?}: {cause}")]
-    Beside { path: String, cause: io::Error },
-    /// Another process has the file of the volume locked.
-    #[error("disk {path:?}: in use by another process")]
-    InUse { path: &'a str },
-    /// The file of the volume is of another kind.
-    #[error("disk {path:?}: it is {kind}, and a volume is a regular file")]
-    NotRegular { path: &'a str, kind: &'static str },
-    /// The file of the volume has several names, by which others may use it.
-    #[error("disk {path:?}: the file has {names} names, and one that is written to may have one")]
-    SeveralNames { path: &'a str, names: u64 },
-    /// Whenever the file was locked, the path named another one.
-    #[error("disk {path:?}: the file is replaced again and again")]
-    Replaced { path: &'a str },
-    /// The file in which a new volume is made is there already.
-    #[error("disk {path:?}: {new:?} is there already: if no other format is at work, remove it")]
-    NewIsThere { path: &'a str, new: String },
-    /// The volume is marked: a sync of its file failed.
-    #[error("disk {path:?}: {mark:?} says that a sync of it failed, so what is read of it may not be on the disk: compare it with a copy, and give --trust or format it")]
-    Suspect { path: &'a str, mark: String },
-    /// The file of the volume couldn't be synced as it was opened.
-    #[error("disk {path:?}: the file can't be synced: {cause}")]
-    Unsynced { path: &'a str, cause: io::Error },
-    /// The volume or the machine was refused.
-    #[error("disk {path:?}: {cause}")]
-    Disk { path: &'a str, cause: Refused<'a> },
+    /// The trace was refused, before anything was opened.
+    #[error("trace {path:?}: {cause}")]
+    Trace { path: &'a str, cause: TraceFault },
+    /// Something of the file of the volume, or of another file.
+    #[error("{0}")]
+    File(#[from] FileFailure<'a>),
+    /// The volume serves no machine of the shape.
+    #[error("disk {path:?}: badshape: {cause}")]
+    Shape { path: &'a str, cause: ShapeCause },
     /// A step of the script was answered that the device failed.
     #[error("script {path:?}: step {step}: the device failed")]
     Step { path: &'a str, step: u64 },
+    /// An entry of the trace was answered that the device failed.
+    #[error("trace {path:?}: entry {entry}: the device failed")]
+    Entry { path: &'a str, entry: u64 },
     /// The output couldn't be written.
     #[error("output: {0}")]
     Output(#[from] io::Error),
@@ -68,12 +52,13 @@ pub enum Failure<'a> {
 }
 
 impl Failure<'_> {
-    /// The program's status: 1 for a script that is refused, 2 for a bad command line, 3 for everything else.
+    /// The program's status: 1 for a script or a trace that is refused, 2 for a bad command line, 3 for everything
+    /// else.
     pub fn status(&self) -> u8
         ensures { result ≡ status_of self.now }
     {
         match self {
-            Failure::Script { .. } => 1,
+            Failure::Script { .. } | Failure::Trace { .. } => 1,
             Failure::CommandLine(_)
             | Failure::Layout(_)
             | Failure::Slots(_)

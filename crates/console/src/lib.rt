@@ -2,19 +2,14 @@
 //! their files, and prints the files.
 #![tactic(auto)]
 
-mod cause;
 mod command;
-mod disk;
-mod dump;
 mod failure;
-mod format;
-mod mark;
 mod printer;
 mod program;
+mod replay;
 mod run;
 mod session;
-mod volume_file;
-mod watched_file;
+mod shape;
 mod words;
 
 pub use program::perform;

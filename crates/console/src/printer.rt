@@ -76,7 +76,8 @@ fn print_flushed<W: io::Write>(out: &mut W, reply: &Reply) -> io::Result<()>
     out.flush()
 }
 
-fn is_failure(reply: &Reply) -> bool
+/// Whether a reply says that the device failed.
+pub fn is_failure(reply: &Reply) -> bool
     ensures { result ≡ tells_failure reply.now }
 {
     matches!(reply, Reply::Refused(Refusal::Device))

@@ -2,19 +2,16 @@
 ghost use Rattle.std.specs.Prelude.{◌↔◌, IsOk, IfErr, IsNone, IfSome};
 ghost use Rattle.console.specs.Failure.{IsFailedStep};
 
-use crate::cause::refused_to_run;
-use crate::disk::{open_disk, read_file};
 use crate::failure::Failure;
-use crate::mark::Mark;
 use crate::printer::Printer;
 use crate::session::run_script;
-use crate::volume_file::{Access, place};
-use crate::watched_file::SyncNote;
+use crate::shape::refused_to_run;
 use scripts::{Script, ScriptFault};
 use std::alloc::Allocator;
 use std::fs::File;
 use std::io;
 use std::rt::Files;
+use volume_files::{Access, FileFailure, Mark, SyncNote, open_disk, place, read_file};
 
 /// Runs a script on the volume in a file, and prints the reply of each step before the next one is made. The script is
 /// read whole before the disk is opened; `path` and `script` are the names of the two files. `note` gets what is to be
@@ -40,7 +37,7 @@ where
         // It could be synced, so what is read of it from here on is on the disk.
         Mark::of(rt, &place)?
             .remove()
-            .map_err(|cause| Failure::File { path, cause })?;
+            .map_err(|cause| FileFailure::File { path, cause })?;
     }
     let mut printer = Printer::new(out);
     match run_script(alloc, disk, &steps, &mut printer) {
@@ -51,7 +48,7 @@ where
         Err((refusal, mut disk)) => {
             let cause = refused_to_run(alloc, refusal, &mut disk, steps.shape);
             *note = disk.into_file().into_note();
-            Err(Failure::Disk { path, cause })
+            Err(cause.of_file(path))
         }
     }
 }

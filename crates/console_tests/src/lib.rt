@@ -2,6 +2,8 @@
 #![tactic(auto)]
 
 #[cfg(test)]
+mod replays;
+#[cfg(test)]
 mod runs_on_files;
 #[cfg(test)]
 mod tests;

@@ -98,13 +98,13 @@ fn famsync(rt: &HostRuntime, line: &str) -> Result<Outcome, AllocError> {
 }
 
 // Makes a volume of the files `a` of 5,000 bytes and `b` of 4,096, with 4 record slots, and tells whether it is made.
-fn makes_volume(rt: &HostRuntime, disk: &str) -> bool {
+pub fn makes_volume(rt: &HostRuntime, disk: &str) -> bool {
     let words = ["famsync", "format", disk, "4", "a=5000", "b=4096"];
     run(rt, &words).is(0, &["formatted 10 blocks\n"], &[])
 }
 
 // Whether a run ends with this status and prints these texts, each in its parts, and nothing else.
-fn prints(rt: &HostRuntime, line: &str, status: u8, out: &[&str], err: &[&str]) -> bool {
+pub fn prints(rt: &HostRuntime, line: &str, status: u8, out: &[&str], err: &[&str]) -> bool {
     match famsync(rt, line) {
         Ok(ran) => ran.is(status, out, err),
         Err(_) => false,
@@ -113,7 +113,7 @@ fn prints(rt: &HostRuntime, line: &str, status: u8, out: &[&str], err: &[&str]) 
 
 // Whether a run ends with this status, prints nothing, and says one line that begins with this after the program's
 // name.
-fn complains(rt: &HostRuntime, line: &str, status: u8, cause: &[&str]) -> bool {
+pub fn complains(rt: &HostRuntime, line: &str, status: u8, cause: &[&str]) -> bool {
     match famsync(rt, line) {
         Ok(ran) => ran.is_complaint(status, cause),
         Err(_) => false,
@@ -121,7 +121,7 @@ fn complains(rt: &HostRuntime, line: &str, status: u8, cause: &[&str]) -> bool {
 }
 
 // Writes a file of these parts, and tells whether that succeeds.
-fn writes(rt: &HostRuntime, path: &str, parts: &[&str]) -> bool {
+pub fn writes(rt: &HostRuntime, path: &str, parts: &[&str]) -> bool {
     match joined(rt.alloc(), parts) {
         Ok(text) => fs::write(rt, path, text.as_bytes()).is_ok(),
         Err(_) => false,
@@ -161,7 +161,7 @@ fn put(image: &mut [u8], at: usize, bytes: &[u8]) {
 }
 
 // Takes away the files of a test, and tells whether they were there.
-fn removes(rt: &HostRuntime, paths: &[&str]) -> bool {
+pub fn removes(rt: &HostRuntime, paths: &[&str]) -> bool {
     for path in paths {
         if fs::remove_file(rt, *path).is_err() {
             return false;
@@ -179,7 +179,7 @@ fn holds(rt: &HostRuntime, path: &str, bytes: &[u8]) -> bool {
 }
 
 // Whether a file is the volume in layout 1 with these bytes changed.
-fn holds_image(rt: &HostRuntime, path: &str, changes: &[(usize, u8)]) -> bool {
+pub fn holds_image(rt: &HostRuntime, path: &str, changes: &[(usize, u8)]) -> bool {
     match image(rt.alloc(), changes) {
         Ok(image) => holds(rt, path, &image),
         Err(_) => false,

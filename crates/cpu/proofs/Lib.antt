@@ -1,3 +1,3 @@
-pub mod Uses
-pub mod Translations
-pub mod Refusals
+mod Uses
+mod Translations
+mod Refusals

@@ -4,12 +4,12 @@ use Rattle.page_entry.specs.Entry.{Mapped}
 use Rattle.frames.specs.Frames.{FramesState, frame_at}
 use Rattle.pcid_tlb.specs.declared.CachedEntry.{CachedEntry}
 use Rattle.pcid_tlb.specs.Tlb.{cached}
-use Rattle.pcid_tlb.proofs.TlbLaws.{cached-All}
+use Rattle.pcid_tlb.proofs.Public.{cached-All}
 use Rattle.spaces.specs.Spaces.{Spaces, entry_at}
 use Rattle.shootdown.specs.Processors.{is_running}
 use Rattle.shootdown.specs.Shootdown.{ShootdownState, processor_at, current, tlb_of, state_of, not_running}
 use Rattle.shootdown.specs.Coherence.{IsUsable, Agrees, Coheres}
-use Rattle.shootdown.proofs.ShootdownLaws.{running, is_there_below}
+use Rattle.shootdown.proofs.Public.{running, is_there_below}
 use Rattle.cpu.specs.Access.{Hardware, hardware, serves, walk, walked, walked_to, translated_by, translated, IsReachable}
 use Rattle.cpu.specs.Keeping.{IsDirtyAt}
 use Rattle.cpu.specs.inside.Walks.{Translates}

@@ -3,15 +3,14 @@ use Rattle.std.proofs.Common.{◌≡◌, ℕ, Bool, true, false, cond, not, eqb,
 use Rattle.std.proofs.lemmas.Bool.Decides.{nat_tests}
 use Rattle.page_entry.specs.Entry.{Mapped, frame_of, is_writable, is_dirty}
 use Rattle.frames.specs.Frames.{FramesState, frame_at, with_bytes}
-use Rattle.frames.proofs.FramesLaws.{in_use-with_bytes}
+use Rattle.frames.proofs.Public.{in_use-with_bytes}
 use Rattle.pcid_tlb.specs.declared.CachedEntry.{CachedEntry}
 use Rattle.spaces.specs.Spaces.{Spaces, SpacesState, AreSpaces, has_space, entry_at, with_entry}
 use Rattle.spaces.specs.Changes.{Grows}
-use Rattle.spaces.proofs.SpacesLaws.{entry_at-with_entry, places-with_entry, has_space-with_entry, has_space-place_at}
+use Rattle.spaces.proofs.Public.{entry_at-with_entry, places-with_entry, has_space-with_entry, has_space-place_at}
 use Rattle.shootdown.specs.Shootdown.{ShootdownState}
 use Rattle.shootdown.specs.Coherence.{Agrees, Coheres}
-use Rattle.shootdown.proofs.Narrowing.{IsNoWider-same_places}
-use Rattle.shootdown.proofs.CoherenceLaws.{Coheres-grown}
+use Rattle.shootdown.proofs.Public.{IsNoWider-same_places, Coheres-grown}
 use Rattle.cpu.specs.Access.{hardware, walk, IsReachable}
 use Rattle.cpu.specs.Keeping.{IsUsed, IsUsedAt, OnlyUses}
 

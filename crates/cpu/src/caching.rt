@@ -2,7 +2,7 @@
 ghost use Rattle.std.specs.Prelude.{◌≡◌};
 ghost use Rattle.frames.specs.Frames.{FramesState};
 ghost use Rattle.spaces.specs.Spaces.{Spaces as AddressSpaces};
-ghost use Rattle.shootdown.specs.Coherence.{Coheres, KeepsCoherence};
+ghost use Rattle.shootdown.specs.Coherence.{Coheres};
 ghost use Rattle.cpu.specs.Access.{hardware, Fills, Evicts};
 ghost use Rattle.cpu.specs.Keeping.{OnlyUses};
 
@@ -39,7 +39,6 @@ pub fn evict<A: Allocator + Copy>(
 ) -> Result<bool, Refusal>
     ensures evicted { (spaces : AddressSpaces) (memory : FramesState)
         → Evicts (hardware shootdown.old spaces memory) p slot result (hardware shootdown.new spaces memory) }
-    ensures coherent { KeepsCoherence shootdown.old shootdown.new }
 {
     shootdown.state(p)?;
     Ok(shootdown.evict(p, slot))

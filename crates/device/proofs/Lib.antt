@@ -1,4 +1,5 @@
 pub mod Moments
+pub mod Done
 mod Fitting
 mod Outcomes
 mod Overlays
@@ -6,3 +7,4 @@ mod Patches
 pub mod Ranges
 mod Replay
 mod Spoiling
+pub mod Public

@@ -1,22 +1,29 @@
--- What device calls did, in one record each.
-use Rattle.std.specs.Prelude.{◌≡◌, ◌↔◌, ℕ, ◌+◌, ◌-◌, ◌^◌, ◌<◌, ◌≤◌, List, length, Result, OnOk, IsOk, IsErr}
-use Rattle.device.specs.Device.{written, Torn, TornFrom, LeavesOnly}
+-- What device calls did, in one record.
+use Rattle.std.specs.Prelude.{◌≡◌, ◌≢◌, ◌↔◌, ℕ, ◌+◌, ◌^◌, ◌<◌, Bool, true, false, if◌then◌else◌, MatchBool, List, length}
+use Rattle.device.specs.Count.{raised}
+use Rattle.device.specs.Device.{Only, LeavesOnly}
+use Rattle.device.specs.Work.{Work, CopyBlock, Sync, Nothing, worked, TornByWork, TornFromWork, calls_of, HasFailed}
 use Rattle.device.specs.declared.device.Device.{Ghosts}
 
--- One call wrote these bytes at this offset, or failed at it.
-pub record HasWritten {D T E : Type 0} (disk : Ghosts D) (old : D) (at : ℕ) (bytes : List ℕ) (result : Result T E)
-    (new : D) : Type 0 where
+-- What was asked of a device was done, or its last call failed.
+pub record Did {D : Type 0} (disk : Ghosts D) (old : D) (work : Work) (done : Bool) (new : D) : Type 0 where
   -- what a read gives
-  pub written : disk.is_honest old → OnOk result (disk.seen new ≡ written (disk.seen old) at bytes)
-  pub torn : IsErr result → disk.is_honest old → Torn at (length bytes) (disk.seen old) (disk.seen new)
+  pub seen : disk.is_honest old
+      → MatchBool done (disk.seen new ≡ worked (disk.seen old) work) (TornByWork work (disk.seen old) (disk.seen new))
+  -- of a block that was to be copied the read alone was made, and failed
+  pub unread : disk.is_honest old → done ≡ false → (from to : ℕ) → work ≡ CopyBlock from to
+      → disk.calls_made old + 2 < 2 ^ 64 → disk.calls_made new ≡ disk.calls_made old + 1
+      → disk.seen new ≡ disk.seen old
+  pub still : work ≡ Nothing → new ≡ old
   -- what a crash may leave, now and at any moment since old
-  pub keeps : disk.is_honest old → (c : List ℕ) → disk.may_leave old c → disk.may_leave new c
-  pub left : (c : List ℕ) → disk.may_leave new c → TornFrom at (length bytes) (disk.may_leave old) c
-  pub time : LeavesOnly disk.moment disk.left_since old new (TornFrom at (length bytes) (disk.may_leave old))
+  pub left : (c : List ℕ) → disk.may_leave new c → TornFromWork work (disk.may_leave old) c
+  pub keeps : disk.is_honest old → work ≢ Sync → (c : List ℕ) → disk.may_leave old c → disk.may_leave new c
+  pub sure : disk.is_honest old → done ≡ true → work ≡ Sync → Only (disk.may_leave new) (disk.seen old)
+  pub time : LeavesOnly disk.moment disk.left_since old new (TornFromWork work (disk.may_leave old))
   pub honest : disk.is_honest new ↔ disk.is_honest old
   pub same_length : length (disk.seen new) ≡ length (disk.seen old)
   -- how many calls were made and how many failed
-  pub calls : disk.calls_made old < 2 ^ 64 - 1 → disk.calls_made new ≡ disk.calls_made old + 1
-  pub failed : IsErr result → disk.faults_met old < 2 ^ 64 - 1 → disk.faults_met new ≡ disk.faults_met old + 1
-  pub faults_stay : 2 ^ 64 - 1 ≤ disk.faults_met old → disk.faults_met new ≡ disk.faults_met old
-  pub done : IsOk result → disk.faults_met new ≡ disk.faults_met old
+  pub calls : disk.calls_made old + calls_of work < 2 ^ 64
+      → MatchBool done (disk.calls_made new ≡ disk.calls_made old + calls_of work)
+      (HasFailed work (disk.calls_made old) (disk.calls_made new))
+  pub faults : disk.faults_met new ≡ (if done then disk.faults_met old else raised (disk.faults_met old))

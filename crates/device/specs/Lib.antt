@@ -1,5 +1,6 @@
 pub mod Count
 pub mod Device
+pub mod Work
 pub mod Did
 pub mod Failing
 pub mod File

@@ -6,6 +6,7 @@ mod block_file;
 mod borrowed;
 mod count;
 mod device;
+mod doing;
 mod failing;
 mod fault;
 mod file;
@@ -16,6 +17,7 @@ mod overlay;
 
 pub use block_file::BlockFile;
 pub use device::Device;
+pub use doing::{copy_block, make_sure, write_at};
 pub use failing::FailingDisk;
 pub use fault::DeviceFault;
 pub use file::FileDisk;

@@ -2,7 +2,7 @@
 use Rattle.std.proofs.Common.{◌≡◌, inl, inr, ℕ, List}
 use Rattle.device.specs.Device.{LeavesOnly}
 use Rattle.device.specs.declared.device.Device.{Ghosts}
-use Rattle.device.proofs.Moments.{leaves_weaker}
+use Rattle.device.proofs.Public.{leaves_weaker}
 use Rattle.volume_codec.specs.Files.{File}
 use Rattle.volume_codec.specs.Recovery.{RecoversTo}
 use Rattle.page_entry.specs.declared.refusal.Refusal.{Refusal}

@@ -8,8 +8,7 @@ use Rattle.page_entry.specs.declared.refusal.Refusal.{Refusal}
 use Rattle.frames.specs.Frames.{FramesState}
 use Rattle.spaces.specs.Spaces.{Spaces, SpacesState}
 use Rattle.checkpoint.specs.Checkpoint.{CheckpointState, Gathers}
-use Rattle.checkpoint.proofs.PagesInUse.{has_page-list_any, list_any-has_page}
-use Rattle.checkpoint.proofs.BackingLaws.{Holds-with_page}
+use Rattle.checkpoint.proofs.Public.{has_page-list_any, list_any-has_page, Holds-with_page}
 use Rattle.fault.specs.declared.page_fault.PageFault.{PageFault}
 use Rattle.fault.specs.Fault.{is_in_memory, Brings, CopiesOut}
 use Rattle.fault.specs.Fixing.{FixDone}

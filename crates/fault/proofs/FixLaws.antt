@@ -6,11 +6,11 @@ use Rattle.std.proofs.lemmas.List.Elements.{All-contains}
 use Rattle.page_entry.specs.declared.numbers.FilePage.{FilePage}
 use Rattle.page_entry.specs.declared.refusal.Refusal.{Refusal}
 use Rattle.page_entry.specs.declared.refusal.Refusal.TheVariants as refusals
+use Rattle.mappings.specs.Places.{may_write}
 use Rattle.frames.specs.Frames.{FramesState, has_free}
 use Rattle.checkpoint.specs.Checkpoint.{CheckpointState, Holds, is_frozen, is_held, same_page}
 use Rattle.checkpoint.specs.Backing.{page_at}
-use Rattle.checkpoint.proofs.Lists.{Passing-list_any}
-use Rattle.checkpoint.proofs.PagesInUse.{same_page-true, list_any-has_page}
+use Rattle.checkpoint.proofs.Public.{Passing-list_any, same_page-true, list_any-has_page}
 use Rattle.fault.specs.declared.page_fault.PageFault.{PageFault}
 use Rattle.fault.specs.declared.plan.Plan.{Plan}
 use Rattle.fault.specs.declared.plan.Plan.TheVariants.{Keep, Copy, Read}
@@ -24,7 +24,7 @@ frozen_in_memory memory c owner all frozen =
     let found = Passing-list_any (same_page owner) c.frozen frozen in
     ap (is_in_memory memory) (same_page-true owner found.item found.passes) ∙ All-contains (λ page. is_in_memory memory page ≡ true) c.frozen found.item all found.there
 
-module _ (memory : FramesState) (c : CheckpointState) (fault : PageFault) (inside : leb fault.length (4096 * fault.place.page) ≡ false) where
+module _ (memory : FramesState) (c : CheckpointState) (fault : PageFault) (allowed : (fault.write && not (may_write fault.place.rights)) ≡ false) (inside : leb fault.length (4096 * fault.place.page) ≡ false) where
   -- a page that isn't in memory takes no copy
   pub copies_out-absent : All (λ page. is_in_memory memory page ≡ true) c.frozen → is_in_memory memory (page_at fault.place) ≡ false → copies_out memory c (page_at fault.place) fault.write ≡ false
   copies_out-absent all absent =
@@ -38,7 +38,8 @@ module _ (memory : FramesState) (c : CheckpointState) (fault : PageFault) (insid
       → refusal_of memory c fault ≡ cond (copies && not (has_free memory.copies)) (Some refusals.Held) None
   refusal_of-found copies is there =
       let other : Option Refusal = cond (not (has_free memory.frames)) (Some refusals.NoFrame) (cond fault.broken (Some refusals.Device) None) in
-      cond-false (leb fault.length (4096 * fault.place.page)) _ _ inside
+      cond-false (fault.write && not (may_write fault.place.rights)) _ _ allowed
+      ∙ cond-false (leb fault.length (4096 * fault.place.page)) _ _ inside
       ∙ ap (λ b. cond (b && not (has_free memory.copies)) (Some refusals.Held) (cond (is_in_memory memory (page_at fault.place)) None other)) (sym is)
       ∙ ap (λ b. cond (copies && not (has_free memory.copies)) (Some refusals.Held) (cond b None other)) there
 
@@ -58,7 +59,8 @@ module _ (memory : FramesState) (c : CheckpointState) (fault : PageFault) (insid
   pub refusal_of-absent : is_in_memory memory (page_at fault.place) ≡ false → copies_out memory c (page_at fault.place) fault.write ≡ false
       → refusal_of memory c fault ≡ cond (not (has_free memory.frames)) (Some refusals.NoFrame) (cond fault.broken (Some refusals.Device) None)
   refusal_of-absent absent no_copy =
-      cond-false (leb fault.length (4096 * fault.place.page)) _ _ inside
+      cond-false (fault.write && not (may_write fault.place.rights)) _ _ allowed
+      ∙ cond-false (leb fault.length (4096 * fault.place.page)) _ _ inside
       ∙ cond-false (copies_out memory c (page_at fault.place) fault.write && not (has_free memory.copies)) _ _ (and_left (copies_out memory c (page_at fault.place) fault.write) (not (has_free memory.copies)) no_copy)
       ∙ cond-false (is_in_memory memory (page_at fault.place)) None _ absent
 

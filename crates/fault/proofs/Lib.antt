@@ -1,3 +1,4 @@
-pub mod FixLaws
-pub mod ServedLaws
-pub mod FixKept
+mod FixLaws
+mod ServedLaws
+mod FixKept
+pub mod Public

@@ -12,9 +12,8 @@ use Rattle.spaces.specs.Spaces.{Spaces, entry_at, place_at, with_entry}
 use Rattle.spaces.specs.Changes.{Grows, Keeps}
 use Rattle.checkpoint.specs.Checkpoint.{CheckpointState, Holds, is_held}
 use Rattle.checkpoint.specs.Backing.{AreBacked, page_at}
-use Rattle.checkpoint.proofs.BackingLaws.{AreBacked-with_page, AreBacked-with_copy}
-use Rattle.checkpoint.proofs.SpacesLaws.{AreBacked-with_entry, MayBe}
-use Rattle.spaces.proofs.ChangeLaws.{Grows-with_entry}
+use Rattle.checkpoint.proofs.Public.{AreBacked-with_page, AreBacked-with_copy, AreBacked-with_entry, MayBe}
+use Rattle.spaces.proofs.Public.{Grows-with_entry}
 use Rattle.fault.specs.Fault.{Brings, CopiesOut, fixed_entry}
 
 module _ (c : CheckpointState) (spaces : Spaces) where

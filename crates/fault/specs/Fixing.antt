@@ -4,6 +4,7 @@ use Rattle.page_entry.specs.declared.refusal.Refusal.{Refusal}
 use Rattle.page_entry.specs.declared.refusal.Refusal.TheVariants as refusals
 use Rattle.device.specs.Count.{raised}
 use Rattle.device.specs.Device.{LeavesOnly}
+use Rattle.mappings.specs.Places.{may_write}
 use Rattle.frames.specs.Frames.{FramesState, IsPage}
 use Rattle.spaces.specs.Spaces.{Spaces}
 use Rattle.checkpoint.specs.Checkpoint.{CheckpointState}
@@ -29,9 +30,12 @@ pub record IsReadFrom (honest : Type 0) (disk : List ℕ) (home length_of page :
   pub there : honest → block ≡ block_from disk home
   pub cut : bytes ≡ cut_to_length length_of page block
 
--- why a fault isn't served, before anything is read
+-- why a fault isn't served, before anything is read: it is of a store, and its place doesn't allow writing; or the first
+-- of the reasons of the place
 abbrev pub refusal_of : FramesState → CheckpointState → PageFault → Option Refusal
-refusal_of memory c fault = fault_refusal memory c fault.broken fault.place fault.length fault.write
+refusal_of memory c fault =
+    if fault.write && not (may_write fault.place.rights) then Some refusals.SegvAccErr
+    else fault_refusal memory c fault.broken fault.place fault.length fault.write
 
 -- whether the device is read: nothing is refused before, and the page isn't in memory
 abbrev pub reads_home : FramesState → CheckpointState → PageFault → Bool

@@ -1,6 +1,7 @@
 // What is decided of a fault, before anything is done.
-ghost use Rattle.std.specs.Prelude.{◌≡◌, true, Some, not, Ok, Err, MatchResult, if◌then◌else◌};
+ghost use Rattle.std.specs.Prelude.{◌≡◌, ◌&&◌, true, Some, not, Ok, Err, MatchResult, if◌then◌else◌};
 ghost use Rattle.std.specs.List.{All};
+ghost use Rattle.mappings.specs.Places.{may_write};
 ghost use Rattle.frames.specs.Frames.{has_free};
 ghost use Rattle.checkpoint.specs.Backing.{page_at};
 ghost use Rattle.fault.specs.Fault.{is_in_memory, copies_out};
@@ -54,6 +55,13 @@ fn copies_out<A: Allocator + Copy>(
     write && checkpoint.is_held(frames, page)
 }
 
+// Whether a fault is of a store to a place that doesn't allow writing.
+fn lacks_right(fault: PageFault) -> bool
+    ensures { result ≡ (fault.write && not (may_write fault.place.rights)) }
+{
+    fault.write && !fault.place.rights.may_write()
+}
+
 /// Decides what is to be done for the page of a fault, or why the fault isn't served, in the order of the reasons. Two
 /// come later: no copy frame is free, and the read fails.
 pub(crate) fn decide<A: Allocator + Copy>(
@@ -65,6 +73,9 @@ pub(crate) fn decide<A: Allocator + Copy>(
     ensures { MatchResult result (IsPlanned frames.now checkpoint.now fault)
         (λ why. refusal_of frames.now checkpoint.now fault ≡ Some why) }
 {
+    if lacks_right(fault) {
+        return Err(Refusal::SegvAccErr);
+    }
     if fault.length <= PAGE * u64::from(fault.place.page) {
         return Err(Refusal::BusAdrErr);
     }

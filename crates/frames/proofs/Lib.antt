@@ -1,6 +1,7 @@
-pub mod AreFramesLaws
-pub mod FramesLaws
+mod AreFramesLaws
+mod FramesLaws
+pub mod Public
 mod Listing
-pub mod Orders
+mod Orders
 mod PageLemmas
-pub mod WholePages
+mod WholePages

@@ -167,8 +167,8 @@ impl<A: Allocator + Copy> Frames<A> {
     }
 
     /// The page of a file that a frame is in use for; none for a free frame, or a number that no frame has.
-    pub fn page(&self, frame: FrameNumber) -> Option<FilePage>
-        ensures page { result ≡ page_of (frame_at self.now frame) }
+    pub fn owner(&self, frame: FrameNumber) -> Option<FilePage>
+        ensures owner { result ≡ page_of (frame_at self.now frame) }
         ensures are { AreFrames self.now }
     {
         self.frames.page(frame)

@@ -14,5 +14,7 @@ pub mod Sounding
 pub mod Answering
 pub mod Keeping
 pub mod StandsKept
-pub mod Calls
+pub mod Found
+pub mod UnderWay
 pub mod Rooms
+pub mod Public

@@ -6,6 +6,7 @@ use Rattle.std.specs.Option.{option_map_or, option_and_then}
 use Rattle.std.proofs.lemmas.Bool.{both_ways, cases_Bool, cond-true, cond-false}
 use Rattle.device.specs.Device.{Only}
 use Rattle.device.specs.declared.device.Device.{Ghosts}
+use Rattle.device.proofs.Done.{done_seen}
 use Rattle.volume_codec.specs.declared.layout.Layout.{Layout}
 use Rattle.volume_codec.specs.declared.layout.Layout.TheVariants.{One, Two}
 use Rattle.volume_codec.specs.Layout.{GeometryValue, IsGeometry, IsHome, journals_of, block_at, record_block}
@@ -16,9 +17,9 @@ use Rattle.volume_codec.proofs.Places.{fits_geometry}
 use Rattle.journal.specs.declared.stage.Stage.{Stage}
 use Rattle.journal.specs.declared.stage.Stage.TheVariants.{Recording, Describing, SyncingRecords, Opening, Committing, Applying, SyncingHomes, Closing, Finishing}
 use Rattle.journal.specs.declared.flushed.Flushed.{Flushed}
-use Rattle.journal.specs.declared.flushed.Flushed.TheVariants.{Device}
+use Rattle.journal.specs.declared.flushed.Flushed.TheVariants.{Going, Committed, Done, Device, Broken}
 use Rattle.journal.specs.Stage.{is_committed}
-use Rattle.journal.specs.Work.{Work, Nothing, Sync, worked, TornFromWork}
+use Rattle.journal.specs.Work.{Work, Nothing, Sync, worked, TornFromWork, has_done}
 use Rattle.journal.specs.WriteOut.{WriteOut, next_stage, has_committed, begun_of, next_home, work_of}
 use Rattle.journal.specs.WriteOuts.{WriteOutsValue, none_of, has_uncommitted, current, current_stage, next_work, next_answer, outs_after, is_busy, next_batch, begun, outs_home}
 use Rattle.journal.specs.WriteOut.{IsBatch}
@@ -377,19 +378,30 @@ module _ (v : SuperValue) (old other new : ℕ → List ℕ) where
 
 -- ---- whatever led to them
 
+-- a step that doesn't answer that a call failed
+pub done_unless : (answer : Flushed) → answer ≢ Device → has_done answer ≡ true
+done_unless Going other = refl
+done_unless (Committed mark) other = refl
+done_unless (Done mark) other = refl
+done_unless Device other = absurd (other refl)
+done_unless Broken other = refl
+
 stands_stepped : {D : Type 0} (disk : Ghosts D) (v : SuperValue) (outs : WriteOutsValue) (old new : ℕ → List ℕ) (bytes : List ℕ) (answer : Flushed) (before after : D) → IsStep disk outs bytes answer before after → ((home : ℕ) → outs_home outs ≡ Some home → bytes ≡ new home)
     → IsStanding v outs old new (disk.seen before) (disk.may_leave before) → IsStanding v (outs_after outs answer) old new (disk.seen after) (disk.may_leave after)
 stands_stepped disk v outs old new bytes answer before after step is_new now = ⊎_elim
     (λ is. subst (λ (a : Flushed). IsStanding v (outs_after outs a) old new (disk.seen after) (disk.may_leave after)) (sym is)
-    (subst (λ (l : List ℕ). IsStanding v (outs_after outs (next_answer outs)) old new l (disk.may_leave after)) (sym (step.worked (fine is)))
-    (stands_after v old new outs (disk.seen before) (disk.may_leave before) bytes step.a_block now step.whole step.some is_new (disk.may_leave after) step.left (step.sure (fine is)))))
+    (subst (λ (l : List ℕ). IsStanding v (outs_after outs (next_answer outs)) old new l (disk.may_leave after)) (sym (done_seen step.did step.honest (done is)))
+    (stands_after v old new outs (disk.seen before) (disk.may_leave before) bytes step.a_block now step.whole step.some is_new (disk.may_leave after) step.did.left (step.did.sure step.honest (done is)))))
     (λ is. subst (λ (a : Flushed). IsStanding v (outs_after outs a) old new (disk.seen after) (disk.may_leave after)) (sym is)
-    (stands_failed v old new outs (disk.seen before) (disk.may_leave before) bytes step.a_block now step.whole step.some is_new (disk.seen after) (disk.may_leave after) step.left))
+    (stands_failed v old new outs (disk.seen before) (disk.may_leave before) bytes step.a_block now step.whole step.some is_new (disk.seen after) (disk.may_leave after) step.did.left))
     step.answered
   where
     fine : answer ≡ next_answer outs → answer ≡ Device → ⊥
     fine is e = (sound_after outs.geometry outs.next outs.batches step.some (sound_of outs now.sound)).no_device
         (sym (answer_same outs now.sound step.whole step.some) ∙ sym is ∙ e)
+
+    done : answer ≡ next_answer outs → has_done answer ≡ true
+    done is = done_unless answer (fine is)
 
 pub standing : {D : Type 0} (disk : Ghosts D) (v : SuperValue) {outs : WriteOutsValue} {old new : ℕ → List ℕ} {device : D} → Stands disk v outs old new device → IsStanding v outs old new (disk.seen device) (disk.may_leave device)
 standing disk v (AtFirst device volume only) = stands_first v (disk.seen device) (disk.may_leave device) (fits_geometry v volume.super_block.fits) volume only

@@ -70,7 +70,7 @@ module _ (v : SuperValue) (old new : ℕ → List ℕ) where
   none_written : (batch : Batch) (seen : List ℕ) → IsWritten v new batch seen (Applying 0)
   none_written batch seen = record { records = λ i lt. absurd (omega arith); descriptor = λ e. false_true e; homes = λ i lt. absurd (omega arith) }
 
-  waiting_written : (seen : List ℕ) (batches : List WriteOut) → AllByRecursion (λ (x : WriteOut). next_stage x ≡ Some (Applying 0)) batches → AreWritten v new seen batches
+  pub waiting_written : (seen : List ℕ) (batches : List WriteOut) → AllByRecursion (λ (x : WriteOut). next_stage x ≡ Some (Applying 0)) batches → AreWritten v new seen batches
   waiting_written seen [] wait = tt
   waiting_written seen (x ∷ newer) wait =
       (subst (λ (o : Option Stage). IfSome o (IsWritten v new x.batch seen)) (sym wait.0) (none_written x.batch seen), waiting_written seen newer wait.1)

@@ -3,6 +3,7 @@ pub mod Work
 pub mod WriteOut
 pub mod WriteOuts
 pub mod Recovered
+pub mod Finished
 pub mod Crash
 pub mod Standing
 pub mod inside

@@ -3,6 +3,7 @@
 use Rattle.std.specs.Prelude.{ℕ, ◌≡◌, ◌≢◌, ◌^◌, ◌<◌, ◌⊎◌, false, List, [], length, Contains, Some}
 use Rattle.std.specs.List.{AllByRecursion}
 use Rattle.device.specs.Device.{Only}
+use Rattle.device.specs.Did.{Did}
 use Rattle.device.specs.declared.device.Device.{Ghosts}
 use Rattle.volume_codec.specs.Layout.{block_at}
 use Rattle.volume_codec.specs.Super.{SuperValue, geometry_of}
@@ -10,7 +11,7 @@ use Rattle.volume_codec.specs.Descriptor.{AreHomes}
 use Rattle.volume_codec.specs.Recovery.{IsVolume}
 use Rattle.journal.specs.declared.flushed.Flushed.{Flushed}
 use Rattle.journal.specs.declared.flushed.Flushed.TheVariants.{Device}
-use Rattle.journal.specs.Work.{Sync, worked, TornFromWork}
+use Rattle.journal.specs.Work.{has_done}
 use Rattle.journal.specs.WriteOuts.{WriteOutsValue, none_of, has_uncommitted, next_work, next_answer, outs_after, outs_home, is_busy, begun}
 
 -- a batch of these home blocks may begin under this mark
@@ -29,9 +30,8 @@ pub record IsStep {D : Type 0} (disk : Ghosts D) (outs : WriteOutsValue) (bytes 
   pub some : outs.batches ≢ []
   pub a_block : length bytes ≡ 4096
   pub answered : (answer ≡ next_answer outs) ⊎ (answer ≡ Device)
-  pub worked : answer ≢ Device → disk.seen after ≡ worked (disk.seen before) (next_work outs bytes)
-  pub left : (c : List ℕ) → disk.may_leave after c → TornFromWork (next_work outs bytes) (disk.may_leave before) c
-  pub sure : answer ≢ Device → next_work outs bytes ≡ Sync → Only (disk.may_leave after) (disk.seen before)
+  pub honest : disk.is_honest before
+  pub did : Did disk before (next_work outs bytes) (has_done answer) after
 
 pub data Stands {D : Type 0} (disk : Ghosts D) (v : SuperValue)
     : WriteOutsValue → (ℕ → List ℕ) → (ℕ → List ℕ) → D → Type 0 where

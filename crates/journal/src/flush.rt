@@ -1,16 +1,17 @@
 // One write-out.
-ghost use Rattle.std.specs.Prelude.{◌≡◌, ◌≢◌, ◌↔◌, ◌⊎◌, ℕ, ◌+◌, ◌-◌, ◌*◌, ◌^◌, ◌<◌, ◌≤◌, false, true, IsTrue, IsSome, List, length, slice_index, Contains, Some, IfSome, OnOk, IsOk, IsErr};
+ghost use Rattle.std.specs.Prelude.{◌≡◌, ◌↔◌, ◌⊎◌, ◌*◌, ◌<◌, ◌≤◌, true, is_ok, IsTrue, IsSome, length, slice_index, Contains, Some, IfSome};
 ghost use Rattle.std.specs.Vec.{vec_capacity};
-ghost use Rattle.device.specs.Device.{Only, LeavesOnly};
+ghost use Rattle.device.specs.Did.{Did};
 ghost use Rattle.volume_codec.specs.Layout.{IsHome};
-ghost use Rattle.journal.specs.Work.{CopyBlock, Sync, worked, TornByWork, TornFromWork, calls_of, HasFailed, faults_of};
+ghost use Rattle.journal.specs.Work.{has_done};
 ghost use Rattle.journal.specs.inside.Sound.{stage_work};
 ghost use Rattle.journal.specs.WriteOut.{next_stage, has_committed};
-ghost use Rattle.journal.specs.WriteOut.{IsBatch, flush_of, flush_record, flush_home, flush_work, flush_answer, flush_after};
+ghost use Rattle.journal.specs.WriteOut.{IsBatch, flush_of, committed_of, flush_record, flush_home, flush_work, flush_answer, flush_after};
 
-use crate::gate::open_gate;
-use crate::{Flushed, Stage, apply_record, close_gate, stage_at};
-use device::{Device, DeviceFault};
+use crate::copying::apply_record;
+use crate::gate::{close_gate, open_gate};
+use crate::{Flushed, Stage, stage_at};
+use device::{Device, DeviceFault, make_sure, write_at};
 use std::alloc::Allocator;
 use std::marker::Model;
 use volume_codec::{Geometry, write_descriptor};
@@ -63,6 +64,25 @@ impl<A: Allocator + Copy> Flush<A> {
             mark,
             homes,
             steps: 0,
+            broken: false,
+        }
+    }
+
+    /// The write-out of a batch that is committed, before the first step after that: its gate is open, and its records
+    /// are to be written home.
+    pub(crate) fn committed(geometry: Geometry, journal: u32, mark: u64, homes: Vec<u32, A>) -> Self
+        requires { IsBatch geometry (record { journal = journal; mark = mark; homes = homes.items }) }
+        ensures { result ≡ committed_of geometry
+            (record { journal = journal; mark = mark; homes = homes.items }) (vec_capacity homes) }
+    {
+        prove!(geometry.slots() <= 1020);
+        let steps = homes.len() as u32 + 4;
+        Flush {
+            geometry,
+            journal,
+            mark,
+            homes,
+            steps,
             broken: false,
         }
     }
@@ -162,43 +182,19 @@ impl<A: Allocator + Copy> Flush<A> {
     ) -> Result<(), DeviceFault>
         requires long { 4096 * self.now.geometry.blocks ≤ length (D.seen device.old) }
         requires stage { next_stage self.now.write_out ≡ Some stage }
-
-        ensures worked { D.is_honest device.old → OnOk result
-            (D.seen device.new ≡ worked (D.seen device.old) (stage_work self.now bytes.now stage)) }
-        ensures torn { IsErr result → D.is_honest device.old
-            → TornByWork (stage_work self.now bytes.now stage) (D.seen device.old) (D.seen device.new) }
-        ensures left { (c : List ℕ) → D.may_leave device.new c
-            → TornFromWork (stage_work self.now bytes.now stage) (D.may_leave device.old) c }
-        ensures sure { D.is_honest device.old → stage_work self.now bytes.now stage ≡ Sync
-            → OnOk result (Only (D.may_leave device.new) (D.seen device.old)) }
-        ensures time { LeavesOnly D.moment D.left_since device.old device.new
-            (TornFromWork (stage_work self.now bytes.now stage) (D.may_leave device.old)) }
-
-        ensures honest { D.is_honest device.new ↔ D.is_honest device.old }
-        ensures len { length (D.seen device.new) ≡ length (D.seen device.old) }
-        ensures calls { D.calls_made device.old < 2 ^ 64 - 2 → OnOk result
-            (D.calls_made device.new ≡ D.calls_made device.old + calls_of (stage_work self.now bytes.now stage)) }
-        ensures failed_calls { IsErr result → D.calls_made device.old < 2 ^ 64 - 2
-            → HasFailed (stage_work self.now bytes.now stage) (D.calls_made device.old) (D.calls_made device.new) }
-        ensures failed_read { IsErr result → D.calls_made device.old < 2 ^ 64 - 2 → D.is_honest device.old
-            → (from to : ℕ) → stage_work self.now bytes.now stage ≡ CopyBlock from to
-            → D.calls_made device.new ≡ D.calls_made device.old + 1 → D.seen device.new ≡ D.seen device.old }
-        ensures failed { IsErr result → D.faults_met device.old < 2 ^ 64 - 1
-            → D.faults_met device.new ≡ D.faults_met device.old + 1 }
-        ensures done { IsOk result → D.faults_met device.new ≡ D.faults_met device.old }
-        ensures faults_stay { 2 ^ 64 - 1 ≤ D.faults_met device.old → D.faults_met device.new ≡ D.faults_met device.old }
+        ensures { Did D.Device device.old (stage_work self.now bytes.now stage) (is_ok result) device.new }
     {
         match stage {
             Stage::Recording(slot) => {
                 let block = self.geometry.record_block(self.journal, slot);
                 prove!(block < self.geometry.block_count());
-                device.write(4096 * u64::from(block), bytes)
+                write_at(device, 4096 * u64::from(block), bytes)
             }
             Stage::Describing => {
                 let block = self.geometry.descriptor_block(self.journal);
                 prove!(block < self.geometry.block_count());
                 let descriptor = write_descriptor(&self.geometry, self.mark, &self.homes);
-                device.write(4096 * u64::from(block), &descriptor)
+                write_at(device, 4096 * u64::from(block), &descriptor)
             }
             Stage::Opening => open_gate(device, &self.geometry, self.journal),
             Stage::Applying(slot) => {
@@ -207,7 +203,7 @@ impl<A: Allocator + Copy> Flush<A> {
             }
             Stage::Closing => close_gate(device, &self.geometry, self.journal),
             Stage::SyncingRecords | Stage::Committing | Stage::SyncingHomes | Stage::Finishing =>
-                device.sync(),
+                make_sure(device),
         }
     }
 
@@ -223,39 +219,10 @@ impl<A: Allocator + Copy> Flush<A> {
     ) -> Flushed
         requires long { 4096 * self.old.geometry.blocks ≤ length (D.seen device.old) }
         requires going { IsSome (next_stage self.old.write_out) }
-
         ensures answer { (result ≡ flush_answer self.old) ⊎ (result ≡ Flushed.Device) }
         ensures broken { self.old.broken ≡ true → (result ≡ Flushed.Broken) × (device.new ≡ device.old) }
         ensures value { self.new ≡ flush_after self.old result }
-
-        // What is on the device.
-        ensures worked { D.is_honest device.old → result ≢ Flushed.Device
-            → D.seen device.new ≡ worked (D.seen device.old) (flush_work self.old bytes.now) }
-        ensures torn { D.is_honest device.old → result ≡ Flushed.Device
-            → TornByWork (flush_work self.old bytes.now) (D.seen device.old) (D.seen device.new) }
-
-        // What a crash may leave after the step, and at any moment of it.
-        ensures left { (c : List ℕ) → D.may_leave device.new c
-            → TornFromWork (flush_work self.old bytes.now) (D.may_leave device.old) c }
-        ensures sure { D.is_honest device.old → result ≢ Flushed.Device → flush_work self.old bytes.now ≡ Sync
-            → Only (D.may_leave device.new) (D.seen device.old) }
-        ensures time { LeavesOnly D.moment D.left_since device.old device.new
-            (TornFromWork (flush_work self.old bytes.now) (D.may_leave device.old)) }
-
-        ensures honest { D.is_honest device.new ↔ D.is_honest device.old }
-        ensures len { length (D.seen device.new) ≡ length (D.seen device.old) }
-
-        // How many device calls were made and how many failed.
-        ensures calls { D.calls_made device.old < 2 ^ 64 - 2 → result ≢ Flushed.Device
-            → D.calls_made device.new ≡ D.calls_made device.old + calls_of (flush_work self.old bytes.now) }
-        ensures failed_calls { D.calls_made device.old < 2 ^ 64 - 2 → result ≡ Flushed.Device
-            → HasFailed (flush_work self.old bytes.now) (D.calls_made device.old) (D.calls_made device.new) }
-        ensures failed_read { D.calls_made device.old < 2 ^ 64 - 2 → D.is_honest device.old → result ≡ Flushed.Device
-            → (from to : ℕ) → flush_work self.old bytes.now ≡ CopyBlock from to
-            → D.calls_made device.new ≡ D.calls_made device.old + 1 → D.seen device.new ≡ D.seen device.old }
-        ensures faults { D.faults_met device.old < 2 ^ 64 - 1
-            → D.faults_met device.new ≡ D.faults_met device.old + faults_of result }
-        ensures faults_stay { 2 ^ 64 - 1 ≤ D.faults_met device.old → D.faults_met device.new ≡ D.faults_met device.old }
+        ensures did { Did D.Device device.old (flush_work self.old bytes.now) (has_done result) device.new }
     {
         if self.broken {
             return Flushed::Broken;

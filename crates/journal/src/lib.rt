@@ -4,6 +4,7 @@
 #![tactic(auto)]
 
 mod copying;
+mod finishing;
 mod flush;
 mod flushed;
 mod gate;
@@ -11,10 +12,9 @@ mod laws;
 mod stage;
 mod write_outs;
 
-pub use copying::apply_record;
+pub use finishing::finish;
 pub use flush::Flush;
 pub use flushed::Flushed;
-pub use gate::close_gate;
 pub use laws::{
     no_step_makes_a_batch, steps_of_a_write_out, torn_gates, unread_blocks, what_write_outs_leave,
 };

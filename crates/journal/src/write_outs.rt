@@ -1,12 +1,13 @@
 // The write-outs of a volume that aren't done.
-ghost use Rattle.std.specs.Prelude.{◌≡◌, ◌≢◌, ◌↔◌, ◌⊎◌, ℕ, ◌+◌, ◌-◌, ◌*◌, ◌^◌, ◌<◌, ◌≤◌, false, true, not, IsTrue, IsSome, List, [], length, map, Contains, Some, IfSome, IfNone, IfOk, OnOk, IsOk, IsErr, slice_get};
+ghost use Rattle.std.specs.Prelude.{◌≡◌, ◌≢◌, ◌↔◌, ◌⊎◌, ℕ, ◌*◌, ◌<◌, ◌≤◌, false, true, IsTrue, List, [], length, map, Some, IfSome, IfNone, IfOk};
 ghost use Rattle.std.specs.List.{AllByRecursion};
 ghost use Rattle.std.specs.Vec.{vec_len, vec_capacity};
-ghost use Rattle.device.specs.Device.{Only, LeavesOnly};
+ghost use Rattle.device.specs.Device.{LeavesOnly};
+ghost use Rattle.device.specs.Did.{Did};
 ghost use Rattle.volume_codec.specs.Layout.{IsGeometry, journals_of};
 ghost use Rattle.volume_codec.specs.Descriptor.{AreHomes};
 ghost use Rattle.volume_codec.specs.Super.{SuperValue};
-ghost use Rattle.journal.specs.Work.{CopyBlock, Sync, worked, TornByWork, TornFromWork, calls_of, HasFailed, faults_of};
+ghost use Rattle.journal.specs.Work.{has_done};
 ghost use Rattle.journal.specs.WriteOut.{broken_after};
 ghost use Rattle.journal.specs.WriteOuts.{none_of, has_uncommitted, current, current_stage, outs_record, outs_home, next_work, next_answer, outs_after, is_busy, following, begun, HasBlock};
 ghost use Rattle.journal.specs.inside.Room.{IsCurrent, kept_after, spare_after};
@@ -261,6 +262,7 @@ impl<A: Allocator + Copy> WriteOuts<A> {
         ensures broken { self.old.broken ≡ true → (result ≡ Flushed.Broken) × (device.new ≡ device.old) }
         ensures whole { self.old.broken ≡ false → result ≢ Flushed.Broken }
         ensures value { self.new ≡ outs_after self.old result }
+        ensures did { Did D.Device device.old (next_work self.old bytes.now) (has_done result) device.new }
 
         // With the same Old and New they stand after the step, and a crash at any moment of it leaves what it may.
         ensures stands { (v : SuperValue) (old new : ℕ → List ℕ) → D.is_honest device.old
@@ -271,35 +273,6 @@ impl<A: Allocator + Copy> WriteOuts<A> {
             → Stands D.Device v self.old old new device.old
             → ((home : ℕ) → outs_home self.old ≡ Some home → bytes.now ≡ new home)
             → LeavesOnly D.moment D.left_since device.old device.new (LeftWithin v old new (current_stage self.old)) }
-
-        // What is on the device.
-        ensures worked { D.is_honest device.old → result ≢ Flushed.Device
-            → D.seen device.new ≡ worked (D.seen device.old) (next_work self.old bytes.now) }
-        ensures torn { D.is_honest device.old → result ≡ Flushed.Device
-            → TornByWork (next_work self.old bytes.now) (D.seen device.old) (D.seen device.new) }
-
-        // What a crash may leave after the step, and at any moment of it.
-        ensures left { (c : List ℕ) → D.may_leave device.new c
-            → TornFromWork (next_work self.old bytes.now) (D.may_leave device.old) c }
-        ensures sure { D.is_honest device.old → result ≢ Flushed.Device → next_work self.old bytes.now ≡ Sync
-            → Only (D.may_leave device.new) (D.seen device.old) }
-        ensures time { LeavesOnly D.moment D.left_since device.old device.new
-            (TornFromWork (next_work self.old bytes.now) (D.may_leave device.old)) }
-
-        ensures honest { D.is_honest device.new ↔ D.is_honest device.old }
-        ensures len { length (D.seen device.new) ≡ length (D.seen device.old) }
-
-        // How many device calls were made and how many failed.
-        ensures calls { D.calls_made device.old < 2 ^ 64 - 2 → result ≢ Flushed.Device
-            → D.calls_made device.new ≡ D.calls_made device.old + calls_of (next_work self.old bytes.now) }
-        ensures failed_calls { D.calls_made device.old < 2 ^ 64 - 2 → result ≡ Flushed.Device
-            → HasFailed (next_work self.old bytes.now) (D.calls_made device.old) (D.calls_made device.new) }
-        ensures failed_read { D.calls_made device.old < 2 ^ 64 - 2 → D.is_honest device.old → result ≡ Flushed.Device
-            → (from to : ℕ) → next_work self.old bytes.now ≡ CopyBlock from to
-            → D.calls_made device.new ≡ D.calls_made device.old + 1 → D.seen device.new ≡ D.seen device.old }
-        ensures faults { D.faults_met device.old < 2 ^ 64 - 1
-            → D.faults_met device.new ≡ D.faults_met device.old + faults_of result }
-        ensures faults_stay { 2 ^ 64 - 1 ≤ D.faults_met device.old → D.faults_met device.new ≡ D.faults_met device.old }
     {
         if self.broken {
             return Flushed::Broken;

@@ -20,8 +20,7 @@ use Rattle.journal.specs.Stage.{answer_at}
 use Rattle.journal.specs.Work.{Work, Nothing, work_at, calls_of}
 use Rattle.journal.specs.WriteOut.{WriteOut, next_stage, begun_of, advanced_of, work_of, answer_of, calls_in_steps}
 use Rattle.journal.specs.WriteOuts.{WriteOutsValue, has_uncommitted, current, advanced, batches_after, outs_after, outs_record, next_answer, next_batch, begun}
-use Rattle.journal.proofs.Stages.{IsAt, stage_is, early_calls, all_calls}
-use Rattle.journal.proofs.Batches.{current-oldest}
+use Rattle.journal.proofs.Public.{IsAt, stage_is, early_calls, all_calls, current-oldest}
 use Rattle.machine.specs.declared.act.Act.{Act}
 use Rattle.machine.specs.declared.act.Act.TheVariants as acts
 use Rattle.machine.specs.declared.act.Reply.{Reply}
@@ -39,10 +38,7 @@ use Rattle.machine.proofs.sound.Kept.{sound_kept}
 use Rattle.machine.proofs.sound.ByMark.{marked_sound}
 use Rattle.machine.proofs.sound.Waiting.{blocks, steps_committed, current_uncommitted}
 use Rattle.machine.proofs.durable.Quiet.{QuietStep, unchanged}
-use Rattle.machine.proofs.durable.QuietAccesses.{quiet_load, quiet_store, quiet_fill, quiet_evict}
-use Rattle.machine.proofs.durable.QuietCalls.{quiet_switch, quiet_idle, quiet_wake, quiet_resume, quiet_ack, quiet_create, quiet_destroy, quiet_map, quiet_unmap, quiet_protect, quiet_reclaim, quiet_msync}
-use Rattle.machine.proofs.durable.QuietFaults.{quiet_fix}
-use Rattle.machine.proofs.durable.QuietChanges.{quiet_change}
+use Rattle.machine.proofs.durable.Kinds.{by_kind}
 use Rattle.machine.proofs.durable.Steps.{going_is, committed_is, done_is}
 use Rattle.machine.proofs.Tracks.{follows}
 
@@ -271,72 +267,34 @@ module _ (told : Told) (s : State) (disk : List ℕ) (p : ℕ) (new : State) (di
   flushing reply rule = absurd rule
 
   outcome : (act : Act) (reply : Reply) → Acts s disk p act reply new disk' → Outcome s act reply new
-  outcome (acts.Load va count) reply rule = calmly (acts.Load va count) reply (quiet_load told s disk p new disk' sound va count reply rule)
-  outcome (acts.Store va bytes) reply rule = calmly (acts.Store va bytes) reply (quiet_store told s disk p new disk' sound va bytes reply rule)
-  outcome (acts.Fill page) reply rule = calmly (acts.Fill page) reply (quiet_fill told s disk p new disk' sound page reply rule)
-  outcome (acts.Evict slot) reply rule = calmly (acts.Evict slot) reply (quiet_evict told s disk p new disk' sound slot reply rule)
-  outcome (acts.Switch space keep) reply rule = calmly (acts.Switch space keep) reply (quiet_switch told s disk p new disk' space keep reply rule)
-  outcome acts.Idle reply rule = calmly acts.Idle reply (quiet_idle told s disk p new disk' reply rule)
-  outcome acts.Wake reply rule = calmly acts.Wake reply (quiet_wake told s disk p new disk' reply rule)
-  outcome (acts.Fix va write) reply rule = calmly (acts.Fix va write) reply (quiet_fix told s disk p new disk' sound va write reply rule)
-  outcome acts.Create reply rule = calmly acts.Create reply (quiet_create told s disk p new disk' reply rule)
-  outcome (acts.Destroy space) reply rule = calmly (acts.Destroy space) reply (quiet_destroy told s disk p new disk' space reply rule)
-  outcome (acts.Map space va len file offset prot access) reply rule =
-      calmly (acts.Map space va len file offset prot access) reply (quiet_map told s disk p new disk' space va len file offset prot access reply rule)
-  outcome (acts.Unmap space va len) reply rule = calmly (acts.Unmap space va len) reply (quiet_unmap told s disk p new disk' space va len reply rule)
-  outcome (acts.Protect space va len prot) reply rule = calmly (acts.Protect space va len prot) reply (quiet_protect told s disk p new disk' space va len prot reply rule)
-  outcome (acts.Reclaim file page) reply rule = calmly (acts.Reclaim file page) reply (quiet_reclaim told s disk p new disk' file page reply rule)
-  outcome (acts.Msync va len flags) reply rule = calmly (acts.Msync va len flags) reply (quiet_msync told s disk p new disk' va len flags reply rule)
-  outcome acts.Ack reply rule = calmly acts.Ack reply (quiet_ack told s disk p new disk' reply rule)
-  outcome acts.Change reply rule = elim (quiet_change told s disk p new disk' sound reply rule) [
-    | inl quiet ↦ calmly acts.Change reply quiet
-    | inr mark ↦ inl (inr (record { p = p; number = mark.number; made = mark.made; work = ap (step_work s acts.Change) mark.answer }))
-  ]
-  outcome acts.Resume reply rule = calmly acts.Resume reply (quiet_resume told s disk p new disk' reply rule)
-  outcome acts.Flush reply rule = flushing reply rule
+  outcome =
+      by_kind told s disk p new disk' sound (λ act reply. Outcome s act reply new) calmly
+      (λ reply mark. inl (inr (record { p = p; number = mark.number; made = mark.made; work = ap (step_work s acts.Change) mark.answer }))) flushing
 
   -- only a step of them answers so
-  commits_by : (act : Act) (number : ℕ) → Acts s disk p act (replies.Committed number) new disk' → Flushing s act (replies.Committed number) new
-  commits_by (acts.Load va count) number rule = absurd rule.0.1
-  commits_by (acts.Store va bytes) number rule = absurd rule.0.1
-  commits_by (acts.Fill page) number rule = absurd rule.0.1
-  commits_by (acts.Evict slot) number rule = absurd rule.0.1
-  commits_by (acts.Switch space keep) number rule = absurd rule.0
-  commits_by acts.Idle number rule = absurd rule.0
-  commits_by acts.Wake number rule = absurd rule.0
-  commits_by (acts.Fix va write) number rule = absurd rule.0
-  commits_by acts.Create number rule = absurd rule.0
-  commits_by (acts.Destroy space) number rule = absurd rule.0
-  commits_by (acts.Map space va len file offset prot access) number rule = absurd rule.0
-  commits_by (acts.Unmap space va len) number rule = absurd rule.0
-  commits_by (acts.Protect space va len prot) number rule = absurd rule.0
-  commits_by (acts.Reclaim file page) number rule = absurd rule.0
-  commits_by (acts.Msync va len flags) number rule = absurd rule.0
-  commits_by acts.Ack number rule = absurd rule.0
-  commits_by acts.Change number rule = absurd rule.0
-  commits_by acts.Resume number rule = absurd rule.0
-  commits_by acts.Flush number rule = flush_made s disk p (replies.Committed number) new disk' rule (subst GoesOn (sym (committed_is number (next_answer s.write_outs) rule.answered)) tt) refl
-
-  ends_by : (act : Act) (number : ℕ) → Acts s disk p act (replies.Done number) new disk' → Flushing s act (replies.Done number) new
-  ends_by (acts.Load va count) number rule = absurd rule.0.1
-  ends_by (acts.Store va bytes) number rule = absurd rule.0.1
-  ends_by (acts.Fill page) number rule = absurd rule.0.1
-  ends_by (acts.Evict slot) number rule = absurd rule.0.1
-  ends_by (acts.Switch space keep) number rule = absurd rule.0
-  ends_by acts.Idle number rule = absurd rule.0
-  ends_by acts.Wake number rule = absurd rule.0
-  ends_by (acts.Fix va write) number rule = absurd rule.0
-  ends_by acts.Create number rule = absurd rule.0
-  ends_by (acts.Destroy space) number rule = absurd rule.0
-  ends_by (acts.Map space va len file offset prot access) number rule = absurd rule.0
-  ends_by (acts.Unmap space va len) number rule = absurd rule.0
-  ends_by (acts.Protect space va len prot) number rule = absurd rule.0
-  ends_by (acts.Reclaim file page) number rule = absurd rule.0
-  ends_by (acts.Msync va len flags) number rule = absurd rule.0
-  ends_by acts.Ack number rule = absurd rule.0
-  ends_by acts.Change number rule = absurd rule.0
-  ends_by acts.Resume number rule = absurd rule.0
-  ends_by acts.Flush number rule = flush_made s disk p (replies.Done number) new disk' rule (subst GoesOn (sym (done_is number (next_answer s.write_outs) rule.answered)) tt) refl
+  answers_by : (act : Act) (number : ℕ) → (Acts s disk p act (replies.Committed number) new disk' → Flushing s act (replies.Committed number) new) × (Acts s disk p act (replies.Done number) new disk' → Flushing s act (replies.Done number) new)
+  answers_by (acts.Load va count) number = (λ rule. absurd rule.0.1, λ rule. absurd rule.0.1)
+  answers_by (acts.Store va bytes) number = (λ rule. absurd rule.0.1, λ rule. absurd rule.0.1)
+  answers_by (acts.Fill page) number = (λ rule. absurd rule.0.1, λ rule. absurd rule.0.1)
+  answers_by (acts.Evict slot) number = (λ rule. absurd rule.0.1, λ rule. absurd rule.0.1)
+  answers_by (acts.Switch space keep) number = (λ rule. absurd rule.0, λ rule. absurd rule.0)
+  answers_by acts.Idle number = (λ rule. absurd rule.0, λ rule. absurd rule.0)
+  answers_by acts.Wake number = (λ rule. absurd rule.0, λ rule. absurd rule.0)
+  answers_by (acts.Fix va write) number = (λ rule. absurd rule.0, λ rule. absurd rule.0)
+  answers_by acts.Create number = (λ rule. absurd rule.0, λ rule. absurd rule.0)
+  answers_by (acts.Destroy space) number = (λ rule. absurd rule.0, λ rule. absurd rule.0)
+  answers_by (acts.Map space va len file offset prot access) number = (λ rule. absurd rule.0, λ rule. absurd rule.0)
+  answers_by (acts.Unmap space va len) number = (λ rule. absurd rule.0, λ rule. absurd rule.0)
+  answers_by (acts.Protect space va len prot) number = (λ rule. absurd rule.0, λ rule. absurd rule.0)
+  answers_by (acts.Reclaim file page) number = (λ rule. absurd rule.0, λ rule. absurd rule.0)
+  answers_by (acts.Msync va len flags) number = (λ rule. absurd rule.0, λ rule. absurd rule.0)
+  answers_by acts.Ack number = (λ rule. absurd rule.0, λ rule. absurd rule.0)
+  answers_by acts.Change number = (λ rule. absurd rule.0, λ rule. absurd rule.0)
+  answers_by acts.Resume number = (λ rule. absurd rule.0, λ rule. absurd rule.0)
+  answers_by acts.Flush number = (
+    λ rule. flush_made s disk p (replies.Committed number) new disk' rule (subst GoesOn (sym (committed_is number (next_answer s.write_outs) rule.answered)) tt) refl,
+    λ rule. flush_made s disk p (replies.Done number) new disk' rule (subst GoesOn (sym (done_is number (next_answer s.write_outs) rule.answered)) tt) refl,
+  )
 
 -- what the next step answers, where no device call has failed
 whole_answer : (outs : WriteOutsValue) → outs.broken ≡ false → option_map_or answer_of (current outs.batches) flushed.Broken ≡ next_answer outs
@@ -707,7 +665,7 @@ module _ {D : Type 0} (disk : Ghosts D) (files : List File) (start old marked la
   pub committed_count : StepTaken disk last step (replies.Committed number) new
       → (works : List Work) × AskFor disk number marked (steps ++ step ∷ []) (answers ++ replies.Committed number ∷ []) new works × (length works ≡ length mark.pages + 4) × (sum_by calls_of works ≡ length mark.pages + 4)
   committed_count here =
-      let flush = commits_by first_told last.state here.answered.0 step.p new.state here.answered.1 ended.1 step.act number here.answered.2 in
+      let flush = (answers_by first_told last.state here.answered.0 step.p new.state here.answered.1 ended.1 step.act number).0 here.answered.2 in
       let is = committed_is number (next_answer last.state.write_outs) flush.answered in
       let found = counted (replies.Committed number) (flushed.Committed number) is (λ w e. (committed_at w number e).0) tt flush here in
       let at : found.0 ≡ length its_batch.homes + 3 = (committed_at (record { batch = its_batch; steps = found.0 }) number found.1).1 in
@@ -718,7 +676,7 @@ module _ {D : Type 0} (disk : Ghosts D) (files : List File) (start old marked la
   pub done_count : StepTaken disk last step (replies.Done number) new
       → (works : List Work) × AskFor disk number marked (steps ++ step ∷ []) (answers ++ replies.Done number ∷ []) new works × (length works ≡ 2 * length mark.pages + 7) × (sum_by calls_of works ≡ 3 * length mark.pages + 7)
   done_count here =
-      let flush = ends_by first_told last.state here.answered.0 step.p new.state here.answered.1 ended.1 step.act number here.answered.2 in
+      let flush = (answers_by first_told last.state here.answered.0 step.p new.state here.answered.1 ended.1 step.act number).1 here.answered.2 in
       let is = done_is number (next_answer last.state.write_outs) flush.answered in
       let found = counted (replies.Done number) (flushed.Done number) is (λ w e. (done_at w number e).0) tt flush here in
       let at : found.0 ≡ 2 * length its_batch.homes + 6 = (done_at (record { batch = its_batch; steps = found.0 }) number found.1).1 in

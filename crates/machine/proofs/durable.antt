@@ -2,6 +2,7 @@ pub mod Lists
 pub mod Histories
 pub mod Pages
 pub mod Homes
+pub mod Settled
 pub mod Leaves
 pub mod Uncommitted
 pub mod Accesses
@@ -11,6 +12,7 @@ pub mod QuietAccesses
 pub mod QuietCalls
 pub mod QuietFaults
 pub mod QuietChanges
+pub mod Kinds
 pub mod Overlays
 pub mod Marks
 pub mod Records

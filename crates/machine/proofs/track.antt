@@ -4,7 +4,6 @@ pub mod ToldProcessors
 pub mod ToldSpaces
 pub mod Still
 pub mod Arranged
-pub mod Refused
 pub mod ArrangedHardware
 pub mod ArrangedChanges
 pub mod ArrangedKept

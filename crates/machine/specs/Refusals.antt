@@ -1,6 +1,6 @@
 -- Why an act is refused: of the reasons that hold, the first in this order is answered (POSIX.1-2024 for the calls on
--- mappings; the order is this project's own).
-use Rattle.std.specs.Prelude.{ℕ, ◌+◌, ◌-◌, ◌%◌, ◌^◌, ◌==◌, ◌&&◌, ◌||◌, not, nat_le, Bool, true, false, is_some, List, [], ◌∷◌, length, Option, Some, None, Result, Ok, Err, if◌then◌else◌}
+-- mappings; the order is this project's own). The reasons of processors and of the lock are those of the shootdown.
+use Rattle.std.specs.Prelude.{ℕ, ◌+◌, ◌-◌, ◌%◌, ◌^◌, ◌==◌, ◌&&◌, ◌||◌, not, nat_le, Bool, true, false, List, [], ◌∷◌, length, Option, Some, None, Result, Ok, Err, if◌then◌else◌}
 use Rattle.std.specs.Option.{option_or}
 use Rattle.page_entry.specs.declared.refusal.Refusal.{Refusal}
 use Rattle.page_entry.specs.declared.refusal.Refusal.TheVariants as refusals
@@ -11,12 +11,10 @@ use Rattle.mappings.specs.declared.page_range.PageRange.{PageRange}
 use Rattle.mappings.specs.Judgement.{add_refusal}
 use Rattle.volume_codec.specs.Files.{TableFile}
 use Rattle.volume_codec.specs.Super.{pages_of}
-use Rattle.spaces.specs.Spaces.{has_space, space_at}
-use Rattle.spaces.specs.Requests.{is_user_space, judged_range, judged_mapping, judged_protection, maps_each}
-use Rattle.shootdown.specs.declared.lock.Lock.{Lock}
-use Rattle.shootdown.specs.declared.proc_state.ProcState.{ProcState}
-use Rattle.shootdown.specs.declared.proc_state.ProcState.TheVariants.{Interrupted, Stalled, Idle}
-use Rattle.shootdown.specs.Shootdown.{is_there, state_of, current, not_running, not_free, interrupted, is_current}
+use Rattle.spaces.specs.Spaces.{space_at}
+use Rattle.spaces.specs.Requests.{judged_range, judged_mapping, judged_protection, maps_each}
+use Rattle.shootdown.specs.Shootdown.{current, not_running, not_free}
+use Rattle.shootdown.specs.Calls.{destroy_refusal}
 use Rattle.fault.specs.Fault.{place_of_fault, fault_refusal}
 use Rattle.journal.specs.WriteOuts.{is_busy}
 use Rattle.machine.specs.State.{State, length_of}
@@ -36,18 +34,10 @@ abbrev pub why_not : {X : Type 0} → Result X Refusal → Option Refusal
 why_not (Ok x) = None
 why_not (Err why) = Some why
 
--- the first reason against a switch, in this order: no such processor; it isn't running; the lock is held (these three
--- are `not_free`); no such space
-abbrev pub switch_refusal : State → ℕ → ℕ → Option Refusal
-switch_refusal s p pcid =
-    first_of (not_free s.hardware.shootdown p ∷ refuse_if (not (has_space s.hardware.spaces pcid)) refusals.Einval ∷ [])
-
--- the first reason against a destroy, in this order: those of `not_free`; no such space, or space 0; it is the current
--- space of a processor
-abbrev pub destroy_refusal : State → ℕ → ℕ → Option Refusal
-destroy_refusal s p pcid =
-    first_of (not_free s.hardware.shootdown p ∷ refuse_if (not (is_user_space s.hardware.spaces pcid)) refusals.Einval
-    ∷ refuse_if (is_current s.hardware.shootdown pcid) refusals.Busy ∷ [])
+-- the first reason against a destroy, in this order: those of `not_free`; those of the space (`destroy_refusal`)
+abbrev pub destroy_refusal_of : State → ℕ → ℕ → Option Refusal
+destroy_refusal_of s p pcid =
+    first_of (not_free s.hardware.shootdown p ∷ destroy_refusal s.hardware.shootdown s.hardware.spaces pcid ∷ [])
 
 -- of pages of a file that may be mapped as far as their numbers go, or aren't
 abbrev pub mapping_refusal : State → ℕ → ℕ → Rights → Rights → Result (PageRange × ℕ) Refusal → Option Refusal
@@ -100,41 +90,6 @@ msync_refusal s p va len flags =
     ∷ refuse_if (not (maps_each s.hardware.spaces (current s.hardware.shootdown p) va len)) refusals.Enomem
     ∷ refuse_if s.write_outs.broken refusals.Broken
     ∷ refuse_if (is_busy s.write_outs || nat_le (2 ^ 32 - 1) s.marks) refusals.Busy ∷ [])
-
--- an act of any processor that there is
-abbrev pub not_there : State → ℕ → Option Refusal
-not_there s p = refuse_if (not (is_there s.hardware.shootdown p)) refusals.Einval
-
--- a processor that waits for the lock to be free
-abbrev pub waits_in : ProcState → ProcState → Bool
-waits_in Stalled Stalled = true
-waits_in Idle Idle = true
-waits_in Interrupted Interrupted = true
-waits_in state other = false
-
--- a stalled processor that would resume, or an idle one that would wake, while the lock is held
-abbrev pub wait_refusal : State → ℕ → ProcState → Option Refusal
-wait_refusal s p state =
-    first_of (not_there s p
-    ∷ refuse_if (waits_in state (state_of s.hardware.shootdown p) && is_some s.hardware.shootdown.lock) refusals.Locked
-    ∷ [])
-
--- the first reason against an idle, in this order: no such processor; it isn't running; it is interrupted
-abbrev pub idle_refusal : State → ℕ → Option Refusal
-idle_refusal s p =
-    first_of (not_running s.hardware.shootdown p
-    ∷ refuse_if (waits_in Interrupted (state_of s.hardware.shootdown p)) refusals.Locked ∷ [])
-
--- of the change that was begun: others wait for the lock, and its holder for the processors that are still interrupted
-abbrev pub lock_refusal : ℕ → ℕ → Option Lock → Option Refusal
-lock_refusal p waiting None = None
-lock_refusal p waiting (Some lock) =
-    if lock.holder == p then (if waiting == 0 then None else Some (refusals.NotYet waiting)) else Some refusals.Locked
-
--- the first reason against a change, in this order: no such processor; that of the lock (`lock_refusal`)
-abbrev pub change_refusal : State → ℕ → Option Refusal
-change_refusal s p =
-    first_of (not_there s p ∷ lock_refusal p (interrupted s.hardware.shootdown) s.hardware.shootdown.lock ∷ [])
 
 -- a fault that leads to a place, or doesn't
 abbrev pub served_refusal : State → Bool → Result Place Refusal → Option Refusal

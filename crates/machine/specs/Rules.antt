@@ -8,10 +8,10 @@ use Rattle.std.specs.FinMap as maps
 use Rattle.page_entry.specs.declared.numbers.FilePage.{FilePage}
 use Rattle.page_entry.specs.declared.refusal.Refusal.{Refusal}
 use Rattle.page_entry.specs.declared.refusal.Refusal.TheVariants as refusals
+use Rattle.mappings.specs.Places.{splits}
 use Rattle.mappings.specs.declared.place.Place.{Place}
 use Rattle.mappings.specs.declared.place.Rights.{Rights}
 use Rattle.mappings.specs.declared.page_range.PageRange.{PageRange}
-use Rattle.mappings.specs.Places.{splits}
 use Rattle.frames.specs.Frames.{FramesState, Frame, frame_at, bytes_of, without_frame, without_copies}
 use Rattle.journal.specs.declared.flushed.Flushed.{Flushed}
 use Rattle.journal.specs.declared.flushed.Flushed.TheVariants as flushed
@@ -24,6 +24,7 @@ use Rattle.spaces.specs.Spaces.{Spaces, space_at, empty_space, with_space, with_
 use Rattle.spaces.specs.Requests.{judged_range, judged_mapping, judged_protection, maps_some}
 use Rattle.shootdown.specs.declared.proc_state.ProcState.TheVariants.{Interrupted, Stalled, Idle}
 use Rattle.shootdown.specs.Shootdown.{ShootdownState, current, state_of, not_free, begun, stalled, finished, resumed, idled, switched_to, destroyed}
+use Rattle.shootdown.specs.Calls.{not_there, is_stalled, is_idle, wait_refusal, idle_refusal, switch_refusal, change_refusal}
 use Rattle.cpu.specs.Access.{Hardware, Loads, Stores, Fills, Evicts}
 use Rattle.checkpoint.specs.Checkpoint.{CheckpointState, Holds, IsDirty, Gathers, ProtectsNoted, NotesTaken, IsInRange, IsInSpace, same_page, without_notes, without_copy_of, released, thawed}
 use Rattle.checkpoint.specs.Backing.{page_at}
@@ -34,7 +35,7 @@ use Rattle.machine.specs.declared.act.Reply.{Reply}
 use Rattle.machine.specs.declared.act.Reply.TheVariants as replies
 use Rattle.machine.specs.declared.act.Step.{Step}
 use Rattle.machine.specs.State.{State, home_of, cut_at_end, page_from}
-use Rattle.machine.specs.Refusals.{switch_refusal, destroy_refusal, map_refusal, unmap_refusal, protect_refusal_of, reclaim_refusal, msync_refusal, not_there, wait_refusal, idle_refusal, change_refusal, fix_refusal, flush_refusal}
+use Rattle.machine.specs.Refusals.{destroy_refusal_of, map_refusal, unmap_refusal, protect_refusal_of, reclaim_refusal, msync_refusal, fix_refusal, flush_refusal}
 
 -- the act was refused for the first of its reasons, and the machine is as before
 pub record IsRefused (reason : Option Refusal) (why : Refusal) (s new : State) : Type 0 where
@@ -92,46 +93,69 @@ Reaches s Answers new = (hardware : Hardware) × Answers hardware × (new ≡ wi
 -- entries of that PCID stay
 abbrev pub Switches : State → ℕ → ℕ → Bool → Reply → State → Type 0
 Switches s p pcid keep replies.Switched new =
-    (switch_refusal s p pcid ≡ None) × (new ≡ with_shootdown s (switched_to s.hardware.shootdown p pcid keep))
-Switches s p pcid keep (replies.Refused why) new = IsRefused (switch_refusal s p pcid) why s new
+    (switch_refusal s.hardware.shootdown s.hardware.spaces p pcid ≡ None)
+    × (new ≡ with_shootdown s (switched_to s.hardware.shootdown p pcid keep))
+Switches s p pcid keep (replies.Refused why) new =
+    IsRefused (switch_refusal s.hardware.shootdown s.hardware.spaces p pcid) why s new
 Switches s p pcid keep reply new = ⊥
 
 -- processor p stalls, if it was interrupted; in any other state nothing happens
 abbrev pub Acknowledges : State → ℕ → Reply → State → Type 0
 Acknowledges s p replies.Acked new =
-    (not_there s p ≡ None) × (state_of s.hardware.shootdown p ≡ Interrupted)
+    (not_there s.hardware.shootdown p ≡ None) × (state_of s.hardware.shootdown p ≡ Interrupted)
     × (new ≡ with_shootdown s (stalled s.hardware.shootdown p))
 Acknowledges s p replies.Nothing new =
-    (not_there s p ≡ None) × (state_of s.hardware.shootdown p ≢ Interrupted) × (new ≡ s)
-Acknowledges s p (replies.Refused why) new = IsRefused (not_there s p) why s new
+    (not_there s.hardware.shootdown p ≡ None) × (state_of s.hardware.shootdown p ≢ Interrupted) × (new ≡ s)
+Acknowledges s p (replies.Refused why) new = IsRefused (not_there s.hardware.shootdown p) why s new
 Acknowledges s p reply new = ⊥
 
 -- processor p, if it is stalled, carries out its queue and goes on, once the lock is free; in any other state nothing
 -- happens
 abbrev pub Resumes : State → ℕ → Reply → State → Type 0
 Resumes s p replies.Resumed new =
-    (wait_refusal s p Stalled ≡ None) × (state_of s.hardware.shootdown p ≡ Stalled)
+    (wait_refusal is_stalled s.hardware.shootdown p ≡ None) × (state_of s.hardware.shootdown p ≡ Stalled)
     × (new ≡ with_shootdown s (resumed s.hardware.shootdown p))
 Resumes s p replies.Nothing new =
-    (wait_refusal s p Stalled ≡ None) × (state_of s.hardware.shootdown p ≢ Stalled) × (new ≡ s)
-Resumes s p (replies.Refused why) new = IsRefused (wait_refusal s p Stalled) why s new
+    (wait_refusal is_stalled s.hardware.shootdown p ≡ None) × (state_of s.hardware.shootdown p ≢ Stalled) × (new ≡ s)
+Resumes s p (replies.Refused why) new = IsRefused (wait_refusal is_stalled s.hardware.shootdown p) why s new
 Resumes s p reply new = ⊥
 
 -- processor p, if it is idle, carries out its queue and goes on, once the lock is free; in any other state nothing
 -- happens
 abbrev pub Wakes : State → ℕ → Reply → State → Type 0
 Wakes s p replies.Woken new =
-    (wait_refusal s p Idle ≡ None) × (state_of s.hardware.shootdown p ≡ Idle)
+    (wait_refusal is_idle s.hardware.shootdown p ≡ None) × (state_of s.hardware.shootdown p ≡ Idle)
     × (new ≡ with_shootdown s (resumed s.hardware.shootdown p))
-Wakes s p replies.Nothing new = (wait_refusal s p Idle ≡ None) × (state_of s.hardware.shootdown p ≢ Idle) × (new ≡ s)
-Wakes s p (replies.Refused why) new = IsRefused (wait_refusal s p Idle) why s new
+Wakes s p replies.Nothing new =
+    (wait_refusal is_idle s.hardware.shootdown p ≡ None) × (state_of s.hardware.shootdown p ≢ Idle) × (new ≡ s)
+Wakes s p (replies.Refused why) new = IsRefused (wait_refusal is_idle s.hardware.shootdown p) why s new
 Wakes s p reply new = ⊥
 
 -- processor p goes idle: no change interrupts it until it wakes
 abbrev pub Idles : State → ℕ → Reply → State → Type 0
-Idles s p replies.Idled new = (idle_refusal s p ≡ None) × (new ≡ with_shootdown s (idled s.hardware.shootdown p))
-Idles s p (replies.Refused why) new = IsRefused (idle_refusal s p) why s new
+Idles s p replies.Idled new =
+    (idle_refusal s.hardware.shootdown p ≡ None) × (new ≡ with_shootdown s (idled s.hardware.shootdown p))
+Idles s p (replies.Refused why) new = IsRefused (idle_refusal s.hardware.shootdown p) why s new
 Idles s p reply new = ⊥
+
+-- ---- where memory may be refused
+
+-- an act that may be refused memory, where nothing else is against it: a space is made; pages are mapped; a mapping has
+-- to be split before its pages are unmapped or given other rights
+abbrev pub WantsMemory : State → ℕ → Act → Type 0
+WantsMemory s p acts.Create =
+    (not_free s.hardware.shootdown p ≡ None) × (pcid : ℕ) × IsLowestFree s.hardware.spaces pcid
+WantsMemory s p (acts.Map pcid va len file offset prot access) =
+    map_refusal s p pcid va len file offset prot access ≡ None
+WantsMemory s p (acts.Unmap pcid va len) =
+    (unmap_refusal s p pcid va len ≡ None) × (range : PageRange)
+    × (judged_range s.hardware.spaces pcid va len ≡ Ok range)
+    × (0 < splits (space_at s.hardware.spaces pcid).places range None)
+WantsMemory s p (acts.Protect pcid va len prot) =
+    (protect_refusal_of s p pcid va len prot ≡ None) × (range : PageRange)
+    × (judged_protection s.hardware.spaces pcid va len prot ≡ Ok range)
+    × (0 < splits (space_at s.hardware.spaces pcid).places range (Some prot))
+WantsMemory s p act = ⊥
 
 -- ---- spaces and mappings
 
@@ -143,14 +167,13 @@ Creates s p (replies.Space pcid) new =
     × (new ≡ with_spaces s (with_space s.hardware.spaces pcid empty_space))
 Creates s p (replies.Refused refusals.Enomem) new =
     (not_free s.hardware.shootdown p ≡ None) × ((pcid : ℕ) → IsLowestFree s.hardware.spaces pcid → ⊥) × (new ≡ s)
-Creates s p (replies.Refused refusals.OutOfMemory) new =
-    (not_free s.hardware.shootdown p ≡ None) × ((pcid : ℕ) × IsLowestFree s.hardware.spaces pcid) × (new ≡ s)
+Creates s p (replies.Refused refusals.OutOfMemory) new = WantsMemory s p acts.Create × (new ≡ s)
 Creates s p (replies.Refused why) new = IsRefused (not_free s.hardware.shootdown p) why s new
 Creates s p reply new = ⊥
 
 -- processor p took a space away, with its mappings and its entries
 pub record SpaceDestroyed (s : State) (p pcid : ℕ) (new : State) : Type 0 where
-  pub allowed : destroy_refusal s p pcid ≡ None
+  pub allowed : destroy_refusal_of s p pcid ≡ None
   -- a dirty entry that goes with the space is noted at its frame
   pub checkpoint : CheckpointState
   pub noted : NotesTaken s.hardware.spaces (IsInSpace pcid) s.checkpoint checkpoint
@@ -166,7 +189,7 @@ pub record SpaceDestroyed (s : State) (p pcid : ℕ) (new : State) : Type 0 wher
 -- processor p takes the space of this PCID away: Destroyed where it was taken away
 abbrev pub Destroys : State → ℕ → ℕ → Reply → State → Type 0
 Destroys s p pcid replies.Destroyed new = SpaceDestroyed s p pcid new
-Destroys s p pcid (replies.Refused why) new = IsRefused (destroy_refusal s p pcid) why s new
+Destroys s p pcid (replies.Refused why) new = IsRefused (destroy_refusal_of s p pcid) why s new
 Destroys s p pcid reply new = ⊥
 
 -- processor p mapped the pages of the len bytes from va on of a space to a file from the offset on; no entry was made
@@ -184,7 +207,7 @@ pub record MapMade (s : State) (p pcid va len file offset : ℕ) (prot access : 
 abbrev pub Maps : State → ℕ → ℕ → ℕ → ℕ → ℕ → ℕ → Rights → Rights → Reply → State → Type 0
 Maps s p pcid va len file offset prot access replies.Mapped new = MapMade s p pcid va len file offset prot access new
 Maps s p pcid va len file offset prot access (replies.Refused refusals.OutOfMemory) new =
-    (map_refusal s p pcid va len file offset prot access ≡ None) × (new ≡ s)
+    WantsMemory s p (acts.Map pcid va len file offset prot access) × (new ≡ s)
 Maps s p pcid va len file offset prot access (replies.Refused why) new =
     IsRefused (map_refusal s p pcid va len file offset prot access) why s new
 Maps s p pcid va len file offset prot access reply new = ⊥
@@ -194,10 +217,6 @@ Maps s p pcid va len file offset prot access reply new = ⊥
 -- a change is begun: the lock is taken, invalidations are queued, and processors are interrupted
 abbrev pub begin_change : State → ℕ → Change → State
 begin_change s p change = with_shootdown s (begun s.hardware.shootdown p s.hardware.spaces change)
-
--- memory is asked for only where an end of the range is within a mapping, which has to be split there
-abbrev pub may_split : Spaces → ℕ → PageRange → Type 0
-may_split spaces pcid range = 0 < splits (space_at spaces pcid).places range.first range.count
 
 -- processor p begins to unmap the pages of the len bytes from va on of a space: Begun where one of them is mapped, Fine
 -- where none is, and then nothing is begun
@@ -211,9 +230,7 @@ Unmaps s p pcid va len replies.Fine new =
     × (judged_range s.hardware.spaces pcid va len ≡ Ok range)
     × (maps_some s.hardware.spaces pcid range ≡ false) × (new ≡ s)
 Unmaps s p pcid va len (replies.Refused refusals.OutOfMemory) new =
-    (unmap_refusal s p pcid va len ≡ None) × (range : PageRange)
-    × (judged_range s.hardware.spaces pcid va len ≡ Ok range)
-    × may_split s.hardware.spaces pcid range × (new ≡ s)
+    WantsMemory s p (acts.Unmap pcid va len) × (new ≡ s)
 Unmaps s p pcid va len (replies.Refused why) new = IsRefused (unmap_refusal s p pcid va len) why s new
 Unmaps s p pcid va len reply new = ⊥
 
@@ -225,9 +242,7 @@ Protects s p pcid va len prot replies.Begun new =
     × (judged_protection s.hardware.spaces pcid va len prot ≡ Ok range)
     × (new ≡ begin_change s p (changes.Protect pcid range prot))
 Protects s p pcid va len prot (replies.Refused refusals.OutOfMemory) new =
-    (protect_refusal_of s p pcid va len prot ≡ None) × (range : PageRange)
-    × (judged_protection s.hardware.spaces pcid va len prot ≡ Ok range)
-    × may_split s.hardware.spaces pcid range × (new ≡ s)
+    WantsMemory s p (acts.Protect pcid va len prot) × (new ≡ s)
 Protects s p pcid va len prot (replies.Refused why) new = IsRefused (protect_refusal_of s p pcid va len prot) why s new
 Protects s p pcid va len prot reply new = ⊥
 
@@ -253,7 +268,7 @@ Msyncs s p va len flags reply new = ⊥
 
 -- processor p holds the lock for this change, and no processor is interrupted any more
 pub record MayChange (s : State) (p : ℕ) (change : Change) : Type 0 where
-  pub allowed : change_refusal s p ≡ None
+  pub allowed : change_refusal s.hardware.shootdown p ≡ None
   pub lock : s.hardware.shootdown.lock ≡ Some (record { holder = p; change = change })
 
 -- after the change the initiator carries out its own queue and goes on, and the lock is free
@@ -344,8 +359,9 @@ Changes s p replies.Protected new = ProtectMade s p new
 Changes s p replies.Reclaimed new = ReclaimMade s p new
 Changes s p replies.Kept new = ReclaimKept s p new
 Changes s p (replies.Marked number) new = MarkMade s p number new
-Changes s p replies.Nothing new = (change_refusal s p ≡ None) × (s.hardware.shootdown.lock ≡ None) × (new ≡ s)
-Changes s p (replies.Refused why) new = IsRefused (change_refusal s p) why s new
+Changes s p replies.Nothing new =
+    (change_refusal s.hardware.shootdown p ≡ None) × (s.hardware.shootdown.lock ≡ None) × (new ≡ s)
+Changes s p (replies.Refused why) new = IsRefused (change_refusal s.hardware.shootdown p) why s new
 Changes s p reply new = ⊥
 
 -- ---- faults
@@ -456,7 +472,7 @@ Flushes s disk p (replies.Committed number) new disk' = FlushMade s disk p (repl
 Flushes s disk p (replies.Done number) new disk' = FlushMade s disk p (replies.Done number) new disk'
 Flushes s disk p reply new disk' = ⊥
 
--- ---- steps and runs
+-- ---- steps
 
 -- one act of a processor, with what a read of the disk gives before it and after it; only write-outs write
 abbrev pub Acts : State → List ℕ → ℕ → Act → Reply → State → List ℕ → Type 0
@@ -488,10 +504,3 @@ Acts s disk p acts.Flush reply new disk' = Flushes s disk p reply new disk'
 -- the same of a step, which says the processor and the act
 abbrev pub Rules : State → List ℕ → Step → Reply → State → List ℕ → Type 0
 Rules s disk step reply new disk' = Acts s disk step.p step.act reply new disk'
-
--- these replies to these steps, one after the other
-abbrev pub Run : State → List ℕ → List Step → List Reply → State → List ℕ → Type 0
-Run s disk [] [] new disk' = (new ≡ s) × (disk' ≡ disk)
-Run s disk (step ∷ steps) (reply ∷ answers) new disk' =
-    (mid : State) × (between : List ℕ) × Rules s disk step reply mid between × Run mid between steps answers new disk'
-Run s disk steps answers new disk' = ⊥

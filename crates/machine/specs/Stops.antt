@@ -1,31 +1,38 @@
--- What a crash within a run leaves, by the write-out whose step comes next: the old files until its gate is written, the
--- new ones once its mark is committed.
-use Rattle.std.specs.Prelude.{ℕ, ◌⊎◌, List, Option, Some, None, MatchBool, Contains}
+-- What a crash within a run leaves, by the write-out whose step comes next: the old files, those at the last acknowledged
+-- mark, until its gate is written; the new ones, those at its mark, once that is committed.
+use Rattle.std.specs.Prelude.{ℕ, ◌≡◌, ◌⊎◌, List, Option, Some, None, MatchBool, Contains}
 use Rattle.std.specs.Option.{option_map_or}
 use Rattle.volume_codec.specs.Files.{File}
 use Rattle.volume_codec.specs.Recovery.{RecoversTo}
 use Rattle.journal.specs.declared.stage.Stage.{Stage}
 use Rattle.journal.specs.declared.stage.Stage.TheVariants.{Recording, Describing, SyncingRecords, Opening, Committing}
 use Rattle.journal.specs.WriteOuts.{WriteOutsValue, current, current_stage}
-use Rattle.machine.specs.History.{Event, Mark, files_after, IsDurablePrefix}
-use Rattle.machine.specs.Laws.{ReadsBack}
+use Rattle.machine.specs.History.{Event, Mark, Acknowledge, files_after, IsDurablePrefix}
 
--- these bytes recover to the files after a durable prefix of the history that doesn't have this mark
-pub record IsOld (files : List File) (history : List Event) (number : ℕ) (c : List ℕ) : Type 0 where
+-- these bytes recover to the files after the history up to its last acknowledged mark: a durable prefix whose marks are
+-- the acknowledged ones
+pub record IsAcknowledged (files : List File) (history : List Event) (c : List ℕ) : Type 0 where
   pub prefix : List Event
   pub durable : IsDurablePrefix prefix history
-  pub lacks : Contains prefix (Mark number) → ⊥
+  pub only : (number : ℕ) → Contains prefix (Mark number) → Contains history (Acknowledge number)
   pub recovers : RecoversTo c (files_after files prefix)
 
--- these bytes recover to the files after a durable prefix of the history that has this mark
+-- they do, and this mark isn't among these
+pub record IsOld (files : List File) (history : List Event) (number : ℕ) (c : List ℕ) : Type 0 where
+  pub settled : IsAcknowledged files history c
+  pub lacks : Contains settled.prefix (Mark number) → ⊥
+
+-- these bytes recover to the files after the history up to this mark: a durable prefix whose marks are the acknowledged
+-- ones and this one
 pub record IsNew (files : List File) (history : List Event) (number : ℕ) (c : List ℕ) : Type 0 where
   pub prefix : List Event
   pub durable : IsDurablePrefix prefix history
   pub has : Contains prefix (Mark number)
+  pub only : (other : ℕ) → Contains prefix (Mark other) → Contains history (Acknowledge other) ⊎ (other ≡ number)
   pub recovers : RecoversTo c (files_after files prefix)
 
 -- before the step of this stage of the write-out of this mark: old until the gate is written, either until that is sure,
--- and new from then on; where there is no write-out, all acknowledged marks are there
+-- and new from then on; where there is no write-out, the files at the last acknowledged mark
 abbrev pub StopsBefore : List File → List Event → ℕ → Option Stage → List ℕ → Type 0
 StopsBefore files history mark (Some (Recording i)) c = IsOld files history mark c
 StopsBefore files history mark (Some Describing) c = IsOld files history mark c
@@ -33,7 +40,7 @@ StopsBefore files history mark (Some SyncingRecords) c = IsOld files history mar
 StopsBefore files history mark (Some Opening) c = IsOld files history mark c
 StopsBefore files history mark (Some Committing) c = IsOld files history mark c ⊎ IsNew files history mark c
 StopsBefore files history mark (Some stage) c = IsNew files history mark c
-StopsBefore files history mark None c = ReadsBack files history c
+StopsBefore files history mark None c = IsAcknowledged files history c
 
 -- within that step, or after it where a device call failed: either, while the gate is written
 abbrev pub StopsWithin : List File → List Event → ℕ → Option Stage → List ℕ → Type 0

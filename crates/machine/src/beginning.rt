@@ -42,7 +42,7 @@ impl<D: Device, A: Allocator + Copy> Layers<D, A> {
         if !self.spaces.maps_some(space, range) {
             return Ok(Reply::Fine);
         }
-        self.spaces.prepare(space, range)?;
+        self.spaces.prepare(space, range, None)?;
         let change = Change::Unmap { pcid: space, range };
         self.shootdown.begin(p, &self.spaces, change);
         Ok(Reply::Begun)
@@ -62,7 +62,7 @@ impl<D: Device, A: Allocator + Copy> Layers<D, A> {
     {
         self.shootdown.admit_free(p)?;
         let range = self.spaces.judge_protection(space, va, len, prot)?;
-        self.spaces.prepare(space, range)?;
+        self.spaces.prepare(space, range, Some(prot))?;
         let change = Change::Protect {
             pcid: space,
             range,

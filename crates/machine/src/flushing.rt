@@ -1,15 +1,19 @@
 // Steps of write-outs.
-ghost use Rattle.std.specs.Prelude.{◌≡◌, ◌≢◌, ◌*◌, ◌≤◌, ◌<◌, ℕ, List, [], length, IsSome, is_some, true, false, None, Err};
+ghost use Rattle.std.specs.Prelude.{◌≡◌, ◌≢◌, ◌*◌, ◌≤◌, ◌<◌, ℕ, List, [], length, IsSome, is_some, true, false, not, None, Err};
+ghost use Rattle.device.specs.Did.{Did};
 ghost use Rattle.volume_codec.specs.Super.{block_count};
 ghost use Rattle.volume_codec.specs.Text.{zeros};
 ghost use Rattle.journal.specs.WriteOuts.{next_work, outs_record};
 ghost use Rattle.checkpoint.specs.Checkpoint.{AreCopiesOfFrozen};
 ghost use Rattle.fault.specs.Fault.{is_in_memory};
+ghost use Rattle.machine.specs.declared.act.Act.TheVariants.{Flush};
+ghost use Rattle.machine.specs.Calls.{has_failed};
 ghost use Rattle.machine.specs.Refusals.{flush_refusal};
 ghost use Rattle.machine.specs.inside.Sound.{IsMemory, IsSound};
 ghost use Rattle.machine.specs.Rules.{bytes_at_mark, work_asked, Flushes};
+ghost use Rattle.machine.specs.Steps.{step_work};
 ghost use Rattle.machine.specs.inside.Layers.{state_in, reply_to, AnswersBy, KeepsReserved};
-ghost use Rattle.machine.specs.inside.Flushing.{HasSmallMark, IsThere, bytes_from, reply_of_flush, memory_after, checkpoint_after, FlushesDevice, IsUnread};
+ghost use Rattle.machine.specs.inside.Flushing.{HasSmallMark, IsThere, bytes_from, reply_of_flush, memory_after, checkpoint_after};
 
 use crate::Reply;
 use crate::layers::Layers;
@@ -102,8 +106,8 @@ impl<D: Device, A: Allocator + Copy> Layers<D, A> {
         ensures rules { (p : ℕ) → flush_refusal (state_in self.old) p ≡ None → AnswersBy (D.is_honest self.old.device)
             (λ d d'. Flushes (state_in self.old) d p (reply_to result) (state_in self.new) d')
             (D.seen self.old.device) (D.seen self.new.device) }
-        ensures device { FlushesDevice D.Device (state_in self.old) (reply_to result) self.old.device self.new.device }
-        ensures unread { IsUnread D.Device (state_in self.old) (reply_to result) self.old.device self.new.device }
+        ensures did { Did D.Device self.old.device (step_work (state_in self.old) Flush (reply_to result))
+            (not (has_failed (reply_to result))) self.new.device }
         ensures kept { KeepsReserved self.old self.new }
     {
         let bytes = bytes_from(&self.frames, source);
@@ -123,8 +127,8 @@ impl<D: Device, A: Allocator + Copy> Layers<D, A> {
         ensures rules { (p : ℕ) → flush_refusal (state_in self.old) p ≡ None → AnswersBy (D.is_honest self.old.device)
             (λ d d'. Flushes (state_in self.old) d p (reply_to result) (state_in self.new) d')
             (D.seen self.old.device) (D.seen self.new.device) }
-        ensures device { FlushesDevice D.Device (state_in self.old) (reply_to result) self.old.device self.new.device }
-        ensures unread { IsUnread D.Device (state_in self.old) (reply_to result) self.old.device self.new.device }
+        ensures did { Did D.Device self.old.device (step_work (state_in self.old) Flush (reply_to result))
+            (not (has_failed (reply_to result))) self.new.device }
         ensures kept { KeepsReserved self.old self.new }
     {
         let page = self.checkpoint.frozen()[0];
@@ -146,8 +150,8 @@ impl<D: Device, A: Allocator + Copy> Layers<D, A> {
         ensures rules { (p : ℕ) → flush_refusal (state_in self.old) p ≡ None → AnswersBy (D.is_honest self.old.device)
             (λ d d'. Flushes (state_in self.old) d p (reply_to result) (state_in self.new) d')
             (D.seen self.old.device) (D.seen self.new.device) }
-        ensures device { FlushesDevice D.Device (state_in self.old) (reply_to result) self.old.device self.new.device }
-        ensures unread { IsUnread D.Device (state_in self.old) (reply_to result) self.old.device self.new.device }
+        ensures did { Did D.Device self.old.device (step_work (state_in self.old) Flush (reply_to result))
+            (not (has_failed (reply_to result))) self.new.device }
         ensures kept { KeepsReserved self.old self.new }
     {
         if self.write_outs.next_record().is_some() {
@@ -164,8 +168,8 @@ impl<D: Device, A: Allocator + Copy> Layers<D, A> {
         ensures rules { AnswersBy (D.is_honest self.old.device)
             (λ d d'. Flushes (state_in self.old) d p (reply_to result) (state_in self.new) d')
             (D.seen self.old.device) (D.seen self.new.device) }
-        ensures device { FlushesDevice D.Device (state_in self.old) (reply_to result) self.old.device self.new.device }
-        ensures unread { IsUnread D.Device (state_in self.old) (reply_to result) self.old.device self.new.device }
+        ensures did { Did D.Device self.old.device (step_work (state_in self.old) Flush (reply_to result))
+            (not (has_failed (reply_to result))) self.new.device }
         ensures kept { KeepsReserved self.old self.new }
     {
         self.shootdown.admit(p)?;

@@ -7,7 +7,7 @@ ghost use Rattle.checkpoint.specs.Backing.{AreBacked};
 ghost use Rattle.machine.specs.Fresh.{IsShape, IsFresh, fresh};
 ghost use Rattle.machine.specs.Booting.{RefusesShape};
 ghost use Rattle.machine.specs.Calls.{CallsOf};
-ghost use Rattle.machine.specs.Rules.{Rules, Run};
+ghost use Rattle.machine.specs.Rules.{Rules, WantsMemory};
 ghost use Rattle.machine.specs.Runs.{StepsTaken};
 ghost use Rattle.machine.specs.Steps.{StepMade};
 ghost use Rattle.machine.specs.inside.Layers.{reply_to};
@@ -155,6 +155,8 @@ impl<D: Device, A: Allocator + Copy> Machine<D, A> {
         ensures honest { D.is_honest self.new.device ↔ D.is_honest self.old.device }
         ensures len { length (D.seen self.new.device) ≡ length (D.seen self.old.device) }
         ensures not_full { result ≢ Reply.Refused Refusal.TraceFull }
+        ensures memory { result ≡ Reply.Refused Refusal.OutOfMemory
+            → WantsMemory self.old.state step.now.p step.now.act }
     {
         reply_to(self.layers.act(step))
     }
@@ -163,8 +165,6 @@ impl<D: Device, A: Allocator + Copy> Machine<D, A> {
     pub(crate) fn make_all(&mut self, steps: &[Step], replies: &mut [Reply])
         requires { length replies.old ≡ length steps.now }
         ensures steps { StepsTaken D.Device self.old steps.now replies.new self.new }
-        ensures run { D.is_honest self.old.device → Run self.old.state (D.seen self.old.device) steps.now replies.new
-            self.new.state (D.seen self.new.device) }
         ensures honest { D.is_honest self.new.device ↔ D.is_honest self.old.device }
         ensures len { length (D.seen self.new.device) ≡ length (D.seen self.old.device) }
     {

@@ -9,7 +9,7 @@ ghost use Rattle.machine.specs.declared.act.Reply.{Reply};
 ghost use Rattle.machine.specs.declared.act.Step.{Step};
 ghost use Rattle.volume_codec.specs.Files.{File};
 ghost use Rattle.machine.specs.State.{State, Whole};
-ghost use Rattle.machine.specs.Rules.{MarkMade};
+ghost use Rattle.machine.specs.Rules.{MarkMade, WantsMemory};
 ghost use Rattle.machine.specs.Durability.{AreFrozenProtected, HasPart, IsInFile};
 ghost use Rattle.machine.specs.Crashes.{Begins, StepIsSafe, Throughout};
 ghost use Rattle.machine.specs.History.{after, has_unmarked, is_touched, memory_of};
@@ -38,6 +38,8 @@ impl<D: Device, A: Allocator + Copy> Machine<D, A> {
     /// its stage says (`stops`).
     pub fn enter(&mut self, step: &Step) -> Reply
         ensures not_full { result ≢ Reply.Refused Refusal.TraceFull }
+        ensures memory { result ≡ Reply.Refused Refusal.OutOfMemory
+            → WantsMemory self.old.state step.now.p step.now.act }
         ensures taken { StepTaken D.Device self.old step.now result self.new }
         ensures longer { (start : Whole D) (steps : List Step) (replies : List Reply)
             → StepsTaken D.Device start steps replies self.old

@@ -7,7 +7,7 @@ use page_entry::{Pcid, ProcessorNumber, Refusal};
 use recovery::{Volume, format_as, open};
 use std::alloc::Global;
 use std::process::Abort;
-use volume_codec::FileSpec;
+use volume_codec::{FileSpec, read_descriptor, read_super, write_super};
 
 type Counting = CountingAllocator<Global>;
 
@@ -29,11 +29,16 @@ const TWO: Shape = Shape {
     copies: 2,
 };
 
-// A volume of zeros on a disk whose memory isn't counted, opened with memory that is.
-fn volume<'a, R: Abort + AllocGlobal>(rt: &R, alloc: &'a Counting) -> Volume<Disk, &'a Counting> {
+// A disk with a volume of zeros, whose memory isn't counted.
+fn formatted<R: Abort + AllocGlobal>(rt: &R) -> Disk {
     let mut disk = MemDisk::new(rt.alloc(), 40_960).expect(rt, "a disk");
     format_as(rt.alloc(), &mut disk, 1, &SPECS, 4).expect(rt, "a volume");
-    match open(alloc, disk) {
+    disk
+}
+
+// The volume on it, opened with memory that is counted.
+fn volume<'a, R: Abort + AllocGlobal>(rt: &R, alloc: &'a Counting) -> Volume<Disk, &'a Counting> {
+    match open(alloc, formatted(rt)) {
         Ok(volume) => volume,
         Err((refusal, _)) => panic!(rt; "{refusal}"),
     }
@@ -157,36 +162,36 @@ fn protect(first: u32, pages: u32) -> Act {
 // one more beside them; spaces until their list grows; and an unmap that takes the end of a mapping away.
 fn script() -> [ScriptAct; 19] {
     [
-        by_first(Act::Create, Reply::Space(1), 1),
-        by_first(map(1, 4096, 3), Reply::Mapped, 2),
+        by_first(Act::Create, Reply::Space(1), 3),
+        by_first(map(1, 4096, 3), Reply::Mapped, 3),
         by_first(map(1, 5 * 4096, 3), Reply::Mapped, 0),
         by_first(map(1, 9 * 4096, 3), Reply::Mapped, 0),
         by_first(map(1, 13 * 4096, 3), Reply::Mapped, 0),
         by_first(unmap(2, 1), Reply::Begun, 1),
         by_first(Act::Change, Reply::Unmapped, 0),
-        by_first(map(1, 1 << 40, 1), Reply::Mapped, 1),
-        by_first(map(1, 1 << 41, 1), Reply::Mapped, 1),
+        by_first(map(1, 1 << 40, 1), Reply::Mapped, 2),
+        by_first(map(1, 1 << 41, 1), Reply::Mapped, 2),
         by_first(map(1, 1 << 42, 1), Reply::Mapped, 0),
         by_first(protect(6, 1), Reply::Begun, 1),
         by_first(Act::Change, Reply::Protected, 0),
         by_first(map(1, 30 * 4096, 1), Reply::Mapped, 0),
-        by_first(Act::Create, Reply::Space(2), 1),
-        by_first(Act::Create, Reply::Space(3), 1),
-        by_first(Act::Create, Reply::Space(4), 2),
-        by_first(map(4, 4096, 1), Reply::Mapped, 2),
+        by_first(Act::Create, Reply::Space(2), 3),
+        by_first(Act::Create, Reply::Space(3), 3),
+        by_first(Act::Create, Reply::Space(4), 4),
+        by_first(map(4, 4096, 1), Reply::Mapped, 3),
         by_first(unmap(15, 1), Reply::Begun, 0),
         by_first(Act::Change, Reply::Unmapped, 0),
     ]
 }
 
-// Makes the acts of the script, and refuses the `n`th request for memory of the act number `place`, counted from 0. That
+// Makes the acts, and refuses the `n`th request for memory of the act number `place`, counted from 0. That
 // act is answered `OutOfMemory`, no lock is held after it, and at once it is answered as where memory is ample, as are
 // all acts after it. Answers whether the act made so many requests.
-fn is_refused<R: Abort + AllocGlobal>(rt: &R, place: usize, n: u64) -> bool {
+fn is_refused<R: Abort + AllocGlobal>(rt: &R, acts: &[ScriptAct], place: usize, n: u64) -> bool {
     let alloc = Counting::new(rt.alloc());
     let mut machine = booted(rt, &alloc);
     let mut refused = false;
-    for (k, made) in script().into_iter().enumerate() {
+    for (k, made) in acts.iter().enumerate() {
         alloc.restart();
         if k == place {
             alloc.refuse_nth(n);
@@ -214,9 +219,9 @@ fn is_refused<R: Abort + AllocGlobal>(rt: &R, place: usize, n: u64) -> bool {
 }
 
 // How many requests for memory the act makes.
-fn requests_of<R: Abort + AllocGlobal>(rt: &R, place: usize) -> u64 {
+fn requests_of<R: Abort + AllocGlobal>(rt: &R, acts: &[ScriptAct], place: usize) -> u64 {
     for n in 1..9 {
-        if !is_refused(rt, place, n) {
+        if !is_refused(rt, acts, place, n) {
             return n - 1;
         }
     }
@@ -225,8 +230,59 @@ fn requests_of<R: Abort + AllocGlobal>(rt: &R, place: usize) -> u64 {
 
 #[test]
 fn a_refused_act_can_be_made_at_once(rt: HostRuntime) {
-    for (place, made) in script().into_iter().enumerate() {
-        let requests = requests_of(&rt, place);
+    let acts = script();
+    for (place, made) in acts.iter().enumerate() {
+        let requests = requests_of(&rt, &acts, place);
         assert!(rt; requests == made.requests, "act {place}: {requests}");
+    }
+}
+
+// The descriptor of mark 1 for the home blocks 7 and 8.
+fn descriptor() -> [u8; 4096] {
+    let mut block = [0; 4096];
+    block[7] = 1;
+    block[11] = 2;
+    block[19] = 7;
+    block[23] = 8;
+    block
+}
+
+// A super block is written; it is read, too; or a descriptor is read after that.
+fn codes(alloc: &Counting, which: u8) -> Result<(), Refusal> {
+    let files = [("a", 5000), ("b", 4096)];
+    let block = write_super(alloc, &files, 4)?;
+    if which == 0 {
+        return Ok(());
+    }
+    let table = read_super(alloc, &block)?;
+    if which == 1 {
+        return Ok(());
+    }
+    read_descriptor(alloc, &table.geometry(), &descriptor())?;
+    Ok(())
+}
+
+// How many requests for memory that makes, where each of them is refused once, and then it succeeds at once.
+fn requests_to_code(rt: &impl Abort, alloc: &Counting, which: u8) -> u64 {
+    for n in 1..99 {
+        alloc.restart();
+        alloc.refuse_nth(n);
+        let coded = codes(alloc, which);
+        if alloc.refused() == 0 {
+            assert!(rt; coded == Ok(()));
+            return n - 1;
+        }
+        assert!(rt; coded == Err(Refusal::OutOfMemory), "request {n}");
+        assert!(rt; codes(alloc, which) == Ok(()), "request {n}");
+    }
+    99
+}
+
+#[test]
+fn a_refused_block_can_be_written_and_read_at_once(rt: HostRuntime) {
+    let alloc = Counting::new(rt.alloc());
+    for (which, wanted) in [(0, 6), (1, 12), (2, 13)] {
+        let requests = requests_to_code(&rt, &alloc, which);
+        assert!(rt; requests == wanted, "{requests}");
     }
 }

@@ -12,9 +12,9 @@ use Rattle.mappings.specs.declared.place.Place.{Place}
 use Rattle.mappings.specs.declared.place.Rights.{Rights}
 use Rattle.mappings.specs.declared.place.Rights.TheVariants.{Read, ReadWrite}
 use Rattle.mappings.specs.declared.mapping.Mapping.{Mapping}
-use Rattle.mappings.specs.Places.{Places, is_among, without_range, with_rights, same_rights, follows, goes_on, splits}
+use Rattle.mappings.specs.Places.{Places, is_among, without_range, with_rights, same_rights, follows, goes_on, is_cut}
 use Rattle.mappings.specs.inside.Listed.{covers, place_in, places_of, joins, Beside, Neighbours, IsMerged, IsOrdered, IsFirstAfter}
-use Rattle.mappings.specs.inside.Edits.{below, from_page, split_at, is_outside, with_rights_within, IsUncut, IsMergedBut, IsSplit}
+use Rattle.mappings.specs.inside.Edits.{below, from_page, split_at, end_splits, is_outside, with_rights_within, IsUncut, IsMergedBut, IsSplit}
 use Rattle.mappings.proofs.PlacesLaws.{advanced-advanced, get-without_range, get-with_rights}
 use Rattle.mappings.proofs.Lists.{lookup, get-places_of, lookup_below, IsFirstAfter-tail, IsOrdered-lower}
 
@@ -144,12 +144,12 @@ module _ (p q page : ℕ) (one : (page ≡ p) ⊎ (page ≡ q)) where
       (λ stays. (Beside-split_at m ms merged.0, IsMergedBut-split_at ms merged.1))
 
 -- two rights are the same as themselves
-same_rights-itself : (rights : Rights) → same_rights rights rights ≡ true
+pub same_rights-itself : (rights : Rights) → same_rights rights rights ≡ true
 same_rights-itself Read = refl
 same_rights-itself ReadWrite = refl
 
 -- the places of two pages of one mapping follow each other
-follows-place_in : (m : Mapping) (page : ℕ) → m.first < page → follows (Some (place_in m (page - 1))) (Some (place_in m page)) ≡ true
+pub follows-place_in : (m : Mapping) (page : ℕ) → m.first < page → follows (Some (place_in m (page - 1))) (Some (place_in m page)) ≡ true
 follows-place_in m page less =
     let rights = same_rights-itself m.place.rights in
     let access = same_rights-itself m.place.access in
@@ -252,10 +252,10 @@ places_of-with_rights_within first count low rights ms some o u v =
     ∙ sym (rw (get-with_rights (places_of ms) first count rights q, get-places_of ms q) refl))
 
 -- room for the splits is room for both lists
-pub split_room : (ms : List Mapping) (first count : ℕ) → IsOrdered 0 ms → length (split_at (first + count) ms) ≤ length ms + splits (places_of ms) first count
+pub split_room : (ms : List Mapping) (first count : ℕ) → IsOrdered 0 ms → length (split_at (first + count) ms) ≤ length ms + end_splits (places_of ms) first count
 split_room ms first count o = omega (arith, length-split_at (first + count) 0 ms o)
 
-pub split_room_twice : (ms : List Mapping) (first count : ℕ) → IsOrdered 0 ms → length (split_at first (split_at (first + count) ms)) ≤ length ms + splits (places_of ms) first count
+pub split_room_twice : (ms : List Mapping) (first count : ℕ) → IsOrdered 0 ms → length (split_at first (split_at (first + count) ms)) ≤ length ms + end_splits (places_of ms) first count
 split_room_twice ms first count o =
     let once = length-split_at (first + count) 0 ms o in
     let same : places_of (split_at (first + count) ms) ≡ places_of ms = same_places _ _ (λ q. lookup-split_at (first + count) q ms) in
@@ -291,9 +291,9 @@ goes_on_high : (ms : List Mapping) (page : ℕ) → IsOrdered 0 ms → 2 ^ 35 �
 goes_on_high ms page o high = rw (get-places_of ms page, lookup_high 0 ms o page high) (ends_at_none _)
 
 -- an end past the last number is past every mapping too
-pub goes_on_end : (ms : List Mapping) (past end : ℕ) → IsOrdered 0 ms → (past < 2 ^ 64 → end ≡ past) → (2 ^ 64 ≤ past → 2 ^ 35 ≤ end) → goes_on (places_of ms) end ≡ goes_on (places_of ms) past
-goes_on_end ms past end o near far =
+pub is_cut_end : (ms : List Mapping) (past end : ℕ) (rights : Rights) → IsOrdered 0 ms → (past < 2 ^ 64 → end ≡ past) → (2 ^ 64 ≤ past → 2 ^ 35 ≤ end) → is_cut (places_of ms) end rights ≡ is_cut (places_of ms) past rights
+is_cut_end ms past end rights o near far =
     elim (cases_lt past (2 ^ 64)) [
-      | inl less ↦ ap (goes_on (places_of ms)) (near less)
-      | inr more ↦ goes_on_high ms end o (far more) ∙ sym (goes_on_high ms past o (omega arith))
+      | inl less ↦ ap (λ q. is_cut (places_of ms) q rights) (near less)
+      | inr more ↦ rw (goes_on_high ms end o (far more), goes_on_high ms past o (omega arith)) refl
     ]

@@ -24,7 +24,7 @@ pub record Joins (m n : Mapping) : Type 0 where
   pub rights : m.place.rights ≡ n.place.rights
   pub access : m.place.access ≡ n.place.access
 
-same_rights-is : (a b : Rights) → same_rights a b ≡ true → a ≡ b
+pub same_rights-is : (a b : Rights) → same_rights a b ≡ true → a ≡ b
 same_rights-is Read Read e = refl
 same_rights-is Read ReadWrite e = absurd (false≢true e)
 same_rights-is ReadWrite Read e = absurd (false≢true e)

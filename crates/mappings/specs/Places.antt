@@ -1,11 +1,12 @@
 -- The pages of an address space that are mapped, each with its place in a file.
-use Rattle.std.specs.Prelude.{ℕ, zero, suc, ◌+◌, ◌-◌, Bool, true, false, not, ◌&&◌, ◌||◌, ◌==◌, nat_le, nat_lt, if◌then◌else◌, Option, Some, List, map, filter}
+use Rattle.std.specs.Prelude.{ℕ, zero, suc, ◌+◌, ◌-◌, Bool, true, false, not, ◌&&◌, ◌||◌, ◌==◌, nat_le, nat_lt, if◌then◌else◌, Option, Some, None, List, map, filter}
 use Rattle.std.specs.Option.{option_map_or}
 use Rattle.std.specs.List.{list_any, list_all, range_with_len}
 use Rattle.std.specs.Ordering.{nat_cmp}
 use Rattle.std.specs.FinMap as fin_map
 use Rattle.mappings.specs.declared.place.Place.{Place}
 use Rattle.mappings.specs.declared.place.Rights.{Rights}
+use Rattle.mappings.specs.declared.page_range.PageRange.{PageRange}
 use Rattle.mappings.specs.declared.place.Rights.TheVariants.{Read, ReadWrite}
 
 -- whether the rights allow writing
@@ -75,10 +76,21 @@ follows _ _ = false
 abbrev pub goes_on : Places → ℕ → Bool
 goes_on places page = follows (fin_map.get places (page - 1)) (fin_map.get places page)
 
--- how many of the two ends of count pages from first on are within a mapping, which a change of these pages splits
--- there
-abbrev pub splits : Places → ℕ → ℕ → ℕ
-splits places first count = (if goes_on places first then 1 else 0) + (if goes_on places (first + count) then 1 else 0)
+-- whether one mapping has the count pages from first on, the page before them and the page after them
+abbrev pub is_within : Places → ℕ → ℕ → Bool
+is_within places first count = list_all (goes_on places) (range_with_len first (count + 1))
+
+-- whether a mapping goes on from the page before this one, and doesn't once this page has the rights
+abbrev pub is_cut : Places → ℕ → Rights → Bool
+is_cut places page rights = goes_on places page && not (goes_on (with_rights places page 1 rights) page)
+
+-- how many mappings are split: where the pages of a range are unmapped, one if it has a page on both sides of them; where
+-- they get rights, at either end one that has pages on both sides, with other rights
+abbrev pub splits : Places → PageRange → Option Rights → ℕ
+splits places range None = if is_within places range.first range.count then 1 else 0
+splits places range (Some rights) =
+    (if is_cut places range.first rights then 1 else 0)
+    + (if is_cut places (range.first + range.count) rights then 1 else 0)
 
 -- the pages that map this page of this file, in rising order
 abbrev pub pages_mapping : Places → ℕ → ℕ → List ℕ

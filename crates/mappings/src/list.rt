@@ -1,9 +1,9 @@
 // Lists of mappings in the order of their pages.
-ghost use Rattle.std.specs.Prelude.{◌≡◌, ◌+◌, ◌-◌, ◌^◌, ◌≤◌, ◌<◌, ◌++◌, if◌then◌else◌, not, take, drop, length, map};
+ghost use Rattle.std.specs.Prelude.{◌≡◌, ◌+◌, ◌-◌, ◌^◌, ◌≤◌, ◌<◌, ◌++◌, if◌then◌else◌, Some, None, IsSome, IfSome, IfNone, true, false, not, take, drop, length, map};
 ghost use Rattle.std.specs.Vec.{vec_capacity, vec_len};
 ghost use Rattle.std.specs.List.{list_any, remove_range};
-ghost use Rattle.mappings.specs.Places.{all_mapped, allows, splits};
-ghost use Rattle.mappings.specs.inside.Edits.{split_at, with_rights, merged, IsSplit};
+ghost use Rattle.mappings.specs.Places.{all_mapped, allows, goes_on, is_within, splits, without_range};
+ghost use Rattle.mappings.specs.inside.Edits.{split_at, put_at, end_splits, with_rights, merged, IsAround, IsBegin, IsEnd, IsWidened, IsSplit};
 ghost use Rattle.mappings.specs.inside.Listed.{places_of, IsOrdered, IsMerged, IsKept, IsFirstAfter, IsMeeting};
 
 use crate::mapping::Mapping;
@@ -29,6 +29,35 @@ pub(crate) fn meeting(list: &[Mapping], range: PageRange) -> Range<usize>
     let from = first_after(list, range.first);
     let to = list.partition_point(|mapping| mapping.begins_before_end(range));
     from..to.max(from)
+}
+
+/// The mapping that has pages on both sides of the page's begin, if there is one.
+pub(crate) fn inside(list: &[Mapping], page: PageNumber) -> Option<Mapping>
+    requires { IsKept list.now }
+    ensures found { IfSome result (λ mapping. IsAround list.now page mapping) }
+    ensures none { IfNone result (goes_on (places_of list.now) page ≡ false) }
+{
+    let at = first_after(list, page);
+    if at >= list.len() {
+        return None;
+    }
+    let mapping = list[at];
+    if mapping.first < page {
+        Some(mapping)
+    } else {
+        None
+    }
+}
+
+/// Whether one mapping has the range, the page before it and the page after it.
+pub(crate) fn is_within(list: &[Mapping], range: PageRange) -> bool
+    requires { IsKept list.now }
+    ensures { result ≡ is_within (places_of list.now) range.first range.count }
+{
+    match inside(list, range.first) {
+        Some(mapping) => range.count < mapping.end - range.first,
+        None => false,
+    }
 }
 
 /// Whether each page of the range is mapped.
@@ -57,6 +86,42 @@ pub(crate) fn any_forbids(list: &[Mapping], rights: Rights) -> bool
         .any(|mapping| !mapping.place.access.allows(rights))
 }
 
+// Where the mapping begins that has pages on both sides of the page's begin, if it has the rights; else the page.
+fn begin_with(list: &[Mapping], page: PageNumber, rights: Rights) -> PageNumber
+    requires { IsKept list.now }
+    ensures { IsBegin list.now page rights result }
+{
+    match inside(list, page) {
+        Some(mapping) if mapping.place.rights == rights => mapping.first,
+        _ => page,
+    }
+}
+
+// Where the mapping ends that has pages on both sides of the page's begin, if it has the rights; else the page.
+fn end_with(list: &[Mapping], page: PageNumber, rights: Rights) -> PageNumber
+    requires { IsKept list.now }
+    ensures { IsEnd list.now page rights result }
+{
+    match inside(list, page) {
+        Some(mapping) if mapping.place.rights == rights => mapping.end,
+        _ => page,
+    }
+}
+
+/// The range with all pages of the mappings at its ends that have the rights already.
+pub(crate) fn widened(list: &[Mapping], range: PageRange, rights: Rights) -> PageRange
+    requires kept { IsKept list.now }
+    requires fits { range.first + range.count < 2 ^ 64 }
+    ensures { IsWidened list.now range rights result }
+{
+    let first = begin_with(list, range.first, rights);
+    let end = end_with(list, range.first + range.count, rights);
+    PageRange {
+        first,
+        count: end - first,
+    }
+}
+
 // Splits the mapping that has pages on both sides of the page's begin, if there is one, into the part before and the
 // part from the page on. It takes no memory.
 fn split<A: Allocator>(list: &mut Vec<Mapping, A>, page: PageNumber)
@@ -82,22 +147,13 @@ fn split<A: Allocator>(list: &mut Vec<Mapping, A>, page: PageNumber)
 /// no memory.
 pub(crate) fn split_ends<A: Allocator>(list: &mut Vec<Mapping, A>, range: PageRange)
     requires kept { IsKept list.old.items }
-    requires room { splits (places_of list.old.items) range.first range.count
+    requires room { end_splits (places_of list.old.items) range.first range.count
         ≤ vec_capacity list.old - vec_len list.old }
     requires fits { range.first + range.count < 2 ^ 64 }
     ensures { IsSplit list.old.items list.new.items range.first range.count }
 {
     split(list, range.first + range.count);
     split(list, range.first);
-}
-
-/// Gives the rights to the mappings.
-pub(crate) fn set_rights(list: &mut [Mapping], rights: Rights)
-    ensures { list.new ≡ map (with_rights rights) list.old }
-{
-    for mapping in list.iter_mut() {
-        *mapping = mapping.with_rights(rights);
-    }
 }
 
 /// Removes the mappings at these places.
@@ -108,6 +164,50 @@ pub(crate) fn remove_range<A: Allocator>(list: &mut Vec<Mapping, A>, places: Ran
     ensures capacity { vec_capacity list.new ≡ vec_capacity list.old }
 {
     list.drain(places);
+}
+
+// Puts a mapping at a place, if there is one. It takes no memory.
+fn put<A: Allocator>(list: &mut Vec<Mapping, A>, at: usize, mapping: Option<Mapping>)
+    requires within { at ≤ vec_len list.old }
+    requires room { IsSome mapping → vec_len list.old < vec_capacity list.old }
+    ensures items { list.new.items ≡ put_at list.old.items at mapping }
+    ensures capacity { vec_capacity list.new ≡ vec_capacity list.old }
+{
+    if let Some(mapping) = mapping {
+        let Ok(()) = list.insert(at, mapping) else {
+            unreachable!()
+        };
+    }
+}
+
+/// Takes the pages of the range out of the mappings. It takes no memory.
+pub(crate) fn take_out<A: Allocator>(list: &mut Vec<Mapping, A>, range: PageRange)
+    requires kept { IsKept list.old.items }
+    requires room { splits (places_of list.old.items) range None ≤ vec_capacity list.old - vec_len list.old }
+    requires pages { 0 < range.count }
+    requires fits { range.first + range.count < 2 ^ 64 }
+    ensures kept { IsKept list.new.items }
+    ensures places { places_of list.new.items ≡ without_range (places_of list.old.items) range.first range.count }
+{
+    let places = meeting(list, range);
+    if places.is_empty() {
+        return;
+    }
+    let from = places.start;
+    let before = list[from].part_below(range.first);
+    let after = list[places.end - 1].part_from(range.first + range.count);
+    remove_range(list, places);
+    put(list, from, after);
+    put(list, from, before);
+}
+
+/// Gives the rights to the mappings.
+pub(crate) fn set_rights(list: &mut [Mapping], rights: Rights)
+    ensures { list.new ≡ map (with_rights rights) list.old }
+{
+    for mapping in list.iter_mut() {
+        *mapping = mapping.with_rights(rights);
+    }
 }
 
 // Makes each two mappings of which the second goes on where the first ends one. The mappings that are left are the

@@ -1,6 +1,6 @@
 // One mapping.
 ghost use Rattle.std.specs.Prelude.{◌≡◌, ◌+◌, ◌-◌, ◌^◌, ◌≤◌, ◌<◌, if◌then◌else◌, Some, None, IsTrue, nat_lt};
-ghost use Rattle.mappings.specs.inside.Edits.{from_page, with_rights};
+ghost use Rattle.mappings.specs.inside.Edits.{from_page, part_below, part_from, with_rights};
 ghost use Rattle.mappings.specs.inside.Listed.{covers, place_in, page_in, joins, IsMapping};
 
 use crate::{PageRange, Place, Rights};
@@ -64,6 +64,30 @@ impl Mapping {
                 ..self.place
             },
             ..self
+        }
+    }
+
+    /// The part of it below a page, if there is one.
+    pub(crate) fn part_below(self, page: PageNumber) -> Option<Mapping>
+        ensures { result ≡ part_below page self }
+    {
+        if self.first < page {
+            Some(Mapping { end: page, ..self })
+        } else {
+            None
+        }
+    }
+
+    /// The part of it from a page on, if there is one.
+    pub(crate) fn part_from(self, page: PageNumber) -> Option<Mapping>
+        requires pages { IsMapping self }
+        requires begins { self.first ≤ page }
+        ensures { result ≡ part_from page self }
+    {
+        if page < self.end {
+            Some(self.from_page(page))
+        } else {
+            None
         }
     }
 

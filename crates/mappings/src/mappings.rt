@@ -2,12 +2,12 @@
 ghost use Rattle.std.specs.Prelude.{◌≡◌, ◌<◌, ◌≤◌, Some, None, OnOk, OnErr, IfErr, unwrap_or};
 ghost use Rattle.page_entry.specs.declared.refusal.Refusal.TheVariants.{OutOfMemory};
 ghost use Rattle.std.specs.FinMap as fin_map;
-ghost use Rattle.mappings.specs.Places.{with_range, without_range, with_rights, any_mapped, all_mapped, any_forbids, goes_on, splits, pages_mapping};
+ghost use Rattle.mappings.specs.Places.{with_range, without_range, with_rights, any_mapped, all_mapped, any_forbids, is_cut, splits, pages_mapping};
 ghost use Rattle.mappings.specs.Judgement.{add_refusal, remove_refusal, protect_refusal, answer};
 
 use crate::list::{
-    any_forbids, covers_all, first_after, meeting, merge_around, remove_range, set_rights,
-    split_ends,
+    any_forbids, covers_all, first_after, inside, is_within, meeting, merge_around, set_rights,
+    split_ends, take_out, widened,
 };
 use crate::mapping::Mapping;
 use crate::{PageRange, PagesOf, Place, Rights};
@@ -129,50 +129,54 @@ impl<A: Allocator + Copy> Mappings<A> {
         0 < range.count && any_forbids(&self.list[meeting(&self.list, range)], rights)
     }
 
-    // Whether a mapping goes on from the page before this one.
-    fn goes_on(&self, page: PageNumber) -> bool
-        ensures { result ≡ goes_on self.now.places page }
+    // Whether a mapping with other rights goes on from the page before this one.
+    fn is_cut(&self, page: PageNumber, rights: Rights) -> bool
+        ensures { result ≡ is_cut self.now.places page rights }
     {
-        if page == 0 {
-            return false;
-        }
-        match (self.where_is(page - 1), self.where_is(page)) {
-            (Some(before), Some(here)) => here.follows(before),
-            _ => false,
+        match inside(&self.list, page) {
+            Some(mapping) => mapping.place.rights != rights,
+            None => false,
         }
     }
 
-    // How many of the two ends of the range are within a mapping.
-    fn splits(&self, range: PageRange) -> usize
-        ensures { result ≡ splits self.now.places range.first range.count }
+    // How many mappings are split where the range gets the rights, or without any is unmapped.
+    fn splits(&self, range: PageRange, rights: Option<Rights>) -> usize
+        ensures { result ≡ splits self.now.places range rights }
     {
-        // No page from 2^35 on is mapped, so where the sum is past the last number, no mapping goes on at the end.
-        let _list = &self.list;
-        let end = range.first.saturating_add(range.count);
-        usize::from(self.goes_on(range.first)) + usize::from(self.goes_on(end))
+        let list = &self.list;
+        match rights {
+            None => usize::from(is_within(list, range)),
+            Some(rights) => {
+                // No page from 2^35 on is mapped, so where the sum is past the last number, none is cut at the end.
+                let end = range.first.saturating_add(range.count);
+                usize::from(self.is_cut(range.first, rights))
+                    + usize::from(self.is_cut(end, rights))
+            }
+        }
     }
 
-    /// Reserves the memory that one later `remove` or `protect` of the range needs: room for one more mapping for each
-    /// end of the range that is within a mapping, which is split there.
+    /// Reserves the memory that one later `protect` of the range with the rights needs, or without any a `remove`. A
+    /// `remove` needs room for one more mapping where one has a page on both sides of the range, and else none; a
+    /// `protect` for each end of the range that is within a mapping with other rights, which is split there.
     ///
     /// `OutOfMemory` if such room is missing and is refused. No mapping changes, whatever the answer.
-    pub fn reserve(&mut self, range: PageRange) -> Result<(), Refusal>
-        ensures reserved { OnOk result (splits self.new.places range.first range.count ≤ self.new.spare) }
+    pub fn reserve(&mut self, range: PageRange, rights: Option<Rights>) -> Result<(), Refusal>
+        ensures reserved { OnOk result (splits self.new.places range rights ≤ self.new.spare) }
         ensures refused { IfErr result (λ why. why ≡ OutOfMemory) }
-        ensures missing { OnErr result (self.old.spare < splits self.old.places range.first range.count) }
+        ensures missing { OnErr result (self.old.spare < splits self.old.places range rights) }
         ensures places { self.new.places ≡ self.old.places }
         ensures grows { self.old.spare ≤ self.new.spare }
     {
-        let splits = self.splits(range);
+        let splits = self.splits(range, rights);
         self.list.reserve(splits).map_err(|_| Refusal::OutOfMemory)
     }
 
-    /// Unmaps each page of the range that is mapped; a mapping of which it takes a part in the middle becomes two. It
-    /// takes no memory.
+    /// Unmaps each page of the range that is mapped. A mapping of which it takes the begin or the end becomes shorter,
+    /// and one of which it takes a part in the middle becomes two. It takes no memory.
     ///
     /// `Einval` if the range has no pages or isn't within bytes 4,096 to 2^47. After an error nothing has changed.
     pub fn remove(&mut self, range: PageRange) -> Result<(), Refusal>
-        requires { splits self.old.places range.first range.count ≤ self.old.spare }
+        requires { splits self.old.places range None ≤ self.old.spare }
         ensures judged { result ≡ answer (remove_refusal range) }
         ensures removed { OnOk result (self.new.places ≡ without_range self.old.places range.first range.count) }
         ensures err { OnErr result (self.new ≡ self.old) }
@@ -180,9 +184,7 @@ impl<A: Allocator + Copy> Mappings<A> {
         if !range.is_user() {
             return Err(Refusal::Einval);
         }
-        split_ends(&mut self.list, range);
-        let places = meeting(&self.list, range);
-        remove_range(&mut self.list, places);
+        take_out(&mut self.list, range);
         Ok(())
     }
 
@@ -210,12 +212,13 @@ impl<A: Allocator + Copy> Mappings<A> {
     ///
     /// It is refused as `may_protect` says. After an error nothing has changed.
     pub fn protect(&mut self, range: PageRange, rights: Rights) -> Result<(), Refusal>
-        requires { splits self.old.places range.first range.count ≤ self.old.spare }
+        requires { splits self.old.places range (Some rights) ≤ self.old.spare }
         ensures judged { result ≡ answer (protect_refusal self.old.places range rights) }
         ensures protected { OnOk result (self.new.places ≡ with_rights self.old.places range.first range.count rights) }
         ensures err { OnErr result (self.new ≡ self.old) }
     {
         self.may_protect(range, rights)?;
+        let range = widened(&self.list, range, rights);
         split_ends(&mut self.list, range);
         let places = meeting(&self.list, range);
         let (from, to) = (places.start, places.end);

@@ -9,7 +9,8 @@ use Rattle.std.proofs.lemmas.Nat.Bits.{bit_at_above, bit_at-zero}
 use Rattle.std.proofs.Math.Nat.{div-div-eq-div-mul}
 use Rattle.page_entry.specs.Entry.{Mapped, entry_of, bits_of, has_bit, IsEntry, is_dirty}
 use Rattle.page_table.specs.Table.{in_range, dirty_among}
-use Rattle.page_table.specs.inside.Nodes.{word, walk, lookup, present_from, is_set, IsSet, IsTable, IsLeafMask, IsOfLeaf, IsDirtyPage}
+use Rattle.page_table.specs.inside.Nodes.{word, walk, lookup, present_from, IsTable, IsLeafMask, IsOfLeaf, IsDirtyPage}
+use Rattle.page_table.specs.Bits.{is_set, IsSet}
 use Rattle.page_table.proofs.Trees.{walk-none, walk-suc, word_of_node}
 use Rattle.page_table.proofs.View.{dirty-none, dirty-first}
 use Rattle.page_table.proofs.PageEdits.{walk-high}
@@ -30,8 +31,8 @@ rest_blank mask place i blank low high =
     ∙ no_bit (bit_at m (place % 64 + (i - place))) (sym (bit_at-shifted m (place % 64) (i - place)) ∙ ap (λ n. bit_at n (i - place)) blank ∙ bit_at-zero (i - place))
 
 -- the lowest bit of the rest of a word
-pub rest_lowest : (mask : List ℕ) (place m word t : ℕ) → place < 512 → get_or mask (place / 64) 0 ≡ m → word ≡ m / 2 ^ (place % 64) → m < 2 ^ 64 → (t < 64) × (bit_at word t ≡ 1) × ((i : ℕ) → i < t → bit_at word i ≡ 0) → IsSet mask place (place + t)
-rest_lowest mask place m word t less m_is word_is fits lowest =
+pub rest_lowest : (mask : List ℕ) (place end m word t : ℕ) → place < end → end % 64 ≡ 0 → get_or mask (place / 64) 0 ≡ m → word ≡ m / 2 ^ (place % 64) → m < 2 ^ 64 → (t < 64) × (bit_at word t ≡ 1) × ((i : ℕ) → i < t → bit_at word i ≡ 0) → IsSet mask place end (place + t)
+rest_lowest mask place end m word t less whole m_is word_is fits lowest =
     let shifted = λ (j : ℕ). sym (bit_at-shifted m (place % 64) j) ∙ ap (λ n. bit_at n j) (sym word_is) in
     let one : bit_at m (place % 64 + t) ≡ 1 = shifted t ∙ lowest.1 in
     let within : place % 64 + t < 64 = elim (cases_lt (place % 64 + t) 64) [ inl low ↦ low | inr high ↦ absurd (let none = bit_at_above m 64 (place % 64 + t) fits high in omega arith) ] in
@@ -44,8 +45,8 @@ rest_lowest mask place m word t less m_is word_is fits lowest =
     }
 
 -- the first place from an earlier one on, where none between is set
-pub IsSet-from : (mask : List ℕ) (from place found : ℕ) → from ≤ place → ((i : ℕ) → from ≤ i → i < place → i < 512 → is_set mask i ≡ false) → IsSet mask place found → IsSet mask from found
-IsSet-from mask from place found le before is = record {
+pub IsSet-from : (mask : List ℕ) (from place end found : ℕ) → from ≤ place → ((i : ℕ) → from ≤ i → i < place → i < end → is_set mask i ≡ false) → IsSet mask place end found → IsSet mask from end found
+IsSet-from mask from place end found le before is = record {
   low = omega (arith, is.low);
   high = is.high;
   here = is.here;
@@ -53,7 +54,7 @@ IsSet-from mask from place found le before is = record {
 }
 
 -- the first page of a leaf by its mask
-pub IsOfLeaf-found : (mask : List ℕ) (start end place : ℕ) → IsSet mask (start % 512) place → start / 512 * 512 + place < end → IsOfLeaf mask start end (start / 512 * 512 + place)
+pub IsOfLeaf-found : (mask : List ℕ) (start end place : ℕ) → IsSet mask (start % 512) 512 place → start / 512 * 512 + place < end → IsOfLeaf mask start end (start / 512 * 512 + place)
 IsOfLeaf-found mask start end place is less =
     let high = is.high in
     let low = is.low in

@@ -8,3 +8,9 @@ mod PageEdits
 mod View
 mod Dirties
 mod Tables
+mod Marking
+mod Marked
+mod MarkedEdits
+mod MarkedNotes
+mod Choices
+mod NextPage

@@ -1,19 +1,18 @@
 -- What edits of parts of leaves do page by page.
-use Rattle.std.proofs.Common.{◌≡◌, ◌≢◌, ℕ, zero, suc, ◌+◌, ◌-◌, ◌*◌, ◌/◌, ◌%◌, ◌^◌, ◌<◌, ◌≤◌, Bool, true, false, cond, List, [], ◌∷◌, ◌++◌, length, map, get_or, set, take, drop, min, Option, Some, None, refl, sym, ap, ◌∙◌, subst, inl, inr, arith}
+use Rattle.std.proofs.Common.{◌≡◌, ◌≢◌, ℕ, ◌+◌, ◌-◌, ◌*◌, ◌/◌, ◌%◌, ◌^◌, ◌<◌, ◌≤◌, Bool, true, false, cond, List, length, get_or, set, min, Option, Some, None, refl, sym, ap, ◌∙◌, subst, inl, inr, arith}
 use Rattle.std.proofs.lemmas.Bool.{cases_eq, cases_lt}
 use Rattle.std.proofs.lemmas.Bool.Decides.{nat_tests}
-use Rattle.std.proofs.lemmas.List.{length-map, length-take, length-drop, length-append, get_or-take, get_or-drop, get_or-map, length-set, get_or-set_same, get_or-set_other}
-use Rattle.std.proofs.Math.ListN.{get_or-append}
-use Rattle.std.proofs.Math.Seq.{get_or-append_right}
-use borrow.Rule.Slice.PartMut.{put_mid, Post-is}
-use Rattle.page_entry.specs.Entry.{IsEntry, Mapped}
+use Rattle.std.proofs.lemmas.List.{length-set, get_or-set_same, get_or-set_other}
+use Rattle.std.specs.Borrow.{Bor}
+use Rattle.page_entry.specs.Entry.{IsEntry, Mapped, entry_of, bits_of}
 use Rattle.page_entry.proofs.Bits.{IsSmall, IsSmall-entry_of, IsEntry-bits_of}
 use Rattle.page_table.specs.Table.{in_range, is_marked}
 use Rattle.page_table.specs.declared.change.Change.{Change}
 use Rattle.page_table.specs.declared.change.Change.TheVariants.{Clear, MakeReadOnly, Protect}
 use Rattle.page_table.specs.inside.Changes.{changed, changed_bits}
-use Rattle.page_table.specs.inside.Nodes.{word, walk, IsTree, IsTable, IsFound, AreEntries, EditsPages}
-use Rattle.page_table.proofs.Trees.{walk-suc, walk-none, walk-zero, walk-edited, lookup-edited, IsTree-edited, word_of_node}
+use Rattle.page_table.specs.inside.Nodes.{walk, IsTree, IsTable, EditsPages}
+use Rattle.page_table.specs.inside.Marks.{IsNext, Keeps}
+use Rattle.page_table.proofs.Trees.{walk-none, walk-zero, walk-edited, lookup-edited, IsTree-edited}
 
 -- a change leaves an entry's bits
 changed_small : (change : Change) (e : Option Mapped) → IsSmall e → IsSmall (changed change e)
@@ -36,57 +35,19 @@ changed-zero Clear = refl
 changed-zero MakeReadOnly = refl
 changed-zero (Protect marked) = refl
 
+-- a present entry that is protected is present still
+some_bits : (e : Option Mapped) → 0 < bits_of e → (marked : Bor (List Bool)) → 0 < bits_of (changed (Protect marked) e)
+some_bits None some marked = absurd (omega arith)
+some_bits (Some m) some marked = omega arith
+
+pub Keeps-protected : (marked : Bor (List Bool)) → Keeps (changed_bits (Protect marked))
+Keeps-protected marked = λ n is some. some_bits (entry_of n) (subst (λ (k : ℕ). 0 < k) (sym is.named) some) marked
+
 -- no page past those of four levels has an entry
 pub walk-high : (ws : List ℕ) (q : ℕ) → 2 ^ 36 ≤ q → walk ws 4 q ≡ 0
 walk-high ws q high =
     let none : walk ws 0 (q / 512 / 512 / 512 / 512) ≡ 0 = walk-zero ws _ ∙ (let other : q / 512 / 512 / 512 / 512 ≢ 0 = omega arith in grind (arith, nat_tests)) in
     walk-none ws 3 q (walk-none ws 2 (q / 512) (walk-none ws 1 (q / 512 / 512) (walk-none ws 0 (q / 512 / 512 / 512) none)))
-
--- a part of the words that was changed, word by word
-module _ (f : ℕ → ℕ) (ws : List ℕ) (from n : ℕ) (within : from + n ≤ length ws) where
-  length_before : length (take from ws) ≡ from
-  length_before = omega (arith, length-take from ws)
-
-  length_part : length (map f (take n (drop from ws))) ≡ n
-  length_part = length-map (take n (drop from ws)) f ∙ omega (arith, length-take n (drop from ws), length-drop from ws)
-
-  whole_at : (i : ℕ) → get_or (take from ws ++ (map f (take n (drop from ws)) ++ drop (from + n) ws)) i 0 ≡ cond (in_range from (from + n) i) (f (get_or ws i 0)) (get_or ws i 0)
-  whole_at i = elim (cases_lt i from) [
-    | inl low ↦
-        let missed : in_range from (from + n) i ≡ false = grind (arith, nat_tests) in
-        get_or-append (take from ws) (map f (take n (drop from ws)) ++ drop (from + n) ws) 0 i (omega (arith, length_before)) ∙ get_or-take from ws i 0 low ∙ rw missed refl
-    | inr past ↦
-        get_or-append_right (take from ws) (map f (take n (drop from ws)) ++ drop (from + n) ws) i 0 (omega (arith, length_before))
-        ∙ elim (cases_lt i (from + n)) [
-          | inl within' ↦
-              let here : in_range from (from + n) i ≡ true = grind (arith, nat_tests) in
-              let place : i - length (take from ws) < n = omega (arith, length_before) in
-              get_or-append (map f (take n (drop from ws))) (drop (from + n) ws) 0 (i - length (take from ws)) (omega (arith, length_part))
-              ∙ get_or-map f (take n (drop from ws)) (i - length (take from ws)) 0 0 (omega (arith, length-take n (drop from ws), length-drop from ws))
-              ∙ ap f (get_or-take n (drop from ws) (i - length (take from ws)) 0 place ∙ get_or-drop from ws (i - length (take from ws)) 0 ∙ ap (λ k. get_or ws k 0) {x = from + (i - length (take from ws))} {y = i} (omega (arith, length_before)))
-              ∙ rw here refl
-          | inr after ↦
-              let missed : in_range from (from + n) i ≡ false = grind (arith, nat_tests) in
-              get_or-append_right (map f (take n (drop from ws))) (drop (from + n) ws) (i - length (take from ws)) 0 (omega (arith, length_before, length_part))
-              ∙ get_or-drop (from + n) ws (i - length (take from ws) - length (map f (take n (drop from ws)))) 0
-              ∙ ap (λ k. get_or ws k 0) {x = from + n + (i - length (take from ws) - length (map f (take n (drop from ws))))} {y = i} (omega (arith, length_before, length_part))
-              ∙ rw missed refl
-        ]
-  ]
-
-  length_whole : length (take from ws ++ (map f (take n (drop from ws)) ++ drop (from + n) ws)) ≡ length ws
-  length_whole = omega (arith, length-append (take from ws) (map f (take n (drop from ws)) ++ drop (from + n) ws), length-append (map f (take n (drop from ws))) (drop (from + n) ws), length_before, length_part, length-drop (from + n) ws)
-
-put_mid_is : (f : ℕ → ℕ) (ws new : List ℕ) (from n : ℕ) → new ≡ map f (take n (drop from ws)) → put_mid from n ws new ≡ take from ws ++ (map f (take n (drop from ws)) ++ drop (from + n) ws)
-put_mid_is f ws new from n same =
-    ap (put_mid from n ws) same ∙ ap (λ k. put_mid from k ws (map f (take n (drop from ws)))) {x = n} {y = from + n - from} (omega arith)
-    ∙ rw (Post-is from (from + n) ws (omega arith)) refl
-
-pub each_in_part : (f : ℕ → ℕ) (ws new : List ℕ) (from n : ℕ) → from + n ≤ length ws → new ≡ map f (take n (drop from ws)) → (i : ℕ) → get_or (put_mid from n ws new) i 0 ≡ cond (in_range from (from + n) i) (f (get_or ws i 0)) (get_or ws i 0)
-each_in_part f ws new from n within same i = ap (λ xs. get_or xs i 0) (put_mid_is f ws new from n same) ∙ whole_at f ws from n within i
-
-pub length_in_part : (f : ℕ → ℕ) (ws new : List ℕ) (from n : ℕ) → from + n ≤ length ws → new ≡ map f (take n (drop from ws)) → length (put_mid from n ws new) ≡ length ws
-length_in_part f ws new from n within same = ap length (put_mid_is f ws new from n same) ∙ length_whole f ws from n within
 
 -- one leaf's pages changed
 pub EditsPages-leaf : (f : ℕ → ℕ) (start end : ℕ) (ws vs : List ℕ) → ((n : ℕ) → IsEntry n → IsEntry (f n)) → IsTable ws → 0 < walk ws 3 (start / 512) → start < end → end ≤ (start / 512 + 1) * 512 → length vs ≡ length ws
@@ -121,32 +82,40 @@ module _ (f : ℕ → ℕ) (zeros : f 0 ≡ 0) where
   chosen_same true n none = ap f none ∙ zeros
   chosen_same false n none = none
 
-  -- one more leaf
-  pub EditsPages-more : (start page end first past : ℕ) (ws vs us : List ℕ) → start ≤ page → EditsPages f start page ws vs → IsFound vs page end first → first < past → EditsPages f first past vs us → EditsPages f start past ws us
-  EditsPages-more start page end first past ws vs us le done found order more = record {
-    table = more.table;
-    size = more.size ∙ done.size;
-    nodes = λ d c low. more.nodes d c low ∙ done.nodes d c low;
-    pages = λ q. more.pages q ∙ elim (cases_lt q page) [
+  -- one more page, before which no page has an entry
+  pub EditsPages-next : (start page end next e : ℕ) (ws vs us : List ℕ) → start ≤ page → EditsPages f start page ws vs → IsNext vs page end next → e ≡ f (walk vs 4 next) → EditsPages (λ _. e) next (next + 1) vs us → EditsPages f start (next + 1) ws us
+  EditsPages-next start page end next e ws vs us le done found e_is one = record {
+    table = one.table;
+    size = one.size ∙ done.size;
+    nodes = λ d c low. one.nodes d c low ∙ done.nodes d c low;
+    pages = λ q. one.pages q ∙ elim (cases_lt q page) [
       | inl below ↦
-          let here : in_range first past q ≡ false = (let low = found.low in grind (arith, nat_tests)) in
-          let same : in_range start page q ≡ in_range start past q = (let low = found.low in grind (arith, nat_tests)) in
+          let here : in_range next (next + 1) q ≡ false = (let low = found.low in grind (arith, nat_tests)) in
+          let same : in_range start page q ≡ in_range start (next + 1) q = (let low = found.low in grind (arith, nat_tests)) in
           rw here (done.pages q ∙ ap (λ t. cond t (f (walk ws 4 q)) (walk ws 4 q)) same)
       | inr above ↦
           let old : walk vs 4 q ≡ walk ws 4 q = done.pages q ∙ (let missed : in_range start page q ≡ false = grind (arith, nat_tests) in rw missed refl) in
-          rw old (elim (cases_lt q first) [
+          elim (cases_lt q next) [
             | inl gap ↦
-                let none : walk ws 4 q ≡ 0 = sym old ∙ walk-none vs 3 q (found.before q above gap) in
-                chosen_same (in_range first past q) (walk ws 4 q) none ∙ sym (chosen_same (in_range start past q) (walk ws 4 q) none)
-            | inr later ↦
-                let same : in_range first past q ≡ in_range start past q = grind (arith, nat_tests) in
-                rw same refl
-          ])
+                let here : in_range next (next + 1) q ≡ false = grind (arith, nat_tests) in
+                let none : walk ws 4 q ≡ 0 = sym old ∙ found.before q above gap in
+                rw here (old ∙ none ∙ sym (chosen_same (in_range start (next + 1) q) (walk ws 4 q) none))
+            | inr later ↦ elim (cases_eq q next) [
+              | inl same ↦
+                  let here : in_range next (next + 1) q ≡ true = grind (arith, nat_tests) in
+                  let inside : in_range start (next + 1) q ≡ true = (let low = found.low in grind (arith, nat_tests)) in
+                  rw (here, inside) (e_is ∙ ap f (ap (walk vs 4) (sym same) ∙ old))
+              | inr past ↦
+                  let here : in_range next (next + 1) q ≡ false = grind (arith, nat_tests) in
+                  let out : in_range start (next + 1) q ≡ false = grind (arith, nat_tests) in
+                  rw (here, out) old
+            ]
+          ]
     ];
   }
 
-  -- no more leaves
-  pub EditsPages-all : (start page end most : ℕ) (ws vs : List ℕ) → start ≤ page → EditsPages f start page ws vs → ((q : ℕ) → page ≤ q → q < end → walk vs 3 (q / 512) ≡ 0) → end ≡ min most (2 ^ 36) → (start < page → page ≤ end) → EditsPages f start most ws vs
+  -- no more pages
+  pub EditsPages-all : (start page end most : ℕ) (ws vs : List ℕ) → start ≤ page → EditsPages f start page ws vs → ((q : ℕ) → page ≤ q → q < end → walk vs 4 q ≡ 0) → end ≡ min most (2 ^ 36) → (start < page → page ≤ end) → EditsPages f start most ws vs
   EditsPages-all start page end most ws vs le done none whole within = record {
     table = done.table;
     size = done.size;
@@ -167,7 +136,7 @@ module _ (f : ℕ → ℕ) (zeros : f 0 ≡ 0) where
       | inr above ↦
           let missed : in_range start page q ≡ false = grind (arith, nat_tests) in
           let old : walk vs 4 q ≡ walk ws 4 q = done.pages q ∙ rw missed refl in
-          let gap : q < end → walk ws 4 q ≡ 0 = λ less. sym old ∙ walk-none vs 3 q (none q above less) in
+          let gap : q < end → walk ws 4 q ≡ 0 = λ less. sym old ∙ none q above less in
           rw missed (elim (cases_lt q end) [
             | inl less ↦ gap less ∙ sym (chosen_same (in_range start most q) (walk ws 4 q) (gap less))
             | inr past ↦ elim (cases_lt q most) [
@@ -177,33 +146,6 @@ module _ (f : ℕ → ℕ) (zeros : f 0 ≡ 0) where
           ])
     ];
   }
-
-module _ (start end : ℕ) (ws : List ℕ) (table : IsTable ws) (leaf : 0 < walk ws 3 (start / 512)) (forward : start < end) (block : end ≤ (start / 512 + 1) * 512) (k n : ℕ) (k_is : k ≡ walk ws 3 (start / 512)) (n_is : n ≡ end - start) where
-  -- the words of the pages of one leaf
-  pub part_within : (k - 1) * 512 + start % 512 + n ≤ length ws
-  part_within = omega (arith, table.tree.walkable.within 3 (start / 512) (omega arith))
-
-  pub part_entries : AreEntries (take n (drop ((k - 1) * 512 + start % 512) ws))
-  part_entries i less =
-      let low : i < n = omega (arith, length-take n (drop ((k - 1) * 512 + start % 512) ws)) in
-      let q = start + i in
-      let node : walk ws 3 (q / 512) ≡ k = ap (walk ws 3) {x = q / 512} {y = start / 512} (omega arith) ∙ sym k_is in
-      let read : walk ws 4 q ≡ get_or ws ((k - 1) * 512 + start % 512 + i) 0 =
-      walk-suc ws 3 q ∙ ap (λ m. word ws m (q % 512)) node ∙ word_of_node ws k (q % 512) (omega arith) ∙ ap (λ m. get_or ws m 0) {x = (k - 1) * 512 + q % 512} {y = (k - 1) * 512 + start % 512 + i} (omega arith) in
-      let taken : get_or (take n (drop ((k - 1) * 512 + start % 512) ws)) i 0 ≡ walk ws 4 q =
-      get_or-take n (drop ((k - 1) * 512 + start % 512) ws) i 0 low ∙ get_or-drop ((k - 1) * 512 + start % 512) ws i 0 ∙ sym read in
-      subst IsEntry (sym taken) (table.tree.entries q)
-
-  pub EditsPages-part : (f : ℕ → ℕ) → ((m : ℕ) → IsEntry m → IsEntry (f m)) → (new : List ℕ) → new ≡ map f (take n (drop ((k - 1) * 512 + start % 512) ws)) → EditsPages f start end ws (put_mid ((k - 1) * 512 + start % 512) n ws new)
-  EditsPages-part f keeps new same =
-      EditsPages-leaf f start end ws _ keeps table leaf forward block (length_in_part f ws new ((k - 1) * 512 + start % 512) n part_within same)
-      (λ i. each_in_part f ws new ((k - 1) * 512 + start % 512) n part_within same i ∙ ap (λ (m : ℕ). cond (in_range ((k - 1) * 512 + start % 512) ((k - 1) * 512 + start % 512 + m) i) (f (get_or ws i 0)) (get_or ws i 0)) n_is ∙ ap (λ (m : ℕ). cond (in_range m (m + (end - start)) i) (f (get_or ws i 0)) (get_or ws i 0)) {x = (k - 1) * 512 + start % 512} {y = (walk ws 3 (start / 512) - 1) * 512 + start % 512} (ap (λ m. (m - 1) * 512 + start % 512) k_is))
-
--- within a list the value past its end doesn't matter
-pub same_default : (xs : List ℕ) (i d e : ℕ) → i < length xs → get_or xs i d ≡ get_or xs i e
-same_default [] i d e less = absurd (omega arith)
-same_default (x ∷ xs) zero d e less = refl
-same_default (x ∷ xs) (suc i) d e less = same_default xs i d e (omega arith)
 
 -- one page's entry set
 pub EditsPages-set : (ws : List ℕ) (page e node : ℕ) → IsTable ws → 0 < walk ws 3 (page / 512) → IsEntry e → node ≡ walk ws 3 (page / 512) → EditsPages (λ _. e) page (page + 1) ws (set ws ((node - 1) * 512 + page % 512) e)

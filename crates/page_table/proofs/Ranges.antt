@@ -39,6 +39,6 @@ module _ (start end used tops middles made : ℕ) (ws ws1 ws2 ws3 : List ℕ) (p
         size = three.size ∙ two.size ∙ one.size;
         entries = λ q. three.same 4 q (omega arith) (λ at. absurd (omega arith)) ∙ two.same 4 q (omega arith) (λ at. absurd (omega arith)) ∙ one.same 4 q (omega arith) (λ at. absurd (omega arith));
         grown = λ b low high. three.linked b low (omega arith);
-        kept = λ b some. subst (λ n. 0 < n) (sym (same_leaf b (λ low high. some))) some;
+        kept = λ b some. same_leaf b (λ low high. some);
         others = λ b outside. same_leaf b (λ low high. absurd (let past = outside low in omega arith));
       }

@@ -106,7 +106,7 @@ GrowsOver-linked start end ws more new some alike grows =
     record {
       same_entries = same_entries _ _ (λ q. get_entry new q ∙ ap entry_of (grows.entries q ∙ same 4 q) ∙ sym (get_entry ws q));
       range_grown = λ q low high. is_grown_from new q (grows.grown (q / 512) (omega arith) (omega arith));
-      still_grown = λ q grown. is_grown_from new q (grows.kept (q / 512) (subst (λ (n : ℕ). 0 < n) (sym (same 3 (q / 512))) (grown_is ws q grown)));
+      still_grown = λ q grown. (let before : 0 < walk more 3 (q / 512) = subst (λ (n : ℕ). 0 < n) (sym (same 3 (q / 512))) (grown_is ws q grown) in is_grown_from new q (subst (λ (n : ℕ). 0 < n) (sym (grows.kept (q / 512) before)) before));
       no_more = λ q grown not_grown. elim (cases_lt (q / 512) (start / 512)) [
         | inl below ↦ absurd (contradiction q grown not_grown (λ low. omega arith))
         | inr low ↦ elim (cases_lt ((end - 1) / 512) (q / 512)) [
@@ -212,7 +212,7 @@ module _ (ws : List ℕ) (long : length ws ≡ 512) (blank : (i : ℕ) → get_o
     | inr node ↦ word_of_node ws k p (omega arith) ∙ blank ((k - 1) * 512 + p)
   ]
 
-  blank_walk : (d b : ℕ) → walk ws (suc d) b ≡ 0
+  pub blank_walk : (d b : ℕ) → walk ws (suc d) b ≡ 0
   blank_walk d b = walk-suc ws d b ∙ blank_word (walk ws d (b / 512)) (b % 512)
 
   root_only : (d b : ℕ) → 0 < walk ws d b → (d ≡ 0) × (b ≡ 0)

@@ -66,7 +66,7 @@ fn first_of_leaf(mask: &[u64; 8], start: PageNumber, end: PageNumber) -> Option<
     requires small { end ≤ 2 ^ 36 }
     ensures { IsFirstOfLeaf mask.now start end result }
 {
-    let place = first_set(mask, start % NODE)?;
+    let place = first_set(mask, start % NODE, NODE)?;
     let page = start / NODE * NODE + place;
     if page < end { Some(page) } else { None }
 }

@@ -1,6 +1,6 @@
 // Which entries of a node are dirty, tested eight at a time.
-ghost use Rattle.std.specs.Prelude.{◌≡◌, ◌<◌, ◌≤◌, ◌/◌, ◌%◌, ℕ, length, map, slice_index_or};
-ghost use Rattle.page_table.specs.inside.Nodes.{IsFirstSet};
+ghost use Rattle.std.specs.Prelude.{◌≡◌, ◌<◌, ◌≤◌, ◌*◌, ◌/◌, ◌%◌, ℕ, length, map, slice_index_or};
+ghost use Rattle.page_table.specs.Bits.{IsFirstSet};
 ghost use Rattle.std.specs.Simd.Lanes.{mask_l};
 ghost use Rattle.page_entry.specs.Entry.{has_bit};
 
@@ -44,13 +44,15 @@ pub fn dirty_mask(entries: &[u64; 512]) -> [u64; 8]
     mask
 }
 
-/// The first bit of a mask from this place on that is set.
-pub(crate) fn first_set(mask: &[u64], from: u64) -> Option<u64>
-    requires { length mask.now ≡ 8 }
-    ensures { IsFirstSet mask.now from result }
+/// The first bit of a mask from `from` on and below `end` that is set; bit i is bit i % 64 of word i / 64. It goes over
+/// words, not over bits.
+pub fn first_set(mask: &[u64], from: u64, end: u64) -> Option<u64>
+    requires within { end ≤ length mask.now * 64 }
+    requires whole { end % 64 ≡ 0 }
+    ensures { IsFirstSet mask.now from end result }
 {
     let mut place = from;
-    while place < 512 {
+    while place < end {
         let word = mask[(place / 64) as usize] >> (place % 64);
         if word != 0 {
             return Some(place + word.trailing_zeros() as u64);

@@ -1,59 +1,89 @@
-// What is done to the entries of a range of pages, leaf by leaf.
-ghost use Rattle.std.specs.Prelude.{◌≡◌, ◌≤◌, ◌<◌, ◌+◌, ◌*◌, ◌/◌, ℕ, length, map, slice_index_or};
+// What is done to the entries of a range of pages.
+ghost use Rattle.std.specs.Prelude.{◌≡◌, ◌≤◌, ◌<◌, ◌+◌, ◌/◌, ◌^◌, ℕ, Some, None, nat_lt, if◌then◌else◌};
 ghost use Rattle.page_entry.specs.Entry.{IsEntry};
-ghost use Rattle.page_table.specs.inside.Nodes.{walk, IsTable, EditsPages, AreEntries};
+ghost use Rattle.page_table.specs.inside.Nodes.{walk, IsTable, EditsPages};
 ghost use Rattle.page_table.specs.inside.Changes.{changed_bits};
+ghost use Rattle.page_table.specs.inside.Marks.{HasMarks, MarksEntries, IsNextPresent};
 
 use crate::change::{Change, changed};
+use crate::lanes::first_set;
+use crate::marks::mark;
 use crate::nodes::{NODE, PAGES, first_grown, walk};
 use page_entry::{Entry, PageNumber};
 use std::ops::Range;
 
-// Changes each of the entries.
-fn change_entries(entries: &mut [u64], change: Change)
-    requires { AreEntries entries.old }
-    ensures { entries.new ≡ map (changed_bits change.entry) entries.old }
-{
-    for entry in entries.iter_mut() {
-        *entry = changed(change, Entry::of_bits(*entry)).bits();
-    }
-}
-
-// Changes the entries of pages of one leaf.
-fn change_leaf(words: &mut [u64], pages: Range<PageNumber>, change: Change)
-    requires table { IsTable words.old }
-    requires leaf { 0 < walk words.old 3 (pages.start / 512) }
-    requires forward { pages.start < pages.end }
-    requires block { pages.end ≤ (pages.start / 512 + 1) * 512 }
-    ensures { EditsPages (changed_bits change.entry) pages.start pages.end words.old words.new }
-{
-    let node = walk(words, 3, pages.start / NODE);
-    let from = ((node - 1) * NODE + pages.start % NODE) as usize;
-    let count = (pages.end - pages.start) as usize;
-    change_entries(&mut words[from..from + count], change);
-}
-
-/// Changes the entries of the range.
-pub(crate) fn change_pages(words: &mut [u64], range: &Range<PageNumber>, change: Change)
-    requires { IsTable words.old }
-    ensures { EditsPages (changed_bits change.entry) range.now.start range.now.end words.old words.new }
-{
-    let end = range.end.min(PAGES);
-    let mut page = range.start;
-    'leaves: while let Some(first) = first_grown(words, page, end) {
-        let past = end.min((first / NODE + 1) * NODE);
-        change_leaf(words, first..past, change);
-        page = past;
-    }
-}
-
 /// Sets the entry of a page that has a leaf.
-pub(crate) fn set_page(words: &mut [u64], page: PageNumber, entry: u64)
+pub(crate) fn set_page(
+    words: &mut [u64],
+    present: &mut [u64],
+    in_use: &mut [u64],
+    page: PageNumber,
+    entry: u64,
+)
     requires table { IsTable words.old }
+    requires marks { HasMarks words.old present.old in_use.old }
     requires leaf { 0 < walk words.old 3 (page / 512) }
     requires entry { IsEntry entry }
-    ensures { EditsPages (λ _. entry) page (page + 1) words.old words.new }
+    ensures edits { EditsPages (λ _. entry) page (page + 1) words.old words.new }
+    ensures marks { HasMarks words.new present.new in_use.new }
 {
-    let node = walk(words, 3, page / NODE);
-    words[((node - 1) * NODE + page % NODE) as usize] = entry;
+    let node = walk(words, 3, page / NODE) - 1;
+    let place = node * NODE + page % NODE;
+    words[place as usize] = entry;
+    mark(present, place, entry != 0);
+    let used = entry != 0 || first_set(present, node * NODE, (node + 1) * NODE).is_some();
+    mark(in_use, node, used);
+}
+
+// The page, if it is below `end`.
+fn below(page: PageNumber, end: PageNumber) -> Option<PageNumber>
+    ensures { result ≡ (if nat_lt page end then Some page else None) }
+{
+    if page < end { Some(page) } else { None }
+}
+
+// The first page of the range whose entry is present. It goes over leaves and missing blocks, not over pages.
+fn next_present(
+    words: &[u64],
+    present: &[u64],
+    start: PageNumber,
+    end: PageNumber,
+) -> Option<PageNumber>
+    requires table { IsTable words.now }
+    requires marks { MarksEntries words.now present.now }
+    requires end { end ≤ 2 ^ 36 }
+    ensures { IsNextPresent words.now start end result }
+{
+    let mut page = start;
+    'leaves: while let Some(first) = first_grown(words, page, end) {
+        let block = first / NODE;
+        let node = walk(words, 3, block) - 1;
+        if let Some(place) = first_set(present, node * NODE + first % NODE, (node + 1) * NODE) {
+            return below(block * NODE + place % NODE, end);
+        }
+        page = (block + 1) * NODE;
+    }
+    None
+}
+
+/// Changes the entries of the range. It goes over leaves, missing blocks and present entries.
+pub(crate) fn change_pages(
+    words: &mut [u64],
+    present: &mut [u64],
+    in_use: &mut [u64],
+    range: &Range<PageNumber>,
+    change: Change,
+)
+    requires table { IsTable words.old }
+    requires marks { HasMarks words.old present.old in_use.old }
+    ensures edits { EditsPages (changed_bits change.entry) range.now.start range.now.end words.old words.new }
+    ensures marks { HasMarks words.new present.new in_use.new }
+{
+    let end = range.end.min(PAGES);
+    let mut start = range.start;
+    'pages: while let Some(page) = next_present(words, present, start, end) {
+        let entry = changed(change, Entry::of_bits(walk(words, 4, page)));
+        set_page(words, present, in_use, page, entry.bits());
+        start = page + 1;
+    }
 }

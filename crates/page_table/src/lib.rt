@@ -7,9 +7,11 @@ mod dirty_pages;
 mod growing;
 mod lanes;
 mod leaves;
+mod marks;
 mod nodes;
 mod table;
 
 pub use dirty_pages::DirtyPages;
-pub use lanes::dirty_mask;
+pub use lanes::{dirty_mask, first_set};
+pub use marks::mark;
 pub use table::Table;

@@ -1,17 +1,23 @@
 // The table: a map from page to entry that grows by ranges.
-ghost use Rattle.std.specs.Prelude.{◌≡◌, ◌≤◌, ◌<◌, ◌^◌, IsTrue, IfOk, OnOk, IfErr, Ok};
+ghost use Rattle.std.specs.Prelude.{◌≡◌, ◌≤◌, ◌<◌, ◌^◌, ◌↔◌, ◌⊎◌, ℕ, true, false, length, slice_index_or, Some, IsTrue, IfOk, OnOk, OnErr, IfErr, Ok};
 ghost use Rattle.std.specs.FinMap as maps;
+ghost use Rattle.page_entry.specs.Entry.{Mapped};
 ghost use Rattle.page_table.specs.Table.{empty_table, is_grown, put_entry, outside_range, frames_protected, range_read_only, dirty_in, HasGrown, GrowsOver};
+ghost use Rattle.page_table.specs.inside.Marks.{Extends};
 
 use crate::DirtyPages;
 use crate::change::Change;
 use crate::growing::{link_pages, needed};
 use crate::leaves::{change_pages, set_page};
-use crate::nodes::{NODE, PAGES, walk};
+use crate::marks::{change_present, note_present};
+use crate::nodes::{NODE, walk};
 use page_entry::{Entry, PageNumber, Refusal};
 use std::alloc::{AllocError, Allocator};
 use std::marker::Model;
 use std::ops::Range;
+
+/// Words of the marks of a node, a bit for each of its words.
+const MARKS: u64 = NODE / 64;
 
 /// A page table: a map from page to entry, absent where nothing was set. Pages are those of user addresses, below
 /// 2^35 (Intel SDM volume 3, "4-Level Paging"). It is made of nodes of 512 words in four levels, which stay until the
@@ -20,6 +26,10 @@ use std::ops::Range;
 pub struct Table<A: Allocator + Copy> {
     // The words of all nodes, one node after the other, the root first.
     words: Vec<u64, A>,
+    // A bit for each word: whether it is a present entry.
+    present: Vec<u64, A>,
+    // A bit for each node: whether it has a present entry.
+    in_use: Vec<u64, A>,
 }
 
 impl<A: Allocator + Copy> Model for Table<A> {
@@ -29,11 +39,12 @@ impl<A: Allocator + Copy> Model for Table<A> {
 
     ghost coded = { table_code };
 
-    ghost use Rattle.page_table.specs.inside.Nodes.{table_of, IsTable};
+    ghost use Rattle.page_table.specs.inside.Nodes.{table_of};
+    ghost use Rattle.page_table.specs.inside.Marks.{IsMarkedTable};
 
     ghost view = { λ t. table_of t.words.items };
 
-    ghost invariant = { λ t. IsTable t.words.items };
+    ghost invariant = { λ t. IsMarkedTable t.words.items t.present.items t.in_use.items };
 }
 
 impl<A: Allocator + Copy> Table<A> {
@@ -43,7 +54,15 @@ impl<A: Allocator + Copy> Table<A> {
     {
         let mut words = Vec::new(alloc);
         words.resize(NODE as usize, 0)?;
-        Ok(Self { words })
+        let mut present = Vec::new(alloc);
+        present.resize(MARKS as usize, 0)?;
+        let mut in_use = Vec::new(alloc);
+        in_use.resize(1, 0)?;
+        Ok(Self {
+            words,
+            present,
+            in_use,
+        })
     }
 
     /// How many nodes there are.
@@ -73,6 +92,12 @@ impl<A: Allocator + Copy> Table<A> {
             return Ok(());
         }
         let used = self.words.len() as u64 / NODE;
+        let Ok(()) = extend(&mut self.present, (used + count) * MARKS) else {
+            return Err(Refusal::OutOfMemory);
+        };
+        let Ok(()) = extend(&mut self.in_use, (used + count) / 64 + 1) else {
+            return Err(Refusal::OutOfMemory);
+        };
         let Ok(()) = self.words.resize(((used + count) * NODE) as usize, 0) else {
             return Err(Refusal::OutOfMemory);
         };
@@ -92,21 +117,39 @@ impl<A: Allocator + Copy> Table<A> {
         requires { IsTrue (is_grown self.old page) }
         ensures { self.new ≡ record self.old { entries = put_entry self.old.entries page entry } }
     {
-        set_page(&mut self.words, page, entry.bits());
+        set_page(
+            &mut self.words,
+            &mut self.present,
+            &mut self.in_use,
+            page,
+            entry.bits(),
+        );
     }
 
     /// Makes every entry of the range absent. It takes no memory, and what has grown stays.
     pub fn clear(&mut self, range: Range<PageNumber>)
         ensures { self.new ≡ record self.old { entries = outside_range self.old.entries range.start range.end } }
     {
-        change_pages(&mut self.words, &range, Change::Clear);
+        change_pages(
+            &mut self.words,
+            &mut self.present,
+            &mut self.in_use,
+            &range,
+            Change::Clear,
+        );
     }
 
     /// Takes the right to write from every entry of the range. It takes no memory.
     pub fn make_read_only(&mut self, range: Range<PageNumber>)
         ensures { self.new ≡ record self.old { entries = range_read_only self.old.entries range.start range.end } }
     {
-        change_pages(&mut self.words, &range, Change::MakeReadOnly);
+        change_pages(
+            &mut self.words,
+            &mut self.present,
+            &mut self.in_use,
+            &range,
+            Change::MakeReadOnly,
+        );
     }
 
     /// Takes the right to write and the dirty bit from every entry that maps a marked frame: one whose number is below
@@ -114,7 +157,24 @@ impl<A: Allocator + Copy> Table<A> {
     pub fn protect_frames(&mut self, marked: &[bool])
         ensures { self.new ≡ record self.old { entries = frames_protected self.old.entries marked.now } }
     {
-        change_pages(&mut self.words, &(0..PAGES), Change::Protect(marked));
+        change_present(
+            &mut self.words,
+            &self.present,
+            &self.in_use,
+            Change::Protect(marked),
+        );
+    }
+
+    /// Notes the frame of each dirty entry. It takes no memory.
+    pub fn note_dirty(&self, notes: &mut [bool])
+        requires { (page : ℕ) (entry : Mapped) → maps.get self.now.entries page ≡ Some entry
+            → entry.frame < length notes.old }
+        ensures size { length notes.new ≡ length notes.old }
+        ensures noted { (frame : ℕ) → (slice_index_or notes.new frame false ≡ true)
+            ↔ ((slice_index_or notes.old frame false ≡ true) ⊎ ((page : ℕ) × (entry : Mapped)
+            × (maps.get self.now.entries page ≡ Some entry) × (entry.frame ≡ frame) × (entry.dirty ≡ true))) }
+    {
+        note_present(&self.words, &self.present, &self.in_use, notes);
     }
 
     /// The pages of the range whose entries are dirty, in rising order.
@@ -123,4 +183,16 @@ impl<A: Allocator + Copy> Table<A> {
     {
         DirtyPages::new(&self.words, range)
     }
+}
+
+// Makes the list at least so long, with zeros; after an error it is as it was.
+fn extend<A: Allocator + Copy>(words: &mut Vec<u64, A>, count: u64) -> Result<(), AllocError>
+    requires { count < 2 ^ 60 }
+    ensures ok { OnOk result (Extends count words.old.items words.new.items) }
+    ensures err { OnErr result (words.new.items ≡ words.old.items) }
+{
+    if (words.len() as u64) < count {
+        words.resize(count as usize, 0)?;
+    }
+    Ok(())
 }

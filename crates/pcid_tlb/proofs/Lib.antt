@@ -1,1 +1,2 @@
-pub mod TlbLaws
+mod TlbLaws
+pub mod Public

@@ -1,5 +1,5 @@
 -- What is cached after a fill or an invalidation, and that each leaves a TLB.
-use Rattle.std.proofs.Common.{◌≡◌, ◌<◌, ◌≤◌, ℕ, zero, suc, Bool, true, false, not, ◌==◌, cond, ltb, List, [], ◌∷◌, ◌++◌, length, get_or, take, drop, Some, refl, ap, ◌∙◌, subst, inl, inr, ◌⊎◌, arith, All}
+use Rattle.std.proofs.Common.{◌≡◌, ◌<◌, ◌≤◌, ℕ, zero, suc, Bool, true, false, not, cond, ltb, List, [], ◌∷◌, ◌++◌, length, get_or, take, drop, Some, refl, ap, ◌∙◌, subst, inl, inr, ◌⊎◌, arith, All}
 use Rattle.std.specs.List.{filter, find, remove, AllPairs}
 use Rattle.std.proofs.lemmas.Bool.{eq-eqb}
 use Rattle.std.proofs.lemmas.Bool.Decides.{nat_tests}
@@ -10,7 +10,7 @@ use Rattle.std.proofs.lemmas.List.Sums.{count_by-le-length, length-filter}
 use Rattle.pcid_tlb.specs.declared.CachedEntry.{CachedEntry}
 use Rattle.pcid_tlb.specs.declared.Invpcid.{Invpcid}
 use Rattle.pcid_tlb.specs.declared.Invpcid.TheVariants.{AllContextsAndGlobals, AllContexts}
-use Rattle.pcid_tlb.specs.Tlb.{TlbState, is_of, cached, keep_entries, without_page, drops, invalidated, cr3_loaded, with_room, filled, evicted, AreApart, IsTlb}
+use Rattle.pcid_tlb.specs.Tlb.{TlbState, is_of, cached, keep_entries, without_page, invalidated, cr3_loaded, with_room, filled, evicted, AreApart, IsTlb}
 
 -- an element leaves
 pub All-remove : {X : Type 0} (P : X → Type 0) (xs : List X) (k : ℕ) → All P xs → All P (remove xs k)

@@ -42,7 +42,7 @@ fn give_entry(
     if spaces.place(1, page).is_none() {
         return Err(Refusal::SegvMapErr);
     }
-    if frames.page(frame).is_none() {
+    if frames.owner(frame).is_none() {
         return Err(Refusal::NoFrame);
     }
     let entry = Entry::absent().with_present(true).with_frame(frame);

@@ -117,7 +117,7 @@ impl Parts {
         ensures backed { AreBacked self.new.frames self.new.checkpoint self.new.spaces.map }
     {
         let range = self.spaces.judge_range(pcid, u64::from(page) * PAGE, PAGE)?;
-        self.spaces.prepare(pcid, range)?;
+        self.spaces.prepare(pcid, range, None)?;
         self.checkpoint.unmap(&mut self.spaces, pcid, range);
         Ok(())
     }

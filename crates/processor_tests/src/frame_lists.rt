@@ -27,7 +27,7 @@ fn take_filled(frames: &mut Frames, page: FilePage, byte: u8) -> Result<FrameNum
 
 // Gives back a frame that has to be in use.
 fn give(rt: &impl Abort, frames: &mut Frames, frame: FrameNumber) {
-    assert!(rt; frames.page(frame).is_some());
+    assert!(rt; frames.owner(frame).is_some());
     frames.give(frame);
 }
 
@@ -39,14 +39,14 @@ fn give_copy(rt: &impl Abort, frames: &mut Frames, page: FilePage) {
 
 // Writes to a frame that has to be in use.
 fn write(rt: &impl Abort, frames: &mut Frames, frame: FrameNumber, at: usize, bytes: &[u8]) {
-    assert!(rt; frames.page(frame).is_some());
+    assert!(rt; frames.owner(frame).is_some());
     assert!(rt; at <= 4096 && bytes.len() <= 4096 - at);
     frames.write(frame, at, bytes);
 }
 
 // Whether a frame, which has to be in use, ends with these bytes.
 fn ends_with(rt: &impl Abort, frames: &Frames, frame: FrameNumber, bytes: [u8; 3]) -> bool {
-    assert!(rt; frames.page(frame).is_some());
+    assert!(rt; frames.owner(frame).is_some());
     &frames.bytes(frame)[4093..] == bytes.as_slice()
 }
 
@@ -65,12 +65,12 @@ fn counts(frames: &Frames) -> (u32, u32, u32) {
 
 // Whether this is the page of a frame, and its own one.
 fn has_page(frames: &Frames, frame: FrameNumber, page: FilePage) -> bool {
-    frames.page(frame) == Some(page) && frames.find(page) == Some(frame)
+    frames.owner(frame) == Some(page) && frames.find(page) == Some(frame)
 }
 
 // Whether neither the frame has a page, nor the page a frame.
 fn have_neither(frames: &Frames, frame: FrameNumber, page: FilePage) -> bool {
-    frames.page(frame).is_none() && frames.find(page).is_none()
+    frames.owner(frame).is_none() && frames.find(page).is_none()
 }
 
 // Whether these are the frames in use, by their pages.
@@ -163,7 +163,7 @@ fn take_1020(rt: &impl Abort, frames: &mut Frames) {
 fn is_nth(frames: &Frames, n: u16) -> bool {
     match frames.find(nth_page(n)) {
         Some(frame) => {
-            frames.page(frame) == Some(nth_page(n))
+            frames.owner(frame) == Some(nth_page(n))
                 && frames.in_order().get(usize::from(n)).copied() == Some(frame)
         }
         None => false,

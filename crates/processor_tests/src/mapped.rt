@@ -62,7 +62,7 @@ fn add(rt: &impl Abort, space: &mut Mappings<Global>, chosen: PageRange, place: 
 
 // Unmaps pages.
 fn remove(rt: &impl Abort, space: &mut Mappings<Global>, chosen: PageRange) {
-    let Ok(()) = space.reserve(chosen) else {
+    let Ok(()) = space.reserve(chosen, None) else {
         panic!(rt; "no memory to unmap");
     };
     assert!(rt; space.remove(chosen).is_ok());
@@ -75,7 +75,7 @@ fn protect(
     chosen: PageRange,
     rights: Rights,
 ) -> Result<(), Refusal> {
-    let Ok(()) = space.reserve(chosen) else {
+    let Ok(()) = space.reserve(chosen, Some(rights)) else {
         panic!(rt; "no memory to protect");
     };
     space.protect(chosen, rights)

@@ -31,7 +31,7 @@ fn map(spaces: &mut Spaces, pcid: Pcid, pages: u64, place: Place) -> Result<(), 
 // Unmaps pages, as a `munmap` would.
 fn unmap(spaces: &mut Spaces, pcid: Pcid, page: u32, pages: u32) -> Result<(), Refusal> {
     let range = spaces.judge_range(pcid, u64::from(page) * PAGE, u64::from(pages) * PAGE)?;
-    spaces.prepare(pcid, range)?;
+    spaces.prepare(pcid, range, None)?;
     spaces.unmap(pcid, range);
     Ok(())
 }
@@ -50,7 +50,7 @@ fn protect(
         u64::from(pages) * PAGE,
         rights,
     )?;
-    spaces.prepare(pcid, range)?;
+    spaces.prepare(pcid, range, Some(rights))?;
     spaces.protect(pcid, range, rights);
     Ok(())
 }

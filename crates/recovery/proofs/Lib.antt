@@ -5,12 +5,7 @@ pub mod FileBytes
 pub mod Judged
 pub mod Kept
 pub mod FoundJournals
-pub mod Regions
-pub mod Applied
-pub mod Carried
-pub mod Partly
-pub mod Steps
-pub mod UnderWay
 pub mod Opened
 pub mod Reopened
 pub mod Blank
+pub mod Carrying

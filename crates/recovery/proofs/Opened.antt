@@ -1,5 +1,5 @@
 -- A volume whose open batches were carried out is at rest.
-use Rattle.std.proofs.Common.{◌≡◌, ◌≤◌, inl, inr, ℕ, ◌+◌, ◌*◌, List, [], ◌∷◌, length, refl, sym, subst, arith}
+use Rattle.std.proofs.Common.{◌≡◌, ◌≤◌, inl, inr, ℕ, ◌+◌, ◌*◌, List, [], ◌∷◌, length, get_or, refl, sym, ap, ◌∙◌, subst, arith}
 use Rattle.std.specs.List.{sum_by}
 use Rattle.std.proofs.lemmas.List.Sums.{sum_by-append}
 use Rattle.device.specs.Device.{Only, LeavesOnly}
@@ -7,17 +7,17 @@ use Rattle.device.specs.declared.device.Device.{Ghosts}
 use Rattle.device.proofs.Moments.{leaves_on, leaves_weaker}
 use Rattle.page_entry.specs.declared.refusal.Refusal.{Refusal}
 use Rattle.page_entry.specs.declared.refusal.Refusal.TheVariants.{Device}
-use Rattle.volume_codec.specs.Layout.{GeometryValue, journals_of, block_at}
-use Rattle.volume_codec.specs.Super.{SuperValue, Fits, IsSuper, block_count, geometry_of, capacities_in}
-use Rattle.volume_codec.specs.Recovery.{Batch, IsVolume}
-use Rattle.volume_codec.proofs.Layouts.{first_home-within}
-use Rattle.volume_codec.proofs.Places.{fits_geometry}
+use Rattle.volume_codec.specs.Layout.{journals_of, block_at}
+use Rattle.volume_codec.specs.Super.{SuperValue, Fits, block_count, geometry_of, capacities_in}
+use Rattle.volume_codec.specs.Recovery.{Batch, IsVolume, contents_in}
 use Rattle.volume_codec.proofs.Recovered.{length-lengths_in, lengths_in-le}
 use Rattle.recovery.specs.Counts.{Rises, RisesWithin}
 use Rattle.recovery.specs.Volume.{IsSettled}
-use Rattle.recovery.specs.Opening.{IsUnwritten, IsOpened, IsBeingOpened, LeftByOpening, opening_calls, HasOpened, HasRefused, RefusesOpening}
+use Rattle.journal.specs.Recovered.{RecoversBy}
+use Rattle.journal.specs.Finished.{Holds, RecoversSame}
+use Rattle.recovery.specs.Opening.{IsUnwritten, LeftByOpening, opening_calls, HasOpened, HasRefused, RefusesOpening}
+use Rattle.recovery.specs.inside.Carrying.{AreShut}
 use Rattle.recovery.specs.inside.Reading.{carry_calls}
-use Rattle.recovery.proofs.Partly.{opened_partly, kept_block, still_waiting}
 
 -- each open batch takes one call to read its descriptor
 abbrev pub count_batch : List Batch → ℕ
@@ -37,46 +37,39 @@ pub most_calls_of : (table : SuperValue) (batches : List Batch) (a b c n : ℕ) 
     → RisesWithin (opening_calls table batches) a c
 most_calls_of table batches a b c n count first second small = let all = all_calls batches in omega (arith, small, count, first, second, all)
 
--- what was opened holds the volume with its gates closed
-pub opened_volume : (table : SuperValue) (batches : List Batch) (old new : List ℕ) → IsVolume table batches old → IsOpened (geometry_of table) batches old new → IsVolume table [] new
-opened_volume table batches old new volume opened =
-    let h = geometry_of table in
-    let is = fits_geometry table volume.super_block.fits in
-    let long : 4096 * h.blocks ≤ length old = volume.long in
-    let partly = opened_partly h [] batches old new opened in
-    let within = first_home-within h is in
-    let block = kept_block h old is long [] batches volume.journals new partly 0 (omega arith) (λ j same. omega (arith, same)) in
-    let P : List ℕ → Type 0 = λ bytes. IsSuper table bytes in
-    record {
-      super_block = subst P (sym block) volume.super_block;
-      long = omega (arith, volume.long, opened.same_length);
-      journals = still_waiting h old is long [] batches volume.journals new partly;
-    }
-
 module _ {D : Type 0} (disk : Ghosts D) (before mid : D) (table : SuperValue) (batches : List Batch) (volume : IsVolume table batches (disk.seen before)) (unwritten : IsUnwritten disk before mid) where
+  -- what it recovers to, before and since
+  abbrev contents : ℕ → List ℕ
+  contents = contents_in table.slots batches (disk.seen before)
+
+  pub holds : disk.is_honest mid → Only (disk.may_leave mid) (disk.seen mid) → Holds disk table batches contents mid
+  holds honest synced = record {
+    honest = honest;
+    recovers = subst (λ (bytes : List ℕ). RecoversBy table batches contents bytes) (sym unwritten.same) (record { volume = volume; contents_are = λ b home. refl });
+    synced = synced;
+  }
+
   -- a crash while the batches are carried out
-  pub left_within : (after : D) (h : GeometryValue) → h ≡ geometry_of table → LeavesOnly disk.moment disk.left_since mid after (IsBeingOpened h batches (disk.seen mid))
-      → LeavesOnly disk.moment disk.left_since before after (LeftByOpening disk before)
-  left_within after h is time =
-      leaves_on (leaves_weaker unwritten.time (λ c may. inl may)) time
-      (λ c being.
-      let P : List ℕ → Type 0 = λ bytes. IsBeingOpened h batches bytes c in
-      let Q : GeometryValue → Type 0 = λ k. IsBeingOpened k batches (disk.seen before) c in
-      inr (table, batches, volume, subst Q is (subst P unwritten.same being)))
+  pub left_within : (after : D) → LeavesOnly disk.moment disk.left_since mid after (RecoversSame table contents (disk.seen mid)) → LeavesOnly disk.moment disk.left_since before after (LeftByOpening disk before)
+  left_within after time = leaves_on (leaves_weaker unwritten.time (λ c may. inl may)) time
+      (λ c same. inr (table, batches, volume, subst (λ (bytes : List ℕ). RecoversSame table contents bytes c) unwritten.same same))
 
   -- all of them carried out
-  pub has_opened : (after : D) (n : ℕ) → n ≡ length batches → IsOpened (geometry_of table) batches (disk.seen mid) (disk.seen after) → Only (disk.may_leave after) (disk.seen after)
+  pub has_opened : (after : D) (n : ℕ) → n ≡ length batches → length (disk.seen after) ≡ length (disk.seen before) → Holds disk table [] contents after → AreShut (geometry_of table) batches (disk.seen mid) (disk.seen after)
       → Rises (2 + journals_of table.layout + n) (disk.calls_made before) (disk.calls_made mid) → Rises (carry_calls batches) (disk.calls_made mid) (disk.calls_made after)
       → HasOpened disk before table after
-  has_opened after n count opened synced first second =
-      let P : List ℕ → Type 0 = λ bytes. IsOpened (geometry_of table) batches bytes (disk.seen after) in
-      record {
-        batches = batches;
-        held = volume;
-        opened = subst P unwritten.same opened;
-        synced = synced;
-        calls = calls_of table batches (disk.calls_made before) (disk.calls_made mid) (disk.calls_made after) n count first second;
-      }
+  has_opened after n count len now shut first second = record {
+    batches = batches;
+    held = volume;
+    opened = record {
+      same_length = len;
+      homes = λ b home. sym (now.recovers.contents_are b home);
+      gates = shut.gates;
+      others = λ i out none. shut.others i out none ∙ ap (λ (l : List ℕ). get_or l i 0) unwritten.same;
+    };
+    synced = now.synced;
+    calls = calls_of table batches (disk.calls_made before) (disk.calls_made mid) (disk.calls_made after) n count first second;
+  }
 
   -- a device call failed on the way
   pub has_failed : (refusal : Refusal) (after : D) (n : ℕ) → n ≡ length batches → refusal ≡ Device → Rises (2 + journals_of table.layout + n) (disk.calls_made before) (disk.calls_made mid)
@@ -95,20 +88,14 @@ module _ {D : Type 0} (disk : Ghosts D) (before mid : D) (table : SuperValue) (b
       }
 
 -- an opened volume is settled
-pub is_settled : {D : Type 0} (disk : Ghosts D) (before after : D) (table : SuperValue) → Fits table → 4096 * block_count table ≤ length (disk.seen after)
-    → (disk.is_honest after → HasOpened disk before table after) → IsSettled disk (record { table = table; lengths = capacities_in table; device = after })
-is_settled disk before after table fits long opens = record {
+pub is_settled : {D : Type 0} (disk : Ghosts D) (after : D) (table : SuperValue) → Fits table → 4096 * block_count table ≤ length (disk.seen after)
+    → (disk.is_honest after → IsVolume table [] (disk.seen after) × Only (disk.may_leave after) (disk.seen after)) → IsSettled disk (record { table = table; lengths = capacities_in table; device = after })
+is_settled disk after table fits long rests = record {
   fits = fits;
   long = long;
   lengths = record {
     count = length-lengths_in table (block_at (disk.seen after));
     within = λ i n f file size. lengths_in-le table (block_at (disk.seen after)) i n f file size;
   };
-  at_rest = λ honest.
-      let opened = opens honest in
-      record {
-        holds = opened_volume table opened.batches (disk.seen before) (disk.seen after) opened.held opened.opened;
-        lengths_are = refl;
-        synced = opened.synced;
-      };
+  at_rest = λ honest. let is = rests honest in record { holds = is.0; lengths_are = refl; synced = is.1 };
 }

@@ -11,73 +11,25 @@ use Rattle.volume_codec.specs.Recovery.{Batch, AreOpen, standing_block, contents
 use Rattle.volume_codec.proofs.Batches.{IsAmong, each_among, one_list, one_contents, one_recovery}
 use Rattle.volume_codec.proofs.Functional.{one_table}
 use Rattle.volume_codec.proofs.Places.{fits_geometry}
+use Rattle.journal.specs.Finished.{RecoversSame}
 use Rattle.recovery.specs.Volume.{files_of}
-use Rattle.recovery.specs.Opening.{HaveNoRecord, IsBeingOpened, HasOpened, HasRefused, RefusesOpening, LeftByOpening, Opens}
+use Rattle.recovery.specs.Opening.{HasOpened, HasRefused, RefusesOpening, LeftByOpening, Opens}
 use Rattle.recovery.specs.Openings.{IsRestarted, FollowsOpening, IsLater, RecoversAs, AllRecover, FindsAmong}
 use Rattle.recovery.proofs.Judged.{magic_at}
-use Rattle.recovery.proofs.Steps.{record_or-either}
-
--- a home block that one of the newer batches has a record for, or none of them
-standing_either : (slots b : ℕ) (newer older : List Batch)
-    → ((a : Batch) × IsAmong a newer × (i : ℕ) × (i < length a.homes) × (standing_block slots newer b ≡ record_block slots a.journal i) × (standing_block slots (newer ++ older) b ≡ record_block slots a.journal i))
-    ⊎ (HaveNoRecord newer b × (standing_block slots newer b ≡ b))
-standing_either slots b [] older = inr (tt, refl)
-standing_either slots b (x ∷ xs) older =
-    by (record_or-either (standing_block slots xs b) (standing_block slots (xs ++ older) b) (record_block slots x.journal 0) x.homes b) (standing_either slots b xs older)
-  where
-    by : ((i : ℕ) × (i < length x.homes) × (standing_block slots (x ∷ xs) b ≡ record_block slots x.journal 0 + i) × (standing_block slots (x ∷ xs ++ older) b ≡ record_block slots x.journal 0 + i))
-        ⊎ (AllByRecursion (λ home. home ≢ b) x.homes × (standing_block slots (x ∷ xs) b ≡ standing_block slots xs b) × (standing_block slots (x ∷ xs ++ older) b ≡ standing_block slots (xs ++ older) b))
-        → ((a : Batch) × IsAmong a xs × (i : ℕ) × (i < length a.homes) × (standing_block slots xs b ≡ record_block slots a.journal i) × (standing_block slots (xs ++ older) b ≡ record_block slots a.journal i))
-        ⊎ (HaveNoRecord xs b × (standing_block slots xs b ≡ b))
-        → ((a : Batch) × IsAmong a (x ∷ xs) × (i : ℕ) × (i < length a.homes) × (standing_block slots (x ∷ xs) b ≡ record_block slots a.journal i) × (standing_block slots (x ∷ xs ++ older) b ≡ record_block slots a.journal i))
-        ⊎ (HaveNoRecord (x ∷ xs) b × (standing_block slots (x ∷ xs) b ≡ b))
-    by (inl found) rest =
-        let place : record_block slots x.journal 0 + found.0 ≡ record_block slots x.journal found.0 = omega arith in
-        inl (x, inl refl, found.0, found.1, found.2 ∙ place, found.3 ∙ place)
-    by (inr none) (inl r) = inl (r.0, inr r.1, r.2, r.3, none.1 ∙ r.4, none.2 ∙ r.5)
-    by (inr none) (inr r) = inr ((none.0, r.0), none.1 ∙ r.1)
-
--- what a crash left while open batches are carried out has the same contents
-pub being_contents : (g : GeometryValue) (batches : List Batch) (old c : List ℕ) (being : IsBeingOpened g batches old c) (b : ℕ) → IsHome g b → contents_in g.slots being.waiting c b ≡ contents_in g.slots batches old b
-being_contents g batches old c being b home = by (standing_either g.slots b being.waiting being.done)
-  where
-    by : ((a : Batch) × IsAmong a being.waiting × (i : ℕ) × (i < length a.homes) × (standing_block g.slots being.waiting b ≡ record_block g.slots a.journal i)
-        × (standing_block g.slots (being.waiting ++ being.done) b ≡ record_block g.slots a.journal i))
-        ⊎ (HaveNoRecord being.waiting b × (standing_block g.slots being.waiting b ≡ b)) → contents_in g.slots being.waiting c b ≡ contents_in g.slots batches old b
-    by (inl r) =
-        let whole = ap (λ (bs : List Batch). standing_block g.slots bs b) being.split ∙ r.5 in
-        let kept = each_among (λ (batch : Batch). (i : ℕ) → i < length batch.homes → block_at c (record_block g.slots batch.journal i) ≡ block_at old (record_block g.slots batch.journal i)) r.0 being.waiting being.records r.1 in
-        ap (block_at c) r.4 ∙ kept r.2 r.3 ∙ ap (block_at old) (sym whole)
-    by (inr r) = ap (block_at c) r.1 ∙ being.homes b home r.0
-
-pub being_volume : (table : SuperValue) (batches : List Batch) (old c : List ℕ) → IsVolume table batches old → (being : IsBeingOpened (geometry_of table) batches old c) → IsVolume table being.waiting c
-being_volume table batches old c volume being =
-    let P : List ℕ → Type 0 = λ bytes. IsSuper table bytes in
-    record {
-      super_block = subst P (sym being.super_block) volume.super_block;
-      long = omega (arith, volume.long, being.same_length);
-      journals = being.journals;
-    }
-
--- so it recovers to whatever was recovered to
-pub being_recovers : (table w : SuperValue) (batches : List Batch) (contents : ℕ → List ℕ) (old c : List ℕ) → IsVolume table batches old → IsBeingOpened (geometry_of table) batches old c
-    → Recovers w contents old → Recovers w contents c
-being_recovers table w batches contents old c volume being r =
-    let same = one_table table w (block_at old 0) volume.super_block r.volume.super_block in
-    let P : SuperValue → Type 0 = λ v. IsBeingOpened (geometry_of v) batches old c in
-    let Q : SuperValue → Type 0 = λ v. AreOpen (geometry_of v) batches old in
-    let R : List Batch → Type 0 = λ bs. IsBeingOpened (geometry_of w) bs old c in
-    let batches_are = one_list (geometry_of w) batches r.batches old (fits_geometry w r.volume.super_block.fits) (subst Q same volume.journals) r.volume.journals in
-    let mine : IsBeingOpened (geometry_of w) r.batches old c = subst R batches_are (subst P same being) in
-    record {
-      batches = mine.waiting;
-      volume = being_volume w r.batches old c r.volume mine;
-      contents_are = λ b home. r.contents_are b home ∙ sym (being_contents (geometry_of w) r.batches old c mine b home);
-    }
 
 -- the contents that its batches give
-pub own_contents : (table : SuperValue) (batches : List Batch) (old : List ℕ) → IsVolume table batches old → Recovers table (contents_in table.slots batches old) old
+own_contents : (table : SuperValue) (batches : List Batch) (old : List ℕ) → IsVolume table batches old → Recovers table (contents_in table.slots batches old) old
 own_contents table batches old volume = record { batches = batches; volume = volume; contents_are = λ b home. refl }
+
+-- what a crash leaves while they are carried out recovers to whatever was recovered to
+pub being_recovers : (table w : SuperValue) (batches : List Batch) (contents : ℕ → List ℕ) (old c : List ℕ) → IsVolume table batches old → RecoversSame table (contents_in table.slots batches old) old c
+    → Recovers w contents old → Recovers w contents c
+being_recovers table w batches contents old c volume being r =
+    let one = one_contents table w (contents_in table.slots batches old) contents old (own_contents table batches old volume) r in
+    let c_recovers = being.recovers in
+    let P : SuperValue → Type 0 = λ v. Recovers v (contents_in table.slots batches old) c in
+    let same = subst P one.0 c_recovers in
+    record { batches = same.batches; volume = same.volume; contents_are = λ b home. sym (one.1 b (subst (λ (v : SuperValue). IsHome (geometry_of v) b) (sym one.0) home)) ∙ same.contents_are b home }
 
 pub opened_contents : {D : Type 0} (disk : Ghosts D) (before after : D) (table : SuperValue) → HasOpened disk before table after → Recovers table (block_at (disk.seen after)) (disk.seen before)
 opened_contents disk before after table has = record { batches = has.batches; volume = has.held; contents_are = λ b home. has.opened.homes b home }

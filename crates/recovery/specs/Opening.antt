@@ -1,13 +1,14 @@
 -- What opening makes of a device, what a crash meanwhile leaves, and when it refuses.
-use Rattle.std.specs.Prelude.{◌≡◌, ◌≢◌, ◌⊎◌, ℕ, ◌+◌, ◌*◌, ◌<◌, ◌≤◌, List, ◌++◌, length, sum_by, slice_index, Result, Ok, Err, MatchResult}
+use Rattle.std.specs.Prelude.{◌≡◌, ◌≢◌, ◌⊎◌, ℕ, ◌+◌, ◌*◌, List, length, sum_by, slice_index, Result, Ok, Err, MatchResult}
 use Rattle.std.specs.List.{AllByRecursion}
 use Rattle.device.specs.Device.{Only, LeavesOnly}
 use Rattle.device.specs.declared.device.Device.{Ghosts}
 use Rattle.page_entry.specs.declared.refusal.Refusal.{Refusal}
 use Rattle.page_entry.specs.declared.refusal.Refusal.TheVariants.{Device, OutOfMemory, NotAVolume, Damaged}
-use Rattle.volume_codec.specs.Layout.{GeometryValue, IsHome, journals_of, gate_block, record_block, first_home, block_at}
+use Rattle.volume_codec.specs.Layout.{GeometryValue, IsHome, journals_of, block_at}
 use Rattle.volume_codec.specs.Super.{SuperValue, IsSuper, geometry_of}
-use Rattle.volume_codec.specs.Recovery.{Batch, AreOpen, contents_in, IsVolume, IsNotAVolume, IsDamaged}
+use Rattle.volume_codec.specs.Recovery.{Batch, contents_in, IsVolume, IsNotAVolume, IsDamaged}
+use Rattle.journal.specs.Finished.{IsOutside, gate_byte, RecoversSame}
 use Rattle.recovery.specs.Counts.{Rises, RisesWithin, IsAccounted}
 use Rattle.recovery.specs.Volume.{VolumeState}
 
@@ -18,14 +19,6 @@ pub record IsUnwritten {D : Type 0} (disk : Ghosts D) (old new : D) : Type 0 whe
   pub left : (c : List ℕ) → disk.may_leave new c → disk.may_leave old c
   pub time : LeavesOnly disk.moment disk.left_since old new (disk.may_leave old)
 
--- byte i of a device lies in no home block of its volume
-abbrev pub IsOutside : GeometryValue → ℕ → Type 0
-IsOutside g i = (i < 4096 * first_home g.layout g.slots) ⊎ (4096 * g.blocks ≤ i)
-
--- the byte that opens and closes the gate of a batch's journal
-abbrev pub gate_byte : ℕ → Batch → ℕ
-gate_byte slots batch = 4096 * gate_block slots batch.journal
-
 -- These batches were carried out: each home block has what stood for it, the gates of their journals are closed by
 -- the byte 0, and every other byte is as before.
 pub record IsOpened (g : GeometryValue) (batches : List Batch) (old new : List ℕ) : Type 0 where
@@ -35,30 +28,12 @@ pub record IsOpened (g : GeometryValue) (batches : List Batch) (old new : List �
   pub others : (i : ℕ) → IsOutside g i → AllByRecursion (λ batch. i ≢ gate_byte g.slots batch) batches
       → slice_index new i ≡ slice_index old i
 
--- none of these batches has a record for home block b
-abbrev pub HaveNoRecord : List Batch → ℕ → Type 0
-HaveNoRecord batches b = AllByRecursion (λ batch. AllByRecursion (λ home. home ≢ b) batch.homes) batches
-
--- Some of these batches were carried out, the oldest first. The newest of them wait: their journals alone are open,
--- with their records as they were; each home block for which none of these has a record has what stood for it.
-pub record IsBeingOpened (g : GeometryValue) (batches : List Batch) (old c : List ℕ) : Type 0 where
-  pub waiting : List Batch
-  pub done : List Batch
-  pub split : batches ≡ waiting ++ done
-  pub same_length : length c ≡ length old
-  pub super_block : block_at c 0 ≡ block_at old 0
-  pub journals : AreOpen g waiting c
-  pub records : AllByRecursion (λ batch. (i : ℕ) → i < length batch.homes
-      → block_at c (record_block g.slots batch.journal i) ≡ block_at old (record_block g.slots batch.journal i)) waiting
-  pub homes : (b : ℕ) → IsHome g b → HaveNoRecord waiting b → block_at c b ≡ contents_in g.slots batches old b
-  pub past : (i : ℕ) → 4096 * g.blocks ≤ i → slice_index c i ≡ slice_index old i
-
--- what a crash leaves of an opening: what it might have left before it, or, where a read then gave a volume, that
--- volume while its open batches are carried out
+-- what a crash leaves of an opening: what it might have left before it, or, where a read then gave a volume, what
+-- recovers to the same contents, with the same bytes past the volume
 abbrev pub LeftByOpening : {D : Type 0} → Ghosts D → D → List ℕ → Type 0
 LeftByOpening disk before c = disk.may_leave before c
     ⊎ ((table : SuperValue) × (batches : List Batch) × IsVolume table batches (disk.seen before)
-    × IsBeingOpened (geometry_of table) batches (disk.seen before) c)
+    × RecoversSame table (contents_in table.slots batches (disk.seen before)) (disk.seen before) c)
 
 -- how many device calls an opening makes: it reads block 0, syncs and reads each gate byte; for each open batch it
 -- reads the descriptor, reads and writes each record, syncs, closes the gate and syncs

@@ -1,15 +1,13 @@
 // The device calls that volumes are made and opened by, with a fault as a refusal.
-ghost use Rattle.std.specs.Prelude.{◌≡◌, ◌+◌, ◌*◌, ◌<◌, ◌≤◌, List, [], ◌∷◌, ℕ, length, slice_range, IfOk, IfErr, OnOk};
+ghost use Rattle.std.specs.Prelude.{◌≡◌, ◌+◌, ◌*◌, ◌≤◌, List, ℕ, length, slice_range, IfOk, IfErr, OnOk};
 ghost use Rattle.device.specs.Device.{written, Torn, TornFrom, Only, LeavesOnly};
-ghost use Rattle.volume_codec.specs.Layout.{IsHome, journals_of, gate_block, record_block, block_at};
+ghost use Rattle.volume_codec.specs.Layout.{block_at};
 ghost use Rattle.volume_codec.specs.Text.{zeros};
 ghost use Rattle.recovery.specs.Counts.{Rises, RisesWithin, IsAccounted};
 ghost use Rattle.recovery.specs.Opening.{IsUnwritten};
 
 use device::Device;
-use journal::{apply_record, close_gate};
 use page_entry::{PAGE, Refusal};
-use volume_codec::Geometry;
 
 /// A block of zeros.
 fn zero_block() -> [u8; 4096]
@@ -100,79 +98,5 @@ pub fn write_synced<D: Device>(device: &mut D, at: u64, bytes: &[u8]) -> Result<
     ensures most { RisesWithin 2 (D.calls_made device.old) (D.calls_made device.new) }
 {
     write(device, at, bytes)?;
-    sync(device)
-}
-
-/// Writes the record in a slot of a journal to its home block.
-pub fn apply<D: Device>(
-    device: &mut D,
-    geometry: &Geometry,
-    journal: u32,
-    slot: u32,
-    home: u32,
-) -> Result<(), Refusal>
-    requires long { 4096 * geometry.now.blocks ≤ length (D.seen device.old) }
-    requires there { journal < journals_of geometry.now.layout }
-    requires slot { slot < geometry.now.slots }
-    requires home { IsHome geometry.now home }
-
-    ensures written { D.is_honest device.old → OnOk result (D.seen device.new
-        ≡ written (D.seen device.old) (4096 * home)
-        (block_at (D.seen device.old) (record_block geometry.now.slots journal slot))) }
-    ensures left { (c : List ℕ) → D.may_leave device.new c → TornFrom (4096 * home) 4096 (D.may_leave device.old) c }
-    ensures time { LeavesOnly D.moment D.left_since device.old device.new
-        (TornFrom (4096 * home) 4096 (D.may_leave device.old)) }
-    ensures kept { IsAccounted D.Device device.old result device.new }
-    ensures fault { IfErr result (λ refusal. refusal ≡ Refusal.Device) }
-    ensures calls { OnOk result (Rises 2 (D.calls_made device.old) (D.calls_made device.new)) }
-    ensures most { RisesWithin 2 (D.calls_made device.old) (D.calls_made device.new) }
-{
-    match apply_record(device, geometry, journal, slot, home, &mut zero_block()) {
-        Ok(()) => Ok(()),
-        Err(_) => Err(Refusal::Device),
-    }
-}
-
-/// Closes the gate of a journal.
-fn close_unsynced<D: Device>(
-    device: &mut D,
-    geometry: &Geometry,
-    journal: u32,
-) -> Result<(), Refusal>
-    requires long { 4096 * geometry.now.blocks ≤ length (D.seen device.old) }
-    requires there { journal < journals_of geometry.now.layout }
-
-    ensures written { D.is_honest device.old → OnOk result
-        (D.seen device.new ≡ written (D.seen device.old) (4096 * gate_block geometry.now.slots journal) (0 ∷ [])) }
-    ensures left { (c : List ℕ) → D.may_leave device.new c
-        → TornFrom (4096 * gate_block geometry.now.slots journal) 1 (D.may_leave device.old) c }
-    ensures time { LeavesOnly D.moment D.left_since device.old device.new
-        (TornFrom (4096 * gate_block geometry.now.slots journal) 1 (D.may_leave device.old)) }
-    ensures kept { IsAccounted D.Device device.old result device.new }
-    ensures fault { IfErr result (λ refusal. refusal ≡ Refusal.Device) }
-    ensures calls { Rises 1 (D.calls_made device.old) (D.calls_made device.new) }
-{
-    match close_gate(device, geometry, journal) {
-        Ok(()) => Ok(()),
-        Err(_) => Err(Refusal::Device),
-    }
-}
-
-/// Closes the gate of a journal, and makes sure of that.
-pub fn close<D: Device>(device: &mut D, geometry: &Geometry, journal: u32) -> Result<(), Refusal>
-    requires long { 4096 * geometry.now.blocks ≤ length (D.seen device.old) }
-    requires there { journal < journals_of geometry.now.layout }
-
-    ensures written { D.is_honest device.old → OnOk result
-        (D.seen device.new ≡ written (D.seen device.old) (4096 * gate_block geometry.now.slots journal) (0 ∷ [])) }
-    ensures synced { D.is_honest device.old → OnOk result (Only (D.may_leave device.new) (D.seen device.new)) }
-    ensures time { D.is_honest device.old → LeavesOnly D.moment D.left_since device.old device.new
-        (TornFrom (4096 * gate_block geometry.now.slots journal) 1 (D.may_leave device.old)) }
-    ensures kept { IsAccounted D.Device device.old result device.new }
-    ensures fault { IfErr result (λ refusal. refusal ≡ Refusal.Device) }
-    ensures calls { OnOk result (Rises 2 (D.calls_made device.old) (D.calls_made device.new)) }
-    ensures most { RisesWithin 2 (D.calls_made device.old) (D.calls_made device.new) }
-{
-    close_unsynced(device, geometry, journal)?;
     sync(device)
 }

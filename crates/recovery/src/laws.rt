@@ -3,11 +3,11 @@ ghost use Rattle.std.specs.Prelude.{◌≡◌, ◌⊎◌, ℕ, Bool, true, List,
 ghost use Rattle.page_entry.specs.declared.refusal.Refusal.{Refusal};
 ghost use Rattle.volume_codec.specs.Files.{File, AskedFile};
 ghost use Rattle.volume_codec.specs.Layout.{block_at};
-ghost use Rattle.volume_codec.specs.Super.{SuperValue, IsAsked, geometry_of};
-ghost use Rattle.volume_codec.specs.Recovery.{Batch, contents_in, IsVolume, Recovers, RecoversTo, IsNotAVolume, IsDamaged};
+ghost use Rattle.volume_codec.specs.Super.{SuperValue, IsAsked};
+ghost use Rattle.volume_codec.specs.Recovery.{Recovers, RecoversTo, IsNotAVolume, IsDamaged};
 ghost use Rattle.recovery.specs.Volume.{files_of};
 ghost use Rattle.recovery.specs.Format.{zero_files, HasFormatted};
-ghost use Rattle.recovery.specs.Opening.{IsBeingOpened, HasOpened, Opens};
+ghost use Rattle.recovery.specs.Opening.{HasOpened, Opens};
 ghost use Rattle.recovery.specs.Openings.{IsLater, RecoversAs, AllRecover, FindsAmong};
 
 use device::Device;
@@ -27,12 +27,9 @@ pub fn opened_as_recovered<D: Device>(device: &D)
         → RecoversTo (D.seen before) (files_of table (D.seen after)) }
 {}
 
-/// What a crash leaves while open batches are carried out recovers to the same contents. So a crash at any moment
-/// since an opening of an honest device began leaves a list that recovers to what one left before recovers to: each
-/// test of files that all those before pass, all these pass.
+/// A crash at any moment since an opening of an honest device began leaves a list that recovers to what one left
+/// before recovers to: each test of files that all those before pass, all these pass.
 pub fn crashed_since_opening<D: Device>(device: &D)
-    ensures contents { (table : SuperValue) (batches : List Batch) (old c : List ℕ) → IsVolume table batches old
-        → IsBeingOpened (geometry_of table) batches old c → Recovers table (contents_in table.slots batches old) c }
     ensures left { (before after : D) (result : Result SuperValue Refusal) (c : List ℕ) → D.is_honest before
         → Opens D.Device before result after → D.left_since after (D.moment before) c
         → RecoversAs (D.may_leave before) c }

@@ -1,20 +1,23 @@
 // A volume is opened, whatever a crash left of it: the batches of open journals are carried out first.
 ghost use Rattle.std.specs.Prelude.{◌≡◌, ◌↔◌, ◌+◌, ◌*◌, ◌≤◌, ◌<◌, List, [], ◌∷◌, ℕ, true, false, length, slice_index_or, IfOk, IfErr, OnOk};
 ghost use Rattle.std.specs.List.{AllByRecursion};
-ghost use Rattle.device.specs.Device.{written, TornFrom, Only, LeavesOnly};
-ghost use Rattle.volume_codec.specs.Layout.{IsGeometry, journals_of, gate_block, descriptor_block, record_block, block_at};
+ghost use Rattle.device.specs.Device.{Only};
+ghost use Rattle.volume_codec.specs.Layout.{IsGeometry, journals_of, descriptor_block, block_at};
 ghost use Rattle.volume_codec.specs.Super.{IsSuper, Fits, block_count, geometry_of, capacities_in};
-ghost use Rattle.volume_codec.specs.Descriptor.{AreHomes, IsDescriptor};
+ghost use Rattle.volume_codec.specs.Descriptor.{IsDescribed, IsDescriptor};
 ghost use Rattle.volume_codec.specs.Recovery.{AreFalling, AreOpen, IsOpen, IsVolume};
+ghost use Rattle.journal.specs.Finished.{Finishes};
+ghost use Rattle.journal.specs.WriteOut.{IsBatch};
 ghost use Rattle.recovery.specs.Counts.{Rises, RisesWithin, IsAccounted};
-ghost use Rattle.recovery.specs.Opening.{IsUnwritten, IsOpened, IsBeingOpened, FindsWithin, RefusesOpening, Opens, opened_table, device_after};
+ghost use Rattle.recovery.specs.Opening.{IsUnwritten, FindsWithin, RefusesOpening, Opens, opened_table, device_after};
 ghost use Rattle.recovery.specs.Volume.{IsSettled};
-ghost use Rattle.recovery.specs.inside.Carrying.{IsTornAt, IsApplied, IsBeingCarried};
-ghost use Rattle.recovery.specs.inside.Reading.{batch_of, batches_of, CanCarry, carry_calls, AreRead, RefusesJournal, RefusesJournals, IsOrdered, HaveOneMark};
+ghost use Rattle.recovery.specs.inside.Carrying.{CarriesOut};
+ghost use Rattle.recovery.specs.inside.Reading.{batch_of, batches_of, AreRead, RefusesJournal, RefusesJournals, IsOrdered, HaveOneMark};
 
 use crate::Volume;
-use crate::calls::{apply, close, read, read_block, sync};
+use crate::calls::{read, read_block, sync};
 use device::Device;
+use journal::finish;
 use page_entry::{PAGE, Refusal};
 use std::alloc::Allocator;
 use volume_codec::{Descriptor, Geometry, OPEN_GATE, Super, read_descriptor, read_super};
@@ -82,7 +85,7 @@ fn read_journal<D: Device, A: Allocator + Copy>(
     ensures descriptor { D.is_honest device.old → IfOk result
         (λ d. IsDescriptor geometry.now d
         (block_at (D.seen device.old) (descriptor_block geometry.now.slots journal))) }
-    ensures homes { IfOk result (λ d. AreHomes geometry.now d.homes) }
+    ensures described { IfOk result (λ d. IsDescribed geometry.now d) }
     ensures refused { D.is_honest device.old → IfErr result
         (RefusesJournal geometry.now (block_at (D.seen device.old) (descriptor_block geometry.now.slots journal))) }
     ensures unwritten { D.is_honest device.old → IsUnwritten D.Device device.old device.new }
@@ -110,8 +113,8 @@ fn read_if_open<D: Device, A: Allocator + Copy>(
     ensures found { D.is_honest device.old
         → AreRead geometry.now (D.seen device.old) journal (batches_of found.old.items)
         → OnOk result (AreRead geometry.now (D.seen device.old) (journal + 1) (batches_of found.new.items)) }
-    ensures carry { AllByRecursion (CanCarry geometry.now) (batches_of found.old.items)
-        → OnOk result (AllByRecursion (CanCarry geometry.now) (batches_of found.new.items)) }
+    ensures carry { AllByRecursion (IsBatch geometry.now) (batches_of found.old.items)
+        → OnOk result (AllByRecursion (IsBatch geometry.now) (batches_of found.new.items)) }
     ensures calls { OnOk result ((n : ℕ) × (n ≤ 1) × (length found.new.items ≡ length found.old.items + n)
         × Rises n (D.calls_made device.old) (D.calls_made device.new)) }
     ensures most { RisesWithin 1 (D.calls_made device.old) (D.calls_made device.new) }
@@ -147,7 +150,7 @@ fn read_journals<D: Device, A: Allocator + Copy>(
         → ((slice_index_or gates.now j false ≡ true) ↔ IsOpen (D.seen device.old) geometry.now.slots j) }
     ensures found { D.is_honest device.old → IfOk result
         (λ found. AreRead geometry.now (D.seen device.old) (journals_of geometry.now.layout) (batches_of found.items)) }
-    ensures carry { IfOk result (λ found. AllByRecursion (CanCarry geometry.now) (batches_of found.items)) }
+    ensures carry { IfOk result (λ found. AllByRecursion (IsBatch geometry.now) (batches_of found.items)) }
     ensures few { IfOk result (λ found. length found.items ≤ 2) }
     ensures geometry { IsGeometry geometry.now }
     ensures refused { D.is_honest device.old → IfErr result (RefusesJournals geometry.now (D.seen device.old)) }
@@ -198,7 +201,7 @@ fn read_open<D: Device, A: Allocator + Copy>(
     requires { 4096 * geometry.now.blocks ≤ length (D.seen device.old) }
     ensures found { D.is_honest device.old
         → IfOk result (λ found. AreOpen geometry.now (batches_of found.items) (D.seen device.old)) }
-    ensures carry { IfOk result (λ found. AllByRecursion (CanCarry geometry.now) (batches_of found.items)) }
+    ensures carry { IfOk result (λ found. AllByRecursion (IsBatch geometry.now) (batches_of found.items)) }
     ensures refused { D.is_honest device.old → IfErr result (RefusesJournals geometry.now (D.seen device.old)) }
     ensures unwritten { D.is_honest device.old → IsUnwritten D.Device device.old device.new }
     ensures kept { IsAccounted D.Device device.old result device.new }
@@ -225,7 +228,7 @@ fn judge<D: Device, A: Allocator + Copy>(
     ensures fits { IfOk result (λ judged. Fits judged.0) }
     ensures long { IfOk result (λ judged. 4096 * block_count judged.0 ≤ length (D.seen device.old)) }
     ensures carry { IfOk result (λ judged.
-        AllByRecursion (CanCarry (geometry_of judged.0)) (batches_of judged.1.items)) }
+        AllByRecursion (IsBatch (geometry_of judged.0)) (batches_of judged.1.items)) }
     ensures refused { D.is_honest device.old → IfErr result (RefusesOpening (D.seen device.old)) }
     ensures unwritten { D.is_honest device.old → IsUnwritten D.Device device.old device.new }
     ensures kept { IsAccounted D.Device device.old result device.new }
@@ -240,62 +243,27 @@ fn judge<D: Device, A: Allocator + Copy>(
     Ok((table, found))
 }
 
-/// Writes the records of a journal to their home blocks.
-fn apply_records<D: Device, A: Allocator + Copy>(
-    device: &mut D,
-    geometry: &Geometry,
-    found: &OpenJournal<A>,
-) -> Result<(), Refusal>
-    requires carry { CanCarry geometry.now (batch_of found.now) }
-    requires long { 4096 * geometry.now.blocks ≤ length (D.seen device.old) }
-    ensures applied { D.is_honest device.old → OnOk result
-        (IsApplied geometry.now (batch_of found.now) (D.seen device.old) (D.seen device.new)) }
-    ensures left { D.is_honest device.old → Only (D.may_leave device.old) (D.seen device.old)
-        → (c : List ℕ) → D.may_leave device.new c → IsTornAt found.now.descriptor.homes (D.seen device.old) c }
-    ensures time { D.is_honest device.old → Only (D.may_leave device.old) (D.seen device.old)
-        → LeavesOnly D.moment D.left_since device.old device.new
-        (IsTornAt found.now.descriptor.homes (D.seen device.old)) }
-    ensures geometry { IsGeometry geometry.now }
-    ensures kept { IsAccounted D.Device device.old result device.new }
-    ensures fault { IfErr result (λ refusal. refusal ≡ Refusal.Device) }
-    ensures calls { OnOk result
-        (Rises (2 * length found.now.descriptor.homes) (D.calls_made device.old) (D.calls_made device.new)) }
-    ensures most { RisesWithin (2 * length found.now.descriptor.homes)
-        (D.calls_made device.old) (D.calls_made device.new) }
-{
-    let homes = found.descriptor.homes();
-    let slots = geometry.slots();
-    prove!(homes.len() <= slots as usize);
-    for (slot, home) in homes.iter().enumerate() {
-        apply(device, geometry, found.journal, slot as u32, *home)?;
-    }
-    Ok(())
-}
-
-/// Writes the records of a journal to their home blocks, and closes its gate when they are synced.
+/// Finishes the batch of an open journal, the oldest one: its records are written to their home blocks, which are
+/// synced; then its gate is closed, and that is synced.
 fn carry_out<D: Device, A: Allocator + Copy>(
     device: &mut D,
     geometry: &Geometry,
-    found: &OpenJournal<A>,
+    oldest: OpenJournal<A>,
 ) -> Result<(), Refusal>
-    requires carry { CanCarry geometry.now (batch_of found.now) }
+    requires batch { IsBatch geometry.now (batch_of oldest) }
     requires long { 4096 * geometry.now.blocks ≤ length (D.seen device.old) }
-    ensures opened { D.is_honest device.old → OnOk result
-        (IsOpened geometry.now (batch_of found.now ∷ []) (D.seen device.old) (D.seen device.new)) }
-    ensures synced { D.is_honest device.old → OnOk result (Only (D.may_leave device.new) (D.seen device.new)) }
-    ensures time { D.is_honest device.old → Only (D.may_leave device.old) (D.seen device.old)
-        → LeavesOnly D.moment D.left_since device.old device.new
-        (IsBeingCarried geometry.now (batch_of found.now) (D.seen device.old)) }
-    ensures kept { IsAccounted D.Device device.old result device.new }
+    ensures finishes { Finishes D.Device geometry.now (batch_of oldest) device.old result device.new }
     ensures fault { IfErr result (λ refusal. refusal ≡ Refusal.Device) }
-    ensures calls { OnOk result
-        (Rises (2 * length found.now.descriptor.homes + 3) (D.calls_made device.old) (D.calls_made device.new)) }
-    ensures most { RisesWithin (2 * length found.now.descriptor.homes + 3)
-        (D.calls_made device.old) (D.calls_made device.new) }
 {
-    apply_records(device, geometry, found)?;
-    sync(device)?;
-    close(device, geometry, found.journal)
+    let OpenJournal {
+        journal,
+        descriptor,
+    } = oldest;
+    let mark = descriptor.mark();
+    match finish(device, geometry, journal, mark, descriptor.into_homes()) {
+        Ok(()) => Ok(()),
+        Err(_) => Err(Refusal::Device),
+    }
 }
 
 /// Carries out all open journals, the oldest first: each gate is closed before the next journal's records are written.
@@ -304,26 +272,15 @@ fn carry_out_all<D: Device, A: Allocator + Copy>(
     geometry: &Geometry,
     found: Vec<OpenJournal<A>, A>,
 ) -> Result<(), Refusal>
-    requires carry { AllByRecursion (CanCarry geometry.now) (batches_of found.items) }
+    requires carry { AllByRecursion (IsBatch geometry.now) (batches_of found.items) }
     requires long { 4096 * geometry.now.blocks ≤ length (D.seen device.old) }
-    requires journals { D.is_honest device.old → AreOpen geometry.now (batches_of found.items) (D.seen device.old) }
-    requires synced { D.is_honest device.old → Only (D.may_leave device.old) (D.seen device.old) }
-    requires geometry { IsGeometry geometry.now }
-    ensures opened { D.is_honest device.old → OnOk result
-        (IsOpened geometry.now (batches_of found.items) (D.seen device.old) (D.seen device.new)) }
-    ensures durable { D.is_honest device.old → OnOk result (Only (D.may_leave device.new) (D.seen device.new)) }
-    ensures time { D.is_honest device.old → LeavesOnly D.moment D.left_since device.old device.new
-        (IsBeingOpened geometry.now (batches_of found.items) (D.seen device.old)) }
+    ensures carries { CarriesOut D.Device geometry.now (batches_of found.items) device.old result device.new }
     ensures kept { IsAccounted D.Device device.old result device.new }
     ensures fault { IfErr result (λ refusal. refusal ≡ Refusal.Device) }
-    ensures calls { OnOk result
-        (Rises (carry_calls (batches_of found.items)) (D.calls_made device.old) (D.calls_made device.new)) }
-    ensures most { RisesWithin (carry_calls (batches_of found.items))
-        (D.calls_made device.old) (D.calls_made device.new) }
 {
     let mut waiting = found;
     while let Some(oldest) = waiting.pop() {
-        carry_out(device, geometry, &oldest)?;
+        carry_out(device, geometry, oldest)?;
     }
     Ok(())
 }

@@ -56,6 +56,28 @@ impl fmt::Display for Stop {
     }
 }
 
+// One ending among many: where the run is stopped, at which call an opening is cut, and what a crash leaves.
+#[derive(Clone, Copy)]
+struct Place {
+    stop: Stop,
+    cut: Option<u64>,
+    choice: Option<Choice>,
+}
+
+impl fmt::Display for Place {
+    fn fmt<W: fmt::Write>(&self, f: &mut fmt::Formatter<W>) -> fmt::Result {
+        let stop = self.stop;
+        write!(f, "{stop}")?;
+        if let Some(call) = self.cut {
+            write!(f, ", an opening cut at call {call}")?;
+        }
+        if let Some(choice) = self.choice {
+            write!(f, ", a crash that leaves {choice}")?;
+        }
+        Ok(())
+    }
+}
+
 /// The end of a run, or many of its kind: where it is stopped; which call of an opening then fails; what a crash
 /// leaves; and what the next opening gives.
 #[derive(Drop)]
@@ -158,13 +180,7 @@ impl Ending {
     ) -> Result<(), Failure> {
         match self.make_one(alloc, trial, stop, cut, choice) {
             Err(Failure::Differs(text)) => {
-                let mut place = format!(in alloc; "{stop}")?;
-                if let Some(call) = cut {
-                    place.push_str(format!(in alloc; ", an opening cut at call {call}")?.as_str())?;
-                }
-                if let Some(choice) = choice {
-                    place.push_str(format!(in alloc; ", a crash that leaves {choice}")?.as_str())?;
-                }
+                let place = Place { stop, cut, choice };
                 Err(Failure::Differs(format!(in alloc; "{place}: {text}")?))
             }
             made => made,
@@ -179,51 +195,62 @@ impl Ending {
         cut_at: Option<u64>,
         choice: Option<Choice>,
     ) -> Result<(), Failure> {
-        let Stopped { disk, done } = match stop {
+        let Stopped { disk, done } = self.stopped(alloc, trial, stop)?;
+        let left = match cut_at {
+            None => left(alloc, trial, disk, &trial.image, done, choice)?,
+            Some(call) => self.left_by_cut(alloc, trial, disk, done, call, choice)?,
+        };
+        compare(alloc, left, &trial.files, &trial.gates, &self.wanted)
+    }
+
+    // What is left of a run that is stopped.
+    fn stopped(&self, alloc: Global, trial: &Trial, stop: Stop) -> Result<Stopped, Failure> {
+        let stopped = match stop {
             Stop::End => trial.whole(alloc)?,
             Stop::After(steps) => trial.after(alloc, steps)?,
             Stop::Failing(call) => trial.failing(alloc, call)?,
             Stop::Shortened(length) => trial.shortened(alloc, length)?,
         };
-        if let Some(step) = self.step {
-            compare_count(
-                alloc,
-                "the step whose call fails",
-                step,
-                done.saturating_add(1),
-            )?;
-        }
-        let left = match cut_at {
-            None => self.left(alloc, trial, disk, &trial.image, done, choice)?,
-            Some(call) => {
-                let before = disk.bytes().to_vec(alloc)?;
-                let disk = cut(alloc, disk, call, &self.wanted)?;
-                let left = self.left(alloc, trial, disk, &before, done, choice)?;
-                if let Wanted::Refuses { .. } = &self.wanted {
-                    compare_bytes(alloc, "what a cut opening leaves", &before, left.bytes())?;
-                }
-                left
-            }
-        };
-        compare(alloc, left, &trial.files, &trial.gates, &self.wanted)
+        let number = stopped.done.saturating_add(1);
+        let step = self.step.unwrap_or(number);
+        compare_count(alloc, "the step whose call fails", step, number)?;
+        Ok(stopped)
     }
 
-    // What a crash leaves of a disk.
-    fn left(
+    // What a crash leaves of a disk on which an opening was cut.
+    fn left_by_cut(
         &self,
         alloc: Global,
         trial: &Trial,
-        mut disk: MemDisk<Global>,
-        old: &[u8],
+        disk: MemDisk<Global>,
         done: u64,
+        call: u64,
         choice: Option<Choice>,
     ) -> Result<MemDisk<Global>, Failure> {
-        if let Some(choice) = choice {
-            let bytes = chosen(alloc, trial, &disk, old, done, choice)?;
-            crash(alloc, &mut disk, &bytes)?;
+        let before = disk.bytes().to_vec(alloc)?;
+        let disk = cut(alloc, disk, call, &self.wanted)?;
+        let left = left(alloc, trial, disk, &before, done, choice)?;
+        if let Wanted::Refuses { .. } = &self.wanted {
+            compare_bytes(alloc, "what a cut opening leaves", &before, left.bytes())?;
         }
-        Ok(disk)
+        Ok(left)
     }
+}
+
+// What a crash leaves of a disk.
+fn left(
+    alloc: Global,
+    trial: &Trial,
+    mut disk: MemDisk<Global>,
+    old: &[u8],
+    done: u64,
+    choice: Option<Choice>,
+) -> Result<MemDisk<Global>, Failure> {
+    if let Some(choice) = choice {
+        let bytes = chosen(alloc, trial, &disk, old, done, choice)?;
+        crash(alloc, &mut disk, &bytes)?;
+    }
+    Ok(disk)
 }
 
 /// What a crash at the end of the run leaves: a choice, but for these bytes, where nothing was synced.

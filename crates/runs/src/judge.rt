@@ -28,7 +28,6 @@ where
     R: Files<File = RealFile> + AllocGlobal,
     W: Write,
 {
-    let alloc = rt.alloc();
     let mut all = Counts {
         steps: 0,
         openings: 0,
@@ -36,27 +35,13 @@ where
     let mut files = 0u64;
     let mut differ = 0u64;
     for path in words.iter().skip(1) {
-        let path = path.as_str();
         files = files.saturating_add(1);
-        let text = match fs::read_to_string(rt, path) {
-            Ok(text) => text,
-            Err(fault) => {
-                differ = differ.saturating_add(1);
-                writeln!(out, "{path}: {fault}")?;
-                continue;
+        match judge_file(rt, path.as_str(), out)? {
+            Some(counts) => {
+                all.steps = all.steps.saturating_add(counts.steps);
+                all.openings = all.openings.saturating_add(counts.openings);
             }
-        };
-        match judge_text(alloc, text.as_str()) {
-            Ok(counts) => {
-                let Counts { steps, openings } = counts;
-                writeln!(out, "{path}: {steps} steps, {openings} openings")?;
-                all.steps = all.steps.saturating_add(steps);
-                all.openings = all.openings.saturating_add(openings);
-            }
-            Err((line, fault)) => {
-                differ = differ.saturating_add(1);
-                writeln!(out, "{path}: line {line}: {fault}")?;
-            }
+            None => differ = differ.saturating_add(1),
         }
     }
     let Counts { steps, openings } = all;
@@ -72,6 +57,40 @@ where
     } else {
         0
     })
+}
+
+// Makes the runs of a file, and writes its line. There are no counts where it differs or is refused.
+fn judge_file<R, W>(rt: &R, path: &str, out: &mut W) -> io::Result<Option<Counts>>
+where
+    R: Files<File = RealFile> + AllocGlobal,
+    W: Write,
+{
+    match fs::read_to_string(rt, path) {
+        Ok(text) => write_judged(path, judge_text(rt.alloc(), text.as_str()), out),
+        Err(fault) => {
+            writeln!(out, "{path}: {fault}")?;
+            Ok(None)
+        }
+    }
+}
+
+// Writes the line of a file.
+fn write_judged<W: Write>(
+    path: &str,
+    judged: Result<Counts, (u64, Failure)>,
+    out: &mut W,
+) -> io::Result<Option<Counts>> {
+    match judged {
+        Ok(counts) => {
+            let Counts { steps, openings } = counts;
+            writeln!(out, "{path}: {steps} steps, {openings} openings")?;
+            Ok(Some(counts))
+        }
+        Err((line, fault)) => {
+            writeln!(out, "{path}: line {line}: {fault}")?;
+            Ok(None)
+        }
+    }
 }
 
 // Makes the runs of a file. A fault comes with the number of its line.
@@ -125,8 +144,12 @@ impl Judge {
 
     // Does what a line says.
     fn take(&mut self, line: &str) -> Result<(), Failure> {
+        let value = parsed(self.alloc, line)?;
+        self.take_value(&value)
+    }
+
+    fn take_value(&mut self, value: &Value) -> Result<(), Failure> {
         let alloc = self.alloc;
-        let value = parsed(alloc, line)?;
         if let Some(items) = value.as_array() {
             return self.take_step(items);
         }
@@ -137,29 +160,29 @@ impl Judge {
             return only(alloc, members, &["about"]);
         }
         if value.get("opens").is_some() || value.get("refuses").is_some() {
-            return self.take_ending(members, &value);
+            return self.take_ending(members, value);
         }
         if value.get("ends").is_some() {
-            return self.take_end(members, &value);
+            return self.take_end(members, value);
         }
         self.close()?;
         if value.get("has").is_some() {
-            return self.compare_part(members, &value);
+            return self.compare_part(members, value);
         }
         if value.get("crash").is_some() {
-            return self.take_crash(members, &value);
+            return self.take_crash(members, value);
         }
         self.settle();
         if value.get("run").is_some() {
-            self.take_run(members, &value)
+            self.take_run(members, value)
         } else if value.get("volume").is_some() {
-            self.take_volume(members, &value)
+            self.take_volume(members, value)
         } else if value.get("put").is_some() {
-            self.take_put(members, &value)
+            self.take_put(members, value)
         } else if value.get("cut_to").is_some() {
-            self.take_cut(members, &value)
+            self.take_cut(members, value)
         } else if value.get("holds").is_some() {
-            self.compare_whole(members, &value)
+            self.compare_whole(members, value)
         } else {
             Err(Failure::line(alloc, "no line is of this kind"))
         }
@@ -227,22 +250,7 @@ impl Judge {
             members,
             &["volume", "slots", "files", "length", "over"],
         )?;
-        let files = read_files(alloc, list_of(alloc, value, "files")?)?;
-        let layout = number_of(alloc, value, "volume")?;
-        let slots = number_of(alloc, value, "slots")?;
-        let plan = Plan {
-            layout,
-            slots,
-            files: &files,
-            length: match value.get("length") {
-                Some(length) => Some(number(alloc, length, "length")?),
-                None => None,
-            },
-            over: first_byte(alloc, value, "over")?,
-        };
-        self.trial.image = formatted(alloc, plan)?;
-        self.trial.gates = gates(alloc, layout, slots)?;
-        self.trial.files = files;
+        self.trial = read_volume(alloc, value)?;
         Ok(())
     }
 
@@ -310,9 +318,9 @@ impl Judge {
                 if run.replies.len() != run.steps.len() {
                     return Err(Failure::line(alloc, "the run is over before this step"));
                 }
-                let reply = String::from_str(alloc, text(alloc, reply, "the reply")?)?;
                 push_step(alloc, run, words)?;
-                run.replies.push(reply)?;
+                let reply = text(alloc, reply, "the reply")?;
+                run.replies.push(String::from_str(alloc, reply)?)?;
                 Ok(())
             }
             [words] => push_step(alloc, run, words),
@@ -324,18 +332,11 @@ impl Judge {
     fn take_end(&mut self, members: &Map<String, Value>, value: &Value) -> Result<(), Failure> {
         let alloc = self.alloc;
         only(alloc, members, &["ends", "faults", "refused"])?;
-        let Some(run) = self.coming.take() else {
-            return Err(Failure::line(alloc, "no run has begun"));
-        };
-        let ended = Ended {
-            calls: Some(number_of(alloc, value, "ends")?),
-            faults: Some(number_or(alloc, value, "faults", 0)?),
-            refused: match value.get("refused") {
-                Some(word) => Some(String::from_str(alloc, text(alloc, word, "refused")?)?),
-                None => None,
-            },
-        };
-        self.make(run, &ended)
+        let ended = read_ended(alloc, value)?;
+        match self.coming.take() {
+            Some(run) => self.make(run, &ended),
+            None => Err(Failure::line(alloc, "no run has begun")),
+        }
     }
 
     fn take_ending(&mut self, members: &Map<String, Value>, value: &Value) -> Result<(), Failure> {
@@ -362,6 +363,48 @@ impl Judge {
         self.counts.openings = self.counts.openings.saturating_add(made);
         Ok(())
     }
+}
+
+// A new volume, which no run has changed yet.
+fn read_volume(alloc: Global, value: &Value) -> Result<Trial, Failure> {
+    let layout = number_of(alloc, value, "volume")?;
+    let slots = number_of(alloc, value, "slots")?;
+    let length = match value.get("length") {
+        Some(length) => Some(number(alloc, length, "length")?),
+        None => None,
+    };
+    let over = first_byte(alloc, value, "over")?;
+    let files = read_files(alloc, list_of(alloc, value, "files")?)?;
+    let plan = Plan {
+        layout,
+        slots,
+        files: &files,
+        length,
+        over,
+    };
+    let image = formatted(alloc, plan)?;
+    let gates = gates(alloc, layout, slots)?;
+    Ok(Trial {
+        image,
+        files,
+        gates,
+        run: None,
+    })
+}
+
+// How a run is to end.
+fn read_ended(alloc: Global, value: &Value) -> Result<Ended, Failure> {
+    let calls = number_of(alloc, value, "ends")?;
+    let faults = number_or(alloc, value, "faults", 0)?;
+    let refused = match value.get("refused") {
+        Some(word) => Some(String::from_str(alloc, text(alloc, word, "refused")?)?),
+        None => None,
+    };
+    Ok(Ended {
+        calls: Some(calls),
+        faults: Some(faults),
+        refused,
+    })
 }
 
 fn push_step(alloc: Global, run: &mut Run, words: &Value) -> Result<(), Failure> {

@@ -1,7 +1,8 @@
 // What an opening gives, and how many device calls it makes.
 use crate::failure::Failure;
-use crate::form::{list, member, number, number_of, text};
+use crate::form::{list, list_of, member, number, number_of, text};
 use crate::image::{File, Put, difference, read_put, read_puts};
+use crate::trial::compare_count;
 use device::{Device, FailingDisk, MemDisk};
 use page_entry::Refusal;
 use recovery::{Volume, open};
@@ -50,25 +51,30 @@ pub enum Wanted {
 /// What a line wants of an opening.
 pub fn read_wanted(alloc: Global, value: &Value) -> Result<Wanted, Failure> {
     if let Some(word) = value.get("refuses") {
+        let calls = match value.get("calls") {
+            Some(calls) => Some(number(alloc, calls, "calls")?),
+            None => None,
+        };
         return Ok(Wanted::Refuses {
             word: String::from_str(alloc, text(alloc, word, "the refusal")?)?,
-            calls: match value.get("calls") {
-                Some(calls) => Some(number(alloc, calls, "calls")?),
-                None => None,
-            },
+            calls,
         });
     }
+    let calls = read_calls(alloc, member(alloc, value, "opens")?)?;
+    let bytes = all_bytes(alloc, list_of(alloc, value, "bytes")?)?;
     Ok(Wanted::Opens {
-        calls: read_calls(alloc, member(alloc, value, "opens")?)?,
-        bytes: match value.get("bytes") {
-            Some(bytes) => all_bytes(alloc, list(alloc, bytes, "bytes")?)?,
-            None => Vec::new(alloc),
-        },
-        writes: match value.get("writes") {
-            Some(writes) => Some(read_puts(alloc, list(alloc, writes, "writes")?)?),
-            None => None,
-        },
+        calls,
+        bytes,
+        writes: read_writes(alloc, value)?,
     })
+}
+
+// What the opening changes on the disk, where that is said.
+fn read_writes(alloc: Global, value: &Value) -> Result<Option<Vec<Put>>, Failure> {
+    match value.get("writes") {
+        Some(writes) => Ok(Some(read_puts(alloc, list(alloc, writes, "writes")?)?)),
+        None => Ok(None),
+    }
 }
 
 // None are compared where the value is null.
@@ -120,28 +126,39 @@ pub fn cut(
     call: u64,
     wanted: &Wanted,
 ) -> Result<MemDisk<Global>, Failure> {
-    match open(alloc, FailingDisk::new(disk, call)) {
-        Ok(_) => Err(Failure::differs(alloc, "the opening that is cut", &"device", &"a volume")),
-        Err((Refusal::Device, disk)) => {
-            let (calls, faults) = (disk.calls(), disk.faults());
-            if calls != call || faults != 1 {
-                return Err(Failure::differs(
-                    alloc,
-                    "calls of the opening that is cut",
-                    &call,
-                    &calls,
-                ));
-            }
-            Ok(disk.into_inner())
+    let (refusal, disk) = match open(alloc, FailingDisk::new(disk, call)) {
+        Ok(volume) => (None, volume.into_device()),
+        Err((refusal, disk)) => (Some(refusal), disk),
+    };
+    compare_cut(alloc, refusal, call, &disk, wanted)?;
+    Ok(disk.into_inner())
+}
+
+// Compares how an opening ended whose call of this number fails.
+fn compare_cut(
+    alloc: Global,
+    refusal: Option<Refusal>,
+    call: u64,
+    disk: &Disk,
+    wanted: &Wanted,
+) -> Result<(), Failure> {
+    let what = "the opening that is cut";
+    match (refusal, wanted) {
+        (None, _) => Err(Failure::differs(alloc, what, &"device", &"a volume")),
+        (Some(Refusal::Device), _) => {
+            compare_count(
+                alloc,
+                "calls of the opening that is cut",
+                call,
+                disk.calls(),
+            )?;
+            compare_count(alloc, "calls that failed", 1, disk.faults())
         }
-        Err((refusal, disk)) => {
-            let came = format!(in alloc; "{refusal}")?;
-            match wanted {
-                Wanted::Refuses { word, .. } if word.as_str() == came.as_str() => Ok(
-                    disk.into_inner(),
-                ),
-                _ => Err(Failure::differs(alloc, "the opening that is cut", &"device", &came)),
-            }
+        (Some(refusal), Wanted::Refuses { word, .. }) => {
+            compare_refusal(alloc, refusal, word.as_str())
+        }
+        (Some(refusal), Wanted::Opens { .. }) => {
+            Err(Failure::differs(alloc, what, &"device", &refusal))
         }
     }
 }
@@ -155,51 +172,63 @@ pub fn compare(
     wanted: &Wanted,
 ) -> Result<(), Failure> {
     let before = disk.bytes().to_vec(alloc)?;
-    match (open(alloc, FailingDisk::new(disk, 0)), wanted) {
-        (
-            Ok(volume),
-            Wanted::Opens {
-                calls,
-                bytes,
-                writes,
-            },
-        ) => {
-            let disk = compare_files(alloc, volume, files, bytes)?;
-            let read = files.len() as u64;
-            let made = disk.calls().saturating_sub(read);
+    match open(alloc, FailingDisk::new(disk, 0)) {
+        Ok(volume) => compare_opened(alloc, volume, &before, files, gates, wanted),
+        Err((refusal, disk)) => compare_refused(alloc, refusal, disk, &before, wanted),
+    }
+}
+
+// Compares a volume that was opened. Each of its files is read by one call.
+fn compare_opened(
+    alloc: Global,
+    mut volume: Volume<Disk, Global>,
+    before: &[u8],
+    files: &[File],
+    gates: &[u64],
+    wanted: &Wanted,
+) -> Result<(), Failure> {
+    match wanted {
+        Wanted::Refuses { word, .. } => {
+            Err(Failure::differs(alloc, "the opening", word, &"a volume"))
+        }
+        Wanted::Opens {
+            calls,
+            bytes,
+            writes,
+        } => {
+            compare_files(alloc, &mut volume, files, bytes)?;
+            let disk = volume.into_device();
+            let made = disk.calls().saturating_sub(files.len() as u64);
             if let Some(calls) = calls {
-                let wanted = calls.with(open_gates(&before, gates));
-                if made != wanted {
-                    return Err(Failure::differs(alloc, "calls of the opening", &wanted, &made));
-                }
+                let wanted = calls.with(open_gates(before, gates));
+                compare_count(alloc, "calls of the opening", wanted, made)?;
             }
             match writes {
-                Some(writes) => compare_image(alloc, before, writes, &disk.into_inner()),
+                Some(writes) => compare_image(alloc, before, writes, disk.into_inner().bytes()),
                 None => Ok(()),
             }
         }
-        (Err((refusal, disk)), Wanted::Refuses { word, calls }) => {
+    }
+}
+
+// Compares an opening that was refused.
+fn compare_refused(
+    alloc: Global,
+    refusal: Refusal,
+    disk: Disk,
+    before: &[u8],
+    wanted: &Wanted,
+) -> Result<(), Failure> {
+    match wanted {
+        Wanted::Refuses { word, calls } => {
             let made = disk.calls();
             compare_refusal(alloc, refusal, word.as_str())?;
-            if let Some(calls) = calls {
-                if made != *calls {
-                    return Err(Failure::differs(alloc, "calls of the opening", calls, &made));
-                }
-            }
-            is_untouched(alloc, &mut disk.into_inner(), &before)
+            compare_count(alloc, "calls of the opening", calls.unwrap_or(made), made)?;
+            is_untouched(alloc, &mut disk.into_inner(), before)
         }
-        (Ok(_), Wanted::Refuses { word, .. }) => Err(Failure::differs(
-            alloc,
-            "the opening",
-            word,
-            &"a volume",
-        )),
-        (Err((refusal, _)), Wanted::Opens { .. }) => Err(Failure::differs(
-            alloc,
-            "the opening",
-            &"a volume",
-            &refusal,
-        )),
+        Wanted::Opens { .. } => {
+            Err(Failure::differs(alloc, "the opening", &"a volume", &refusal))
+        }
     }
 }
 
@@ -228,16 +257,13 @@ fn is_untouched(alloc: Global, disk: &mut MemDisk<Global>, before: &[u8]) -> Res
     }
 }
 
-fn compare_image(
-    alloc: Global,
-    mut wanted: Vec<u8>,
-    writes: &[Put],
-    disk: &MemDisk<Global>,
-) -> Result<(), Failure> {
+// Compares a disk with what it was before, but for these bytes.
+fn compare_image(alloc: Global, before: &[u8], writes: &[Put], came: &[u8]) -> Result<(), Failure> {
+    let mut wanted = before.to_vec(alloc)?;
     for write in writes {
         write.write(alloc, &mut wanted)?;
     }
-    compare_bytes(alloc, "the disk", &wanted, disk.bytes())
+    compare_bytes(alloc, "the disk", &wanted, came)
 }
 
 /// Says at which offset bytes differ, if they do.
@@ -266,18 +292,20 @@ fn open_gates(image: &[u8], gates: &[u64]) -> u64 {
 // Compares names, lengths and bytes of all files. Each is read by one call.
 fn compare_files(
     alloc: Global,
-    mut volume: Volume<Disk, Global>,
+    volume: &mut Volume<Disk, Global>,
     files: &[File],
     bytes: &[FileBytes],
-) -> Result<Disk, Failure> {
-    let count = volume.file_count();
-    if count != files.len() {
-        return Err(Failure::differs(alloc, "files", &files.len(), &count));
-    }
+) -> Result<(), Failure> {
+    compare_count(
+        alloc,
+        "files",
+        files.len() as u64,
+        volume.file_count() as u64,
+    )?;
     for (number, file) in files.iter().enumerate() {
-        compare_file(alloc, &mut volume, number, file, bytes)?;
+        compare_file(alloc, volume, number, file, bytes)?;
     }
-    Ok(volume.into_device())
+    Ok(())
 }
 
 fn compare_file(
@@ -287,22 +315,35 @@ fn compare_file(
     file: &File,
     bytes: &[FileBytes],
 ) -> Result<(), Failure> {
-    let wanted = file_of(alloc, file, bytes)?;
     if number >= volume.file_count() {
         return Err(Failure::line(alloc, "no such file"));
     }
-    if volume.name(number) != file.name.as_str() {
-        return Err(Failure::differs(alloc, "the file's name", &file.name, &volume.name(number)));
+    let (name, length) = (volume.name(number), volume.length(number));
+    if name != file.name.as_str() {
+        return Err(Failure::differs(alloc, "the file's name", &file.name, &name));
     }
-    let length = volume.length(number);
-    if length != file.length {
-        return Err(Failure::differs(alloc, "the file's length", &file.length, &length));
+    compare_count(alloc, "the file's length", file.length, length)?;
+    let came = read_whole(alloc, volume, number)?;
+    let wanted = file_of(alloc, file, bytes)?;
+    compare_bytes(alloc, file.name.as_str(), &wanted, &came)
+}
+
+// The bytes of a file.
+fn read_whole(
+    alloc: Global,
+    volume: &mut Volume<Disk, Global>,
+    number: usize,
+) -> Result<Vec<u8>, Failure> {
+    if number >= volume.file_count() {
+        return Err(Failure::line(alloc, "no such file"));
     }
-    let mut buffer = vec![in alloc; 0; length as usize]?;
-    if let Err(refusal) = volume.read_file(number, 0, &mut buffer) {
-        return Err(Failure::differs(alloc, "a read of the file", &"its bytes", &refusal));
+    let mut buffer = vec![in alloc; 0; volume.length(number) as usize]?;
+    match volume.read_file(number, 0, &mut buffer) {
+        Ok(()) => Ok(buffer),
+        Err(refusal) => {
+            Err(Failure::differs(alloc, "a read of the file", &"its bytes", &refusal))
+        }
     }
-    compare_bytes(alloc, file.name.as_str(), &wanted, &buffer)
 }
 
 // The bytes that a file is to have.

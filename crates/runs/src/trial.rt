@@ -6,6 +6,7 @@ use crate::image::File;
 use crate::opening::{Disk, compare_refusal};
 use device::{Device, FailingDisk, MemDisk};
 use machine::{Act, Reply, Shape, Step};
+use page_entry::Refusal;
 use serde_json::Value;
 use std::alloc::Global;
 
@@ -59,39 +60,44 @@ const FLUSH: Step = Step {
 impl Run {
     /// Makes the whole run on a disk of these bytes, and gives what is left of it.
     pub fn make(&self, alloc: Global, image: &[u8], ended: &Ended) -> Result<Vec<u8>, Failure> {
-        let disk = FailingDisk::new(disk_of(alloc, image)?, self.fails);
         let mut heard = Heard::new(alloc, self.replies.len() as u64, false);
-        let run = engine::run(alloc, disk, self.shape, &self.steps, &mut heard);
-        let disk = match (run, &ended.refused) {
-            (Ok(disk), None) => disk,
-            (Err((refusal, disk)), Some(word)) => {
-                compare_refusal(alloc, refusal, word.as_str())?;
-                disk
+        let disk = FailingDisk::new(disk_of(alloc, image)?, self.fails);
+        let (disk, refusal) = match engine::run(alloc, disk, self.shape, &self.steps, &mut heard) {
+            Ok(disk) => (disk, None),
+            Err((refusal, disk)) => (disk, Some(refusal)),
+        };
+        self.compare_ended(alloc, refusal, &heard.replies, &disk, ended)?;
+        Ok(disk.into_inner().bytes().to_vec(alloc)?)
+    }
+
+    // Compares how a run ended.
+    fn compare_ended(
+        &self,
+        alloc: Global,
+        refusal: Option<Refusal>,
+        heard: &[Reply],
+        disk: &Disk,
+        ended: &Ended,
+    ) -> Result<(), Failure> {
+        match (refusal, &ended.refused) {
+            (None, None) => (),
+            (Some(refusal), Some(word)) => compare_refusal(alloc, refusal, word.as_str())?,
+            (None, Some(word)) => {
+                return Err(Failure::differs(alloc, "the run", word, &"a machine"));
             }
-            (Ok(_), Some(word)) => return Err(Failure::differs(
-                alloc,
-                "the run",
-                word,
-                &"a machine",
-            )),
-            (Err((refusal, _)), None) => {
+            (Some(refusal), None) => {
                 return Err(Failure::differs(alloc, "the run", &"a machine", &refusal));
             }
-        };
-        self.compare(alloc, &heard.replies, self.replies.len())?;
-        compare_count(
-            alloc,
-            "device calls",
-            ended.calls.unwrap_or(disk.calls()),
-            disk.calls(),
-        )?;
+        }
+        self.compare(alloc, heard, self.replies.len())?;
+        let (calls, faults) = (disk.calls(), disk.faults());
+        compare_count(alloc, "device calls", ended.calls.unwrap_or(calls), calls)?;
         compare_count(
             alloc,
             "calls that failed",
-            ended.faults.unwrap_or(disk.faults()),
-            disk.faults(),
-        )?;
-        Ok(disk.into_inner().bytes().to_vec(alloc)?)
+            ended.faults.unwrap_or(faults),
+            faults,
+        )
     }
 
     // Compares what was heard with the first so many replies.
@@ -110,8 +116,7 @@ impl Run {
             return Err(Failure::line(alloc, "there are fewer steps"));
         };
         let mut heard = Heard::new(alloc, u64::MAX, false);
-        let disk = FailingDisk::new(disk_of(alloc, image)?, self.fails);
-        let disk = self.run(alloc, disk, steps, &mut heard)?;
+        let disk = self.run(alloc, image, self.fails, steps, &mut heard)?;
         self.compare(alloc, &heard.replies, steps.len())?;
         Ok(Stopped {
             disk: disk.into_inner(),
@@ -119,13 +124,16 @@ impl Run {
         })
     }
 
+    // Makes steps on a disk of these bytes, whose call of this number fails.
     fn run(
         &self,
         alloc: Global,
-        disk: Disk,
+        image: &[u8],
+        fails: u64,
         steps: &[Step],
         heard: &mut Heard,
     ) -> Result<Disk, Failure> {
+        let disk = FailingDisk::new(disk_of(alloc, image)?, fails);
         match engine::run(alloc, disk, self.shape, steps, heard) {
             Ok(disk) => Ok(disk),
             Err((refusal, _)) => Err(Failure::differs(alloc, "the run", &"a machine", &refusal)),
@@ -136,56 +144,78 @@ impl Run {
     /// `device`, and two flushes after it `broken`, without a call more.
     pub fn failing(&self, alloc: Global, image: &[u8], call: u64) -> Result<Stopped, Failure> {
         let done = self.steps_before(alloc, image, call)?;
-        let mut steps = Vec::new(alloc);
-        for step in self.steps.iter().take(done).chain(self.steps.get(done)) {
-            steps.push(*step)?;
-        }
-        steps.push(FLUSH)?;
-        steps.push(FLUSH)?;
+        let steps = self.steps_that_break(alloc, done)?;
         let mut heard = Heard::new(alloc, u64::MAX, false);
-        let disk = FailingDisk::new(disk_of(alloc, image)?, call);
-        let disk = self.run(alloc, disk, &steps, &mut heard)?;
-        self.compare_broken(alloc, done as u64, heard.replies.get(done..).unwrap_or(&[]))?;
-        compare_count(alloc, "device calls", call, disk.calls())?;
-        compare_count(alloc, "calls that failed", 1, disk.faults())?;
+        let disk = self.run(alloc, image, call, &steps, &mut heard)?;
+        let answers = heard.replies.get(done..).unwrap_or(&[]);
+        self.compare_broken(alloc, done as u64, answers, &disk, call)?;
         Ok(Stopped {
             disk: disk.into_inner(),
             done: done as u64,
         })
     }
 
+    // So many steps, the one after them, and two flushes.
+    fn steps_that_break(&self, alloc: Global, done: usize) -> Result<Vec<Step>, Failure> {
+        let Some(made) = self.steps.get(..done.saturating_add(1)) else {
+            return Err(Failure::line(alloc, "there are fewer steps"));
+        };
+        let mut steps = made.to_vec(alloc)?;
+        steps.push(FLUSH)?;
+        steps.push(FLUSH)?;
+        Ok(steps)
+    }
+
     // How many steps are answered as they should before the one whose device call fails.
     fn steps_before(&self, alloc: Global, image: &[u8], call: u64) -> Result<usize, Failure> {
         let mut heard = Heard::new(alloc, u64::MAX, true);
-        let disk = FailingDisk::new(disk_of(alloc, image)?, call);
-        let disk = self.run(alloc, disk, &self.steps, &mut heard)?;
-        if disk.faults() != 1 {
-            return Err(Failure::differs(alloc, "calls that failed", &1, &disk.faults()));
+        let disk = self.run(alloc, image, call, &self.steps, &mut heard)?;
+        self.compare_stopped(alloc, &heard.replies, disk.faults())
+    }
+
+    // The last of these replies is that of the step whose call failed. Tells how many came before it.
+    fn compare_stopped(
+        &self,
+        alloc: Global,
+        replies: &[Reply],
+        faults: u64,
+    ) -> Result<usize, Failure> {
+        if faults != 1 {
+            return Err(Failure::differs(alloc, "calls that failed", &1, &faults));
         }
-        let Some(failed) = heard.replies.pop() else {
-            return Err(Failure::differs(alloc, "the step whose call fails", &"device", &"none"));
-        };
-        let done = heard.replies.len();
-        self.compare_reply(alloc, done as u64, "device", &failed)?;
-        self.compare(alloc, &heard.replies, done)?;
-        Ok(done)
+        match replies {
+            [before @ .., failed] => {
+                let done = before.len();
+                self.compare_reply(alloc, done as u64, "device", failed)?;
+                self.compare(alloc, before, done)?;
+                Ok(done)
+            }
+            [] => Err(Failure::differs(alloc, "the step whose call fails", &"device", &"none")),
+        }
     }
 
     // The step of this number, counted from 0, breaks the machine: two flushes after it are answered so.
-    fn compare_broken(&self, alloc: Global, number: u64, replies: &[Reply]) -> Result<(), Failure> {
+    fn compare_broken(
+        &self,
+        alloc: Global,
+        number: u64,
+        replies: &[Reply],
+        disk: &Disk,
+        call: u64,
+    ) -> Result<(), Failure> {
         match replies {
             [failed, first, second] => {
                 self.compare_reply(alloc, number, "device", failed)?;
                 self.compare_reply(alloc, number, "broken", first)?;
-                self.compare_reply(alloc, number, "broken", second)
+                self.compare_reply(alloc, number, "broken", second)?;
             }
-            _ => Err(Failure::differs(
-                alloc,
-                "replies of a machine that breaks",
-                &3,
-                &replies.len(),
-            )),
+            _ => {
+                let came = replies.len();
+                return Err(Failure::differs(alloc, "replies of a machine that breaks", &3, &came));
+            }
         }
+        compare_count(alloc, "device calls", call, disk.calls())?;
+        compare_count(alloc, "calls that failed", 1, disk.faults())
     }
 
     // Compares the reply of the step of this number, counted from 0.

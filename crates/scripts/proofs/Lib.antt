@@ -1,2 +1,2 @@
-mod AllOf
+pub mod AllOf
 mod Names

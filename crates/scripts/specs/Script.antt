@@ -1,12 +1,12 @@
 -- Scripts: one object with the members cpus, tlb, frames, copies and steps, and no others.
-use Rattle.std.specs.Prelude.{ℕ, List, [], ◌∷◌, Bool, not, find, codes, Option, Some, None}
-use Rattle.std.specs.List.{list_any}
-use Rattle.std.specs.Str.{bytes_eq}
-use Rattle.serde_json.specs.Data.{Data, Members, no_members, member}
+use Rattle.std.specs.Prelude.{ℕ, List, ◌∷◌, if◌then◌else◌, codes, Option, Some, None}
+use Rattle.serde_json.specs.Data.{Data}
 use Rattle.serde_json.specs.Read.{read}
-use Rattle.serde_json.specs.Find.{get, as_str, as_array, as_object}
+use Rattle.serde_json.specs.Find.{get, as_str, as_array}
 use Rattle.scripts.specs.Arguments.{if_some, byte_of, long_of, list_of, all_of}
 use Rattle.scripts.specs.Acts.{act_of}
+use Rattle.scripts.specs.Forms.{has_form}
+use Rattle.scripts.specs.declared.form.Form.TheVariants as form
 use Rattle.machine.specs.declared.act.Shape.{Shape}
 use Rattle.machine.specs.declared.act.Step.{Step}
 
@@ -35,29 +35,10 @@ shape_of value = if_some (size_of (codes "cpus") value) (λ cpus. if_some (size_
 abbrev pub steps_of : Data → Option (List Step)
 steps_of value = if_some (if_some (get (codes "steps") value) as_array) (λ items. all_of step_of (list_of items))
 
--- the names of an object's members
-abbrev pub names_of : Members → List (List ℕ)
-names_of no_members = []
-names_of (member name value rest) = name ∷ names_of rest
-
--- one of the five members
-abbrev pub is_known : List ℕ → Bool
-is_known name = list_any (λ known. bytes_eq name known) (codes "cpus" ∷ codes "tlb" ∷ codes "frames" ∷ codes "copies"
-    ∷ codes "steps" ∷ [])
-
--- the first name that is none of them
-abbrev pub unknown_of : Members → Option (List ℕ)
-unknown_of members = find (λ name. not (is_known name)) (names_of members)
-
--- x where there is nothing
-abbrev pub if_none : {A B : Type 0} → Option A → Option B → Option B
-if_none None x = x
-if_none (Some a) x = None
-
 -- the shape and the steps of a script
 abbrev pub script_of : Data → Option (Shape × List Step)
-script_of value = if_some (as_object value) (λ members. if_none (unknown_of members)
-    (if_some (shape_of value) (λ shape. if_some (steps_of value) (λ steps. Some (shape, steps)))))
+script_of value = if has_form form.Script value
+    then if_some (shape_of value) (λ shape. if_some (steps_of value) (λ steps. Some (shape, steps))) else None
 
 -- the shape and the steps of a script's text
 abbrev pub script_in : List ℕ → Option (Shape × List Step)

@@ -1,6 +1,6 @@
 -- Why a script is refused.
-use Rattle.scripts.specs.declared.script.ScriptFault.{ScriptFault}
-use Rattle.scripts.specs.declared.script.ScriptFault.TheVariants.{NotUtf8, NotJson, NotAnObject, Missing, Unknown, Number, Steps, Step, Memory}
+use Rattle.scripts.specs.declared.script_fault.ScriptFault.{ScriptFault}
+use Rattle.scripts.specs.declared.script_fault.ScriptFault.TheVariants.{NotUtf8, NotJson, NotAnObject, Missing, Unknown, Number, NotAList, Step, Programs, Program, Command, Processor, Memory}
 
 -- memory was refused
 abbrev pub IsMemory : ScriptFault → Type 0
@@ -8,8 +8,12 @@ IsMemory (Memory cause) = Unit {0}
 IsMemory NotUtf8 = ⊥
 IsMemory (NotJson cause) = ⊥
 IsMemory NotAnObject = ⊥
-IsMemory (Missing name) = ⊥
-IsMemory (Unknown name) = ⊥
+IsMemory (Missing name form) = ⊥
+IsMemory (Unknown name form) = ⊥
 IsMemory (Number name found) = ⊥
-IsMemory Steps = ⊥
+IsMemory (NotAList name) = ⊥
 IsMemory (Step number found cause) = ⊥
+IsMemory (Programs found cpus) = ⊥
+IsMemory (Program number) = ⊥
+IsMemory (Command program number found cause) = ⊥
+IsMemory (Processor number cpus) = ⊥

@@ -5,7 +5,7 @@ ghost use Rattle.serde_json.specs.View.{view};
 ghost use Rattle.scripts.specs.Acts.{load_of, store_of, fill_of, evict_of, switch_of, fix_of, destroy_of, map_of, unmap_of, protect_of, reclaim_of, msync_of, alone, act_of};
 
 use crate::argument::{access, byte, bytes, keep, long, page, prot, short, write};
-use crate::script::StepFault;
+use crate::script_fault::StepFault;
 use machine::Act;
 use serde_json::Value;
 
@@ -37,7 +37,7 @@ pub fn act(name: &str, arguments: &[Value]) -> Result<Act, StepFault>
     }
 }
 
-fn load(arguments: &[Value]) -> Result<Act, StepFault>
+pub fn load(arguments: &[Value]) -> Result<Act, StepFault>
     ensures { result_ok result ≡ load_of (map view arguments.now) }
 {
     match arguments {
@@ -55,7 +55,7 @@ fn load_from(va: &Value, count: &Value) -> Result<Act, StepFault>
     })
 }
 
-fn store(arguments: &[Value]) -> Result<Act, StepFault>
+pub fn store(arguments: &[Value]) -> Result<Act, StepFault>
     ensures { result_ok result ≡ store_of (map view arguments.now) }
 {
     match arguments {
@@ -108,7 +108,7 @@ fn evict_from(slot: &Value) -> Result<Act, StepFault>
     })
 }
 
-fn switch(arguments: &[Value]) -> Result<Act, StepFault>
+pub fn switch(arguments: &[Value]) -> Result<Act, StepFault>
     ensures { result_ok result ≡ switch_of (map view arguments.now) }
 {
     match arguments {
@@ -161,7 +161,7 @@ fn destroy_from(space: &Value) -> Result<Act, StepFault>
     })
 }
 
-fn map(arguments: &[Value]) -> Result<Act, StepFault>
+pub fn map(arguments: &[Value]) -> Result<Act, StepFault>
     ensures { result_ok result ≡ map_of (map view arguments.now) }
 {
     match arguments {
@@ -198,7 +198,7 @@ fn map_from(
     })
 }
 
-fn unmap(arguments: &[Value]) -> Result<Act, StepFault>
+pub fn unmap(arguments: &[Value]) -> Result<Act, StepFault>
     ensures { result_ok result ≡ unmap_of (map view arguments.now) }
 {
     match arguments {
@@ -217,7 +217,7 @@ fn unmap_from(space: &Value, va: &Value, len: &Value) -> Result<Act, StepFault>
     })
 }
 
-fn protect(arguments: &[Value]) -> Result<Act, StepFault>
+pub fn protect(arguments: &[Value]) -> Result<Act, StepFault>
     ensures { result_ok result ≡ protect_of (map view arguments.now) }
 {
     match arguments {
@@ -237,7 +237,7 @@ fn protect_from(space: &Value, va: &Value, len: &Value, rights: &Value) -> Resul
     })
 }
 
-fn reclaim(arguments: &[Value]) -> Result<Act, StepFault>
+pub fn reclaim(arguments: &[Value]) -> Result<Act, StepFault>
     ensures { result_ok result ≡ reclaim_of (map view arguments.now) }
 {
     match arguments {
@@ -255,7 +255,7 @@ fn reclaim_from(file: &Value, number: &Value) -> Result<Act, StepFault>
     })
 }
 
-fn msync(arguments: &[Value]) -> Result<Act, StepFault>
+pub fn msync(arguments: &[Value]) -> Result<Act, StepFault>
     ensures { result_ok result ≡ msync_of (map view arguments.now) }
 {
     match arguments {

@@ -4,7 +4,7 @@ ghost use Rattle.std.specs.Result.{result_ok};
 ghost use Rattle.serde_json.specs.View.{view};
 ghost use Rattle.scripts.specs.Arguments.{whole_number, byte_of, short_of, page_number_of, long_of, prot_of, access_of, keep_of, write_of, few_of, few_bytes_of};
 
-use crate::script::StepFault;
+use crate::script_fault::StepFault;
 use machine::FewBytes;
 use mappings::Rights;
 use serde_json::Value;

@@ -1,10 +1,21 @@
-//! Scripts: a machine's shape and the steps to make on it, as one JSON object, read whole by its grammar or refused.
+//! Scripts: a machine's shape and the steps to make on it, or programs for its processors, as one JSON object, read
+//! whole by its grammar or refused.
 #![tactic(auto)]
 
 mod act;
 mod argument;
+mod command;
+mod form;
+mod member;
 mod script;
+mod script_fault;
 mod step;
+mod threads;
 
-pub use script::{Script, ScriptFault, StepFault};
+pub use command::Command;
+pub use form::{Form, judge_form};
+pub use member::{parsed, shape, shown, size};
+pub use script::Script;
+pub use script_fault::{ScriptFault, StepFault};
 pub use step::read_step;
+pub use threads::ThreadScript;

@@ -3,15 +3,30 @@ ghost use Rattle.std.specs.Prelude.{◌≡◌, map, IfOk, IfErr, ◌⊎◌, Some
 ghost use Rattle.std.specs.Result.{result_ok};
 ghost use Rattle.serde_json.specs.View.{view};
 ghost use Rattle.scripts.specs.Arguments.{all_of};
-ghost use Rattle.scripts.specs.Script.{items_step, step_of};
+ghost use Rattle.scripts.specs.Script.{items_step, step_of, steps_of};
 ghost use Rattle.scripts.specs.ScriptFault.{IsMemory};
 
 use crate::act::act;
 use crate::argument::byte;
-use crate::script::{ScriptFault, StepFault, shown};
+use crate::form::Form;
+use crate::member::{list, shown};
+use crate::script_fault::{ScriptFault, StepFault};
 use machine::Step;
 use serde_json::Value;
 use std::alloc::{AllocError, Allocator, Global};
+
+/// The steps of an object of this form.
+pub fn steps_member<A: Allocator + Copy>(
+    global: Global,
+    alloc: A,
+    form: Form,
+    value: &Value,
+) -> Result<Vec<Step, A>, ScriptFault>
+    ensures ok { IfOk result (λ steps. steps_of (view value.now) ≡ Some steps.items) }
+    ensures err { IfErr result (λ fault. IsMemory fault ⊎ (steps_of (view value.now) ≡ None)) }
+{
+    steps(global, alloc, list(form, value, "steps")?)
+}
 
 /// All steps of a list, in order. A fault says which is refused first, counted from 1.
 #[tactic(auto, using(crate::proofs::AllOf::all_of_next, crate::proofs::AllOf::all_of_fails))]

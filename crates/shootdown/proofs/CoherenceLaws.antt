@@ -6,7 +6,7 @@ use Rattle.std.proofs.lemmas.List.{length-replicate, get_or-replicate}
 use Rattle.pcid_tlb.specs.declared.CachedEntry.{CachedEntry}
 use Rattle.pcid_tlb.specs.declared.Invpcid.TheVariants.{SingleContext}
 use Rattle.pcid_tlb.specs.Tlb.{TlbState, filled, evicted, without_page}
-use Rattle.pcid_tlb.proofs.TlbLaws.{All-kept, All-cr3_loaded, All-evicted, All-filled}
+use Rattle.pcid_tlb.proofs.Public.{All-kept, All-cr3_loaded, All-evicted, All-filled}
 use Rattle.spaces.specs.declared.change.Change.{Change}
 use Rattle.spaces.specs.Spaces.{Spaces, entry_at}
 use Rattle.spaces.specs.Changes.{affects, touches, Grows, ChangesOnlyAffected}
@@ -18,7 +18,7 @@ use Rattle.shootdown.specs.Shootdown.{ShootdownState, fresh_shootdown, processor
 use Rattle.shootdown.specs.Coherence.{IsUsable, Agrees, IsCovered, Coheres, KeepsCoherence, IsUnused, IsForgotten, IsNoWider}
 use Rattle.shootdown.specs.inside.Telling.{state_begun}
 use Rattle.shootdown.proofs.Told.{told-queue, told_all-queue, queue_kept-told, queue_kept-told_all, queue_drops-told, queue_drops-told_all, queue_drops-told_any}
-use Rattle.spaces.proofs.ChangeLaws.{touches_affected}
+use Rattle.spaces.proofs.Public.{touches_affected}
 use Rattle.shootdown.proofs.Sent.{sent}
 use Rattle.shootdown.proofs.ShootdownLaws.{at-with_processor, uninterrupted, begun_one, length-begun, processor_at-begun, processor_at-destroyed, length-destroyed}
 
@@ -228,12 +228,12 @@ IsUnused-from_Coheres spaces change s lock is coheres held same quiet =
           let e = get_or x.tlb.entries k d in
           let warned : get_or x.may_cache e.pcid false ≡ true → queue_drops x.queue e.pcid e.page ≡ true = λ may.
           coheres.warned lock held p e.pcid e.page within may (ap (λ (c : Change). affects spaces c e.pcid e.page) same ∙ affected) in
-          unusable p e uses warned (λ kept. (is.each p within).known k d below kept) (away p within) (touches_affected spaces change e.pcid e.page affected);
+          unusable p e uses warned ((is.each p within).known k d below) (away p within) (touches_affected spaces change e.pcid e.page affected);
     }
   where
     unusable : (p : ℕ) (e : CachedEntry) → IsUsable (processor_at s p) e → (get_or (processor_at s p).may_cache e.pcid false ≡ true → queue_drops (processor_at s p).queue e.pcid e.page ≡ true)
-        → (queue_drops (processor_at s p).queue e.pcid e.page ≡ false → get_or (processor_at s p).may_cache e.pcid false ≡ true) → (is_running (state_of s p) ≡ true → touches spaces change (current s p) ≡ false) → touches spaces change e.pcid ≡ true → ⊥
-    unusable p e (inl kept) warned known away touched = let drops = warned (known kept) in cc
+        → get_or (processor_at s p).may_cache e.pcid false ≡ true → (is_running (state_of s p) ≡ true → touches spaces change (current s p) ≡ false) → touches spaces change e.pcid ≡ true → ⊥
+    unusable p e (inl kept) warned known away touched = let drops = warned known in cc
     unusable p e (inr runs) warned known away touched = let free = away runs.0 in let there = ap (touches spaces change) (sym runs.1) ∙ touched in cc
 
 -- ---- the page tables grow, or change
@@ -275,11 +275,9 @@ Coheres-changed change old new s only unused wider coheres =
 -- ---- a space is destroyed
 
 -- no processor that is told to drop a PCID, and isn't in it, may use a cached entry of it
-unused_when_told : (x : Processor) (pcid : ℕ) (e : CachedEntry) → x.space ≢ pcid → (queue_drops x.queue e.pcid e.page ≡ false → get_or x.may_cache e.pcid false ≡ true) → e.pcid ≡ pcid → IsUsable (told x (SingleContext pcid)) e → ⊥
+unused_when_told : (x : Processor) (pcid : ℕ) (e : CachedEntry) → x.space ≢ pcid → get_or x.may_cache e.pcid false ≡ true → e.pcid ≡ pcid → IsUsable (told x (SingleContext pcid)) e → ⊥
 unused_when_told x pcid e elsewhere known here (inl kept) =
-    let before = queue_kept-told x (SingleContext pcid) e.pcid e.page kept in
-    let drops = queue_drops-told x (SingleContext pcid) e.pcid e.page (known before) (eq-eqb e.pcid pcid here) in
-    cc
+    let drops = queue_drops-told x (SingleContext pcid) e.pcid e.page known (eq-eqb e.pcid pcid here) in cc
 unused_when_told x pcid e elsewhere known here (inr runs) =
     elsewhere (sym (ap (λ (z : Processor). z.space) (told-queue x (SingleContext pcid))) ∙ sym runs.1 ∙ here)
 
@@ -307,8 +305,7 @@ CoheresAt-destroyed old new pcid lock x is elsewhere others wider at =
     record {
       covered = subst (λ (t : TlbState). All (λ e. IsUsable y e → Agrees new e) t.entries) (sym tlb) (λ k d within uses.
           let e = get_or x.tlb.entries k d in
-          let known : queue_drops x.queue e.pcid e.page ≡ false → get_or x.may_cache e.pcid false ≡ true = is.known k d within in
-          agrees e (cases_eq e.pcid pcid) uses known (at.covered k d within) state space);
+          agrees e (cases_eq e.pcid pcid) uses (is.known k d within) (at.covered k d within) state space);
       warned = λ held is q page may affected.
           dropped q page (at.warned held is q page (ap (λ (fs : List Bool). get_or fs q false) (sym flags) ∙ may) ((wider held is).affected q page affected));
       away = λ held is active. false_from_ne_true _ (λ touched.
@@ -324,7 +321,7 @@ CoheresAt-destroyed old new pcid lock x is elsewhere others wider at =
     usable e (inl kept) state space = inl (queue_kept-told x (SingleContext pcid) e.pcid e.page kept)
     usable e (inr runs) state space = inr (sym (ap is_running state) ∙ runs.0, runs.1 ∙ space)
 
-    agrees : (e : CachedEntry) → (e.pcid ≡ pcid) ⊎ (e.pcid ≡ pcid → ⊥) → IsUsable (told x (SingleContext pcid)) e → (queue_drops x.queue e.pcid e.page ≡ false → get_or x.may_cache e.pcid false ≡ true)
+    agrees : (e : CachedEntry) → (e.pcid ≡ pcid) ⊎ (e.pcid ≡ pcid → ⊥) → IsUsable (told x (SingleContext pcid)) e → get_or x.may_cache e.pcid false ≡ true
         → (IsUsable x e → Agrees old e) → (told x (SingleContext pcid)).state ≡ x.state → (told x (SingleContext pcid)).space ≡ x.space → Agrees new e
     agrees e (inl here) uses known covered state space = absurd (unused_when_told x pcid e elsewhere known here uses)
     agrees e (inr other) uses known covered state space =

@@ -1,5 +1,5 @@
 -- Flags and processors that are as at boot.
-use Rattle.std.proofs.Common.{ℕ, zero, suc, ◌≡◌, ◌↔◌, ◌<◌, Bool, true, false, ◌&&◌, List, [], ◌∷◌, length, replicate, get_or, set, drop, refl, ap, ◌∙◌, arith}
+use Rattle.std.proofs.Common.{ℕ, zero, suc, ◌≡◌, ◌<◌, Bool, true, false, List, [], ◌∷◌, length, replicate, get_or, set, drop, refl, ap, ◌∙◌, arith}
 use Rattle.std.proofs.lemmas.List.{length-replicate, get_or-replicate}
 use Rattle.std.specs.List.{list_any, All}
 

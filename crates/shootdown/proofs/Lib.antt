@@ -4,7 +4,8 @@ mod Told
 mod Fresh
 mod Each
 mod Sent
-pub mod Narrowing
-pub mod ProcessorLaws
-pub mod ShootdownLaws
-pub mod CoherenceLaws
+mod Narrowing
+mod ProcessorLaws
+mod ShootdownLaws
+mod CoherenceLaws
+pub mod Public

@@ -6,20 +6,19 @@ use Rattle.std.proofs.lemmas.Bool.Decides.{nat_tests}
 use Rattle.std.proofs.lemmas.List.{length-set}
 use Rattle.std.proofs.lemmas.List.Elements.{All-filter, filter_passes}
 use Rattle.pcid_tlb.specs.declared.CachedEntry.{CachedEntry}
-use Rattle.pcid_tlb.specs.declared.Invpcid.{Invpcid}
 use Rattle.pcid_tlb.specs.Tlb.{TlbState, cr3_loaded, without_page, filled, evicted, IsTlb}
-use Rattle.pcid_tlb.proofs.TlbLaws.{All-kept, All-cr3_loaded, All-evicted, All-filled, IsTlb-keep_entries, IsTlb-evicted, IsTlb-cr3_loaded, IsTlb-filled}
+use Rattle.pcid_tlb.proofs.Public.{All-kept, All-cr3_loaded, All-evicted, All-filled, IsTlb-keep_entries, IsTlb-evicted, IsTlb-cr3_loaded, IsTlb-filled}
 use Rattle.shootdown.specs.declared.proc_state.ProcState.{ProcState}
 use Rattle.shootdown.specs.Processors.{Processor, fresh_processor, queue_drops, drops_pcid, drained, pcids, IsProcessor}
 use Rattle.shootdown.proofs.Flags.{length-flags_kept, get_or-flags_kept, length-first_flags, get_or-first_flags}
 use Rattle.shootdown.proofs.Queues.{queue_drops-of_pcid}
 
--- the processor may cache the entry's PCID, where the queue keeps the entry
-abbrev pub IsKnown : List Invpcid → List Bool → CachedEntry → Type 0
-IsKnown queue flags e = queue_drops queue e.pcid e.page ≡ false → get_or flags e.pcid false ≡ true
+-- the flag of the entry's PCID is set
+abbrev pub IsKnown : List Bool → CachedEntry → Type 0
+IsKnown flags e = get_or flags e.pcid false ≡ true
 
 -- with another TLB, whose entries it may cache
-pub IsProcessor-with_tlb : (p : Processor) (t : TlbState) → IsProcessor p → IsTlb t → All (IsKnown p.queue p.may_cache) t.entries → IsProcessor (record p { tlb = t })
+pub IsProcessor-with_tlb : (p : Processor) (t : TlbState) → IsProcessor p → IsTlb t → All (IsKnown p.may_cache) t.entries → IsProcessor (record p { tlb = t })
 IsProcessor-with_tlb p t is tlb known = record {
   tlb = tlb;
   short_queue = is.short_queue;
@@ -30,16 +29,16 @@ IsProcessor-with_tlb p t is tlb known = record {
 }
 
 pub IsProcessor-without_page : (p : Processor) (pcid page : ℕ) → IsProcessor p → IsProcessor (record p { tlb = without_page p.tlb pcid page })
-IsProcessor-without_page p pcid page is = IsProcessor-with_tlb p _ is (IsTlb-keep_entries _ p.tlb is.tlb) (All-kept (IsKnown p.queue p.may_cache) _ p.tlb is.known)
+IsProcessor-without_page p pcid page is = IsProcessor-with_tlb p _ is (IsTlb-keep_entries _ p.tlb is.tlb) (All-kept (IsKnown p.may_cache) _ p.tlb is.known)
 
 pub IsProcessor-evicted : (p : Processor) (slot : ℕ) → IsProcessor p → IsProcessor (record p { tlb = evicted p.tlb slot })
-IsProcessor-evicted p slot is = IsProcessor-with_tlb p _ is (IsTlb-evicted p.tlb slot is.tlb) (All-evicted (IsKnown p.queue p.may_cache) p.tlb slot is.known)
+IsProcessor-evicted p slot is = IsProcessor-with_tlb p _ is (IsTlb-evicted p.tlb slot is.tlb) (All-evicted (IsKnown p.may_cache) p.tlb slot is.known)
 
 -- an entry of the current space may be cached
 pub IsProcessor-filled : (p : Processor) (e : CachedEntry) → e.pcid ≡ p.space → IsProcessor p → IsProcessor (record p { tlb = filled p.tlb e })
 IsProcessor-filled p e here is =
     IsProcessor-with_tlb p _ is (IsTlb-filled p.tlb e is.tlb)
-    (All-filled (IsKnown p.queue p.may_cache) p.tlb e is.known (λ kept. ap (λ pcid. get_or p.may_cache pcid false) here ∙ is.current))
+    (All-filled (IsKnown p.may_cache) p.tlb e is.known (ap (λ pcid. get_or p.may_cache pcid false) here ∙ is.current))
 
 -- in another state
 pub IsProcessor-with_state : (p : Processor) (state : ProcState) → IsProcessor p → IsProcessor (record p { state = state })
@@ -68,10 +67,10 @@ IsProcessor-drained p is =
       small = is.small;
       flags = length-flags_kept (stays_flagged p) 0 p.may_cache ∙ is.flags;
       current = get_or-drained p p.space ∙ and_from _ _ is.current (or_left _ _ (eq-eqb p.space p.space refl));
-      known = λ k d within none.
+      known = λ k d within.
           let e = get_or (filter kept p.tlb.entries) k d in
           let stays = not-true _ (filter_passes kept p.tlb.entries k d within) in
-          let before = All-filter kept (IsKnown p.queue p.may_cache) p.tlb.entries is.known k d within stays in
+          let before = All-filter kept (IsKnown p.may_cache) p.tlb.entries is.known k d within in
           get_or-drained p e.pcid ∙ and_from _ _ before (or_right _ _ (not_from_false _ (queue_drops-of_pcid p.queue e.pcid e.page stays)));
     }
 
@@ -92,8 +91,8 @@ IsProcessor-loaded p pcid keep small is =
       small = small;
       flags = length-set p.may_cache pcid true ∙ is.flags;
       current = get_or-set_same p.may_cache pcid true false within;
-      known = All-cr3_loaded (IsKnown p.queue (set p.may_cache pcid true)) p.tlb pcid keep
-          (λ k d below kept. flag_stays p.may_cache pcid (get_or p.tlb.entries k d).pcid within (is.known k d below kept));
+      known = All-cr3_loaded (IsKnown (set p.may_cache pcid true)) p.tlb pcid keep
+          (λ k d below. flag_stays p.may_cache pcid (get_or p.tlb.entries k d).pcid within (is.known k d below));
     }
 
 pub IsProcessor-fresh : (tlb : ℕ) → 0 < tlb → IsProcessor (fresh_processor tlb)

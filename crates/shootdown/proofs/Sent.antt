@@ -12,7 +12,7 @@ use Rattle.spaces.specs.declared.change.Change.{Change}
 use Rattle.spaces.specs.declared.change.Change.TheVariants.{Unmap, Protect, Reclaim, Checkpoint}
 use Rattle.spaces.specs.Spaces.{Spaces}
 use Rattle.spaces.specs.Changes.{has_entry_of, entries_of, affects}
-use Rattle.spaces.proofs.ChangeLaws.{Contains-entries_of}
+use Rattle.spaces.proofs.Public.{Contains-entries_of}
 use Rattle.shootdown.specs.Processors.{drops_page, queue_drops}
 use Rattle.shootdown.specs.Shootdown.{range_actions, entry_actions, actions_of}
 

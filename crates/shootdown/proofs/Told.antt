@@ -91,7 +91,7 @@ IsProcessor-told p a is = go (is_concerned p a)
       small = is.small;
       flags = is.flags;
       current = is.current;
-      known = λ k d within kept. is.known k d within (queue_kept-queued p.queue a (get_or p.tlb.entries k d).pcid (get_or p.tlb.entries k d).page kept);
+      known = is.known;
     }
     go false = is
 

@@ -115,13 +115,12 @@ loaded p pcid keep = record p {
 abbrev pub switched : Processor → ℕ → Bool → Processor
 switched p pcid keep = loaded (drained p) pcid keep
 
--- What every processor keeps: its TLB is one; its queue isn't overfull; PCIDs have 12 bits; it may cache the PCID of
--- its current space, and the PCID of each entry that its queue doesn't drop.
+-- What every processor keeps: its TLB is one; its queue isn't overfull; PCIDs have 12 bits; the flag of its current
+-- space's PCID is set, and that of each entry that it caches, also while its queue is to drop the entry.
 pub record IsProcessor (p : Processor) : Type 0 where
   pub tlb : IsTlb p.tlb
   pub short_queue : length p.queue ≤ queue_len
   pub small : p.space < pcids
   pub flags : length p.may_cache ≡ pcids
   pub current : slice_index_or p.may_cache p.space false ≡ true
-  pub known : All (λ e. queue_drops p.queue e.pcid e.page ≡ false
-      → slice_index_or p.may_cache e.pcid false ≡ true) p.tlb.entries
+  pub known : All (λ e. slice_index_or p.may_cache e.pcid false ≡ true) p.tlb.entries

@@ -2,11 +2,13 @@
 //! changed (Black, Rashid, Golub, Hill and Baron 1989, "Translation Lookaside Buffer Consistency").
 #![tactic(auto)]
 
+mod laws;
 mod lock;
 mod proc_state;
 mod processor;
 mod shootdown;
 
+pub use laws::{kept_by_changes, kept_by_processors, kept_by_tables};
 pub use lock::Lock;
 pub use proc_state::ProcState;
 pub use shootdown::Shootdown;

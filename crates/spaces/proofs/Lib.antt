@@ -8,3 +8,5 @@ pub mod Cleared
 pub mod Rooms
 pub mod RequestLaws
 pub mod ListedLaws
+pub mod Public
+pub mod Noted

@@ -26,8 +26,8 @@ use Rattle.spaces.proofs.AreSpacesLaws.{user_space, AreSpaces-first_spaces, AreS
 use Rattle.spaces.proofs.SlotsLemmas.{has_space-spaces_of, space_at-spaces_of, slot_at-push_other, found_in_slot, within_slots, spaces_of-set, spaces_of-clear, spaces_of-push, spaces_of-first}
 
 -- nothing is prepared
-pub none_ready : (slots : List (Option SpaceState)) (pcid : ℕ) (range : PageRange) → ◌≡◌ {A = Option (ℕ × PageRange)} None (Some (pcid, range)) → IsPrepared slots pcid range
-none_ready slots pcid range is = absurd (cc)
+pub none_ready : (slots : List (Option SpaceState)) (pcid : ℕ) (range : PageRange) (rights : Option Rights) → ◌≡◌ {A = Option (ℕ × PageRange × Option Rights)} None (Some (pcid, range, rights)) → IsPrepared slots pcid range rights
+none_ready slots pcid range rights is = absurd (cc)
 
 module _ (slots : List (Option SpaceState)) (n : ℕ) (s : SpaceState) (is : slot_at slots n ≡ Some s) where
   -- the slot's space
@@ -45,8 +45,8 @@ module _ (slots : List (Option SpaceState)) (n : ℕ) (s : SpaceState) (is : slo
     still_there q = ap (λ m. has_space m q) set-space ∙ has_space-with_space_there (spaces_of slots) n (space_of new) (here.there) q
 
     -- an edit that keeps the mappings keeps what is prepared
-    ready_still : new.places ≡ s.places → s.spare ≤ new.spare → (pcid : ℕ) (range : PageRange) → IsPrepared slots pcid range → IsPrepared (set slots n (Some new)) pcid range
-    ready_still places spare pcid range ready = record {
+    ready_still : new.places ≡ s.places → s.spare ≤ new.spare → (pcid : ℕ) (range : PageRange) (rights : Option Rights) → IsPrepared slots pcid range rights → IsPrepared (set slots n (Some new)) pcid range rights
+    ready_still places spare pcid range rights ready = record {
       user_space = ap (λ b. ltb 0 pcid && b) (still_there pcid) ∙ ready.user_space;
       user_range = ready.user_range;
       room = λ t at. elim (cases_eq pcid n) [
@@ -54,8 +54,8 @@ module _ (slots : List (Option SpaceState)) (n : ℕ) (s : SpaceState) (is : slo
             let one : Some new ≡ Some t = sym (get_or-set_same slots n (Some new) None within) ∙ ap (slot_at (set slots n (Some new))) (sym same) ∙ at in
             let is_new : new ≡ t = cc in
             let room = ready.room s (ap (slot_at slots) same ∙ is) in
-            let same_splits : splits new.places range.first range.count ≡ splits s.places range.first range.count = ap (λ p. splits p range.first range.count) places in
-            subst (λ (x : SpaceState). splits x.places range.first range.count ≤ x.spare) is_new (omega arith)
+            let same_splits : splits new.places range rights ≡ splits s.places range rights = ap (λ p. splits p range rights) places in
+            subst (λ (x : SpaceState). splits x.places range rights ≤ x.spare) is_new (omega arith)
         | inr other ↦ ready.room t (sym (get_or-set_other slots n pcid (Some new) None other) ∙ at)
       ];
     }
@@ -65,14 +65,14 @@ module _ (slots : List (Option SpaceState)) (n : ℕ) (s : SpaceState) (is : slo
     set-same same = set-space ∙ ap (with_space (spaces_of slots) n) (same ∙ sym (here.same)) ∙ with_space-itself (spaces_of slots) n (here.there)
 
     -- what the slots keep after an edit, with what was prepared or with nothing
-    pub slots_kept : (prepared : Option (ℕ × PageRange)) → AreSlots slots prepared → new.places ≡ s.places → s.spare ≤ new.spare → AreSpaces (spaces_of (set slots n (Some new))) → AreSlots (set slots n (Some new)) prepared
+    pub slots_kept : (prepared : Option (ℕ × PageRange × Option Rights)) → AreSlots slots prepared → new.places ≡ s.places → s.spare ≤ new.spare → AreSpaces (spaces_of (set slots n (Some new))) → AreSlots (set slots n (Some new)) prepared
     slots_kept prepared are places spare sound = record {
       spaces = sound;
       few = let same = length-set slots n (Some new) in omega (arith, are.few);
-      ready = λ pcid range is. ready_still places spare pcid range (are.ready pcid range is);
+      ready = λ pcid range rights is. ready_still places spare pcid range rights (are.ready pcid range rights is);
     }
 
-    pub slots_changed : (prepared : Option (ℕ × PageRange)) → AreSlots slots prepared → AreSpaces (spaces_of (set slots n (Some new))) → AreSlots (set slots n (Some new)) None
+    pub slots_changed : (prepared : Option (ℕ × PageRange × Option Rights)) → AreSlots slots prepared → AreSpaces (spaces_of (set slots n (Some new))) → AreSlots (set slots n (Some new)) None
     slots_changed prepared are sound = record {
       spaces = sound;
       few = let same = length-set slots n (Some new) in omega (arith, are.few);
@@ -80,22 +80,23 @@ module _ (slots : List (Option SpaceState)) (n : ℕ) (s : SpaceState) (is : slo
     }
 
     -- a range is prepared
-    pub slots_prepared : (prepared : Option (ℕ × PageRange)) (range : PageRange) → AreSlots slots prepared → is_user_space (spaces_of slots) n ≡ true → is_user_range range ≡ true → space_of new ≡ space_of s → splits new.places range.first range.count ≤ new.spare → AreSlots (set slots n (Some new)) (Some (n, range))
-    slots_prepared prepared range are user pages same room = record {
+    pub slots_prepared : (prepared : Option (ℕ × PageRange × Option Rights)) (range : PageRange) (rights : Option Rights) → AreSlots slots prepared → is_user_space (spaces_of slots) n ≡ true → is_user_range range ≡ true → space_of new ≡ space_of s → splits new.places range rights ≤ new.spare → AreSlots (set slots n (Some new)) (Some (n, range, rights))
+    slots_prepared prepared range rights are user pages same room = record {
       spaces = subst AreSpaces (sym (set-same same)) are.spaces;
       few = let as_many = length-set slots n (Some new) in omega (arith, are.few);
-      ready = λ pcid r is.
-          let both = ap (λ o. unwrap_or o (n, range)) is in
-          let p : n ≡ pcid = ap (λ (x : ℕ × PageRange). x.0) both in
-          let q : range ≡ r = ap (λ (x : ℕ × PageRange). x.1) both in
-          subst (λ k. IsPrepared (set slots n (Some new)) k r) p (subst (IsPrepared (set slots n (Some new)) n) q (record {
+      ready = λ pcid r w is.
+          let all = ap (λ o. unwrap_or o (n, range, rights)) is in
+          let p : n ≡ pcid = ap (λ (x : ℕ × PageRange × Option Rights). x.0) all in
+          let q : range ≡ r = ap (λ (x : ℕ × PageRange × Option Rights). x.1) all in
+          let v : rights ≡ w = ap (λ (x : ℕ × PageRange × Option Rights). x.2) all in
+          subst (λ k. IsPrepared (set slots n (Some new)) k r w) p (subst (λ t. IsPrepared (set slots n (Some new)) n t w) q (subst (IsPrepared (set slots n (Some new)) n range) v (record {
             user_space = ap (λ b. ltb 0 n && b) (still_there n) ∙ user;
             user_range = pages;
             room = λ t at.
                 let one : Some new ≡ Some t = sym (get_or-set_same slots n (Some new) None within) ∙ at in
                 let is_new : new ≡ t = cc in
-                subst (λ (x : SpaceState). splits x.places range.first range.count ≤ x.spare) is_new room;
-          }));
+                subst (λ (x : SpaceState). splits x.places range rights ≤ x.spare) is_new room;
+          })));
     }
 
     -- ---- which update of the spaces it is
@@ -160,8 +161,8 @@ apart_from : (slots : List (Option SpaceState)) (n : ℕ) → slot_at slots n �
 apart_from slots n none q there same = false≢true (sym (ap is_some none) ∙ sym (has_space-spaces_of slots n) ∙ ap (has_space (spaces_of slots)) (sym same) ∙ there)
 
 -- where all spaces stay and one is made, what was prepared still is
-ready_more : (slots more : List (Option SpaceState)) (n : ℕ) → slot_at slots n ≡ None → spaces_of more ≡ with_space (spaces_of slots) n empty_space → ((q : ℕ) → q ≢ n → slot_at more q ≡ slot_at slots q) → (pcid : ℕ) (range : PageRange) → IsPrepared slots pcid range → IsPrepared more pcid range
-ready_more slots more n none made others pcid range ready =
+ready_more : (slots more : List (Option SpaceState)) (n : ℕ) → slot_at slots n ≡ None → spaces_of more ≡ with_space (spaces_of slots) n empty_space → ((q : ℕ) → q ≢ n → slot_at more q ≡ slot_at slots q) → (pcid : ℕ) (range : PageRange) (rights : Option Rights) → IsPrepared slots pcid range rights → IsPrepared more pcid range rights
+ready_more slots more n none made others pcid range rights ready =
     let user = user_space (spaces_of slots) pcid ready.user_space in
     let other = apart_from slots n none pcid user.1 in
     record {
@@ -172,7 +173,7 @@ ready_more slots more n none made others pcid range ready =
       room = λ s is. ready.room s (sym (others pcid other) ∙ is);
     }
 
-module _ (slots : List (Option SpaceState)) (prepared : Option (ℕ × PageRange)) (are : AreSlots slots prepared) (n : ℕ) (none : slot_at slots n ≡ None) (new : SpaceState) (blank : space_of new ≡ empty_space) where
+module _ (slots : List (Option SpaceState)) (prepared : Option (ℕ × PageRange × Option Rights)) (are : AreSlots slots prepared) (n : ℕ) (none : slot_at slots n ≡ None) (new : SpaceState) (blank : space_of new ≡ empty_space) where
   free : has_space (spaces_of slots) n ≡ false
   free = has_space-spaces_of slots n ∙ ap is_some none
 
@@ -184,7 +185,7 @@ module _ (slots : List (Option SpaceState)) (prepared : Option (ℕ × PageRange
   slots_filled within = record {
     spaces = subst AreSpaces (sym (set-create within)) (AreSpaces-create (spaces_of slots) n are.spaces (omega (arith, are.few)) free);
     few = let same = length-set slots n (Some new) in omega (arith, are.few);
-    ready = λ pcid range is. ready_more slots (set slots n (Some new)) n none (set-create within) (λ q other. get_or-set_other slots n q (Some new) None other) pcid range (are.ready pcid range is);
+    ready = λ pcid range rights is. ready_more slots (set slots n (Some new)) n none (set-create within) (λ q other. get_or-set_other slots n q (Some new) None other) pcid range rights (are.ready pcid range rights is);
   }
 
   -- in a new slot
@@ -195,11 +196,11 @@ module _ (slots : List (Option SpaceState)) (prepared : Option (ℕ × PageRange
   slots_pushed last small = record {
     spaces = subst AreSpaces (sym (push-create last)) (AreSpaces-create (spaces_of slots) n are.spaces small free);
     few = let more = length-append slots (Some new ∷ []) in omega arith;
-    ready = λ pcid range is. ready_more slots (slots ++ Some new ∷ []) n none (push-create last) (λ q other. slot_at-push_other slots (Some new) q (λ same. other (same ∙ sym last))) pcid range (are.ready pcid range is);
+    ready = λ pcid range rights is. ready_more slots (slots ++ Some new ∷ []) n none (push-create last) (λ q other. slot_at-push_other slots (Some new) q (λ same. other (same ∙ sym last))) pcid range rights (are.ready pcid range rights is);
   }
 
 -- a space is removed
-pub slots_cleared : (slots : List (Option SpaceState)) (prepared : Option (ℕ × PageRange)) (n : ℕ) → AreSlots slots prepared → is_user_space (spaces_of slots) n ≡ true → AreSlots (set slots n None) None
+pub slots_cleared : (slots : List (Option SpaceState)) (prepared : Option (ℕ × PageRange × Option Rights)) (n : ℕ) → AreSlots slots prepared → is_user_space (spaces_of slots) n ≡ true → AreSlots (set slots n None) None
 slots_cleared slots prepared n are is =
     let user = user_space (spaces_of slots) n is in
     let other : n ≢ 0 = λ same. absurd (omega (arith, user.0)) in
@@ -219,7 +220,7 @@ slots_first s blank = record {
 
 -- ---- the first free slot
 
-module _ (slots : List (Option SpaceState)) (prepared : Option (ℕ × PageRange)) (are : AreSlots slots prepared) (at : ℕ) (first : IsFirstFree slots at) where
+module _ (slots : List (Option SpaceState)) (prepared : Option (ℕ × PageRange × Option Rights)) (are : AreSlots slots prepared) (at : ℕ) (first : IsFirstFree slots at) where
   pub lowest_free : at ≢ 4096 → IsLowestFree (spaces_of slots) at
   lowest_free room = record {
     some = let there = within_slots slots 0 are.spaces.first in positive (cases_eq at 0);
@@ -265,22 +266,22 @@ module _ (g : SpaceState → maps.FinMap nat_cmp Mapped) (slots : List (Option S
       by_slot q page None is = get-empty_entries page ∙ sym (ap (edit q page) (get-empty_entries page) ∙ absent q page)
       by_slot q page (Some s) is = does q page s is
 
-  pub slots_edited : (prepared : Option (ℕ × PageRange)) → AreSlots slots prepared → (edit : ℕ → ℕ → Option Mapped → Option Mapped) → EditsEntries edit (spaces_of slots) (spaces_of (map (option_map (edited g)) slots)) → ((q page : ℕ) → edit q page None ≡ None) → AreSlots (map (option_map (edited g)) slots) prepared
+  pub slots_edited : (prepared : Option (ℕ × PageRange × Option Rights)) → AreSlots slots prepared → (edit : ℕ → ℕ → Option Mapped → Option Mapped) → EditsEntries edit (spaces_of slots) (spaces_of (map (option_map (edited g)) slots)) → ((q page : ℕ) → edit q page None ≡ None) → AreSlots (map (option_map (edited g)) slots) prepared
   slots_edited prepared are edit edits absent = record {
     spaces = AreSpaces-EditsEntries edit (spaces_of slots) (spaces_of (map (option_map (edited g)) slots)) are.spaces edits absent;
     few = let same = length-map slots (option_map (edited g)) in omega (arith, are.few);
-    ready = λ pcid range is. let was = are.ready pcid range is in record {
+    ready = λ pcid range rights is. let was = are.ready pcid range rights is in record {
       user_space = ap (λ b. ltb 0 pcid && b) (edits.same_spaces pcid) ∙ was.user_space;
       user_range = was.user_range;
-      room = λ t at. by_slot pcid range was (slot_at slots pcid) refl t (sym (slot_at-edited pcid) ∙ at);
+      room = λ t at. by_slot pcid range rights was (slot_at slots pcid) refl t (sym (slot_at-edited pcid) ∙ at);
     };
   }
     where
-      by_slot : (pcid : ℕ) (range : PageRange) → IsPrepared slots pcid range → (o : Option SpaceState) → slot_at slots pcid ≡ o → (t : SpaceState) → option_map (edited g) o ≡ Some t → splits t.places range.first range.count ≤ t.spare
-      by_slot pcid range was None is t at = absurd (cc)
-      by_slot pcid range was (Some s) is t at =
+      by_slot : (pcid : ℕ) (range : PageRange) (rights : Option Rights) → IsPrepared slots pcid range rights → (o : Option SpaceState) → slot_at slots pcid ≡ o → (t : SpaceState) → option_map (edited g) o ≡ Some t → splits t.places range rights ≤ t.spare
+      by_slot pcid range rights was None is t at = absurd (cc)
+      by_slot pcid range rights was (Some s) is t at =
           let e : edited g s ≡ t = cc in
-          subst (λ (x : SpaceState). splits x.places range.first range.count ≤ x.spare) e (was.room s is)
+          subst (λ (x : SpaceState). splits x.places range rights ≤ x.spare) e (was.room s is)
 
 -- a slice of all slots that is written goes back whole
 pub written : (n : ℕ) (new old : List (Option SpaceState)) → n ≡ length old → length new ≡ length old → take n (new ++ drop (length new) old) ≡ new

@@ -39,11 +39,11 @@ entry_at spaces pcid page = maps.get (space_at spaces pcid).entries page
 abbrev pub place_at : Spaces → ℕ → ℕ → Option Place
 place_at spaces pcid page = maps.get (space_at spaces pcid).places page
 
--- What contracts see of the spaces: the spaces, and the range of pages of which space the memory for one unmap or
--- protect is reserved, if any.
+-- What contracts see of the spaces: the spaces, and for which change memory is reserved, if for any: the range of pages
+-- of which space is unmapped, or gets which rights.
 pub record SpacesState : Type 0 where
   pub map : Spaces
-  pub prepared : Option (ℕ × PageRange)
+  pub prepared : Option (ℕ × PageRange × Option Rights)
 
 -- space 0 alone, which maps nothing
 abbrev pub first_spaces : Spaces

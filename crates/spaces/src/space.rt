@@ -1,6 +1,7 @@
 // One address space: its page table and its mappings.
-ghost use Rattle.std.specs.Prelude.{◌≡◌, ◌+◌, ◌≤◌, ◌<◌, All, Some, None, true, IsSome, IfOk, OnOk, OnErr, IfErr, unwrap_or, if◌then◌else◌};
+ghost use Rattle.std.specs.Prelude.{◌≡◌, ◌+◌, ◌≤◌, ◌<◌, ◌↔◌, ◌⊎◌, ℕ, All, Some, None, true, false, length, slice_index_or, IsSome, IfOk, OnOk, OnErr, IfErr, unwrap_or, if◌then◌else◌};
 ghost use Rattle.std.specs.FinMap as maps;
+ghost use Rattle.page_entry.specs.Entry.{Mapped};
 ghost use Rattle.page_entry.specs.declared.refusal.Refusal.TheVariants.{OutOfMemory};
 ghost use Rattle.page_table.specs.Table.{is_grown, put_entry, outside_range, range_read_only, frames_protected};
 ghost use Rattle.mappings.specs.Places.{with_range, without_range, with_rights, may_write, splits};
@@ -91,23 +92,27 @@ impl<A: Allocator + Copy> Space<A> {
         self.mappings.add(range, place)
     }
 
-    /// Reserves the memory that one later `unmap` or `protect` of the range needs.
+    /// Reserves the memory that one later `protect` of the range with the rights needs, or without any an `unmap`.
     ///
-    /// `OutOfMemory` if an end of the range is within a mapping and memory is refused. Nothing that is mapped changes.
-    pub(crate) fn prepare(&mut self, range: PageRange) -> Result<(), Refusal>
-        ensures reserved { OnOk result (splits self.new.places range.first range.count ≤ self.new.spare) }
+    /// `OutOfMemory` if a mapping has to be split and memory is refused. Nothing that is mapped changes.
+    pub(crate) fn prepare(
+        &mut self,
+        range: PageRange,
+        rights: Option<Rights>,
+    ) -> Result<(), Refusal>
+        ensures reserved { OnOk result (splits self.new.places range rights ≤ self.new.spare) }
         ensures refused { IfErr result (λ why. why ≡ OutOfMemory) }
-        ensures missing { OnErr result (0 < splits self.old.places range.first range.count) }
+        ensures missing { OnErr result (0 < splits self.old.places range rights) }
         ensures same { space_of self.new ≡ space_of self.old }
         ensures grows { self.old.spare ≤ self.new.spare }
     {
-        self.mappings.reserve(range)
+        self.mappings.reserve(range, rights)
     }
 
     /// Unmaps the pages of the range, with their entries. It takes no memory.
     pub(crate) fn unmap(&mut self, range: PageRange)
         requires user { is_user_range range ≡ true }
-        requires room { splits self.old.places range.first range.count ≤ self.old.spare }
+        requires room { splits self.old.places range None ≤ self.old.spare }
         ensures places { self.new.places ≡ without_range self.old.places range.first range.count }
         ensures entries { self.new.entries ≡ outside_range self.old.entries range.first (range.first + range.count) }
     {
@@ -121,7 +126,7 @@ impl<A: Allocator + Copy> Space<A> {
     /// memory.
     pub(crate) fn protect(&mut self, range: PageRange, rights: Rights)
         requires allowed { protect_refusal self.old.places range rights ≡ None }
-        requires room { splits self.old.places range.first range.count ≤ self.old.spare }
+        requires room { splits self.old.places range (Some rights) ≤ self.old.spare }
         ensures places { self.new.places ≡ with_rights self.old.places range.first range.count rights }
         ensures entries { self.new.entries ≡ (if may_write rights then self.old.entries
             else range_read_only self.old.entries range.first (range.first + range.count)) }
@@ -140,6 +145,18 @@ impl<A: Allocator + Copy> Space<A> {
         ensures { self.new ≡ record self.old { entries = frames_protected self.old.entries noted.now } }
     {
         self.table.protect_frames(noted);
+    }
+
+    /// Notes the frame of each dirty entry. It takes no memory.
+    pub(crate) fn note_dirty(&self, notes: &mut [bool])
+        requires { (page : ℕ) (entry : Mapped) → maps.get self.now.entries page ≡ Some entry
+            → entry.frame < length notes.old }
+        ensures size { length notes.new ≡ length notes.old }
+        ensures noted { (frame : ℕ) → (slice_index_or notes.new frame false ≡ true)
+            ↔ ((slice_index_or notes.old frame false ≡ true) ⊎ ((page : ℕ) × (entry : Mapped)
+            × (maps.get self.now.entries page ≡ Some entry) × (entry.frame ≡ frame) × (entry.dirty ≡ true))) }
+    {
+        self.table.note_dirty(notes);
     }
 
     /// Takes away every entry of a page that maps this page of a file. It takes no memory.

@@ -1,7 +1,8 @@
 // The spaces of a machine.
-ghost use Rattle.std.specs.Prelude.{◌≡◌, ◌≢◌, ◌+◌, ◌<◌, ◌^◌, ◌/◌, Some, None, map, true, IsSome, IfSome, IfNone, IfOk, OnOk, OnErr, IfErr, IsTrue, unwrap_or};
+ghost use Rattle.std.specs.Prelude.{◌≡◌, ◌≢◌, ◌+◌, ◌<◌, ◌^◌, ◌/◌, ◌↔◌, ◌⊎◌, ℕ, Some, None, map, length, slice_index_or, true, false, IsSome, IfSome, IfNone, IfOk, OnOk, OnErr, IfErr, IsTrue, unwrap_or};
 ghost use Rattle.std.specs.Option.{option_map};
 ghost use Rattle.std.specs.FinMap as maps;
+ghost use Rattle.page_entry.specs.Entry.{Mapped};
 ghost use Rattle.page_entry.specs.declared.refusal.Refusal.TheVariants.{OutOfMemory};
 ghost use Rattle.page_table.specs.Table.{dirty_in, is_marked, frames_protected};
 ghost use Rattle.mappings.specs.Places.{splits};
@@ -9,7 +10,7 @@ ghost use Rattle.mappings.specs.Judgement.{is_user_range, add_refusal, protect_r
 ghost use Rattle.spaces.specs.Spaces.{empty_space, has_space, space_at, entry_at, place_at, first_spaces, with_space, with_entry, with_mapping, without_mapping, IsLowestFree, EditsEntries, SetsRights, AreSpaces};
 ghost use Rattle.spaces.specs.Requests.{is_user_space, judged_range, judged_mapping, judged_protection, maps_some, maps_each, CreateRefused};
 ghost use Rattle.spaces.specs.Changes.{is_place_of, affects, touches, entries_of, protected_where, without_entries_of};
-ghost use Rattle.spaces.specs.inside.Slots.{edited, without_entries, IsFound, IsMissing, IsFirstFree};
+ghost use Rattle.spaces.specs.inside.Slots.{SpaceState, edited, without_entries, IsFound, IsMissing, IsFirstFree, AreBelow, NotesSlot, NotesSlots};
 
 use crate::space::Space;
 use crate::{Change, EntriesOf, Pcids};
@@ -34,8 +35,8 @@ pub const ALL_PAGES: PageRange = PageRange {
 pub struct Spaces<A: Allocator + Copy = Global> {
     // By PCID, as many as the highest PCID that was ever in use needs.
     slots: Vec<Option<Space<A>>, A>,
-    // The pages of a space that one `unmap` or `protect` may change without memory.
-    prepared: Option<(Pcid, PageRange)>,
+    // The pages of a space that one `protect` may give these rights without memory, or without any an `unmap` may take.
+    prepared: Option<(Pcid, PageRange, Option<Rights>)>,
 }
 
 impl<A: Allocator + Copy> Model for Spaces<A> {
@@ -351,29 +352,36 @@ impl<A: Allocator + Copy> Spaces<A> {
         Ok(())
     }
 
-    /// Reserves the memory that one later `unmap` or `protect` of the pages of a range needs.
+    /// Reserves the memory that one later `protect` of the pages of a range with the rights needs, or without any an
+    /// `unmap` of them.
     ///
-    /// `OutOfMemory` if an end of the range is within a mapping, which would be split there, and memory is refused.
-    /// Then nothing has changed.
-    pub fn prepare(&mut self, pcid: Pcid, range: PageRange) -> Result<(), Refusal>
+    /// `OutOfMemory` if a mapping has to be split and memory is refused: for an `unmap` one that has the range, the page
+    /// before it and the page after it; for a `protect` one with other rights that has pages on both sides of an end of
+    /// the range. Then nothing has changed.
+    pub fn prepare(
+        &mut self,
+        pcid: Pcid,
+        range: PageRange,
+        rights: Option<Rights>,
+    ) -> Result<(), Refusal>
         requires space { is_user_space self.old.map pcid ≡ true }
         requires pages { is_user_range range ≡ true }
-        ensures prepared { OnOk result (self.new ≡ record self.old { prepared = Some (pcid, range) }) }
+        ensures prepared { OnOk result (self.new ≡ record self.old { prepared = Some (pcid, range, rights) }) }
         ensures refused { IfErr result (λ why. why ≡ OutOfMemory) }
-        ensures splits { OnErr result (0 < splits (space_at self.old.map pcid).places range.first range.count) }
+        ensures splits { OnErr result (0 < splits (space_at self.old.map pcid).places range rights) }
         ensures err { OnErr result (self.new ≡ self.old) }
     {
         let Some(space) = &mut self.slots[pcid as usize] else {
             unreachable!()
         };
-        space.prepare(range)?;
-        self.prepared = Some((pcid, range));
+        space.prepare(range, rights)?;
+        self.prepared = Some((pcid, range, rights));
         Ok(())
     }
 
-    /// Unmaps the pages of the range that was prepared, with their entries.
+    /// Unmaps the pages of the range, which was prepared, with their entries.
     pub fn unmap(&mut self, pcid: Pcid, range: PageRange)
-        requires { self.old.prepared ≡ Some (pcid, range) }
+        requires { self.old.prepared ≡ Some (pcid, range, None) }
         ensures { self.new ≡ record { map = without_mapping self.old.map pcid range; prepared = None } }
     {
         let Some(space) = &mut self.slots[pcid as usize] else {
@@ -383,9 +391,9 @@ impl<A: Allocator + Copy> Spaces<A> {
         self.prepared = None;
     }
 
-    /// Gives the rights to the pages of the range that was prepared. Without the right to write, their entries lose it.
+    /// Gives the rights to the pages of the range, which was prepared for them. Without the right to write, their entries lose it.
     pub fn protect(&mut self, pcid: Pcid, range: PageRange, rights: Rights)
-        requires prepared { self.old.prepared ≡ Some (pcid, range) }
+        requires prepared { self.old.prepared ≡ Some (pcid, range, Some rights) }
         requires allowed { protect_refusal (space_at self.old.map pcid).places range rights ≡ None }
         ensures rights { SetsRights pcid range rights self.old.map self.new.map }
         ensures used { self.new.prepared ≡ None }
@@ -405,6 +413,18 @@ impl<A: Allocator + Copy> Spaces<A> {
         ensures same { self.new.prepared ≡ self.old.prepared }
     {
         protect_slots(&mut self.slots, noted);
+    }
+
+    /// Notes the frame of each dirty entry, in every space.
+    pub fn note_dirty(&self, notes: &mut [bool])
+        requires { (pcid page : ℕ) (entry : Mapped) → entry_at self.now.map pcid page ≡ Some entry
+            → entry.frame < length notes.old }
+        ensures size { length notes.new ≡ length notes.old }
+        ensures noted { (frame : ℕ) → (slice_index_or notes.new frame false ≡ true)
+            ↔ ((slice_index_or notes.old frame false ≡ true) ⊎ ((pcid : ℕ) × (page : ℕ) × (entry : Mapped)
+            × (entry_at self.now.map pcid page ≡ Some entry) × (entry.frame ≡ frame) × (entry.dirty ≡ true))) }
+    {
+        note_slots(&self.slots, notes);
     }
 
     /// Takes away every entry of a page that maps this page of a file, in every space.
@@ -430,6 +450,26 @@ fn protect_slot<A: Allocator + Copy>(slot: &mut Option<Space<A>>, noted: &[bool]
 {
     if let Some(space) = slot {
         space.protect_frames(noted);
+    }
+}
+
+// Notes the frame of each dirty entry.
+fn note_slots<A: Allocator + Copy>(slots: &[Option<Space<A>>], notes: &mut [bool])
+    requires { AreBelow slots.now (length notes.old) }
+    ensures { NotesSlots slots.now (length slots.now) notes.old notes.new }
+{
+    for pcid in 0..slots.len() {
+        note_slot(&slots[pcid], notes);
+    }
+}
+
+fn note_slot<A: Allocator + Copy>(slot: &Option<Space<A>>, notes: &mut [bool])
+    requires { (s : SpaceState) (page : ℕ) (entry : Mapped) → slot.now ≡ Some s
+        → maps.get s.entries page ≡ Some entry → entry.frame < length notes.old }
+    ensures { NotesSlot slot.now notes.old notes.new }
+{
+    if let Some(space) = slot {
+        space.note_dirty(notes);
     }
 }
 

@@ -10,3 +10,4 @@ pub mod ReadingLemmas
 pub mod Functional
 pub mod Recovered
 pub mod Batches
+pub mod Public

@@ -40,6 +40,14 @@ impl<A: Allocator + Copy> Descriptor<A> {
     {
         &self.homes
     }
+
+    /// The same as a list, in the descriptor's own memory.
+    pub fn into_homes(self) -> Vec<u32, A>
+        ensures { result.items ≡ self.homes }
+    {
+        let Descriptor { homes, .. } = self;
+        homes
+    }
 }
 
 /// Whether the blocks rise strictly, from `low` on and below `high`.

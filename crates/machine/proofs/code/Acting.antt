@@ -1,12 +1,13 @@
 -- An act that leaves the device alone, as one act of the layers.
-use Rattle.std.proofs.Common.{ℕ, ◌≡◌, Bool, true, false, ◌&&◌, cond, List, [], length, Result, Ok, Err, is_err, is_none, refl, sym, ap, ◌∙◌, subst}
+use Rattle.std.proofs.Common.{ℕ, ◌≡◌, ◌≢◌, ◌+◌, ◌-◌, ◌^◌, ◌<◌, Bool, true, false, not, ◌&&◌, cond, List, [], length, Result, Ok, Err, is_err, is_none, refl, sym, ap, ◌∙◌, subst, arith}
 use Rattle.device.specs.Count.{raised}
 use Rattle.device.specs.Device.{LeavesOnly}
 use Rattle.device.specs.declared.device.Device.{Ghosts}
-use Rattle.device.proofs.Moments.{leaves_at_start}
+use Rattle.device.specs.Did.{Did}
+use Rattle.device.proofs.Public.{leaves_at_start, did_as}
 use Rattle.page_entry.specs.declared.refusal.Refusal.{Refusal}
 use Rattle.page_entry.specs.declared.refusal.Refusal.TheVariants as refusals
-use Rattle.journal.specs.Work.{Work, Nothing, TornFromWork}
+use Rattle.journal.specs.Work.{Work, WriteAt, CopyBlock, Sync, Nothing, TornFromWork, calls_of}
 use Rattle.fault.specs.Fixing.{ReadsOnce}
 use Rattle.machine.specs.declared.act.Act.{Act}
 use Rattle.machine.specs.declared.act.Act.TheVariants as acts
@@ -16,11 +17,10 @@ use Rattle.machine.specs.declared.act.Step.{Step}
 use Rattle.machine.specs.declared.layers.Layers.{Layers}
 use Rattle.machine.specs.State.{State}
 use Rattle.machine.specs.Refusals.{fix_refusal}
-use Rattle.machine.specs.Rules.{Acts, Fixes, Flushes}
-use Rattle.machine.specs.Calls.{CallsOf, reads_page, has_failed}
+use Rattle.machine.specs.Rules.{Acts, Fixes, Flushes, work_asked}
+use Rattle.machine.specs.Calls.{CallsOf, FlushCalls, reads_page, has_failed}
 use Rattle.machine.specs.Steps.{step_work}
 use Rattle.machine.specs.inside.Layers.{state_in, reply_to, AnswersBy, KeepsReserved, IsQuiet}
-use Rattle.machine.specs.inside.Flushing.{FlushesDevice, IsUnread}
 use Rattle.machine.specs.inside.Acting.{ActDone}
 
 -- the laws of a device that these lemmas rest on
@@ -59,23 +59,45 @@ module _ {D Z : Type 0} (disk : Ghosts D) (since_now : SinceNow disk) (old new :
 
 -- ---- a step of the write-outs
 
+-- a reply that isn't that a device call failed, and the counts of calls, by its work
+unfailed : (reply : Reply) → reply ≢ replies.Refused refusals.Device → not (has_failed reply) ≡ true
+unfailed (replies.Refused refusals.Device) other = absurd (other refl)
+unfailed reply other = refl
+
+few_calls : (work : Work) (calls : ℕ) → calls < 2 ^ 64 - 2 → calls + calls_of work < 2 ^ 64
+few_calls (WriteAt at bytes) calls few = omega (arith, few)
+few_calls (CopyBlock from to) calls few = omega (arith, few)
+few_calls Sync calls few = omega (arith, few)
+few_calls Nothing calls few = omega (arith, few)
+
+module _ {D : Type 0} (disk : Ghosts D) (s : State) (old new : D) where
+  flush_calls : (reply : Reply) → Did disk old (step_work s acts.Flush reply) (not (has_failed reply)) new → FlushCalls s reply (disk.calls_made old) (disk.calls_made new) (disk.faults_met old) (disk.faults_met new)
+  flush_calls replies.Going did = (λ few. did.calls (few_calls (work_asked s) _ few), did.faults)
+  flush_calls (replies.Committed number) did = (λ few. did.calls (few_calls (work_asked s) _ few), did.faults)
+  flush_calls (replies.Done number) did = (λ few. did.calls (few_calls (work_asked s) _ few), did.faults)
+  flush_calls (replies.Refused refusals.Device) did = (λ few. did.calls (few_calls (work_asked s) _ few), did.faults)
+  flush_calls (replies.Refused why) did = let same = did.still refl in (ap disk.calls_made same, ap disk.faults_met same)
+  flush_calls reply did = let same = did.still refl in (ap disk.calls_made same, ap disk.faults_met same)
+
 pub flush_done : {D Z : Type 0} (disk : Ghosts D) (old new : Layers D Z) (step : Step) (reply : Reply) → step.act ≡ acts.Flush
     → AnswersBy (disk.is_honest old.device) (λ d d'. Flushes (state_in old) d step.p reply (state_in new) d') (disk.seen old.device) (disk.seen new.device)
-    → FlushesDevice disk (state_in old) reply old.device new.device → IsUnread disk (state_in old) reply old.device new.device → KeepsReserved old new → ActDone disk old step reply new
-flush_done {D} disk old new step reply is rules device unread kept =
+    → Did disk old.device (step_work (state_in old) acts.Flush reply) (not (has_failed reply)) new.device → KeepsReserved old new → ActDone disk old step reply new
+flush_done {D} disk old new step reply is rules did kept =
     let here = sym is in
+    let its = did_as disk (ap (λ (a : Act). step_work (state_in old) a reply) here) refl did in
     record {
       rules = record {
         some_disk = (rules.some_disk.0, rules.some_disk.1, subst (λ (a : Act). Acts (state_in old) rules.some_disk.0 step.p a reply (state_in new) rules.some_disk.1) here rules.some_disk.2);
         own_disk = λ h. subst (λ (a : Act). Acts (state_in old) (disk.seen old.device) step.p a reply (state_in new) (disk.seen new.device)) here (rules.own_disk h);
       };
-      left = λ c may. subst (λ (a : Act). TornFromWork (step_work (state_in old) a reply) (disk.may_leave old.device) c) here (device.left c may);
-      sure = λ honest other sync. device.sure honest other (ap (λ (a : Act). step_work (state_in old) a reply) here ∙ sync);
-      unread = λ honest from to refused copy few calls. unread honest from to refused (ap (λ (a : Act). step_work (state_in old) a reply) here ∙ copy) few calls;
-      time = subst (λ (a : Act). LeavesOnly disk.moment disk.left_since old.device new.device (TornFromWork (step_work (state_in old) a reply) (disk.may_leave old.device))) here device.time;
-      honest = device.honest;
-      len = device.len;
-      calls = subst (λ (a : Act). CallsOf (state_in old) step.p a reply (disk.calls_made old.device) (disk.calls_made new.device) (disk.faults_met old.device) (disk.faults_met new.device)) here device.calls;
+      left = its.left;
+      sure = λ honest other sync. its.sure honest (unfailed reply other) sync;
+      unread = λ honest from to refused copy few calls. its.unread honest (ap (λ r. not (has_failed r)) refused) from to copy (omega (arith, few)) calls;
+      time = its.time;
+      honest = its.honest;
+      len = its.same_length;
+      calls = subst (λ (a : Act). CallsOf (state_in old) step.p a reply (disk.calls_made old.device) (disk.calls_made new.device) (disk.faults_met old.device) (disk.faults_met new.device)) here
+          (flush_calls disk (state_in old) old.device new.device reply did);
       kept = kept;
     }
 

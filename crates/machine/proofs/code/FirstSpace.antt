@@ -9,8 +9,7 @@ use Rattle.std.proofs.lemmas.List.Elements.{Contains-get_or, All-contains}
 use Rattle.std.specs.List.{All}
 use Rattle.page_entry.specs.Entry.{Mapped}
 use Rattle.spaces.specs.Spaces.{AddressSpace, Spaces, empty_space, has_space, space_at, first_spaces, AreSpaces}
-use Rattle.spaces.proofs.SpacesLaws.{same_spaces, has_space-first_spaces, get-with_space}
-use Rattle.spaces.proofs.ListedLaws.{in_pcids, Contains-pcids}
+use Rattle.spaces.proofs.Public.{same_spaces, has_space-first_spaces, get-with_space, in_pcids, Contains-pcids}
 
 -- a map that answers nothing is empty
 empty_map : {X : Type 0} (m : maps.FinMap nat_cmp X) → ((key : ℕ) → maps.get m key ≡ None) → m ≡ maps.empty

@@ -1,18 +1,20 @@
 -- How faults are served, by what the layer below did.
-use Rattle.std.proofs.Common.{ℕ, ◌≡◌, inl, inr, ◌*◌, ◌/◌, ◌≤◌, ◌&&◌, not, Bool, true, false, cond, List, [], ◌∷◌, ◌++◌, length, take, Option, Some, None, is_none, Result, Ok, refl, sym, ap, ◌∙◌, subst, ⊎_elim, arith}
+use Rattle.std.proofs.Common.{ℕ, ◌≡◌, inl, inr, ◌*◌, ◌/◌, ◌≤◌, ◌&&◌, ◌||◌, not, Bool, true, false, cond, List, [], ◌∷◌, ◌++◌, length, take, Option, Some, None, is_none, Result, Ok, refl, sym, ap, ◌∙◌, subst, ⊎_elim, arith}
 use Rattle.std.proofs.lemmas.List.{drop_at, take_all}
 use Rattle.page_entry.specs.declared.refusal.Refusal.{Refusal}
 use Rattle.page_entry.specs.declared.refusal.Refusal.TheVariants as refusals
 use Rattle.mappings.specs.declared.place.Place.{Place}
+use Rattle.mappings.specs.Places.{may_write}
+use Rattle.std.proofs.lemmas.Bool.{cond-false}
 use Rattle.volume_codec.specs.Text.{zeros}
 use Rattle.volume_codec.specs.Layout.{block_at}
-use Rattle.volume_codec.proofs.Padding.{length-zeros}
+use Rattle.volume_codec.proofs.Public.{length-zeros}
 use Rattle.frames.specs.Frames.{FramesState, has_free}
 use Rattle.spaces.specs.Spaces.{Spaces}
 use Rattle.shootdown.specs.Shootdown.{current, not_free}
 use Rattle.checkpoint.specs.Backing.{page_at}
 use Rattle.fault.specs.declared.page_fault.PageFault.{PageFault}
-use Rattle.fault.specs.Fault.{FaultServed, is_in_memory, copies_out, place_of_fault}
+use Rattle.fault.specs.Fault.{FaultServed, is_in_memory, copies_out, place_of_fault, fault_refusal}
 use Rattle.fault.specs.Fixing.{FixRefused, FixDone, refusal_of, reads_home, block_from, cut_to_length as cut_by}
 use Rattle.machine.specs.declared.act.Reply.TheVariants as replies
 use Rattle.machine.specs.State.{State, length_of, home_of, page_from}
@@ -20,6 +22,7 @@ use Rattle.machine.specs.Refusals.{served_refusal, fix_refusal}
 use Rattle.machine.specs.Calls.{is_absent, reads_page}
 use Rattle.machine.specs.Rules.{Fixes, with_hardware}
 use Rattle.machine.specs.inside.Layers.{AnswersBy}
+use Rattle.machine.proofs.track.Faults.{led_to}
 use Rattle.machine.proofs.code.Refused.{passed, found, alone, at_most}
 
 -- ---- refused before anything is read
@@ -95,7 +98,14 @@ module _ (s : State) (p va : ℕ) (write : Bool) (fault : PageFault) (at : IsFau
   pub same_refusal : fix_refusal s p va write ≡ refusal_of s.hardware.memory s.checkpoint fault
   same_refusal =
       fix_refusal-leads s p va write (Ok fault.place) at.free at.leads
-      ∙ (λ i. Rattle.fault.specs.Fault.fault_refusal s.hardware.memory s.checkpoint (sym at.broken i) fault.place (sym at.length_is i) (sym at.stores i))
+      ∙ (λ i. fault_refusal s.hardware.memory s.checkpoint (sym at.broken i) fault.place (sym at.length_is i) (sym at.stores i))
+      ∙ sym (cond-false (fault.write && not (may_write fault.place.rights)) _ _
+      (ap (λ b. b && not (may_write fault.place.rights)) at.stores ∙ and_not write (may_write fault.place.rights) (led_to s.hardware.spaces (current s.hardware.shootdown p) va write fault.place at.leads).allowed))
+    where
+      and_not : (a b : Bool) → (not a || b) ≡ true → (a && not b) ≡ false
+      and_not true true e = refl
+      and_not true false e = absurd (cc)
+      and_not false b e = refl
 
   pub same_reads : reads_page s p va write ≡ reads_home s.hardware.memory s.checkpoint fault
   same_reads = λ i. is_none (same_refusal i) && is_absent s (at.leads i)

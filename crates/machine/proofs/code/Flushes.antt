@@ -1,23 +1,28 @@
 -- Steps of the write-outs, by what the journal answers.
 use Rattle.std.proofs.Common.{ℕ, ◌≡◌, ◌≢◌, ◌⊎◌, Bool, true, false, not, cond, List, [], Option, Some, None, is_some, refl, sym, ap, ◌∙◌, subst, ⊎_elim}
+use Rattle.std.specs.Prelude.{MatchBool}
 use Rattle.device.specs.Device.{Torn}
 use Rattle.device.specs.declared.device.Device.{Ghosts}
-use Rattle.device.proofs.Moments.{leaves_at_start}
+use Rattle.device.specs.Did.{Did}
+use Rattle.device.proofs.Public.{did_nothing}
 use Rattle.page_entry.specs.declared.refusal.Refusal.{Refusal}
 use Rattle.page_entry.specs.declared.refusal.Refusal.TheVariants as refusals
 use Rattle.journal.specs.declared.flushed.Flushed.{Flushed}
 use Rattle.journal.specs.declared.flushed.Flushed.TheVariants as flushed
-use Rattle.journal.specs.Work.{Work, WriteAt, CopyBlock, Sync, Nothing, worked, TornByWork}
+use Rattle.journal.specs.Work.{Work, WriteAt, CopyBlock, Sync, Nothing, worked, TornByWork, has_done}
 use Rattle.journal.specs.WriteOuts.{WriteOutsValue, next_answer, outs_after, outs_record}
 use Rattle.shootdown.specs.Processors.{is_running}
 use Rattle.shootdown.specs.Shootdown.{ShootdownState, is_there, state_of, not_running}
+use Rattle.machine.specs.declared.act.Act.TheVariants as acts
 use Rattle.machine.specs.declared.act.Reply.{Reply}
 use Rattle.machine.specs.declared.act.Reply.TheVariants as replies
 use Rattle.machine.specs.State.{State}
 use Rattle.machine.specs.Refusals.{flush_refusal}
 use Rattle.machine.specs.Rules.{reply_to, after_record, work_asked, FlushMade, Flushes}
+use Rattle.machine.specs.Calls.{has_failed}
+use Rattle.machine.specs.Steps.{step_work}
 use Rattle.machine.specs.inside.Layers.{AnswersBy, reply_to as reply_by}
-use Rattle.machine.specs.inside.Flushing.{FlushesDevice, reply_of_flush, memory_after, checkpoint_after, released_memory, released_pages}
+use Rattle.machine.specs.inside.Flushing.{reply_of_flush, memory_after, checkpoint_after, released_memory, released_pages}
 
 -- the state after a step that the journal answers so
 abbrev pub stepped : State → Flushed → State
@@ -54,35 +59,42 @@ module _ (honest : Type 0) (s : State) (disk disk' : List ℕ) (p : ℕ) (allowe
 
   -- by the journal's answer, which isn't that it was broken before
   pub flushes_by : (answer : Flushed) → (answer ≡ next_answer s.write_outs) ⊎ (answer ≡ flushed.Device) → answer ≢ flushed.Broken
-      → (honest → answer ≢ flushed.Device → disk' ≡ worked disk (work_asked s)) → (honest → answer ≡ flushed.Device → TornByWork (work_asked s) disk disk')
+      → (honest → MatchBool (has_done answer) (disk' ≡ worked disk (work_asked s)) (TornByWork (work_asked s) disk disk'))
       → AnswersBy honest (λ d d'. Flushes s d p (reply_by (reply_of_flush answer)) (stepped s answer) d') disk disk'
-  flushes_by flushed.Going answered whole worked_so torn =
+  flushes_by flushed.Going answered whole seen =
       let is : flushed.Going ≡ next_answer s.write_outs = ⊎_elim (λ e. e) (λ e. absurd (cc)) answered in
       let all = made flushed.Going replies.Going (stepped s flushed.Going) refl is (with_record s (is_some (outs_record s.write_outs)) _ _ (ap (outs_after s.write_outs) is)) in
-      record { some_disk = ([], worked [] (work_asked s), all []); own_disk = λ h. own replies.Going (stepped s flushed.Going) all (worked_so h (λ e. cc)) }
-  flushes_by (flushed.Committed mark) answered whole worked_so torn =
+      record { some_disk = ([], worked [] (work_asked s), all []); own_disk = λ h. own replies.Going (stepped s flushed.Going) all (seen h) }
+  flushes_by (flushed.Committed mark) answered whole seen =
       let is : flushed.Committed mark ≡ next_answer s.write_outs = ⊎_elim (λ e. e) (λ e. absurd (cc)) answered in
       let new = stepped s (flushed.Committed mark) in
       let all = made (flushed.Committed mark) (replies.Committed mark) new refl is (with_record s (is_some (outs_record s.write_outs)) _ _ (ap (outs_after s.write_outs) is)) in
-      record { some_disk = ([], worked [] (work_asked s), all []); own_disk = λ h. own (replies.Committed mark) new all (worked_so h (λ e. cc)) }
-  flushes_by (flushed.Done mark) answered whole worked_so torn =
+      record { some_disk = ([], worked [] (work_asked s), all []); own_disk = λ h. own (replies.Committed mark) new all (seen h) }
+  flushes_by (flushed.Done mark) answered whole seen =
       let is : flushed.Done mark ≡ next_answer s.write_outs = ⊎_elim (λ e. e) (λ e. absurd (cc)) answered in
       let new = stepped s (flushed.Done mark) in
       let all = made (flushed.Done mark) (replies.Done mark) new refl is (with_record s (is_some (outs_record s.write_outs)) _ _ (ap (outs_after s.write_outs) is)) in
-      record { some_disk = ([], worked [] (work_asked s), all []); own_disk = λ h. own (replies.Done mark) new all (worked_so h (λ e. cc)) }
-  flushes_by flushed.Device answered whole worked_so torn = record {
+      record { some_disk = ([], worked [] (work_asked s), all []); own_disk = λ h. own (replies.Done mark) new all (seen h) }
+  flushes_by flushed.Device answered whole seen = record {
     some_disk = ([], [], record { allowed = allowed; some = some; done = refl; disk_torn = nothing_torn (work_asked s) });
-    own_disk = λ h. record { allowed = allowed; some = some; done = refl; disk_torn = torn h refl };
+    own_disk = λ h. record { allowed = allowed; some = some; done = refl; disk_torn = seen h };
   }
-  flushes_by flushed.Broken answered whole worked_so torn = absurd (whole refl)
+  flushes_by flushed.Broken answered whole seen = absurd (whole refl)
 
--- the reply tells that a device call failed
-pub device_is : (a : Flushed) → reply_by (reply_of_flush a) ≡ replies.Refused refusals.Device → a ≡ flushed.Device
-device_is flushed.Going e = cc
-device_is (flushed.Committed mark) e = cc
-device_is (flushed.Done mark) e = cc
-device_is flushed.Device e = refl
-device_is flushed.Broken e = cc
+-- what a step asks of the device and whether a call of it failed, by its reply
+pub answer_work : (s : State) (answer : Flushed) → answer ≢ flushed.Broken → step_work s acts.Flush (reply_by (reply_of_flush answer)) ≡ work_asked s
+answer_work s flushed.Going whole = refl
+answer_work s (flushed.Committed mark) whole = refl
+answer_work s (flushed.Done mark) whole = refl
+answer_work s flushed.Device whole = refl
+answer_work s flushed.Broken whole = absurd (whole refl)
+
+pub answer_done : (answer : Flushed) → has_done answer ≡ not (has_failed (reply_by (reply_of_flush answer)))
+answer_done flushed.Going = refl
+answer_done (flushed.Committed mark) = refl
+answer_done (flushed.Done mark) = refl
+answer_done flushed.Device = refl
+answer_done flushed.Broken = refl
 
 -- ---- refused before the device is asked
 
@@ -96,16 +108,9 @@ flushes_refused s p why d calm is = (record { reason_is = is; unchanged = refl }
 
 -- nothing is asked of the device then
 pub flush_untouched : {D : Type 0} (disk : Ghosts D) (since_now : (device : D) (c : List ℕ) → disk.left_since device (disk.moment device) c → disk.may_leave device c) (s : State) (why : Refusal) (device : D) → IsCalm why
-    → FlushesDevice disk s (replies.Refused why) device device
+    → Did disk device (step_work s acts.Flush (replies.Refused why)) (not (has_failed (replies.Refused why))) device
 flush_untouched disk since_now s refusals.Device device calm = absurd calm
-flush_untouched disk since_now s why device calm = record {
-  left = λ c may. may;
-  sure = λ honest other sync. absurd (cc);
-  time = leaves_at_start (λ c left. since_now device c left);
-  honest = ((λ h. h), (λ h. h));
-  len = refl;
-  calls = (refl, refl);
-}
+flush_untouched disk since_now s why device calm = did_nothing disk device (since_now device)
 
 pub calm-not_running : (s : ShootdownState) (p : ℕ) (why : Refusal) → not_running s p ≡ Some why → IsCalm why
 calm-not_running s p why is = by (is_there s p) (is_running (state_of s p)) is

@@ -1,5 +1,6 @@
 -- What is reserved for a change that is under way stays reserved.
 use Rattle.std.proofs.Common.{ℕ, ◌≡◌, Option, Some, None, sym, ◌∙◌, subst}
+use Rattle.mappings.specs.declared.place.Rights.{Rights}
 use Rattle.mappings.specs.declared.page_range.PageRange.{PageRange}
 use Rattle.shootdown.specs.declared.lock.Lock.{Lock}
 use Rattle.machine.specs.inside.Layers.{IsReserved, AreReserved}
@@ -8,13 +9,13 @@ same_lock : {a b : Lock} → Some a ≡ Some b → a ≡ b
 same_lock e = cc
 
 -- the lock and what is prepared are as before
-pub reserved_same : (old new : Option Lock) (was now : Option (ℕ × PageRange)) → new ≡ old → now ≡ was → AreReserved old was → AreReserved new now
+pub reserved_same : (old new : Option Lock) (was now : Option (ℕ × PageRange × Option Rights)) → new ≡ old → now ≡ was → AreReserved old was → AreReserved new now
 reserved_same old new was now lock prepared are = λ held is. subst (IsReserved held.change) (sym prepared) (are held (sym lock ∙ is))
 
 -- nothing is under way
-pub reserved_free : (lock : Option Lock) (now : Option (ℕ × PageRange)) → lock ≡ None → AreReserved lock now
+pub reserved_free : (lock : Option Lock) (now : Option (ℕ × PageRange × Option Rights)) → lock ≡ None → AreReserved lock now
 reserved_free lock now free = λ held is. absurd (cc)
 
 -- a change began
-pub reserved_begun : (lock : Option Lock) (held : Lock) (now : Option (ℕ × PageRange)) → lock ≡ Some held → IsReserved held.change now → AreReserved lock now
+pub reserved_begun : (lock : Option Lock) (held : Lock) (now : Option (ℕ × PageRange × Option Rights)) → lock ≡ Some held → IsReserved held.change now → AreReserved lock now
 reserved_begun lock held now is reserved = λ other was. subst (λ (x : Lock). IsReserved x.change now) (same_lock (sym is ∙ was)) reserved

@@ -4,7 +4,6 @@ use Rattle.device.specs.declared.device.Device.{Ghosts}
 use Rattle.machine.specs.declared.act.Reply.{Reply}
 use Rattle.machine.specs.declared.act.Step.{Step}
 use Rattle.machine.specs.State.{Whole}
-use Rattle.machine.specs.Rules.{Run}
 use Rattle.machine.specs.Runs.{StepTaken, StepsTaken}
 
 -- one step more
@@ -14,15 +13,6 @@ steps_more {D} disk old [] [] mid step reply new taken next = (new, subst (λ (x
 steps_more {D} disk old (first ∷ steps) (told ∷ replies) mid step reply new taken next = (taken.0, taken.1, steps_more disk taken.0 steps replies mid step reply new taken.2 next)
 steps_more {D} disk old [] (told ∷ replies) mid step reply new taken next = absurd taken
 steps_more {D} disk old (first ∷ steps) [] mid step reply new taken next = absurd taken
-
--- over an honest device the rules hold throughout
-pub run_taken : {D : Type 0} (disk : Ghosts D) (old : Whole D) (steps : List Step) (replies : List Reply) (new : Whole D) → disk.is_honest old.device → StepsTaken disk old steps replies new
-    → Run old.state (disk.seen old.device) steps replies new.state (disk.seen new.device)
-run_taken {D} disk old [] [] new honest taken = (ap (λ (x : Whole D). x.state) taken, ap (λ (x : Whole D). disk.seen x.device) taken)
-run_taken {D} disk old (step ∷ steps) (reply ∷ replies) new honest taken =
-    (taken.0.state, disk.seen taken.0.device, (taken.1.made honest).answered, run_taken disk taken.0 steps replies new (taken.1.honest.1 honest) taken.2)
-run_taken {D} disk old [] (reply ∷ replies) new honest taken = absurd taken
-run_taken {D} disk old (step ∷ steps) [] new honest taken = absurd taken
 
 pub honest_taken : {D : Type 0} (disk : Ghosts D) (old : Whole D) (steps : List Step) (replies : List Reply) (new : Whole D) → StepsTaken disk old steps replies new
     → disk.is_honest new.device ↔ disk.is_honest old.device

@@ -1,5 +1,5 @@
 -- One step of a machine, by what its layers did.
-use Rattle.std.proofs.Common.{◌≢◌, ap, arith}
+use Rattle.std.proofs.Common.{◌≡◌, ◌≢◌, ap, arith}
 use Rattle.device.specs.declared.device.Device.{Ghosts}
 use Rattle.page_entry.specs.declared.refusal.Refusal.TheVariants as refusals
 use Rattle.volume_codec.specs.Super.{SuperValue, block_count}
@@ -7,11 +7,12 @@ use Rattle.machine.specs.declared.act.Reply.{Reply}
 use Rattle.machine.specs.declared.act.Reply.TheVariants as replies
 use Rattle.machine.specs.declared.act.Step.{Step}
 use Rattle.machine.specs.declared.layers.Layers.{Layers}
+use Rattle.machine.specs.Rules.{WantsMemory}
 use Rattle.machine.specs.Steps.{StepMade}
 use Rattle.machine.specs.inside.Layers.{state_in, whole_in, AreLayers}
 use Rattle.machine.specs.inside.Acting.{ActDone}
 use Rattle.machine.proofs.sound.Kept.{sound_kept}
-use Rattle.machine.proofs.sound.Replies.{reply_not_full}
+use Rattle.machine.proofs.sound.Replies.{reply_not_full, reply_wants}
 
 module _ {D Z : Type 0} (disk : Ghosts D) (old new : Layers D Z) (step : Step) (reply : Reply) (done : ActDone disk old step reply new) where
   -- what holds of every machine still does
@@ -34,3 +35,6 @@ module _ {D Z : Type 0} (disk : Ghosts D) (old new : Layers D Z) (step : Step) (
 
   pub not_full : reply ≢ replies.Refused refusals.TraceFull
   not_full = reply_not_full (state_in old) done.rules.some_disk.0 step reply (state_in new) done.rules.some_disk.1 done.rules.some_disk.2
+
+  pub wants_memory : reply ≡ replies.Refused refusals.OutOfMemory → WantsMemory (state_in old) step.p step.act
+  wants_memory = reply_wants (state_in old) done.rules.some_disk.0 step reply (state_in new) done.rules.some_disk.1 done.rules.some_disk.2

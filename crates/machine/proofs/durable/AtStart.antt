@@ -9,13 +9,12 @@ use Rattle.volume_codec.specs.Layout.{block_at, first_file_home}
 use Rattle.volume_codec.specs.Super.{pages_of, total_pages, geometry_of, block_count}
 use Rattle.volume_codec.specs.Text.{padded}
 use Rattle.volume_codec.specs.Recovery.{IsVolume, blocks_from, files_from, files_in, lengths_in}
-use Rattle.volume_codec.proofs.Padding.{length-padded}
-use Rattle.volume_codec.proofs.Places.{fits_geometry}
+use Rattle.volume_codec.proofs.Public.{length-padded, fits_geometry}
 use Rattle.checkpoint.specs.Checkpoint.{CheckpointState}
 use Rattle.journal.specs.WriteOut.{WriteOut}
 use Rattle.journal.specs.WriteOuts.{WriteOutsValue, none_of, has_uncommitted}
 use Rattle.journal.specs.inside.Standing.{IsStanding}
-use Rattle.journal.proofs.StandsKept.{stands_first}
+use Rattle.journal.proofs.Public.{stands_first}
 use Rattle.machine.specs.History.{Mark, Acknowledge, page_of, file_bytes, memory_of}
 use Rattle.machine.specs.State.{State, Whole, home_of, length_of, cut_at_end}
 use Rattle.machine.specs.Rules.{bytes_at_mark}
@@ -148,6 +147,7 @@ durable_at_start ghosts files start sound begins =
         grown = λ n has. absurd (contains_none (Acknowledge n) has);
         marks = subst (λ (o : WriteOutsValue). All (λ (w : WriteOut). Contains [] (Mark w.batch.mark)) o.batches) (sym outs) (λ k d lt. absurd (omega arith));
         fresh = λ y there early has. contains_none (Mark y.batch.mark) has;
+        only = record { each = λ n has. absurd (contains_none (Mark n) has); in_before = λ n has. absurd (contains_none (Mark n) has); in_marked = λ n has. absurd (contains_none (Mark n) has) };
         numbered = λ n has. absurd (contains_none (Mark n) has);
         ready = λ broken held. ap (λ (o : WriteOutsValue). has_uncommitted o.batches) outs;
         clean = inr (λ owner is untouched. parts owner is);

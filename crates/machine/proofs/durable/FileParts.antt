@@ -6,7 +6,7 @@ use Rattle.volume_codec.specs.Files.{File, TableFile}
 use Rattle.volume_codec.specs.Layout.{first_file_home}
 use Rattle.volume_codec.specs.Super.{pages_of, total_pages}
 use Rattle.volume_codec.specs.Recovery.{blocks_from, files_from, files_in}
-use Rattle.volume_codec.proofs.Padding.{take-past}
+use Rattle.volume_codec.proofs.Public.{take-past}
 use Rattle.machine.specs.History.{Memory, bytes_of_pages, files_from_memory}
 use Rattle.machine.specs.History.{files_in as files_of}
 use Rattle.machine.specs.State.{State, home_of, length_of}

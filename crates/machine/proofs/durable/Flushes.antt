@@ -1,9 +1,9 @@
 -- A step of the write-outs: Old and New stay, until the batch that wasn't committed is; then what was New is Old, too.
-use Rattle.std.proofs.Common.{◌≡◌, ◌<◌, ◌≤◌, ◌==◌, ℕ, zero, suc, cond, Bool, true, false, List, [], ◌∷◌, ◌++◌, length, drop, get_or, Option, Some, None, inl, inr, refl, sym, ap, ◌∙◌, subst, arith}
+use Rattle.std.proofs.Common.{◌≡◌, ◌<◌, ◌≤◌, ◌==◌, ◌⊎◌, ℕ, zero, suc, cond, Bool, true, false, List, [], ◌∷◌, ◌++◌, length, drop, get_or, Option, Some, None, inl, inr, refl, sym, ap, ◌∙◌, subst, arith}
 use Rattle.std.specs.Option.{option_map_or}
 use Rattle.std.specs.List.{Contains, All}
 use Rattle.std.proofs.lemmas.Bool.{cond-false, both_ways, or_parts}
-use Rattle.std.proofs.lemmas.List.Elements.{Contains-get_or, Contains-push_cases, Contains-append_cases, All-contains}
+use Rattle.std.proofs.lemmas.List.Elements.{Contains-get_or, Contains-push, Contains-push_cases, Contains-append_cases, All-contains}
 use Rattle.page_entry.specs.declared.numbers.FilePage.{FilePage}
 use Rattle.volume_codec.specs.Files.{File}
 use Rattle.volume_codec.specs.Layout.{journals_of}
@@ -19,8 +19,7 @@ use Rattle.journal.specs.WriteOut.{WriteOut, has_committed, broken_after, answer
 use Rattle.journal.specs.WriteOuts.{WriteOutsValue, has_uncommitted, current, next_answer, outs_after, outs_home, current_stage, batches_after}
 use Rattle.journal.specs.Crash.{LeftWithin}
 use Rattle.journal.specs.inside.Standing.{IsStanding}
-use Rattle.journal.proofs.Batches.{batch_before}
-use Rattle.journal.proofs.StandsKept.{stands_within, stands_after, stands_failed, stands_other}
+use Rattle.journal.proofs.Public.{batch_before, stands_within, stands_after, stands_failed, stands_other}
 use Rattle.spaces.specs.declared.change.Change.TheVariants.{Checkpoint}
 use Rattle.shootdown.specs.declared.lock.Lock.{Lock}
 use Rattle.shootdown.specs.Shootdown.{not_running}
@@ -31,15 +30,16 @@ use Rattle.machine.specs.Refusals.{flush_refusal}
 use Rattle.machine.specs.Rules.{next_page, next_record, work_asked, after_record, after_failure, bytes_with, bytes_at_mark}
 use Rattle.machine.specs.inside.Sound.{IsSound, IsPrepared}
 use Rattle.machine.specs.Told.{Told}
-use Rattle.machine.specs.inside.Tracking.{change_in, AreContentsOf, HasAcknowledged, IsWritten}
+use Rattle.machine.specs.inside.Tracking.{change_in, AreContentsOf, HasAcknowledged, IsLost, IsWaiting, AreMarks, IsWritten}
 use Rattle.machine.specs.Durability.{IsInFile, within_file}
 use Rattle.machine.proofs.durable.Lists.{some_same, none_some}
 use Rattle.machine.proofs.durable.Histories.{IsUntouched, quiet_untouched, touched-append, after-append, acknowledge_same, acknowledge_no_mark, acknowledged_more}
 use Rattle.machine.proofs.durable.Pages.{bytes_with-freed}
 use Rattle.machine.proofs.durable.Leaves.{SameFiles, in_file_as, part_as, contents_more, record_as, AreFrozenRecords}
 use Rattle.machine.proofs.durable.Marks.{IsDurable}
-use Rattle.machine.proofs.durable.Uncommitted.{none_uncommitted, uncommitted_before}
-use Rattle.machine.proofs.durable.Quiet.{second_not_refused}
+use Rattle.machine.proofs.durable.Settled.{marks_more, marks_settled}
+use Rattle.machine.proofs.durable.Uncommitted.{none_uncommitted, uncommitted_before, waits_after}
+use Rattle.machine.proofs.sound.Admitted.{second_not_refused}
 use Rattle.machine.proofs.durable.Records.{size_of_record, record_is_new, commits}
 
 -- ---- what is told grows by events that touch no page
@@ -64,13 +64,13 @@ IsFresh x before = (y : WriteOut) → Contains x.write_outs.batches y → has_co
 module _ (files : List File) (told : Told) (s x : State) (old new : ℕ → List ℕ) (w : IsWritten files told s old new) (events : List Event) (calm : AreCalm files told.history events) (same : SameFiles s x)
     (acks : (n : ℕ) → Contains events (Acknowledge n) → Contains w.marked (Mark n)) (marks : All (λ (y : WriteOut). Contains w.marked (Mark y.batch.mark)) x.write_outs.batches)
     (ready : x.write_outs.broken ≡ true → change_in x.hardware.shootdown.lock ≡ Some Checkpoint → has_uncommitted x.write_outs.batches ≡ false) (whole : s.write_outs.broken ≡ false) (frozen : AreFrozenRecords x new)
-    (unmarked : (n : ℕ) → Contains events (Mark n) → ⊥) (same_marks : x.marks ≡ s.marks) where
+    (unmarked : (n : ℕ) → Contains events (Mark n) → ⊥) (same_marks : x.marks ≡ s.marks) (only : AreMarks (told.history ++ events) w.before w.marked x) where
   abbrev now : Told
   now = record told { history = told.history ++ events }
 
   -- with another Old
-  pub written_on : (other : ℕ → List ℕ) (before : List Event) → AreContentsOf files (told.history ++ events) x other before → HasAcknowledged before (told.history ++ events) → IsFresh x before → IsWritten files now x other new
-  written_on other before are acknowledged fresh = record {
+  pub written_on : (other : ℕ → List ℕ) (before : List Event) → AreContentsOf files (told.history ++ events) x other before → HasAcknowledged before (told.history ++ events) → IsFresh x before → AreMarks (told.history ++ events) before w.marked x → IsWritten files now x other new
+  written_on other before are acknowledged fresh only = record {
     before = before;
     old_are = are;
     acknowledged = acknowledged;
@@ -79,6 +79,7 @@ module _ (files : List File) (told : Told) (s x : State) (old new : ℕ → List
     grown = acknowledged_more w.marked told.history events acks w.grown;
     marks = marks;
     fresh = fresh;
+    only = only;
     numbered = λ n has. elim (Contains-append_cases told.history events (Mark n) has) [ inl was ↦ subst (λ m. n ≤ m) (sym same_marks) (w.numbered n was) | inr this ↦ absurd (unmarked n this) ];
     ready = ready;
     clean = inr (λ owner is untouched.
@@ -93,11 +94,11 @@ module _ (files : List File) (told : Told) (s x : State) (old new : ℕ → List
 
   -- with the same Old
   pub written_same : ((n : ℕ) → Contains events (Acknowledge n) → Contains w.before (Mark n)) → IsFresh x w.before → IsWritten files now x old new
-  written_same old_acks fresh = written_on old w.before (contents_more files told.history events s x same old w.before w.old_are) (acknowledged_more w.before told.history events old_acks w.acknowledged) fresh
+  written_same old_acks fresh = written_on old w.before (contents_more files told.history events s x same old w.before w.old_are) (acknowledged_more w.before told.history events old_acks w.acknowledged) fresh only
 
   -- where New is Old, too
-  pub written_new : IsFresh x w.marked → IsWritten files now x new new
-  written_new fresh = written_on new w.marked (contents_more files told.history events s x same new w.marked w.new_are) (acknowledged_more w.marked told.history events acks w.grown) fresh
+  pub written_new : IsFresh x w.marked → ((n : ℕ) → IsWaiting x.write_outs.batches n → ⊥) → IsWritten files now x new new
+  written_new fresh none = written_on new w.marked (contents_more files told.history events s x same new w.marked w.new_are) (acknowledged_more w.marked told.history events acks w.grown) fresh (marks_settled w.before w.marked (told.history ++ events) x none only)
 
 -- ---- what the state is after a step
 
@@ -184,6 +185,10 @@ module _ (files : List File) (told : Told) (s : State) (seen : List ℕ) (may : 
   pub flush_within : (c : List ℕ) → TornFromWork (work_asked s) may c → LeftWithin s.table old new (current_stage s.write_outs) c
   flush_within c torn = stands_within s.table old new s.write_outs seen may (next_record s) (size_of_record s sound) stands flush_whole some is_new c torn
 
+  -- no mark was lost so far
+  never_lost : {x : State} → IsLost s → IsLost x
+  never_lost lost = absurd (both_ways s.write_outs.broken flush_whole lost.broken)
+
   -- a device call failed
   not_busy : change_in s.hardware.shootdown.lock ≡ Some Checkpoint → has_uncommitted s.write_outs.batches ≡ false
   not_busy held = by s.hardware.shootdown.lock refl held
@@ -200,7 +205,7 @@ module _ (files : List File) (told : Told) (s : State) (seen : List ℕ) (may : 
     new = new;
     stands = stands_failed s.table old new s.write_outs seen may (next_record s) (size_of_record s sound) stands flush_whole some is_new seen' may' left;
     written = written_same files told s (after_failure s) old new w [] (calm_none files told.history) (record { table = refl; lengths = refl }) (λ n has. absurd (omega (arith, has.1))) w.marks (λ broken held. not_busy held) flush_whole (λ k d lt. absurd (omega arith))
-        (λ n has. absurd (omega (arith, has.1))) refl (λ n has. absurd (omega (arith, has.1))) w.fresh;
+        (λ n has. absurd (omega (arith, has.1))) refl (marks_more w.before w.marked told.history [] s (after_failure s) (λ n has. absurd (omega (arith, has.1))) (λ n wait. inr wait) never_lost w.only) (λ n has. absurd (omega (arith, has.1))) w.fresh;
   })
 
   -- all its device calls succeeded
@@ -240,14 +245,22 @@ module _ (files : List File) (told : Told) (s : State) (seen : List ℕ) (may : 
         let was = uncommitted_before (next_answer s.write_outs) s.write_outs.batches y (batches_now y there) early in
         w.fresh was.before was.there was.early (subst (λ (b : Batch). Contains w.before (Mark b.mark)) (sym was.batch) has)
 
+    -- what waited still does, or is committed now
+    waits_now : (n : ℕ) → IsWaiting s.write_outs.batches n → IsWaiting after_it.write_outs.batches n ⊎ (next_answer s.write_outs ≡ flushed.Committed n)
+    waits_now n wait = elim (waits_after s.write_outs.batches (next_answer s.write_outs) (sym (cond-false s.write_outs.broken flushed.Broken (option_map_or answer_of (current s.write_outs.batches) flushed.Broken) flush_whole)) n wait) [
+      | inl still ↦ inl (subst (λ (o : WriteOutsValue). IsWaiting o.batches n) (sym (same_outs s outs records)) still)
+      | inr e ↦ inr e
+    ]
+
     -- the batch isn't committed by it, or was before
-    pub flush_goes_on : (next_answer s.write_outs ≡ flushed.Device → ⊥) → IsDurable files (record told { history = told.history ++ [] }) after_it (worked seen (work_asked s)) may'
-    flush_goes_on other = record {
+    pub flush_goes_on : (next_answer s.write_outs ≡ flushed.Device → ⊥) → ((n : ℕ) → next_answer s.write_outs ≡ flushed.Committed n → ⊥) → IsDurable files (record told { history = told.history ++ [] }) after_it (worked seen (work_asked s)) may'
+    flush_goes_on other uncommitting = record {
       old = old;
       new = new;
       stands = stands_as old stands_now;
       written = written_same files told s after_it old new w [] (calm_none files told.history) (same_files s outs records) (λ n has. absurd (omega (arith, has.1))) marks_now (ready_now other) flush_whole (stepped_records s outs records new sound w.frozen)
-          (λ n has. absurd (omega (arith, has.1))) (same_number s outs records) (λ n has. absurd (omega (arith, has.1))) fresh_still;
+          (λ n has. absurd (omega (arith, has.1))) (same_number s outs records)
+          (marks_more w.before w.marked told.history [] s after_it (λ n has. absurd (omega (arith, has.1))) (λ n wait. elim (waits_now n wait) [ inl still ↦ inr still | inr e ↦ absurd (uncommitting n e) ]) never_lost w.only) (λ n has. absurd (omega (arith, has.1))) fresh_still;
     }
 
     -- it is
@@ -262,11 +275,16 @@ module _ (files : List File) (told : Told) (s : State) (seen : List ℕ) (may : 
           new = new;
           stands = stands_as new (stands_other s.table old new new outs (worked seen (work_asked s)) may' none stands_now);
           written = written_new files told s after_it old new w (Acknowledge number ∷ []) (calm_acknowledge files told.history number) (same_files s outs records) (acknowledges in_new) marks_now (ready_now (λ e. never number (sym is ∙ e))) flush_whole (stepped_records s outs records new sound w.frozen)
-              (acknowledge_no_mark number) (same_number s outs records) (λ y there early has. none_uncommitted outs.batches y none (batches_now y there) early);
+              (acknowledge_no_mark number) (same_number s outs records)
+              (marks_more w.before w.marked told.history (Acknowledge number ∷ []) s after_it (acknowledge_no_mark number) (λ n wait. elim (waits_now n wait) [ inl still ↦ inr still | inr e ↦ inl (this_acked n (sym is ∙ e)) ]) never_lost w.only)
+              (λ y there early has. none_uncommitted outs.batches y none (batches_now y there) early) (λ n wait. none_uncommitted outs.batches wait.w none (batches_now wait.w wait.there) wait.early);
         }
       where
         never : (n : ℕ) → flushed.Committed n ≡ flushed.Device → ⊥
         never n e = cc
+
+        this_acked : (n : ℕ) → flushed.Committed number ≡ flushed.Committed n → Contains (told.history ++ Acknowledge number ∷ []) (Acknowledge n)
+        this_acked n e = let same : number ≡ n = cc in subst (λ k. Contains (told.history ++ Acknowledge number ∷ []) (Acknowledge k)) same (Contains-push told.history (Acknowledge number))
 
         acknowledges : Contains w.marked (Mark number) → (n : ℕ) → Contains (Acknowledge number ∷ []) (Acknowledge n) → Contains w.marked (Mark n)
         acknowledges has n there = elim (Contains-push_cases [] (Acknowledge number) (Acknowledge n) there) [

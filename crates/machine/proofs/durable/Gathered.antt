@@ -10,7 +10,7 @@ use Rattle.machine.specs.Told.{Told}
 use Rattle.machine.specs.inside.Tracking.{AreTouched}
 
 -- a store that is in no mark yet touched some page
-some_touched : (touched : ℕ → ℕ → Bool) (before : Bool) (events : List Event) → (before ≡ true → (file page : ℕ) × (touched file page ≡ true)) → unmarked_after before events ≡ true
+pub some_touched : (touched : ℕ → ℕ → Bool) (before : Bool) (events : List Event) → (before ≡ true → (file page : ℕ) × (touched file page ≡ true)) → unmarked_after before events ≡ true
     → (file page : ℕ) × (touched_after file page (touched file page) events ≡ true)
 some_touched touched before [] some stored = some stored
 some_touched touched before (Store f offset bytes ∷ events) some stored =

@@ -8,12 +8,12 @@ use Rattle.volume_codec.specs.Files.{File}
 use Rattle.volume_codec.specs.Super.{SuperValue}
 use Rattle.volume_codec.specs.Recovery.{RecoversTo, IsNotAVolume, IsDamaged}
 use Rattle.recovery.specs.Counts.{HasCause}
-use Rattle.recovery.specs.Opening.{HasOpened, HasRefused, Opens}
+use Rattle.recovery.specs.Opening.{HasOpened, HasRefused}
 use Rattle.recovery.specs.Openings.{IsLater, RecoversAs}
 use Rattle.recovery.specs.Volume.{files_of}
 use Rattle.machine.specs.History.{Event, files_after}
 use Rattle.machine.specs.Laws.{ReadsBack}
-use Rattle.machine.specs.Later.{AreDurable, OpensTo, Finds, FindsDurable}
+use Rattle.machine.specs.Later.{OpensTo, Finds, FindsDurable}
 
 -- a list that recovers as another has its files
 recovers_as : (lists : List ℕ → Type 0) (c : List ℕ) (alike : RecoversAs lists c) (files : List File) → RecoversTo alike.0 files → RecoversTo c files

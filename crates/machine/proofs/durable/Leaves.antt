@@ -11,9 +11,10 @@ use Rattle.machine.specs.History.{Event, Memory, Mark, memory_of, after, is_touc
 use Rattle.machine.specs.State.{State, home_of, cut_at_end}
 use Rattle.machine.specs.Rules.{bytes_at_mark}
 use Rattle.machine.specs.Told.{Told}
-use Rattle.machine.specs.inside.Tracking.{change_in, HasParts, AreContentsOf, HasAcknowledged, IsLost, IsWritten}
+use Rattle.machine.specs.inside.Tracking.{change_in, HasParts, AreContentsOf, HasAcknowledged, IsLost, IsWaiting, AreMarks, IsWritten}
 use Rattle.machine.specs.Durability.{IsInFile, within_file}
 use Rattle.machine.proofs.durable.Histories.{IsQuiet, quiet_acknowledges, quiet_marks, quiet_untouched, begins_more, acknowledged_more}
+use Rattle.machine.proofs.durable.Settled.{marks_more}
 
 -- ---- the files stay
 
@@ -92,6 +93,8 @@ written_left files told told' events s x old new grows quiet leaves w =
       grown = history_as (HasAcknowledged w.marked) (acknowledged_more w.marked told.history events (λ n has. absurd (quiet_acknowledges events n quiet has)) w.grown);
       marks = subst (λ (o : WriteOutsValue). All (λ batch. Contains w.marked (Mark batch.batch.mark)) o.batches) (sym leaves.write_outs) w.marks;
       fresh = λ y there early. w.fresh y (subst (λ (o : WriteOutsValue). Contains o.batches y) leaves.write_outs there) early;
+      only = history_as (λ h. AreMarks h w.before w.marked x)
+          (marks_more w.before w.marked told.history events s x (λ n has. quiet_marks events n quiet has) (λ n wait. inr (subst (λ (o : WriteOutsValue). IsWaiting o.batches n) (sym leaves.write_outs) wait)) lost_as w.only);
       numbered = history_as (λ h. (n : ℕ) → Contains h (Mark n) → n ≤ x.marks) (λ n has. elim (Contains-append_cases told.history events (Mark n) has) [
         | inl before ↦ subst (λ m. n ≤ m) (sym leaves.marks) (w.numbered n before)
         | inr now ↦ absurd (quiet_marks events n quiet now)
@@ -103,9 +106,12 @@ written_left files told told' events s x old new grows quiet leaves w =
       frozen = records_as s x leaves new w.frozen;
     }
   where
+    lost_as : IsLost s → IsLost x
+    lost_as lost = record { broken = ap (λ (o : WriteOutsValue). o.broken) leaves.write_outs ∙ lost.broken; no_mark = λ held. lost.no_mark (leaves.lock lost.broken held) }
+
     clean_as : IsLost s ⊎ ((owner : FilePage) → IsInFile s owner → is_touched told.history owner.file owner.page ≡ false → within_file s owner (new (home_of s.table owner)) ≡ within_file s owner (after (memory_of files) told.history owner.file owner.page))
         → IsLost x ⊎ ((owner : FilePage) → IsInFile x owner → is_touched told'.history owner.file owner.page ≡ false → within_file x owner (new (home_of x.table owner)) ≡ within_file x owner (after (memory_of files) told'.history owner.file owner.page))
-    clean_as (inl lost) = inl (record { broken = ap (λ (o : WriteOutsValue). o.broken) leaves.write_outs ∙ lost.broken; no_mark = λ held. lost.no_mark (leaves.lock lost.broken held) })
+    clean_as (inl lost) = inl (lost_as lost)
     clean_as (inr clean) = inr (λ owner is untouched.
         let still = quiet_untouched (memory_of files) told.history events owner.file owner.page quiet (sym (ap (λ (h : List Event). is_touched h owner.file owner.page) grows) ∙ untouched) in
         part_as s x leaves.files owner new (after (memory_of files) told'.history owner.file owner.page)

@@ -2,7 +2,7 @@
 use Rattle.std.proofs.Common.{◌≡◌, ◌<◌, ◌≤◌, ◌+◌, ◌^◌, ◌==◌, ◌⊎◌, ℕ, cond, Bool, true, false, not, List, [], ◌∷◌, ◌++◌, length, map, get_or, Some, None, inl, inr, refl, sym, ap, ◌∙◌, subst, arith, append_assoc}
 use Rattle.std.specs.List.{Contains, All, AllByRecursion}
 use Rattle.std.proofs.lemmas.Bool.{cond-true, cond-false, cases_Bool, both_ways, or_parts, not_from_true, not_from_false, false_from_ne_true}
-use Rattle.std.proofs.lemmas.List.Elements.{Contains-append_left, Contains-append_cases, Contains-push, Contains-push_cases, Contains-get_or, All-push, All-weaker, recursion_from_All}
+use Rattle.std.proofs.lemmas.List.Elements.{Contains-append_left, Contains-append_right, Contains-append_cases, Contains-push, Contains-push_cases, Contains-get_or, All-push, All-weaker, recursion_from_All}
 use Rattle.page_entry.specs.declared.numbers.FilePage.{FilePage}
 use Rattle.volume_codec.specs.Files.{File}
 use Rattle.volume_codec.specs.Layout.{GeometryValue, journals_of}
@@ -11,7 +11,7 @@ use Rattle.volume_codec.specs.Descriptor.{AreHomes}
 use Rattle.journal.specs.WriteOut.{WriteOut, begun_of, has_committed}
 use Rattle.journal.specs.WriteOuts.{WriteOutsValue, has_uncommitted, is_busy, next_batch, begun}
 use Rattle.journal.specs.inside.Standing.{IsStanding}
-use Rattle.journal.proofs.StandsKept.{stands_begun, stands_other}
+use Rattle.journal.proofs.Public.{stands_begun, stands_other}
 use Rattle.spaces.specs.declared.change.Change.TheVariants.{Checkpoint}
 use Rattle.spaces.specs.Spaces.{Spaces}
 use Rattle.checkpoint.specs.Checkpoint.{CheckpointState, Gathers, without_notes}
@@ -20,12 +20,13 @@ use Rattle.machine.specs.State.{State, home_of, cut_at_end}
 use Rattle.machine.specs.Rules.{MarkMade, end_change, with_batch, bytes_at_mark}
 use Rattle.machine.specs.inside.Sound.{IsSound}
 use Rattle.machine.specs.Told.{Told}
-use Rattle.machine.specs.inside.Tracking.{change_in, HasParts, AreContentsOf, HasAcknowledged, IsLost, IsWritten, IsLatest, AreTouched}
+use Rattle.machine.specs.inside.Tracking.{change_in, HasParts, AreContentsOf, HasAcknowledged, IsLost, IsWaiting, AreMarks, IsWritten, IsLatest, AreTouched}
 use Rattle.machine.specs.Durability.{IsInFile, within_file}
 use Rattle.machine.proofs.durable.Histories.{marked_by, after_mark, after_marked, only_itself, only_marked, unmarked_by_touched, in_history, acknowledged_more}
 use Rattle.machine.proofs.durable.Waiting.{committed_frozen}
 use Rattle.machine.proofs.durable.Leaves.{contents_more}
-use Rattle.machine.proofs.durable.Uncommitted.{none_uncommitted}
+use Rattle.machine.proofs.durable.Gathered.{some_touched}
+use Rattle.machine.proofs.durable.Uncommitted.{none_uncommitted, begun_early}
 use Rattle.machine.proofs.durable.Overlays.{within_cut, overlaid, overlaid-other, overlaid-at, overlaid-elsewhere, bytes_at_mark-held}
 
 -- what the device recovers to goes with what is told
@@ -48,6 +49,7 @@ written_as files told told' s old new same w =
       grown = moved (HasAcknowledged w.marked) w.grown;
       marks = w.marks;
       fresh = w.fresh;
+      only = moved (λ h. AreMarks h w.before w.marked s) w.only;
       numbered = moved (λ h. (n : ℕ) → Contains h (Mark n) → n ≤ s.marks) w.numbered;
       ready = w.ready;
       clean = moved (λ h. IsLost s ⊎ ((owner : FilePage) → IsInFile s owner → is_touched h owner.file owner.page ≡ false → within_file s owner (new (home_of s.table owner)) ≡ within_file s owner (after (memory_of files) h owner.file owner.page))) w.clean;
@@ -110,6 +112,19 @@ module _ (files : List File) (told : Told) (s : State) (p number : ℕ) (seen : 
   none_early : (y : WriteOut) → Contains s.write_outs.batches y → has_committed y ≡ false → ⊥
   none_early y there early = none_uncommitted s.write_outs.batches y committed there early
 
+  -- each mark so far is acknowledged
+  still_acked : (n : ℕ) → Contains history (Acknowledge n) → Contains longer (Acknowledge n)
+  still_acked n has = Contains-append_left history (marked_by history number) (Acknowledge n) has
+
+  history_acked : (n : ℕ) → Contains history (Mark n) → Contains longer (Acknowledge n)
+  history_acked n has = elim (w.only.each n has) [
+    | inl acked ↦ still_acked n acked
+    | inr other ↦ elim other [ inl wait ↦ absurd (none_early wait.w wait.there wait.early) | inr lost ↦ absurd (lost.no_mark under_checkpoint) ]
+  ]
+
+  marked_acked : (n : ℕ) → Contains w.marked (Mark n) → Contains longer (Acknowledge n)
+  marked_acked n has = elim (w.only.in_marked n has) [ inl acked ↦ still_acked n acked | inr wait ↦ absurd (none_early wait.w wait.there wait.early) ]
+
   -- the mark is in no prefix so far
   mark_is_new : Contains w.marked (Mark number) → ⊥
   mark_is_new has = let few = w.numbered number (in_history w.marked w.new_are.rest history (Mark number) w.new_are.begins has) in omega (arith, few, next)
@@ -167,6 +182,23 @@ module _ (files : List File) (told : Told) (s : State) (p number : ℕ) (seen : 
           by true = refl
           by false = refl
 
+      -- so the mark is acknowledged at once
+      unstored : has_unmarked history ≡ false
+      unstored = false_from_ne_true (has_unmarked history) (λ stored.
+          let some = some_touched (λ file page. false) false history (λ never. absurd (both_ways false refl never)) stored in
+          both_ways (is_touched history some.0 some.1) (untouched (record { file = some.0; page = some.1 })) some.2)
+
+      all_acked : (n : ℕ) → Contains longer (Mark n) → Contains longer (Acknowledge n)
+      all_acked n has = elim (Contains-append_cases history (marked_by history number) (Mark n) has) [
+        | inl before ↦ history_acked n before
+        | inr this ↦ subst (λ k. Contains longer (Acknowledge k)) (only_marked history number n this)
+            (subst (λ b. Contains (history ++ Mark number ∷ (cond b [] (Acknowledge number ∷ []))) (Acknowledge number)) (sym unstored)
+            (Contains-append_right history (Mark number ∷ Acknowledge number ∷ []) (Acknowledge number) (1, omega arith, refl)))
+      ]
+
+      made_acked : (n : ℕ) → Contains made (Mark n) → Contains longer (Acknowledge n)
+      made_acked n has = all_acked n (in_history made (cond (has_unmarked history) [] (Acknowledge number ∷ [])) longer (Mark n) (append_assoc history (Mark number ∷ []) (cond (has_unmarked history) [] (Acknowledge number ∷ []))) has)
+
       all_parts : HasParts s new memory
       all_parts owner is = clean owner is (untouched owner)
 
@@ -184,6 +216,7 @@ module _ (files : List File) (told : Told) (s : State) (p number : ℕ) (seen : 
           grown = made_acknowledged;
           marks = All-weaker (λ (x : WriteOut). Contains w.marked (Mark x.batch.mark)) (λ (x : WriteOut). Contains made (Mark x.batch.mark)) (λ x has. in_made (Mark x.batch.mark) has) s.write_outs.batches w.marks;
           fresh = λ y there early has. none_early y there early;
+          only = record { each = λ n has. inl (all_acked n has); in_before = made_acked; in_marked = λ n has. inl (made_acked n has) };
           numbered = made_numbered;
           ready = λ broken held. absurd (none_now held);
           clean = inr (made_clean s.write_outs new all_parts);
@@ -224,6 +257,11 @@ module _ (files : List File) (told : Told) (s : State) (p number : ℕ) (seen : 
               grown = acknowledged_more w.marked history (marked_by history number) (λ n has. absurd (waits n has)) w.grown;
               marks = w.marks;
               fresh = λ y there early has. none_early y there early;
+              only = record {
+                each = λ n has. elim (Contains-append_cases history (marked_by history number) (Mark n) has) [ inl was ↦ inl (history_acked n was) | inr this ↦ inr (inr (record { broken = broken; no_mark = λ held. none_now held })) ];
+                in_before = λ n has. still_acked n (w.only.in_before n has);
+                in_marked = λ n has. inl (marked_acked n has);
+              };
               numbered = made_numbered;
               ready = λ broken held. absurd (none_now held);
               clean = inl (record { broken = broken; no_mark = λ held. none_now held });
@@ -263,6 +301,11 @@ module _ (files : List File) (told : Told) (s : State) (p number : ℕ) (seen : 
           recursion_from_All (λ (x : WriteOut). x.batch.mark < number) s.write_outs.batches
           (All-weaker (λ (x : WriteOut). (0 < x.batch.mark) × (x.batch.mark ≤ s.marks)) (λ (x : WriteOut). x.batch.mark < number) (λ x is. omega (arith, is.1)) s.write_outs.batches sound.write_outs.marked)
 
+      waits_now : (n : ℕ) → number ≡ n → IsWaiting (begun s.write_outs number (map (home_of s.table) pages)).batches n
+      waits_now n same =
+          let batch = next_batch s.write_outs number (map (home_of s.table) pages) in
+          record { w = begun_of batch; there = Contains-push s.write_outs.batches (begun_of batch); early = begun_early batch; mark = same }
+
       pub marked_pages : s.write_outs.broken ≡ false → AreHomes (geometry_of s.table) (map (home_of s.table) pages) → IsDurable files now (marked_with noted spaces (begun s.write_outs number (map (home_of s.table) pages))) seen may
       marked_pages whole fits =
           let homes = map (home_of s.table) pages in
@@ -287,6 +330,14 @@ module _ (files : List File) (told : Told) (s : State) (p number : ℕ) (seen : 
                 | inl older ↦ none_early y older early
                 | inr e ↦ mark_is_new (subst (λ (x : WriteOut). Contains w.marked (Mark x.batch.mark)) (sym e) has)
               ];
+              only = record {
+                each = λ n has. elim (Contains-append_cases history (marked_by history number) (Mark n) has) [ inl was ↦ inl (history_acked n was) | inr this ↦ inr (inl (waits_now n (only_marked history number n this))) ];
+                in_before = marked_acked;
+                in_marked = λ n has. elim (Contains-append_cases history (Mark number ∷ []) (Mark n) has) [
+                  | inl was ↦ inl (history_acked n was)
+                  | inr this ↦ inr (waits_now n (only_marked history number n (Contains-append_left (Mark number ∷ []) (cond (has_unmarked history) [] (Acknowledge number ∷ [])) (Mark n) this)))
+                ];
+              };
               numbered = made_numbered;
               ready = λ broken held. absurd (none_now held);
               clean = inr (made_clean outs next_contents next_parts);

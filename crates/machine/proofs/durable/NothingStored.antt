@@ -1,13 +1,12 @@
 -- Files to which nothing was stored are as they were.
-use Rattle.std.proofs.Common.{◌≡◌, ◌<◌, ◌≤◌, ℕ, suc, ◌+◌, ◌-◌, ◌*◌, List, [], ◌∷◌, ◌++◌, length, take, drop, refl, sym, ap, ◌∙◌, subst, inl, inr, arith}
+use Rattle.std.proofs.Common.{◌≡◌, ◌<◌, ℕ, suc, ◌+◌, ◌-◌, ◌*◌, List, [], ◌∷◌, ◌++◌, length, take, drop, refl, sym, ap, ◌∙◌, inl, inr, arith}
 use Rattle.std.proofs.lemmas.Bool.{cases_lt}
 use Rattle.std.proofs.lemmas.List.{append-nil, length-drop, length-take, take-append-le, take_all}
 use Rattle.volume_codec.specs.Files.{File}
 use Rattle.volume_codec.specs.Layout.{block_at}
 use Rattle.volume_codec.specs.Super.{pages_of}
 use Rattle.volume_codec.specs.Text.{zeros}
-use Rattle.volume_codec.proofs.Padding.{length-padded, zeros-nil}
-use Rattle.volume_codec.proofs.Recovered.{blocks_from-device}
+use Rattle.volume_codec.proofs.Public.{length-padded, zeros-nil, blocks_from-device}
 use Rattle.machine.specs.History.{Event, Memory, page_of, file_bytes, memory_of, bytes_of_pages, files_from_memory, files_after}
 use Rattle.machine.specs.Later.{AreDurable}
 use Rattle.machine.proofs.durable.AtStart.{file_bytes-next}

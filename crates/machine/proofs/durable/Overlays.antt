@@ -5,7 +5,7 @@ use Rattle.std.proofs.lemmas.Bool.{cond-true, cond-false, cases_Bool, cases_lt, 
 use Rattle.std.proofs.lemmas.List.{take_at, take_all, length-take, append-nil}
 use Rattle.page_entry.specs.declared.numbers.FilePage.{FilePage}
 use Rattle.volume_codec.specs.Text.{zeros, padded}
-use Rattle.volume_codec.proofs.Padding.{zeros-nil}
+use Rattle.volume_codec.proofs.Public.{zeros-nil}
 use Rattle.frames.specs.Frames.{Frame, frame_at, bytes_of, page_of}
 use Rattle.checkpoint.specs.Checkpoint.{Holds, is_of_page, is_frozen, same_page}
 use Rattle.machine.specs.State.{State, length_of, home_of, cut_at_end}

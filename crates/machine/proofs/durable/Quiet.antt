@@ -1,9 +1,7 @@
 -- Steps that neither make a mark nor go on with the write-outs.
-use Rattle.std.proofs.Common.{◌≡◌, ℕ, Bool, true, false, List, [], ◌∷◌, Option, Some, None, inl, refl, sym, ap, ◌∙◌, subst}
+use Rattle.std.proofs.Common.{◌≡◌, ℕ, true, List, [], inl, refl, sym, ap, ◌∙◌, subst}
 use Rattle.std.specs.List.{Contains}
-use Rattle.std.specs.Option.{option_or}
 use Rattle.page_entry.specs.declared.numbers.FilePage.{FilePage}
-use Rattle.page_entry.specs.declared.refusal.Refusal.{Refusal}
 use Rattle.frames.specs.Frames.{FramesState}
 use Rattle.journal.specs.Work.{Nothing}
 use Rattle.cpu.specs.Access.{Hardware}
@@ -14,7 +12,6 @@ use Rattle.spaces.specs.declared.change.Change.TheVariants.{Checkpoint}
 use Rattle.machine.specs.declared.act.Act.{Act}
 use Rattle.machine.specs.declared.act.Reply.{Reply}
 use Rattle.machine.specs.State.{State}
-use Rattle.machine.specs.Refusals.{first_of, refuse_if}
 use Rattle.machine.specs.Rules.{with_hardware, end_change, begin_change, bytes_at_mark}
 use Rattle.machine.specs.Steps.{step_work}
 use Rattle.machine.specs.Told.{Told, events_of}
@@ -79,24 +76,3 @@ module _ (told : Told) (s : State) (disk : List ℕ) (p : ℕ) (new : State) (di
       → events_of told p act reply ≡ [] → step_work s act reply ≡ Nothing → new ≡ with_hardware s hardware → disk' ≡ disk → QuietStep told s p act reply new disk disk'
   by_hardware act reply hardware memory lock events work same same_disk =
       quiet_as (with_hardware s hardware) act reply (leaves_hardware s hardware lock (λ owner has. ap (λ (m : FramesState). bytes_at_mark m owner) memory)) events work same same_disk
-
--- ---- refusals
-
-none_or : (a b : Option Refusal) → option_or a b ≡ None → (a ≡ None) × (b ≡ None)
-none_or None b e = (refl, e)
-none_or (Some why) b e = cc
-
--- where nothing is refused, the first reason isn't and none of the others is
-pub none_first : (reason : Option Refusal) (reasons : List (Option Refusal)) → first_of (reason ∷ reasons) ≡ None → (reason ≡ None) × (first_of reasons ≡ None)
-none_first reason reasons e = none_or reason (first_of reasons) e
-
-pub not_refused : (b : Bool) (why : Refusal) → refuse_if b why ≡ None → b ≡ false
-not_refused true why e = cc
-not_refused false why e = refl
-
--- the second and the fourth of some reasons, where nothing is refused
-pub second_not_refused : (a : Option Refusal) (b : Bool) (why : Refusal) (reasons : List (Option Refusal)) → first_of (a ∷ refuse_if b why ∷ reasons) ≡ None → b ≡ false
-second_not_refused a b why reasons e = not_refused b why (none_first (refuse_if b why) reasons (none_first a (refuse_if b why ∷ reasons) e).1).0
-
-pub fourth_not_refused : (a b c : Option Refusal) (d : Bool) (why : Refusal) (reasons : List (Option Refusal)) → first_of (a ∷ b ∷ c ∷ refuse_if d why ∷ reasons) ≡ None → d ≡ false
-fourth_not_refused a b c d why reasons e = second_not_refused c d why reasons (none_first b (c ∷ refuse_if d why ∷ reasons) (none_first a (b ∷ c ∷ refuse_if d why ∷ reasons) e).1).1

@@ -21,7 +21,8 @@ use Rattle.machine.specs.Refusals.{refuse_if, is_msync, msync_refusal}
 use Rattle.machine.specs.Rules.{Acts, begin_change}
 use Rattle.machine.specs.Steps.{step_work}
 use Rattle.machine.specs.Told.{Told, events_of}
-use Rattle.machine.proofs.durable.Quiet.{QuietStep, leaves_begun, quiet_as, unchanged, by_hardware, fourth_not_refused}
+use Rattle.machine.proofs.durable.Quiet.{QuietStep, leaves_begun, quiet_as, unchanged, by_hardware}
+use Rattle.machine.proofs.sound.Admitted.{fourth_not_refused}
 
 module _ (told : Told) (s : State) (disk : List ℕ) (p : ℕ) (new : State) (disk' : List ℕ) where
   same : (act : Act) (reply : Reply) → events_of told p act reply ≡ [] → step_work s act reply ≡ Nothing → new ≡ s → disk' ≡ disk → QuietStep told s p act reply new disk disk'
@@ -60,7 +61,7 @@ module _ (told : Told) (s : State) (disk : List ℕ) (p : ℕ) (new : State) (di
   quiet_create (replies.Space pcid) rule =
       by_hardware told s disk p new disk' acts.Create (replies.Space pcid) (record s.hardware { spaces = with_space s.hardware.spaces pcid empty_space }) refl refl refl refl rule.0.2 rule.1
   quiet_create (replies.Refused refusals.Enomem) rule = same acts.Create (replies.Refused refusals.Enomem) refl refl rule.0.2 rule.1
-  quiet_create (replies.Refused refusals.OutOfMemory) rule = same acts.Create (replies.Refused refusals.OutOfMemory) refl refl rule.0.2 rule.1
+  quiet_create (replies.Refused refusals.OutOfMemory) rule = same acts.Create (replies.Refused refusals.OutOfMemory) refl refl rule.0.1 rule.1
   quiet_create (replies.Refused why) rule = same acts.Create (replies.Refused why) refl refl rule.0.unchanged rule.1
   quiet_create reply rule = absurd rule.0
 
@@ -98,13 +99,13 @@ module _ (told : Told) (s : State) (disk : List ℕ) (p : ℕ) (new : State) (di
   pub quiet_unmap : (space va len : ℕ) (reply : Reply) → Acts s disk p (acts.Unmap space va len) reply new disk' → QuietStep told s p (acts.Unmap space va len) reply new disk disk'
   quiet_unmap space va len replies.Begun rule = begins (changes.Unmap space rule.0.1) (acts.Unmap space va len) replies.Begun (λ broken e. cc) refl refl rule.0.4 rule.1
   quiet_unmap space va len replies.Fine rule = same (acts.Unmap space va len) replies.Fine refl refl rule.0.4 rule.1
-  quiet_unmap space va len (replies.Refused refusals.OutOfMemory) rule = same (acts.Unmap space va len) (replies.Refused refusals.OutOfMemory) refl refl rule.0.4 rule.1
+  quiet_unmap space va len (replies.Refused refusals.OutOfMemory) rule = same (acts.Unmap space va len) (replies.Refused refusals.OutOfMemory) refl refl rule.0.1 rule.1
   quiet_unmap space va len (replies.Refused why) rule = same (acts.Unmap space va len) (replies.Refused why) refl refl rule.0.unchanged rule.1
   quiet_unmap space va len reply rule = absurd rule.0
 
   pub quiet_protect : (space va len : ℕ) (prot : Rights) (reply : Reply) → Acts s disk p (acts.Protect space va len prot) reply new disk' → QuietStep told s p (acts.Protect space va len prot) reply new disk disk'
   quiet_protect space va len prot replies.Begun rule = begins (changes.Protect space rule.0.1 prot) (acts.Protect space va len prot) replies.Begun (λ broken e. cc) refl refl rule.0.3 rule.1
-  quiet_protect space va len prot (replies.Refused refusals.OutOfMemory) rule = same (acts.Protect space va len prot) (replies.Refused refusals.OutOfMemory) refl refl rule.0.4 rule.1
+  quiet_protect space va len prot (replies.Refused refusals.OutOfMemory) rule = same (acts.Protect space va len prot) (replies.Refused refusals.OutOfMemory) refl refl rule.0.1 rule.1
   quiet_protect space va len prot (replies.Refused why) rule = same (acts.Protect space va len prot) (replies.Refused why) refl refl rule.0.unchanged rule.1
   quiet_protect space va len prot reply rule = absurd rule.0
 

@@ -7,7 +7,7 @@ use Rattle.journal.specs.declared.stage.Stage.{Stage}
 use Rattle.journal.specs.declared.stage.Stage.TheVariants.{Recording, Describing, SyncingRecords, Opening, Committing, Applying, SyncingHomes, Closing, Finishing}
 use Rattle.journal.specs.WriteOuts.{current_stage}
 use Rattle.journal.specs.Crash.{LeftWithin}
-use Rattle.journal.proofs.StandsKept.{stands_left}
+use Rattle.journal.proofs.Public.{stands_left}
 use Rattle.machine.specs.History.{Event, memory_of, after}
 use Rattle.machine.specs.State.{State}
 use Rattle.machine.specs.Laws.{ReadsBack}

@@ -7,7 +7,7 @@ use Rattle.std.proofs.lemmas.List.{append-nil, drop_more, length-take}
 use Rattle.std.proofs.lemmas.List.Folds.{list_any-append}
 use Rattle.std.proofs.lemmas.List.Elements.{Contains-push}
 use Rattle.page_entry.specs.declared.numbers.FilePage.{FilePage}
-use Rattle.volume_codec.proofs.Padding.{length-padded}
+use Rattle.volume_codec.proofs.Public.{length-padded}
 use Rattle.frames.specs.Frames.{Frame, bytes_of, frame_at, page_of}
 use Rattle.checkpoint.specs.Checkpoint.{is_of_page}
 use Rattle.journal.specs.declared.stage.Stage.{Stage}
@@ -17,10 +17,7 @@ use Rattle.journal.specs.Stage.{answer_at}
 use Rattle.journal.specs.WriteOut.{WriteOut, next_stage, has_committed, advanced_of, record_at, next_record, next_home, answer_of}
 use Rattle.journal.specs.WriteOuts.{WriteOutsValue, has_uncommitted, current, advanced, outs_record, outs_home}
 use Rattle.journal.specs.inside.Sound.{AreInOrder}
-use Rattle.journal.proofs.Stages.{stage_at-is, after_committing}
-use Rattle.journal.proofs.Batches.{newest_of, current-newest, advanced-newest, committed-at}
-use Rattle.journal.proofs.Stepping.{current_committed}
-use Rattle.journal.proofs.Answering.{older_committed}
+use Rattle.journal.proofs.Public.{stage_at-is, after_committing, newest_of, current-newest, advanced-newest, committed-at, current_committed, older_committed}
 use Rattle.machine.specs.State.{State, length_of, home_of}
 use Rattle.machine.specs.inside.Sound.{IsSound}
 use Rattle.machine.specs.Rules.{next_page, bytes_with, bytes_at_mark, next_record as record_asked}

@@ -7,7 +7,6 @@ use Rattle.page_entry.specs.declared.numbers.FilePage.{FilePage}
 use Rattle.volume_codec.specs.Files.{File}
 use Rattle.volume_codec.specs.Super.{SuperValue}
 use Rattle.volume_codec.specs.Recovery.{Recovers}
-use Rattle.frames.specs.Frames.{frame_at, bytes_of}
 use Rattle.spaces.specs.Spaces.{entry_at}
 use Rattle.shootdown.specs.Shootdown.{processor_at}
 use Rattle.shootdown.specs.Coherence.{IsUsable}
@@ -18,8 +17,7 @@ use Rattle.journal.specs.declared.stage.Stage.TheVariants.{Recording, Describing
 use Rattle.journal.specs.Stage.{is_committed}
 use Rattle.journal.specs.WriteOuts.{current_stage}
 use Rattle.journal.specs.Crash.{LeftWithin}
-use Rattle.journal.proofs.Stepping.{stage_committed}
-use Rattle.journal.proofs.StandsKept.{stands_left}
+use Rattle.journal.proofs.Public.{stage_committed, stands_left}
 use Rattle.std.specs.Option.{option_map_or}
 use Rattle.machine.specs.History.{memory_of, after, is_touched}
 use Rattle.machine.specs.State.{State}

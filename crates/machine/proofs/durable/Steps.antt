@@ -19,7 +19,7 @@ use Rattle.journal.specs.WriteOuts.{WriteOutsValue, current_stage, next_answer, 
 use Rattle.journal.specs.Crash.{LeftWithin}
 use Rattle.journal.specs.inside.Standing.{IsStanding}
 use Rattle.journal.specs.inside.Tied.{IsTied}
-use Rattle.journal.proofs.StandsKept.{stands_left}
+use Rattle.journal.proofs.Public.{stands_left}
 use Rattle.machine.specs.declared.act.Act.{Act}
 use Rattle.machine.specs.declared.act.Act.TheVariants as acts
 use Rattle.machine.specs.declared.act.Reply.{Reply}
@@ -39,10 +39,8 @@ use Rattle.machine.specs.Steps.{step_work, StepMade}
 use Rattle.machine.specs.Runs.{StepTaken}
 use Rattle.machine.proofs.durable.Leaves.{written_left}
 use Rattle.machine.proofs.durable.Quiet.{QuietStep, unchanged}
-use Rattle.machine.proofs.durable.QuietAccesses.{quiet_load, quiet_store, quiet_fill, quiet_evict}
-use Rattle.machine.proofs.durable.QuietCalls.{quiet_switch, quiet_idle, quiet_wake, quiet_resume, quiet_ack, quiet_create, quiet_destroy, quiet_map, quiet_unmap, quiet_protect, quiet_reclaim, quiet_msync}
-use Rattle.machine.proofs.durable.QuietFaults.{quiet_fix}
-use Rattle.machine.proofs.durable.QuietChanges.{quiet_change, MarkStep}
+use Rattle.machine.proofs.durable.QuietChanges.{MarkStep}
+use Rattle.machine.proofs.durable.Kinds.{by_kind}
 use Rattle.machine.proofs.durable.Marks.{IsDurable, written_as, marked_durable}
 use Rattle.machine.proofs.durable.Flushes.{flush_within, flush_failed, flush_goes_on, flush_commits}
 use Rattle.machine.proofs.durable.ReadsBack.{reads_within, reads_now}
@@ -166,21 +164,27 @@ module _ (files : List File) (told : Told) (s : State) (disk : List ℕ) (may : 
   -- ---- a step of the write-outs
 
   flush_steps : (reply : Reply) → FlushMade s disk p reply new disk' → ((c : List ℕ) → may' c → TornFromWork (work_asked s) may c) → (work_asked s ≡ Sync → Only may' disk) → (next_answer s.write_outs ≡ flushed.Device → ⊥)
-      → IsDurable files (record told { history = told.history ++ [] }) new disk' may'
-  flush_steps reply made left sure other =
+      → ((n : ℕ) → next_answer s.write_outs ≡ flushed.Committed n → ⊥) → IsDurable files (record told { history = told.history ++ [] }) new disk' may'
+  flush_steps reply made left sure other uncommitting =
       subst (λ (x : State). IsDurable files (record told { history = told.history ++ [] }) x disk' may') (sym made.done)
       (durable_as files (record told { history = told.history ++ [] }) (record told { history = told.history ++ [] }) _ (worked disk (work_asked s)) disk' may' refl made.disk_done
-      (flush_goes_on files told s disk may t.old t.new t.sound t.stands t.written p made.allowed made.some (is_some (outs_record s.write_outs)) may' left sure other))
+      (flush_goes_on files told s disk may t.old t.new t.sound t.stands t.written p made.allowed made.some (is_some (outs_record s.write_outs)) may' left sure other uncommitting))
 
   going_not : (a : Flushed) → a ≡ flushed.Going → a ≡ flushed.Device → ⊥
   going_not a e d = let never : flushed.Going ≡ flushed.Device = sym e ∙ d in cc
+
+  going_commits : (a : Flushed) → a ≡ flushed.Going → (n : ℕ) → a ≡ flushed.Committed n → ⊥
+  going_commits a e n c = let never : flushed.Going ≡ flushed.Committed n = sym e ∙ c in cc
+
+  done_commits : (number : ℕ) (a : Flushed) → a ≡ flushed.Done number → (n : ℕ) → a ≡ flushed.Committed n → ⊥
+  done_commits number a e n c = let never : flushed.Done number ≡ flushed.Committed n = sym e ∙ c in cc
 
   done_not : (number : ℕ) (a : Flushed) → a ≡ flushed.Done number → a ≡ flushed.Device → ⊥
   done_not number a e d = let never : flushed.Done number ≡ flushed.Device = sym e ∙ d in cc
 
   flushing : (reply : Reply) → Acts s disk p acts.Flush reply new disk' → IsLeft acts.Flush reply → IsSure acts.Flush reply → Outcome acts.Flush reply
   flushing replies.Going rule left sure = (
-    flush_steps replies.Going rule left (sure (λ e. cc)) (going_not (next_answer s.write_outs) (going_is (next_answer s.write_outs) rule.answered)),
+    flush_steps replies.Going rule left (sure (λ e. cc)) (going_not (next_answer s.write_outs) (going_is (next_answer s.write_outs) rule.answered)) (going_commits (next_answer s.write_outs) (going_is (next_answer s.write_outs) rule.answered)),
     flush_within files told s disk may t.old t.new t.sound t.stands t.written p rule.allowed rule.some,
   )
   flushing (replies.Committed number) rule left sure = (
@@ -190,7 +194,7 @@ module _ (files : List File) (told : Told) (s : State) (disk : List ℕ) (may : 
     flush_within files told s disk may t.old t.new t.sound t.stands t.written p rule.allowed rule.some,
   )
   flushing (replies.Done number) rule left sure = (
-    flush_steps (replies.Done number) rule left (sure (λ e. cc)) (done_not number (next_answer s.write_outs) (done_is number (next_answer s.write_outs) rule.answered)),
+    flush_steps (replies.Done number) rule left (sure (λ e. cc)) (done_not number (next_answer s.write_outs) (done_is number (next_answer s.write_outs) rule.answered)) (done_commits number (next_answer s.write_outs) (done_is number (next_answer s.write_outs) rule.answered)),
     flush_within files told s disk may t.old t.new t.sound t.stands t.written p rule.allowed rule.some,
   )
   flushing (replies.Refused refusals.Device) rule left sure = (
@@ -204,29 +208,9 @@ module _ (files : List File) (told : Told) (s : State) (disk : List ℕ) (may : 
   -- ---- any act
 
   pub acting : (act : Act) (reply : Reply) → Acts s disk p act reply new disk' → IsLeft act reply → IsSure act reply → Outcome act reply
-  acting (acts.Load va count) reply rule left sure = quietly (acts.Load va count) reply (quiet_load told s disk p new disk' t.sound va count reply rule) left
-  acting (acts.Store va bytes) reply rule left sure = quietly (acts.Store va bytes) reply (quiet_store told s disk p new disk' t.sound va bytes reply rule) left
-  acting (acts.Fill page) reply rule left sure = quietly (acts.Fill page) reply (quiet_fill told s disk p new disk' t.sound page reply rule) left
-  acting (acts.Evict slot) reply rule left sure = quietly (acts.Evict slot) reply (quiet_evict told s disk p new disk' t.sound slot reply rule) left
-  acting (acts.Switch space keep) reply rule left sure = quietly (acts.Switch space keep) reply (quiet_switch told s disk p new disk' space keep reply rule) left
-  acting acts.Idle reply rule left sure = quietly acts.Idle reply (quiet_idle told s disk p new disk' reply rule) left
-  acting acts.Wake reply rule left sure = quietly acts.Wake reply (quiet_wake told s disk p new disk' reply rule) left
-  acting (acts.Fix va write) reply rule left sure = quietly (acts.Fix va write) reply (quiet_fix told s disk p new disk' t.sound va write reply rule) left
-  acting acts.Create reply rule left sure = quietly acts.Create reply (quiet_create told s disk p new disk' reply rule) left
-  acting (acts.Destroy space) reply rule left sure = quietly (acts.Destroy space) reply (quiet_destroy told s disk p new disk' space reply rule) left
-  acting (acts.Map space va len file offset prot access) reply rule left sure =
-      quietly (acts.Map space va len file offset prot access) reply (quiet_map told s disk p new disk' space va len file offset prot access reply rule) left
-  acting (acts.Unmap space va len) reply rule left sure = quietly (acts.Unmap space va len) reply (quiet_unmap told s disk p new disk' space va len reply rule) left
-  acting (acts.Protect space va len prot) reply rule left sure = quietly (acts.Protect space va len prot) reply (quiet_protect told s disk p new disk' space va len prot reply rule) left
-  acting (acts.Reclaim file page) reply rule left sure = quietly (acts.Reclaim file page) reply (quiet_reclaim told s disk p new disk' file page reply rule) left
-  acting (acts.Msync va len flags) reply rule left sure = quietly (acts.Msync va len flags) reply (quiet_msync told s disk p new disk' va len flags reply rule) left
-  acting acts.Ack reply rule left sure = quietly acts.Ack reply (quiet_ack told s disk p new disk' reply rule) left
-  acting acts.Change reply rule left sure = elim (quiet_change told s disk p new disk' t.sound reply rule) [
-    | inl quiet ↦ quietly acts.Change reply quiet left
-    | inr mark ↦ marking reply mark left
-  ]
-  acting acts.Resume reply rule left sure = quietly acts.Resume reply (quiet_resume told s disk p new disk' reply rule) left
-  acting acts.Flush reply rule left sure = flushing reply rule left sure
+  acting =
+      by_kind told s disk p new disk' t.sound (λ act reply. IsLeft act reply → IsSure act reply → Outcome act reply)
+      (λ act reply quiet left sure. quietly act reply quiet left) (λ reply mark left sure. marking reply mark left) flushing
 
 -- ---- steps over a device
 
@@ -254,7 +238,7 @@ module _ {D : Type 0} (disk : Ghosts D) (files : List File) (told : Told) (old :
   -- a crash within it leaves old files or new ones, by the stage of the write-out
   pub step_stops : LeavesOnly disk.moment disk.left_since old.device new.device (StopsInStep files told.history old.state.write_outs)
   step_stops = leaves_more disk.moment disk.left_since old.device new.device (TornFromWork (step_work old.state step.act reply) (disk.may_leave old.device)) (StopsInStep files told.history old.state.write_outs)
-      (λ c torn. stops_within files told old.state t.sound t.files_are t.old t.new t.written c (outcome.1 c torn)) made.within
+      (λ c torn. stops_within files told old.state t.sound t.files_are t.old t.new t.written t.stands.sound.ordered c (outcome.1 c torn)) made.within
 
   -- and a crash at any moment reads back
   pub step_is_safe : HasFiles files new.state → StepIsSafe disk files told old step reply new

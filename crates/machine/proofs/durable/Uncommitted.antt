@@ -1,19 +1,21 @@
 -- Batches that aren't committed: a step makes none of one that is.
-use Rattle.std.proofs.Common.{◌≡◌, ◌<◌, ◌≤◌, ◌+◌, ◌⊎◌, ℕ, zero, suc, Bool, true, false, List, [], ◌∷◌, length, get_or, Option, Some, None, inl, inr, refl, sym, ap, ◌∙◌, subst, arith}
-use Rattle.std.specs.List.{Contains}
+use Rattle.std.proofs.Common.{◌≡◌, ◌≤◌, ◌+◌, ◌⊎◌, ℕ, zero, suc, true, false, not, List, [], ◌∷◌, length, Option, Some, None, inl, inr, refl, sym, ap, ◌∙◌, subst, arith}
+use Rattle.std.specs.List.{Contains, AllByRecursion}
 use Rattle.std.specs.Option.{option_map_or}
-use Rattle.std.proofs.lemmas.Bool.{cond-true, cond-false, cases_Bool, both_ways, false_from_ne_true}
+use Rattle.std.proofs.lemmas.Bool.{cond-true, cond-false, cases_Bool, both_ways, or_from, not_from_true, false_from_ne_true}
 use Rattle.std.proofs.lemmas.List.Elements.{Contains-append_right}
 use Rattle.volume_codec.specs.Recovery.{Batch}
 use Rattle.journal.specs.declared.flushed.Flushed.{Flushed}
 use Rattle.journal.specs.declared.flushed.Flushed.TheVariants.{Going, Committed, Done, Device, Broken}
 use Rattle.journal.specs.declared.stage.Stage.{Stage}
 use Rattle.journal.specs.declared.stage.Stage.TheVariants.{Recording, Describing, SyncingRecords, Opening, Committing, Applying, SyncingHomes, Closing, Finishing}
-use Rattle.journal.specs.Stage.{is_committed}
-use Rattle.journal.specs.WriteOut.{WriteOut, next_stage, has_committed, advanced_of}
-use Rattle.journal.specs.WriteOuts.{has_uncommitted, advanced, batches_after}
-use Rattle.journal.proofs.Stages.{IsAt, stage_is}
-use Rattle.journal.proofs.Batches.{committed_parts}
+use Rattle.journal.specs.Stage.{is_committed, answer_at}
+use Rattle.journal.specs.WriteOut.{WriteOut, begun_of, next_stage, has_committed, advanced_of, answer_of}
+use Rattle.journal.specs.WriteOuts.{has_uncommitted, current, advanced, batches_after}
+use Rattle.journal.specs.inside.Sound.{IsOlder, AreInOrder}
+use Rattle.journal.proofs.Public.{IsAt, stage_is, committed_parts, done_committed}
+use Rattle.machine.specs.inside.Tracking.{IsWaiting}
+use Rattle.machine.proofs.durable.Lists.{some_same, none_some}
 
 -- a batch of k blocks is committed after k + 4 steps, and no sooner
 steps_early : (k n : ℕ) (o : Option Stage) → IsAt k n o → option_map_or is_committed o true ≡ false → n ≤ k + 3
@@ -87,3 +89,129 @@ uncommitted_before (Done mark) [] w there early = absurd (omega (arith, there.1)
 uncommitted_before (Done mark) (x ∷ newer) w there early = record { before = w; there = Contains-append_right (x ∷ []) newer w there; batch = refl; early = early }
 uncommitted_before Device batches w there early = record { before = w; there = there; batch = refl; early = early }
 uncommitted_before Broken batches w there early = record { before = w; there = there; batch = refl; early = early }
+
+-- ---- a batch that waits
+
+-- one that was just begun does
+pub begun_early : (batch : Batch) → has_committed (begun_of batch) ≡ false
+begun_early batch = false_from_ne_true (has_committed (begun_of batch)) (λ late.
+    let k = length batch.homes in omega (arith, steps_late k 0 (next_stage (begun_of batch)) (stage_is k 0) late))
+
+-- the step by which a batch is committed answers so
+commits_now : (k n mark : ℕ) (o : Option Stage) → IsAt k n o → option_map_or is_committed o true ≡ false → k + 4 ≤ n + 1 → option_map_or (answer_at mark) o Broken ≡ Committed mark
+commits_now k n mark (Some (Recording i)) at early late = absurd (omega (arith, at.0, at.1, late))
+commits_now k n mark (Some Describing) at early late = absurd (omega (arith, at, late))
+commits_now k n mark (Some SyncingRecords) at early late = absurd (omega (arith, at, late))
+commits_now k n mark (Some Opening) at early late = absurd (omega (arith, at, late))
+commits_now k n mark (Some Committing) at early late = refl
+commits_now k n mark (Some (Applying i)) at early late = absurd (both_ways true early refl)
+commits_now k n mark (Some SyncingHomes) at early late = absurd (both_ways true early refl)
+commits_now k n mark (Some Closing) at early late = absurd (both_ways true early refl)
+commits_now k n mark (Some Finishing) at early late = absurd (both_ways true early refl)
+commits_now k n mark None at early late = absurd (both_ways true early refl)
+
+own_step : (x : WriteOut) → has_committed x ≡ false → (has_committed (advanced_of x) ≡ false) ⊎ (answer_of x ≡ Committed x.batch.mark)
+own_step x early = elim (cases_Bool (has_committed (advanced_of x))) [
+  | inl late ↦
+      (let k = length x.batch.homes in
+      inr (commits_now k x.steps x.batch.mark (next_stage x) (stage_is k x.steps) early (steps_late k (x.steps + 1) (next_stage (advanced_of x)) (stage_is k (x.steps + 1)) late)))
+  | inr still ↦ inl still
+]
+
+older_waits : (x : WriteOut) (newer : List WriteOut) (n : ℕ) → IsWaiting newer n → IsWaiting (x ∷ newer) n
+older_waits x newer n wait = record { w = wait.w; there = Contains-append_right (x ∷ []) newer wait.w wait.there; early = wait.early; mark = wait.mark }
+
+-- after a step a batch still waits, or the step answered that it is committed
+waits_on : (batches : List WriteOut) (n : ℕ) → IsWaiting batches n → IsWaiting (advanced batches) n ⊎ (option_map_or answer_of (current batches) Broken ≡ Committed n)
+waits_on [] n wait = absurd (omega (arith, wait.there.1))
+waits_on (x ∷ newer) n wait = elim (cases_Bool (has_uncommitted newer)) [
+  | inl some ↦
+      (let after : advanced (x ∷ newer) ≡ x ∷ advanced newer = cond-true (has_uncommitted newer) (x ∷ advanced newer) (advanced_of x ∷ newer) some in
+      let now : current (x ∷ newer) ≡ current newer = cond-true (has_uncommitted newer) (current newer) (Some x) some in
+      elim (first_or x newer wait.w wait.there) [
+        | inl e ↦ inl (subst (λ (l : List WriteOut). IsWaiting l n) (sym after) (first_waits e))
+        | inr rest ↦ elim (waits_on newer n (record { w = wait.w; there = rest; early = wait.early; mark = wait.mark })) [
+          | inl still ↦ inl (subst (λ (l : List WriteOut). IsWaiting l n) (sym after) (older_waits x (advanced newer) n still))
+          | inr e ↦ inr (ap (λ (o : Option WriteOut). option_map_or answer_of o Broken) now ∙ e)
+        ]
+      ])
+  | inr none ↦
+      (let after : advanced (x ∷ newer) ≡ advanced_of x ∷ newer = cond-false (has_uncommitted newer) (x ∷ advanced newer) (advanced_of x ∷ newer) none in
+      let now : current (x ∷ newer) ≡ Some x = cond-false (has_uncommitted newer) (current newer) (Some x) none in
+      elim (first_or x newer wait.w wait.there) [
+        | inl e ↦ elim (own_step x (ap has_committed e ∙ wait.early)) [
+          | inl early ↦ inl (subst (λ (l : List WriteOut). IsWaiting l n) (sym after) (record { w = advanced_of x; there = (0, omega arith, refl); early = early; mark = ap (λ (y : WriteOut). y.batch.mark) e ∙ wait.mark }))
+          | inr answer ↦ inr (ap (λ (o : Option WriteOut). option_map_or answer_of o Broken) now ∙ answer ∙ ap Committed (ap (λ (y : WriteOut). y.batch.mark) e ∙ wait.mark))
+        ]
+        | inr rest ↦ inl (subst (λ (l : List WriteOut). IsWaiting l n) (sym after) (older_waits (advanced_of x) newer n (record { w = wait.w; there = rest; early = wait.early; mark = wait.mark })))
+      ])
+]
+  where
+    first_waits : x ≡ wait.w → IsWaiting (x ∷ advanced newer) n
+    first_waits e = record { w = x; there = (0, omega arith, refl); early = ap has_committed e ∙ wait.early; mark = ap (λ (y : WriteOut). y.batch.mark) e ∙ wait.mark }
+
+-- a step that ends a write-out comes where none waits
+none_when_done : (batches : List WriteOut) (mark : ℕ) → option_map_or answer_of (current batches) Broken ≡ Done mark → has_uncommitted batches ≡ false
+none_when_done [] mark e = refl
+none_when_done (x ∷ newer) mark e = elim (cases_Bool (has_uncommitted newer)) [
+  | inl some ↦
+      (let now : current (x ∷ newer) ≡ current newer = cond-true (has_uncommitted newer) (current newer) (Some x) some in
+      absurd (both_ways (has_uncommitted newer) (none_when_done newer mark (sym (ap (λ (o : Option WriteOut). option_map_or answer_of o Broken) now) ∙ e)) some))
+  | inr none ↦
+      (let now : current (x ∷ newer) ≡ Some x = cond-false (has_uncommitted newer) (current newer) (Some x) none in
+      or_from (not (has_committed x)) (has_uncommitted newer) (not_from_true (has_committed x) (done_committed x mark (sym (ap (λ (o : Option WriteOut). option_map_or answer_of o Broken) now) ∙ e))) none)
+]
+
+pub waits_after : (batches : List WriteOut) (answer : Flushed) → option_map_or answer_of (current batches) Broken ≡ answer → (n : ℕ) → IsWaiting batches n → IsWaiting (batches_after answer batches) n ⊎ (answer ≡ Committed n)
+waits_after batches answer is n wait = by answer is
+  where
+    on : (a : Flushed) → option_map_or answer_of (current batches) Broken ≡ a → IsWaiting (advanced batches) n ⊎ (a ≡ Committed n)
+    on a is = elim (waits_on batches n wait) [ inl still ↦ inl still | inr e ↦ inr (sym is ∙ e) ]
+
+    by : (a : Flushed) → option_map_or answer_of (current batches) Broken ≡ a → IsWaiting (batches_after a batches) n ⊎ (a ≡ Committed n)
+    by Going is = on Going is
+    by (Committed mark) is = on (Committed mark) is
+    by (Done mark) is = absurd (none_uncommitted batches wait.w (none_when_done batches mark is) wait.there wait.early)
+    by Device is = inl wait
+    by Broken is = inl wait
+
+-- ---- the one whose step comes next
+
+-- is one of them
+pub current_there : (batches : List WriteOut) (y : WriteOut) → current batches ≡ Some y → Contains batches y
+current_there [] y is = absurd (none_some y is)
+current_there (x ∷ newer) y is = elim (cases_Bool (has_uncommitted newer)) [
+  | inl some ↦ Contains-append_right (x ∷ []) newer y (current_there newer y (sym (cond-true (has_uncommitted newer) (current newer) (Some x) some) ∙ is))
+  | inr none ↦ (0, omega arith, some_same x y (sym (cond-false (has_uncommitted newer) (current newer) (Some x) none) ∙ is))
+]
+
+-- and is the one that waits
+
+older_of : (x : WriteOut) (newer : List WriteOut) → has_uncommitted newer ≡ true → AllByRecursion (IsOlder x) newer → has_committed x ≡ true
+older_of x [] some all = absurd (both_ways false refl some)
+older_of x (y ∷ newer) some all = all.0.committed
+
+pub waiting_is_current : (batches : List WriteOut) → AreInOrder batches → (y : WriteOut) → current batches ≡ Some y → (w : WriteOut) → Contains batches w → has_committed w ≡ false → w ≡ y
+waiting_is_current [] ordered y is w there early = absurd (omega (arith, there.1))
+waiting_is_current (x ∷ newer) ordered y is w there early = elim (cases_Bool (has_uncommitted newer)) [
+  | inl some ↦ elim (first_or x newer w there) [
+    | inl e ↦ absurd (both_ways (has_committed w) early (subst (λ (z : WriteOut). has_committed z ≡ true) e (older_of x newer some ordered.0)))
+    | inr rest ↦ waiting_is_current newer ordered.1 y (sym (cond-true (has_uncommitted newer) (current newer) (Some x) some) ∙ is) w rest early
+  ]
+  | inr none ↦ elim (first_or x newer w there) [
+    | inl e ↦ sym e ∙ some_same x y (sym (cond-false (has_uncommitted newer) (current newer) (Some x) none) ∙ is)
+    | inr rest ↦ absurd (none_uncommitted newer w none rest early)
+  ]
+]
+
+-- where there is none, there is no batch
+pub none_current : (batches : List WriteOut) → current batches ≡ None → (w : WriteOut) → Contains batches w → ⊥
+none_current [] is w there = omega (arith, there.1)
+none_current (x ∷ newer) is w there = elim (cases_Bool (has_uncommitted newer)) [
+  | inl some ↦ (let first = found newer some in none_current newer (sym (cond-true (has_uncommitted newer) (current newer) (Some x) some) ∙ is) first.0 first.1)
+  | inr none ↦ none_some x (sym is ∙ cond-false (has_uncommitted newer) (current newer) (Some x) none)
+]
+  where
+    found : (l : List WriteOut) → has_uncommitted l ≡ true → (y : WriteOut) × Contains l y
+    found [] some = absurd (both_ways false refl some)
+    found (y ∷ l) some = (y, (0, omega arith, refl))

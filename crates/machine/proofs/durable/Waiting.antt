@@ -10,8 +10,7 @@ use Rattle.journal.specs.declared.stage.Stage.TheVariants.{Recording, Describing
 use Rattle.journal.specs.Stage.{is_committed}
 use Rattle.journal.specs.WriteOut.{WriteOut, next_stage, has_committed}
 use Rattle.journal.specs.WriteOuts.{has_uncommitted, HasBlock}
-use Rattle.journal.proofs.Stages.{IsAt, stage_is}
-use Rattle.journal.proofs.Batches.{committed_parts}
+use Rattle.journal.proofs.Public.{IsAt, stage_is, committed_parts}
 use Rattle.machine.specs.State.{State, home_of}
 use Rattle.machine.specs.inside.Sound.{IsSound}
 use Rattle.machine.specs.Durability.{waiting_homes}

@@ -6,12 +6,10 @@ use Rattle.page_entry.specs.declared.numbers.FilePage.{FilePage}
 use Rattle.frames.specs.Frames.{Frame, all_free, page_of}
 use Rattle.volume_codec.specs.Super.{SuperValue, Fits}
 use Rattle.spaces.specs.Spaces.{first_spaces, has_space}
-use Rattle.spaces.proofs.SpacesLaws.{has_space-first_spaces, entry_at-first_spaces, place_at-first_spaces}
-use Rattle.spaces.proofs.AreSpacesLaws.{AreSpaces-first_spaces}
+use Rattle.spaces.proofs.Public.{has_space-first_spaces, entry_at-first_spaces, place_at-first_spaces, AreSpaces-first_spaces}
 use Rattle.shootdown.specs.Processors.{fresh_processor}
 use Rattle.shootdown.specs.Shootdown.{fresh_shootdown, processor_at}
-use Rattle.shootdown.proofs.ShootdownLaws.{IsShootdown-fresh}
-use Rattle.shootdown.proofs.CoherenceLaws.{Coheres-fresh}
+use Rattle.shootdown.proofs.Public.{IsShootdown-fresh, Coheres-fresh}
 use Rattle.checkpoint.specs.Checkpoint.{Holds}
 use Rattle.machine.specs.declared.act.Shape.{Shape}
 use Rattle.machine.specs.State.{State, length_of}

@@ -8,15 +8,13 @@ use Rattle.pcid_tlb.specs.declared.CachedEntry.{CachedEntry}
 use Rattle.pcid_tlb.specs.Tlb.{cached, filled, evicted, without_page}
 use Rattle.spaces.specs.Spaces.{Spaces, entry_at, with_entry}
 use Rattle.spaces.specs.Changes.{Keeps}
-use Rattle.spaces.proofs.SpacesLaws.{entry_at-with_entry}
-use Rattle.spaces.proofs.AreSpacesLaws.{is_some_from}
+use Rattle.spaces.proofs.Public.{entry_at-with_entry, is_some_from}
 use Rattle.shootdown.specs.Coherence.{Agrees}
 use Rattle.shootdown.specs.Shootdown.{processor_at, current}
-use Rattle.shootdown.proofs.ShootdownLaws.{is_there_below, IsShootdown-filled, IsShootdown-without_page, IsShootdown-evicted}
-use Rattle.shootdown.proofs.CoherenceLaws.{Coheres-filled, Coheres-without_page, Coheres-evicted}
+use Rattle.shootdown.proofs.Public.{is_there_below, IsShootdown-filled, IsShootdown-without_page, IsShootdown-evicted, Coheres-filled, Coheres-without_page, Coheres-evicted}
 use Rattle.checkpoint.specs.Checkpoint.{Holds}
 use Rattle.checkpoint.specs.Backing.{page_at}
-use Rattle.checkpoint.proofs.SpacesLaws.{MayBe}
+use Rattle.checkpoint.proofs.Public.{MayBe}
 use Rattle.cpu.specs.Access.{Hardware, cached_of, serves, walk, walked, walked_to, translated_by, translated, faulted, filled_by, Faults, Loads, Stores, Fills, Evicts}
 use Rattle.machine.specs.declared.act.Reply.{Reply}
 use Rattle.machine.specs.declared.act.Reply.TheVariants as replies

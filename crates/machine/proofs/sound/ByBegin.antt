@@ -9,11 +9,10 @@ use Rattle.spaces.specs.declared.change.Change.{Change}
 use Rattle.spaces.specs.declared.change.Change.TheVariants as changes
 use Rattle.spaces.specs.Spaces.{has_space}
 use Rattle.spaces.specs.Requests.{maps_each, judged_range, judged_protection}
-use Rattle.spaces.proofs.RequestLaws.{judged_range-ok, judged_protection-ok}
+use Rattle.spaces.proofs.Public.{judged_range-ok, judged_protection-ok}
 use Rattle.shootdown.specs.declared.lock.Lock.{Lock}
 use Rattle.shootdown.specs.Shootdown.{not_free, current, begun}
-use Rattle.shootdown.proofs.ShootdownLaws.{IsShootdown-begun, length-begun, current-begun}
-use Rattle.shootdown.proofs.CoherenceLaws.{Coheres-begun}
+use Rattle.shootdown.proofs.Public.{IsShootdown-begun, length-begun, current-begun, Coheres-begun}
 use Rattle.machine.specs.declared.act.Reply.{Reply}
 use Rattle.machine.specs.declared.act.Reply.TheVariants as replies
 use Rattle.machine.specs.State.{State}
@@ -44,7 +43,7 @@ module _ (s : State) (p : ℕ) (sound : IsSound s) where
       let may = (first_none (not_free s.hardware.shootdown p) (why_not (judged_range s.hardware.spaces pcid va len) ∷ []) rule.0).0 in
       unchanged_sound _ new rule.4 (begin_sound s p (changes.Unmap pcid rule.1) may (judged_range-ok s.hardware.spaces pcid va len rule.1 rule.2) sound)
   unmap_sound pcid va len replies.Fine new rule = unchanged_sound s new rule.4 sound
-  unmap_sound pcid va len (replies.Refused refusals.OutOfMemory) new rule = unchanged_sound s new rule.4 sound
+  unmap_sound pcid va len (replies.Refused refusals.OutOfMemory) new rule = unchanged_sound s new rule.1 sound
   unmap_sound pcid va len (replies.Refused why) new rule = refused_sound _ why s new rule sound
   unmap_sound pcid va len reply new rule = absurd rule
 
@@ -54,7 +53,7 @@ module _ (s : State) (p : ℕ) (sound : IsSound s) where
       let judged = judged_protection-ok s.hardware.spaces pcid va len prot rule.1 rule.2 in
       let range = judged_range-ok s.hardware.spaces pcid va len rule.1 judged.0 in
       unchanged_sound _ new rule.3 (begin_sound s p (changes.Protect pcid rule.1 prot) may (range.0, range.1, judged.1) sound)
-  protect_sound pcid va len prot (replies.Refused refusals.OutOfMemory) new rule = unchanged_sound s new rule.4 sound
+  protect_sound pcid va len prot (replies.Refused refusals.OutOfMemory) new rule = unchanged_sound s new rule.1 sound
   protect_sound pcid va len prot (replies.Refused why) new rule = refused_sound _ why s new rule sound
   protect_sound pcid va len prot reply new rule = absurd rule
 

@@ -9,20 +9,17 @@ use Rattle.page_entry.specs.declared.numbers.FilePage.{FilePage}
 use Rattle.mappings.specs.declared.place.Place.{Place}
 use Rattle.mappings.specs.Places.{is_among}
 use Rattle.frames.specs.Frames.{FramesState, Frame, frame_at, without_frame, page_of}
-use Rattle.frames.proofs.AreFramesLaws.{after_set}
+use Rattle.frames.proofs.Public.{after_set}
 use Rattle.journal.specs.WriteOuts.{HasBlock}
 use Rattle.spaces.specs.declared.change.Change.TheVariants as changes
 use Rattle.spaces.specs.Spaces.{Spaces, entry_at, place_at, without_mapping}
 use Rattle.spaces.specs.Changes.{is_place_of, without_entries_of}
-use Rattle.spaces.proofs.SpacesLaws.{has_space-without_mapping, place_at-without_mapping, place_at-SetsRights, place_at-EditsEntries, with_rights_of}
-use Rattle.spaces.proofs.AreSpacesLaws.{AreSpaces-without_mapping, AreSpaces-SetsRights, AreSpaces-EditsEntries, user_space}
-use Rattle.spaces.proofs.ChangeLaws.{ChangesOnlyAffected-without_mapping, ChangesOnlyAffected-SetsRights, ChangesOnlyAffected-reclaim}
+use Rattle.spaces.proofs.Public.{has_space-without_mapping, place_at-without_mapping, place_at-SetsRights, place_at-EditsEntries, with_rights_of, AreSpaces-without_mapping, AreSpaces-SetsRights, AreSpaces-EditsEntries, user_space, ChangesOnlyAffected-without_mapping, ChangesOnlyAffected-SetsRights, ChangesOnlyAffected-reclaim}
 use Rattle.shootdown.specs.Shootdown.{finished}
-use Rattle.shootdown.proofs.Narrowing.{IsNoWider-same_places}
+use Rattle.shootdown.proofs.Public.{IsNoWider-same_places}
 use Rattle.checkpoint.specs.Checkpoint.{Holds, IsInRange}
 use Rattle.checkpoint.specs.Backing.{AreBacked, page_at}
-use Rattle.checkpoint.proofs.SpacesLaws.{AreBacked-without_mapping, AreBacked-rights_set, AreBacked-cleared}
-use Rattle.checkpoint.proofs.BackingLaws.{AreBacked-without_frame}
+use Rattle.checkpoint.proofs.Public.{AreBacked-without_mapping, AreBacked-rights_set, AreBacked-cleared, AreBacked-without_frame}
 use Rattle.fault.specs.Fault.{is_in_memory}
 use Rattle.machine.specs.State.{State, home_of}
 use Rattle.machine.specs.Rules.{with_spaces, end_change, UnmapMade, ProtectMade, ReclaimMade, ReclaimKept}

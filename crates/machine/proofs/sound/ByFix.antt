@@ -11,18 +11,17 @@ use Rattle.page_entry.specs.declared.refusal.Refusal.TheVariants as refusals
 use Rattle.mappings.specs.declared.place.Place.{Place}
 use Rattle.mappings.specs.Places.{may_write}
 use Rattle.volume_codec.specs.Layout.{block_at}
-use Rattle.volume_codec.proofs.Padding.{length-padded}
+use Rattle.volume_codec.proofs.Public.{length-padded}
 use Rattle.frames.specs.Frames.{FramesState, Frame, frame_at, with_page, with_copy, page_of}
-use Rattle.frames.proofs.AreFramesLaws.{after_set}
+use Rattle.frames.proofs.Public.{after_set}
 use Rattle.spaces.specs.Spaces.{Spaces, entry_at, place_at, with_entry}
 use Rattle.spaces.specs.Changes.{Keeps}
 use Rattle.shootdown.specs.Shootdown.{not_free, current}
 use Rattle.checkpoint.specs.Checkpoint.{Holds, is_of_page, is_held, is_frozen, is_copied}
 use Rattle.checkpoint.specs.Backing.{page_at}
-use Rattle.checkpoint.proofs.PagesInUse.{list_any-has_page}
-use Rattle.checkpoint.proofs.BackingLaws.{Holds-with_page, AreBacked-with_page, AreBacked-with_copy}
+use Rattle.checkpoint.proofs.Public.{list_any-has_page, Holds-with_page, AreBacked-with_page, AreBacked-with_copy}
 use Rattle.fault.specs.Fault.{allowed_place, place_of_fault, is_in_memory, copies_out, Brings, CopiesOut, fixed_entry}
-use Rattle.fault.proofs.ServedLaws.{MayBe-fixed, Keeps-fixed}
+use Rattle.fault.proofs.Public.{MayBe-fixed, Keeps-fixed}
 use Rattle.machine.specs.declared.act.Reply.{Reply}
 use Rattle.machine.specs.declared.act.Reply.TheVariants as replies
 use Rattle.machine.specs.State.{State, length_of, home_of, cut_at_end, page_from}

@@ -12,12 +12,10 @@ use Rattle.journal.specs.declared.flushed.Flushed.{Flushed}
 use Rattle.journal.specs.declared.flushed.Flushed.TheVariants as flushed
 use Rattle.journal.specs.WriteOut.{WriteOut, next_record, answer_of}
 use Rattle.journal.specs.WriteOuts.{has_uncommitted, current, advanced, batches_after, outs_after, outs_record, next_answer, is_busy}
-use Rattle.journal.proofs.Batches.{committed_parts}
+use Rattle.journal.proofs.Public.{committed_parts}
 use Rattle.shootdown.specs.Shootdown.{not_running}
 use Rattle.checkpoint.specs.Checkpoint.{without_copy_of, released, thawed}
-use Rattle.checkpoint.proofs.Searches.{AreRising-drop}
-use Rattle.checkpoint.proofs.BackingLaws.{AreBacked-thawed}
-use Rattle.checkpoint.proofs.ReleaseLaws.{AreBacked-released, AreCopiesOfFrozen-release}
+use Rattle.checkpoint.proofs.Public.{AreRising-drop, AreBacked-thawed, AreBacked-released, AreCopiesOfFrozen-release}
 use Rattle.fault.specs.Fault.{is_in_memory}
 use Rattle.machine.specs.declared.act.Reply.{Reply}
 use Rattle.machine.specs.declared.act.Reply.TheVariants as replies

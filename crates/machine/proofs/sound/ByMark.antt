@@ -14,11 +14,9 @@ use Rattle.journal.specs.WriteOuts.{WriteOutsValue, has_uncommitted, is_busy, ne
 use Rattle.spaces.specs.declared.change.Change.TheVariants as changes
 use Rattle.spaces.specs.Spaces.{Spaces}
 use Rattle.spaces.specs.Changes.{protected_where}
-use Rattle.spaces.proofs.SpacesLaws.{place_at-EditsEntries}
-use Rattle.spaces.proofs.AreSpacesLaws.{AreSpaces-EditsEntries}
-use Rattle.spaces.proofs.ChangeLaws.{ChangesOnlyAffected-checkpoint}
+use Rattle.spaces.proofs.Public.{place_at-EditsEntries, AreSpaces-EditsEntries, ChangesOnlyAffected-checkpoint}
 use Rattle.checkpoint.specs.Checkpoint.{CheckpointState, is_noted, same_page, AreRising, Gathers, ProtectsNoted, without_notes}
-use Rattle.checkpoint.proofs.ReleaseLaws.{AreBacked-protected}
+use Rattle.checkpoint.proofs.Public.{AreBacked-protected}
 use Rattle.fault.specs.Fault.{is_in_memory}
 use Rattle.cpu.specs.Access.{Hardware}
 use Rattle.machine.specs.State.{State, home_of}

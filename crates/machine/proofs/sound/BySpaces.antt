@@ -8,28 +8,24 @@ use Rattle.mappings.specs.declared.place.Rights.{Rights}
 use Rattle.mappings.specs.declared.page_range.PageRange.{PageRange}
 use Rattle.mappings.specs.Places.{Places, advanced, allows, is_among, any_mapped}
 use Rattle.mappings.specs.Judgement.{is_mappable, add_refusal}
-use Rattle.mappings.proofs.PlacesLaws.{Decides-any_in_range}
+use Rattle.mappings.proofs.Public.{Decides-any_in_range}
 use Rattle.spaces.specs.Spaces.{empty_space, has_space, space_at, place_at, with_space, with_mapping, IsLowestFree}
 use Rattle.spaces.specs.Requests.{is_user_space, judged_mapping}
-use Rattle.spaces.proofs.SpacesLaws.{has_space-with_space, place_at-create, has_space-with_mapping, place_at-with_mapping, has_space-remove, place_at-remove}
-use Rattle.spaces.proofs.AreSpacesLaws.{AreSpaces-create, AreSpaces-with_mapping, AreSpaces-remove, user_space, mappable_ends}
-use Rattle.spaces.proofs.ChangeLaws.{Grows-create, Grows-with_mapping}
-use Rattle.spaces.proofs.RequestLaws.{judged_mapping-ok}
+use Rattle.spaces.proofs.Public.{has_space-with_space, place_at-create, has_space-with_mapping, place_at-with_mapping, has_space-remove, place_at-remove, AreSpaces-create, AreSpaces-with_mapping, AreSpaces-remove, user_space, mappable_ends, Grows-create, Grows-with_mapping, judged_mapping-ok}
 use Rattle.shootdown.specs.declared.lock.Lock.{Lock}
 use Rattle.shootdown.specs.Shootdown.{not_free, is_current, current, destroyed}
-use Rattle.shootdown.proofs.Narrowing.{entry_at-remove_other, IsNoWider-remove}
-use Rattle.shootdown.proofs.ShootdownLaws.{elsewhere, IsShootdown-destroyed, current-destroyed, length-destroyed}
-use Rattle.shootdown.proofs.CoherenceLaws.{Coheres-grown, Coheres-destroyed}
+use Rattle.shootdown.specs.Calls.{destroy_refusal}
+use Rattle.shootdown.proofs.Public.{entry_at-remove_other, IsNoWider-remove, elsewhere, IsShootdown-destroyed, current-destroyed, length-destroyed, Coheres-grown, Coheres-destroyed}
 use Rattle.checkpoint.specs.Checkpoint.{IsInSpace}
-use Rattle.checkpoint.proofs.SpacesLaws.{AreBacked-created, AreBacked-with_mapping, AreBacked-remove}
+use Rattle.checkpoint.proofs.Public.{AreBacked-created, AreBacked-with_mapping, AreBacked-remove}
 use Rattle.machine.specs.declared.act.Reply.{Reply}
 use Rattle.machine.specs.declared.act.Reply.TheVariants as replies
 use Rattle.machine.specs.State.{State}
-use Rattle.machine.specs.Refusals.{refuse_if, first_of, mapping_refusal, map_refusal, destroy_refusal}
+use Rattle.machine.specs.Refusals.{refuse_if, first_of, mapping_refusal, map_refusal, destroy_refusal_of}
 use Rattle.machine.specs.Rules.{with_spaces, Creates, Maps, MapMade, Destroys, SpaceDestroyed}
 use Rattle.machine.specs.inside.Sound.{IsSound}
 use Rattle.machine.proofs.sound.Lists.{same_some, kept_some}
-use Rattle.machine.proofs.sound.Admitted.{first_none, refuse_none, refuse_not_none, free_below}
+use Rattle.machine.proofs.sound.Admitted.{first_none, refuse_none, free_below}
 use Rattle.machine.proofs.sound.Groups.{unchanged_sound, refused_sound, write_outs_moved}
 use Rattle.machine.proofs.sound.Spaces.{spaces_sound}
 use Rattle.machine.proofs.sound.Notes.{memory_noted}
@@ -55,7 +51,7 @@ created_sound s p pcid may lowest sound =
 pub create_sound : (s : State) (p : ℕ) (reply : Reply) (new : State) → Creates s p reply new → IsSound s → IsSound new
 create_sound s p (replies.Space pcid) new rule sound = unchanged_sound _ new rule.2 (created_sound s p pcid rule.0 rule.1 sound)
 create_sound s p (replies.Refused refusals.Enomem) new rule sound = unchanged_sound s new rule.2 sound
-create_sound s p (replies.Refused refusals.OutOfMemory) new rule sound = unchanged_sound s new rule.2 sound
+create_sound s p (replies.Refused refusals.OutOfMemory) new rule sound = unchanged_sound s new rule.1 sound
 create_sound s p (replies.Refused why) new rule sound = refused_sound _ why s new rule sound
 create_sound s p reply new rule sound = absurd rule
 
@@ -137,17 +133,17 @@ pub record MayDestroy (s : State) (p pcid : ℕ) : Type 0 where
   pub user : is_user_space s.hardware.spaces pcid ≡ true
   pub unused : is_current s.hardware.shootdown pcid ≡ false
 
-pub destroy_admitted : (s : State) (p pcid : ℕ) → destroy_refusal s p pcid ≡ None → MayDestroy s p pcid
+pub destroy_admitted : (s : State) (p pcid : ℕ) → destroy_refusal_of s p pcid ≡ None → MayDestroy s p pcid
 destroy_admitted s p pcid none =
-    let missing = refuse_if (not (is_user_space s.hardware.spaces pcid)) refusals.Einval in
-    let used = refuse_if (is_current s.hardware.shootdown pcid) refusals.Busy in
-    let parts = first_none (not_free s.hardware.shootdown p) (missing ∷ used ∷ []) none in
-    let two = first_none missing (used ∷ []) parts.1 in
-    record {
-      free = parts.0;
-      user = refuse_not_none (is_user_space s.hardware.spaces pcid) refusals.Einval two.0;
-      unused = refuse_none (is_current s.hardware.shootdown pcid) refusals.Busy (first_none used [] two.1).0;
-    }
+    let space = destroy_refusal s.hardware.shootdown s.hardware.spaces pcid in
+    let parts = first_none (not_free s.hardware.shootdown p) (space ∷ []) none in
+    let two = by (is_user_space s.hardware.spaces pcid) (is_current s.hardware.shootdown pcid) (first_none space [] parts.1).0 in
+    record { free = parts.0; user = two.0; unused = two.1 }
+  where
+    by : (user current : Bool) → cond (not user) (Some refusals.Einval) (cond current (Some refusals.Busy) None) ≡ None → (user ≡ true) × (current ≡ false)
+    by true false e = (refl, refl)
+    by true true e = absurd (cc)
+    by false current e = absurd (cc)
 
 destroyed_sound : (s : State) (p pcid : ℕ) (new : State) → SpaceDestroyed s p pcid new → IsSound s → IsSound new
 destroyed_sound s p pcid new rule sound =

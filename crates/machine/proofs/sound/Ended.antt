@@ -1,5 +1,5 @@
 -- What the end of a change leaves of the processors and the page tables.
-use Rattle.std.proofs.Common.{ℕ, ◌≡◌, ◌+◌, ◌-◌, ◌<◌, eqb, Bool, true, false, cond, List, [], ◌∷◌, length, drop, map, Contains, Some, None, refl, sym, ap, ◌∙◌, subst, arith}
+use Rattle.std.proofs.Common.{ℕ, ◌≡◌, ◌+◌, ◌-◌, ◌<◌, eqb, Bool, true, false, cond, List, [], length, drop, map, Contains, Some, None, refl, sym, ap, ◌∙◌, subst, arith}
 use Rattle.std.proofs.lemmas.Bool.{eqb-true, eq-eqb}
 use Rattle.std.proofs.lemmas.List.{get_or-drop, length-drop}
 use Rattle.page_entry.specs.declared.numbers.FilePage.{FilePage}
@@ -11,20 +11,19 @@ use Rattle.journal.specs.WriteOuts.{WriteOutsValue, HasBlock}
 use Rattle.spaces.specs.declared.change.Change.{Change}
 use Rattle.spaces.specs.Spaces.{Spaces, AreSpaces, has_space, place_at}
 use Rattle.spaces.specs.Changes.{ChangesOnlyAffected}
-use Rattle.spaces.proofs.Members.{Contains-map, in_flat_map}
+use Rattle.spaces.proofs.Public.{Contains-map, in_flat_map}
 use Rattle.shootdown.specs.declared.lock.Lock.{Lock}
 use Rattle.shootdown.specs.Processors.{woken}
 use Rattle.shootdown.specs.Shootdown.{processor_at, interrupted}
 use Rattle.shootdown.specs.Coherence.{IsUnused, IsNoWider}
-use Rattle.shootdown.proofs.ShootdownLaws.{at-with_processor, IsShootdown-finished}
-use Rattle.shootdown.proofs.CoherenceLaws.{IsUnused-from_Coheres, Coheres-finished, Coheres-changed}
+use Rattle.shootdown.proofs.Public.{at-with_processor, IsShootdown-finished, IsUnused-from_Coheres, Coheres-finished, Coheres-changed}
 use Rattle.checkpoint.specs.Checkpoint.{CheckpointState}
 use Rattle.machine.specs.State.{State, home_of}
-use Rattle.machine.specs.Refusals.{not_there, lock_refusal}
+use Rattle.shootdown.specs.Calls.{not_there, lock_refusal}
 use Rattle.machine.specs.Rules.{MayChange, end_change}
 use Rattle.machine.specs.inside.Sound.{IsPrepared, AreSpacesSound, AreWriteOutsSound, IsSound}
 use Rattle.machine.specs.Durability.{waiting_homes}
-use Rattle.machine.proofs.sound.Admitted.{first_none, there_below}
+use Rattle.machine.proofs.sound.Admitted.{both_none, there_below}
 
 -- ---- who changes
 
@@ -37,11 +36,10 @@ pub record IsHolder (s : State) (p : ℕ) (change : Change) : Type 0 where
 pub holder : (s : State) (p : ℕ) (change : Change) → MayChange s p change → IsHolder s p change
 holder s p change may =
     let sd = s.hardware.shootdown in
-    let waits = lock_refusal p (interrupted sd) sd.lock in
-    let parts = first_none (not_there s p) (waits ∷ []) may.allowed in
-    let fine : lock_refusal p (interrupted sd) (Some (record { holder = p; change = change })) ≡ None = ap (lock_refusal p (interrupted sd)) (sym may.lock) ∙ (first_none waits [] parts.1).0 in
+    let parts = both_none (not_there sd p) (lock_refusal p (interrupted sd) sd.lock) may.allowed in
+    let fine : lock_refusal p (interrupted sd) (Some (record { holder = p; change = change })) ≡ None = ap (lock_refusal p (interrupted sd)) (sym may.lock) ∙ parts.1 in
     record {
-      there = there_below s p parts.0;
+      there = there_below sd p parts.0;
       held = may.lock;
       quiet = eqb-true (interrupted sd) 0 (quiet (eqb p p) (eq-eqb p p refl) (eqb (interrupted sd) 0) (interrupted sd) fine);
     }

@@ -3,11 +3,10 @@ use Rattle.std.proofs.Common.{ℕ, ◌≡◌, ◌+◌, ◌≤◌, true, List, �
 use Rattle.std.proofs.lemmas.List.{length-append, length-take-le, length-drop, length-set}
 use Rattle.page_entry.specs.declared.numbers.FilePage.{FilePage}
 use Rattle.frames.specs.Frames.{FramesState, Frame, frame_at, overwrite, overwrite_frame, with_bytes, page_of}
-use Rattle.frames.proofs.AreFramesLaws.{after_set}
+use Rattle.frames.proofs.Public.{after_set}
 use Rattle.checkpoint.specs.Checkpoint.{Holds, is_frozen}
 use Rattle.checkpoint.specs.Backing.{AreBacked}
-use Rattle.checkpoint.proofs.PagesInUse.{has_page-list_any, list_any-has_page}
-use Rattle.checkpoint.proofs.BackingLaws.{AreBacked-with_bytes}
+use Rattle.checkpoint.proofs.Public.{has_page-list_any, list_any-has_page, AreBacked-with_bytes}
 use Rattle.fault.specs.Fault.{is_in_memory}
 use Rattle.machine.specs.State.{State}
 use Rattle.machine.specs.Rules.{with_hardware}

@@ -10,11 +10,10 @@ use Rattle.volume_codec.specs.Files.{TableFile}
 use Rattle.volume_codec.specs.Layout.{first_home}
 use Rattle.volume_codec.specs.Super.{pages_of, total_pages, block_count, geometry_of}
 use Rattle.volume_codec.specs.Descriptor.{RiseWithin, AreHomes}
-use Rattle.volume_codec.proofs.Places.{total_pages-take_more, total_pages-take_le}
+use Rattle.volume_codec.proofs.Public.{total_pages-take_more, total_pages-take_le}
 use Rattle.frames.specs.Frames.{Frame, IsBefore, page_of}
 use Rattle.checkpoint.specs.Checkpoint.{is_of_page, AreRising}
-use Rattle.checkpoint.proofs.PagesInUse.{has_page-list_any, list_any-has_page}
-use Rattle.checkpoint.proofs.Searches.{AreRising-tail, before_each}
+use Rattle.checkpoint.proofs.Public.{has_page-list_any, list_any-has_page, AreRising-tail, before_each}
 use Rattle.fault.specs.Fault.{is_in_memory}
 use Rattle.machine.specs.State.{State, home_of, length_of}
 use Rattle.machine.specs.Durability.{IsInFile}

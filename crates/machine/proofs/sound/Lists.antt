@@ -3,7 +3,7 @@ use Rattle.std.proofs.Common.{◌≡◌, ◌≢◌, ℕ, List, length, get_or, s
 use Rattle.std.proofs.lemmas.Bool.{cases_eq}
 use Rattle.page_entry.specs.declared.numbers.FilePage.{FilePage}
 use Rattle.frames.specs.Frames.{FramesState, Frame, frame_at, bytes_of, page_of}
-use Rattle.frames.proofs.AreFramesLaws.{after_set}
+use Rattle.frames.proofs.Public.{after_set}
 use Rattle.machine.specs.inside.Sound.{IsMemory}
 
 -- what is there is some

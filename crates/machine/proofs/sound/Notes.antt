@@ -7,7 +7,7 @@ use Rattle.spaces.specs.Spaces.{Spaces}
 use Rattle.shootdown.specs.Shootdown.{ShootdownState}
 use Rattle.checkpoint.specs.Checkpoint.{CheckpointState, HasDirtyEntry, NotesTaken, AreRising, same_page}
 use Rattle.checkpoint.specs.Backing.{AreBacked}
-use Rattle.checkpoint.proofs.BackingLaws.{AreBacked-frozen}
+use Rattle.checkpoint.proofs.Public.{AreBacked-frozen}
 use Rattle.fault.specs.Fault.{is_in_memory}
 use Rattle.machine.specs.State.{State}
 use Rattle.machine.specs.inside.Sound.{IsMemorySound}

@@ -9,7 +9,7 @@ use Rattle.frames.specs.Frames.{FramesState, Frame, frame_at, copy_at, page_of, 
 use Rattle.journal.specs.WriteOut.{next_record as record_of, next_home}
 use Rattle.journal.specs.WriteOuts.{current, outs_record, outs_home}
 use Rattle.checkpoint.specs.Checkpoint.{is_of_page, same_page}
-use Rattle.checkpoint.proofs.PagesInUse.{same_page-true, same_page-refl, list_any-no_page}
+use Rattle.checkpoint.proofs.Public.{same_page-true, same_page-refl, list_any-no_page}
 use Rattle.fault.specs.Fault.{is_in_memory}
 use Rattle.machine.specs.State.{State, home_of}
 use Rattle.machine.specs.Rules.{next_page, bytes_with, bytes_at_mark}

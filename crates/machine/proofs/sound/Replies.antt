@@ -1,5 +1,6 @@
--- No step is answered that a trace is full: a machine alone never is.
-use Rattle.std.proofs.Common.{ℕ, ◌≡◌, ◌*◌, ◌/◌, ◌%◌, ◌-◌, ◌^◌, ◌&&◌, ◌||◌, not, eqb, leb, Bool, true, false, cond, List, [], ◌∷◌, length, Option, Some, None, is_some, Result, Ok, Err, refl, ap, ◌≢◌, subst}
+-- No step is answered that a trace is full, which a machine alone never is, and only those that want memory are answered
+-- that there is none.
+use Rattle.std.proofs.Common.{ℕ, ◌≡◌, ◌*◌, ◌/◌, ◌%◌, ◌-◌, ◌^◌, ◌&&◌, ◌||◌, not, eqb, leb, Bool, true, false, cond, List, [], ◌∷◌, length, Option, Some, None, is_some, Result, Ok, Err, refl, ap, ◌∙◌, sym, ◌≢◌, subst}
 use Rattle.std.specs.Option.{option_or}
 use Rattle.std.specs.List.{AllByRecursion}
 use Rattle.page_entry.specs.declared.refusal.Refusal.{Refusal}
@@ -14,9 +15,9 @@ use Rattle.spaces.specs.Spaces.{Spaces, has_space, space_at, place_at}
 use Rattle.spaces.specs.Requests.{is_user_space, judged_range, judged_mapping, judged_protection, unless, allowed, maps_each}
 use Rattle.shootdown.specs.declared.lock.Lock.{Lock}
 use Rattle.shootdown.specs.declared.proc_state.ProcState.{ProcState}
-use Rattle.shootdown.specs.declared.proc_state.ProcState.TheVariants.{Interrupted, Stalled, Idle}
 use Rattle.shootdown.specs.Processors.{is_running}
-use Rattle.shootdown.specs.Shootdown.{ShootdownState, is_there, state_of, current, not_running, not_free, interrupted, is_current}
+use Rattle.shootdown.specs.Shootdown.{ShootdownState, is_there, state_of, current, not_running, not_free, is_interrupted, interrupted, is_current}
+use Rattle.shootdown.specs.Calls.{not_there, is_stalled, is_idle, wait_refusal, idle_refusal, switch_refusal, lock_refusal, change_refusal, destroy_refusal}
 use Rattle.checkpoint.specs.Backing.{page_at}
 use Rattle.fault.specs.Fault.{allowed_place, place_of_fault, is_in_memory, copies_out, fault_refusal}
 use Rattle.machine.specs.declared.act.Act.{Act}
@@ -26,18 +27,20 @@ use Rattle.machine.specs.declared.act.Reply.TheVariants as replies
 use Rattle.machine.specs.declared.act.Step.{Step}
 use Rattle.machine.specs.State.{State, length_of}
 use Rattle.journal.specs.WriteOuts.{is_busy}
-use Rattle.machine.specs.Refusals.{refuse_if, first_of, why_not, switch_refusal, destroy_refusal, mapping_refusal, map_refusal, unmap_refusal, protect_refusal_of, pages_in_file, reclaim_refusal, is_msync, msync_refusal, not_there, waits_in, wait_refusal, idle_refusal, lock_refusal, change_refusal, served_refusal, fix_refusal, flush_refusal}
-use Rattle.machine.specs.Rules.{IsRefused, Acts, Rules}
+use Rattle.machine.specs.Refusals.{refuse_if, first_of, why_not, destroy_refusal_of, mapping_refusal, map_refusal, unmap_refusal, protect_refusal_of, pages_in_file, reclaim_refusal, is_msync, msync_refusal, served_refusal, fix_refusal, flush_refusal}
+use Rattle.std.proofs.lemmas.Bool.{false≢true}
+use Rattle.machine.specs.Rules.{IsRefused, WantsMemory, Acts, Rules}
 
--- ---- reasons that aren't this one
+-- ---- reasons that aren't these two
 
-abbrev is_full : Option Refusal → Bool
-is_full (Some refusals.TraceFull) = true
-is_full reason = false
+abbrev is_odd : Option Refusal → Bool
+is_odd (Some refusals.TraceFull) = true
+is_odd (Some refusals.OutOfMemory) = true
+is_odd reason = false
 
--- a reason that isn't this one, or none
+-- a reason that is neither of them, or none
 abbrev Fine : Option Refusal → Type 0
-Fine reason = is_full reason ≡ false
+Fine reason = is_odd reason ≡ false
 
 cond_fine : (b : Bool) (x y : Option Refusal) → Fine x → Fine y → Fine (cond b x y)
 cond_fine true x y fx fy = fx
@@ -134,71 +137,138 @@ place_fine spaces pcid va write = why_cond (leb (2 ^ 47) va) (Err refusals.Einva
 
 -- ---- no act
 
-never : (reason : Option Refusal) (s new : State) → Fine reason → IsRefused reason refusals.TraceFull s new → ⊥
-never reason s new fine refused = let is = ap is_full refused.reason_is in cc
+never : (reason : Option Refusal) (why : Refusal) (s new : State) → is_odd (Some why) ≡ true → Fine reason → IsRefused reason why s new → ⊥
+never reason why s new odd fine refused = false≢true (sym fine ∙ ap is_odd refused.reason_is ∙ odd)
+
+there_fine : (s : ShootdownState) (p : ℕ) → Fine (not_there s p)
+there_fine s p = cond_fine (is_there s p) None (Some refusals.Einval) refl refl
+
+wait_fine : (waits : ProcState → Bool) (s : ShootdownState) (p : ℕ) → Fine (wait_refusal waits s p)
+wait_fine waits s p =
+    let held = waits (state_of s p) && is_some s.lock in
+    or_fine (not_there s p) (cond held (Some refusals.Locked) None) (there_fine s p) (cond_fine held (Some refusals.Locked) None refl refl)
 
 module _ (s : State) (p : ℕ) where
-  there_fine : Fine (not_there s p)
-  there_fine = refuse_fine (not (is_there s.hardware.shootdown p)) refusals.Einval refl
-
-  wait_fine : (state : ProcState) → Fine (wait_refusal s p state)
-  wait_fine state =
-      let held = refuse_if (waits_in state (state_of s.hardware.shootdown p) && is_some s.hardware.shootdown.lock) refusals.Locked in
-      first_fine (not_there s p ∷ held ∷ []) (there_fine, (refuse_fine (waits_in state (state_of s.hardware.shootdown p) && is_some s.hardware.shootdown.lock) refusals.Locked refl, tt))
-
   -- after the processor and the lock
   then_fine : (reasons : List (Option Refusal)) → AllByRecursion Fine reasons → Fine (first_of (not_free s.hardware.shootdown p ∷ reasons))
   then_fine reasons all = first_fine (not_free s.hardware.shootdown p ∷ reasons) (free_fine s.hardware.shootdown p, all)
 
-  pub act_not_full : (disk : List ℕ) (act : Act) (new : State) (disk' : List ℕ) → Acts s disk p act (replies.Refused refusals.TraceFull) new disk' → ⊥
+  -- the first reason against an act; of loads, stores, fills and evictions none is asked
+  abbrev reason_of : Act → Option Refusal
+  reason_of (acts.Load va count) = None
+  reason_of (acts.Store va bytes) = None
+  reason_of (acts.Fill page) = None
+  reason_of (acts.Evict slot) = None
+  reason_of (acts.Switch space keep) = switch_refusal s.hardware.shootdown s.hardware.spaces p space
+  reason_of acts.Idle = idle_refusal s.hardware.shootdown p
+  reason_of acts.Wake = wait_refusal is_idle s.hardware.shootdown p
+  reason_of (acts.Fix va write) = fix_refusal s p va write
+  reason_of acts.Create = not_free s.hardware.shootdown p
+  reason_of (acts.Destroy space) = destroy_refusal_of s p space
+  reason_of (acts.Map space va len file offset prot access) = map_refusal s p space va len file offset prot access
+  reason_of (acts.Unmap space va len) = unmap_refusal s p space va len
+  reason_of (acts.Protect space va len prot) = protect_refusal_of s p space va len prot
+  reason_of (acts.Reclaim file page) = reclaim_refusal s p (record { file = file; page = page })
+  reason_of (acts.Msync va len flags) = msync_refusal s p va len flags
+  reason_of acts.Ack = not_there s.hardware.shootdown p
+  reason_of acts.Change = change_refusal s.hardware.shootdown p
+  reason_of acts.Resume = wait_refusal is_stalled s.hardware.shootdown p
+  reason_of acts.Flush = flush_refusal s p
+
+  act_fine : (act : Act) → Fine (reason_of act)
+  act_fine (acts.Load va count) = refl
+  act_fine (acts.Store va bytes) = refl
+  act_fine (acts.Fill page) = refl
+  act_fine (acts.Evict slot) = refl
+  act_fine (acts.Switch space keep) =
+      let there = has_space s.hardware.spaces space in
+      or_fine (not_free s.hardware.shootdown p) (cond there None (Some refusals.Einval)) (free_fine s.hardware.shootdown p) (cond_fine there None (Some refusals.Einval) refl refl)
+  act_fine acts.Idle =
+      let was = is_interrupted (state_of s.hardware.shootdown p) in
+      or_fine (not_running s.hardware.shootdown p) (cond was (Some refusals.Locked) None) (running_fine s.hardware.shootdown p) (cond_fine was (Some refusals.Locked) None refl refl)
+  act_fine acts.Wake =
+      wait_fine is_idle s.hardware.shootdown p
+  act_fine (acts.Fix va write) =
+      let place = place_of_fault s.hardware.spaces (current s.hardware.shootdown p) va write in
+      then_fine (served_refusal s write place ∷ []) (served_fine s write place (place_fine s.hardware.spaces (current s.hardware.shootdown p) va write), tt)
+  act_fine acts.Create =
+      free_fine s.hardware.shootdown p
+  act_fine (acts.Destroy space) =
+      let used = cond (is_current s.hardware.shootdown space) (Some refusals.Busy) None in
+      let missing = not (is_user_space s.hardware.spaces space) in
+      then_fine (destroy_refusal s.hardware.shootdown s.hardware.spaces space ∷ [])
+      (cond_fine missing (Some refusals.Einval) used refl (cond_fine (is_current s.hardware.shootdown space) (Some refusals.Busy) None refl refl), tt)
+  act_fine (acts.Map space va len file offset prot access) =
+      let judged = judged_mapping s.hardware.spaces space va len offset in
+      then_fine (mapping_refusal s space file prot access judged ∷ []) (mapping_fine s space file prot access judged (judged_mapping_fine s.hardware.spaces space va len offset), tt)
+  act_fine (acts.Unmap space va len) =
+      then_fine (why_not (judged_range s.hardware.spaces space va len) ∷ []) (range_fine s.hardware.spaces space va len, tt)
+  act_fine (acts.Protect space va len prot) =
+      then_fine (why_not (judged_protection s.hardware.spaces space va len prot) ∷ []) (protection_fine s.hardware.spaces space prot (judged_range s.hardware.spaces space va len) (range_fine s.hardware.spaces space va len), tt)
+  act_fine (acts.Reclaim file page) =
+      then_fine (refuse_if (leb (length s.table.files) file) refusals.NoFile ∷ refuse_if (leb (pages_in_file s.table.files file) page) refusals.Einval ∷ [])
+      (refuse_fine (leb (length s.table.files) file) refusals.NoFile refl, (refuse_fine (leb (pages_in_file s.table.files file) page) refusals.Einval refl, tt))
+  act_fine (acts.Msync va len flags) =
+      let unmapped = not (maps_each s.hardware.spaces (current s.hardware.shootdown p) va len) in
+      let full = is_busy s.write_outs || leb (2 ^ 32 - 1) s.marks in
+      then_fine (refuse_if (not (is_msync va len flags)) refusals.Einval ∷ refuse_if unmapped refusals.Enomem ∷ refuse_if s.write_outs.broken refusals.Broken ∷ refuse_if full refusals.Busy ∷ [])
+      (refuse_fine (not (is_msync va len flags)) refusals.Einval refl, (refuse_fine unmapped refusals.Enomem refl, (refuse_fine s.write_outs.broken refusals.Broken refl, (refuse_fine full refusals.Busy refl, tt))))
+  act_fine acts.Ack =
+      there_fine s.hardware.shootdown p
+  act_fine acts.Change =
+      let waits = lock_refusal p (interrupted s.hardware.shootdown) s.hardware.shootdown.lock in
+      or_fine (not_there s.hardware.shootdown p) waits (there_fine s.hardware.shootdown p) (lock_fine p (interrupted s.hardware.shootdown) s.hardware.shootdown.lock)
+  act_fine acts.Resume =
+      wait_fine is_stalled s.hardware.shootdown p
+  act_fine acts.Flush =
+      first_fine (not_running s.hardware.shootdown p ∷ refuse_if s.write_outs.broken refusals.Broken ∷ []) (running_fine s.hardware.shootdown p, (refuse_fine s.write_outs.broken refusals.Broken refl, tt))
+
+  act_not_full : (disk : List ℕ) (act : Act) (new : State) (disk' : List ℕ) → Acts s disk p act (replies.Refused refusals.TraceFull) new disk' → ⊥
   act_not_full disk (acts.Load va count) new disk' rule = rule.0.1.0
   act_not_full disk (acts.Store va bytes) new disk' rule = rule.0.1.0
   act_not_full disk (acts.Fill page) new disk' rule = let other = rule.0.1.1 in cc
   act_not_full disk (acts.Evict slot) new disk' rule = let other = rule.0.1.1 in cc
-  act_not_full disk (acts.Switch space keep) new disk' rule = never (switch_refusal s p space) s new (then_fine (refuse_if (not (has_space s.hardware.spaces space)) refusals.Einval ∷ []) (refuse_fine (not (has_space s.hardware.spaces space)) refusals.Einval refl, tt)) rule.0
-  act_not_full disk acts.Idle new disk' rule =
-      let interrupted = waits_in Interrupted (state_of s.hardware.shootdown p) in
-      never (idle_refusal s p) s new (first_fine (not_running s.hardware.shootdown p ∷ refuse_if interrupted refusals.Locked ∷ []) (running_fine s.hardware.shootdown p, (refuse_fine interrupted refusals.Locked refl, tt))) rule.0
-  act_not_full disk acts.Wake new disk' rule = never (wait_refusal s p Idle) s new (wait_fine Idle) rule.0
-  act_not_full disk (acts.Fix va write) new disk' rule =
-      let place = place_of_fault s.hardware.spaces (current s.hardware.shootdown p) va write in
-      never (fix_refusal s p va write) s new (then_fine (served_refusal s write place ∷ []) (served_fine s write place (place_fine s.hardware.spaces (current s.hardware.shootdown p) va write), tt)) rule.0
-  act_not_full disk acts.Create new disk' rule = never (not_free s.hardware.shootdown p) s new (free_fine s.hardware.shootdown p) rule.0
-  act_not_full disk (acts.Destroy space) new disk' rule =
-      never (destroy_refusal s p space) s new
-      (then_fine (refuse_if (not (is_user_space s.hardware.spaces space)) refusals.Einval ∷ refuse_if (is_current s.hardware.shootdown space) refusals.Busy ∷ [])
-      (refuse_fine (not (is_user_space s.hardware.spaces space)) refusals.Einval refl, (refuse_fine (is_current s.hardware.shootdown space) refusals.Busy refl, tt))) rule.0
-  act_not_full disk (acts.Map space va len file offset prot access) new disk' rule =
-      let judged = judged_mapping s.hardware.spaces space va len offset in
-      never (map_refusal s p space va len file offset prot access) s new
-      (then_fine (mapping_refusal s space file prot access judged ∷ []) (mapping_fine s space file prot access judged (judged_mapping_fine s.hardware.spaces space va len offset), tt)) rule.0
-  act_not_full disk (acts.Unmap space va len) new disk' rule =
-      never (unmap_refusal s p space va len) s new (then_fine (why_not (judged_range s.hardware.spaces space va len) ∷ []) (range_fine s.hardware.spaces space va len, tt)) rule.0
-  act_not_full disk (acts.Protect space va len prot) new disk' rule =
-      never (protect_refusal_of s p space va len prot) s new
-      (then_fine (why_not (judged_protection s.hardware.spaces space va len prot) ∷ []) (protection_fine s.hardware.spaces space prot (judged_range s.hardware.spaces space va len) (range_fine s.hardware.spaces space va len), tt)) rule.0
-  act_not_full disk (acts.Reclaim file page) new disk' rule =
-      never (reclaim_refusal s p (record { file = file; page = page })) s new
-      (then_fine (refuse_if (leb (length s.table.files) file) refusals.NoFile ∷ refuse_if (leb (pages_in_file s.table.files file) page) refusals.Einval ∷ [])
-      (refuse_fine (leb (length s.table.files) file) refusals.NoFile refl, (refuse_fine (leb (pages_in_file s.table.files file) page) refusals.Einval refl, tt))) rule.0
-  act_not_full disk (acts.Msync va len flags) new disk' rule =
-      let unmapped = not (maps_each s.hardware.spaces (current s.hardware.shootdown p) va len) in
-      let full = is_busy s.write_outs || leb (2 ^ 32 - 1) s.marks in
-      never (msync_refusal s p va len flags) s new
-      (then_fine (refuse_if (not (is_msync va len flags)) refusals.Einval ∷ refuse_if unmapped refusals.Enomem ∷ refuse_if s.write_outs.broken refusals.Broken ∷ refuse_if full refusals.Busy ∷ [])
-      (refuse_fine (not (is_msync va len flags)) refusals.Einval refl, (refuse_fine unmapped refusals.Enomem refl, (refuse_fine s.write_outs.broken refusals.Broken refl, (refuse_fine full refusals.Busy refl, tt))))) rule.0
-  act_not_full disk acts.Ack new disk' rule = never (not_there s p) s new there_fine rule.0
-  act_not_full disk acts.Change new disk' rule =
-      let waits = lock_refusal p (interrupted s.hardware.shootdown) s.hardware.shootdown.lock in
-      never (change_refusal s p) s new (first_fine (not_there s p ∷ waits ∷ []) (there_fine, (lock_fine p (interrupted s.hardware.shootdown) s.hardware.shootdown.lock, tt))) rule.0
-  act_not_full disk acts.Resume new disk' rule = never (wait_refusal s p Stalled) s new (wait_fine Stalled) rule.0
-  act_not_full disk acts.Flush new disk' rule =
-      never (flush_refusal s p) s new
-      (first_fine (not_running s.hardware.shootdown p ∷ refuse_if s.write_outs.broken refusals.Broken ∷ []) (running_fine s.hardware.shootdown p, (refuse_fine s.write_outs.broken refusals.Broken refl, tt))) rule.0
+  act_not_full disk (acts.Switch space keep) new disk' rule = never (reason_of (acts.Switch space keep)) refusals.TraceFull s new refl (act_fine (acts.Switch space keep)) rule.0
+  act_not_full disk acts.Idle new disk' rule = never (reason_of acts.Idle) refusals.TraceFull s new refl (act_fine acts.Idle) rule.0
+  act_not_full disk acts.Wake new disk' rule = never (reason_of acts.Wake) refusals.TraceFull s new refl (act_fine acts.Wake) rule.0
+  act_not_full disk (acts.Fix va write) new disk' rule = never (reason_of (acts.Fix va write)) refusals.TraceFull s new refl (act_fine (acts.Fix va write)) rule.0
+  act_not_full disk acts.Create new disk' rule = never (reason_of acts.Create) refusals.TraceFull s new refl (act_fine acts.Create) rule.0
+  act_not_full disk (acts.Destroy space) new disk' rule = never (reason_of (acts.Destroy space)) refusals.TraceFull s new refl (act_fine (acts.Destroy space)) rule.0
+  act_not_full disk (acts.Map space va len file offset prot access) new disk' rule = never (reason_of (acts.Map space va len file offset prot access)) refusals.TraceFull s new refl (act_fine (acts.Map space va len file offset prot access)) rule.0
+  act_not_full disk (acts.Unmap space va len) new disk' rule = never (reason_of (acts.Unmap space va len)) refusals.TraceFull s new refl (act_fine (acts.Unmap space va len)) rule.0
+  act_not_full disk (acts.Protect space va len prot) new disk' rule = never (reason_of (acts.Protect space va len prot)) refusals.TraceFull s new refl (act_fine (acts.Protect space va len prot)) rule.0
+  act_not_full disk (acts.Reclaim file page) new disk' rule = never (reason_of (acts.Reclaim file page)) refusals.TraceFull s new refl (act_fine (acts.Reclaim file page)) rule.0
+  act_not_full disk (acts.Msync va len flags) new disk' rule = never (reason_of (acts.Msync va len flags)) refusals.TraceFull s new refl (act_fine (acts.Msync va len flags)) rule.0
+  act_not_full disk acts.Ack new disk' rule = never (reason_of acts.Ack) refusals.TraceFull s new refl (act_fine acts.Ack) rule.0
+  act_not_full disk acts.Change new disk' rule = never (reason_of acts.Change) refusals.TraceFull s new refl (act_fine acts.Change) rule.0
+  act_not_full disk acts.Resume new disk' rule = never (reason_of acts.Resume) refusals.TraceFull s new refl (act_fine acts.Resume) rule.0
+  act_not_full disk acts.Flush new disk' rule = never (reason_of acts.Flush) refusals.TraceFull s new refl (act_fine acts.Flush) rule.0
+
+  -- an act that is refused memory wants it
+  act_wants : (disk : List ℕ) (act : Act) (new : State) (disk' : List ℕ) → Acts s disk p act (replies.Refused refusals.OutOfMemory) new disk' → WantsMemory s p act
+  act_wants disk (acts.Load va count) new disk' rule = rule.0.1.0
+  act_wants disk (acts.Store va bytes) new disk' rule = rule.0.1.0
+  act_wants disk (acts.Fill page) new disk' rule = let other = rule.0.1.1 in cc
+  act_wants disk (acts.Evict slot) new disk' rule = let other = rule.0.1.1 in cc
+  act_wants disk (acts.Switch space keep) new disk' rule = never (reason_of (acts.Switch space keep)) refusals.OutOfMemory s new refl (act_fine (acts.Switch space keep)) rule.0
+  act_wants disk acts.Idle new disk' rule = never (reason_of acts.Idle) refusals.OutOfMemory s new refl (act_fine acts.Idle) rule.0
+  act_wants disk acts.Wake new disk' rule = never (reason_of acts.Wake) refusals.OutOfMemory s new refl (act_fine acts.Wake) rule.0
+  act_wants disk (acts.Fix va write) new disk' rule = never (reason_of (acts.Fix va write)) refusals.OutOfMemory s new refl (act_fine (acts.Fix va write)) rule.0
+  act_wants disk acts.Create new disk' rule = rule.0.0
+  act_wants disk (acts.Destroy space) new disk' rule = never (reason_of (acts.Destroy space)) refusals.OutOfMemory s new refl (act_fine (acts.Destroy space)) rule.0
+  act_wants disk (acts.Map space va len file offset prot access) new disk' rule = rule.0.0
+  act_wants disk (acts.Unmap space va len) new disk' rule = rule.0.0
+  act_wants disk (acts.Protect space va len prot) new disk' rule = rule.0.0
+  act_wants disk (acts.Reclaim file page) new disk' rule = never (reason_of (acts.Reclaim file page)) refusals.OutOfMemory s new refl (act_fine (acts.Reclaim file page)) rule.0
+  act_wants disk (acts.Msync va len flags) new disk' rule = never (reason_of (acts.Msync va len flags)) refusals.OutOfMemory s new refl (act_fine (acts.Msync va len flags)) rule.0
+  act_wants disk acts.Ack new disk' rule = never (reason_of acts.Ack) refusals.OutOfMemory s new refl (act_fine acts.Ack) rule.0
+  act_wants disk acts.Change new disk' rule = never (reason_of acts.Change) refusals.OutOfMemory s new refl (act_fine acts.Change) rule.0
+  act_wants disk acts.Resume new disk' rule = never (reason_of acts.Resume) refusals.OutOfMemory s new refl (act_fine acts.Resume) rule.0
+  act_wants disk acts.Flush new disk' rule = never (reason_of acts.Flush) refusals.OutOfMemory s new refl (act_fine acts.Flush) rule.0
 
 -- whatever state a machine is in
-pub never_full : (s : State) (disk : List ℕ) (step : Step) (new : State) (disk' : List ℕ) → Rules s disk step (replies.Refused refusals.TraceFull) new disk' → ⊥
-never_full s disk step new disk' rule = act_not_full s step.p disk step.act new disk' rule
-
 pub reply_not_full : (s : State) (disk : List ℕ) (step : Step) (reply : Reply) (new : State) (disk' : List ℕ) → Rules s disk step reply new disk' → reply ≢ replies.Refused refusals.TraceFull
-reply_not_full s disk step reply new disk' rule is = never_full s disk step new disk' (subst (λ (r : Reply). Rules s disk step r new disk') is rule)
+reply_not_full s disk step reply new disk' rule is = act_not_full s step.p disk step.act new disk' (subst (λ (r : Reply). Rules s disk step r new disk') is rule)
+
+pub reply_wants : (s : State) (disk : List ℕ) (step : Step) (reply : Reply) (new : State) (disk' : List ℕ) → Rules s disk step reply new disk' → reply ≡ replies.Refused refusals.OutOfMemory → WantsMemory s step.p step.act
+reply_wants s disk step reply new disk' rule is = act_wants s step.p disk step.act new disk' (subst (λ (r : Reply). Rules s disk step r new disk') is rule)

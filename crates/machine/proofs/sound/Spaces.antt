@@ -6,15 +6,12 @@ use Rattle.mappings.specs.declared.place.Place.{Place}
 use Rattle.spaces.specs.Spaces.{Spaces, AreSpaces, has_space, space_at, entry_at, place_at, with_entry}
 use Rattle.spaces.specs.Changes.{Keeps}
 use Rattle.spaces.specs.Requests.{is_user_space}
-use Rattle.spaces.proofs.SpacesLaws.{has_space-place_at, entry_at-with_entry, place_at-with_entry, places-with_entry, has_space-with_entry}
-use Rattle.spaces.proofs.AreSpacesLaws.{AreSpaces-with_entry, is_some_from}
-use Rattle.spaces.proofs.ChangeLaws.{Grows-with_entry}
+use Rattle.spaces.proofs.Public.{has_space-place_at, entry_at-with_entry, place_at-with_entry, places-with_entry, has_space-with_entry, AreSpaces-with_entry, is_some_from, Grows-with_entry}
 use Rattle.shootdown.specs.declared.lock.Lock.{Lock}
 use Rattle.shootdown.specs.Coherence.{Coheres}
-use Rattle.shootdown.proofs.Narrowing.{IsNoWider-same_places}
-use Rattle.shootdown.proofs.CoherenceLaws.{Coheres-grown}
+use Rattle.shootdown.proofs.Public.{IsNoWider-same_places, Coheres-grown}
 use Rattle.checkpoint.specs.Backing.{AreBacked}
-use Rattle.checkpoint.proofs.SpacesLaws.{MayBe, AreBacked-with_entry}
+use Rattle.checkpoint.proofs.Public.{MayBe, AreBacked-with_entry}
 use Rattle.machine.specs.State.{State}
 use Rattle.machine.specs.Rules.{with_spaces}
 use Rattle.machine.specs.inside.Sound.{IsPrepared, IsMemorySound, IsSound}

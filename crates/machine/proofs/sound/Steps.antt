@@ -14,8 +14,7 @@ use Rattle.journal.specs.declared.flushed.Flushed.{Flushed}
 use Rattle.journal.specs.declared.flushed.Flushed.TheVariants as flushed
 use Rattle.journal.specs.WriteOut.{WriteOut, has_committed, next_record, answer_of}
 use Rattle.journal.specs.WriteOuts.{WriteOutsValue, has_uncommitted, current, advanced, batches_after, is_busy}
-use Rattle.journal.proofs.Answering.{done_committed}
-use Rattle.journal.proofs.Batches.{committed_parts}
+use Rattle.journal.proofs.Public.{done_committed, committed_parts}
 use Rattle.checkpoint.specs.Checkpoint.{CheckpointState, is_of_page, freed_copy, without_copy_of}
 use Rattle.fault.specs.Fault.{is_in_memory}
 use Rattle.cpu.specs.Access.{Hardware}

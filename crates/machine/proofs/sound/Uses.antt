@@ -13,7 +13,7 @@ use Rattle.spaces.specs.Spaces.{entry_at}
 use Rattle.shootdown.specs.Shootdown.{current as current_space}
 use Rattle.checkpoint.specs.Checkpoint.{CheckpointState, Gathers}
 use Rattle.checkpoint.specs.Backing.{HasNotes}
-use Rattle.checkpoint.proofs.BackingLaws.{HasNotes-backed}
+use Rattle.checkpoint.proofs.Public.{HasNotes-backed}
 use Rattle.fault.specs.Fault.{place_of_fault}
 use Rattle.cpu.specs.Access.{IsReachable}
 use Rattle.machine.specs.State.{State, home_of}

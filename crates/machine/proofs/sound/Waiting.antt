@@ -12,8 +12,7 @@ use Rattle.journal.specs.declared.flushed.Flushed.{Flushed}
 use Rattle.journal.specs.Stage.{is_committed}
 use Rattle.journal.specs.WriteOut.{WriteOut, next_stage, has_committed, advanced_of, record_at, next_record}
 use Rattle.journal.specs.WriteOuts.{has_uncommitted, current, advanced, batches_after}
-use Rattle.journal.proofs.Stages.{IsAt, stage_is}
-use Rattle.journal.proofs.Batches.{committed_parts, batch_before}
+use Rattle.journal.proofs.Public.{IsAt, stage_is, committed_parts, batch_before}
 use Rattle.machine.specs.inside.Sound.{AreOlderCommitted}
 
 -- ---- one write-out

@@ -10,7 +10,7 @@ use Rattle.frames.specs.Frames.{has_free}
 use Rattle.spaces.specs.Spaces.{place_at}
 use Rattle.shootdown.specs.Processors.{is_running}
 use Rattle.shootdown.specs.Shootdown.{is_there, state_of, current}
-use Rattle.shootdown.proofs.ShootdownLaws.{admitted, is_there_below}
+use Rattle.shootdown.proofs.Public.{admitted, is_there_below}
 use Rattle.checkpoint.specs.Backing.{page_at}
 use Rattle.fault.specs.Fault.{allowed_place, place_of_fault, is_in_memory, copies_out}
 use Rattle.machine.specs.declared.act.Act.{Act}
@@ -25,7 +25,7 @@ use Rattle.machine.specs.Laws.{AddressLaw, LeadsTo, IsInside, IsFreeToAct}
 use Rattle.machine.specs.inside.Tracking.{IsArranged}
 use Rattle.machine.proofs.track.Places.{place_is, length_is}
 use Rattle.machine.proofs.track.Faults.{or_of_and, led_to, servable}
-use Rattle.machine.proofs.track.Refused.{free_at_fix, served_at_fix}
+use Rattle.machine.proofs.sound.Admitted.{free_of, served_at_fix}
 
 one : (a b : Refusal) → Some a ≡ Some b → a ≡ b
 one a b e = cc
@@ -147,7 +147,7 @@ module _ (told : Told) (s : State) (p va : ℕ) (write : Bool) (a : IsArranged t
   pub led_by : (place : Place) → fix_refusal s p va write ≡ None → place_of_fault s.hardware.spaces (current s.hardware.shootdown p) va write ≡ Ok place → Led
   led_by place allowed led =
       let at = led_to s.hardware.spaces (current s.hardware.shootdown p) va write place led in
-      let there = is_there_below s.hardware.shootdown p (admitted s.hardware.shootdown p (free_at_fix s p va write allowed)).0 in
+      let there = is_there_below s.hardware.shootdown p (admitted s.hardware.shootdown p (free_of s p _ allowed)).0 in
       let fit = servable s.hardware.memory s.checkpoint s.write_outs.broken place (length_of s place.file) write (served_at_fix s p va write place allowed led) in
       (place, leads place there at.mapped at.allowed, inside_told place fit.inside)
 

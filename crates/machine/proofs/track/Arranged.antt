@@ -6,7 +6,7 @@ use Rattle.spaces.specs.Spaces.{Spaces}
 use Rattle.shootdown.specs.declared.lock.Lock.{Lock}
 use Rattle.shootdown.specs.Processors.{woken}
 use Rattle.shootdown.specs.Shootdown.{ShootdownState, processor_at, is_there, not_free}
-use Rattle.shootdown.proofs.ShootdownLaws.{admitted, is_there_below}
+use Rattle.shootdown.proofs.Public.{admitted, is_there_below}
 use Rattle.checkpoint.specs.Checkpoint.{CheckpointState}
 use Rattle.cpu.specs.Access.{Hardware}
 use Rattle.machine.specs.State.{State}

@@ -1,7 +1,8 @@
 -- Acts on spaces, and changes that begin and are made, leave spaces, processors and the lock as they are told.
-use Rattle.std.proofs.Common.{ℕ, ◌≡◌, List, Some, Ok, refl, sym, ap, ◌∙◌, subst}
+use Rattle.std.proofs.Common.{ℕ, ◌≡◌, Bool, true, false, cond, List, Some, Result, Ok, Err, refl, sym, ap, ◌∙◌, subst}
 use Rattle.std.specs.FinMap as maps
 use Rattle.page_entry.specs.declared.numbers.FilePage.{FilePage}
+use Rattle.page_entry.specs.declared.refusal.Refusal.{Refusal}
 use Rattle.page_entry.specs.declared.refusal.Refusal.TheVariants as refusals
 use Rattle.mappings.specs.declared.place.Place.{Place}
 use Rattle.mappings.specs.declared.place.Rights.{Rights}
@@ -11,8 +12,7 @@ use Rattle.spaces.specs.declared.change.Change.{Change}
 use Rattle.spaces.specs.declared.change.Change.TheVariants as changes
 use Rattle.spaces.specs.Spaces.{Spaces, empty_space, without_mapping}
 use Rattle.spaces.specs.Requests.{is_user_space}
-use Rattle.spaces.proofs.AreSpacesLaws.{user_space}
-use Rattle.spaces.proofs.RequestLaws.{judged_protection-ok}
+use Rattle.spaces.proofs.Public.{user_space, judged_protection-ok}
 use Rattle.checkpoint.specs.Checkpoint.{CheckpointState, without_notes}
 use Rattle.machine.specs.declared.act.Act.TheVariants as acts
 use Rattle.machine.specs.declared.act.Reply.{Reply}
@@ -22,10 +22,15 @@ use Rattle.machine.specs.Rules.{Acts, with_spaces, begin_change, end_change, May
 use Rattle.machine.specs.inside.Sound.{IsSound, IsPrepared}
 use Rattle.machine.specs.Told.{Told, arranged, changed, mapped_in, begun_by, ended_by, begun_unmap, begun_protect}
 use Rattle.machine.specs.inside.Tracking.{IsArranged, pending_in, change_in}
-use Rattle.machine.proofs.track.Refused.{IsFree, there_at_change, free_at_unmap, free_at_protect, free_at_reclaim, free_at_msync, judged_so}
+use Rattle.machine.proofs.sound.Admitted.{IsFree, free_of, there_at_change}
 use Rattle.machine.proofs.track.ToldProcessors.{told_destroyed}
 use Rattle.machine.proofs.track.ToldSpaces.{ToldSpaces, AreSpacesTold, spaces_still, spaces_without, spaces_made, spaces_mapped, spaces_unmapped, spaces_protected}
 use Rattle.machine.proofs.track.Arranged.{processors_of, spaces_of, lock_of, arranged_from, arranged_spaces, arranged_begun, arranged_ended, arranged_beside}
+
+-- what was judged fit
+judged_so : {X : Type 0} (b : Bool) (r : Result X Refusal) (x : X) → cond b r (Err refusals.Einval) ≡ Ok x → r ≡ Ok x
+judged_so true r x is = is
+judged_so false r x is = absurd (cc)
 
 module _ (told : Told) (s : State) (disk : List ℕ) (p : ℕ) (new : State) (disk' : List ℕ) (sound : IsSound s) (a : IsArranged told s) where
   same : new ≡ s → IsArranged told new
@@ -39,7 +44,7 @@ module _ (told : Told) (s : State) (disk : List ℕ) (p : ℕ) (new : State) (di
   pub arranged_create : (reply : Reply) → Acts s disk p acts.Create reply new disk' → IsArranged (arranged told p acts.Create reply) new
   arranged_create (replies.Space space) rule = with (maps.insert told.spaces space maps.empty) _ (spaces_made told.spaces space s.hardware.spaces empty_space (spaces_of a)) rule.0.2
   arranged_create (replies.Refused refusals.Enomem) rule = same rule.0.2
-  arranged_create (replies.Refused refusals.OutOfMemory) rule = same rule.0.2
+  arranged_create (replies.Refused refusals.OutOfMemory) rule = same rule.0.1
   arranged_create (replies.Refused why) rule = same rule.0.unchanged
   arranged_create reply rule = absurd rule.0
 
@@ -75,9 +80,9 @@ module _ (told : Told) (s : State) (disk : List ℕ) (p : ℕ) (new : State) (di
   pub arranged_unmap : (space va len : ℕ) (reply : Reply) → Acts s disk p (acts.Unmap space va len) reply new disk' → IsArranged (arranged told p (acts.Unmap space va len) reply) new
   arranged_unmap space va len replies.Begun rule =
       subst (λ r. IsArranged (begun_by told p (begun_unmap space r)) new) (sym (judged_so (is_user_space s.hardware.spaces space) (range_of_bytes va len) rule.0.1 rule.0.2))
-      (begins (changes.Unmap space rule.0.1) (free_at_unmap s p space va len rule.0.0) rule.0.4)
+      (begins (changes.Unmap space rule.0.1) (free_of s p _ rule.0.0) rule.0.4)
   arranged_unmap space va len replies.Fine rule = same rule.0.4
-  arranged_unmap space va len (replies.Refused refusals.OutOfMemory) rule = same rule.0.4
+  arranged_unmap space va len (replies.Refused refusals.OutOfMemory) rule = same rule.0.1
   arranged_unmap space va len (replies.Refused why) rule = same rule.0.unchanged
   arranged_unmap space va len reply rule = absurd rule.0
 
@@ -85,28 +90,28 @@ module _ (told : Told) (s : State) (disk : List ℕ) (p : ℕ) (new : State) (di
   arranged_protect space va len prot replies.Begun rule =
       let judged = (judged_protection-ok s.hardware.spaces space va len prot rule.0.1 rule.0.2).0 in
       subst (λ r. IsArranged (begun_by told p (begun_protect space prot r)) new) (sym (judged_so (is_user_space s.hardware.spaces space) (range_of_bytes va len) rule.0.1 judged))
-      (begins (changes.Protect space rule.0.1 prot) (free_at_protect s p space va len prot rule.0.0) rule.0.3)
-  arranged_protect space va len prot (replies.Refused refusals.OutOfMemory) rule = same rule.0.4
+      (begins (changes.Protect space rule.0.1 prot) (free_of s p _ rule.0.0) rule.0.3)
+  arranged_protect space va len prot (replies.Refused refusals.OutOfMemory) rule = same rule.0.1
   arranged_protect space va len prot (replies.Refused why) rule = same rule.0.unchanged
   arranged_protect space va len prot reply rule = absurd rule.0
 
   pub arranged_reclaim : (file page : ℕ) (reply : Reply) → Acts s disk p (acts.Reclaim file page) reply new disk' → IsArranged (arranged told p (acts.Reclaim file page) reply) new
   arranged_reclaim file page replies.Begun rule =
       let owner : FilePage = record { file = file; page = page } in
-      begins (changes.Reclaim owner) (free_at_reclaim s p owner rule.0.0) rule.0.2
+      begins (changes.Reclaim owner) (free_of s p _ rule.0.0) rule.0.2
   arranged_reclaim file page replies.Nothing rule = same rule.0.2
   arranged_reclaim file page (replies.Refused why) rule = same rule.0.unchanged
   arranged_reclaim file page reply rule = absurd rule.0
 
   pub arranged_msync : (va len flags : ℕ) (reply : Reply) → Acts s disk p (acts.Msync va len flags) reply new disk' → IsArranged (arranged told p (acts.Msync va len flags) reply) new
-  arranged_msync va len flags replies.Begun rule = begins changes.Checkpoint (free_at_msync s p va len flags rule.0.0) rule.0.1
+  arranged_msync va len flags replies.Begun rule = begins changes.Checkpoint (free_of s p _ rule.0.0) rule.0.1
   arranged_msync va len flags (replies.Refused why) rule = same rule.0.unchanged
   arranged_msync va len flags reply rule = absurd rule.0
 
   -- ---- changes are made
 
   ended : (places : ToldSpaces) (spaces : Spaces) (memory : FramesState) (checkpoint : CheckpointState) (change : Change) → MayChange s p change → AreSpacesTold places spaces → IsArranged (ended_by (record told { spaces = places }) p) (end_change s p spaces memory checkpoint)
-  ended places spaces memory checkpoint change may t = arranged_ended a p places spaces memory checkpoint (there_at_change s p may.allowed) t
+  ended places spaces memory checkpoint change may t = arranged_ended a p places spaces memory checkpoint (there_at_change s.hardware.shootdown p may.allowed) t
 
   -- the change that is told is the one that is made
   pending_is : (change : Change) → MayChange s p change → told.pending ≡ pending_in (Some change)

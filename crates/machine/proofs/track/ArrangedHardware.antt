@@ -2,10 +2,10 @@
 use Rattle.std.proofs.Common.{ℕ, ◌≡◌, ◌/◌, ◌&&◌, Bool, true, false, not, cond, List, set, Some, is_some, refl, sym, subst, inl, inr}
 use Rattle.page_entry.specs.declared.refusal.Refusal.TheVariants as refusals
 use Rattle.spaces.specs.Spaces.{entry_at}
-use Rattle.shootdown.specs.declared.proc_state.ProcState.TheVariants.{Stalled, Idle}
 use Rattle.shootdown.specs.Processors.{Processor, is_running, switched}
 use Rattle.shootdown.specs.Shootdown.{processor_at, with_processor, current, is_there}
-use Rattle.shootdown.proofs.ShootdownLaws.{running, admitted, is_there_below}
+use Rattle.shootdown.specs.Calls.{is_stalled, is_idle}
+use Rattle.shootdown.proofs.Public.{running, admitted, is_there_below}
 use Rattle.checkpoint.specs.Checkpoint.{is_held}
 use Rattle.cpu.specs.Access.{Hardware, StoreMade}
 use Rattle.fault.specs.Fault.{fixed_entry}
@@ -20,7 +20,7 @@ use Rattle.machine.specs.Rules.{Acts, with_hardware, with_shootdown, FixMade, Fl
 use Rattle.machine.specs.inside.Sound.{IsSound}
 use Rattle.machine.specs.Told.{Told, arranged}
 use Rattle.machine.specs.inside.Tracking.{IsArranged}
-use Rattle.machine.proofs.track.Refused.{is_there_by, there_at_wait, runs_at_idle, free_at_switch, free_at_fix}
+use Rattle.machine.proofs.sound.Admitted.{is_there_by, there_at_wait, runs_at_idle, switch_admitted, free_of}
 use Rattle.machine.proofs.track.Translations.{is_translated}
 use Rattle.machine.proofs.track.Still.{KeepsTold, still_none, told_walked, load_still, store_still, fill_still, evict_still}
 use Rattle.machine.proofs.track.ToldProcessors.{told_running, told_switched}
@@ -79,7 +79,7 @@ module _ (told : Told) (s : State) (disk : List ℕ) (p : ℕ) (new : State) (di
 
   pub arranged_switch : (space : ℕ) (keep : Bool) (reply : Reply) → Acts s disk p (acts.Switch space keep) reply new disk' → IsArranged (arranged told p (acts.Switch space keep) reply) new
   arranged_switch space keep replies.Switched rule =
-      let there = (admitted s.hardware.shootdown p (free_at_switch s p space rule.0.0)).0 in
+      let there = (admitted s.hardware.shootdown p (switch_admitted s.hardware.shootdown s.hardware.spaces p space rule.0.0).0).0 in
       subst (IsArranged (record told { current = set told.current p space })) (sym rule.0.1)
       (arranged_processors a (set told.current p space) told.running _ refl
       (told_switched told.current told.running s.hardware.shootdown p (switched (processor_at s.hardware.shootdown p) space keep) (is_there_below s.hardware.shootdown p there) (processors_of a) space refl refl))
@@ -87,24 +87,24 @@ module _ (told : Told) (s : State) (disk : List ℕ) (p : ℕ) (new : State) (di
   arranged_switch space keep reply rule = absurd rule.0
 
   pub arranged_idle : (reply : Reply) → Acts s disk p acts.Idle reply new disk' → IsArranged (arranged told p acts.Idle reply) new
-  arranged_idle replies.Idled rule = moved false _ (running s.hardware.shootdown p (runs_at_idle s p rule.0.0)).0 refl refl rule.0.1
+  arranged_idle replies.Idled rule = moved false _ (running s.hardware.shootdown p (runs_at_idle s.hardware.shootdown p rule.0.0)).0 refl refl rule.0.1
   arranged_idle (replies.Refused why) rule = same rule.0.unchanged
   arranged_idle reply rule = absurd rule.0
 
   pub arranged_wake : (reply : Reply) → Acts s disk p acts.Wake reply new disk' → IsArranged (arranged told p acts.Wake reply) new
-  arranged_wake replies.Woken rule = moved true _ (there_at_wait s p Idle rule.0.0) refl refl rule.0.2
+  arranged_wake replies.Woken rule = moved true _ (there_at_wait is_idle s.hardware.shootdown p rule.0.0) refl refl rule.0.2
   arranged_wake replies.Nothing rule = same rule.0.2
   arranged_wake (replies.Refused why) rule = same rule.0.unchanged
   arranged_wake reply rule = absurd rule.0
 
   pub arranged_resume : (reply : Reply) → Acts s disk p acts.Resume reply new disk' → IsArranged (arranged told p acts.Resume reply) new
-  arranged_resume replies.Resumed rule = moved true _ (there_at_wait s p Stalled rule.0.0) refl refl rule.0.2
+  arranged_resume replies.Resumed rule = moved true _ (there_at_wait is_stalled s.hardware.shootdown p rule.0.0) refl refl rule.0.2
   arranged_resume replies.Nothing rule = same rule.0.2
   arranged_resume (replies.Refused why) rule = same rule.0.unchanged
   arranged_resume reply rule = absurd rule.0
 
   pub arranged_ack : (reply : Reply) → Acts s disk p acts.Ack reply new disk' → IsArranged (arranged told p acts.Ack reply) new
-  arranged_ack replies.Acked rule = moved false _ (is_there_by s p rule.0.0) refl refl rule.0.2
+  arranged_ack replies.Acked rule = moved false _ (is_there_by s.hardware.shootdown p rule.0.0) refl refl rule.0.2
   arranged_ack replies.Nothing rule = same rule.0.2
   arranged_ack (replies.Refused why) rule = same rule.0.unchanged
   arranged_ack reply rule = absurd rule.0
@@ -113,7 +113,7 @@ module _ (told : Told) (s : State) (disk : List ℕ) (p : ℕ) (new : State) (di
 
   told_fixed : (va : ℕ) (write : Bool) (made : FixMade s disk p va write new) → KeepsTold s.hardware (record s.hardware { spaces = made.spaces; memory = made.memory })
   told_fixed va write made =
-      let there = is_there_below s.hardware.shootdown p (admitted s.hardware.shootdown p (free_at_fix s p va write made.allowed)).0 in
+      let there = is_there_below s.hardware.shootdown p (admitted s.hardware.shootdown p (free_of s p _ made.allowed)).0 in
       record {
         lock = refl;
         processors = λ spaces runs t. t;

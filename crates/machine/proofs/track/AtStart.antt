@@ -10,7 +10,7 @@ use Rattle.frames.specs.Frames.{Frame, all_free, page_of as page_held}
 use Rattle.volume_codec.specs.Files.{File}
 use Rattle.volume_codec.specs.Super.{SuperValue}
 use Rattle.volume_codec.specs.Text.{zeros, padded}
-use Rattle.volume_codec.proofs.Padding.{zeros-nil, length-padded}
+use Rattle.volume_codec.proofs.Public.{zeros-nil, length-padded}
 use Rattle.mappings.specs.Places.{Places}
 use Rattle.spaces.specs.Spaces.{AddressSpace, first_spaces, empty_space}
 use Rattle.shootdown.specs.Processors.{Processor, fresh_processor, is_running}

@@ -10,7 +10,7 @@ use Rattle.mappings.specs.Places.{is_among, may_write}
 use Rattle.frames.specs.Frames.{FramesState, Frame, frame_at, page_of}
 use Rattle.spaces.specs.Spaces.{Spaces, entry_at, with_entry, without_mapping, SetsRights}
 use Rattle.spaces.specs.Changes.{protected_where}
-use Rattle.spaces.proofs.SpacesLaws.{entry_at-with_entry, entry_at-without_mapping, entry_at-remove}
+use Rattle.spaces.proofs.Public.{entry_at-with_entry, entry_at-without_mapping, entry_at-remove}
 use Rattle.checkpoint.specs.Checkpoint.{CheckpointState, Holds, is_noted, IsDirty, NotesTaken, IsInRange, IsInSpace, Gathers, ProtectsNoted, without_notes}
 use Rattle.checkpoint.specs.Backing.{AreBacked, page_at}
 use Rattle.fault.specs.Fault.{fixed_entry}

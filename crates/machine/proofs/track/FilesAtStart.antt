@@ -4,8 +4,7 @@ use Rattle.volume_codec.specs.Files.{File, TableFile}
 use Rattle.volume_codec.specs.Layout.{block_at, first_file_home}
 use Rattle.volume_codec.specs.Super.{pages_of, total_pages}
 use Rattle.volume_codec.specs.Recovery.{IsVolume, files_from, files_in, lengths_in}
-use Rattle.volume_codec.proofs.Blocks.{length-block_at}
-use Rattle.volume_codec.proofs.Recovered.{length-file}
+use Rattle.volume_codec.proofs.Public.{length-block_at, length-file}
 use Rattle.machine.specs.State.{State}
 use Rattle.machine.specs.inside.Tracking.{HasFiles}
 

@@ -3,8 +3,8 @@ use Rattle.std.proofs.Common.{ℕ, ◌≡◌, ◌≢◌, Bool, true, false, List
 use Rattle.std.proofs.lemmas.Bool.{cases_eq, false_from_ne_true, false≢true}
 use Rattle.page_entry.specs.declared.numbers.FilePage.{FilePage}
 use Rattle.frames.specs.Frames.{FramesState, Frame, frame_at, bytes_of, overwrite, overwrite_frame, with_page, with_bytes, without_frame, page_of}
-use Rattle.frames.proofs.FramesLaws.{frame_at-free, frame_at-with_page_same, frame_at-with_page_other, frame_at-with_bytes_same, frame_at-without_frame_same, frame_at-without_frame_other}
-use Rattle.checkpoint.proofs.PagesInUse.{same_page-true, same_page-refl, list_any-has_page, has_page-list_any}
+use Rattle.frames.proofs.Public.{frame_at-free, frame_at-with_page_same, frame_at-with_page_other, frame_at-with_bytes_same, frame_at-without_frame_same, frame_at-without_frame_other}
+use Rattle.checkpoint.proofs.Public.{same_page-true, same_page-refl, list_any-has_page, has_page-list_any}
 use Rattle.checkpoint.specs.Checkpoint.{Holds, same_page}
 use Rattle.fault.specs.Fault.{is_in_memory, Brings, CopiesOut}
 

@@ -3,9 +3,9 @@ use Rattle.std.proofs.Common.{◌≡◌, ℕ, ◌+◌, ◌*◌, ◌/◌, ◌%◌
 use Rattle.std.proofs.lemmas.Bool.{cond-true, cond-false, cond_both, and_from, and_left, and_right, eq-eqb, ne_eqb, cases_eq}
 use Rattle.std.proofs.lemmas.List.{length-take}
 use Rattle.volume_codec.specs.Files.{File}
-use Rattle.volume_codec.proofs.Padding.{length-padded}
+use Rattle.volume_codec.proofs.Public.{length-padded}
 use Rattle.frames.specs.Frames.{overwrite}
-use Rattle.frames.proofs.FramesLaws.{length-overwrite}
+use Rattle.frames.proofs.Public.{length-overwrite}
 use Rattle.machine.specs.History.{Memory, Event, Store, Mark, Acknowledge, memory_of, file_bytes, stored, after, touched_after, is_touched}
 
 -- ---- memory

@@ -3,7 +3,7 @@ use Rattle.std.proofs.Common.{ℕ, ◌≡◌, ◌+◌, ◌%◌, ◌≤◌, List,
 use Rattle.std.proofs.lemmas.List.{length-take, length-drop}
 use Rattle.page_entry.specs.declared.refusal.Refusal.{Refusal}
 use Rattle.volume_codec.specs.Files.{File}
-use Rattle.shootdown.proofs.ShootdownLaws.{running, is_there_below}
+use Rattle.shootdown.proofs.Public.{running, is_there_below}
 use Rattle.checkpoint.specs.Backing.{page_at}
 use Rattle.cpu.specs.Access.{Hardware, LoadMade, StoreMade}
 use Rattle.machine.specs.declared.act.Act.{Act}

@@ -4,10 +4,10 @@ use Rattle.page_entry.specs.declared.refusal.Refusal.TheVariants as refusals
 use Rattle.mappings.specs.declared.place.Rights.{Rights}
 use Rattle.volume_codec.specs.Files.{File}
 use Rattle.spaces.specs.Spaces.{with_space, with_mapping, empty_space}
-use Rattle.spaces.proofs.SpacesLaws.{entry_at-create, entry_at-with_mapping}
+use Rattle.spaces.proofs.Public.{entry_at-create, entry_at-with_mapping}
 use Rattle.mappings.specs.declared.place.Place.{Place}
 use Rattle.shootdown.specs.Shootdown.{ShootdownState}
-use Rattle.shootdown.proofs.ShootdownLaws.{running, is_there_below}
+use Rattle.shootdown.proofs.Public.{running, is_there_below}
 use Rattle.cpu.specs.Access.{Hardware, StoreMade}
 use Rattle.machine.specs.declared.act.Act.{Act}
 use Rattle.machine.specs.declared.act.Act.TheVariants as acts
@@ -111,13 +111,13 @@ module _ (files : List File) (told : Told) (s : State) (disk : List ℕ) (p : �
   pub pages_unmap : (space va len : ℕ) (reply : Reply) → Acts s disk p (acts.Unmap space va len) reply new disk' → HasPages files (now (acts.Unmap space va len) reply) new
   pages_unmap space va len replies.Begun rule = shot (acts.Unmap space va len) replies.Begun refl _ rule.0.4
   pages_unmap space va len replies.Fine rule = unchanged (acts.Unmap space va len) replies.Fine refl rule.0.4
-  pages_unmap space va len (replies.Refused refusals.OutOfMemory) rule = unchanged (acts.Unmap space va len) (replies.Refused refusals.OutOfMemory) refl rule.0.4
+  pages_unmap space va len (replies.Refused refusals.OutOfMemory) rule = unchanged (acts.Unmap space va len) (replies.Refused refusals.OutOfMemory) refl rule.0.1
   pages_unmap space va len (replies.Refused why) rule = unchanged (acts.Unmap space va len) (replies.Refused why) refl rule.0.unchanged
   pages_unmap space va len reply rule = absurd rule.0
 
   pub pages_protect : (space va len : ℕ) (prot : Rights) (reply : Reply) → Acts s disk p (acts.Protect space va len prot) reply new disk' → HasPages files (now (acts.Protect space va len prot) reply) new
   pages_protect space va len prot replies.Begun rule = shot (acts.Protect space va len prot) replies.Begun refl _ rule.0.3
-  pages_protect space va len prot (replies.Refused refusals.OutOfMemory) rule = unchanged (acts.Protect space va len prot) (replies.Refused refusals.OutOfMemory) refl rule.0.4
+  pages_protect space va len prot (replies.Refused refusals.OutOfMemory) rule = unchanged (acts.Protect space va len prot) (replies.Refused refusals.OutOfMemory) refl rule.0.1
   pages_protect space va len prot (replies.Refused why) rule = unchanged (acts.Protect space va len prot) (replies.Refused why) refl rule.0.unchanged
   pages_protect space va len prot reply rule = absurd rule.0
 
@@ -137,7 +137,7 @@ module _ (files : List File) (told : Told) (s : State) (disk : List ℕ) (p : �
   pub pages_create : (reply : Reply) → Acts s disk p acts.Create reply new disk' → HasPages files (now acts.Create reply) new
   pages_create (replies.Space space) rule = quiet acts.Create (replies.Space space) refl (same_by s new _ rule.0.2 (same_spaces s (with_space s.hardware.spaces space empty_space) (entry_at-create s.hardware.spaces space rule.0.1.free)))
   pages_create (replies.Refused refusals.Enomem) rule = unchanged acts.Create (replies.Refused refusals.Enomem) refl rule.0.2
-  pages_create (replies.Refused refusals.OutOfMemory) rule = unchanged acts.Create (replies.Refused refusals.OutOfMemory) refl rule.0.2
+  pages_create (replies.Refused refusals.OutOfMemory) rule = unchanged acts.Create (replies.Refused refusals.OutOfMemory) refl rule.0.1
   pages_create (replies.Refused why) rule = unchanged acts.Create (replies.Refused why) refl rule.0.unchanged
   pages_create reply rule = absurd rule.0
 

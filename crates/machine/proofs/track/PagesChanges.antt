@@ -25,7 +25,7 @@ use Rattle.machine.proofs.track.FramePages.{is_brought, frames-copied, IsBrought
 use Rattle.machine.proofs.track.DirtyFrames.{dirty_fixed, clean_after_mark}
 use Rattle.machine.proofs.track.Pages.{HasPages, SamePages, pages_refl, files_kept, pages_quiet, plain_still}
 use Rattle.machine.proofs.track.PagesMoved.{pages_fixed, pages_left}
-use Rattle.machine.proofs.track.Refused.{served_at_fix}
+use Rattle.machine.proofs.sound.Admitted.{served_at_fix}
 use Rattle.machine.proofs.track.Faults.{led_to, servable}
 use Rattle.machine.proofs.track.PagesSame.{same_unmapped, same_protected, same_kept, same_flushed, same_failed}
 

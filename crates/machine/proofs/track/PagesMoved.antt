@@ -17,7 +17,7 @@ use Rattle.machine.specs.Rules.{MayLeave}
 use Rattle.machine.specs.Told.{Told}
 use Rattle.machine.specs.inside.Tracking.{ArePlain}
 use Rattle.machine.proofs.track.Histories.{AreQuiet}
-use Rattle.checkpoint.proofs.PagesInUse.{same_page-true}
+use Rattle.checkpoint.proofs.Public.{same_page-true}
 use Rattle.machine.proofs.track.FramePages.{IsBrought, holder_of, held_by_none, absent_before, held_without, held_still}
 use Rattle.machine.proofs.track.DirtyFrames.{clean_where_free}
 use Rattle.machine.proofs.track.Pages.{HasPages, SameFiles, files_kept, in_file_before, plain_as_before, plain_still}

@@ -13,7 +13,7 @@ use Rattle.machine.specs.Rules.{with_hardware}
 use Rattle.machine.specs.Told.{Told}
 use Rattle.machine.specs.inside.Tracking.{IsLatest, AreTouched}
 use Rattle.machine.proofs.track.Histories.{after_store, stored_there, stored_elsewhere, length-stored, touched_there, touched_elsewhere}
-use Rattle.frames.proofs.FramesLaws.{page_of-with_bytes, frame_at-with_bytes_other}
+use Rattle.frames.proofs.Public.{page_of-with_bytes, frame_at-with_bytes_other}
 use Rattle.machine.proofs.track.FramePages.{cases_page, differ, bytes_of-with_bytes, held_by_none, absent_before}
 use Rattle.machine.proofs.track.Pages.{HasPages, files_kept, plain_still}
 use Rattle.machine.proofs.track.Accesses.{HasStored}

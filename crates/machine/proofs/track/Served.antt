@@ -13,7 +13,7 @@ use Rattle.pcid_tlb.specs.declared.CachedEntry.{CachedEntry}
 use Rattle.pcid_tlb.specs.Tlb.{cached}
 use Rattle.frames.specs.Frames.{FramesState, frame_at, with_copy, page_of}
 use Rattle.spaces.specs.Spaces.{Spaces, entry_at}
-use Rattle.spaces.proofs.SpacesLaws.{entry_at-with_entry}
+use Rattle.spaces.proofs.Public.{entry_at-with_entry}
 use Rattle.shootdown.specs.Shootdown.{processor_at, current, not_running}
 use Rattle.checkpoint.specs.Checkpoint.{CheckpointState, Holds, is_of_page, is_frozen, is_copied, is_held}
 use Rattle.checkpoint.specs.Backing.{page_at}
@@ -26,9 +26,9 @@ use Rattle.machine.specs.declared.act.Reply.TheVariants as replies
 use Rattle.machine.specs.State.{State}
 use Rattle.machine.specs.Rules.{Acts, FixMade, LoadAnswers, StoreAnswers}
 use Rattle.machine.specs.Laws.{IsAnswered, IsAccessOf}
-use Rattle.checkpoint.proofs.PagesInUse.{list_any-has_page}
+use Rattle.checkpoint.proofs.Public.{list_any-has_page}
 use Rattle.machine.proofs.track.Faults.{led_to}
-use Rattle.machine.proofs.track.Refused.{none_first, free_at_fix}
+use Rattle.machine.proofs.sound.Admitted.{both_none, free_of}
 
 -- ---- a page that has an entry which allows the access is reached
 
@@ -116,7 +116,7 @@ ready_after_fix s disk p va write new made =
     (not_from_false (is_held made.memory s.checkpoint owner) (not_held s.hardware.memory made.served.mid made.memory s.checkpoint owner made.served.frame (copies_out s.hardware.memory s.checkpoint owner write)
     (ap (λ w. w && is_held s.hardware.memory s.checkpoint owner) is) mid.0 mid.1 made.served.copied)) in
     subst (λ (x : State). IsReady x p va write) (sym made.done) (record {
-      runs = none_first (not_running s.hardware.shootdown p) _ (free_at_fix s p va write made.allowed);
+      runs = (both_none (not_running s.hardware.shootdown p) _ (free_of s p _ made.allowed)).0;
       entry = entry;
       present = ap (λ (m : Spaces). entry_at m pcid (va / 4096)) made.served.entry ∙ entry_at-with_entry s.hardware.spaces pcid (va / 4096) (Some entry) pcid (va / 4096)
           ∙ cond-true (eqb pcid pcid && eqb (va / 4096) (va / 4096)) (Some entry) _ (and_from (eqb pcid pcid) (eqb (va / 4096) (va / 4096)) (eq-eqb pcid pcid refl) (eq-eqb (va / 4096) (va / 4096) refl));

@@ -6,12 +6,12 @@ use Rattle.page_entry.specs.declared.refusal.Refusal.{Refusal}
 use Rattle.page_entry.specs.declared.refusal.Refusal.TheVariants as refusals
 use Rattle.pcid_tlb.specs.Tlb.{TlbState}
 use Rattle.spaces.specs.Spaces.{Spaces, entry_at, with_entry}
-use Rattle.spaces.proofs.SpacesLaws.{entry_at-with_entry, places-with_entry, has_space-with_entry}
+use Rattle.spaces.proofs.Public.{entry_at-with_entry, places-with_entry, has_space-with_entry}
 use Rattle.shootdown.specs.Coherence.{Coheres}
 use Rattle.shootdown.specs.Shootdown.{processor_at, current, with_processor, is_there}
-use Rattle.shootdown.proofs.ShootdownLaws.{running, is_there_below}
+use Rattle.shootdown.proofs.Public.{running, is_there_below}
 use Rattle.checkpoint.specs.Checkpoint.{CheckpointState, IsDirty}
-use Rattle.checkpoint.proofs.Noting.{has_space-entry}
+use Rattle.checkpoint.proofs.Public.{has_space-entry}
 use Rattle.cpu.specs.Access.{Hardware, LoadMade, Faults, walked, filled_by}
 use Rattle.machine.specs.declared.act.Reply.{Reply}
 use Rattle.machine.specs.declared.act.Reply.TheVariants as replies

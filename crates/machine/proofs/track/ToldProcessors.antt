@@ -11,7 +11,7 @@ use Rattle.shootdown.specs.declared.proc_state.ProcState.{ProcState}
 use Rattle.shootdown.specs.declared.proc_state.ProcState.TheVariants.{Active, Interrupted, Stalled, Initiating, Idle}
 use Rattle.shootdown.specs.Processors.{Processor, is_running, is_concerned, queued, told}
 use Rattle.shootdown.specs.Shootdown.{ShootdownState, processor_at, state_of, current, with_processor, state_when_begun, begun, destroyed}
-use Rattle.shootdown.proofs.ShootdownLaws.{processor_at-with_same, processor_at-with_other, length-with_processor, processor_at-begun, state-begun_one, current-begun, length-begun, processor_at-destroyed, length-destroyed, current-destroyed}
+use Rattle.shootdown.proofs.Public.{processor_at-with_same, processor_at-with_other, length-with_processor, processor_at-begun, state-begun_one, current-begun, length-begun, processor_at-destroyed, length-destroyed, current-destroyed}
 
 -- these current spaces and these running processors
 pub record AreProcessorsTold (spaces : List ℕ) (runs : List Bool) (s : ShootdownState) : Type 0 where

@@ -11,7 +11,7 @@ use Rattle.mappings.specs.Places.{Places, with_range, without_range, with_rights
 use Rattle.page_entry.specs.Entry.{Mapped}
 use Rattle.page_table.specs.Table.{outside_range}
 use Rattle.spaces.specs.Spaces.{AddressSpace, Spaces, empty_space, has_space, space_at, with_space, with_entry, with_mapping, without_mapping, SetsRights}
-use Rattle.spaces.proofs.SpacesLaws.{has_space-with_space, space_at-with_space_same, space_at-with_space_other, has_space-remove, space_at-remove, has_space-with_entry, places-with_entry}
+use Rattle.spaces.proofs.Public.{has_space-with_space, space_at-with_space_same, space_at-with_space_other, has_space-remove, space_at-remove, has_space-with_entry, places-with_entry}
 
 abbrev pub ToldSpaces : Type 0
 ToldSpaces = maps.FinMap nat_cmp Places

@@ -4,11 +4,11 @@ use Rattle.std.proofs.lemmas.Bool.{and_parts, not-false}
 use Rattle.page_entry.specs.Entry.{Mapped}
 use Rattle.pcid_tlb.specs.declared.CachedEntry.{CachedEntry}
 use Rattle.pcid_tlb.specs.Tlb.{cached}
-use Rattle.pcid_tlb.proofs.TlbLaws.{cached-All}
+use Rattle.pcid_tlb.proofs.Public.{cached-All}
 use Rattle.spaces.specs.Spaces.{entry_at}
 use Rattle.shootdown.specs.Coherence.{Coheres, Agrees, IsUsable}
 use Rattle.shootdown.specs.Shootdown.{processor_at, current, not_running}
-use Rattle.shootdown.proofs.ShootdownLaws.{running, is_there_below}
+use Rattle.shootdown.proofs.Public.{running, is_there_below}
 use Rattle.cpu.specs.Access.{Hardware, serves, walk, walked, walked_to, translated, translated_by, filled_by}
 
 -- A translation that reached a frame: through the table's entry, which stays as it was and was dirty before a store, or is noted and cached.

@@ -1,8 +1,9 @@
 -- How the code keeps a machine: its layers, and what private calls promise of them.
-use Rattle.std.specs.Prelude.{ℕ, ◌≡◌, ◌*◌, ◌≤◌, ◌<◌, false, List, [], ◌∷◌, length, Option, Some, Result, Ok, Err}
+use Rattle.std.specs.Prelude.{ℕ, ◌≡◌, ◌*◌, ◌≤◌, ◌<◌, false, List, [], ◌∷◌, length, Option, Some, None, Result, Ok, Err}
 use Rattle.page_entry.specs.declared.refusal.Refusal.{Refusal}
 use Rattle.page_entry.specs.declared.numbers.FilePage.{FilePage}
 use Rattle.mappings.specs.declared.page_range.PageRange.{PageRange}
+use Rattle.mappings.specs.declared.place.Rights.{Rights}
 use Rattle.volume_codec.specs.Super.{SuperValue, block_count, capacities_in}
 use Rattle.spaces.specs.declared.change.Change.{Change}
 use Rattle.spaces.specs.declared.change.Change.TheVariants.{Unmap, Protect}
@@ -34,13 +35,13 @@ abbrev pub whole_in : {D Z : Type 0} → Layers D Z → Whole D
 whole_in m = record { state = state_in m; device = m.device }
 
 -- the memory that a change needs is reserved
-abbrev pub IsReserved : Change → Option (ℕ × PageRange) → Type 0
-IsReserved (Unmap pcid range) prepared = prepared ≡ Some (pcid, range)
-IsReserved (Protect pcid range rights) prepared = prepared ≡ Some (pcid, range)
+abbrev pub IsReserved : Change → Option (ℕ × PageRange × Option Rights) → Type 0
+IsReserved (Unmap pcid range) prepared = prepared ≡ Some (pcid, range, None)
+IsReserved (Protect pcid range rights) prepared = prepared ≡ Some (pcid, range, Some rights)
 IsReserved other prepared = Unit {0}
 
 -- so is that of the change that is under way
-abbrev pub AreReserved : Option Lock → Option (ℕ × PageRange) → Type 0
+abbrev pub AreReserved : Option Lock → Option (ℕ × PageRange × Option Rights) → Type 0
 AreReserved held prepared = (lock : Lock) → held ≡ Some lock → IsReserved lock.change prepared
 
 -- what holds of every machine: its state is sound, its device is long enough for its volume, and memory is reserved for

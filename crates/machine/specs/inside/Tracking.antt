@@ -99,6 +99,22 @@ pub record IsLost (s : State) : Type 0 where
   pub broken : s.write_outs.broken ≡ true
   pub no_mark : change_in s.hardware.shootdown.lock ≢ Some Checkpoint
 
+-- a batch of this mark isn't committed
+pub record IsWaiting (batches : List WriteOut) (number : ℕ) : Type 0 where
+  pub w : WriteOut
+  pub there : Contains batches w
+  pub early : has_committed w ≡ false
+  pub mark : w.batch.mark ≡ number
+
+-- Each mark of the history is acknowledged, or its batch isn't committed, or it was lost. The first prefix has
+-- acknowledged marks alone, the second these and the one whose batch isn't committed.
+pub record AreMarks (history before marked : List Event) (s : State) : Type 0 where
+  pub each : (number : ℕ) → Contains history (Mark number)
+      → Contains history (Acknowledge number) ⊎ (IsWaiting s.write_outs.batches number ⊎ IsLost s)
+  pub in_before : (number : ℕ) → Contains before (Mark number) → Contains history (Acknowledge number)
+  pub in_marked : (number : ℕ) → Contains marked (Mark number)
+      → Contains history (Acknowledge number) ⊎ IsWaiting s.write_outs.batches number
+
 -- Contents before the batch that isn't committed yet and with it, each those after a marked prefix of the history that
 -- has every acknowledged mark. Where each batch is committed, the second alone count.
 pub record IsWritten (files : List File) (told : Told) (s : State) (old new : ℕ → List ℕ) : Type 0 where
@@ -113,6 +129,7 @@ pub record IsWritten (files : List File) (told : Told) (s : State) (old new : �
   -- and not in the first; a mark is given a number that no mark before it has
   pub fresh : (w : WriteOut) → Contains s.write_outs.batches w → has_committed w ≡ false
       → Contains before (Mark w.batch.mark) → ⊥
+  pub only : AreMarks told.history before marked s
   pub numbered : (number : ℕ) → Contains told.history (Mark number) → number ≤ s.marks
   -- a machine that broke while a mark was under way has no batch that isn't committed
   pub ready : s.write_outs.broken ≡ true → change_in s.hardware.shootdown.lock ≡ Some Checkpoint

@@ -1,7 +1,13 @@
 -- Edits of a list of mappings.
-use Rattle.std.specs.Prelude.{ℕ, ◌+◌, ◌<◌, ◌≤◌, ◌≡◌, Bool, true, ◌&&◌, ◌||◌, ◌⊎◌, nat_le, nat_lt, if◌then◌else◌, List, [], ◌∷◌}
+use Rattle.std.specs.Prelude.{ℕ, ◌+◌, ◌^◌, ◌<◌, ◌≤◌, ◌≡◌, Bool, true, ◌&&◌, ◌||◌, ◌⊎◌, nat_le, nat_lt, if◌then◌else◌, Option, Some, None, List, [], ◌∷◌, length, slice_index_or}
+use Rattle.std.specs.List.{insert}
 use Rattle.mappings.specs.declared.place.Rights.{Rights}
 use Rattle.mappings.specs.declared.mapping.Mapping.{Mapping}
+use Rattle.std.specs.FinMap as fin_map
+use Rattle.mappings.specs.declared.place.Place.{Place}
+use Rattle.mappings.specs.declared.page_range.PageRange.{PageRange}
+use Rattle.mappings.specs.Places.{Places, goes_on, is_cut}
+use Rattle.mappings.specs.Places as places
 use Rattle.mappings.specs.inside.Listed.{place_in, places_of, joins, Neighbours, IsOrdered}
 
 -- the part of a mapping below a page
@@ -22,6 +28,31 @@ split_at page (mapping ∷ rest) =
 -- whether a mapping has no page from first up to end, if neither is inside it
 abbrev pub is_outside : ℕ → ℕ → Mapping → Bool
 is_outside first end mapping = nat_le mapping.end first || nat_le end mapping.first
+
+-- the part of a mapping below a page, if there is one
+abbrev pub part_below : ℕ → Mapping → Option Mapping
+part_below page mapping = if nat_lt mapping.first page then Some (below mapping page) else None
+
+-- the part of a mapping from a page on, if there is one
+abbrev pub part_from : ℕ → Mapping → Option Mapping
+part_from page mapping = if nat_lt page mapping.end then Some (from_page mapping page) else None
+
+-- with a mapping before the others, if there is one
+abbrev pub put_first : Option Mapping → List Mapping → List Mapping
+put_first None rest = rest
+put_first (Some mapping) rest = mapping ∷ rest
+
+-- with a mapping at a place, if there is one
+abbrev pub put_at : List Mapping → ℕ → Option Mapping → List Mapping
+put_at list at None = list
+put_at list at (Some mapping) = insert list at mapping
+
+-- of each mapping the parts without the pages from first up to end
+abbrev pub without_pages : ℕ → ℕ → List Mapping → List Mapping
+without_pages first end [] = []
+without_pages first end (mapping ∷ rest) =
+    if is_outside first end mapping then mapping ∷ without_pages first end rest
+    else put_first (part_below first mapping) (put_first (part_from end mapping) (without_pages first end rest))
 
 -- the mapping with the rights
 abbrev pub with_rights : Rights → Mapping → Mapping
@@ -60,6 +91,14 @@ IsUncut page (mapping ∷ rest) = (mapping.first < page → mapping.end ≤ page
 abbrev pub IsMergedBut : ℕ → ℕ → List Mapping → Type 0
 IsMergedBut p q = Neighbours (λ before next. joins before next ≡ true → (next.first ≡ p) ⊎ (next.first ≡ q))
 
+-- a mapping of the list has pages on both sides of the page's begin
+pub record IsAround (list : List Mapping) (page : ℕ) (mapping : Mapping) : Type 0 where
+  pub at : ℕ
+  pub within : at < length list
+  pub found : (d : Mapping) → slice_index_or list at d ≡ mapping
+  pub below : mapping.first < page
+  pub above : page < mapping.end
+
 -- the new list maps what the old one does, by mappings that lie within the count pages from first on or outside them
 pub record IsSplit (old new : List Mapping) (first count : ℕ) : Type 0 where
   pub ordered : IsOrdered 0 new
@@ -67,3 +106,39 @@ pub record IsSplit (old new : List Mapping) (first count : ℕ) : Type 0 where
   pub uncut_first : IsUncut first new
   pub uncut_end : IsUncut (first + count) new
   pub merged_but : IsMergedBut first (first + count) new
+
+-- how many of the two ends of count pages from first on are within a mapping
+abbrev pub end_splits : Places → ℕ → ℕ → ℕ
+end_splits places first count =
+    (if goes_on places first then 1 else 0) + (if goes_on places (first + count) then 1 else 0)
+
+-- the pages from low up to high, where any of them is mapped, have the rights
+abbrev pub HaveRights : List Mapping → ℕ → ℕ → Rights → Type 0
+HaveRights list low high rights = (q : ℕ) (place : Place) → low ≤ q → q < high
+    → fin_map.get (places_of list) q ≡ Some place → place.rights ≡ rights
+
+-- the pages before this one have the rights from the first page on, and a mapping goes on at that one only where it has other
+-- rights at this one
+pub record IsBegin (list : List Mapping) (page : ℕ) (rights : Rights) (first : ℕ) : Type 0 where
+  pub order : first ≤ page
+  pub have : HaveRights list first page rights
+  pub cut : goes_on (places_of list) first ≡ is_cut (places_of list) page rights
+
+-- the same of the pages from this one up to an end
+pub record IsEnd (list : List Mapping) (page : ℕ) (rights : Rights) (end : ℕ) : Type 0 where
+  pub order : page ≤ end
+  pub below_end : end < 2 ^ 64
+  pub have : HaveRights list page end rights
+  pub cut : goes_on (places_of list) end ≡ is_cut (places_of list) page rights
+
+-- The range has more pages at either end, which have the rights already, and a mapping goes on from before its first
+-- page or to the page after its last one only where it has other rights.
+pub record IsWidened (list : List Mapping) (range : PageRange) (rights : Rights) (wide : PageRange) : Type 0 where
+  pub begins : wide.first ≤ range.first
+  pub ends : range.first + range.count ≤ wide.first + wide.count
+  pub below_end : wide.first + wide.count < 2 ^ 64
+  pub first : goes_on (places_of list) wide.first ≡ is_cut (places_of list) range.first rights
+  pub end : goes_on (places_of list) (wide.first + wide.count)
+      ≡ is_cut (places_of list) (range.first + range.count) rights
+  pub same : places.with_rights (places_of list) wide.first wide.count rights
+      ≡ places.with_rights (places_of list) range.first range.count rights

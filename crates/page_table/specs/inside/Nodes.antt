@@ -6,6 +6,7 @@ use Rattle.std.specs.FinMap as maps
 use Rattle.std.specs.FinSet as sets
 use Rattle.page_entry.specs.Entry.{Mapped, entry_of, has_bit, IsEntry}
 use Rattle.page_table.specs.Table.{TableState, in_range}
+use Rattle.page_table.specs.Bits.{is_set}
 
 -- a word of a node; 0 where there is no node
 abbrev pub word : List ℕ → ℕ → ℕ → ℕ
@@ -63,10 +64,6 @@ abbrev pub IsFirstGrown : List ℕ → ℕ → ℕ → Option ℕ → Type 0
 IsFirstGrown words start end None = (q : ℕ) → start ≤ q → q < end → walk words 3 (q / 512) ≡ 0
 IsFirstGrown words start end (Some page) = IsFound words start end page
 
--- each word is an entry's bits
-abbrev pub AreEntries : List ℕ → Type 0
-AreEntries words = (i : ℕ) → i < length words → IsEntry (slice_index_or words i 0)
-
 -- f done to the entry of each page of the range; the nodes stay
 pub record EditsPages (f : ℕ → ℕ) (start end : ℕ) (old new : List ℕ) : Type 0 where
   pub table : IsTable new
@@ -95,13 +92,14 @@ needed words start end =
     + missing words 2 (start / 2 ^ 18) ((end - 1) / 2 ^ 18 + 1 - start / 2 ^ 18)
     + missing words 3 (start / 512) ((end - 1) / 512 + 1 - start / 512)
 
--- the same entries; each block of 512 pages that has a page of the range has a leaf, and no other one has that had none
+-- the same entries; each block of 512 pages that has a page of the range has a leaf, and no other one has that had none;
+-- leaves stay
 pub record GrowsPages (start end : ℕ) (old new : List ℕ) : Type 0 where
   pub table : IsTable new
   pub size : length new ≡ length old
   pub entries : (page : ℕ) → walk new 4 page ≡ walk old 4 page
   pub grown : (block : ℕ) → start / 512 ≤ block → block ≤ (end - 1) / 512 → 0 < walk new 3 block
-  pub kept : (block : ℕ) → 0 < walk old 3 block → 0 < walk new 3 block
+  pub kept : (block : ℕ) → 0 < walk old 3 block → walk new 3 block ≡ walk old 3 block
   pub others : (block : ℕ) → (start / 512 ≤ block → (end - 1) / 512 < block) → walk new 3 block ≡ walk old 3 block
 
 -- a page's entry before these, if it is present
@@ -127,22 +125,6 @@ table_of words = record {
   grown = sets.from_list (pages_from (has_leaf words) 0 (2 ^ 36));
   nodes = length words / 512;
 }
-
--- whether a bit of a mask of 512 bits is set
-abbrev pub is_set : List ℕ → ℕ → Bool
-is_set mask i = has_bit (slice_index_or mask (i / 64) 0) (i % 64)
-
--- the first bit from `from` on that is set
-pub record IsSet (mask : List ℕ) (from place : ℕ) : Type 0 where
-  pub low : from ≤ place
-  pub high : place < 512
-  pub here : is_set mask place ≡ true
-  pub before : (i : ℕ) → from ≤ i → i < place → is_set mask i ≡ false
-
--- the first bit from `from` on that is set, if there is one
-abbrev pub IsFirstSet : List ℕ → ℕ → Option ℕ → Type 0
-IsFirstSet mask from None = (i : ℕ) → from ≤ i → i < 512 → is_set mask i ≡ false
-IsFirstSet mask from (Some place) = IsSet mask from place
 
 -- the mask of the entries of a block of 512 pages: whether each of them is dirty
 pub record IsLeafMask (words : List ℕ) (block : ℕ) (mask : List ℕ) : Type 0 where

@@ -1,35 +1,35 @@
--- What carrying out a batch does to a device's bytes, step by step.
-use Rattle.std.specs.Prelude.{◌≡◌, ◌≢◌, ◌⊎◌, ℕ, List, [], ◌∷◌, length, slice_index}
+-- What carrying out open batches, one after another, does to a device.
+use Rattle.std.specs.Prelude.{◌≡◌, ◌≢◌, ℕ, List, [], slice_index, Result, OnOk}
 use Rattle.std.specs.List.{AllByRecursion}
-use Rattle.volume_codec.specs.Layout.{GeometryValue, IsHome, block_at}
-use Rattle.volume_codec.specs.Recovery.{Batch, contents_in}
-use Rattle.recovery.specs.Opening.{IsOutside, HaveNoRecord, gate_byte}
+use Rattle.device.specs.Device.{LeavesOnly}
+use Rattle.device.specs.declared.device.Device.{Ghosts}
+use Rattle.volume_codec.specs.Layout.{GeometryValue}
+use Rattle.volume_codec.specs.Super.{SuperValue, geometry_of}
+use Rattle.volume_codec.specs.Recovery.{Batch}
+use Rattle.journal.specs.Finished.{IsOutside, gate_byte, Holds, RecoversSame}
+use Rattle.recovery.specs.Counts.{Rises, RisesWithin}
+use Rattle.recovery.specs.inside.Reading.{carry_calls}
 
--- as many bytes, and the same blocks but for these home blocks
-pub record IsTornAt (homes old new : List ℕ) : Type 0 where
-  pub same_length : length new ≡ length old
-  pub blocks : (b : ℕ) → AllByRecursion (λ home. home ≢ b) homes → block_at new b ≡ block_at old b
-
--- the records of a batch are in their home blocks, and the other blocks are as before
-pub record IsApplied (g : GeometryValue) (batch : Batch) (old new : List ℕ) : Type 0 where
-  pub same_length : length new ≡ length old
-  pub homes : (b : ℕ) → IsHome g b → block_at new b ≡ contents_in g.slots (batch ∷ []) old b
-  pub others : (i : ℕ) → IsOutside g i → slice_index new i ≡ slice_index old i
-
--- the same, with any byte in the gate
-pub record IsClosing (g : GeometryValue) (batch : Batch) (old new : List ℕ) : Type 0 where
-  pub same_length : length new ≡ length old
-  pub homes : (b : ℕ) → IsHome g b → block_at new b ≡ contents_in g.slots (batch ∷ []) old b
-  pub others : (i : ℕ) → IsOutside g i → i ≢ gate_byte g.slots batch → slice_index new i ≡ slice_index old i
-
--- what a crash leaves while a batch is carried out: its home blocks torn, or all its records in them and the gate torn
-abbrev pub IsBeingCarried : GeometryValue → Batch → List ℕ → List ℕ → Type 0
-IsBeingCarried g batch old c = IsTornAt batch.homes old c ⊎ IsClosing g batch old c
-
--- older batches are carried out and their gates are closed, and the home blocks of these that wait may be torn
-pub record IsPartly (g : GeometryValue) (waiting done : List Batch) (old new : List ℕ) : Type 0 where
-  pub same_length : length new ≡ length old
-  pub homes : (b : ℕ) → IsHome g b → HaveNoRecord waiting b → block_at new b ≡ contents_in g.slots done old b
-  pub gates : AllByRecursion (λ batch. slice_index new (gate_byte g.slots batch) ≢ 0xA7) done
-  pub others : (i : ℕ) → IsOutside g i → AllByRecursion (λ batch. i ≢ gate_byte g.slots batch) done
+-- the gates of these batches are closed by the byte 0, and every byte outside home blocks but these is as before
+pub record AreShut (g : GeometryValue) (batches : List Batch) (old new : List ℕ) : Type 0 where
+  pub gates : AllByRecursion (λ batch. slice_index new (gate_byte g.slots batch) ≡ 0) batches
+  pub others : (i : ℕ) → IsOutside g i → AllByRecursion (λ batch. i ≢ gate_byte g.slots batch) batches
       → slice_index new i ≡ slice_index old i
+
+-- of all these batches the oldest are done, and these wait
+pub record IsCarrying {D : Type 0} (disk : Ghosts D) (g : GeometryValue) (all waiting done : List Batch) (start now : D)
+    : Type 0 where
+  pub held : (v : SuperValue) (contents : ℕ → List ℕ) → geometry_of v ≡ g → Holds disk v all contents start
+      → Holds disk v waiting contents now
+  pub time : (v : SuperValue) (contents : ℕ → List ℕ) → geometry_of v ≡ g → Holds disk v all contents start
+      → LeavesOnly disk.moment disk.left_since start now (RecoversSame v contents (disk.seen start))
+  pub shut : disk.is_honest start → AreShut g done (disk.seen start) (disk.seen now)
+  pub calls : Rises (carry_calls done) (disk.calls_made start) (disk.calls_made now)
+
+-- these batches were carried out, the oldest first, or a device call failed
+pub record CarriesOut {D T E : Type 0} (disk : Ghosts D) (g : GeometryValue) (batches : List Batch) (old : D)
+    (result : Result T E) (new : D) : Type 0 where
+  pub done : OnOk result (IsCarrying disk g batches [] batches old new)
+  pub time : (v : SuperValue) (contents : ℕ → List ℕ) → geometry_of v ≡ g → Holds disk v batches contents old
+      → LeavesOnly disk.moment disk.left_since old new (RecoversSame v contents (disk.seen old))
+  pub most : RisesWithin (carry_calls batches) (disk.calls_made old) (disk.calls_made new)

@@ -3,8 +3,8 @@ use Rattle.std.specs.Prelude.{◌≡◌, ◌⊎◌, ◌+◌, ◌*◌, ◌<◌, �
 use Rattle.std.specs.List.{AllByRecursion}
 use Rattle.page_entry.specs.declared.refusal.Refusal.{Refusal}
 use Rattle.page_entry.specs.declared.refusal.Refusal.TheVariants.{Device, OutOfMemory, Damaged}
-use Rattle.volume_codec.specs.Layout.{GeometryValue, journals_of}
-use Rattle.volume_codec.specs.Descriptor.{DescriptorValue, AreHomes, IsDescriptor}
+use Rattle.volume_codec.specs.Layout.{GeometryValue}
+use Rattle.volume_codec.specs.Descriptor.{DescriptorValue, IsDescriptor}
 use Rattle.volume_codec.specs.Recovery.{Batch, IsOpenBatch, IsOpen, has_journal, AreOpen}
 use Rattle.recovery.specs.declared.opening.OpenJournal.{OpenJournal}
 
@@ -15,10 +15,6 @@ batch_of found = record { journal = found.journal; mark = found.descriptor.mark;
 -- their batches
 abbrev pub batches_of : {Z : Type 0} → List (OpenJournal Z) → List Batch
 batches_of found = map (λ journal. batch_of journal) found
-
--- a batch that can be carried out in a volume of this geometry
-abbrev pub CanCarry : GeometryValue → Batch → Type 0
-CanCarry g batch = (batch.journal < journals_of g.layout) × AreHomes g batch.homes
 
 -- how many device calls carry out these batches
 abbrev pub carry_calls : List Batch → ℕ

@@ -19,7 +19,6 @@ impl<A: Allocator + Copy> Shootdown<A> {
     /// `Stalled` where it neither is active nor was interrupted, `Locked` where it was interrupted.
     pub fn idle(&mut self, p: ProcessorNumber) -> Result<(), Refusal>
         ensures idled { Idles self.old p result self.new }
-        ensures coherent { KeepsCoherence self.old self.new }
     {
         match self.state(p)? {
             ProcState::Active => {
@@ -35,7 +34,6 @@ impl<A: Allocator + Copy> Shootdown<A> {
     /// any other state nothing happens. `Einval` where there is no processor with this number.
     pub fn wake(&mut self, p: ProcessorNumber) -> Result<bool, Refusal>
         ensures woken { GoesOn is_idle self.old p result self.new }
-        ensures coherent { KeepsCoherence self.old self.new }
     {
         match self.state(p)? {
             ProcState::Idle => self.go_on(p),
@@ -50,7 +48,6 @@ impl<A: Allocator + Copy> Shootdown<A> {
             (λ went. (went ≡ true) × (self.old.lock ≡ None) × (self.new ≡ resumed self.old p)) }
         ensures err { IfErr result
             (λ why. (why ≡ Refusal.Locked) × (is_some self.old.lock ≡ true) × (self.new ≡ self.old)) }
-        ensures coherent { KeepsCoherence self.old self.new }
     {
         if self.lock.is_some() {
             return Err(Refusal::Locked);
@@ -70,7 +67,6 @@ impl<A: Allocator + Copy> Shootdown<A> {
         keep: bool,
     ) -> Result<(), Refusal>
         ensures switched { Switches self.old spaces.now.map p pcid keep result self.new }
-        ensures coherent { KeepsCoherence self.old self.new }
     {
         self.admit_free(p)?;
         if !spaces.has(pcid) {
@@ -103,8 +99,6 @@ impl<A: Allocator + Copy> Shootdown<A> {
         requires { is_current self.old pcid ≡ false }
         ensures told { self.new ≡ destroyed self.old pcid }
         ensures forgotten { IsForgotten self.new pcid }
-        ensures coherent { (spaces : AddressSpaces)
-            → Coheres spaces self.old → Coheres (maps.remove spaces pcid) self.new }
     {
         tell_all(&mut self.processors, Invpcid::SingleContext(pcid));
     }

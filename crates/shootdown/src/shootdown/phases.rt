@@ -21,7 +21,6 @@ impl<A: Allocator + Copy> Shootdown<A> {
         requires free { not_free self.old p ≡ None }
         requires pages { HasUserPages change }
         ensures begun { self.new ≡ begun self.old p spaces.now.map change }
-        ensures coherent { Coheres spaces.now.map self.old → Coheres spaces.now.map self.new }
     {
         begin_change(&mut self.processors, p, spaces, &change);
         self.lock = Some(Lock { holder: p, change });
@@ -31,7 +30,6 @@ impl<A: Allocator + Copy> Shootdown<A> {
     /// `Einval` where there is none with this number.
     pub fn ack(&mut self, p: ProcessorNumber) -> Result<bool, Refusal>
         ensures acked { Acks self.old p result self.new }
-        ensures coherent { KeepsCoherence self.old self.new }
     {
         match self.state(p)? {
             ProcState::Interrupted => {
@@ -65,30 +63,12 @@ impl<A: Allocator + Copy> Shootdown<A> {
         }
     }
 
-    /// What `change`'s caller may do between `change` and `finish`: where the tables change at pages alone that the
-    /// change affects, which nobody uses, and no change affects more by it, processors and tables cohere as before.
-    pub fn coheres_when_changed(&self)
-        ensures { (change : Change) (old new : AddressSpaces) → ChangesOnlyAffected change old new
-            → IsUnused old change self.now
-            → ((lock : Lock) → self.now.lock ≡ Some lock → IsNoWider lock.change old new)
-            → Coheres old self.now → Coheres new self.now }
-    {}
-
-    /// What may be done at any time: where the tables grow, as by a fault that is served, and no change affects more by
-    /// it, processors and tables cohere as before.
-    pub fn coheres_when_grown(&self)
-        ensures { (old new : AddressSpaces) → Grows old new
-            → ((lock : Lock) → self.now.lock ≡ Some lock → IsNoWider lock.change old new)
-            → Coheres old self.now → Coheres new self.now }
-    {}
-
     /// The end of the third phase, after the change was made: the initiator carries out its own queue and goes on, and
     /// the lock is free.
     pub fn finish(&mut self, p: ProcessorNumber)
         requires held { holder_of self.old ≡ Some p }
         requires quiet { interrupted self.old ≡ 0 }
         ensures finished { self.new ≡ finished self.old p }
-        ensures coherent { KeepsCoherence self.old self.new }
     {
         self.processors[p as usize].wake();
         self.lock = None;
@@ -98,7 +78,6 @@ impl<A: Allocator + Copy> Shootdown<A> {
     /// the lock is held. In any other state nothing happens. `Einval` where there is no processor with this number.
     pub fn resume(&mut self, p: ProcessorNumber) -> Result<bool, Refusal>
         ensures resumed { GoesOn is_stalled self.old p result self.new }
-        ensures coherent { KeepsCoherence self.old self.new }
     {
         match self.state(p)? {
             ProcState::Stalled => self.go_on(p),

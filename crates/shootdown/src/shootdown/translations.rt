@@ -24,7 +24,6 @@ impl<A: Allocator + Copy> Shootdown<A> {
         requires there { IsTrue (is_there self.old p) }
         requires here { entry.pcid ≡ current self.old p }
         ensures filled { self.new ≡ with_tlb self.old p (filled (tlb_of self.old p) entry) }
-        ensures coherent { (spaces : Spaces) → Agrees spaces entry → Coheres spaces self.old → Coheres spaces self.new }
     {
         self.processors[p as usize].fill(entry);
     }
@@ -34,7 +33,6 @@ impl<A: Allocator + Copy> Shootdown<A> {
         requires { IsTrue (is_there self.old p) }
         ensures dropped { self.new
             ≡ with_tlb self.old p (without_page (tlb_of self.old p) (current self.old p) page) }
-        ensures coherent { KeepsCoherence self.old self.new }
     {
         self.processors[p as usize].drop_page(page);
     }
@@ -44,7 +42,6 @@ impl<A: Allocator + Copy> Shootdown<A> {
         requires { IsTrue (is_there self.old p) }
         ensures evicted { result ≡ nat_lt slot (length (tlb_of self.old p).entries) }
         ensures rest { self.new ≡ with_tlb self.old p (evicted (tlb_of self.old p) slot) }
-        ensures coherent { KeepsCoherence self.old self.new }
     {
         self.processors[p as usize].evict(slot)
     }

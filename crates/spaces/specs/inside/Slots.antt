@@ -1,5 +1,5 @@
 -- How the spaces are kept: a slot for each PCID, with a space or none.
-use Rattle.std.specs.Prelude.{ℕ, ◌≡◌, ◌+◌, ◌≤◌, ◌<◌, true, false, not, is_some, List, [], ◌∷◌, length, slice_index_or, Option, Some, None, IsSome, refl}
+use Rattle.std.specs.Prelude.{ℕ, ◌≡◌, ◌⊎◌, ◌↔◌, ◌+◌, ◌≤◌, ◌<◌, Bool, true, false, not, is_some, List, [], ◌∷◌, length, slice_index_or, Option, Some, None, IsSome, refl}
 use Rattle.std.specs.Coded.{Coded, code_by, coded×, coded_ℕ, coded_option}
 use Rattle.std.specs.Ordering.{nat_cmp}
 use Rattle.std.specs.FinMap as maps
@@ -7,10 +7,11 @@ use Rattle.page_entry.specs.Entry.{Mapped}
 use Rattle.page_table.specs.Table.{TableState, is_grown, mapped_code}
 use Rattle.mappings.specs.declared.page_range.PageRange.{PageRange}
 use Rattle.mappings.specs.Places.{Places, splits}
-use Rattle.mappings.specs.State.{MappingsState, place_code}
+use Rattle.mappings.specs.State.{MappingsState, place_code, rights_code}
 use Rattle.mappings.specs.Judgement.{is_user_range}
 use Rattle.spaces.specs.Spaces.{AddressSpace, Spaces, SpacesState, empty_space, has_space, space_at, AreSpaces}
 use Rattle.page_entry.specs.declared.numbers.FilePage.{FilePage}
+use Rattle.mappings.specs.declared.place.Rights.{Rights}
 use Rattle.spaces.specs.Requests.{is_user_space}
 use Rattle.spaces.specs.Changes.{is_place_of}
 
@@ -75,17 +76,45 @@ abbrev pub without_each : maps.FinMap nat_cmp Mapped → List ℕ → maps.FinMa
 without_each entries [] = entries
 without_each entries (page ∷ pages) = without_each (maps.remove entries page) pages
 
--- a user space has room for what one unmap or protect of a range splits
-pub record IsPrepared (slots : List (Option SpaceState)) (pcid : ℕ) (range : PageRange) : Type 0 where
+-- a user space has room for what one unmap of a range splits, or for what giving its pages the rights does
+pub record IsPrepared (slots : List (Option SpaceState)) (pcid : ℕ) (range : PageRange) (rights : Option Rights) : Type 0 where
   pub user_space : is_user_space (spaces_of slots) pcid ≡ true
   pub user_range : is_user_range range ≡ true
-  pub room : (s : SpaceState) → slot_at slots pcid ≡ Some s → splits s.places range.first range.count ≤ s.spare
+  pub room : (s : SpaceState) → slot_at slots pcid ≡ Some s → splits s.places range rights ≤ s.spare
 
 -- what the slots always keep
-pub record AreSlots (slots : List (Option SpaceState)) (prepared : Option (ℕ × PageRange)) : Type 0 where
+pub record AreSlots (slots : List (Option SpaceState)) (prepared : Option (ℕ × PageRange × Option Rights)) : Type 0 where
   pub spaces : AreSpaces (spaces_of slots)
   pub few : length slots ≤ 4096
-  pub ready : (pcid : ℕ) (range : PageRange) → prepared ≡ Some (pcid, range) → IsPrepared slots pcid range
+  pub ready : (pcid : ℕ) (range : PageRange) (rights : Option Rights) → prepared ≡ Some (pcid, range, rights)
+      → IsPrepared slots pcid range rights
+
+-- each entry maps a frame with a number below this
+abbrev pub AreBelow : List (Option SpaceState) → ℕ → Type 0
+AreBelow slots count = (pcid page : ℕ) (s : SpaceState) (entry : Mapped) → slot_at slots pcid ≡ Some s
+    → maps.get s.entries page ≡ Some entry → entry.frame < count
+
+-- an entry of a slot's space maps this frame as dirty
+pub record MapsDirty (slot : Option SpaceState) (frame : ℕ) : Type 0 where
+  pub s : SpaceState
+  pub here : slot ≡ Some s
+  pub page : ℕ
+  pub entry : Mapped
+  pub present : maps.get s.entries page ≡ Some entry
+  pub same_frame : entry.frame ≡ frame
+  pub dirty : entry.dirty ≡ true
+
+-- the frames that a slot's space maps as dirty are noted, and what was noted still is
+pub record NotesSlot (slot : Option SpaceState) (old new : List Bool) : Type 0 where
+  pub size : length new ≡ length old
+  pub noted : (frame : ℕ) → (slice_index_or new frame false ≡ true)
+      ↔ ((slice_index_or old frame false ≡ true) ⊎ MapsDirty slot frame)
+
+-- so are those of the first slots, up to this PCID
+pub record NotesSlots (slots : List (Option SpaceState)) (upto : ℕ) (old new : List Bool) : Type 0 where
+  pub size : length new ≡ length old
+  pub noted : (frame : ℕ) → (slice_index_or new frame false ≡ true)
+      ↔ ((slice_index_or old frame false ≡ true) ⊎ ((pcid : ℕ) × (pcid < upto) × MapsDirty (slot_at slots pcid) frame))
 
 -- the codes by which a proof tells values apart
 abbrev pub space_code : Coded AddressSpace
@@ -103,8 +132,12 @@ abbrev pub range_code : Coded PageRange
 range_code = code_by (ℕ × ℕ) (coded× coded_ℕ coded_ℕ) (λ r. (r.first, r.count))
     (λ p. record { first = p.0; count = p.1 }) (λ _. refl)
 
+abbrev pub prepared_code : Coded (ℕ × PageRange × Option Rights)
+prepared_code = code_by (ℕ × (PageRange × Option Rights)) (coded× coded_ℕ (coded× range_code (coded_option rights_code)))
+    (λ p. (p.0, (p.1, p.2))) (λ c. (c.0, c.1.0, c.1.1)) (λ _. refl)
+
 abbrev pub spaces_code : Coded SpacesState
 spaces_code =
-    code_by (Spaces × Option (ℕ × PageRange))
-    (coded× (maps.code coded_ℕ space_code) (coded_option (coded× coded_ℕ range_code)))
+    code_by (Spaces × Option (ℕ × PageRange × Option Rights))
+    (coded× (maps.code coded_ℕ space_code) (coded_option prepared_code))
     (λ s. (s.map, s.prepared)) (λ p. record { map = p.0; prepared = p.1 }) (λ _. refl)

@@ -20,7 +20,7 @@ loop-frame-preserved g c =
     elim c.if-notes-frame.branch [
       | then-notes-frame w ↦
           let after = w.push_reserved.ensures in
-          let gives : noted_page memory notes frame ≡ Some page = cond-true (noted_in notes frame) _ None w.if-notes-frame.true ∙ sym c.page.ensures.page ∙ c.unwrap-page.ensures in
+          let gives : noted_page memory notes frame ≡ Some page = cond-true (noted_in notes frame) _ None w.if-notes-frame.true ∙ sym c.owner.ensures.owner ∙ c.unwrap-page.ensures in
           let items = filter_map-more (noted_page memory notes) order i 0 c.loop-frame.pages.items w.push_reserved.new.self.items c.loop-frame-test.true before.listed (after.items ∙ ap (λ o. c.loop-frame.pages.items ++ option_to_list o) (sym gives)) in
           rw w.pages-is (record { listed = items; few = omega (arith, after.len, before.few); room = after.capacity ∙ before.room })
       | else-notes-frame w ↦

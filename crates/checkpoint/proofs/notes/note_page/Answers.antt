@@ -2,9 +2,17 @@ use Rattle.std.proofs.Common.{◌≡◌, false, set, true, sym, ap, ◌∙◌, a
 use Rattle.page_entry.specs.Entry.{frame_of, is_dirty}
 use Rattle.spaces.specs.Spaces.{entry_at}
 use Rattle.spaces.specs.Changes.{entries_of}
-use Rattle.checkpoint.proofs.Noting.{is_dirty-at, AreNoted-came, AreNoted-passed}
+use Rattle.checkpoint.proofs.Noting.{AreNoted-start, is_dirty-at, AreNoted-came, AreNoted-passed}
 use Rattle.checkpoint.proofs.Listed.{entries_of-next, walk-end, AreNoted-mappings}
 use Rattle.checkpoint.proofs.notes.note_page.Goals as goal
+
+pub loop-pcid-init : goal.loop-pcid-init
+loop-pcid-init g c = record {
+  can = tt;
+  finite = tt;
+  listed = c.into_iter-pcid-iterator.ensures.into_iter_gives ∙ c.entries_of-pcid-items.ensures;
+  noted = AreNoted-start c.args.spaces.now.map c.args.notes.now;
+}
 
 pub note-requires : goal.note-requires
 note-requires g c =

@@ -3,7 +3,7 @@ use Rattle.std.proofs.lemmas.Bool.{false≢true}
 use Rattle.std.proofs.lemmas.Bool.Decides.{nat_tests}
 use Rattle.std.proofs.lemmas.List.Elements.{All-contains, All-push}
 use Rattle.std.specs.FinMap as maps
-use Rattle.checkpoint.proofs.Listed.{walk-next}
+use Rattle.checkpoint.proofs.Public.{walk-next}
 use Rattle.machine.proofs.freshness.is_first_alone.Goals as goal
 
 pub returns-then-pcid-ne0 : goal.returns-then-pcid-ne0

@@ -1,5 +1,5 @@
 use Rattle.std.proofs.Common.{◌+◌, arith}
-use Rattle.volume_codec.proofs.Places.{first_home_of-next, first_home_of-le}
+use Rattle.volume_codec.proofs.Public.{first_home_of-next, first_home_of-le}
 use Rattle.machine.proofs.code.Table.{pages-in_file}
 use Rattle.machine.proofs.paging.home_block.Goals as goal
 

@@ -13,8 +13,8 @@ returns-then-word-ne0 c =
     let word = m / 2 ^ (place % 64) in
     let inv = c.loop-place.invariant in
     let fits : m < 2 ^ 64 = (c.type_inv.mask (place / 64)).fits in
-    IsSet-from mask c.args.from place _ inv.low inv.before
-    (rest_lowest mask place m word _ c.loop-place-test.true refl refl fits (bit_at-trailing_zeros w64 word (let some = c.if-word-ne0.true in omega arith) (omega (arith, div-le_self m (2 ^ (place % 64))))))
+    IsSet-from mask c.args.from place c.args.end _ inv.low inv.before
+    (rest_lowest mask place c.args.end m word _ c.loop-place-test.true c.requires.whole refl refl fits (bit_at-trailing_zeros w64 word (let some = c.if-word-ne0.true in omega arith) (omega (arith, div-le_self m (2 ^ (place % 64))))))
 
 pub loop-place-preserved : goal.loop-place-preserved
 loop-place-preserved c =

@@ -1,15 +1,17 @@
 use Rattle.std.proofs.Common.{◌≤◌, ◌<◌, ◌-◌}
 use Rattle.page_table.specs.inside.Changes.{changed_bits}
 use Rattle.page_table.specs.inside.Nodes.{EditsPages}
+use Rattle.page_table.specs.inside.Marks.{HasMarks}
 use Rattle.page_table.proofs.leaves.change_pages.Given as goal
 
 -- the pages so far have changed
-abbrev pub invariant-leaves : goal.invariant-leaves
-invariant-leaves l = record {
-  low : l.fn.range.start ≤ l.page;
-  high : l.fn.range.start < l.page → l.page ≤ l.end;
-  done : EditsPages (changed_bits l.change) l.fn.range.start l.page l.fn.words l.words;
+abbrev pub invariant-pages : goal.invariant-pages
+invariant-pages l = record {
+  low : l.fn.range.start ≤ l.start;
+  high : l.fn.range.start < l.start → l.start ≤ l.end;
+  done : EditsPages (changed_bits l.change) l.fn.range.start l.start l.fn.words l.words;
+  marks : HasMarks l.words l.present l.in_use;
 }
 
-abbrev pub decreases-leaves : goal.decreases-leaves
-decreases-leaves l = l.end - l.page
+abbrev pub decreases-pages : goal.decreases-pages
+decreases-pages l = l.end - l.start

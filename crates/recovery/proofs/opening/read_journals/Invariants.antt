@@ -1,8 +1,9 @@
 use Rattle.std.proofs.Common.{◌≤◌, Ok, length}
 use Rattle.std.specs.List.{AllByRecursion}
+use Rattle.journal.specs.WriteOut.{IsBatch}
 use Rattle.recovery.specs.Counts.{Rises, IsAccounted}
 use Rattle.recovery.specs.Opening.{IsUnwritten}
-use Rattle.recovery.specs.inside.Reading.{batches_of, CanCarry, AreRead}
+use Rattle.recovery.specs.inside.Reading.{batches_of, AreRead}
 use Rattle.recovery.proofs.opening.read_journals.Given as goal
 
 abbrev pub invariant-loop-journal : goal.invariant-loop-journal
@@ -10,7 +11,7 @@ invariant-loop-journal g l = record {
   kept : IsAccounted {X = Unit {0}} g.D.Device l.initial.device (Ok tt) l.device;
   unwritten : g.D.Device.is_honest l.initial.device → IsUnwritten g.D.Device l.initial.device l.device;
   found : g.D.Device.is_honest l.initial.device → AreRead l.geometry (g.D.Device.seen l.initial.device) l.journal (batches_of l.found.items);
-  carry : AllByRecursion (CanCarry l.geometry) (batches_of l.found.items);
+  carry : AllByRecursion (IsBatch l.geometry) (batches_of l.found.items);
   few : length l.found.items ≤ l.journal;
   calls : Rises (length l.found.items) (g.D.Device.calls_made l.initial.device) (g.D.Device.calls_made l.device);
 }

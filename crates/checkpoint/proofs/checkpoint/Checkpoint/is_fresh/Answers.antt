@@ -1,4 +1,4 @@
-use Rattle.std.proofs.Common.{◌≡◌, true, false, not, [], ◌∷◌, length, sym, ap, ◌∙◌, subst}
+use Rattle.std.proofs.Common.{◌≡◌, true, false, not, [], length, sym, ap, ◌∙◌, subst}
 use Rattle.std.specs.List.{list_any}
 use Rattle.checkpoint.specs.Checkpoint.{CheckpointState}
 use Rattle.checkpoint.proofs.Fresh.{none_set, set_none, none_left, not_true}

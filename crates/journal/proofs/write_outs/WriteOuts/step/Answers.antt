@@ -7,12 +7,13 @@ use Rattle.device.specs.Device.{LeavesOnly}
 use Rattle.volume_codec.specs.Layout.{GeometryValue}
 use Rattle.journal.specs.declared.flushed.Flushed.{Flushed}
 use Rattle.journal.specs.declared.flushed.Flushed.TheVariants.{Done, Device, Broken}
-use Rattle.journal.specs.Work.{Work, Nothing, worked, TornByWork, TornFromWork, calls_of, HasFailed}
+use Rattle.journal.specs.Work.{Work, Nothing}
 use Rattle.journal.specs.WriteOut.{WriteOut, has_committed, work_of, answer_of}
 use Rattle.journal.specs.WriteOut.{FlushValue, flush_work, flush_answer}
 use Rattle.journal.specs.WriteOuts.{WriteOutsValue, current, current_stage, outs_home, next_work, next_answer, outs_after}
 use Rattle.volume_codec.specs.Super.{SuperValue}
 use Rattle.device.proofs.Moments.{leaves_weaker, leaves_at_start}
+use Rattle.device.proofs.Done.{did_as}
 use Rattle.journal.specs.Crash.{LeftWithin}
 use Rattle.journal.specs.Standing.{IsStep, Stands, Stepped}
 use Rattle.journal.specs.inside.Sound.{IsSound, IsWriteOut}
@@ -113,37 +114,10 @@ returns-clause-whole g c sane = not_broken g c
 pub returns-clause-answer : goal.returns-clause-answer
 returns-clause-answer g c = ⊎_elim (λ is. inl (is ∙ same_answer g c ∙ ap next_answer c.self.view_is)) (λ is. inr is) c.step-answer.ensures.answer
 
-pub returns-clause-worked : goal.returns-clause-worked
-returns-clause-worked g c honest fine = c.step-answer.ensures.worked honest fine ∙ ap (worked (g.D.Device.seen c.args.device.now)) (same_work g c)
-
-pub returns-clause-torn : goal.returns-clause-torn
-returns-clause-torn g c honest failed =
-    subst (λ (w : Work). TornByWork w (g.D.Device.seen c.args.device.now) (g.D.Device.seen c.step-answer.new.device)) (same_work g c) (c.step-answer.ensures.torn honest failed)
-
-pub returns-clause-left : goal.returns-clause-left
-returns-clause-left g c d left = subst (λ (w : Work). TornFromWork w (g.D.Device.may_leave c.args.device.now) d) (same_work g c) (c.step-answer.ensures.left d left)
-
-pub returns-clause-sure : goal.returns-clause-sure
-returns-clause-sure g c honest fine sync = c.step-answer.ensures.sure honest fine (same_work g c ∙ sync)
-
-pub returns-clause-time : goal.returns-clause-time
-returns-clause-time g c =
-    subst (λ (w : Work). LeavesOnly g.D.Device.moment g.D.Device.left_since c.args.device.now c.step-answer.new.device (TornFromWork w (g.D.Device.may_leave c.args.device.now))) (same_work g c) c.step-answer.ensures.time
-
-pub returns-clause-calls : goal.returns-clause-calls
-returns-clause-calls g c small fine = c.step-answer.ensures.calls small fine ∙ ap (λ (w : Work). g.D.Device.calls_made c.args.device.now + calls_of w) (same_work g c)
-
-pub returns-clause-failed_calls : goal.returns-clause-failed_calls
-returns-clause-failed_calls g c small failed =
-    subst (λ (w : Work). HasFailed w (g.D.Device.calls_made c.args.device.now) (g.D.Device.calls_made c.step-answer.new.device)) (same_work g c) (c.step-answer.ensures.failed_calls small failed)
-
-pub returns-clause-failed_read : goal.returns-clause-failed_read
-returns-clause-failed_read g c small honest failed from to copy = c.step-answer.ensures.failed_read small honest failed from to (same_work g c ∙ copy)
+pub returns-clause-did : goal.returns-clause-did
+returns-clause-did g c = did_as g.D.Device (same_work g c) refl c.step-answer.ensures.did
 
 module _ (g : _) (c : goal.After-settle g) where
-  same_next : next_work c.args.self.now (bytes g c) ≡ flush_work (f g c) (bytes g c)
-  same_next = sym (same_work g c)
-
   is_whole : c.args.self.now.broken ≡ false
   is_whole = sym (ap (λ (o : WriteOutsValue). o.broken) c.self.view_is) ∙ c.if-self.false
 
@@ -156,9 +130,8 @@ module _ (g : _) (c : goal.After-settle g) where
     some = is_some;
     a_block = c.told-bytes;
     answered = returns-clause-answer g c;
-    worked = returns-clause-worked g c honest;
-    left = returns-clause-left g c;
-    sure = returns-clause-sure g c honest;
+    honest = honest;
+    did = returns-clause-did g c;
   }
 
 module _ (g : _) (c : goal.After-settle g) (v : SuperValue) (old new : ℕ → List ℕ) (s : Stands g.D.Device v c.args.self.now old new c.args.device.now)
@@ -167,7 +140,7 @@ module _ (g : _) (c : goal.After-settle g) (v : SuperValue) (old new : ℕ → L
   kept honest = Stepped c.args.self.now old new (bytes g c) c.step-answer.result c.args.device.now c.step-answer.new.device (is_step g c honest) is_new s
 
   pub crashes : LeavesOnly g.D.Device.moment g.D.Device.left_since c.args.device.now c.step-answer.new.device (LeftWithin v old new (current_stage c.args.self.now))
-  crashes = leaves_weaker (returns-clause-time g c)
+  crashes = leaves_weaker (returns-clause-did g c).time
       (stands_within v old new c.args.self.now (g.D.Device.seen c.args.device.now) (g.D.Device.may_leave c.args.device.now) (bytes g c) c.told-bytes (standing g.D.Device v s) (is_whole g c) (is_some g c) is_new)
 
 pub returns-clause-stands : goal.returns-clause-stands

@@ -93,4 +93,4 @@ returns-in-Fix g c =
     fix_done g.D.Device g.met.D.Device.since_now c.args.self.now c.fix.new.self c.args.step.now _ _ c.fix.result c.in-Fix.is c.fix.ensures.rules c.fix.ensures.fixed c.fix.ensures.untouched c.fix.ensures.device c.fix.ensures.kept
 
 pub returns-in-Flush : goal.returns-in-Flush
-returns-in-Flush g c = flush_done g.D.Device c.args.self.now c.flush.new.self c.args.step.now _ c.in-Flush.is c.flush.ensures.rules c.flush.ensures.device c.flush.ensures.unread c.flush.ensures.kept
+returns-in-Flush g c = flush_done g.D.Device c.args.self.now c.flush.new.self c.args.step.now _ c.in-Flush.is c.flush.ensures.rules c.flush.ensures.did c.flush.ensures.kept

@@ -1,18 +1,16 @@
-use Rattle.std.proofs.Common.{Option, None, Ok, refl, ◌∙◌, subst}
+use Rattle.std.proofs.Common.{Option, None, Ok, refl, subst}
 use Rattle.std.proofs.lemmas.Result.{err_from_is_err_and}
 use Rattle.spaces.specs.declared.change.Change.{Change}
 use Rattle.shootdown.specs.Calls.{HandsOut}
-use Rattle.machine.specs.inside.Layers.{state_in}
-use Rattle.machine.proofs.code.Holders.{same_change_refusal}
 use Rattle.machine.proofs.layers.Layers.change.Goals as goal
 
 pub returns-in_err-change-clause-rules : goal.returns-in_err-change-clause-rules
 returns-in_err-change-clause-rules g c =
     let p = err_from_is_err_and c.from_residual.result c.from_residual.ensures.1 in
-    rw (p.1, p.2) (record { reason_is = same_change_refusal (state_in c.args.self.now) c.args.p ∙ c.in_err-change.ensures.handed_out; unchanged = refl })
+    rw (p.1, p.2) (record { reason_is = c.in_err-change.ensures.handed_out; unchanged = refl })
 
 pub returns-in_default-clause-rules : goal.returns-in_default-clause-rules
 returns-in_default-clause-rules g c =
     let shootdown = c.args.self.now.shootdown in
     let hands : HandsOut shootdown c.args.p (Ok None) = subst (λ (x : Option Change). HandsOut shootdown c.args.p (Ok x)) c.in_default.is c.in_ok-change.ensures.handed_out in
-    (same_change_refusal (state_in c.args.self.now) c.args.p ∙ hands.0, hands.1, refl)
+    (hands.0, hands.1, refl)

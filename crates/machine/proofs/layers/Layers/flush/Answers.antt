@@ -1,4 +1,4 @@
-use Rattle.std.proofs.Common.{[], ◌∷◌, refl}
+use Rattle.std.proofs.Common.{[], ◌∷◌}
 use Rattle.std.proofs.lemmas.Result.{err_from_is_err_and}
 use Rattle.page_entry.specs.declared.refusal.Refusal.TheVariants as refusals
 use Rattle.shootdown.specs.Shootdown.{not_running}
@@ -17,12 +17,9 @@ returns-in_err-admit-clause-rules g c =
     let p = err_from_is_err_and c.from_residual.result c.from_residual.ensures.1 in
     rw (p.1, p.2) (record { some_disk = ([], [], flushes_refused s c.args.p _ [] calm first); own_disk = λ h. flushes_refused s c.args.p _ _ calm first })
 
-pub returns-in_err-admit-clause-device : goal.returns-in_err-admit-clause-device
-returns-in_err-admit-clause-device g c =
+pub returns-in_err-admit-clause-did : goal.returns-in_err-admit-clause-did
+returns-in_err-admit-clause-did g c =
     let s = state_in c.args.self.now in
     let calm = calm-not_running s.hardware.shootdown c.args.p _ c.in_err-admit.ensures.err in
     let p = err_from_is_err_and c.from_residual.result c.from_residual.ensures.1 in
     rw (p.1, p.2) (flush_untouched g.D.Device g.met.D.Device.since_now s _ c.args.self.now.device calm)
-
-pub returns-in_err-admit-clause-unread : goal.returns-in_err-admit-clause-unread
-returns-in_err-admit-clause-unread g c = λ honest from to refused copy few calls. refl

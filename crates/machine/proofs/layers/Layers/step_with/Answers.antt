@@ -1,17 +1,19 @@
-use Rattle.std.proofs.Common.{◌≡◌, Result, sym, ap, ◌∙◌, subst, ⊎_elim}
+use Rattle.std.proofs.Common.{◌≡◌, Result, not, refl, sym, ap, ◌∙◌, subst, ⊎_elim}
+use Rattle.device.specs.Did.{Did}
+use Rattle.device.proofs.Public.{did_as}
 use Rattle.page_entry.specs.declared.refusal.Refusal.{Refusal}
-use Rattle.journal.specs.Work.{Work, CopyBlock, worked, TornByWork}
 use Rattle.journal.specs.WriteOuts.{next_work}
 use Rattle.machine.specs.declared.act.Reply.{Reply}
 use Rattle.machine.specs.declared.layers.Layers.{Layers}
 use Rattle.machine.specs.State.{State}
-use Rattle.machine.specs.Rules.{Flushes, work_asked}
+use Rattle.machine.specs.Rules.{Flushes}
 use Rattle.machine.specs.declared.act.Act.TheVariants as acts
+use Rattle.machine.specs.Calls.{has_failed}
 use Rattle.machine.specs.Steps.{step_work}
 use Rattle.machine.specs.inside.Layers.{state_in, AnswersBy, reply_to as reply_by}
-use Rattle.machine.specs.inside.Flushing.{HasSmallMark, IsUnread, memory_after, checkpoint_after}
+use Rattle.machine.specs.inside.Flushing.{HasSmallMark, memory_after, checkpoint_after}
 use Rattle.machine.proofs.code.Records.{is_next_page, small-next_answer}
-use Rattle.machine.proofs.code.Flushes.{stepped, flushes_by, device_is}
+use Rattle.machine.proofs.code.Flushes.{stepped, flushes_by, answer_work, answer_done}
 use Rattle.machine.proofs.layers.Layers.step_with.Goals as goal
 
 pub settle-requires-clause-some : goal.settle-requires-clause-some
@@ -31,8 +33,7 @@ returns-clause-rules g c = λ p allowed.
     let disk = seen c.args.self.now.device in
     let asked = ap (next_work s.write_outs) c.bytes_from-bytes.ensures ∙ c.requires.bytes in
     let made = flushes_by honest s disk (seen c.step-answer.new.device) p allowed c.requires.some answer c.step-answer.ensures.answer (c.step-answer.ensures.whole c.requires.whole)
-    (λ h fine. c.step-answer.ensures.worked h fine ∙ ap (worked disk) asked)
-    (λ h failed. subst (λ (w : Work). TornByWork w disk (seen c.step-answer.new.device)) asked (c.step-answer.ensures.torn h failed)) in
+    (did_as g.D.Device asked refl c.step-answer.ensures.did).seen in
     let state : record s {
       hardware = record s.hardware { memory = memory_after answer c.args.writes_record s.checkpoint s.hardware.memory };
       checkpoint = checkpoint_after answer c.args.writes_record s.checkpoint;
@@ -46,14 +47,11 @@ returns-clause-rules g c = λ p allowed.
     let there = subst (λ (n : State). AnswersBy honest (λ d d'. Flushes s d p (reply_by c.reply_to_flush.result) n d') disk (seen c.step-answer.new.device)) (sym state) replied in
     subst (λ (w : Layers g.row.D.Denot g.row.A.Denot). AnswersBy honest (λ d d'. Flushes s d p (reply_by c.reply_to_flush.result) (state_in w) d') disk (seen w.device)) (sym c.settle.ensures) there
 
-pub returns-clause-unread : goal.returns-clause-unread
-returns-clause-unread g c =
+pub returns-clause-did : goal.returns-clause-did
+returns-clause-did g c =
     let s : State = state_in c.args.self.now in
-    let old = c.args.self.now.device in
-    let asked = ap (next_work s.write_outs) c.bytes_from-bytes.ensures ∙ c.requires.bytes in
-    let Made : Layers g.row.D.Denot g.row.A.Denot → Type 0 = λ w. IsUnread g.D.Device s (reply_by c.reply_to_flush.result) old w.device in
-    let made : IsUnread g.D.Device s (reply_by c.reply_to_flush.result) old c.step-answer.new.device = λ honest from to refused copy few calls.
-    (let failed = device_is c.step-answer.result (ap reply_by (sym c.reply_to_flush.ensures) ∙ refused) in
-    let work : work_asked s ≡ CopyBlock from to = ap (λ (r : Reply). step_work s acts.Flush r) (sym refused) ∙ copy in
-    c.step-answer.ensures.failed_read few honest failed from to (asked ∙ work) calls) in
-    subst Made (sym c.settle.ensures) made
+    let answer = c.step-answer.result in
+    let asked = ap (next_work s.write_outs) c.bytes_from-bytes.ensures ∙ c.requires.bytes ∙ sym (answer_work s answer (c.step-answer.ensures.whole c.requires.whole)) in
+    let did = did_as g.D.Device asked (answer_done answer) c.step-answer.ensures.did in
+    let replied = subst (λ (r : Result Reply Refusal). Did g.D.Device c.args.self.now.device (step_work s acts.Flush (reply_by r)) (not (has_failed (reply_by r))) c.step-answer.new.device) (sym c.reply_to_flush.ensures) did in
+    subst (λ (w : Layers g.row.D.Denot g.row.A.Denot). Did g.D.Device c.args.self.now.device (step_work s acts.Flush (reply_by c.reply_to_flush.result)) (not (has_failed (reply_by c.reply_to_flush.result))) w.device) (sym c.settle.ensures) replied

@@ -4,7 +4,7 @@ use Rattle.std.proofs.lemmas.List.{take_all}
 use Rattle.machine.specs.declared.act.Reply.{Reply}
 use Rattle.machine.specs.declared.act.Step.{Step}
 use Rattle.machine.specs.Runs.{StepsTaken}
-use Rattle.machine.proofs.code.Runs.{steps_more, run_taken, honest_taken, len_taken}
+use Rattle.machine.proofs.code.Runs.{steps_more, honest_taken, len_taken}
 use Rattle.machine.proofs.machine.Machine.make_all.Goals as goal
 
 pub loop-i-init : goal.loop-i-init
@@ -34,9 +34,6 @@ module _ (g : _) (c : goal.After-loop-i g) where
 
 pub returns-clause-steps : goal.returns-clause-steps
 returns-clause-steps g c = all g c
-
-pub returns-clause-run : goal.returns-clause-run
-returns-clause-run g c = λ honest. run_taken g.D.Device c.args.self.now c.args.steps.now c.loop-i.replies c.loop-i.self honest (all g c)
 
 pub returns-clause-honest : goal.returns-clause-honest
 returns-clause-honest g c = honest_taken g.D.Device c.args.self.now c.args.steps.now c.loop-i.replies c.loop-i.self (all g c)

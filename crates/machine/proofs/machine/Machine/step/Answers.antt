@@ -1,11 +1,13 @@
-use Rattle.std.proofs.Common.{ℕ, List, sym, subst}
+use Rattle.std.proofs.Common.{ℕ, ◌≡◌, List, sym, subst}
 use Rattle.machine.specs.declared.act.Reply.{Reply}
 use Rattle.machine.specs.State.{Whole}
-use Rattle.machine.specs.Rules.{Rules}
+use Rattle.page_entry.specs.declared.refusal.Refusal.TheVariants as refusals
+use Rattle.machine.specs.declared.act.Reply.TheVariants as replies
+use Rattle.machine.specs.Rules.{Rules, WantsMemory}
 use Rattle.machine.specs.Steps.{StepMade}
 use Rattle.machine.specs.inside.Layers.{state_in, whole_in}
 use Rattle.machine.specs.inside.Acting.{ActDone}
-use Rattle.machine.proofs.code.Stepping.{layers_kept, step_made, not_full}
+use Rattle.machine.proofs.code.Stepping.{layers_kept, step_made, not_full, wants_memory}
 use Rattle.machine.proofs.machine.Machine.step.Goals as goal
 
 pub invariant_of-self : goal.invariant_of-self
@@ -28,3 +30,8 @@ returns-clause-made g c =
 
 pub returns-clause-not_full : goal.returns-clause-not_full
 returns-clause-not_full g c = not_full g.D.Device c.self.inside.layers c.act.new.self c.args.step.now c.reply_to.result (done g c)
+
+pub returns-clause-memory : goal.returns-clause-memory
+returns-clause-memory g c =
+    subst (λ (w : Whole g.row.D.Denot). c.reply_to.result ≡ replies.Refused refusals.OutOfMemory → WantsMemory w.state c.args.step.now.p c.args.step.now.act) c.self.view_is
+    (wants_memory g.D.Device c.self.inside.layers c.act.new.self c.args.step.now c.reply_to.result (done g c))

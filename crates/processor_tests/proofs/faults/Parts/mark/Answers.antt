@@ -2,7 +2,7 @@ use Rattle.std.proofs.Common.{◌≡◌, true, ap, subst, sym}
 use Rattle.std.specs.List.{All}
 use Rattle.checkpoint.specs.Checkpoint.{CheckpointState}
 use Rattle.fault.specs.Fault.{is_in_memory}
-use Rattle.fault.proofs.FixKept.{All-frozen}
+use Rattle.fault.proofs.Public.{All-frozen}
 use Rattle.processor_tests.proofs.faults.Parts.mark.Goals as goal
 
 pub returns-clause-backed : goal.returns-clause-backed

@@ -1,4 +1,4 @@
-use Rattle.fault.proofs.FixKept.{All-in_memory_fixed}
+use Rattle.fault.proofs.Public.{All-in_memory_fixed}
 use Rattle.processor_tests.proofs.faults.Parts.serve.Goals as goal
 
 pub returns-clause-frozen : goal.returns-clause-frozen

@@ -2,9 +2,7 @@ use Rattle.std.proofs.Common.{List, Some, sym, ap, ◌∙◌, subst, arith}
 use Rattle.std.proofs.lemmas.List.{with_items_is}
 use Rattle.shootdown.specs.Processors.{Processor}
 use Rattle.shootdown.specs.Shootdown.{ShootdownState, begun_from, begun, IsShootdown}
-use Rattle.shootdown.specs.Coherence.{Coheres}
 use Rattle.shootdown.proofs.ShootdownLaws.{IsShootdown-begun, is_there_below, admitted}
-use Rattle.shootdown.proofs.CoherenceLaws.{Coheres-begun}
 use Rattle.shootdown.proofs.shootdown.Shootdown.begin.Goals as goal
 
 pub invariant_of-self : goal.invariant_of-self
@@ -19,20 +17,10 @@ invariant_of-self g c =
     let free = admitted old p c.requires.free in
     subst IsShootdown (sym new) (IsShootdown-begun old p spaces c.args.change is (is_there_below old p free.0) free.1)
 
-pub returns-clause-begun : goal.returns-clause-begun
-returns-clause-begun g c =
+pub returns : goal.returns
+returns g c =
     let p = c.args.p in
     let spaces = c.args.spaces.now.map in
     let processors = with_items_is c.self.inside.processors c.begin_change.new.processors (omega arith) ∙ c.begin_change.ensures ∙ ap (begun_from 0 p spaces c.args.change) c.deref_mut.ensures.value in
     let with_processors : List Processor → ShootdownState = λ xs. record { processors = xs; lock = Some (record { holder = p; change = c.args.change }) } in
-    ap with_processors processors ∙ ap (λ (s : ShootdownState). begun s p spaces c.args.change) c.self.view_is
-
-pub returns-clause-coherent : goal.returns-clause-coherent
-returns-clause-coherent g c = λ coheres.
-    let old = c.args.self.now in
-    let p = c.args.p in
-    let spaces = c.args.spaces.now.map in
-    let processors = with_items_is c.self.inside.processors c.begin_change.new.processors (omega arith) ∙ c.begin_change.ensures ∙ ap (begun_from 0 p spaces c.args.change) c.deref_mut.ensures.value in
-    let with_processors : List Processor → ShootdownState = λ xs. record { processors = xs; lock = Some (record { holder = p; change = c.args.change }) } in
-    let new = ap with_processors processors ∙ ap (λ (s : ShootdownState). begun s p spaces c.args.change) c.self.view_is in
-    subst (Coheres spaces) (sym new) (Coheres-begun spaces old p c.args.change coheres)
+    record { begun = ap with_processors processors ∙ ap (λ (s : ShootdownState). begun s p spaces c.args.change) c.self.view_is }

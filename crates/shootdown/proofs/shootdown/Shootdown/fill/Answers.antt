@@ -3,10 +3,8 @@ use Rattle.shootdown.specs.Processors.{Processor}
 use Rattle.shootdown.specs.Shootdown.{processor_at, IsShootdown}
 use Rattle.shootdown.proofs.ProcessorLaws.{IsProcessor-filled}
 use Rattle.shootdown.proofs.ShootdownLaws.{IsShootdown-same_state, is_there_below, read_at, moved_to}
-use Rattle.shootdown.proofs.CoherenceLaws.{Coheres-filled}
 use Rattle.pcid_tlb.specs.Tlb.{filled}
 use Rattle.std.proofs.Common.{refl}
-use Rattle.shootdown.specs.Coherence.{Coheres}
 use Rattle.shootdown.proofs.shootdown.Shootdown.fill.Goals as goal
 
 pub invariant_of-self : goal.invariant_of-self
@@ -16,15 +14,8 @@ invariant_of-self g c =
     let new = moved_to _ old p _ _ (λ (x : Processor). record x { tlb = filled x.tlb c.args.entry }) c.self.view_is c.requires.there c.index_mut.ensures.value c.fill.ensures in
     subst IsShootdown (sym new) (let is : IsShootdown old = subst IsShootdown c.self.view_is c.self.invariant in IsShootdown-same_state old p _ is (is_there_below old p c.requires.there) (IsProcessor-filled (processor_at old p) c.args.entry c.requires.here (is.each p (is_there_below old p c.requires.there))) refl)
 
-pub returns-clause-coherent : goal.returns-clause-coherent
-returns-clause-coherent g c =
-    let old = c.args.self.now in
-    let p = c.args.p in
-    let new = moved_to _ old p _ _ (λ (x : Processor). record x { tlb = filled x.tlb c.args.entry }) c.self.view_is c.requires.there c.index_mut.ensures.value c.fill.ensures in
-    λ spaces agrees coheres. subst (Coheres spaces) (sym new) (Coheres-filled spaces old p c.args.entry (is_there_below old p c.requires.there) agrees coheres)
-
 pub fill-requires : goal.fill-requires
 fill-requires g c = c.requires.here ∙ sym (ap (λ (x : Processor). x.space) (read_at _ c.args.self.now c.args.p _ c.self.view_is c.requires.there c.index_mut.ensures.value))
 
-pub returns-clause-filled : goal.returns-clause-filled
-returns-clause-filled g c = moved_to _ c.args.self.now c.args.p _ _ (λ (x : Processor). record x { tlb = filled x.tlb c.args.entry }) c.self.view_is c.requires.there c.index_mut.ensures.value c.fill.ensures
+pub returns : goal.returns
+returns g c = record { filled = moved_to _ c.args.self.now c.args.p _ _ (λ (x : Processor). record x { tlb = filled x.tlb c.args.entry }) c.self.view_is c.requires.there c.index_mut.ensures.value c.fill.ensures }

@@ -1,9 +1,7 @@
 use Rattle.std.proofs.Common.{None, sym, ap, subst}
 use Rattle.shootdown.specs.Processors.{woken}
 use Rattle.shootdown.specs.Shootdown.{ShootdownState, IsShootdown}
-use Rattle.shootdown.specs.Coherence.{KeepsCoherence}
-use Rattle.shootdown.proofs.ShootdownLaws.{IsShootdown-finished, is_there_below, held_by, holder_there, moved_to}
-use Rattle.shootdown.proofs.CoherenceLaws.{Coheres-finished}
+use Rattle.shootdown.proofs.ShootdownLaws.{IsShootdown-finished, held_by, holder_there, moved_to}
 use Rattle.shootdown.proofs.shootdown.Shootdown.finish.Goals as goal
 
 free : ShootdownState → ShootdownState
@@ -19,19 +17,9 @@ invariant_of-self g c =
     let new = ap free (moved_to _ old p _ _ woken c.self.view_is (holder_there old p is c.requires.held) c.index_mut.ensures.value c.wake.ensures) in
     subst IsShootdown (sym new) (IsShootdown-finished old p lock.0 is lock.1 lock.2 c.requires.quiet)
 
-pub returns-clause-finished : goal.returns-clause-finished
+pub returns : goal.returns
 unfolding free
-returns-clause-finished g c =
+returns g c =
     let old = c.args.self.now in
     let is : IsShootdown old = subst IsShootdown c.self.view_is c.self.invariant in
-    ap free (moved_to _ old c.args.p _ _ woken c.self.view_is (holder_there old c.args.p is c.requires.held) c.index_mut.ensures.value c.wake.ensures)
-
-pub returns-clause-coherent : goal.returns-clause-coherent
-unfolding free
-returns-clause-coherent g c =
-    let old = c.args.self.now in
-    let p = c.args.p in
-    let is : IsShootdown old = subst IsShootdown c.self.view_is c.self.invariant in
-    let there = holder_there old p is c.requires.held in
-    let new = ap free (moved_to _ old p _ _ woken c.self.view_is there c.index_mut.ensures.value c.wake.ensures) in
-    subst (KeepsCoherence old) (sym new) (Coheres-finished old p (is_there_below old p there))
+    record { finished = ap free (moved_to _ old c.args.p _ _ woken c.self.view_is (holder_there old c.args.p is c.requires.held) c.index_mut.ensures.value c.wake.ensures) }

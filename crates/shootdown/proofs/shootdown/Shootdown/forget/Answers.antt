@@ -1,29 +1,16 @@
 use Rattle.std.proofs.Common.{List, map, sym, ap, ◌∙◌, subst, arith}
-use Rattle.std.specs.FinMap as maps
 use Rattle.std.proofs.lemmas.List.{with_items_is}
 use Rattle.pcid_tlb.specs.declared.Invpcid.TheVariants.{SingleContext}
 use Rattle.shootdown.specs.Processors.{Processor, fresh_processor, told}
 use Rattle.shootdown.specs.Shootdown.{ShootdownState, destroyed, IsShootdown}
-use Rattle.shootdown.specs.Coherence.{Coheres, IsForgotten}
+use Rattle.shootdown.specs.Coherence.{IsForgotten}
 use Rattle.shootdown.proofs.ShootdownLaws.{IsShootdown-destroyed, elsewhere}
-use Rattle.shootdown.proofs.CoherenceLaws.{Coheres-destroyed, IsForgotten-destroyed}
-use Rattle.shootdown.proofs.Narrowing.{entry_at-remove_other, IsNoWider-remove}
+use Rattle.shootdown.proofs.CoherenceLaws.{IsForgotten-destroyed}
 use Rattle.shootdown.proofs.shootdown.Shootdown.forget.Goals as goal
 
 pub invariant_of-self : goal.invariant_of-self
 invariant_of-self g c =
     rw (with_items_is c.self.inside.processors c.tell_all.new.processors (omega arith), c.tell_all.ensures, c.deref_mut.ensures.value) (IsShootdown-destroyed _ c.args.pcid c.self.invariant)
-
-pub returns-clause-coherent : goal.returns-clause-coherent
-returns-clause-coherent g c = λ spaces coheres.
-    let old = c.args.self.now in
-    let is : IsShootdown old = subst IsShootdown c.self.view_is c.self.invariant in
-    let processors = with_items_is c.self.inside.processors c.tell_all.new.processors (omega arith) ∙ c.tell_all.ensures ∙ ap (map (λ (x : Processor). told x (SingleContext c.args.pcid))) c.deref_mut.ensures.value in
-    let with_processors : List Processor → ShootdownState = λ xs. record { processors = xs; lock = c.self.inside.lock } in
-    let new = ap with_processors processors ∙ ap (λ (s : ShootdownState). destroyed s c.args.pcid) c.self.view_is in
-    subst (Coheres (maps.remove spaces c.args.pcid)) (sym new)
-    (Coheres-destroyed spaces (maps.remove spaces c.args.pcid) old c.args.pcid is (λ p within. elsewhere old.processors c.args.pcid c.requires p (fresh_processor 1) within)
-    (λ q page other. entry_at-remove_other spaces c.args.pcid q page other) (λ lock held. IsNoWider-remove lock.change spaces c.args.pcid) coheres)
 
 pub returns-clause-forgotten : goal.returns-clause-forgotten
 returns-clause-forgotten g c =

@@ -1,9 +1,7 @@
 use Rattle.std.proofs.Common.{sym, ◌∙◌, subst}
 use Rattle.shootdown.specs.Processors.{Processor}
 use Rattle.shootdown.specs.Shootdown.{IsShootdown}
-use Rattle.shootdown.specs.Coherence.{KeepsCoherence}
 use Rattle.shootdown.proofs.ShootdownLaws.{IsShootdown-idled, is_there_below, moved_to}
-use Rattle.shootdown.proofs.CoherenceLaws.{Coheres-idled}
 use Rattle.shootdown.specs.declared.proc_state.ProcState.TheVariants.{Idle}
 use Rattle.shootdown.proofs.shootdown.Shootdown.idle.Goals as goal
 
@@ -13,10 +11,3 @@ invariant_of-self g c =
     let p = c.args.p in
     let new = moved_to _ old p _ _ (λ (x : Processor). record x { state = Idle }) c.self.view_is c.in_ok-state.ensures.ok.0 c.index_mut.ensures.value c.set_state.ensures in
     subst IsShootdown (sym new) (IsShootdown-idled old p c.state.ensures.kept (is_there_below old p c.in_ok-state.ensures.ok.0) (sym c.in_ok-state.ensures.ok.1 ∙ c.in-Active.is))
-
-pub returns-in-Active-clause-coherent : goal.returns-in-Active-clause-coherent
-returns-in-Active-clause-coherent g c =
-    let old = c.args.self.now in
-    let p = c.args.p in
-    let new = moved_to _ old p _ _ (λ (x : Processor). record x { state = Idle }) c.self.view_is c.in_ok-state.ensures.ok.0 c.index_mut.ensures.value c.set_state.ensures in
-    subst (KeepsCoherence old) (sym new) (Coheres-idled old p (is_there_below old p c.in_ok-state.ensures.ok.0))

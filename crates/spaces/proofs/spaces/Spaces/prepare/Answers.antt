@@ -1,8 +1,8 @@
 use Rattle.std.proofs.Common.{◌≡◌, ◌<◌, true, Some, sym, ap, ◌∙◌, subst, arith}
 use Rattle.std.proofs.lemmas.Result.{err_from_is_err_and}
-use Rattle.mappings.specs.Places.{splits}
 use Rattle.spaces.specs.Spaces.{AddressSpace, SpacesState, has_space, space_at, AreSpaces}
 use Rattle.spaces.specs.Requests.{is_user_space}
+use Rattle.mappings.specs.Places.{splits}
 use Rattle.spaces.specs.inside.Slots.{spaces_of}
 use Rattle.spaces.proofs.AreSpacesLaws.{user_space}
 use Rattle.spaces.proofs.SlotsLemmas.{within_slots, never_missing, slot_is, found_in_slot}
@@ -36,7 +36,7 @@ returns-in_err-prepare-clause-splits g c =
     let user = subst (λ (s : SpacesState). is_user_space s.map c.args.pcid ≡ true) (sym c.self.view_is) c.requires.space in
     let at = slot_is c.self.inside.slots.items c.args.pcid c.index_mut.result.now c.in-Some.space (user_space (spaces_of slots) c.args.pcid user).1 c.index_mut.ensures.value c.in-Some.is in
     let here = (found_in_slot slots c.args.pcid c.in-Some.space at).same in
-    let split : AddressSpace → Type 0 = λ x. 0 < splits x.places c.args.range.first c.args.range.count in
+    let split : AddressSpace → Type 0 = λ x. 0 < splits x.places c.args.range c.args.rights in
     let p = err_from_is_err_and c.from_residual.result c.from_residual.ensures.1 in
     rw p.1 (subst (λ (s : SpacesState). split (space_at s.map c.args.pcid)) c.self.view_is (subst split (sym here) c.in_err-prepare.ensures.missing))
 
@@ -54,7 +54,7 @@ invariant_of-self-2 g c =
     let slots = c.self.inside.slots.items in
     let user = subst (λ (s : SpacesState). is_user_space s.map c.args.pcid ≡ true) (sym c.self.view_is) c.requires.space in
     let at = slot_is c.self.inside.slots.items c.args.pcid c.index_mut.result.now c.in-Some.space (user_space (spaces_of slots) c.args.pcid user).1 c.index_mut.ensures.value c.in-Some.is in
-    slots_prepared slots c.args.pcid c.in-Some.space at c.prepare.new.self c.self.inside.prepared c.args.range c.self.invariant user c.requires.pages c.prepare.ensures.same c.in_ok-prepare.ensures.reserved
+    slots_prepared slots c.args.pcid c.in-Some.space at c.prepare.new.self c.self.inside.prepared c.args.range c.args.rights c.self.invariant user c.requires.pages c.prepare.ensures.same c.in_ok-prepare.ensures.reserved
 
 pub returns-clause-prepared : goal.returns-clause-prepared
 returns-clause-prepared g c =
@@ -63,4 +63,4 @@ returns-clause-prepared g c =
     let at = slot_is c.self.inside.slots.items c.args.pcid c.index_mut.result.now c.in-Some.space (user_space (spaces_of slots) c.args.pcid user).1 c.index_mut.ensures.value c.in-Some.is in
     let same = set-same slots c.args.pcid c.in-Some.space at c.prepare.new.self c.prepare.ensures.same in
     let now = same ∙ ap (λ (s : SpacesState). s.map) c.self.view_is in
-    λ i. record { map = now i; prepared = Some (c.args.pcid, c.args.range) }
+    λ i. record { map = now i; prepared = Some (c.args.pcid, c.args.range, c.args.rights) }

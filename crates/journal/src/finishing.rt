@@ -1,0 +1,57 @@
+// The batch of an open journal is finished, as recovery finds one.
+ghost use Rattle.std.specs.Prelude.{◌≡◌, ◌+◌, ◌*◌, ◌≤◌, false, length};
+ghost use Rattle.journal.specs.Finished.{Finishes};
+ghost use Rattle.journal.specs.WriteOut.{IsBatch};
+
+use crate::{Flush, Flushed};
+use device::{Device, DeviceFault};
+use std::alloc::Allocator;
+use volume_codec::Geometry;
+
+// No record is written.
+const BLANK: [u8; 4096] = [0; 4096];
+
+// Makes the last steps of a committed write-out, as many as are left.
+fn make_steps<D: Device, A: Allocator + Copy>(
+    device: &mut D,
+    flush: &mut Flush<A>,
+    steps: usize,
+) -> Result<(), DeviceFault>
+    requires long { 4096 * flush.old.geometry.blocks ≤ length (D.seen device.old) }
+    requires batch { IsBatch flush.old.geometry flush.old.write_out.batch }
+    requires committed { flush.old.write_out.steps ≡ length flush.old.write_out.batch.homes + 4 }
+    requires whole { flush.old.broken ≡ false }
+    requires steps { steps ≡ length flush.old.write_out.batch.homes + 3 }
+    ensures { Finishes D.Device flush.old.geometry flush.old.write_out.batch device.old result device.new }
+{
+    let mut buffer = BLANK;
+    for _step in 0..steps {
+        match flush.step(device, &BLANK, &mut buffer) {
+            Flushed::Device => return Err(DeviceFault),
+            _ => {}
+        }
+    }
+    Ok(())
+}
+
+/// Finishes a batch whose gate is open, the oldest of its volume: its write-out goes on as after the step that
+/// committed it. Its records are written to their home blocks, which are synced; its gate is closed, and that is
+/// synced: 2k + 3 device calls where it has k records. It takes no memory.
+pub fn finish<D: Device, A: Allocator + Copy>(
+    device: &mut D,
+    geometry: &Geometry,
+    journal: u32,
+    mark: u64,
+    homes: Vec<u32, A>,
+) -> Result<(), DeviceFault>
+    requires long { 4096 * geometry.now.blocks ≤ length (D.seen device.old) }
+    requires batch { IsBatch geometry.now (record { journal = journal; mark = mark; homes = homes.items }) }
+    ensures { Finishes D.Device geometry.now (record { journal = journal; mark = mark; homes = homes.items })
+        device.old result device.new }
+{
+    let slots = geometry.slots();
+    prove!(homes.len() <= slots as usize);
+    let steps = homes.len() + 3;
+    let mut flush = Flush::committed(*geometry, journal, mark, homes);
+    make_steps(device, &mut flush, steps)
+}

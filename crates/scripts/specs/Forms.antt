@@ -1,0 +1,41 @@
+-- The members of a script, of a script for threads, and of a trace's first line.
+use Rattle.std.specs.Prelude.{ℕ, List, [], ◌∷◌, Bool, true, false, not, find, codes, Option, Some, None}
+use Rattle.std.specs.List.{list_any}
+use Rattle.std.specs.Str.{bytes_eq}
+use Rattle.serde_json.specs.Data.{Data, Members, no_members, member}
+use Rattle.serde_json.specs.Find.{as_object}
+use Rattle.scripts.specs.declared.form.Form.{Form}
+use Rattle.scripts.specs.declared.form.Form.TheVariants.{Script, ThreadScript, Trace}
+
+-- the names of its members
+abbrev pub members_of_form : Form → List (List ℕ)
+members_of_form Script = codes "cpus" ∷ codes "tlb" ∷ codes "frames" ∷ codes "copies" ∷ codes "steps" ∷ []
+members_of_form ThreadScript = codes "cpus" ∷ codes "tlb" ∷ codes "frames" ∷ codes "copies" ∷ codes "trace"
+    ∷ codes "steps" ∷ codes "programs" ∷ []
+members_of_form Trace = codes "cpus" ∷ codes "tlb" ∷ codes "frames" ∷ codes "copies" ∷ codes "trace" ∷ []
+
+-- whether this is one of the names
+abbrev pub is_member : Form → List ℕ → Bool
+is_member form name = list_any (λ known. bytes_eq name known) (members_of_form form)
+
+-- the names of an object's members
+abbrev pub names_of : Members → List (List ℕ)
+names_of no_members = []
+names_of (member name value rest) = name ∷ names_of rest
+
+-- the first name that is none of them
+abbrev pub unknown_of : Form → Members → Option (List ℕ)
+unknown_of form members = find (λ name. not (is_member form name)) (names_of members)
+
+abbrev pub is_none : {A : Type 0} → Option A → Bool
+is_none None = true
+is_none (Some x) = false
+
+-- whether members have names of the form alone
+abbrev pub are_known : Form → Option Members → Bool
+are_known form None = false
+are_known form (Some members) = is_none (unknown_of form members)
+
+-- whether a value is an object without other members
+abbrev pub has_form : Form → Data → Bool
+has_form form value = are_known form (as_object value)

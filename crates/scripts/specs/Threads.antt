@@ -1,0 +1,73 @@
+-- Scripts for threads: a machine's shape, the room of the trace, steps to make first, and a program of commands for each
+-- processor.
+use Rattle.std.specs.Prelude.{ℕ, ◌&&◌, ◌==◌, nat_lt, List, [], ◌∷◌, length, Bool, find, if◌then◌else◌, codes, Option, Some, None}
+use Rattle.std.specs.List.{list_all}
+use Rattle.std.specs.Str.{bytes_eq}
+use Rattle.serde_json.specs.Data.{Data}
+use Rattle.serde_json.specs.Read.{read}
+use Rattle.serde_json.specs.Find.{get, as_str, as_array}
+use Rattle.scripts.specs.Arguments.{if_some, byte_of, long_of, list_of, all_of}
+use Rattle.scripts.specs.Acts.{load_of, store_of, switch_of, map_of, unmap_of, protect_of, reclaim_of, msync_of}
+use Rattle.scripts.specs.Forms.{has_form}
+use Rattle.scripts.specs.Script.{size_of, shape_of, steps_of}
+use Rattle.scripts.specs.declared.command.Command.{Command}
+use Rattle.scripts.specs.declared.command.Command.TheVariants.{Do, Await}
+use Rattle.scripts.specs.declared.form.Form.TheVariants as form
+use Rattle.machine.specs.declared.act.Act.{Act}
+use Rattle.machine.specs.declared.act.Shape.{Shape}
+use Rattle.machine.specs.declared.act.Step.{Step}
+
+-- an address, and the byte that is to come there
+abbrev pub await_of : List Data → Option Command
+await_of (va ∷ byte ∷ []) = if_some (long_of va) (λ va. if_some (byte_of byte) (λ byte. Some (Await va byte)))
+await_of _ = None
+
+-- the acts that are commands, by their names
+abbrev pub commanded_by_name : List (List ℕ × (List Data → Option Act))
+commanded_by_name =
+    (codes "load", load_of) ∷ (codes "store", store_of) ∷ (codes "switch", switch_of) ∷ (codes "map", map_of)
+    ∷ (codes "unmap", unmap_of) ∷ (codes "protect", protect_of) ∷ (codes "reclaim", reclaim_of)
+    ∷ (codes "msync", msync_of) ∷ []
+
+-- the act of a command's name and arguments
+abbrev pub commanded_of : List ℕ → List Data → Option Act
+commanded_of name arguments =
+    if_some (find (λ row. bytes_eq name row.0) commanded_by_name) (λ row. row.1 arguments)
+
+-- the command of a name and arguments
+abbrev pub command_named : List ℕ → List Data → Option Command
+command_named name arguments = if bytes_eq name (codes "await") then await_of arguments
+    else if_some (commanded_of name arguments) (λ act. Some (Do act))
+
+-- a command: a name, and its arguments
+abbrev pub items_command : List Data → Option Command
+items_command (name ∷ arguments) = if_some (as_str name) (λ name. command_named name arguments)
+items_command [] = None
+
+-- a command in a list
+abbrev pub command_of : Data → Option Command
+command_of value = if_some (as_array value) (λ items. items_command (list_of items))
+
+-- a program: a list of commands
+abbrev pub program_of : Data → Option (List Command)
+program_of value = if_some (as_array value) (λ items. all_of command_of (list_of items))
+
+-- all programs, in order
+abbrev pub programs_of : Data → Option (List (List Command))
+programs_of value =
+    if_some (if_some (get (codes "programs") value) as_array) (λ items. all_of program_of (list_of items))
+
+-- whether there are as many programs as processors, and each step is of a processor that there is
+abbrev pub are_for : ℕ → List Step → List (List Command) → Bool
+are_for cpus steps programs = (length programs == cpus) && list_all (λ step. nat_lt step.p cpus) steps
+
+-- the shape, the room of the trace, the steps and the programs of a script for threads
+abbrev pub thread_script_of : Data → Option (Shape × ℕ × List Step × List (List Command))
+thread_script_of value = if has_form form.ThreadScript value
+    then if_some (shape_of value) (λ shape. if_some (size_of (codes "trace") value) (λ trace.
+    if_some (steps_of value) (λ steps. if_some (programs_of value) (λ programs.
+    if are_for shape.cpus steps programs then Some (shape, trace, steps, programs) else None)))) else None
+
+-- the same of its text
+abbrev pub thread_script_in : List ℕ → Option (Shape × ℕ × List Step × List (List Command))
+thread_script_in text = if_some (read text) thread_script_of

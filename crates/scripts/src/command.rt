@@ -1,0 +1,188 @@
+// The programs of a script for threads.
+ghost use Rattle.std.specs.Prelude.{◌≡◌, ◌⊎◌, map, [], ◌∷◌, IfOk, IfErr, Some, None};
+ghost use Rattle.std.specs.Result.{result_ok};
+ghost use Rattle.serde_json.specs.View.{view};
+ghost use Rattle.scripts.specs.Arguments.{all_of};
+ghost use Rattle.scripts.specs.Threads.{await_of, commanded_of, command_named, items_command, command_of, program_of, programs_of};
+ghost use Rattle.scripts.specs.ScriptFault.{IsMemory};
+
+use crate::act::{load, map, msync, protect, reclaim, store, switch, unmap};
+use crate::argument::{byte, long};
+use crate::form::Form;
+use crate::member::{list, shown};
+use crate::script_fault::{ScriptFault, StepFault};
+use machine::Act;
+use serde_json::Value;
+use std::alloc::{AllocError, Allocator, Global};
+
+/// What a thread is to do next.
+#[derive(Clone, Copy, Debug, PartialEq, Eq)]
+pub enum Command {
+    /// An act, and what goes with it until it is done: a load, a store, a switch, a map, or the beginning of a change.
+    Do(Act),
+    /// To load the byte at an address again and again until it is this one.
+    Await { va: u64, byte: u8 },
+}
+
+/// The programs of a script for threads.
+pub fn programs_member<A: Allocator + Copy>(
+    global: Global,
+    alloc: A,
+    value: &Value,
+) -> Result<Vec<Vec<Command, A>, A>, ScriptFault>
+    ensures ok { IfOk result (λ programs. programs_of (view value.now)
+        ≡ Some (map (λ program. program.items) programs.items)) }
+    ensures err { IfErr result (λ fault. IsMemory fault ⊎ (programs_of (view value.now) ≡ None)) }
+{
+    programs(global, alloc, list(Form::ThreadScript, value, "programs")?)
+}
+
+// All programs of a list, in order. A fault says which is refused first, counted from 1.
+#[tactic(auto, using(crate::proofs::AllOf::all_of_next, crate::proofs::AllOf::all_of_fails))]
+fn programs<A: Allocator + Copy>(
+    global: Global,
+    alloc: A,
+    values: &[Value],
+) -> Result<Vec<Vec<Command, A>, A>, ScriptFault>
+    ensures ok { IfOk result (λ programs. all_of program_of (map view values.now)
+        ≡ Some (map (λ program. program.items) programs.items)) }
+    ensures err { IfErr result (λ fault. IsMemory fault ⊎ (all_of program_of (map view values.now) ≡ None)) }
+{
+    let mut programs = Vec::with_capacity(alloc, values.len()).map_err(ScriptFault::Memory)?;
+    for (i, value) in values.iter().enumerate() {
+        let program = program(global, alloc, i as u64 + 1, value)?;
+        if programs.push(program).is_err() {
+            return Err(ScriptFault::Memory(AllocError));
+        }
+    }
+    Ok(programs)
+}
+
+// The program of this number.
+#[tactic(auto, using(crate::proofs::AllOf::list_of_items))]
+fn program<A: Allocator + Copy>(
+    global: Global,
+    alloc: A,
+    number: u64,
+    value: &Value,
+) -> Result<Vec<Command, A>, ScriptFault>
+    ensures ok { IfOk result (λ program. program_of (view value.now) ≡ Some program.items) }
+    ensures err { IfErr result (λ fault. IsMemory fault ⊎ (program_of (view value.now) ≡ None)) }
+{
+    match value.as_array() {
+        Some(items) => commands(global, alloc, number, items),
+        None => Err(ScriptFault::Program(number)),
+    }
+}
+
+// All commands of a program, in order. A fault says which is refused first, counted from 1.
+#[tactic(auto, using(crate::proofs::AllOf::all_of_next, crate::proofs::AllOf::all_of_fails))]
+fn commands<A: Allocator + Copy>(
+    global: Global,
+    alloc: A,
+    program: u64,
+    values: &[Value],
+) -> Result<Vec<Command, A>, ScriptFault>
+    ensures ok { IfOk result (λ commands. all_of command_of (map view values.now) ≡ Some commands.items) }
+    ensures err { IfErr result (λ fault. IsMemory fault ⊎ (all_of command_of (map view values.now) ≡ None)) }
+{
+    let mut commands = Vec::with_capacity(alloc, values.len()).map_err(ScriptFault::Memory)?;
+    for (i, value) in values.iter().enumerate() {
+        let command = match read_command(value) {
+            Ok(command) => command,
+            Err(cause) => return Err(refused_command(global, program, i as u64 + 1, value, cause)),
+        };
+        if commands.push(command).is_err() {
+            return Err(ScriptFault::Memory(AllocError));
+        }
+    }
+    Ok(commands)
+}
+
+// The command of this number is refused, as it stands in the script.
+fn refused_command(
+    global: Global,
+    program: u64,
+    number: u64,
+    value: &Value,
+    cause: StepFault,
+) -> ScriptFault {
+    match shown(global, value) {
+        Ok(found) => ScriptFault::Command {
+            program,
+            number,
+            found,
+            cause,
+        },
+        Err(fault) => ScriptFault::Memory(fault),
+    }
+}
+
+#[tactic(auto, using(crate::proofs::AllOf::list_of_items))]
+fn read_command(value: &Value) -> Result<Command, StepFault>
+    ensures { result_ok result ≡ command_of (view value.now) }
+{
+    match value.as_array() {
+        Some(items) => command_from(items),
+        None => Err(StepFault::CommandForm),
+    }
+}
+
+fn command_from(items: &[Value]) -> Result<Command, StepFault>
+    ensures { result_ok result ≡ items_command (map view items.now) }
+{
+    let [name, arguments @ ..] = items else {
+        return Err(StepFault::CommandForm);
+    };
+    let name = name.as_str().ok_or(StepFault::CommandForm)?;
+    named_command(name, arguments)
+}
+
+fn named_command(name: &str, arguments: &[Value]) -> Result<Command, StepFault>
+    ensures { result_ok result ≡ command_named name.now (map view arguments.now) }
+{
+    if name == "await" {
+        return await_command(arguments);
+    }
+    match commanded(name, arguments) {
+        Ok(act) => Ok(Command::Do(act)),
+        Err(fault) => Err(fault),
+    }
+}
+
+fn commanded(name: &str, arguments: &[Value]) -> Result<Act, StepFault>
+    ensures { result_ok result ≡ commanded_of name.now (map view arguments.now) }
+{
+    match name {
+        "load" => load(arguments),
+        "store" => store(arguments),
+        "switch" => switch(arguments),
+        "map" => map(arguments),
+        "unmap" => unmap(arguments),
+        "protect" => protect(arguments),
+        "reclaim" => reclaim(arguments),
+        "msync" => msync(arguments),
+        _ => Err(StepFault::CommandName),
+    }
+}
+
+fn await_command(arguments: &[Value]) -> Result<Command, StepFault>
+    ensures { result_ok result ≡ await_of (map view arguments.now) }
+{
+    match arguments {
+        [va, byte] => await_from(va, byte),
+        _ => Err(StepFault::Arguments {
+            act: "await",
+            arguments: "an address and a byte",
+        }),
+    }
+}
+
+fn await_from(va: &Value, value: &Value) -> Result<Command, StepFault>
+    ensures { result_ok result ≡ await_of (view va.now ∷ view value.now ∷ []) }
+{
+    Ok(Command::Await {
+        va: long(va, "the address")?,
+        byte: byte(value, "the byte")?,
+    })
+}

@@ -1,0 +1,55 @@
+-- What the processors of a service know of their own calls, and what is known once all of them were given back.
+use Rattle.std.specs.Prelude.{ℕ, ◌≡◌, ◌<◌, ◌≤◌, List, [], length, sum_by, slice_get, Option, Some}
+use Rattle.device.specs.declared.device.Device.{Ghosts}
+use Rattle.machine.specs.declared.act.Act.{Act}
+use Rattle.machine.specs.declared.act.Reply.{Reply}
+use Rattle.machine.specs.Fresh.{IsFresh}
+use Rattle.machine.specs.Runs.{StepsTaken}
+use Rattle.machine.specs.State.{Whole}
+use Rattle.service.specs.declared.entry.Entry.{Entry}
+use Rattle.service.specs.Trace.{steps_of, replies_of, of_processor}
+use Rattle.service.specs.Serving.{SharedState, IsServing}
+
+-- a processor of a service: its number, its acts with their replies, in order, and the greatest numbers of marks that it
+-- has seen stalled and committed
+pub record CpuState : Type 0 where
+  pub number : ℕ
+  pub answered : List (Act × Reply)
+  pub stalled : ℕ
+  pub committed : ℕ
+
+-- a processor that has done nothing yet
+abbrev pub idle_cpu : ℕ → CpuState
+idle_cpu number = record { number = number; answered = []; stalled = 0; committed = 0 }
+
+-- the processor of this number is among these
+abbrev pub IsAmong : List CpuState → ℕ → Type 0
+IsAmong cpus number = (i : ℕ) × (cpu : CpuState) × (slice_get cpus i ≡ Some cpu) × (cpu.number ≡ number)
+
+-- how many calls these processors made that were answered
+abbrev pub calls_of : List CpuState → ℕ
+calls_of cpus = sum_by (λ cpu. length cpu.answered) cpus
+
+-- the trace has, for each of these processors, its acts with their replies, in order
+abbrev pub AreAnswered : List Entry → List CpuState → Type 0
+AreAnswered trace cpus =
+    (i : ℕ) (cpu : CpuState) → slice_get cpus i ≡ Some cpu → of_processor cpu.number trace ≡ cpu.answered
+
+-- the trace is a legal run from the start that the service's name stands for
+abbrev pub ServesFrom : {D : Type 0} → Ghosts D → Option (Whole D) → SharedState D → Type 0
+ServesFrom {D} disk start s = (first : Whole D) × (start ≡ Some first) × IsServing disk first s
+
+-- What is handed out once all processors of a service were given back.
+pub record HasGathered {D : Type 0} (disk : Ghosts D) (start : Option (Whole D)) (cpus : List CpuState)
+    (machine : Whole D) (trace : List Entry) : Type 0 where
+  -- the trace is a legal run of the machine from the start of the service, which was as boot leaves it
+  pub first : Whole D
+  pub start_is : start ≡ Some first
+  pub fresh : IsFresh first.state
+  pub legal : StepsTaken disk first (steps_of trace) (replies_of trace) machine
+  -- its entries of each processor are what that processor called and was answered
+  pub each : AreAnswered trace cpus
+  -- of as many processors as there are, each was given back
+  pub whole : (p : ℕ) → p < length cpus → IsAmong cpus p
+  -- and there are no other entries
+  pub counted : length trace ≡ calls_of cpus

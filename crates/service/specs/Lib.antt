@@ -1,0 +1,4 @@
+pub mod Trace
+pub mod Serving
+pub mod Gathering
+pub mod inside

@@ -1,0 +1,78 @@
+-- A machine with the trace that led to it.
+use Rattle.std.specs.Prelude.{ℕ, ◌≡◌, ◌<◌, ◌≤◌, List, [], ◌∷◌, ◌++◌, length}
+use Rattle.device.specs.declared.device.Device.{Ghosts}
+use Rattle.page_entry.specs.declared.refusal.Refusal.{Refusal}
+use Rattle.page_entry.specs.declared.refusal.Refusal.TheVariants.{BadShape, OutOfMemory}
+use Rattle.volume_codec.specs.Files.{File}
+use Rattle.machine.specs.declared.act.Reply.{Reply}
+use Rattle.machine.specs.declared.act.Step.{Step}
+use Rattle.machine.specs.Crashes.{Begins, StepIsSafe, Throughout}
+use Rattle.machine.specs.Fresh.{IsFresh}
+use Rattle.machine.specs.Laws.{EachStep, FaultsAreServed, ReadsBack}
+use Rattle.machine.specs.Runs.{StepTaken, StepsTaken}
+use Rattle.machine.specs.State.{Whole}
+use Rattle.machine.specs.Steps.{IsLawful, told_first}
+use Rattle.machine.specs.Told.{Told, tell_all}
+use Rattle.service.specs.declared.entry.Entry.{Entry}
+use Rattle.service.specs.Trace.{progress_of, steps_of, replies_of}
+
+-- what is locked: a machine, the trace of its steps, the most entries that the trace may have, and how many of its
+-- entries are progress
+pub record SharedState (D : Type 0) : Type 0 where
+  pub machine : Whole D
+  pub trace : List Entry
+  pub capacity : ℕ
+  pub progress : ℕ
+
+-- The trace is a legal run, over any device, of the machine from a start that is as boot leaves it.
+pub record IsServing {D : Type 0} (disk : Ghosts D) (start : Whole D) (s : SharedState D) : Type 0 where
+  pub fresh : IsFresh start.state
+  pub legal : StepsTaken disk start (steps_of s.trace) (replies_of s.trace) s.machine
+  pub few : length s.trace ≤ s.capacity
+  pub counted : s.progress ≡ progress_of s.trace
+
+-- what a trace from this start tells
+abbrev pub told_by : {D : Type 0} → List File → Whole D → List Entry → Told
+told_by files start trace = tell_all (told_first files start.state) (steps_of trace) (replies_of trace)
+
+-- What holds of a machine and its trace where the start was over a volume at rest with these files, on an honest
+-- device.
+pub record KeepsLaws {D : Type 0} (disk : Ghosts D) (files : List File) (start : Whole D) (s : SharedState D)
+    : Type 0 where
+  -- a crash at any moment of any step, and after it, leaves what reads back as the files after a durable prefix of the
+  -- history up to that moment
+  pub headline : Throughout (StepIsSafe disk files) (told_first files start.state) start (steps_of s.trace)
+      (replies_of s.trace) s.machine
+  -- and a crash now what reads back so of the whole trace
+  pub left : (c : List ℕ) → disk.may_leave s.machine.device c → ReadsBack files (told_by files start s.trace).history c
+  -- loads, stores and faults are answered by what was told before them, and a served fault is served
+  pub lawful : EachStep (IsLawful files) (told_first files start.state) (steps_of s.trace) (replies_of s.trace)
+  pub served : FaultsAreServed (steps_of s.trace) (replies_of s.trace)
+
+-- One step of the machine and one entry of the trace, which is this step and its reply.
+pub record HasEntered {D : Type 0} (disk : Ghosts D) (old : SharedState D) (step : Step) (reply : Reply)
+    (new : SharedState D) : Type 0 where
+  pub room : length old.trace < old.capacity
+  pub capacity : new.capacity ≡ old.capacity
+  pub entry : new.trace ≡ old.trace ++ record { step = step; reply = reply } ∷ []
+  pub taken : StepTaken disk old.machine step reply new.machine
+  -- from whatever start the trace is a legal run, it still is
+  pub kept : (start : Whole D) → IsServing disk start old → IsServing disk start new
+  -- a crash at any moment within this step leaves what reads back by the trace before it, and one after it by the trace
+  -- with its entry
+  pub safe : (files : List File) (start : Whole D) → IsServing disk start old → Begins disk files start
+      → StepIsSafe disk files (told_by files start old.trace) old.machine step reply new.machine
+
+-- the most entries that a trace may be asked to hold
+abbrev pub max_entries : ℕ
+max_entries = 1000000
+
+pub record IsCapacity (capacity : ℕ) : Type 0 where
+  pub some : 1 ≤ capacity
+  pub few : capacity ≤ max_entries
+
+-- why nothing is shared: BadShape exactly where the trace can't have this capacity; else memory may be refused
+abbrev pub RefusesCapacity : ℕ → Refusal → Type 0
+RefusesCapacity capacity BadShape = IsCapacity capacity → ⊥
+RefusesCapacity capacity OutOfMemory = IsCapacity capacity
+RefusesCapacity capacity why = ⊥

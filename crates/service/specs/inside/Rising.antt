@@ -1,0 +1,9 @@
+-- What a holder of a horizon has seen, where it may have looked once or not at all.
+use Rattle.std.specs.Prelude.{◌≡◌, ◌≤◌}
+use Rattle.horizon.specs.Seen.{SeenState}
+
+-- neither number fell, and the horizon is the same
+pub record HasRisen (old new : SeenState) : Type 0 where
+  pub cell : new.cell ≡ old.cell
+  pub stalled : old.stalled ≤ new.stalled
+  pub committed : old.committed ≤ new.committed

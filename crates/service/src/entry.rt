@@ -1,0 +1,58 @@
+// One entry of a trace, and whether it is progress.
+ghost use Rattle.std.specs.Prelude.{◌≡◌, ◌<◌, ◌+◌, if◌then◌else◌};
+ghost use Rattle.service.specs.Trace.{is_progress};
+
+use machine::{Act, Reply, Step};
+use page_entry::{ProcessorNumber, Refusal};
+
+/// A step that was made, and what it was answered.
+#[derive(Clone, Copy, Debug, PartialEq, Eq)]
+pub struct Entry {
+    pub step: Step,
+    pub reply: Reply,
+}
+
+impl Entry {
+    // The entry of an act of a processor.
+    pub(crate) fn of(step: &Step, reply: &Reply) -> Self
+        ensures { result ≡ record { step = step.now; reply = reply.now } }
+    {
+        Entry {
+            step: *step,
+            reply: *reply,
+        }
+    }
+}
+
+// The step of a processor that does this act.
+pub(crate) fn step_of(p: ProcessorNumber, act: &Act) -> Step
+    ensures { result ≡ record { p = p; act = act.now } }
+{
+    Step { p, act: *act }
+}
+
+// Whether a waiting processor may have waited for this.
+fn is_progress(act: &Act, reply: &Reply) -> bool
+    ensures { result ≡ is_progress act.now reply.now }
+{
+    match act {
+        Act::Load { .. } | Act::Fill { .. } | Act::Evict { .. } => false,
+        _ => match reply {
+            Reply::Refused(Refusal::Device) => true,
+            Reply::Refused(_) | Reply::Nothing => false,
+            _ => true,
+        },
+    }
+}
+
+// How many entries are progress, with one more entry.
+pub(crate) fn progress_with(progress: u64, act: &Act, reply: &Reply) -> u64
+    requires { progress < 1000000 }
+    ensures { result ≡ progress + (if is_progress act.now reply.now then 1 else 0) }
+{
+    if is_progress(act, reply) {
+        progress + 1
+    } else {
+        progress
+    }
+}

@@ -1,0 +1,259 @@
+// Whether two acts or two replies are the same, by their variants and what these carry.
+ghost use Rattle.std.specs.Prelude.{◌≡◌, IsTrue};
+
+use crate::Entry;
+use machine::{Act, FewBytes, Reply};
+use mappings::Rights;
+use page_entry::Refusal;
+
+// Whether an answer is that of an entry.
+pub(crate) fn is_answer_of(entry: &Entry, answer: &(Act, Reply)) -> bool
+    ensures { IsTrue result → answer.now ≡ (entry.now.step.act, entry.now.reply) }
+{
+    is_same_act(&answer.0, &entry.step.act) && is_same_reply(&answer.1, &entry.reply)
+}
+
+fn are_same_bytes(a: &FewBytes, b: &FewBytes) -> bool
+    ensures { IsTrue result → a.now ≡ b.now }
+{
+    a.as_slice() == b.as_slice()
+}
+
+fn are_same_rights(a: &Rights, b: &Rights) -> bool
+    ensures { IsTrue result → a.now ≡ b.now }
+{
+    match (a, b) {
+        (Rights::Read, Rights::Read) | (Rights::ReadWrite, Rights::ReadWrite) => true,
+        _ => false,
+    }
+}
+
+fn is_same_use(a: &Act, b: &Act) -> bool
+    ensures { IsTrue result → a.now ≡ b.now }
+{
+    match (a, b) {
+        (
+            Act::Load { va, count },
+            Act::Load {
+                va: va_b,
+                count: count_b,
+            },
+        ) => *va == *va_b && *count == *count_b,
+        (
+            Act::Store { va, bytes },
+            Act::Store {
+                va: va_b,
+                bytes: bytes_b,
+            },
+        ) => *va == *va_b && are_same_bytes(bytes, bytes_b),
+        (Act::Fill { page }, Act::Fill { page: page_b }) => *page == *page_b,
+        (Act::Evict { slot }, Act::Evict { slot: slot_b }) => *slot == *slot_b,
+        (
+            Act::Switch { space, keep },
+            Act::Switch {
+                space: space_b,
+                keep: keep_b,
+            },
+        ) => *space == *space_b && *keep == *keep_b,
+        (Act::Idle, Act::Idle) => true,
+        (Act::Wake, Act::Wake) => true,
+        _ => false,
+    }
+}
+
+fn is_same_turn(a: &Act, b: &Act) -> bool
+    ensures { IsTrue result → a.now ≡ b.now }
+{
+    match (a, b) {
+        (
+            Act::Fix { va, write },
+            Act::Fix {
+                va: va_b,
+                write: write_b,
+            },
+        ) => *va == *va_b && *write == *write_b,
+        (Act::Create, Act::Create) => true,
+        (Act::Destroy { space }, Act::Destroy { space: space_b }) => *space == *space_b,
+        (Act::Ack, Act::Ack) => true,
+        (Act::Change, Act::Change) => true,
+        (Act::Resume, Act::Resume) => true,
+        (Act::Flush, Act::Flush) => true,
+        _ => false,
+    }
+}
+
+fn is_same_request(a: &Act, b: &Act) -> bool
+    ensures { IsTrue result → a.now ≡ b.now }
+{
+    match (a, b) {
+        (
+            Act::Map {
+                space,
+                va,
+                len,
+                file,
+                offset,
+                prot,
+                access,
+            },
+            Act::Map {
+                space: space_b,
+                va: va_b,
+                len: len_b,
+                file: file_b,
+                offset: offset_b,
+                prot: prot_b,
+                access: access_b,
+            },
+        ) => *space == *space_b
+            && *va == *va_b
+            && *len == *len_b
+            && *file == *file_b
+            && *offset == *offset_b
+            && are_same_rights(prot, prot_b)
+            && are_same_rights(access, access_b),
+        (
+            Act::Unmap { space, va, len },
+            Act::Unmap {
+                space: space_b,
+                va: va_b,
+                len: len_b,
+            },
+        ) => *space == *space_b && *va == *va_b && *len == *len_b,
+        (
+            Act::Protect {
+                space,
+                va,
+                len,
+                prot,
+            },
+            Act::Protect {
+                space: space_b,
+                va: va_b,
+                len: len_b,
+                prot: prot_b,
+            },
+        ) => *space == *space_b && *va == *va_b && *len == *len_b && are_same_rights(prot, prot_b),
+        (
+            Act::Reclaim { file, page },
+            Act::Reclaim {
+                file: file_b,
+                page: page_b,
+            },
+        ) => *file == *file_b && *page == *page_b,
+        (
+            Act::Msync { va, len, flags },
+            Act::Msync {
+                va: va_b,
+                len: len_b,
+                flags: flags_b,
+            },
+        ) => *va == *va_b && *len == *len_b && *flags == *flags_b,
+        _ => false,
+    }
+}
+
+fn is_same_act(a: &Act, b: &Act) -> bool
+    ensures { IsTrue result → a.now ≡ b.now }
+{
+    is_same_use(a, b) || is_same_turn(a, b) || is_same_request(a, b)
+}
+
+fn is_same_access(a: &Reply, b: &Reply) -> bool
+    ensures { IsTrue result → a.now ≡ b.now }
+{
+    match (a, b) {
+        (Reply::Bytes(x), Reply::Bytes(y)) => are_same_bytes(x, y),
+        (Reply::Stored, Reply::Stored) => true,
+        (Reply::Filled, Reply::Filled) => true,
+        (Reply::Evicted, Reply::Evicted) => true,
+        (Reply::Switched, Reply::Switched) => true,
+        (Reply::Idled, Reply::Idled) => true,
+        (Reply::Woken, Reply::Woken) => true,
+        (Reply::Fixed, Reply::Fixed) => true,
+        _ => false,
+    }
+}
+
+fn is_same_change(a: &Reply, b: &Reply) -> bool
+    ensures { IsTrue result → a.now ≡ b.now }
+{
+    match (a, b) {
+        (Reply::Space(x), Reply::Space(y)) => *x == *y,
+        (Reply::Destroyed, Reply::Destroyed) => true,
+        (Reply::Mapped, Reply::Mapped) => true,
+        (Reply::Begun, Reply::Begun) => true,
+        (Reply::Fine, Reply::Fine) => true,
+        (Reply::Unmapped, Reply::Unmapped) => true,
+        (Reply::Protected, Reply::Protected) => true,
+        (Reply::Reclaimed, Reply::Reclaimed) => true,
+        _ => false,
+    }
+}
+
+fn is_same_end(a: &Reply, b: &Reply) -> bool
+    ensures { IsTrue result → a.now ≡ b.now }
+{
+    match (a, b) {
+        (Reply::Kept, Reply::Kept) => true,
+        (Reply::Marked(x), Reply::Marked(y)) => *x == *y,
+        (Reply::Acked, Reply::Acked) => true,
+        (Reply::Resumed, Reply::Resumed) => true,
+        (Reply::Going, Reply::Going) => true,
+        (Reply::Committed(x), Reply::Committed(y)) => *x == *y,
+        (Reply::Done(x), Reply::Done(y)) => *x == *y,
+        (Reply::Nothing, Reply::Nothing) => true,
+        (Reply::Refused(x), Reply::Refused(y)) => is_same_refusal(x, y),
+        _ => false,
+    }
+}
+
+fn is_same_reply(a: &Reply, b: &Reply) -> bool
+    ensures { IsTrue result → a.now ≡ b.now }
+{
+    is_same_access(a, b) || is_same_change(a, b) || is_same_end(a, b)
+}
+
+fn is_same_cause(a: &Refusal, b: &Refusal) -> bool
+    ensures { IsTrue result → a.now ≡ b.now }
+{
+    match (a, b) {
+        (Refusal::Stalled, Refusal::Stalled) => true,
+        (Refusal::Locked, Refusal::Locked) => true,
+        (Refusal::NotYet(x), Refusal::NotYet(y)) => *x == *y,
+        (Refusal::Fault(x), Refusal::Fault(y)) => *x == *y,
+        (Refusal::SegvMapErr, Refusal::SegvMapErr) => true,
+        (Refusal::SegvAccErr, Refusal::SegvAccErr) => true,
+        (Refusal::BusAdrErr, Refusal::BusAdrErr) => true,
+        (Refusal::Held, Refusal::Held) => true,
+        (Refusal::NoFrame, Refusal::NoFrame) => true,
+        (Refusal::Device, Refusal::Device) => true,
+        (Refusal::Broken, Refusal::Broken) => true,
+        _ => false,
+    }
+}
+
+fn is_same_error(a: &Refusal, b: &Refusal) -> bool
+    ensures { IsTrue result → a.now ≡ b.now }
+{
+    match (a, b) {
+        (Refusal::Einval, Refusal::Einval) => true,
+        (Refusal::Enomem, Refusal::Enomem) => true,
+        (Refusal::Eacces, Refusal::Eacces) => true,
+        (Refusal::Overlap, Refusal::Overlap) => true,
+        (Refusal::NoFile, Refusal::NoFile) => true,
+        (Refusal::Busy, Refusal::Busy) => true,
+        (Refusal::TraceFull, Refusal::TraceFull) => true,
+        (Refusal::OutOfMemory, Refusal::OutOfMemory) => true,
+        (Refusal::NotAVolume, Refusal::NotAVolume) => true,
+        (Refusal::Damaged, Refusal::Damaged) => true,
+        (Refusal::BadShape, Refusal::BadShape) => true,
+        _ => false,
+    }
+}
+
+fn is_same_refusal(a: &Refusal, b: &Refusal) -> bool
+    ensures { IsTrue result → a.now ≡ b.now }
+{
+    is_same_cause(a, b) || is_same_error(a, b)
+}

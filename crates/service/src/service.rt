@@ -1,0 +1,89 @@
+// A service: how it starts, with a processor for each thread, and how it ends.
+ghost use Rattle.std.specs.Prelude.{ℕ, ◌≡◌, ◌<◌, length, slice_get, Some, IfOk, IfErr};
+ghost use Rattle.page_entry.specs.declared.refusal.Refusal.{Refusal};
+ghost use Rattle.machine.specs.Fresh.{IsFresh};
+ghost use Rattle.service.specs.Serving.{RefusesCapacity};
+ghost use Rattle.service.specs.Gathering.{HasGathered, idle_cpu};
+
+use crate::gathering::{are_all, ended, merged, take_if_answered};
+use crate::locked::Room;
+use crate::shared::is_capacity;
+use crate::starting::Unstarted;
+use crate::{Cpu, Entry, Origin};
+use device::Device;
+use machine::Machine;
+use page_entry::Refusal;
+use std::alloc::{Allocator, Global};
+use std::sync::ledger::Blank;
+use std::sync::{Arc, Wait};
+
+/// A machine that threads share, each by a `Cpu` of its own. `L` names the service.
+#[derive(Drop)]
+pub struct Service<D: Device, A: Allocator + Copy, L: Origin<D>> {
+    pub(crate) room: Arc<Room<D, A, L>, A>,
+    pub(crate) cpus: u64,
+    ghost all: { cpus ≡ L.all },
+}
+
+impl<D: Device + Drop, A: Allocator + Copy, L: Origin<D>> Service<D, A, L> {
+    /// Shares a machine as it was booted, with an empty trace that may have `capacity` entries, 1 to 1,000,000, and gives a
+    /// `Cpu` for each of its processors, in order. The type `L` stands for this machine, and for the ledger of which `blank`
+    /// is the blank, with a part for each processor.
+    ///
+    /// `BadShape` for another capacity, which is judged before memory is taken; `OutOfMemory` where memory is refused, all of
+    /// which is taken here: no call of a `Cpu` takes any for the service. A refusal hands machine and blank back. The
+    /// horizon's memory is `global`'s, and all other `alloc`'s.
+    pub fn start(
+        alloc: A,
+        global: Global,
+        machine: Machine<D, A>,
+        capacity: u64,
+        blank: Blank,
+    ) -> Result<(Self, Vec<Cpu<D, A, L>, A>), (Refusal, Machine<D, A>, Blank)>
+        requires fresh { IsFresh machine.state }
+        requires origin { L.start ≡ Some machine }
+        requires name { blank.name ≡ L.name }
+        requires parts { (blank.parts ≡ L.parts) × (L.all ≡ L.parts)
+            × (blank.parts ≡ length machine.state.hardware.shootdown.processors) }
+        ensures count { IfOk result (λ started.
+            length started.1.items ≡ length machine.state.hardware.shootdown.processors) }
+        ensures cpus { IfOk result (λ started. (i : ℕ) → i < length started.1.items
+            → slice_get started.1.items i ≡ Some (idle_cpu i)) }
+        ensures refused { IfErr result (λ refused. RefusesCapacity capacity refused.0 × (refused.1 ≡ machine)
+            × (refused.2 ≡ blank)) }
+    {
+        if !is_capacity(capacity) {
+            return Err((Refusal::BadShape, machine, blank));
+        }
+        let count = machine.processors();
+        match Unstarted::new(alloc, global, count, capacity) {
+            Ok(unstarted) => match unstarted.started(machine, capacity, blank, count) {
+                Ok(started) => Ok(started),
+                Err((machine, blank)) => Err((Refusal::OutOfMemory, machine, blank)),
+            },
+            Err(_) => Err((Refusal::OutOfMemory, machine, blank)),
+        }
+    }
+
+    /// Takes the machine and the trace out of the service. It first compares the trace's entries of each processor with what
+    /// its `Cpu` was answered; where they differ, or without all `Cpu` values of the service, `Einval`, and all is handed
+    /// back. If the call returns.
+    pub fn gather<R: Wait>(
+        self,
+        rt: &R,
+        cpus: Vec<Cpu<D, A, L>, A>,
+    ) -> Result<(Machine<D, A>, Vec<Entry, A>), (Refusal, Self, Vec<Cpu<D, A, L>, A>)>
+        requires { L.all ≡ L.parts }
+        ensures gathered { IfOk result (λ gathered.
+            HasGathered D.Device L.start cpus.items gathered.0 gathered.1.items) }
+        ensures refused { IfErr result (λ refused. (refused.0 ≡ Refusal.Einval) × (refused.2.items ≡ cpus.items)) }
+    {
+        if !are_all(cpus.as_slice(), self.cpus) {
+            return Err((Refusal::Einval, self, cpus));
+        }
+        match take_if_answered(rt, &*self.room, cpus.as_slice()) {
+            Some(locked) => Ok(ended(locked, merged(cpus))),
+            None => Err((Refusal::Einval, self, cpus)),
+        }
+    }
+}

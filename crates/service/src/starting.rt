@@ -1,0 +1,210 @@
+// How a service starts: all memory first, then the ledger is opened and the machine is put under the lock.
+ghost use Rattle.std.specs.Prelude.{ℕ, ◌≡◌, ◌<◌, ◌≤◌, [], length, slice_get, Some, IfOk, IfErr};
+ghost use Rattle.std.specs.Arc.{arc_value};
+ghost use Rattle.std.specs.Vec.{vec_capacity, vec_len};
+ghost use Rattle.machine.specs.Fresh.{IsFresh};
+ghost use Rattle.service.specs.Serving.{IsCapacity};
+ghost use Rattle.service.specs.Gathering.{idle_cpu};
+
+use crate::locked::{Locked, Room};
+use crate::{Cpu, Entry, Origin, Service, Shared};
+use device::Device;
+use horizon::{Horizon, Seen};
+use machine::{Act, Machine, Reply};
+use page_entry::ProcessorNumber;
+use std::alloc::{AllocError, Allocator, Global};
+use std::sync::ledger::{Blank, Share};
+use std::sync::{Arc, Mutex};
+
+// What a processor needs beside its number and its part of the ledger.
+#[derive(Drop)]
+struct Seat<D: Device, A: Allocator + Copy, L: Origin<D>> {
+    room: Arc<Room<D, A, L>, A>,
+    seen: Seen,
+    answered: Vec<(Act, Reply), A>,
+    ghost own: { seen ≡ record { cell = (arc_value room).horizon; stalled = 0; committed = 0 } },
+    ghost empty: { answered.items ≡ [] },
+}
+
+impl<D: Device + Drop, A: Allocator + Copy, L: Origin<D>> Seat<D, A, L> {
+    fn new(
+        alloc: A,
+        room: &Arc<Room<D, A, L>, A>,
+        seen: &mut Seen,
+        capacity: u64,
+    ) -> Result<Self, AllocError>
+        requires { seen.old ≡ record { cell = (arc_value room.now).horizon; stalled = 0; committed = 0 } }
+        ensures { seen.new ≡ seen.old }
+    {
+        let answered = Vec::with_capacity(alloc, capacity as usize)?;
+        let room = Arc::try_clone(room)?;
+        let seen = room.horizon.another(seen);
+        Ok(Seat {
+            room,
+            seen,
+            answered,
+        })
+    }
+
+    fn into_cpu(self, p: ProcessorNumber, share: Share<L>) -> Cpu<D, A, L>
+        requires { (share.parts ≡ 1) × (share.amount ≡ 0) }
+        ensures { result ≡ idle_cpu p }
+    {
+        let Seat {
+            room,
+            seen,
+            answered,
+        } = self;
+        Cpu {
+            p,
+            room,
+            seen,
+            share,
+            answered,
+        }
+    }
+}
+
+// All that a service takes memory for.
+#[derive(Drop)]
+pub(crate) struct Unstarted<D: Device, A: Allocator + Copy, L: Origin<D>> {
+    room: Arc<Room<D, A, L>, A>,
+    trace: Vec<Entry, A>,
+    seats: Vec<Seat<D, A, L>, A>,
+    cpus: Vec<Cpu<D, A, L>, A>,
+    ghost no_entries: { trace.items ≡ [] },
+    ghost no_cpus: { cpus.items ≡ [] },
+    ghost seated: { vec_len seats ≤ vec_capacity cpus },
+}
+
+impl<D: Device + Drop, A: Allocator + Copy, L: Origin<D>> Unstarted<D, A, L> {
+    // Room for a trace of this capacity and so many processors.
+    pub(crate) fn new(
+        alloc: A,
+        global: Global,
+        count: u8,
+        capacity: u64,
+    ) -> Result<Self, AllocError>
+        ensures room { IfOk result (λ made. capacity ≤ vec_capacity made.trace) }
+        ensures seats { IfOk result (λ made. vec_len made.seats ≡ count) }
+    {
+        let trace = Vec::with_capacity(alloc, capacity as usize)?;
+        let cpus = Vec::with_capacity(alloc, usize::from(count))?;
+        let (horizon, mut seen) = Horizon::new(global)?;
+        let room = Arc::new(
+            alloc,
+            Room {
+                lock: Mutex::new(None),
+                horizon,
+            },
+        )?;
+        let seats = seats_for(alloc, &room, &mut seen, count, capacity)?;
+        Ok(Unstarted {
+            room,
+            trace,
+            seats,
+            cpus,
+        })
+    }
+
+    // Starts with this machine, unless the lock is held, which nobody can do yet.
+    pub(crate) fn started(
+        self,
+        machine: Machine<D, A>,
+        capacity: u64,
+        blank: Blank,
+        count: u8,
+    ) -> Result<(Service<D, A, L>, Vec<Cpu<D, A, L>, A>), (Machine<D, A>, Blank)>
+        requires fresh { IsFresh machine.state }
+        requires origin { L.start ≡ Some machine }
+        requires name { blank.name ≡ L.name }
+        requires parts { (blank.parts ≡ L.parts) × (L.all ≡ L.parts) × (blank.parts ≡ count) }
+        requires capacity { IsCapacity capacity × (capacity ≤ vec_capacity self.trace) }
+        requires seats { vec_len self.seats ≡ count }
+        ensures count { IfOk result (λ started. length started.1.items ≡ count) }
+        ensures cpus { IfOk result (λ started. (i : ℕ) → i < count → slice_get started.1.items i ≡ Some (idle_cpu i)) }
+        ensures refused { IfErr result (λ refused. (refused.0 ≡ machine) × (refused.1 ≡ blank)) }
+    {
+        let Unstarted {
+            room,
+            trace,
+            seats,
+            cpus,
+        } = self;
+        match put_in(&*room, machine, trace, capacity, blank) {
+            Ok(all) => {
+                let cpus = seated(seats, cpus, all, count);
+                let cpus_count = u64::from(count);
+                Ok((
+                    Service {
+                        room,
+                        cpus: cpus_count,
+                    },
+                    cpus,
+                ))
+            }
+            Err(refused) => Err(refused),
+        }
+    }
+}
+
+// A seat for each processor.
+fn seats_for<D: Device + Drop, A: Allocator + Copy, L: Origin<D>>(
+    alloc: A,
+    room: &Arc<Room<D, A, L>, A>,
+    seen: &mut Seen,
+    count: u8,
+    capacity: u64,
+) -> Result<Vec<Seat<D, A, L>, A>, AllocError>
+    requires { seen.old ≡ record { cell = (arc_value room.now).horizon; stalled = 0; committed = 0 } }
+    ensures { IfOk result (λ seats. vec_len seats ≡ count) }
+{
+    let mut seats = Vec::with_capacity(alloc, usize::from(count))?;
+    for _ in 0..count {
+        seats.push_reserved(Seat::new(alloc, room, seen, capacity)?);
+    }
+    Ok(seats)
+}
+
+// Opens the ledger and puts the machine under the lock.
+fn put_in<D: Device + Drop, A: Allocator + Copy, L: Origin<D>>(
+    room: &Room<D, A, L>,
+    machine: Machine<D, A>,
+    trace: Vec<Entry, A>,
+    capacity: u64,
+    blank: Blank,
+) -> Result<Share<L>, (Machine<D, A>, Blank)>
+    requires fresh { IsFresh machine.state }
+    requires origin { L.start ≡ Some machine }
+    requires blank { (blank.name ≡ L.name) × (blank.parts ≡ L.parts) }
+    requires trace { (trace.items ≡ []) × IsCapacity capacity × (capacity ≤ vec_capacity trace) }
+    ensures opened { IfOk result (λ all. (all.parts ≡ L.parts) × (all.amount ≡ 0)) }
+    ensures refused { IfErr result (λ refused. (refused.0 ≡ machine) × (refused.1 ≡ blank)) }
+{
+    let Some(mut guard) = room.lock.try_lock() else {
+        return Err((machine, blank));
+    };
+    let (calls, all) = blank.open::<L>();
+    *guard = Some(Locked::new(Shared::over(machine, trace, capacity), calls));
+    Ok(all)
+}
+
+// Gives each seat a number and a part of the ledger.
+fn seated<D: Device + Drop, A: Allocator + Copy, L: Origin<D>>(
+    mut seats: Vec<Seat<D, A, L>, A>,
+    mut cpus: Vec<Cpu<D, A, L>, A>,
+    mut all: Share<L>,
+    count: u8,
+) -> Vec<Cpu<D, A, L>, A>
+    requires seats { vec_len seats ≡ count }
+    requires cpus { (cpus.items ≡ []) × (count ≤ vec_capacity cpus) }
+    requires all { (all.parts ≡ count) × (all.amount ≡ 0) }
+    ensures count { length result.items ≡ count }
+    ensures cpus { (i : ℕ) → i < count → slice_get result.items i ≡ Some (idle_cpu i) }
+{
+    for p in 0..count {
+        let seat = seats.take_last();
+        cpus.push_reserved(seat.into_cpu(p, all.split_off(1, 0)));
+    }
+    cpus
+}

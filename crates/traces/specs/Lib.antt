@@ -1,0 +1,4 @@
+pub mod Traces
+pub mod Lines
+pub mod TraceFault
+pub mod inside

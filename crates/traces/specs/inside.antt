@@ -1,0 +1,2 @@
+-- What lines are written as.
+pub mod Written

@@ -1,0 +1,4 @@
+mod Appending
+mod DumpRows
+mod Dumped
+mod Pages

@@ -1,0 +1,155 @@
+// Why a volume is refused, as far as it can be told: what was found, and what is allowed.
+use device::Device;
+use page_entry::{PAGE, Refusal};
+use std::alloc::Allocator;
+use std::fmt;
+use thiserror::Error;
+use volume_codec::{FileSpec, read_super};
+
+/// A refusal, and its cause where it could be told. Its text is the refusal's word, and after it the cause.
+#[derive(Clone, Copy, Debug)]
+pub struct Refused<'a> {
+    pub refusal: Refusal,
+    pub cause: Option<Cause<'a>>,
+}
+
+impl fmt::Display for Refused<'_> {
+    fn fmt<W: fmt::Write>(&self, f: &mut fmt::Formatter<W>) -> fmt::Result {
+        match &self.cause {
+            Some(cause) => write!(f, "{}: {cause}", self.refusal),
+            None => write!(f, "{}", self.refusal),
+        }
+    }
+}
+
+/// What was found, and what is allowed.
+#[derive(Clone, Copy, Debug, Error)]
+pub enum Cause<'a> {
+    #[error("LAYOUT is {0}, and 1 and 2 are served")]
+    Layout(u64),
+    #[error("SLOTS is {0}, and 1 to 1020 are allowed")]
+    Slots(u64),
+    #[error("{0} files are asked for, and 1 to 64 are allowed")]
+    FileCount(usize),
+    #[error("the name {0:?} isn't 1 to 32 characters from ! to ~")]
+    Name(&'a str),
+    #[error("two files have the name {0:?}")]
+    SameName(&'a str),
+    #[error("the length of {0:?} is 0, and lengths begin at 1")]
+    NoLength(&'a str),
+    #[error("the volume would have more than 4294967295 blocks")]
+    TooManyBlocks,
+    #[error("the file has {0} bytes, and a volume has 4096 at least")]
+    TooShort(u64),
+    #[error("the file doesn't begin with FAMSYNC1 or FAMSYNC2")]
+    Magic,
+    #[error("the super block breaks the format")]
+    SuperBlock,
+    #[error("the file has {found} bytes, and its super block says {wanted}")]
+    CutOff { found: u64, wanted: u64 },
+    #[error("the descriptor of an open journal breaks the format, or two journals have one mark")]
+    Journal,
+    #[error("a read, a write or a sync of the file failed")]
+    Call,
+}
+
+/// Why no volume is made of these files.
+pub fn refused_to_format<'a>(
+    refusal: Refusal,
+    layout: u64,
+    files: &[FileSpec<'a>],
+    slots: u64,
+) -> Refused<'a> {
+    let cause = match refusal {
+        Refusal::BadShape => Some(cause_in_files(layout, files, slots)),
+        Refusal::Device => Some(Cause::Call),
+        _ => None,
+    };
+    Refused { refusal, cause }
+}
+
+// What is outside the limits of volumes.
+fn cause_in_files<'a>(layout: u64, files: &[FileSpec<'a>], slots: u64) -> Cause<'a> {
+    if !matches!(layout, 1 | 2) {
+        return Cause::Layout(layout);
+    }
+    if !(1..=1_020).contains(&slots) {
+        return Cause::Slots(slots);
+    }
+    if !(1..=64).contains(&files.len()) {
+        return Cause::FileCount(files.len());
+    }
+    for (i, file) in files.iter().enumerate() {
+        if !is_name(file.name) {
+            return Cause::Name(file.name);
+        }
+        if files[..i].iter().any(|other| other.name == file.name) {
+            return Cause::SameName(file.name);
+        }
+        if file.length == 0 {
+            return Cause::NoLength(file.name);
+        }
+    }
+    Cause::TooManyBlocks
+}
+
+// Whether a file of a volume may have this name.
+fn is_name(name: &str) -> bool {
+    (1..=32).contains(&name.len()) && name.bytes().all(|letter| (0x21..=0x7E).contains(&letter))
+}
+
+/// Why the volume of a device isn't opened.
+pub fn refused_to_open<'a, D: Device, A: Allocator + Copy>(
+    alloc: A,
+    refusal: Refusal,
+    device: &mut D,
+) -> Refused<'a> {
+    let cause = cause_in_bytes(alloc, refusal, device);
+    Refused { refusal, cause }
+}
+
+// What breaks the format of volumes on a device.
+fn cause_in_bytes<D: Device, A: Allocator + Copy>(
+    alloc: A,
+    refusal: Refusal,
+    device: &mut D,
+) -> Option<Cause<'static>> {
+    let found = device.len();
+    match refusal {
+        Refusal::NotAVolume if found < PAGE => Some(Cause::TooShort(found)),
+        Refusal::NotAVolume => Some(Cause::Magic),
+        Refusal::Damaged => cause_of_damage(alloc, found, &first_block(device)?),
+        Refusal::Device => Some(Cause::Call),
+        _ => None,
+    }
+}
+
+// What is damaged on a device of this length with this super block.
+fn cause_of_damage<A: Allocator + Copy>(
+    alloc: A,
+    found: u64,
+    block: &[u8; 4096],
+) -> Option<Cause<'static>> {
+    match read_super(alloc, block) {
+        Ok(table) => {
+            let wanted = PAGE * u64::from(table.block_count());
+            if found < wanted {
+                Some(Cause::CutOff { found, wanted })
+            } else {
+                Some(Cause::Journal)
+            }
+        }
+        Err(Refusal::OutOfMemory) => None,
+        Err(_) => Some(Cause::SuperBlock),
+    }
+}
+
+/// The first block of a device, where it can be read.
+pub fn first_block<D: Device>(device: &mut D) -> Option<[u8; 4096]> {
+    if device.len() < PAGE {
+        return None;
+    }
+    let mut block = [0; PAGE as usize];
+    device.read(0, &mut block).ok()?;
+    Some(block)
+}

@@ -1,0 +1,123 @@
+// The disk of a volume over its file, and printing the files of a volume.
+ghost use Rattle.std.specs.Prelude.{List, IfOk, IfErr, OnOk};
+ghost use Rattle.std.specs.Io.KnownBytes.{Appends};
+ghost use Rattle.volume_codec.specs.Files.{File as VolumeFile};
+ghost use Rattle.volume_codec.specs.Recovery.{RecoversTo};
+ghost use Rattle.recovery.specs.Opening.{Opens};
+ghost use Rattle.volume_files.specs.Dump.{dump_text};
+
+use crate::cause::{Cause, Refused, refused_to_open};
+use crate::failure::FileFailure;
+use crate::listing::{DumpFault, write_files};
+use crate::mark::Mark;
+use crate::volume_file::{Access, off_streams, open_locked, place};
+use crate::watched_file::{SyncNote, WatchedFile};
+use device::{Device, FileDisk, OverlayDisk};
+use page_entry::Refusal;
+use std::alloc::{AllocError, Allocator};
+use std::fs::{File, Files};
+use std::io::{Read, Write};
+
+/// The disk over the file of a volume.
+pub type VolumeDisk<'a, R> = FileDisk<WatchedFile<'a, File, R>>;
+
+/// Opens the file of a volume at a place, locks it and syncs it. A volume that is marked as suspect is opened only
+/// where it is trusted. `path` names it in a failure, and `note` gets what is to be said of a sync that failed.
+pub fn open_disk<'a, 'b, R>(
+    rt: &'b R,
+    path: &'a str,
+    place: &'b str,
+    access: Access,
+    trust: bool,
+    note: &mut SyncNote,
+) -> Result<VolumeDisk<'b, R>, FileFailure<'a>>
+where
+    R: Files<File = File> + AllocGlobal,
+{
+    let file = open_locked(rt, path, place, access)?;
+    let mark = Mark::of(rt, place)?;
+    if !trust && mark.is_there() {
+        return Err(FileFailure::Suspect {
+            path,
+            mark: mark.into_path(),
+        });
+    }
+    match FileDisk::over(WatchedFile::new(file, mark)) {
+        Ok(disk) => Ok(disk),
+        Err((cause, file)) => {
+            *note = file.into_note();
+            Err(FileFailure::Unsynced { path, cause })
+        }
+    }
+}
+
+/// Prints the files of a volume, as it would be opened, and leaves its file as it is. What opening writes is kept in
+/// memory.
+pub fn dump<'a, R, A, W>(
+    rt: &R,
+    alloc: A,
+    path: &'a str,
+    trust: bool,
+    out: &mut W,
+    note: &mut SyncNote,
+) -> Result<(), FileFailure<'a>>
+where
+    R: Files<File = File> + AllocGlobal,
+    A: Allocator + Copy,
+    W: Write,
+{
+    let place = place(rt, path)?;
+    let disk = open_disk(rt, path, &place, Access::Read, trust, note)?;
+    match print_volume(alloc, OverlayDisk::new(alloc, disk), out) {
+        Ok(Ok(())) => Ok(()),
+        Ok(Err(DumpFault::Output(fault))) => Err(FileFailure::Output(fault)),
+        Ok(Err(DumpFault::Unreadable(refusal))) => Err(FileFailure::Disk {
+            path,
+            cause: Refused {
+                refusal,
+                cause: Some(Cause::Call),
+            },
+        }),
+        Err((Refusal::Device, disk)) if disk.was_refused_memory() => Err(FileFailure::Memory(
+            AllocError,
+        )),
+        Err((refusal, mut disk)) => Err(FileFailure::Disk {
+            path,
+            cause: refused_to_open(alloc, refusal, &mut disk),
+        }),
+    }
+}
+
+// Prints the files of the volume of a device, as it would be opened. A refusal to open it hands the device back.
+fn print_volume<D, A, W>(
+    alloc: A,
+    device: D,
+    out: &mut W,
+) -> Result<Result<(), DumpFault>, (Refusal, D)>
+where
+    D: Device + Drop,
+    A: Allocator + Copy,
+    W: Write,
+    ensures printed { D.is_honest device → IfOk result (λ printed. OnOk printed ((files : List VolumeFile)
+        × RecoversTo (D.seen device) files × Appends (W.contents out.old) (W.contents out.new) (dump_text files))) }
+    ensures refused { IfErr result (λ refused. Opens D.Device device (Err refused.0) refused.1) }
+{
+    recovery::opened_as_recovered(&device);
+    match recovery::open(alloc, device) {
+        Ok(mut volume) => Ok(write_files(&mut volume, out)),
+        Err(refused) => Err(refused),
+    }
+}
+
+/// The bytes of a file, which may be a pipe.
+pub fn read_file<'a, R, A>(rt: &R, alloc: A, path: &'a str) -> Result<Vec<u8, A>, FileFailure<'a>>
+where
+    R: Files<File = File>,
+    A: Allocator + Copy,
+{
+    let refused = |cause| FileFailure::File { path, cause };
+    let mut bytes = Vec::new(alloc);
+    let mut file = File::open(rt, path).and_then(off_streams).map_err(refused)?;
+    file.read_to_end(&mut bytes).map_err(refused)?;
+    Ok(bytes)
+}

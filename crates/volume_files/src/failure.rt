@@ -1,0 +1,46 @@
+// Why something that was asked for of a volume's file wasn't done.
+use crate::cause::Refused;
+use std::alloc::AllocError;
+use std::io;
+use thiserror::Error;
+
+/// Why something that was asked for of a volume's file wasn't done. Its text is one line.
+#[derive(Debug, Drop, Error)]
+pub enum FileFailure<'a> {
+    /// A real file couldn't be made, opened or read.
+    #[error("file {path:?}: {cause}")]
+    File { path: &'a str, cause: io::Error },
+    /// A file beside a volume couldn't be made, or taken away.
+    #[error("file {path:?}: {cause}")]
+    Beside { path: String, cause: io::Error },
+    /// Another process has the file of the volume locked.
+    #[error("disk {path:?}: in use by another process")]
+    InUse { path: &'a str },
+    /// The file of the volume is of another kind.
+    #[error("disk {path:?}: it is {kind}, and a volume is a regular file")]
+    NotRegular { path: &'a str, kind: &'static str },
+    /// The file of the volume has several names, by which others may use it.
+    #[error("disk {path:?}: the file has {names} names, and one that is written to may have one")]
+    SeveralNames { path: &'a str, names: u64 },
+    /// Whenever the file was locked, the path named another one.
+    #[error("disk {path:?}: the file is replaced again and again")]
+    Replaced { path: &'a str },
+    /// The file in which a new volume is made is there already.
+    #[error("disk {path:?}: {new:?} is there already: if no other format is at work, remove it")]
+    NewIsThere { path: &'a str, new: String },
+    /// The volume is marked: a sync of its file failed.
+    #[error("disk {path:?}: {mark:?} says that a sync of it failed, so what is read of it may not be on the disk: compare it with a copy, and give --trust or format it")]
+    Suspect { path: &'a str, mark: String },
+    /// The file of the volume couldn't be synced as it was opened.
+    #[error("disk {path:?}: the file can't be synced: {cause}")]
+    Unsynced { path: &'a str, cause: io::Error },
+    /// The volume was refused.
+    #[error("disk {path:?}: {cause}")]
+    Disk { path: &'a str, cause: Refused<'a> },
+    /// The output couldn't be written.
+    #[error("output: {0}")]
+    Output(#[from] io::Error),
+    /// Memory was refused.
+    #[error("out of memory")]
+    Memory(#[from(alloc)] AllocError),
+}

@@ -1,0 +1,19 @@
+//! Volumes in real files: found, locked and marked, made, opened and printed.
+#![tactic(auto)]
+
+mod cause;
+mod disk;
+mod failure;
+mod listing;
+mod making;
+mod mark;
+mod volume_file;
+mod watched_file;
+
+pub use cause::{Cause, Refused, first_block, refused_to_open};
+pub use disk::{VolumeDisk, dump, open_disk, read_file};
+pub use failure::FileFailure;
+pub use making::{Plan, format};
+pub use mark::Mark;
+pub use volume_file::{Access, place};
+pub use watched_file::{SyncNote, WatchedFile};

@@ -1,0 +1,193 @@
+// Making a volume: whole, in a file of its own, which then takes the old one's name.
+use crate::cause::refused_to_format;
+use crate::failure::FileFailure;
+use crate::mark::Mark;
+use crate::volume_file::{Access, lock, off_streams, open_locked, place, sync_folder_of};
+use device::FileDisk;
+use page_entry::{PAGE, Refusal};
+use std::alloc::Allocator;
+use std::fs::{File, Files, OpenOptions, Permissions};
+use std::io::{ErrorKind, Write};
+use std::os::unix::fs::{FileExt, MetadataExt, PermissionsExt, fchown};
+use std::{fs, io};
+use volume_codec::FileSpec;
+
+/// A volume to be made: the number of its layout, its files, and the record slots of each of its journals.
+#[derive(Clone, Copy)]
+pub struct Plan<'a, 'b> {
+    pub layout: u64,
+    pub files: &'b [FileSpec<'a>],
+    pub slots: u64,
+}
+
+impl<'a> Plan<'a, '_> {
+    // Why no volume was made of it.
+    fn refused(&self, path: &'a str, refusal: Refusal) -> FileFailure<'a> {
+        FileFailure::Disk {
+            path,
+            cause: refused_to_format(refusal, self.layout, self.files, self.slots),
+        }
+    }
+}
+
+/// Makes or replaces the file at a path by the volume of a plan, and says how many blocks it has. The volume is made in
+/// another file beside it, `.new`, which takes its name once all of it is on the disk: where this fails before or is cut
+/// off, the old file is as it was.
+pub fn format<'a, R, A, W>(
+    rt: &R,
+    alloc: A,
+    path: &'a str,
+    plan: Plan<'a, '_>,
+    out: &mut W,
+) -> Result<(), FileFailure<'a>>
+where
+    R: Files<File = File> + AllocGlobal,
+    A: Allocator + Copy,
+    W: Write,
+{
+    let blocks = match recovery::blocks_as(plan.layout, plan.files, plan.slots) {
+        Ok(blocks) => blocks,
+        Err(refusal) => return Err(plan.refused(path, refusal)),
+    };
+    let place = place(rt, path)?;
+    let new = format!(in rt.alloc(); "{place}.new")?;
+    // Both files are locked until the end.
+    let old = old_file(rt, path, &place)?;
+    let file = new_file(rt, path, &new)?;
+    let _file = match made(rt, alloc, path, &place, plan, blocks, old.as_ref(), file).and_then(
+        |file| renamed(rt, path, &new, &place, file),
+    ) {
+        Ok(file) => file,
+        Err(failure) => {
+            // Where it can't be taken away either, the next format says that it is there.
+            let _ = fs::remove_file(rt, new.as_str());
+            return Err(failure);
+        }
+    };
+    let failed = |cause| FileFailure::File { path, cause };
+    sync_folder_of(rt, &place).map_err(failed)?;
+    Mark::of(rt, &place)?.remove().map_err(failed)?;
+    writeln!(out, "formatted {blocks} blocks")?;
+    Ok(())
+}
+
+// The file that is to be replaced, locked, if there is one.
+fn old_file<'a, R>(rt: &R, path: &'a str, place: &str) -> Result<Option<File>, FileFailure<'a>>
+where
+    R: Files<File = File>,
+{
+    match fs::exists(rt, place) {
+        Ok(false) => Ok(None),
+        Ok(true) => Ok(Some(open_locked(rt, path, place, Access::Write)?)),
+        Err(cause) => Err(FileFailure::File { path, cause }),
+    }
+}
+
+// An empty file in which the volume is made.
+fn new_file<'a, R>(rt: &R, path: &'a str, new: &String) -> Result<File, FileFailure<'a>>
+where
+    R: Files<File = File>,
+{
+    let opened = OpenOptions::new()
+        .read(true)
+        .write(true)
+        .create_new(true)
+        .open(rt, new.as_str())
+        .and_then(off_streams);
+    match opened {
+        Ok(file) => Ok(file),
+        Err(cause) => {
+            let new = new.clone()?;
+            if cause.kind() == ErrorKind::AlreadyExists {
+                Err(FileFailure::NewIsThere { path, new })
+            } else {
+                Err(FileFailure::Beside { path: new, cause })
+            }
+        }
+    }
+}
+
+// Makes the volume in a new file, and hands that back, all of it on the disk.
+fn made<'a, R, A>(
+    rt: &R,
+    alloc: A,
+    path: &'a str,
+    place: &str,
+    plan: Plan<'a, '_>,
+    blocks: u64,
+    old: Option<&File>,
+    file: File,
+) -> Result<File, FileFailure<'a>>
+where
+    R: Files<File = File>,
+    A: Allocator + Copy,
+{
+    lock(path, &file, Access::Write)?;
+    match old {
+        Some(old) => take_after(&file, old).map_err(|cause| FileFailure::File { path, cause })?,
+        // Nobody else makes one while this new file is there, but one may have been made before.
+        None if fs::exists(rt, place).unwrap_or(true) => return Err(FileFailure::InUse { path }),
+        None => {}
+    }
+    fill(alloc, path, &file, blocks)?;
+    let mut disk = match FileDisk::over(file) {
+        Ok(disk) => disk,
+        Err((cause, _)) => return Err(FileFailure::File { path, cause }),
+    };
+    match recovery::format_as(alloc, &mut disk, plan.layout, plan.files, plan.slots) {
+        Ok(()) => Ok(disk.into_file()),
+        Err(refusal) => Err(plan.refused(path, refusal)),
+    }
+}
+
+// Gives a new file the mode of an old one, and its group and owner where the system allows that.
+fn take_after(new: &File, old: &File) -> io::Result<()> {
+    let was = old.metadata()?;
+    unless_denied(fchown(new, None, Some(was.gid())))?;
+    unless_denied(fchown(new, Some(was.uid()), None))?;
+    new.set_permissions(Permissions::from_mode(was.mode() & 0o777))
+}
+
+fn unless_denied(outcome: io::Result<()>) -> io::Result<()> {
+    match outcome {
+        Err(fault) if fault.kind() == ErrorKind::PermissionDenied => Ok(()),
+        other => other,
+    }
+}
+
+// The most bytes that are written at once.
+const PIECE: u64 = 1 << 20;
+
+// Writes zeros over all blocks of a new file, journals included, so that a disk without room for them fails here and
+// not in the middle of a commit.
+fn fill<'a, A>(alloc: A, path: &'a str, file: &File, blocks: u64) -> Result<(), FileFailure<'a>>
+where
+    A: Allocator + Copy,
+{
+    let bytes = blocks.saturating_mul(PAGE);
+    let zeros = vec![in alloc; 0; bytes.min(PIECE) as usize]?;
+    for piece in 0..bytes.div_ceil(PIECE) {
+        let at = piece.saturating_mul(PIECE);
+        let count = bytes.saturating_sub(at).min(zeros.len() as u64);
+        file.write_all_at(&zeros[..count as usize], at)
+            .map_err(|cause| FileFailure::File { path, cause })?;
+    }
+    Ok(())
+}
+
+// Gives the new file the name of the old one.
+fn renamed<'a, R>(
+    rt: &R,
+    path: &'a str,
+    new: &str,
+    place: &str,
+    file: File,
+) -> Result<File, FileFailure<'a>>
+where
+    R: Files<File = File>,
+{
+    match fs::rename(rt, new, place) {
+        Ok(()) => Ok(file),
+        Err(cause) => Err(FileFailure::File { path, cause }),
+    }
+}

@@ -1,0 +1,151 @@
+// The file of a volume: found by its path, opened, locked and judged.
+use crate::failure::FileFailure;
+use std::fs::{File, Files, Metadata, OpenOptions, TryLockError};
+use std::os::fd::AsRawFd;
+use std::os::unix::fs::{FileTypeExt, MetadataExt};
+use std::path::Path;
+use std::{fs, io};
+
+/// What a command does with a volume.
+#[derive(Clone, Copy, Debug, PartialEq, Eq)]
+pub enum Access {
+    /// It only reads, beside others that read.
+    Read,
+    /// It writes, and is alone.
+    Write,
+}
+
+/// How often a file is opened that is another when it is locked.
+const TRIES: u32 = 64;
+
+/// Where the file of a volume is: at this path, or, where that is a link, where the link leads to.
+pub fn place<'a, R>(rt: &R, path: &'a str) -> Result<String, FileFailure<'a>>
+where
+    R: Files<File = File> + AllocGlobal,
+{
+    let refused = |cause| FileFailure::File { path, cause };
+    match fs::symlink_metadata(rt, path) {
+        Ok(found) if found.is_symlink() => Ok(String::from_str(
+            rt.alloc(),
+            fs::canonicalize(rt, path).map_err(refused)?.as_str(),
+        )?),
+        _ => Ok(String::from_str(rt.alloc(), path)?),
+    }
+}
+
+/// Opens the file at a place, and locks it: alone where it is written to, else beside other readers. It is a regular
+/// file, and one that is written to has no other name. Until it is dropped, no other process that asks for such a lock
+/// gets one. `path` names it in a failure.
+pub fn open_locked<'a, R>(
+    rt: &R,
+    path: &'a str,
+    place: &str,
+    access: Access,
+) -> Result<File, FileFailure<'a>>
+where
+    R: Files<File = File>,
+{
+    for _ in 0..TRIES {
+        let file = open(rt, path, place, access)?;
+        lock(path, &file, access)?;
+        let found = file
+            .metadata()
+            .map_err(|cause| FileFailure::File { path, cause })?;
+        if is_at(rt, place, &found) {
+            judge(path, &found, access)?;
+            return Ok(file);
+        }
+    }
+    Err(FileFailure::Replaced { path })
+}
+
+// Opens what the path names, if that is a regular file: opening a pipe would wait for its other end.
+fn open<'a, R>(rt: &R, path: &'a str, place: &str, access: Access) -> Result<File, FileFailure<'a>>
+where
+    R: Files<File = File>,
+{
+    let refused = |cause| FileFailure::File { path, cause };
+    judge_kind(path, &fs::metadata(rt, place).map_err(refused)?)?;
+    OpenOptions::new()
+        .read(true)
+        .write(access == Access::Write)
+        .open(rt, place)
+        .and_then(off_streams)
+        .map_err(refused)
+}
+
+/// The same open file under a descriptor above 2: where a standard stream was closed, a file that is opened gets its
+/// number, and what is meant for the stream would land in the file.
+pub fn off_streams(file: File) -> io::Result<File> {
+    if file.as_raw_fd() <= 2 {
+        file.try_clone()
+    } else {
+        Ok(file)
+    }
+}
+
+/// Locks an open file, alone or beside other readers, unless another process holds it.
+pub fn lock<'a>(path: &'a str, file: &File, access: Access) -> Result<(), FileFailure<'a>> {
+    let locked = match access {
+        Access::Read => file.try_lock_shared(),
+        Access::Write => file.try_lock(),
+    };
+    match locked {
+        Ok(()) => Ok(()),
+        Err(TryLockError::WouldBlock) => Err(FileFailure::InUse { path }),
+        Err(TryLockError::Error(cause)) => Err(FileFailure::File { path, cause }),
+    }
+}
+
+// Whether the file with this metadata is the one at a place.
+fn is_at<R: Files<File = File>>(rt: &R, place: &str, found: &Metadata) -> bool {
+    match fs::metadata(rt, place) {
+        Ok(named) => named.dev() == found.dev() && named.ino() == found.ino(),
+        Err(_) => false,
+    }
+}
+
+fn judge<'a>(path: &'a str, found: &Metadata, access: Access) -> Result<(), FileFailure<'a>> {
+    judge_kind(path, found)?;
+    let names = found.nlink();
+    if access == Access::Write && names > 1 {
+        return Err(FileFailure::SeveralNames { path, names });
+    }
+    Ok(())
+}
+
+fn judge_kind<'a>(path: &'a str, found: &Metadata) -> Result<(), FileFailure<'a>> {
+    match other_kind(found) {
+        Some(kind) => Err(FileFailure::NotRegular { path, kind }),
+        None => Ok(()),
+    }
+}
+
+// What a file is that isn't a regular one.
+fn other_kind(found: &Metadata) -> Option<&'static str> {
+    let kind = found.file_type();
+    if kind.is_file() {
+        None
+    } else if kind.is_dir() {
+        Some("a folder")
+    } else if kind.is_fifo() {
+        Some("a pipe")
+    } else if kind.is_socket() {
+        Some("a socket")
+    } else if kind.is_block_device() {
+        Some("a block device")
+    } else if kind.is_char_device() {
+        Some("a character device")
+    } else {
+        Some("no file")
+    }
+}
+
+/// Makes sure that the names in a folder are on the disk.
+pub fn sync_folder_of<R: Files<File = File>>(rt: &R, place: &str) -> io::Result<()> {
+    let folder = match Path::new(place).parent() {
+        Some(folder) if !folder.as_str().is_empty() => folder.as_str(),
+        _ => ".",
+    };
+    off_streams(File::open(rt, folder)?)?.sync_all()
+}
