@@ -237,6 +237,51 @@ fn a_refused_act_can_be_made_at_once(rt: HostRuntime) {
     }
 }
 
+// Opens the volume on a disk and boots a machine over it, if both are granted their memory, and hands the disk back.
+fn boots(alloc: &Counting, disk: Disk) -> (Result<(), Refusal>, Disk) {
+    match open(alloc, disk) {
+        Ok(volume) => boots_over(alloc, volume),
+        Err((refusal, disk)) => (Err(refusal), disk),
+    }
+}
+
+fn boots_over<'a>(
+    alloc: &'a Counting,
+    volume: Volume<Disk, &'a Counting>,
+) -> (Result<(), Refusal>, Disk) {
+    match Machine::boot(alloc, volume, TWO) {
+        Ok(machine) => (Ok(()), machine.into_device()),
+        Err((refusal, volume)) => (Err(refusal), volume.into_device()),
+    }
+}
+
+// Boots where the `n`th request for memory is refused, and if it was made, at once again. Answers whether it was.
+fn is_refused_to_boot(rt: &impl Abort, alloc: &Counting, disk: Disk, n: u64) -> (bool, Disk) {
+    alloc.restart();
+    alloc.refuse_nth(n);
+    let (booted, disk) = boots(alloc, disk);
+    if alloc.refused() == 0 {
+        assert!(rt; booted == Ok(()));
+        return (false, disk);
+    }
+    assert!(rt; booted == Err(Refusal::OutOfMemory), "request {n}");
+    let (booted, disk) = boots(alloc, disk);
+    assert!(rt; booted == Ok(()), "request {n}");
+    (true, disk)
+}
+
+// A volume is opened, and a machine booted over it, by 27 requests for memory. Each of them is refused once.
+#[test]
+fn a_refused_boot_can_be_made_at_once(rt: HostRuntime) {
+    let alloc = Counting::new(rt.alloc());
+    let mut disk = formatted(&rt);
+    for n in 1..99 {
+        let (refused, same) = is_refused_to_boot(&rt, &alloc, disk, n);
+        disk = same;
+        assert!(rt; refused == (n <= 27), "request {n}");
+    }
+}
+
 // The descriptor of mark 1 for the home blocks 7 and 8.
 fn descriptor() -> [u8; 4096] {
     let mut block = [0; 4096];
