@@ -1,10 +1,17 @@
 // Frames and copies that are taken and given back.
-use crate::setup::take_new;
 use frames::{CopyNumber, Frames};
 use page_entry::{FilePage, FrameNumber, Refusal};
 use std::process::Abort;
 
 const FIRST: FilePage = FilePage { file: 1, page: 7 };
+
+// Takes a frame for a page; `Overlap` where a frame has it.
+fn take_new(frames: &mut Frames, page: FilePage) -> Result<FrameNumber, Refusal> {
+    if frames.find(page).is_some() {
+        return Err(Refusal::Overlap);
+    }
+    frames.take(page)
+}
 
 // Copies the frame of a page; `NoFile` where none has it, and `Overlap` where a copy has it.
 fn copy_new(frames: &mut Frames, page: FilePage) -> Result<CopyNumber, Refusal> {
