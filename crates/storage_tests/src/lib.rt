@@ -1,5 +1,5 @@
-//! Small disks, the bytes of small volumes, opening them, and write-outs over them: what each call answers, how many
-//! device calls it makes, and what is opened after a crash.
+//! Small disks, the bytes of small volumes, and what a volume tells of its files. Write-outs, openings and crashes are in
+//! the runs as text.
 #![tactic(auto)]
 
 #[cfg(test)]
@@ -9,8 +9,4 @@ mod disks;
 #[cfg(test)]
 mod sample;
 #[cfg(test)]
-mod trial;
-#[cfg(test)]
 mod volumes;
-#[cfg(test)]
-mod write_outs;

@@ -27,9 +27,6 @@ pub(crate) const LENGTH_ONE: usize = 40_960;
 /// How many bytes it has in layout 2.
 pub(crate) const LENGTH_TWO: usize = 65_536;
 
-/// Where the second journal of layout 2 begins with its gate; its descriptor and records follow, a block each.
-pub(crate) const JOURNAL_B: usize = 28_672;
-
 /// Writes bytes into a block or an image, with the rest left as it was.
 pub(crate) fn put(image: &mut [u8], at: usize, bytes: &[u8]) {
     for (i, byte) in bytes.iter().enumerate() {
