@@ -30,8 +30,8 @@ pub record IsReadFrom (honest : Type 0) (disk : List ℕ) (home length_of page :
   pub there : honest → block ≡ block_from disk home
   pub cut : bytes ≡ cut_to_length length_of page block
 
--- why a fault isn't served, before anything is read: it is of a store, and its place doesn't allow writing; or the first
--- of the reasons of the place
+-- why a fault isn't served, before anything is read: it is of a store, and its place doesn't allow writing; or the
+-- first of the reasons of the place
 abbrev pub refusal_of : FramesState → CheckpointState → PageFault → Option Refusal
 refusal_of memory c fault =
     if fault.write && not (may_write fault.place.rights) then Some refusals.SegvAccErr

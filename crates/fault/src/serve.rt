@@ -94,9 +94,10 @@ fn map_page<A: Allocator + Copy>(
 /// Serves a fault at a page that is mapped: the page comes into memory, by one read of its home block where it isn't
 /// there, and gets an entry that allows the access. It takes no memory.
 ///
-/// `SegvAccErr` if a store goes to a place that doesn't allow writing; `BusAdrErr` if the page begins past the file's end; `Held` if a store goes to a held page and no copy frame is
-/// free; `NoFrame` if the page isn't in memory and no frame is free; `Device` if it isn't in memory and the machine
-/// is broken, or the read fails. After a refusal spaces and frames are as before.
+/// `SegvAccErr` if a store goes to a place that doesn't allow writing; `BusAdrErr` if the page begins past the file's
+/// end; `Held` if a store goes to a held page and no copy frame is free; `NoFrame` if the page isn't in memory and no
+/// frame is free; `Device` if it isn't in memory and the machine is broken, or the read fails. After a refusal spaces
+/// and frames are as before.
 pub fn fix<D: Device, A: Allocator + Copy>(
     spaces: &mut Spaces<A>,
     frames: &mut Frames<A>,

@@ -33,7 +33,8 @@ pub record StepIsSafe {D : Type 0} (disk : Ghosts D) (files : List File) (told :
   pub within : LeavesOnly disk.moment disk.left_since old.device new.device (ReadsBack files told.history)
   pub after : (c : List ℕ) → disk.may_leave new.device c → ReadsBack files (tell told step reply).history c
 
--- a run from old to new through a machine between any two steps, of each of which this is so, by what was told before it
+-- a run from old to new through a machine between any two steps, of each of which this is so, by what was told before
+-- it
 abbrev pub Throughout : {D : Type 0} → (Told → Whole D → Step → Reply → Whole D → Type 0) → Told → Whole D
     → List Step → List Reply → Whole D → Type 0
 Throughout Safe told old [] [] new = new ≡ old

@@ -1,5 +1,5 @@
--- What a crash within a run leaves, by the write-out whose step comes next: the old files, those at the last acknowledged
--- mark, until its gate is written; the new ones, those at its mark, once that is committed.
+-- What a crash within a run leaves, by the write-out whose step comes next: the old files, those at the last
+-- acknowledged mark, until its gate is written; the new ones, those at its mark, once that is committed.
 use Rattle.std.specs.Prelude.{ℕ, ◌≡◌, ◌⊎◌, List, Option, Some, None, MatchBool, Contains}
 use Rattle.std.specs.Option.{option_map_or}
 use Rattle.volume_codec.specs.Files.{File}
@@ -31,8 +31,8 @@ pub record IsNew (files : List File) (history : List Event) (number : ℕ) (c : 
   pub only : (other : ℕ) → Contains prefix (Mark other) → Contains history (Acknowledge other) ⊎ (other ≡ number)
   pub recovers : RecoversTo c (files_after files prefix)
 
--- before the step of this stage of the write-out of this mark: old until the gate is written, either until that is sure,
--- and new from then on; where there is no write-out, the files at the last acknowledged mark
+-- before the step of this stage of the write-out of this mark: old until the gate is written, either until that is
+-- sure, and new from then on; where there is no write-out, the files at the last acknowledged mark
 abbrev pub StopsBefore : List File → List Event → ℕ → Option Stage → List ℕ → Type 0
 StopsBefore files history mark (Some (Recording i)) c = IsOld files history mark c
 StopsBefore files history mark (Some Describing) c = IsOld files history mark c

@@ -32,10 +32,10 @@ impl<D: Device, A: Allocator + Copy> Machine<D, A> {
     {}
 
     /// One step, for a caller that makes one at a time. Whatever steps led to the machine, from whatever start and over
-    /// whatever device, this one and its reply come after them (`longer`), so that a machine on the track of a run stays
-    /// there. On the track of a run, a crash within this very step leaves what reads back by the history before it, and
-    /// one after it what reads back by the history with it (`safe`); which of a write-out's files, the old or the new ones,
-    /// its stage says (`stops`).
+    /// whatever device, this one and its reply come after them (`longer`), so that a machine on the track of a run
+    /// stays there. On the track of a run, a crash within this very step leaves what reads back by the history before
+    /// it, and one after it what reads back by the history with it (`safe`); which of a write-out's files, the old or
+    /// the new ones, its stage says (`stops`).
     pub fn enter(&mut self, step: &Step) -> Reply
         ensures not_full { result ≢ Reply.Refused Refusal.TraceFull }
         ensures memory { result ≡ Reply.Refused Refusal.OutOfMemory
@@ -75,9 +75,9 @@ impl<D: Device, A: Allocator + Copy> Machine<D, A> {
             → FaultsAreServed steps replies }
     {}
 
-    /// On the track of a run, by the write-out whose step comes next: until the step that writes its gate begins, a crash
-    /// leaves what recovers to the files after a durable prefix of the history without its mark; until the mark is
-    /// committed, to these or to those with it; and from then on to those with it. (Of a crash within a step `enter`
+    /// On the track of a run, by the write-out whose step comes next: until the step that writes its gate begins, a
+    /// crash leaves what recovers to the files after a durable prefix of the history without its mark; until the mark
+    /// is committed, to these or to those with it; and from then on to those with it. (Of a crash within a step `enter`
     /// says so.)
     pub fn commits_at_once(&self)
         ensures { (files : List File) (start : Whole D) (steps : List Step) (replies : List Reply) (c : List ℕ)
@@ -94,9 +94,9 @@ impl<D: Device, A: Allocator + Copy> Machine<D, A> {
             → AreFrozenProtected self.now.state }
     {}
 
-    /// On the track of a run, each page of a file, in memory or not, that a mark doesn't gather: whatever of the device a
-    /// crash leaves recovers to contents that have, up to the file's end, the bytes that the page has after the history
-    /// (`kept`). A page in memory has these bytes in its frame (`framed`).
+    /// On the track of a run, each page of a file, in memory or not, that a mark doesn't gather: whatever of the device
+    /// a crash leaves recovers to contents that have, up to the file's end, the bytes that the page has after the
+    /// history (`kept`). A page in memory has these bytes in its frame (`framed`).
     pub fn keeps_other_pages(&self)
         ensures kept { (files : List File) (start : Whole D) (steps : List Step) (replies : List Reply)
             (p number : ℕ) (new : State) (mark : MarkMade self.now.state p number new) (owner : FilePage) (c : List ℕ)

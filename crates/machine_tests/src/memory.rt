@@ -1,4 +1,5 @@
-// How much memory a machine takes, and what it answers where memory is refused, by an allocator that counts and refuses.
+// How much memory a machine takes, and what it answers where memory is refused, by an allocator that counts and
+// refuses.
 use counting_alloc::CountingAllocator;
 use device::MemDisk;
 use machine::{Act, Machine, Reply, Shape, Step};
@@ -76,8 +77,8 @@ fn makes_space(machine: &mut Trial, space: Pcid) -> bool {
         && reply_to(machine, 0, map(space, 4096, 4)) == Reply::Mapped
 }
 
-// Each of 4,095 spaces, with a mapping of 4 pages, takes 4 nodes of its table and little more. The first node is asked for
-// twice: it moves when the table first grows.
+// Each of 4,095 spaces, with a mapping of 4 pages, takes 4 nodes of its table and little more. The first node is asked
+// for twice: it moves when the table first grows.
 #[test]
 fn a_machine_with_all_spaces_takes_under_80_megabytes(rt: HostRuntime) {
     let alloc = Counting::new(rt.alloc());
@@ -120,7 +121,8 @@ fn a_mapping_of_65536_pages_takes_under_1200_kilobytes(rt: HostRuntime) {
     }
 }
 
-// An act of a processor in a script, what it is answered where memory is ample, and how many requests for memory it makes.
+// An act of a processor in a script, what it is answered where memory is ample, and how many requests for memory it
+// makes.
 #[derive(Clone, Copy)]
 struct ScriptAct {
     p: ProcessorNumber,
