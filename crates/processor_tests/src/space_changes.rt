@@ -1,7 +1,7 @@
-// The spaces at their limits, and what each change leaves of their entries.
+// The spaces at their limits.
 use mappings::{PageRange, Place, Rights};
-use page_entry::{Entry, FilePage, PAGE, PageNumber, Pcid, Refusal};
-use spaces::{ALL_PAGES, Change, Spaces};
+use page_entry::{Entry, PAGE, PageNumber, Pcid, Refusal};
+use spaces::{ALL_PAGES, Spaces};
 use std::process::Abort;
 
 // The first page of file 2, with both rights.
@@ -33,25 +33,6 @@ fn unmap(spaces: &mut Spaces, pcid: Pcid, page: u32, pages: u32) -> Result<(), R
     let range = spaces.judge_range(pcid, u64::from(page) * PAGE, u64::from(pages) * PAGE)?;
     spaces.prepare(pcid, range, None)?;
     spaces.unmap(pcid, range);
-    Ok(())
-}
-
-// Sets the rights of pages, as a `mprotect` would.
-fn protect(
-    spaces: &mut Spaces,
-    pcid: Pcid,
-    page: u32,
-    pages: u32,
-    rights: Rights,
-) -> Result<(), Refusal> {
-    let range = spaces.judge_protection(
-        pcid,
-        u64::from(page) * PAGE,
-        u64::from(pages) * PAGE,
-        rights,
-    )?;
-    spaces.prepare(pcid, range, Some(rights))?;
-    spaces.protect(pcid, range, rights);
     Ok(())
 }
 
@@ -174,122 +155,4 @@ fn a_mapping_has_65_536_pages(rt: HostRuntime) {
     most_are_mapped(&rt, &spaces, pcid);
     store_to_last(&rt, &mut spaces, pcid);
     unmap_inner(&rt, &mut spaces, pcid);
-}
-
-// Four pages of a space, with an entry each.
-fn map_stored(rt: &impl Abort, spaces: &mut Spaces, pcid: Pcid) {
-    assert!(rt; map(spaces, pcid, 4, PLACE) == Ok(()));
-    for page in 16..20 {
-        set(rt, spaces, pcid, page, stored(page as u32));
-    }
-}
-
-// Takes the right to store from two pages.
-fn make_read_only(rt: &impl Abort, spaces: &mut Spaces, pcid: Pcid, read_only: Entry) {
-    assert!(rt; protect(spaces, pcid, 17, 2, Rights::Read) == Ok(()));
-    assert!(rt; has_entry(spaces, pcid, 17, read_only));
-    let place = Place {
-        page: 1,
-        rights: Rights::Read,
-        ..PLACE
-    };
-    assert!(rt; maps(spaces, pcid, 17, place));
-}
-
-// Gives it back, but not to the entries.
-fn make_writable(rt: &impl Abort, spaces: &mut Spaces, pcid: Pcid, read_only: Entry) {
-    assert!(rt; protect(spaces, pcid, 17, 2, Rights::ReadWrite) == Ok(()));
-    assert!(rt; has_entry(spaces, pcid, 17, read_only));
-    let place = Place { page: 1, ..PLACE };
-    assert!(rt; maps(spaces, pcid, 17, place));
-}
-
-// Pages of which one isn't mapped lose no right.
-fn refused_protection(rt: &impl Abort, spaces: &mut Spaces, pcid: Pcid) {
-    assert!(rt; has_entry(spaces, pcid, 19, stored(19)));
-    let done = protect(spaces, pcid, 17, 4, Rights::Read);
-    assert!(rt; done == Err(Refusal::Enomem));
-}
-
-#[test]
-fn entries_lose_writable_with_the_right(rt: HostRuntime) {
-    let mut spaces = Spaces::new(rt.alloc()).expect(&rt, "memory");
-    let pcid = created(&rt, &mut spaces);
-    map_stored(&rt, &mut spaces, pcid);
-    let read_only = stored(17).with_writable(false);
-    make_read_only(&rt, &mut spaces, pcid, read_only);
-    make_writable(&rt, &mut spaces, pcid, read_only);
-    refused_protection(&rt, &mut spaces, pcid);
-}
-
-// Three spaces that map two pages each.
-fn map_three(rt: &impl Abort, spaces: &mut Spaces) {
-    for pcid in 1..4 {
-        assert!(rt; create(spaces) == Ok(pcid));
-        assert!(rt; map(spaces, pcid, 2, PLACE) == Ok(()));
-    }
-}
-
-// Whether these are the pages of spaces with an entry of a page of a file, in their order.
-fn has_entries_of(spaces: &Spaces, page: FilePage, expected: &[(Pcid, PageNumber)]) -> bool {
-    let mut listed = spaces.entries_of(page);
-    for entry in expected {
-        if listed.next() != Some(*entry) {
-            return false;
-        }
-    }
-    listed.next().is_none()
-}
-
-// Whether a change touches a space or not, and affects its page 17 or not.
-fn touches(spaces: &Spaces, change: Change, pcid: Pcid, touched: bool) -> bool {
-    spaces.touches(&change, pcid) == touched && spaces.affects(&change, pcid, 17) == touched
-}
-
-// A change touches the spaces with an entry, and a checkpoint all of them.
-fn touches_spaces(rt: &impl Abort, spaces: &Spaces, change: Change) {
-    for (pcid, touched) in [(1, true), (2, false), (3, true)] {
-        assert!(rt; touches(spaces, change, pcid, touched));
-        assert!(rt; spaces.touches(&Change::Checkpoint, pcid));
-    }
-}
-
-// Protects frame 9.
-fn protect_frame(spaces: &mut Spaces) {
-    let mut noted = [false; 10];
-    noted[9] = true;
-    spaces.protect_frames(&noted);
-}
-
-fn clear_entries_of(spaces: &mut Spaces, page: FilePage) {
-    spaces.clear_entries_of(page);
-}
-
-// Stores to page 17 of two spaces.
-fn store_in_two(rt: &impl Abort, spaces: &mut Spaces) {
-    for pcid in [1, 3] {
-        set(rt, spaces, pcid, 17, stored(9));
-    }
-}
-
-// Protects the frame that their entries map, and then clears these.
-fn protect_and_clear(rt: &impl Abort, spaces: &mut Spaces, page: FilePage) {
-    protect_frame(spaces);
-    for pcid in [1, 3] {
-        assert!(rt; has_entry(spaces, pcid, 17, stored(9).protected()));
-    }
-    clear_entries_of(spaces, page);
-    assert!(rt; has_entry(spaces, 3, 17, Entry::absent()));
-}
-
-#[test]
-fn changes_reach_every_space(rt: HostRuntime) {
-    let mut spaces = Spaces::new(rt.alloc()).expect(&rt, "memory");
-    let page = FilePage { file: 2, page: 1 };
-    map_three(&rt, &mut spaces);
-    store_in_two(&rt, &mut spaces);
-    assert!(rt; has_entries_of(&spaces, page, &[(1, 17), (3, 17)]));
-    touches_spaces(&rt, &spaces, Change::Reclaim { page });
-    protect_and_clear(&rt, &mut spaces, page);
-    assert!(rt; has_entries_of(&spaces, page, &[]));
 }

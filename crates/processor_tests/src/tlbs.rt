@@ -50,41 +50,6 @@ fn full_tlb_drops_the_oldest(rt: HostRuntime) {
     assert!(rt; tlb.len() == 2);
 }
 
-// Whether the entry of this page, alike but for it, is cached.
-fn has_page(tlb: &Tlb<Global>, page: PageNumber) -> bool {
-    is_cached(tlb, 1, page, Some(CachedEntry { page, ..FIRST }))
-}
-
-// Fills a TLB of 64 entries, and lets a 65th come.
-fn fill_65(rt: &impl Abort, tlb: &mut Tlb<Global>) {
-    for page in 0..64 {
-        tlb.fill(CachedEntry { page, ..FIRST });
-    }
-    assert!(rt; tlb.len() == 64);
-    assert!(rt; has_page(tlb, 0));
-    tlb.fill(CachedEntry { page: 64, ..FIRST });
-    assert!(rt; tlb.len() == 64);
-}
-
-// Evicts the newest of 64 entries.
-fn evict_newest(rt: &impl Abort, tlb: &mut Tlb<Global>) {
-    let evicted = (tlb.evict(64), tlb.evict(63));
-    assert!(rt; evicted == (false, true));
-    assert!(rt; is_cached(tlb, 1, 64, None));
-}
-
-// The oldest of 64 entries leaves when a 65th comes, and no other.
-#[test]
-fn a_tlb_of_64_entries(rt: HostRuntime) {
-    let mut tlb = Tlb::new(rt.alloc(), 64).expect(&rt, "a TLB");
-    fill_65(&rt, &mut tlb);
-    assert!(rt; is_cached(&tlb, 1, 0, None));
-    for page in 1..65 {
-        assert!(rt; has_page(&tlb, page), "page {page}");
-    }
-    evict_newest(&rt, &mut tlb);
-}
-
 // A page is invalidated, and then the other space's entries.
 fn drop_one_by_one(rt: &impl Abort, tlb: &mut Tlb<Global>, other_space: CachedEntry) {
     tlb.fill(FIRST);
