@@ -167,25 +167,44 @@ module _ (ws present in_use : List ℕ) (t : TableState) (table : IsTable ws) (m
   pub AreBelow-entries : (count : ℕ) → ((page : ℕ) (entry : Mapped) → maps.get t.entries page ≡ Some entry → entry.frame < count) → (first end : ℕ) → AreBelow ws present first end count
   AreBelow-entries count below first end = λ i low high marked entry read. (let found = at_page i entry marked read in below found.0 entry found.1)
 
-  -- and the marked word of a page
-  at_place : (page : ℕ) (entry : Mapped) (frame : ℕ) → maps.get t.entries page ≡ Some entry → entry.frame ≡ frame → entry.dirty ≡ true → IsMarkedDirty ws present 0 (length ws) frame
-  at_place page entry frame there same dirty =
-      let read : entry_of (walk ws 4 page) ≡ Some entry = sym (entry_is page) ∙ there in
-      let some : walk ws 4 page ≢ 0 = λ none. nothing (sym (ap entry_of none) ∙ read) in
-      let leaf : 0 < walk ws 3 (page / 512) = elim (cases_eq (walk ws 3 (page / 512)) 0) [ inl none ↦ absurd (some (walk-none ws 3 page none)) | inr other ↦ omega arith ] in
-      record {
-        place = place_of ws page;
-        low = omega arith;
-        high = place_within ws page table leaf;
-        marked = test_of (walk ws 4 page) (is_set present (place_of ws page)) (marks.marked.entries page leaf) some;
-        entry = entry;
-        read = ap entry_of (sym (read_place ws page leaf)) ∙ read;
-        same_frame = same;
-        dirty = dirty;
-      }
+  -- the word of a page with an entry is marked, and its node in use
+  read_of : (page : ℕ) (entry : Mapped) → maps.get t.entries page ≡ Some entry → entry_of (walk ws 4 page) ≡ Some entry
+  read_of page entry there = sym (entry_is page) ∙ there
+
+  some_of : (page : ℕ) (entry : Mapped) → maps.get t.entries page ≡ Some entry → walk ws 4 page ≢ 0
+  some_of page entry there = λ none. nothing (sym (ap entry_of none) ∙ read_of page entry there)
     where
       nothing : entry_of 0 ≡ Some entry → ⊥
       nothing same = (let never : None ≡ Some entry = same in absurd (cc))
+
+  leaf_of : (page : ℕ) (entry : Mapped) → maps.get t.entries page ≡ Some entry → 0 < walk ws 3 (page / 512)
+  leaf_of page entry there = elim (cases_eq (walk ws 3 (page / 512)) 0) [ inl none ↦ absurd (some_of page entry there (walk-none ws 3 page none)) | inr other ↦ omega arith ]
+
+  marked_of : (page : ℕ) (entry : Mapped) → maps.get t.entries page ≡ Some entry → is_set present (place_of ws page) ≡ true
+  marked_of page entry there = test_of (walk ws 4 page) (is_set present (place_of ws page)) (marks.marked.entries page (leaf_of page entry there)) (some_of page entry there)
+
+  -- where no node is in use, no page has one
+  pub none_in_use : (some : Bool) → (some ≡ false → (node : ℕ) → node < length ws / 512 → is_set in_use node ≡ false) → (page : ℕ) (entry : Mapped) → maps.get t.entries page ≡ Some entry → some ≡ true
+  none_in_use true unused page entry there = refl
+  none_in_use false unused page entry there =
+      let node = place_of ws page / 512 in
+      let on = marks.used (place_of ws page) (marked_of page entry there) in
+      let within = marks.nodes node on in
+      let off = unused refl node (omega (arith, within)) in
+      absurd (cc)
+
+  -- and the marked word of a page
+  at_place : (page : ℕ) (entry : Mapped) (frame : ℕ) → maps.get t.entries page ≡ Some entry → entry.frame ≡ frame → entry.dirty ≡ true → IsMarkedDirty ws present 0 (length ws) frame
+  at_place page entry frame there same dirty = record {
+    place = place_of ws page;
+    low = omega arith;
+    high = place_within ws page table (leaf_of page entry there);
+    marked = marked_of page entry there;
+    entry = entry;
+    read = ap entry_of (sym (read_place ws page (leaf_of page entry there))) ∙ read_of page entry there;
+    same_frame = same;
+    dirty = dirty;
+  }
 
   pub noted_entries : (old new : List Bool) → NotesMarked ws present 0 (length ws) old new → (frame : ℕ) → (get_or new frame false ≡ true) ↔ ((get_or old frame false ≡ true) ⊎ ((page : ℕ) × (entry : Mapped) × (maps.get t.entries page ≡ Some entry) × (entry.frame ≡ frame) × (entry.dirty ≡ true)))
   noted_entries old new notes frame = (

@@ -1,9 +1,9 @@
 // Which words of a table's nodes are present entries, as bits, and what is done to these entries alone.
-ghost use Rattle.std.specs.Prelude.{◌≡◌, ◌≤◌, ◌<◌, ◌+◌, ◌*◌, ◌^◌, length};
+ghost use Rattle.std.specs.Prelude.{◌≡◌, ◌≤◌, ◌<◌, ◌+◌, ◌*◌, ◌^◌, ℕ, false, length};
 ghost use Rattle.page_table.specs.inside.Nodes.{IsTable, EditsPages};
 ghost use Rattle.page_table.specs.inside.Changes.{changed_bits};
 ghost use Rattle.page_table.specs.inside.Marks.{HasMarks, AreMarked, EditsMarked, NotesMarked, AreBelow, Keeps};
-ghost use Rattle.page_table.specs.Bits.{Marks};
+ghost use Rattle.page_table.specs.Bits.{is_set, Marks};
 
 use crate::change::{Change, changed};
 use crate::lanes::first_set;
@@ -18,6 +18,15 @@ pub fn mark(mask: &mut [u64], place: u64, set: bool)
     let at = (place / 64) as usize;
     let bit = 1 << (place % 64);
     mask[at] = if set { mask[at] | bit } else { mask[at] & !bit };
+}
+
+/// Whether one of so many nodes is in use.
+pub(crate) fn has_used(in_use: &[u64], nodes: u64) -> bool
+    requires ample { nodes ≤ length in_use.now * 64 }
+    requires small { nodes < 2 ^ 62 }
+    ensures { result ≡ false → (node : ℕ) → node < nodes → is_set in_use.now node ≡ false }
+{
+    first_set(in_use, 0, (nodes + 63) / 64 * 64).is_some()
 }
 
 // Changes the present entries of one node.

@@ -9,7 +9,7 @@ use crate::DirtyPages;
 use crate::change::Change;
 use crate::growing::{link_pages, needed};
 use crate::leaves::{change_pages, set_page};
-use crate::marks::{change_present, note_present};
+use crate::marks::{change_present, has_used, note_present};
 use crate::nodes::{NODE, walk};
 use page_entry::{Entry, PageNumber, Refusal};
 use std::alloc::{AllocError, Allocator};
@@ -175,6 +175,13 @@ impl<A: Allocator + Copy> Table<A> {
             × (maps.get self.now.entries page ≡ Some entry) × (entry.frame ≡ frame) × (entry.dirty ≡ true))) }
     {
         note_present(&self.words, &self.present, &self.in_use, notes);
+    }
+
+    /// Whether there may be a present entry: false only where there is none. It looks at a bit for each node.
+    pub fn may_have_entries(&self) -> bool
+        ensures { (page : ℕ) (entry : Mapped) → maps.get self.now.entries page ≡ Some entry → result ≡ true }
+    {
+        has_used(&self.in_use, self.words.len() as u64 / NODE)
     }
 
     /// The pages of the range whose entries are dirty, in rising order.

@@ -10,3 +10,4 @@ pub mod RequestLaws
 pub mod ListedLaws
 pub mod Public
 pub mod Noted
+pub mod Used

@@ -152,7 +152,7 @@ module _ (slots : List (Option SpaceState)) (n : ℕ) where
           ∙ (let apart : eqb q n ≡ false = grind (arith, nat_tests) in sym (ap (λ b. cond b None (maps.get (spaces_of slots) q)) apart))
 
 -- one slot more
-slot_at-push : (slots : List (Option SpaceState)) (slot : Option SpaceState) (q : ℕ) → slot_at (slots ++ slot ∷ []) q ≡ cond (eqb q (length slots)) slot (slot_at slots q)
+pub slot_at-push : (slots : List (Option SpaceState)) (slot : Option SpaceState) (q : ℕ) → slot_at (slots ++ slot ∷ []) q ≡ cond (eqb q (length slots)) slot (slot_at slots q)
 slot_at-push [] slot zero = refl
 slot_at-push [] slot (suc q) =
     get_or_past {X = Option SpaceState} [] q None (omega arith) ∙ sym (get_or_past {X = Option SpaceState} [] (suc q) None (omega arith))

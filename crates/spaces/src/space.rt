@@ -8,7 +8,7 @@ ghost use Rattle.mappings.specs.Places.{with_range, without_range, with_rights, 
 ghost use Rattle.mappings.specs.Judgement.{is_user_range, add_refusal, protect_refusal};
 ghost use Rattle.spaces.specs.Spaces.{empty_space};
 ghost use Rattle.spaces.specs.Changes.{pages_with_entry};
-ghost use Rattle.spaces.specs.inside.Slots.{space_of, without_entries, without_each};
+ghost use Rattle.spaces.specs.inside.Slots.{space_of, without_entries, without_each, HasUse};
 
 use crate::entry_pages::EntryPages;
 use mappings::{Mappings, PageRange, PagesOf, Place, Rights};
@@ -157,6 +157,13 @@ impl<A: Allocator + Copy> Space<A> {
             × (maps.get self.now.entries page ≡ Some entry) × (entry.frame ≡ frame) × (entry.dirty ≡ true))) }
     {
         self.table.note_dirty(notes);
+    }
+
+    /// Whether there may be a present entry: false only where there is none.
+    pub(crate) fn may_have_entries(&self) -> bool
+        ensures { HasUse (Some self.now) result }
+    {
+        self.table.may_have_entries()
     }
 
     /// Takes away every entry of a page that maps this page of a file. It takes no memory.

@@ -1,5 +1,5 @@
 // The spaces of a machine.
-ghost use Rattle.std.specs.Prelude.{◌≡◌, ◌≢◌, ◌+◌, ◌<◌, ◌^◌, ◌/◌, ◌↔◌, ◌⊎◌, ℕ, Some, None, map, length, slice_index_or, true, false, IsSome, IfSome, IfNone, IfOk, OnOk, OnErr, IfErr, IsTrue, unwrap_or};
+ghost use Rattle.std.specs.Prelude.{◌≡◌, ◌≢◌, ◌+◌, ◌≤◌, ◌<◌, ◌^◌, ◌/◌, ◌↔◌, ◌⊎◌, ℕ, Some, None, map, length, slice_index_or, true, false, IsSome, IfSome, IfNone, IfOk, OnOk, OnErr, IfErr, IsTrue, unwrap_or};
 ghost use Rattle.std.specs.Option.{option_map};
 ghost use Rattle.std.specs.FinMap as maps;
 ghost use Rattle.page_entry.specs.Entry.{Mapped};
@@ -10,13 +10,13 @@ ghost use Rattle.mappings.specs.Judgement.{is_user_range, add_refusal, protect_r
 ghost use Rattle.spaces.specs.Spaces.{empty_space, has_space, space_at, entry_at, place_at, first_spaces, with_space, with_entry, with_mapping, without_mapping, IsLowestFree, EditsEntries, SetsRights, AreSpaces};
 ghost use Rattle.spaces.specs.Requests.{is_user_space, judged_range, judged_mapping, judged_protection, maps_some, maps_each, CreateRefused};
 ghost use Rattle.spaces.specs.Changes.{is_place_of, affects, touches, entries_of, protected_where, without_entries_of};
-ghost use Rattle.spaces.specs.inside.Slots.{SpaceState, edited, without_entries, IsFound, IsMissing, IsFirstFree, AreBelow, NotesSlot, NotesSlots};
+ghost use Rattle.spaces.specs.inside.Slots.{SpaceState, edited, without_entries, IsFound, IsMissing, IsFirstFree, AreBelow, NotesSlot, NotesSlots, HasUse, AreInUse, EditsSlot, slot_at};
 
 use crate::space::Space;
 use crate::{Change, EntriesOf, Pcids};
 use mappings::{PageRange, Place, Rights, mapped_pages};
 use page_entry::{Entry, FilePage, PAGE, PageIndex, PageNumber, Pcid, Refusal};
-use page_table::DirtyPages;
+use page_table::{DirtyPages, first_set, mark};
 use std::alloc::{AllocError, Allocator, Global};
 use std::marker::Model;
 
@@ -35,13 +35,15 @@ pub const ALL_PAGES: PageRange = PageRange {
 pub struct Spaces<A: Allocator + Copy = Global> {
     // By PCID, as many as the highest PCID that was ever in use needs.
     slots: Vec<Option<Space<A>>, A>,
+    // A bit for each PCID: whether its space may have a present entry.
+    in_use: [u64; 64],
     // The pages of a space that one `protect` may give these rights without memory, or without any an `unmap` may take.
     prepared: Option<(Pcid, PageRange, Option<Rights>)>,
 }
 
 impl<A: Allocator + Copy> Model for Spaces<A> {
     ghost use Rattle.spaces.specs.Spaces.{SpacesState};
-    ghost use Rattle.spaces.specs.inside.Slots.{spaces_code, spaces_of, AreSlots};
+    ghost use Rattle.spaces.specs.inside.Slots.{spaces_code, spaces_of, AreSlots, AreInUse};
 
     ghost Value = { SpacesState };
 
@@ -49,7 +51,7 @@ impl<A: Allocator + Copy> Model for Spaces<A> {
 
     ghost view = { λ s. record { map = spaces_of s.slots.items; prepared = s.prepared } };
 
-    ghost invariant = { λ s. AreSlots s.slots.items s.prepared };
+    ghost invariant = { λ s. AreSlots s.slots.items s.prepared × AreInUse s.slots.items s.in_use };
 }
 
 // The first slot without a space, or one past the last.
@@ -74,6 +76,7 @@ impl<A: Allocator + Copy> Spaces<A> {
         slots.push(Some(first))?;
         Ok(Spaces {
             slots,
+            in_use: [0; 64],
             prepared: None,
         })
     }
@@ -328,6 +331,7 @@ impl<A: Allocator + Copy> Spaces<A> {
             unreachable!()
         };
         space.set_entry(page, entry);
+        mark(&mut self.in_use, pcid as u64, true);
     }
 
     /// Maps the pages of the range to the pages of a file from the place on, one after the other. After an error
@@ -412,7 +416,7 @@ impl<A: Allocator + Copy> Spaces<A> {
             self.old.map self.new.map }
         ensures same { self.new.prepared ≡ self.old.prepared }
     {
-        protect_slots(&mut self.slots, noted);
+        protect_slots(&mut self.slots, &mut self.in_use, noted);
     }
 
     /// Notes the frame of each dirty entry, in every space.
@@ -424,7 +428,7 @@ impl<A: Allocator + Copy> Spaces<A> {
             ↔ ((slice_index_or notes.old frame false ≡ true) ⊎ ((pcid : ℕ) × (page : ℕ) × (entry : Mapped)
             × (entry_at self.now.map pcid page ≡ Some entry) × (entry.frame ≡ frame) × (entry.dirty ≡ true))) }
     {
-        note_slots(&self.slots, notes);
+        note_slots(&self.slots, &self.in_use, notes);
     }
 
     /// Takes away every entry of a page that maps this page of a file, in every space.
@@ -436,29 +440,79 @@ impl<A: Allocator + Copy> Spaces<A> {
     }
 }
 
-// Takes the right to write and the dirty bit from every entry of a noted frame.
-fn protect_slots<A: Allocator + Copy>(slots: &mut [Option<Space<A>>], noted: &[bool])
-    ensures { slots.new ≡ map (option_map (edited (λ s. frames_protected s.entries noted.now))) slots.old }
+// Takes the right to write and the dirty bit from every entry of a noted frame. It goes over the spaces in use alone;
+// one that turns out to have no entry is in use no more.
+fn protect_slots<A: Allocator + Copy>(
+    slots: &mut [Option<Space<A>>],
+    in_use: &mut [u64; 64],
+    noted: &[bool],
+)
+    requires few { length slots.old ≤ 4096 }
+    requires used { AreInUse slots.old in_use.old }
+    ensures edited { slots.new ≡ map (option_map (edited (λ s. frames_protected s.entries noted.now))) slots.old }
+    ensures used { AreInUse slots.new in_use.new }
 {
-    for slot in slots.iter_mut() {
-        protect_slot(slot, noted);
+    let mut next = 0;
+    'spaces: while let Some(pcid) = first_set(in_use, next, 4096) {
+        let stays = protect_at(slots, pcid as usize, noted);
+        mark(in_use, pcid, stays);
+        next = pcid + 1;
     }
 }
 
-fn protect_slot<A: Allocator + Copy>(slot: &mut Option<Space<A>>, noted: &[bool])
-    ensures { slot.new ≡ option_map (edited (λ s. frames_protected s.entries noted.now)) slot.old }
+// The same in the slot of a PCID, if there is one; false only where it then has no entry.
+fn protect_at<A: Allocator + Copy>(
+    slots: &mut [Option<Space<A>>],
+    pcid: usize,
+    noted: &[bool],
+) -> bool
+    ensures edited { EditsSlot (λ s. frames_protected s.entries noted.now) pcid slots.old slots.new }
+    ensures used { HasUse (slot_at slots.new pcid) result }
 {
-    if let Some(space) = slot {
-        space.protect_frames(noted);
+    if pcid < slots.len() {
+        protect_slot(&mut slots[pcid], noted)
+    } else {
+        false
     }
 }
 
-// Notes the frame of each dirty entry.
-fn note_slots<A: Allocator + Copy>(slots: &[Option<Space<A>>], notes: &mut [bool])
-    requires { AreBelow slots.now (length notes.old) }
+fn protect_slot<A: Allocator + Copy>(slot: &mut Option<Space<A>>, noted: &[bool]) -> bool
+    ensures edited { slot.new ≡ option_map (edited (λ s. frames_protected s.entries noted.now)) slot.old }
+    ensures used { HasUse slot.new result }
+{
+    match slot {
+        Some(space) => {
+            space.protect_frames(noted);
+            space.may_have_entries()
+        }
+        None => false,
+    }
+}
+
+// Notes the frame of each dirty entry. It goes over the spaces in use alone.
+fn note_slots<A: Allocator + Copy>(
+    slots: &[Option<Space<A>>],
+    in_use: &[u64; 64],
+    notes: &mut [bool],
+)
+    requires few { length slots.now ≤ 4096 }
+    requires used { AreInUse slots.now in_use.now }
+    requires below { AreBelow slots.now (length notes.old) }
     ensures { NotesSlots slots.now (length slots.now) notes.old notes.new }
 {
-    for pcid in 0..slots.len() {
+    let mut next = 0;
+    'spaces: while let Some(pcid) = first_set(in_use, next, 4096) {
+        note_at(slots, pcid as usize, notes);
+        next = pcid + 1;
+    }
+}
+
+// The same in the slot of a PCID, if there is one.
+fn note_at<A: Allocator + Copy>(slots: &[Option<Space<A>>], pcid: usize, notes: &mut [bool])
+    requires { AreBelow slots.now (length notes.old) }
+    ensures { NotesSlot (slot_at slots.now pcid) notes.old notes.new }
+{
+    if pcid < slots.len() {
         note_slot(&slots[pcid], notes);
     }
 }

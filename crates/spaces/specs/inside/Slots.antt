@@ -1,9 +1,11 @@
 -- How the spaces are kept: a slot for each PCID, with a space or none.
-use Rattle.std.specs.Prelude.{ℕ, ◌≡◌, ◌⊎◌, ◌↔◌, ◌+◌, ◌≤◌, ◌<◌, Bool, true, false, not, is_some, List, [], ◌∷◌, length, slice_index_or, Option, Some, None, IsSome, refl}
+use Rattle.std.specs.Prelude.{ℕ, ◌≡◌, ◌≢◌, ◌⊎◌, ◌↔◌, ◌+◌, ◌≤◌, ◌<◌, Bool, true, false, not, is_some, List, [], ◌∷◌, length, slice_index_or, Option, Some, None, IsSome, refl}
+use Rattle.std.specs.Option.{option_map}
 use Rattle.std.specs.Coded.{Coded, code_by, coded×, coded_ℕ, coded_option}
 use Rattle.std.specs.Ordering.{nat_cmp}
 use Rattle.std.specs.FinMap as maps
 use Rattle.page_entry.specs.Entry.{Mapped}
+use Rattle.page_table.specs.Bits.{is_set}
 use Rattle.page_table.specs.Table.{TableState, is_grown, mapped_code}
 use Rattle.mappings.specs.declared.page_range.PageRange.{PageRange}
 use Rattle.mappings.specs.Places.{Places, splits}
@@ -88,6 +90,21 @@ pub record AreSlots (slots : List (Option SpaceState)) (prepared : Option (ℕ �
   pub few : length slots ≤ 4096
   pub ready : (pcid : ℕ) (range : PageRange) (rights : Option Rights) → prepared ≡ Some (pcid, range, rights)
       → IsPrepared slots pcid range rights
+
+-- a slot's space has no present entry, unless it is said to be in use
+abbrev pub HasUse : Option SpaceState → Bool → Type 0
+HasUse slot used = (s : SpaceState) (page : ℕ) (entry : Mapped) → slot ≡ Some s → maps.get s.entries page ≡ Some entry
+    → used ≡ true
+
+-- the bit of each slot whose space has a present entry is set
+abbrev pub AreInUse : List (Option SpaceState) → List ℕ → Type 0
+AreInUse slots in_use = (pcid : ℕ) → HasUse (slot_at slots pcid) (is_set in_use pcid)
+
+-- the entries of one slot's space are edited, if it has one; the other slots stay
+pub record EditsSlot (f : SpaceState → maps.FinMap nat_cmp Mapped) (pcid : ℕ) (old new : List (Option SpaceState)) : Type 0 where
+  pub size : length new ≡ length old
+  pub here : slot_at new pcid ≡ option_map (edited f) (slot_at old pcid)
+  pub others : (q : ℕ) → q ≢ pcid → slot_at new q ≡ slot_at old q
 
 -- each entry maps a frame with a number below this
 abbrev pub AreBelow : List (Option SpaceState) → ℕ → Type 0

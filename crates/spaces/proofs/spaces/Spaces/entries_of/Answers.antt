@@ -8,13 +8,13 @@ use Rattle.spaces.proofs.spaces.Spaces.entries_of.Goals as goal
 pub unreachable-requires : goal.unreachable-requires
 unreachable-requires g c =
     let none = c.in_default.ensures.cases in
-    let some = within_slots c.self.inside.slots.items 0 c.self.invariant.spaces.first in
+    let some = within_slots c.self.inside.slots.items 0 c.self.invariant.0.spaces.first in
     let same = ap length c.deref.ensures.value in
     absurd (omega arith)
 
 pub unreachable-requires-in_default-slot : goal.unreachable-requires-in_default-slot
 unreachable-requires-in_default-slot g c =
-    first_slot_is_there c.self.inside.slots.items c.in-Some.slot.now c.in-Some.later.now c.self.invariant.spaces.first (sym c.deref.ensures.value ∙ c.in-Some.ensures.cases.0) c.in_default-slot.is
+    first_slot_is_there c.self.inside.slots.items c.in-Some.slot.now c.in-Some.later.now c.self.invariant.0.spaces.first (sym c.deref.ensures.value ∙ c.in-Some.ensures.cases.0) c.in_default-slot.is
 
 pub returns : goal.returns
 returns g c =

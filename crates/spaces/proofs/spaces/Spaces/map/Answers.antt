@@ -5,10 +5,11 @@ use Rattle.page_entry.specs.declared.refusal.Refusal.TheVariants.{OutOfMemory}
 use Rattle.mappings.specs.Judgement.{add_refusal}
 use Rattle.spaces.specs.Spaces.{AddressSpace, SpacesState, has_space, space_at, with_mapping, AreSpaces}
 use Rattle.spaces.specs.Requests.{is_user_space}
-use Rattle.spaces.specs.inside.Slots.{spaces_of}
+use Rattle.spaces.specs.inside.Slots.{SpaceState, space_of, spaces_of}
 use Rattle.spaces.proofs.AreSpacesLaws.{user_space, mappable_ends, AreSpaces-with_mapping}
 use Rattle.spaces.proofs.SlotsLemmas.{within_slots, never_missing, slot_is, found_in_slot}
-use Rattle.spaces.proofs.SlotEdits.{slots_changed, set-with_mapping}
+use Rattle.spaces.proofs.SlotEdits.{slots_kept, slots_changed, set-same, set-with_mapping}
+use Rattle.spaces.proofs.Used.{in_use_same}
 use Rattle.spaces.proofs.spaces.Spaces.map.Goals as goal
 
 pub index_mut-requires : goal.index_mut-requires
@@ -32,14 +33,38 @@ returns-in_err-map-clause-refused g c =
     let p = err_from_is_err_and c.from_residual.result c.from_residual.ensures.1 in
     rw p.1 (p.2 ∙ c.in_err-map.ensures.refused ∙ ap refused (sym here) ∙ ap (λ (s : SpacesState). refused (space_at s.map c.args.pcid)) c.self.view_is)
 
+pub invariant_of-self : goal.invariant_of-self
+invariant_of-self g c =
+    let slots = c.self.inside.slots.items in
+    let user = subst (λ (s : SpacesState). is_user_space s.map c.args.pcid ≡ true) (sym c.self.view_is) c.requires in
+    let at = slot_is c.self.inside.slots.items c.args.pcid c.index_mut.result.now c.in-Some.space (user_space (spaces_of slots) c.args.pcid user).1 c.index_mut.ensures.value c.in-Some.is in
+    let err = c.in_err-map.ensures.err in
+    let same = set-same slots c.args.pcid c.in-Some.space at c.map.new.self (ap space_of err) in (
+      slots_kept slots c.args.pcid c.in-Some.space at c.map.new.self c.self.inside.prepared c.self.invariant.0
+          (ap (λ (s : SpaceState). s.places) err) (let spare = ap (λ (s : SpaceState). s.spare) err in omega arith)
+          (subst AreSpaces (sym same) c.self.invariant.0.spaces),
+      in_use_same slots c.self.inside.in_use c.args.pcid c.in-Some.space c.map.new.self c.self.invariant.1 at (ap (λ (s : SpaceState). s.entries) err),
+    )
+
+pub returns-in_err-map-clause-err : goal.returns-in_err-map-clause-err
+returns-in_err-map-clause-err g c =
+    let slots = c.self.inside.slots.items in
+    let user = subst (λ (s : SpacesState). is_user_space s.map c.args.pcid ≡ true) (sym c.self.view_is) c.requires in
+    let at = slot_is c.self.inside.slots.items c.args.pcid c.index_mut.result.now c.in-Some.space (user_space (spaces_of slots) c.args.pcid user).1 c.index_mut.ensures.value c.in-Some.is in
+    let same = set-same slots c.args.pcid c.in-Some.space at c.map.new.self (ap space_of c.in_err-map.ensures.err) in
+    let p = err_from_is_err_and c.from_residual.result c.from_residual.ensures.1 in
+    rw p.1 ((λ i. record { map = same i; prepared = c.self.inside.prepared }) ∙ c.self.view_is)
+
 pub invariant_of-self-2 : goal.invariant_of-self-2
 invariant_of-self-2 g c =
     let slots = c.self.inside.slots.items in
     let user = subst (λ (s : SpacesState). is_user_space s.map c.args.pcid ≡ true) (sym c.self.view_is) c.requires in
     let at = slot_is c.self.inside.slots.items c.args.pcid c.index_mut.result.now c.in-Some.space (user_space (spaces_of slots) c.args.pcid user).1 c.index_mut.ensures.value c.in-Some.is in
-    let is = set-with_mapping slots c.args.pcid c.in-Some.space at c.map.new.self c.args.range c.args.place c.in_ok-map.ensures.places c.in_ok-map.ensures.entries in
-    slots_changed slots c.args.pcid c.in-Some.space at c.map.new.self c.self.inside.prepared c.self.invariant
-    (subst AreSpaces (sym is) (AreSpaces-with_mapping (spaces_of slots) c.args.pcid c.args.range c.args.place c.self.invariant.spaces user (mappable_ends c.in-Some.space.places c.args.range c.args.place c.in_ok-map.ensures.allowed)))
+    let is = set-with_mapping slots c.args.pcid c.in-Some.space at c.map.new.self c.args.range c.args.place c.in_ok-map.ensures.places c.in_ok-map.ensures.entries in (
+      slots_changed slots c.args.pcid c.in-Some.space at c.map.new.self c.self.inside.prepared c.self.invariant.0
+          (subst AreSpaces (sym is) (AreSpaces-with_mapping (spaces_of slots) c.args.pcid c.args.range c.args.place c.self.invariant.0.spaces user (mappable_ends c.in-Some.space.places c.args.range c.args.place c.in_ok-map.ensures.allowed))),
+      in_use_same slots c.self.inside.in_use c.args.pcid c.in-Some.space c.map.new.self c.self.invariant.1 at c.in_ok-map.ensures.entries,
+    )
 
 pub returns-clause-mapped : goal.returns-clause-mapped
 returns-clause-mapped g c =

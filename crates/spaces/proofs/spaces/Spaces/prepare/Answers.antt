@@ -7,6 +7,7 @@ use Rattle.spaces.specs.inside.Slots.{spaces_of}
 use Rattle.spaces.proofs.AreSpacesLaws.{user_space}
 use Rattle.spaces.proofs.SlotsLemmas.{within_slots, never_missing, slot_is, found_in_slot}
 use Rattle.spaces.proofs.SlotEdits.{slots_kept, slots_prepared, set-same}
+use Rattle.spaces.proofs.Used.{in_use_same}
 use Rattle.spaces.proofs.spaces.Spaces.prepare.Goals as goal
 
 pub index_mut-requires : goal.index_mut-requires
@@ -25,10 +26,12 @@ invariant_of-self g c =
     let slots = c.self.inside.slots.items in
     let user = subst (λ (s : SpacesState). is_user_space s.map c.args.pcid ≡ true) (sym c.self.view_is) c.requires.space in
     let at = slot_is c.self.inside.slots.items c.args.pcid c.index_mut.result.now c.in-Some.space (user_space (spaces_of slots) c.args.pcid user).1 c.index_mut.ensures.value c.in-Some.is in
-    let same = set-same slots c.args.pcid c.in-Some.space at c.prepare.new.self c.prepare.ensures.same in
-    slots_kept slots c.args.pcid c.in-Some.space at c.prepare.new.self c.self.inside.prepared c.self.invariant
-    (ap (λ (x : AddressSpace). x.places) c.prepare.ensures.same) c.prepare.ensures.grows
-    (subst AreSpaces (sym same) c.self.invariant.spaces)
+    let same = set-same slots c.args.pcid c.in-Some.space at c.prepare.new.self c.prepare.ensures.same in (
+      slots_kept slots c.args.pcid c.in-Some.space at c.prepare.new.self c.self.inside.prepared c.self.invariant.0
+          (ap (λ (x : AddressSpace). x.places) c.prepare.ensures.same) c.prepare.ensures.grows
+          (subst AreSpaces (sym same) c.self.invariant.0.spaces),
+      in_use_same slots c.self.inside.in_use c.args.pcid c.in-Some.space c.prepare.new.self c.self.invariant.1 at (ap (λ (x : AddressSpace). x.entries) c.prepare.ensures.same),
+    )
 
 pub returns-in_err-prepare-clause-splits : goal.returns-in_err-prepare-clause-splits
 returns-in_err-prepare-clause-splits g c =
@@ -53,8 +56,10 @@ pub invariant_of-self-2 : goal.invariant_of-self-2
 invariant_of-self-2 g c =
     let slots = c.self.inside.slots.items in
     let user = subst (λ (s : SpacesState). is_user_space s.map c.args.pcid ≡ true) (sym c.self.view_is) c.requires.space in
-    let at = slot_is c.self.inside.slots.items c.args.pcid c.index_mut.result.now c.in-Some.space (user_space (spaces_of slots) c.args.pcid user).1 c.index_mut.ensures.value c.in-Some.is in
-    slots_prepared slots c.args.pcid c.in-Some.space at c.prepare.new.self c.self.inside.prepared c.args.range c.args.rights c.self.invariant user c.requires.pages c.prepare.ensures.same c.in_ok-prepare.ensures.reserved
+    let at = slot_is c.self.inside.slots.items c.args.pcid c.index_mut.result.now c.in-Some.space (user_space (spaces_of slots) c.args.pcid user).1 c.index_mut.ensures.value c.in-Some.is in (
+      slots_prepared slots c.args.pcid c.in-Some.space at c.prepare.new.self c.self.inside.prepared c.args.range c.args.rights c.self.invariant.0 user c.requires.pages c.prepare.ensures.same c.in_ok-prepare.ensures.reserved,
+      in_use_same slots c.self.inside.in_use c.args.pcid c.in-Some.space c.prepare.new.self c.self.invariant.1 at (ap (λ (x : AddressSpace). x.entries) c.prepare.ensures.same),
+    )
 
 pub returns-clause-prepared : goal.returns-clause-prepared
 returns-clause-prepared g c =

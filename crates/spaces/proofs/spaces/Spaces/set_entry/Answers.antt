@@ -1,4 +1,4 @@
-use Rattle.std.proofs.Common.{◌≡◌, IsSome, true, sym, ap, ◌∙◌, subst, arith}
+use Rattle.std.proofs.Common.{◌≡◌, Some, length, IsSome, true, sym, ap, ◌∙◌, subst, arith}
 use Rattle.std.specs.FinMap as maps
 use Rattle.spaces.specs.Spaces.{AddressSpace, SpacesState, has_space, place_at, with_entry, AreSpaces}
 use Rattle.spaces.specs.inside.Slots.{SpaceState, spaces_of}
@@ -6,6 +6,7 @@ use Rattle.spaces.proofs.SpacesLaws.{has_space-place_at}
 use Rattle.spaces.proofs.AreSpacesLaws.{AreSpaces-with_entry}
 use Rattle.spaces.proofs.SlotsLemmas.{within_slots, never_missing, slot_is, found_in_slot}
 use Rattle.spaces.proofs.SlotEdits.{slots_kept, set-with_entry}
+use Rattle.spaces.proofs.Used.{in_use_put}
 use Rattle.spaces.proofs.spaces.Spaces.set_entry.Goals as goal
 
 pub index_mut-requires : goal.index_mut-requires
@@ -26,16 +27,24 @@ set_entry-requires g c =
     let at = slot_is c.self.inside.slots.items c.args.pcid c.index_mut.result.now c.in-Some.space (has_space-place_at (spaces_of slots) c.args.pcid c.args.page mapped) c.index_mut.ensures.value c.in-Some.is in
     subst (λ (x : AddressSpace). IsSome (maps.get x.places c.args.page)) (found_in_slot slots c.args.pcid c.in-Some.space at).same mapped
 
+pub mark-requires : goal.mark-requires
+mark-requires g c =
+    let there : has_space (spaces_of c.self.inside.slots.items) c.args.pcid ≡ true = has_space-place_at (spaces_of c.self.inside.slots.items) c.args.pcid c.args.page (subst (λ (s : SpacesState). IsSome (place_at s.map c.args.pcid c.args.page)) (sym c.self.view_is) c.requires) in
+    let within = within_slots c.self.inside.slots.items c.args.pcid there in
+    omega (arith, c.self.invariant.0.few)
+
 pub invariant_of-self : goal.invariant_of-self
 invariant_of-self g c =
     let slots = c.self.inside.slots.items in
     let new = c.set_entry.new.self in
     let mapped = subst (λ (s : SpacesState). IsSome (place_at s.map c.args.pcid c.args.page)) (sym c.self.view_is) c.requires in
     let at = slot_is c.self.inside.slots.items c.args.pcid c.index_mut.result.now c.in-Some.space (has_space-place_at (spaces_of slots) c.args.pcid c.args.page mapped) c.index_mut.ensures.value c.in-Some.is in
-    let is = set-with_entry slots c.args.pcid c.in-Some.space at new c.args.page c.args.entry c.set_entry.ensures in
-    slots_kept slots c.args.pcid c.in-Some.space at new c.self.inside.prepared c.self.invariant
-    (ap (λ (s : SpaceState). s.places) c.set_entry.ensures) (let same = ap (λ (s : SpaceState). s.spare) c.set_entry.ensures in omega arith)
-    (subst AreSpaces (sym is) (AreSpaces-with_entry (spaces_of slots) c.args.pcid c.args.page c.args.entry c.self.invariant.spaces mapped))
+    let is = set-with_entry slots c.args.pcid c.in-Some.space at new c.args.page c.args.entry c.set_entry.ensures in (
+      slots_kept slots c.args.pcid c.in-Some.space at new c.self.inside.prepared c.self.invariant.0
+          (ap (λ (s : SpaceState). s.places) c.set_entry.ensures) (let same = ap (λ (s : SpaceState). s.spare) c.set_entry.ensures in omega arith)
+          (subst AreSpaces (sym is) (AreSpaces-with_entry (spaces_of slots) c.args.pcid c.args.page c.args.entry c.self.invariant.0.spaces mapped)),
+      in_use_put slots c.self.inside.in_use c.mark.new.mask c.args.pcid (Some new) c.self.invariant.1 c.mark.ensures,
+    )
 
 pub returns : goal.returns
 returns g c =
