@@ -31,8 +31,13 @@ impl<A: Allocator + Copy> Model for Space<A> {
 
     ghost coded = { space_state_code };
 
-    ghost view = { λ s. record { entries = s.table.entries; places = s.mappings.places; spare = s.mappings.spare; grown = s.table.grown;
-      nodes = s.table.nodes } };
+    ghost view = { λ s. record {
+      entries = s.table.entries;
+      places = s.mappings.places;
+      spare = s.mappings.spare;
+      grown = s.table.grown;
+      nodes = s.table.nodes;
+    } };
 
     ghost invariant = { λ s. HasRoom s.table s.mappings };
 }
