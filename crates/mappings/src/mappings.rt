@@ -79,6 +79,19 @@ impl<A: Allocator + Copy> Mappings<A> {
         Ok(())
     }
 
+    /// Reserves the memory that one later `add` may need: room for one more mapping.
+    ///
+    /// `OutOfMemory` if such room is missing and is refused. No mapping changes, whatever the answer.
+    pub fn reserve_one(&mut self) -> Result<(), Refusal>
+        ensures reserved { OnOk result (0 < self.new.spare) }
+        ensures refused { IfErr result (λ why. why ≡ OutOfMemory) }
+        ensures missing { OnErr result (self.old.spare ≡ 0) }
+        ensures places { self.new.places ≡ self.old.places }
+        ensures grows { self.old.spare ≤ self.new.spare }
+    {
+        self.list.reserve(1).map_err(|_| Refusal::OutOfMemory)
+    }
+
     /// Maps the pages of the range to the pages of a file from the place on, one after the other. A mapping that goes
     /// on from its neighbour becomes one with it.
     ///

@@ -38,18 +38,17 @@ module _ (table new : TableState) (mappings fewer : MappingsState) (room : HasRo
       was None f h = h
       was (Some p) f h = refl
 
+-- where the same pages are mapped
+pub room_of_same : (table : TableState) (mappings other : MappingsState) → HasRoom table mappings → other.places ≡ mappings.places → HasRoom table other
+room_of_same table mappings other room same = λ page some. room page (subst IsSome (ap (λ places. maps.get places page) same) some)
+
 module _ (first count : ℕ) (place : Place) (table larger : TableState) (mappings more : MappingsState) (room : HasRoom table mappings) (grows : GrowsOver first (first + count) table larger) where
   room_grown : HasRoom larger mappings
   room_grown = λ page some. grows.still_grown page (room page some)
 
-  room_mapped : more.places ≡ with_range mappings.places first count place → HasRoom larger more
+  pub room_mapped : more.places ≡ with_range mappings.places first count place → HasRoom larger more
   room_mapped is = λ page some.
       elim (is_among first count page) as (λ b. is_among first count page ≡ b → IsSome (cond b (Some (advanced place (page - first))) (maps.get mappings.places page)) → is_grown larger page ≡ true) [
         | true ↦ λ inside _. grows.range_grown page (grind (arith, nat_tests)) (grind (arith, nat_tests))
         | false ↦ λ _ was. room_grown page was
       ] refl (subst IsSome (ap (λ places. maps.get places page) is ∙ get-with_range mappings.places first count place page) some)
-
-  -- whatever the answer to the mapping is
-  pub room_answered : (result : Result (Unit {0}) Refusal) → OnOk result (more.places ≡ with_range mappings.places first count place) → OnErr result (more ≡ mappings) → HasRoom larger more
-  room_answered (Ok done) added unchanged = room_mapped added
-  room_answered (Err why) added unchanged = subst (HasRoom larger) (sym unchanged) room_grown

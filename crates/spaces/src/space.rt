@@ -8,7 +8,7 @@ ghost use Rattle.mappings.specs.Places.{with_range, without_range, with_rights, 
 ghost use Rattle.mappings.specs.Judgement.{is_user_range, add_refusal, protect_refusal};
 ghost use Rattle.spaces.specs.Spaces.{empty_space};
 ghost use Rattle.spaces.specs.Changes.{pages_with_entry};
-ghost use Rattle.spaces.specs.inside.Slots.{space_of, without_entries, without_each, HasUse};
+ghost use Rattle.spaces.specs.inside.Slots.{space_of, without_entries, without_each, AreGrown, HasUse};
 
 use crate::entry_pages::EntryPages;
 use mappings::{Mappings, PageRange, PagesOf, Place, Rights};
@@ -31,7 +31,13 @@ impl<A: Allocator + Copy> Model for Space<A> {
 
     ghost coded = { space_state_code };
 
-    ghost view = { λ s. record { entries = s.table.entries; places = s.mappings.places; spare = s.mappings.spare } };
+    ghost view = { λ s. record {
+      entries = s.table.entries;
+      places = s.mappings.places;
+      spare = s.mappings.spare;
+      grown = s.table.grown;
+      nodes = s.table.nodes;
+    } };
 
     ghost invariant = { λ s. HasRoom s.table s.mappings };
 }
@@ -79,17 +85,27 @@ impl<A: Allocator + Copy> Space<A> {
     }
 
     /// Maps a range of pages from a place on. `Einval`, `Eacces`, `Overlap` and `OutOfMemory`, in this order; after a
-    /// refusal nothing has changed.
+    /// refusal nothing has changed, and the table hasn't grown. Memory is asked for only where there is no room for one
+    /// more mapping, or a page of the range hasn't grown yet.
     pub(crate) fn map(&mut self, range: PageRange, place: Place) -> Result<(), Refusal>
         ensures places { OnOk result (self.new.places ≡ with_range self.old.places range.first range.count place) }
         ensures entries { OnOk result (self.new.entries ≡ self.old.entries) }
         ensures allowed { OnOk result (add_refusal self.old.places range place ≡ None) }
         ensures refused { IfErr result (λ why. why ≡ unwrap_or (add_refusal self.old.places range place) OutOfMemory) }
-        ensures err { OnErr result (self.new ≡ self.old) }
+        ensures err { OnErr result (space_of self.new ≡ space_of self.old) }
+        ensures grown { OnErr result (self.new.grown ≡ self.old.grown) }
+        ensures nodes { OnErr result (self.new.nodes ≡ self.old.nodes) }
+        ensures kept { OnErr result (self.old.spare ≤ self.new.spare) }
+        ensures need { OnErr result (add_refusal self.old.places range place ≡ None
+            → (self.old.spare ≡ 0) ⊎ (AreGrown self.old range → ⊥)) }
     {
         self.mappings.may_add(range, place)?;
+        self.mappings.reserve_one()?;
         self.table.grow(range.first..range.first + range.count)?;
-        self.mappings.add(range, place)
+        let Ok(()) = self.mappings.add(range, place) else {
+            unreachable!()
+        };
+        Ok(())
     }
 
     /// Reserves the memory that one later `protect` of the range with the rights needs, or without any an `unmap`.

@@ -4,6 +4,7 @@ use Rattle.std.specs.Option.{option_map}
 use Rattle.std.specs.Coded.{Coded, code_by, coded×, coded_ℕ, coded_option}
 use Rattle.std.specs.Ordering.{nat_cmp}
 use Rattle.std.specs.FinMap as maps
+use Rattle.std.specs.FinSet as sets
 use Rattle.page_entry.specs.Entry.{Mapped}
 use Rattle.page_table.specs.Bits.{is_set}
 use Rattle.page_table.specs.Table.{TableState, is_grown, mapped_code}
@@ -17,15 +18,21 @@ use Rattle.mappings.specs.declared.place.Rights.{Rights}
 use Rattle.spaces.specs.Requests.{is_user_space}
 use Rattle.spaces.specs.Changes.{is_place_of}
 
--- one space: its entries and places, and for how many further mappings room is reserved
+-- one space: its entries and places, for how many further mappings room is reserved, and where its table has grown
 pub record SpaceState : Type 0 where
   pub entries : maps.FinMap nat_cmp Mapped
   pub places : Places
   pub spare : ℕ
+  pub grown : sets.FinSet nat_cmp
+  pub nodes : ℕ
 
 -- what a user of the spaces sees of it
 abbrev pub space_of : SpaceState → AddressSpace
 space_of s = record { entries = s.entries; places = s.places }
+
+-- the table has grown at each page of the range
+abbrev pub AreGrown : SpaceState → PageRange → Type 0
+AreGrown s range = (page : ℕ) → range.first ≤ page → page < range.first + range.count → sets.contains s.grown page ≡ true
 
 -- the entry of each mapped page can be set without memory
 abbrev pub HasRoom : TableState → MappingsState → Type 0
@@ -142,8 +149,11 @@ space_code =
 
 abbrev pub space_state_code : Coded SpaceState
 space_state_code =
-    code_by (AddressSpace × ℕ) (coded× space_code coded_ℕ) (λ s. (space_of s, s.spare))
-    (λ p. record { entries = p.0.entries; places = p.0.places; spare = p.1 }) (λ _. refl)
+    code_by (AddressSpace × (ℕ × (sets.FinSet nat_cmp × ℕ)))
+    (coded× space_code (coded× coded_ℕ (coded× (sets.code coded_ℕ) coded_ℕ)))
+    (λ s. (space_of s, (s.spare, (s.grown, s.nodes))))
+    (λ p. record { entries = p.0.entries; places = p.0.places; spare = p.1.0; grown = p.1.1.0; nodes = p.1.1.1 })
+    (λ _. refl)
 
 abbrev pub range_code : Coded PageRange
 range_code = code_by (ℕ × ℕ) (coded× coded_ℕ coded_ℕ) (λ r. (r.first, r.count))

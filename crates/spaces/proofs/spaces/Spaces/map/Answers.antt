@@ -5,7 +5,7 @@ use Rattle.page_entry.specs.declared.refusal.Refusal.TheVariants.{OutOfMemory}
 use Rattle.mappings.specs.Judgement.{add_refusal}
 use Rattle.spaces.specs.Spaces.{AddressSpace, SpacesState, has_space, space_at, with_mapping, AreSpaces}
 use Rattle.spaces.specs.Requests.{is_user_space}
-use Rattle.spaces.specs.inside.Slots.{SpaceState, space_of, spaces_of}
+use Rattle.spaces.specs.inside.Slots.{spaces_of}
 use Rattle.spaces.proofs.AreSpacesLaws.{user_space, mappable_ends, AreSpaces-with_mapping}
 use Rattle.spaces.proofs.SlotsLemmas.{within_slots, never_missing, slot_is, found_in_slot}
 use Rattle.spaces.proofs.SlotEdits.{slots_kept, slots_changed, set-same, set-with_mapping}
@@ -39,11 +39,11 @@ invariant_of-self g c =
     let user = subst (λ (s : SpacesState). is_user_space s.map c.args.pcid ≡ true) (sym c.self.view_is) c.requires in
     let at = slot_is c.self.inside.slots.items c.args.pcid c.index_mut.result.now c.in-Some.space (user_space (spaces_of slots) c.args.pcid user).1 c.index_mut.ensures.value c.in-Some.is in
     let err = c.in_err-map.ensures.err in
-    let same = set-same slots c.args.pcid c.in-Some.space at c.map.new.self (ap space_of err) in (
+    let same = set-same slots c.args.pcid c.in-Some.space at c.map.new.self err in (
       slots_kept slots c.args.pcid c.in-Some.space at c.map.new.self c.self.inside.prepared c.self.invariant.0
-          (ap (λ (s : SpaceState). s.places) err) (let spare = ap (λ (s : SpaceState). s.spare) err in omega arith)
+          (ap (λ (x : AddressSpace). x.places) err) c.in_err-map.ensures.kept
           (subst AreSpaces (sym same) c.self.invariant.0.spaces),
-      in_use_same slots c.self.inside.in_use c.args.pcid c.in-Some.space c.map.new.self c.self.invariant.1 at (ap (λ (s : SpaceState). s.entries) err),
+      in_use_same slots c.self.inside.in_use c.args.pcid c.in-Some.space c.map.new.self c.self.invariant.1 at (ap (λ (x : AddressSpace). x.entries) err),
     )
 
 pub returns-in_err-map-clause-err : goal.returns-in_err-map-clause-err
@@ -51,7 +51,7 @@ returns-in_err-map-clause-err g c =
     let slots = c.self.inside.slots.items in
     let user = subst (λ (s : SpacesState). is_user_space s.map c.args.pcid ≡ true) (sym c.self.view_is) c.requires in
     let at = slot_is c.self.inside.slots.items c.args.pcid c.index_mut.result.now c.in-Some.space (user_space (spaces_of slots) c.args.pcid user).1 c.index_mut.ensures.value c.in-Some.is in
-    let same = set-same slots c.args.pcid c.in-Some.space at c.map.new.self (ap space_of c.in_err-map.ensures.err) in
+    let same = set-same slots c.args.pcid c.in-Some.space at c.map.new.self c.in_err-map.ensures.err in
     let p = err_from_is_err_and c.from_residual.result c.from_residual.ensures.1 in
     rw p.1 ((λ i. record { map = same i; prepared = c.self.inside.prepared }) ∙ c.self.view_is)
 
