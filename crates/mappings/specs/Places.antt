@@ -84,8 +84,8 @@ is_within places first count = list_all (goes_on places) (range_with_len first (
 abbrev pub is_cut : Places → ℕ → Rights → Bool
 is_cut places page rights = goes_on places page && not (goes_on (with_rights places page 1 rights) page)
 
--- how many mappings are split: where the pages of a range are unmapped, one if it has a page on both sides of them; where
--- they get rights, at either end one that has pages on both sides, with other rights
+-- how many mappings are split: where the pages of a range are unmapped, one if it has a page on both sides of them;
+-- where they get rights, at either end one that has pages on both sides, with other rights
 abbrev pub splits : Places → PageRange → Option Rights → ℕ
 splits places range None = if is_within places range.first range.count then 1 else 0
 splits places range (Some rights) =

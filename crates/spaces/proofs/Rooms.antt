@@ -1,12 +1,11 @@
 -- The entry of each mapped page of a space can be set without memory, before and after each change of its mappings.
-use Rattle.std.proofs.Common.{◌≡◌, ℕ, ◌+◌, ◌-◌, Bool, true, false, cond, Option, Some, None, Result, Ok, Err, OnOk, OnErr, IsSome, refl, sym, ap, subst, ◌∙◌, arith}
+use Rattle.std.proofs.Common.{◌≡◌, ℕ, ◌+◌, ◌-◌, Bool, true, false, cond, Option, Some, None, IsSome, refl, ap, subst, ◌∙◌, arith}
 use Rattle.std.specs.Option.{option_map}
 use Rattle.std.specs.Ordering.{nat_cmp}
 use Rattle.std.specs.FinMap as maps
 use Rattle.std.specs.FinSet as sets
 use Rattle.std.proofs.lemmas.Bool.{false≢true}
 use Rattle.std.proofs.lemmas.Bool.Decides.{nat_tests}
-use Rattle.page_entry.specs.declared.refusal.Refusal.{Refusal}
 use Rattle.page_table.specs.Table.{TableState, is_grown, GrowsOver}
 use Rattle.mappings.specs.State.{MappingsState}
 use Rattle.mappings.specs.declared.place.Place.{Place}

@@ -1,5 +1,5 @@
 -- The bit of each slot whose space has an entry stays set, and a walk over the bits that are set reaches every entry.
-use Rattle.std.proofs.Common.{◌≡◌, ◌≢◌, ◌⊎◌, ℕ, ◌+◌, ◌<◌, ◌≤◌, Bool, true, false, cond, eqb, List, [], ◌∷◌, ◌++◌, map, length, get_or, set, replicate, Option, Some, None, refl, sym, ap, ◌∙◌, subst, inl, inr, ⊎_elim, arith}
+use Rattle.std.proofs.Common.{◌≡◌, ◌≢◌, ◌⊎◌, ℕ, ◌+◌, ◌<◌, ◌≤◌, Bool, true, false, cond, eqb, List, [], ◌∷◌, ◌++◌, map, length, set, Option, Some, None, refl, sym, ap, ◌∙◌, subst, inl, inr, ⊎_elim, arith}
 use Rattle.std.specs.Option.{option_map}
 use Rattle.std.specs.Ordering.{nat_cmp}
 use Rattle.std.specs.Cmp.{nat_cmp_total}
@@ -15,7 +15,7 @@ use Rattle.page_table.specs.Table.{in_range, outside_range, range_read_only, fra
 use Rattle.page_table.proofs.Entries.{get-outside_range, get-range_read_only, get-frames_protected, maps_marked}
 use Rattle.spaces.specs.Spaces.{empty_space}
 use Rattle.spaces.specs.Changes.{is_place_of}
-use Rattle.spaces.specs.inside.Slots.{SpaceState, space_of, slot_at, edited, without_entries, HasUse, AreInUse, EditsSlot, MapsDirty, NotesSlot, NotesSlots}
+use Rattle.spaces.specs.inside.Slots.{SpaceState, space_of, slot_at, edited, without_entries, HasUse, AreInUse, EditsSlot, MapsDirty, NotesSlots}
 use Rattle.spaces.proofs.SpacesLaws.{get-empty_entries}
 use Rattle.spaces.proofs.SlotsLemmas.{found_in_slot, within_slots, slot_at-push, slot_at-past}
 use Rattle.spaces.proofs.Cleared.{get-without_entries}

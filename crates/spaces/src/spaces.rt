@@ -359,9 +359,9 @@ impl<A: Allocator + Copy> Spaces<A> {
     /// Reserves the memory that one later `protect` of the pages of a range with the rights needs, or without any an
     /// `unmap` of them.
     ///
-    /// `OutOfMemory` if a mapping has to be split and memory is refused: for an `unmap` one that has the range, the page
-    /// before it and the page after it; for a `protect` one with other rights that has pages on both sides of an end of
-    /// the range. Then nothing has changed.
+    /// `OutOfMemory` if a mapping has to be split and memory is refused: for an `unmap` one that has the range, the
+    /// page before it and the page after it; for a `protect` one with other rights that has pages on both sides of an
+    /// end of the range. Then nothing has changed.
     pub fn prepare(
         &mut self,
         pcid: Pcid,
@@ -395,7 +395,8 @@ impl<A: Allocator + Copy> Spaces<A> {
         self.prepared = None;
     }
 
-    /// Gives the rights to the pages of the range, which was prepared for them. Without the right to write, their entries lose it.
+    /// Gives the rights to the pages of the range, which was prepared for them. Without the right to write, their
+    /// entries lose it.
     pub fn protect(&mut self, pcid: Pcid, range: PageRange, rights: Rights)
         requires prepared { self.old.prepared ≡ Some (pcid, range, Some rights) }
         requires allowed { protect_refusal (space_at self.old.map pcid).places range rights ≡ None }

@@ -1,4 +1,4 @@
-use Rattle.std.proofs.Common.{◌≡◌, Some, length, IsSome, true, sym, ap, ◌∙◌, subst, arith}
+use Rattle.std.proofs.Common.{◌≡◌, Some, IsSome, true, sym, ap, ◌∙◌, subst, arith}
 use Rattle.std.specs.FinMap as maps
 use Rattle.spaces.specs.Spaces.{AddressSpace, SpacesState, has_space, place_at, with_entry, AreSpaces}
 use Rattle.spaces.specs.inside.Slots.{SpaceState, spaces_of}
