@@ -1,2 +1,3 @@
 pub mod Traces
 pub mod Counting
+mod Starts

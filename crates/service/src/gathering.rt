@@ -130,3 +130,22 @@ pub(crate) fn ended<D: Device + Drop, A: Allocator + Copy, L: Origin<D>>(
     calls.audit(&mut all);
     shared.into_parts()
 }
+
+// What the lock keeps, taken out with nothing compared.
+pub(crate) fn taken<D: Device + Drop, A: Allocator + Copy, L: Origin<D>, R: Wait>(
+    rt: &R,
+    room: &Room<D, A, L>,
+) -> Option<Locked<D, A, L>> {
+    room.lock.lock(rt).take()
+}
+
+// The machine alone, which its trace led to.
+pub(crate) fn abandoned<D: Device + Drop, A: Allocator + Copy, L: Origin<D>>(
+    locked: Locked<D, A, L>,
+) -> Machine<D, A>
+    ensures machine { result ≡ locked.machine }
+    ensures serves { ServesFrom D.Device L.start locked }
+{
+    let Locked { shared, .. } = locked;
+    shared.into_parts().0
+}

@@ -1,11 +1,15 @@
 // A service: how it starts, with a processor for each thread, and how it ends.
-ghost use Rattle.std.specs.Prelude.{ℕ, ◌≡◌, ◌<◌, length, slice_get, Some, IfOk, IfErr};
+ghost use Rattle.std.specs.Prelude.{ℕ, ◌≡◌, ◌<◌, List, length, slice_get, Some, IfOk, IfErr, IfSome};
 ghost use Rattle.page_entry.specs.declared.refusal.Refusal.{Refusal};
+ghost use Rattle.machine.specs.declared.act.Reply.{Reply};
+ghost use Rattle.machine.specs.declared.act.Step.{Step};
 ghost use Rattle.machine.specs.Fresh.{IsFresh};
+ghost use Rattle.machine.specs.Runs.{StepsTaken};
+ghost use Rattle.machine.specs.State.{Whole};
 ghost use Rattle.service.specs.Serving.{RefusesCapacity};
 ghost use Rattle.service.specs.Gathering.{HasGathered, idle_cpu};
 
-use crate::gathering::{are_all, ended, merged, take_if_answered};
+use crate::gathering::{abandoned, are_all, ended, merged, take_if_answered, taken};
 use crate::locked::Room;
 use crate::shared::is_capacity;
 use crate::starting::Unstarted;
@@ -85,5 +89,15 @@ impl<D: Device + Drop, A: Allocator + Copy, L: Origin<D>> Service<D, A, L> {
             Some(locked) => Ok(ended(locked, merged(cpus))),
             None => Err((Refusal::Einval, self, cpus)),
         }
+    }
+
+    /// Takes the machine out of a service that isn't gathered, if it is still there. The steps that were made of it since the
+    /// service started are a legal run, but of who made them nothing is said. If the call returns.
+    pub fn abandon<R: Wait>(self, rt: &R) -> Option<Machine<D, A>>
+        ensures { IfSome result (λ machine. (first : Whole D) × (steps : List Step) × (replies : List Reply)
+            × (L.start ≡ Some first) × StepsTaken D.Device first steps replies machine) }
+    {
+        let locked = taken(rt, &*self.room)?;
+        Some(abandoned(locked))
     }
 }

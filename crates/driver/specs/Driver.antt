@@ -1,0 +1,34 @@
+-- Programs are run on a machine that was booted over a device: what is left of them, and why there is nothing.
+use Rattle.std.specs.Prelude.{ℕ, ◌≡◌, List, Option, Some, None, ⊤}
+use Rattle.device.specs.declared.device.Device.{Ghosts}
+use Rattle.page_entry.specs.declared.refusal.Refusal.{Refusal}
+use Rattle.machine.specs.declared.act.Reply.{Reply}
+use Rattle.machine.specs.declared.act.Shape.{Shape}
+use Rattle.machine.specs.declared.act.Step.{Step}
+use Rattle.machine.specs.State.{Whole}
+use Rattle.engine.specs.Engine.{HasNotStarted, HasRun, HasStarted}
+use Rattle.service.specs.Serving.{RefusesCapacity}
+use Rattle.driver.specs.declared.running.NotRun.{NotRun}
+use Rattle.driver.specs.declared.running.NotRun.TheVariants.{Start, Share, Gather}
+
+-- whatever this machine was booted over, these steps of it, answered so, are a run that left this device
+abbrev pub RunsFrom : {D : Type 0} → Ghosts D → Whole D → List Step → List Reply → D → Type 0
+RunsFrom {D} disk start steps replies after =
+    (before : D) (shape : Shape) → HasStarted disk before shape start → HasRun disk before shape steps replies after
+
+-- the device, if it was given back, was left by a run from this machine
+abbrev pub IsLeft : {D : Type 0} → Ghosts D → Whole D → Option D → Type 0
+IsLeft disk start None = ⊤
+IsLeft disk start (Some after) = (steps : List Step) × (replies : List Reply) × RunsFrom disk start steps replies after
+
+-- this machine wasn't shared with a trace of this capacity, or not gathered
+abbrev pub HasFailed : {D : Type 0} → Ghosts D → Whole D → ℕ → NotRun D → Type 0
+HasFailed disk start capacity (Start refusal after) = ⊥
+HasFailed disk start capacity (Share refusal after) = RefusesCapacity capacity refusal × (after ≡ start.device)
+HasFailed disk start capacity (Gather refusal after) = IsLeft disk start after
+
+-- no machine of this shape was booted over the device, or one was, and failed so
+abbrev pub HasRefused : {D : Type 0} → Ghosts D → D → Shape → ℕ → NotRun D → Type 0
+HasRefused disk before shape capacity (Start refusal after) = HasNotStarted disk before shape after refusal
+HasRefused {D} disk before shape capacity refused =
+    (start : Whole D) × HasStarted disk before shape start × HasFailed disk start capacity refused

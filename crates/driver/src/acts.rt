@@ -1,0 +1,118 @@
+// One act of a processor, made again for as long as it has to wait for other processors.
+
+use device::Device;
+use machine::{Act, ProcState, Reply};
+use page_entry::Refusal;
+use service::{Cpu, Origin};
+use std::alloc::Global;
+use std::sync::Wait;
+
+// Why a thread ends before its program does.
+#[derive(Clone, Copy, Debug, PartialEq, Eq)]
+pub enum Stop {
+    // The trace is full.
+    Full,
+    // A wait ran out.
+    RanOut,
+}
+
+// What an act was answered in the end, and how many entries of the trace were progress before it.
+#[derive(Clone, Copy)]
+pub struct Answer {
+    pub reply: Reply,
+    pub seen: u64,
+}
+
+// Makes an act until it is answered otherwise than that it has to wait or to flush. Before each time, what interrupts the
+// processor is acknowledged, and its stalls are ended.
+pub fn made<D: Device, L: Origin<D>, R: Wait>(
+    rt: &R,
+    cpu: &mut Cpu<D, Global, L>,
+    turns: u64,
+    act: &Act,
+) -> Result<Answer, Stop> {
+    let mut answer = Answer {
+        reply: Reply::Nothing,
+        seen: 0,
+    };
+    for _ in rt.forever() {
+        let seen = ready(rt, cpu, turns)?;
+        let reply = called(rt, cpu, act)?;
+        if has_to_wait(&reply) {
+            waited(rt, cpu, seen, turns)?;
+        } else if has_to_flush(&reply) {
+            called(rt, cpu, &Act::Flush)?;
+        } else {
+            answer = Answer { reply, seen };
+            break;
+        }
+    }
+    Ok(answer)
+}
+
+// Waits until the processor is neither interrupted nor stalled. Answers how many entries of the trace are progress then.
+fn ready<D: Device, L: Origin<D>, R: Wait>(
+    rt: &R,
+    cpu: &mut Cpu<D, Global, L>,
+    turns: u64,
+) -> Result<u64, Stop> {
+    let mut found = 0;
+    for _ in rt.forever() {
+        let (state, seen) = cpu.look(rt);
+        match state {
+            ProcState::Interrupted => {
+                called(rt, cpu, &Act::Ack)?;
+            }
+            ProcState::Stalled => {
+                let reply = called(rt, cpu, &Act::Resume)?;
+                if has_to_wait(&reply) {
+                    waited(rt, cpu, seen, turns)?;
+                }
+            }
+            _ => {
+                found = seen;
+                break;
+            }
+        }
+    }
+    Ok(found)
+}
+
+// One call, which isn't made where the trace is full.
+fn called<D: Device, L: Origin<D>, R: Wait>(
+    rt: &R,
+    cpu: &mut Cpu<D, Global, L>,
+    act: &Act,
+) -> Result<Reply, Stop> {
+    match cpu.call(rt, *act) {
+        Reply::Refused(Refusal::TraceFull) => Err(Stop::Full),
+        reply => Ok(reply),
+    }
+}
+
+// Waits until more entries of the trace are progress than were seen.
+pub fn waited<D: Device, L: Origin<D>, R: Wait>(
+    rt: &R,
+    cpu: &Cpu<D, Global, L>,
+    seen: u64,
+    turns: u64,
+) -> Result<(), Stop> {
+    if cpu.wait(rt, seen, turns) {
+        Ok(())
+    } else {
+        Err(Stop::RanOut)
+    }
+}
+
+// Whether an act is to be made again after progress.
+fn has_to_wait(reply: &Reply) -> bool {
+    matches!(
+        reply,
+        Reply::Refused(Refusal::Stalled | Refusal::Locked | Refusal::NotYet(_))
+    )
+}
+
+// Whether an act is to be made again after a step of the write-outs.
+fn has_to_flush(reply: &Reply) -> bool {
+    matches!(reply, Reply::Refused(Refusal::Held | Refusal::Busy))
+}

@@ -1,0 +1,165 @@
+// The commands of a program, one after the other.
+
+use crate::acts::{Answer, Stop, made, waited};
+use device::Device;
+use machine::{Act, Reply};
+use page_entry::Refusal;
+use scripts::Command;
+use service::{Cpu, Origin};
+use std::alloc::Global;
+use std::sync::Wait;
+
+// The flag `MS_SYNC` of `msync`.
+const SYNC: u8 = 4;
+
+// Carries out the commands of a program, makes the steps of the write-outs that are left, and lets the processor sleep.
+pub fn worked<D: Device, L: Origin<D>, R: Wait>(
+    rt: &R,
+    cpu: &mut Cpu<D, Global, L>,
+    turns: u64,
+    program: &[Command],
+) -> Result<(), Stop> {
+    for command in program {
+        obeyed(rt, cpu, turns, command)?;
+    }
+    flushed(rt, cpu, turns)?;
+    made(rt, cpu, turns, &Act::Idle)?;
+    Ok(())
+}
+
+fn obeyed<D: Device, L: Origin<D>, R: Wait>(
+    rt: &R,
+    cpu: &mut Cpu<D, Global, L>,
+    turns: u64,
+    command: &Command,
+) -> Result<(), Stop> {
+    match command {
+        Command::Do(act) => done(rt, cpu, turns, act),
+        Command::Await { va, byte } => awaited(rt, cpu, turns, *va, *byte),
+    }
+}
+
+// Makes an act, and the change that it began, and waits until a mark that is to be durable is.
+fn done<D: Device, L: Origin<D>, R: Wait>(
+    rt: &R,
+    cpu: &mut Cpu<D, Global, L>,
+    turns: u64,
+    act: &Act,
+) -> Result<(), Stop> {
+    let begun = served(rt, cpu, turns, act)?;
+    if !matches!(begun.reply, Reply::Begun) {
+        return Ok(());
+    }
+    let changed = made(rt, cpu, turns, &Act::Change)?;
+    match mark_to_sync(act, &changed.reply) {
+        Some(mark) => committed(rt, cpu, turns, mark),
+        None => Ok(()),
+    }
+}
+
+// The mark that an act is to make durable.
+fn mark_to_sync(act: &Act, changed: &Reply) -> Option<u64> {
+    match (act, changed) {
+        (Act::Msync { flags, .. }, Reply::Marked(mark)) if *flags & SYNC != 0 => Some(u64::from(
+            *mark,
+        )),
+        _ => None,
+    }
+}
+
+// Makes steps of the write-outs until a mark is durable, or one is refused.
+fn committed<D: Device, L: Origin<D>, R: Wait>(
+    rt: &R,
+    cpu: &mut Cpu<D, Global, L>,
+    turns: u64,
+    mark: u64,
+) -> Result<(), Stop> {
+    for _ in rt.forever() {
+        let (_, committed) = cpu.horizon(rt);
+        if committed >= mark {
+            break;
+        }
+        let flushed = made(rt, cpu, turns, &Act::Flush)?;
+        if matches!(flushed.reply, Reply::Refused(_)) {
+            break;
+        }
+    }
+    Ok(())
+}
+
+// Makes steps of the write-outs until there are none, or one is refused.
+fn flushed<D: Device, L: Origin<D>, R: Wait>(
+    rt: &R,
+    cpu: &mut Cpu<D, Global, L>,
+    turns: u64,
+) -> Result<(), Stop> {
+    for _ in rt.forever() {
+        let flushed = made(rt, cpu, turns, &Act::Flush)?;
+        if matches!(flushed.reply, Reply::Nothing | Reply::Refused(_)) {
+            break;
+        }
+    }
+    Ok(())
+}
+
+// Loads the byte at an address until it is this one, or a load is refused. Between two loads it waits for progress.
+fn awaited<D: Device, L: Origin<D>, R: Wait>(
+    rt: &R,
+    cpu: &mut Cpu<D, Global, L>,
+    turns: u64,
+    va: u64,
+    byte: u8,
+) -> Result<(), Stop> {
+    let load = Act::Load { va, count: 1 };
+    for _ in rt.forever() {
+        let loaded = served(rt, cpu, turns, &load)?;
+        if !has_other_byte(&loaded.reply, byte) {
+            break;
+        }
+        waited(rt, cpu, loaded.seen, turns)?;
+    }
+    Ok(())
+}
+
+// Whether a load read another byte than this one.
+fn has_other_byte(reply: &Reply, byte: u8) -> bool {
+    match reply {
+        Reply::Bytes(bytes) => bytes.as_slice() != [byte].as_slice(),
+        _ => false,
+    }
+}
+
+// Makes an act, and serves its faults, until it is answered otherwise. Where a fault isn't served, the answer is why.
+fn served<D: Device, L: Origin<D>, R: Wait>(
+    rt: &R,
+    cpu: &mut Cpu<D, Global, L>,
+    turns: u64,
+    act: &Act,
+) -> Result<Answer, Stop> {
+    let mut answer = made(rt, cpu, turns, act)?;
+    for _ in rt.forever() {
+        let Some(fix) = fix_for(act, &answer.reply) else {
+            break;
+        };
+        answer = made(rt, cpu, turns, &fix)?;
+        if matches!(answer.reply, Reply::Fixed) {
+            answer = made(rt, cpu, turns, act)?;
+        }
+    }
+    Ok(answer)
+}
+
+// The act that serves the fault of a load or a store.
+fn fix_for(act: &Act, reply: &Reply) -> Option<Act> {
+    match (act, reply) {
+        (Act::Load { va, .. }, Reply::Refused(Refusal::Fault(_))) => Some(Act::Fix {
+            va: *va,
+            write: false,
+        }),
+        (Act::Store { va, .. }, Reply::Refused(Refusal::Fault(_))) => Some(Act::Fix {
+            va: *va,
+            write: true,
+        }),
+        _ => None,
+    }
+}

@@ -1,0 +1,203 @@
+// Programs are run over a disk: a machine is booted over its volume and shared, and each thread has a processor of it.
+ghost use Rattle.std.specs.Prelude.{ℕ, ◌≡◌, length, Some, IfOk, IfErr};
+ghost use Rattle.engine.specs.Engine.{HasRun};
+ghost use Rattle.machine.specs.Fresh.{IsFresh};
+ghost use Rattle.machine.specs.State.{Whole};
+ghost use Rattle.service.specs.Trace.{steps_of, replies_of};
+ghost use Rattle.driver.specs.Driver.{RunsFrom, IsLeft, HasFailed, HasRefused};
+
+use crate::acts::Stop;
+use crate::commands::worked;
+use device::Device;
+use engine::{ran_since_start, start};
+use machine::{Machine, Step};
+use page_entry::Refusal;
+use scripts::{Command, ThreadScript};
+use service::{Cpu, Entry, Origin, Service};
+use std::alloc::Global;
+use std::marker::Brand;
+use std::sync::Wait;
+use std::sync::atomic::{AtomicBool, Ordering};
+use std::sync::ledger::Blank;
+use std::thread::{Threads, for_each_mut};
+
+/// What is left of programs that were run: the device, and the trace of all steps that were made.
+#[derive(Drop)]
+pub struct Ran<D> {
+    pub device: D,
+    pub trace: Vec<Entry>,
+    /// Whether a thread ended since a wait of it ran out.
+    pub ran_out: bool,
+}
+
+/// Why there is no trace.
+#[derive(Drop)]
+pub enum NotRun<D> {
+    /// The volume of the device wasn't opened, or has no machine of the shape.
+    Start(Refusal, D),
+    /// The machine wasn't shared: `BadShape` where the trace can't have so many entries, else `OutOfMemory`.
+    Share(Refusal, D),
+    /// The trace isn't what the processors were answered, which no run has shown. The machine that was shared has the
+    /// device, and gives it back if it is still there.
+    Gather(Refusal, Option<D>),
+}
+
+/// Opens the volume of a device, boots a machine of the script's shape over it, and shares it with a trace of the
+/// script's capacity. Each step of the script is made by its processor, one after the other, before any thread starts;
+/// one of a processor that isn't there is left out. Then each processor gets a thread, which carries out its program. A
+/// wait of a thread looks at most `turns` times for progress; where that isn't enough, the thread ends.
+///
+/// The trace and the device are those of a run of the engine, with all that holds of one (`HasRun`). That the threads run
+/// at the same time is promised by nothing: where no thread can be made, they run one after the other, and waits run
+/// out.
+pub fn run_programs<D: Device + Send + Drop, R: Threads + Wait + Sync>(
+    rt: &R,
+    alloc: Global,
+    device: D,
+    script: &ThreadScript<Global>,
+    turns: u64,
+) -> Result<Ran<D>, NotRun<D>>
+    ensures ran { IfOk result (λ ran. HasRun D.Device device script.now.shape (steps_of ran.trace.items)
+        (replies_of ran.trace.items) ran.device) }
+    ensures refused { IfErr result (HasRefused D.Device device script.now.shape script.now.trace) }
+{
+    match start(alloc, device, script.shape) {
+        Ok(machine) => match named(rt, alloc, machine, script, turns) {
+            Ok(ran) => Ok(ran),
+            Err(refused) => Err(refused),
+        },
+        Err((refusal, device)) => Err(NotRun::Start(refusal, device)),
+    }
+}
+
+// The service's name stands for this machine.
+fn named<D: Device + Send + Drop, R: Threads + Wait + Sync>(
+    rt: &R,
+    alloc: Global,
+    machine: Machine<D, Global>,
+    script: &ThreadScript<Global>,
+    turns: u64,
+) -> Result<Ran<D>, NotRun<D>>
+    requires fresh { IsFresh machine.state }
+    ensures ran { IfOk result (λ ran. RunsFrom D.Device machine (steps_of ran.trace.items)
+        (replies_of ran.trace.items) ran.device) }
+    ensures refused { IfErr result (HasFailed D.Device machine script.now.trace) }
+{
+    let blank = Blank::new(u64::from(machine.processors()));
+    serve::<D, Brand, R>(rt, alloc, machine, script, turns, blank)
+}
+
+fn serve<D: Device + Send + Drop, L: Origin<D> + Send + Sync, R: Threads + Wait + Sync>(
+    rt: &R,
+    alloc: Global,
+    machine: Machine<D, Global>,
+    script: &ThreadScript<Global>,
+    turns: u64,
+    blank: Blank,
+) -> Result<Ran<D>, NotRun<D>>
+    requires fresh { IsFresh machine.state }
+    requires origin { L.start ≡ Some machine }
+    requires name { blank.name ≡ L.name }
+    requires parts { (blank.parts ≡ L.parts) × (L.all ≡ L.parts)
+        × (blank.parts ≡ length machine.state.hardware.shootdown.processors) }
+    ensures ran { IfOk result (λ ran. RunsFrom D.Device machine (steps_of ran.trace.items)
+        (replies_of ran.trace.items) ran.device) }
+    ensures refused { IfErr result (HasFailed D.Device machine script.now.trace) }
+{
+    match Service::<D, Global, L>::start(alloc, alloc, machine, script.trace, blank) {
+        Ok((service, mut cpus)) => {
+            make_steps(rt, &mut cpus, &script.steps);
+            let ran_out = run_threads(rt, &mut cpus, &script.programs, turns);
+            gathered(rt, service, cpus, ran_out)
+        }
+        Err((refusal, machine, _)) => Err(NotRun::Share(refusal, machine.into_device())),
+    }
+}
+
+// Makes steps by their processors, one after the other.
+fn make_steps<D: Device, L: Origin<D>, R: Wait>(
+    rt: &R,
+    cpus: &mut [Cpu<D, Global, L>],
+    steps: &[Step],
+) {
+    for step in steps {
+        if let Some(cpu) = cpus.get_mut(usize::from(step.p)) {
+            cpu.call(rt, step.act);
+        }
+    }
+}
+
+// Runs the program of each processor in a thread of its own. Answers whether a wait ran out.
+fn run_threads<D: Device + Send + Drop, L: Origin<D> + Send + Sync, R: Threads + Wait + Sync>(
+    rt: &R,
+    cpus: &mut [Cpu<D, Global, L>],
+    programs: &[Vec<Command>],
+    turns: u64,
+) -> bool {
+    let ran_out = AtomicBool::new(false);
+    for_each_mut(
+        rt,
+        cpus,
+        16,
+        &|i, cpu| run_program(rt, cpu, programs, i, turns, &ran_out),
+    );
+    ran_out.load(Ordering::SeqCst)
+}
+
+// Runs the program of this number, and notes whether a wait ran out.
+fn run_program<D: Device, L: Origin<D>, R: Wait>(
+    rt: &R,
+    cpu: &mut Cpu<D, Global, L>,
+    programs: &[Vec<Command>],
+    number: usize,
+    turns: u64,
+    ran_out: &AtomicBool,
+) {
+    if let Some(program) = programs.get(number) {
+        if worked(rt, cpu, turns, program) == Err(Stop::RanOut) {
+            ran_out.store(true, Ordering::SeqCst);
+        }
+    }
+}
+
+// Takes the machine and the trace out of the service.
+fn gathered<D: Device + Drop, L: Origin<D>, R: Wait>(
+    rt: &R,
+    service: Service<D, Global, L>,
+    cpus: Vec<Cpu<D, Global, L>>,
+    ran_out: bool,
+) -> Result<Ran<D>, NotRun<D>>
+    requires { L.all ≡ L.parts }
+    ensures ran { IfOk result (λ ran. (start : Whole D) → L.start ≡ Some start
+        → RunsFrom D.Device start (steps_of ran.trace.items) (replies_of ran.trace.items) ran.device) }
+    ensures refused { IfErr result (λ refused. (start : Whole D) → L.start ≡ Some start → (capacity : ℕ)
+        → HasFailed D.Device start capacity refused) }
+{
+    match service.gather(rt, cpus) {
+        Ok((machine, trace)) => {
+            ran_since_start(&machine);
+            Ok(Ran {
+                device: machine.into_device(),
+                trace,
+                ran_out,
+            })
+        }
+        Err((refusal, service, _)) => Err(NotRun::Gather(refusal, abandoned(rt, service))),
+    }
+}
+
+// Takes the device out of a service that isn't gathered.
+fn abandoned<D: Device + Drop, L: Origin<D>, R: Wait>(
+    rt: &R,
+    service: Service<D, Global, L>,
+) -> Option<D>
+    ensures { (start : Whole D) → L.start ≡ Some start → IsLeft D.Device start result }
+{
+    match service.abandon(rt) {
+        Some(machine) => {
+            ran_since_start(&machine);
+            Some(machine.into_device())
+        }
+        None => None,
+    }
+}

@@ -1,0 +1,7 @@
+use Rattle.std.proofs.Common.{subst}
+use Rattle.service.specs.Serving.{SharedState}
+use Rattle.service.specs.Gathering.{ServesFrom}
+use Rattle.service.proofs.gathering.abandoned.Goals as goal
+
+pub returns-clause-serves : goal.returns-clause-serves
+returns-clause-serves g c = subst (λ (s : SharedState g.row.D.Denot). ServesFrom g.D.Device g.L.Origin.start s) c.locked.view_is c.locked.invariant.1
