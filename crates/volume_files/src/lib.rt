@@ -7,6 +7,7 @@ mod failure;
 mod listing;
 mod making;
 mod mark;
+mod noted_file;
 mod volume_file;
 mod watched_file;
 
@@ -15,5 +16,6 @@ pub use disk::{VolumeDisk, dump, open_disk, read_file};
 pub use failure::FileFailure;
 pub use making::{Plan, format};
 pub use mark::Mark;
+pub use noted_file::{NotedFile, ThreadDisk, for_threads};
 pub use volume_file::{Access, place};
 pub use watched_file::{SyncNote, WatchedFile};

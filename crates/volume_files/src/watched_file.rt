@@ -25,7 +25,17 @@ impl<'a, F: BlockFile, R: Files<File = File> + AllocGlobal> WatchedFile<'a, F, R
     }
 }
 
-impl<F: BlockFile + Drop, R: Files<File = File> + AllocGlobal> WatchedFile<'_, F, R> {
+impl<'a, F: BlockFile + Drop, R: Files<File = File> + AllocGlobal> WatchedFile<'a, F, R> {
+    /// The file and its mark.
+    pub fn into_parts(self) -> (F, Mark<'a, R>) {
+        let WatchedFile {
+            file,
+            mark,
+            marked: _,
+        } = self;
+        (file, mark)
+    }
+
     /// What is to be said of the syncs that failed.
     pub fn into_note(self) -> SyncNote {
         let WatchedFile {
