@@ -1,7 +1,7 @@
 -- The program's status, and the failure that names a step.
 use Rattle.std.specs.Prelude.{ℕ, ◌≡◌}
 use Rattle.console.specs.declared.failure.Failure.{Failure}
-use Rattle.console.specs.declared.failure.Failure.TheVariants.{CommandLine, Layout, Slots, FileSpec, Script, Trace, File, Shape, Step, Entry, Output, Memory}
+use Rattle.console.specs.declared.failure.Failure.TheVariants.{CommandLine, Layout, Slots, FileSpec, Script, Trace, File, Shape, Step, Entry, Act, Wait, Gather, Output, Memory}
 
 -- 1 for a script or a trace that is refused, 2 for a bad command line, 3 for everything else
 abbrev pub status_of : Failure → ℕ
@@ -15,6 +15,9 @@ status_of (File cause) = 3
 status_of (Shape path cause) = 3
 status_of (Step path step) = 3
 status_of (Entry path entry) = 3
+status_of (Act path entry) = 3
+status_of (Wait path) = 3
+status_of (Gather path cause) = 3
 status_of (Output cause) = 3
 status_of (Memory cause) = 3
 

@@ -25,6 +25,12 @@ pub enum Job<'a, A: Allocator + Copy> {
         script: &'a str,
         trust: bool,
     },
+    /// Run a script's programs in threads on a volume, also on one that is marked as suspect where it is trusted.
+    Threads {
+        disk: &'a str,
+        script: &'a str,
+        trust: bool,
+    },
     /// Print the files of a volume, also of one that is marked as suspect where it is trusted.
     Dump {
         disk: &'a str,
@@ -59,6 +65,11 @@ fn job_of<'a, A: Allocator + Copy>(
     match matches.subcommand() {
         Some(("format", words)) => format_job(alloc, words),
         Some(("run", words)) => Ok(Job::Run {
+            disk: text(words, "DISK"),
+            script: text(words, "SCRIPT"),
+            trust: words.get_flag("trust"),
+        }),
+        Some(("threads", words)) => Ok(Job::Threads {
             disk: text(words, "DISK"),
             script: text(words, "SCRIPT"),
             trust: words.get_flag("trust"),
@@ -113,6 +124,7 @@ fn program<'a>(alloc: Global) -> Result<Command<'a>, AllocError> {
         .subcommand_required(true)
         .subcommand(format_command(alloc)?)?
         .subcommand(run_command(alloc)?)?
+        .subcommand(threads_command(alloc)?)?
         .subcommand(replay_command(alloc)?)?
         .subcommand(dump_command(alloc)?)
 }
@@ -162,6 +174,20 @@ fn run_command<'a>(alloc: Global) -> Result<Command<'a>, AllocError> {
             alloc,
             "SCRIPT",
             "The file that holds the script, a JSON object",
+        ))
+}
+
+fn threads_command<'a>(alloc: Global) -> Result<Command<'a>, AllocError> {
+    Command::new(alloc, "threads")
+        .about(
+            "Runs a program for each processor in a thread of its own, and prints a trace of all steps",
+        )
+        .arg(trust_option(alloc))?
+        .arg(word(alloc, "DISK", "The file that holds the volume"))?
+        .arg(word(
+            alloc,
+            "SCRIPT",
+            "The file that holds the script with the programs, a JSON object",
         ))
 }
 

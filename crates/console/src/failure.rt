@@ -3,6 +3,7 @@ ghost use Rattle.std.specs.Prelude.{◌≡◌};
 ghost use Rattle.console.specs.Failure.{status_of};
 
 use crate::shape::ShapeCause;
+use page_entry::Refusal;
 use scripts::ScriptFault;
 use std::alloc::AllocError;
 use std::io;
@@ -43,6 +44,15 @@ pub enum Failure<'a> {
     /// An entry of the trace was answered that the device failed.
     #[error("trace {path:?}: entry {entry}: the device failed")]
     Entry { path: &'a str, entry: u64 },
+    /// An act of a thread was answered that the device failed; which entry of the trace that is.
+    #[error("script {path:?}: entry {entry} of the trace: the device failed")]
+    Act { path: &'a str, entry: u64 },
+    /// A thread waited for others, and none of them got on.
+    #[error("script {path:?}: a wait ran out, as no other thread got on")]
+    Wait { path: &'a str },
+    /// The trace isn't what the threads were answered.
+    #[error("script {path:?}: {cause}: the trace isn't what the threads were answered")]
+    Gather { path: &'a str, cause: Refusal },
     /// The output couldn't be written.
     #[error("output: {0}")]
     Output(#[from] io::Error),

@@ -1,5 +1,5 @@
-//! What the program `famsync` does, from its words to its status: it makes volumes, runs scripts of a machine that maps
-//! their files, and prints the files.
+//! What the program `famsync` does, from its words to its status: it makes volumes, runs scripts and programs on a machine
+//! that maps their files, and prints the files.
 #![tactic(auto)]
 
 mod command;
@@ -10,6 +10,7 @@ mod replay;
 mod run;
 mod session;
 mod shape;
+mod threads;
 mod words;
 
 pub use program::perform;

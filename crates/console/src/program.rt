@@ -5,22 +5,29 @@ use crate::command::{Job, read_words};
 use crate::failure::Failure;
 use crate::replay::replay;
 use crate::run::run;
+use crate::threads::threads;
 use std::alloc::Allocator;
 use std::convert::AsStr;
 use std::fs::File;
 use std::io;
+use std::marker::Sync;
 use std::rt::Files;
+use std::sync::Wait;
+use std::thread::Threads;
 use volume_files::{Plan, SyncNote, dump, format};
 
 /// Does what the words ask for, of which the first is the program's name. What it prints goes to `out`, and where
 /// something is wrong, one line to `err`.
 ///
-/// The status is 0; 1 where a script or a trace is refused, or a trace that is run again is answered otherwise; 2 where the words aren't of the forms that the help shows; and 3 where
-/// a volume or a machine is refused, a step is answered that the device failed, a file can't be made, opened or read,
-/// `out` can't be written, or memory is refused. Where the status is 1 or 2, no file was changed.
+/// The status is 0; 1 where a script or a trace is refused, or a trace that is run again is answered otherwise; 2 where
+/// the words aren't of the forms that the help shows; and 3 where a volume or a machine is refused, a step is answered
+/// that the device failed, a thread waited for others in vain, a file can't be made, opened or read, `out` can't be
+/// written, or memory is refused. Where the status is 1 or 2, no file was changed.
+///
+/// For the command `threads` it holds if the call returns, since its threads wait for one another.
 pub fn perform<R, A, S, O, E>(rt: &R, alloc: A, words: &[S], out: &mut O, err: &mut E) -> u8
 where
-    R: Files<File = File> + AllocGlobal,
+    R: Files<File = File> + AllocGlobal + Threads + Wait + Sync,
     A: Allocator + Copy,
     S: AsStr,
     O: io::Write,
@@ -48,7 +55,7 @@ fn obey_and_flush<'a, R, A, S, O>(
     note: &mut SyncNote,
 ) -> Result<u8, Failure<'a>>
 where
-    R: Files<File = File> + AllocGlobal,
+    R: Files<File = File> + AllocGlobal + Threads + Wait + Sync,
     A: Allocator + Copy,
     S: AsStr,
     O: io::Write,
@@ -69,7 +76,7 @@ fn obey<'a, R, A, S, O>(
     note: &mut SyncNote,
 ) -> Result<u8, Failure<'a>>
 where
-    R: Files<File = File> + AllocGlobal,
+    R: Files<File = File> + AllocGlobal + Threads + Wait + Sync,
     A: Allocator + Copy,
     S: AsStr,
     O: io::Write,
@@ -96,6 +103,14 @@ where
             trust,
         } => {
             run(rt, alloc, disk, script, trust, out, note)?;
+            Ok(0)
+        }
+        Job::Threads {
+            disk,
+            script,
+            trust,
+        } => {
+            threads(rt, disk, script, trust, out, note)?;
             Ok(0)
         }
         Job::Replay { disk, trace, trust } => replay(rt, alloc, disk, trace, trust, out, note),

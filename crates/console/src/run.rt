@@ -11,7 +11,7 @@ use std::alloc::Allocator;
 use std::fs::File;
 use std::io;
 use std::rt::Files;
-use volume_files::{Access, FileFailure, Mark, SyncNote, open_disk, place, read_file};
+use volume_files::{Access, FileFailure, Mark, SyncNote, VolumeDisk, open_disk, place, read_file};
 
 /// Runs a script on the volume in a file, and prints the reply of each step before the next one is made. The script is
 /// read whole before the disk is opened; `path` and `script` are the names of the two files. `note` gets what is to be
@@ -32,13 +32,7 @@ where
 {
     let steps = read_script(rt, alloc, script)?;
     let place = place(rt, path)?;
-    let disk = open_disk(rt, path, &place, Access::Write, trust, note)?;
-    if trust {
-        // It could be synced, so what is read of it from here on is on the disk.
-        Mark::of(rt, &place)?
-            .remove()
-            .map_err(|cause| FileFailure::File { path, cause })?;
-    }
+    let disk = open_to_write(rt, path, &place, trust, note)?;
     let mut printer = Printer::new(out);
     match run_script(alloc, disk, &steps, &mut printer) {
         Ok(disk) => {
@@ -51,6 +45,27 @@ where
             Err(cause.of_file(path))
         }
     }
+}
+
+/// Opens the file of a volume at a place to write to it. One that is trusted isn't marked as suspect any more.
+pub fn open_to_write<'a, 'b, R>(
+    rt: &'b R,
+    path: &'a str,
+    place: &'b str,
+    trust: bool,
+    note: &mut SyncNote,
+) -> Result<VolumeDisk<'b, R>, FileFailure<'a>>
+where
+    R: Files<File = File> + AllocGlobal,
+{
+    let disk = open_disk(rt, path, place, Access::Write, trust, note)?;
+    if trust {
+        // It could be synced, so what is read of it from here on is on the disk.
+        Mark::of(rt, place)?
+            .remove()
+            .map_err(|cause| FileFailure::File { path, cause })?;
+    }
+    Ok(disk)
 }
 
 fn read_script<'a, R, A>(rt: &R, alloc: A, path: &'a str) -> Result<Script<A>, Failure<'a>>

@@ -19,6 +19,8 @@ pub enum ShapeCause {
     Frames { found: u64, most: u64 },
     #[error("copies is {0}, and 0 to 64 are served")]
     Copies(u64),
+    #[error("trace is {0}, and 1 to 1000000 are served")]
+    Trace(u64),
 }
 
 /// Why no machine was booted over the volume of a device.

@@ -7,3 +7,5 @@ mod replays;
 mod runs_on_files;
 #[cfg(test)]
 mod tests;
+#[cfg(test)]
+mod threaded;

@@ -1,5 +1,5 @@
 // Traces that are run again through the program, on files of their own.
-use crate::tests::{complains, holds_image, makes_volume, prints, removes, writes};
+use crate::tests::{Host, complains, holds_image, makes_volume, prints, removes, writes};
 use std::fs;
 
 // The first line of a trace, and its entries.
@@ -67,7 +67,7 @@ fn traces_are_run_again(rt: HostRuntime) {
 }
 
 // Whether this is said of a trace of these parts, and nothing is complained of.
-fn replays(rt: &HostRuntime, parts: &[&str], status: u8, said: &str) -> bool {
+fn replays<R: Host>(rt: &R, parts: &[&str], status: u8, said: &str) -> bool {
     writes(rt, "replay.trace", parts)
         && prints(rt, "replay|replay.img|replay.trace", status, &[said], &[])
 }
@@ -132,7 +132,7 @@ fn traces_are_refused(rt: HostRuntime) {
 }
 
 // Whether a trace of these parts is refused, and this is said of it.
-fn refuses_trace(rt: &HostRuntime, parts: &[&str], cause: &str) -> bool {
+fn refuses_trace<R: Host>(rt: &R, parts: &[&str], cause: &str) -> bool {
     let cause = ["trace \"refused.trace\": ", cause];
     writes(rt, "refused.trace", parts) && complains(rt, "replay|none.img|refused.trace", 1, &cause)
 }

@@ -1,5 +1,5 @@
 // Worked runs through the program, on files of their own: what it prints, and the dump of the volume then.
-use crate::tests::{TWO, is_answered};
+use crate::tests::{Host, TWO, is_answered};
 use std::alloc::AllocError;
 
 // Steps are written one a line, each as in a script, with its reply as it is printed after a colon.
@@ -68,7 +68,7 @@ impl Lines {
 }
 
 // Whether these steps on a fresh volume are answered so, and the volume then has this dump.
-fn leaves(rt: &HostRuntime, name: &str, shape: &str, parts: &[&str], dump: &str) -> bool {
+fn leaves<R: Host>(rt: &R, name: &str, shape: &str, parts: &[&str], dump: &str) -> bool {
     let mut lines = Lines {
         steps: String::new(rt.alloc()),
         replies: String::new(rt.alloc()),

@@ -1,19 +1,28 @@
 // The program, on files of its own: what it prints, its statuses, and what it leaves in the files.
 use console::perform;
 use std::alloc::{AllocError, Global};
+use std::fs::File;
 use std::io::BufWriter;
+use std::rt::Files;
+use std::sync::Wait;
+use std::thread::Threads;
 use std::{fs, io, str};
+
+/// What the program asks of the runtime.
+pub trait Host: Files<File = File> + AllocGlobal + Threads + Wait + Sync {}
+
+impl<R: Files<File = File> + AllocGlobal + Threads + Wait + Sync> Host for R {}
 
 // What a run of the program gave: its status, and what it printed.
 #[derive(Drop)]
-struct Outcome {
+pub struct Outcome {
     status: u8,
     out: Vec<u8>,
     err: Vec<u8>,
 }
 
 impl Outcome {
-    fn out(&self) -> &str {
+    pub fn out(&self) -> &str {
         str::from_utf8(&self.out).unwrap_or("not UTF-8")
     }
 
@@ -22,7 +31,7 @@ impl Outcome {
     }
 
     // Whether the run ended with this status and printed these texts, each in its parts, and nothing else.
-    fn is(&self, status: u8, out: &[&str], err: &[&str]) -> bool {
+    pub fn is(&self, status: u8, out: &[&str], err: &[&str]) -> bool {
         self.status == status && is_made_of(self.out(), out) && is_made_of(self.err(), err)
     }
 
@@ -83,7 +92,7 @@ fn words_of(alloc: Global, line: &str) -> Result<Vec<&str>, AllocError> {
 }
 
 // A run of the program on these words, which come after its name.
-fn run(rt: &HostRuntime, words: &[&str]) -> Outcome {
+fn run<R: Host>(rt: &R, words: &[&str]) -> Outcome {
     let alloc = rt.alloc();
     let mut out = Vec::new(alloc);
     let mut err = Vec::new(alloc);
@@ -92,19 +101,19 @@ fn run(rt: &HostRuntime, words: &[&str]) -> Outcome {
 }
 
 // A run of the program.
-fn famsync(rt: &HostRuntime, line: &str) -> Result<Outcome, AllocError> {
+pub fn famsync<R: Host>(rt: &R, line: &str) -> Result<Outcome, AllocError> {
     let words = words_of(rt.alloc(), line)?;
     Ok(run(rt, &words))
 }
 
 // Makes a volume of the files `a` of 5,000 bytes and `b` of 4,096, with 4 record slots, and tells whether it is made.
-pub fn makes_volume(rt: &HostRuntime, disk: &str) -> bool {
+pub fn makes_volume<R: Host>(rt: &R, disk: &str) -> bool {
     let words = ["famsync", "format", disk, "4", "a=5000", "b=4096"];
     run(rt, &words).is(0, &["formatted 10 blocks\n"], &[])
 }
 
 // Whether a run ends with this status and prints these texts, each in its parts, and nothing else.
-pub fn prints(rt: &HostRuntime, line: &str, status: u8, out: &[&str], err: &[&str]) -> bool {
+pub fn prints<R: Host>(rt: &R, line: &str, status: u8, out: &[&str], err: &[&str]) -> bool {
     match famsync(rt, line) {
         Ok(ran) => ran.is(status, out, err),
         Err(_) => false,
@@ -113,7 +122,7 @@ pub fn prints(rt: &HostRuntime, line: &str, status: u8, out: &[&str], err: &[&st
 
 // Whether a run ends with this status, prints nothing, and says one line that begins with this after the program's
 // name.
-pub fn complains(rt: &HostRuntime, line: &str, status: u8, cause: &[&str]) -> bool {
+pub fn complains<R: Host>(rt: &R, line: &str, status: u8, cause: &[&str]) -> bool {
     match famsync(rt, line) {
         Ok(ran) => ran.is_complaint(status, cause),
         Err(_) => false,
@@ -121,7 +130,7 @@ pub fn complains(rt: &HostRuntime, line: &str, status: u8, cause: &[&str]) -> bo
 }
 
 // Writes a file of these parts, and tells whether that succeeds.
-pub fn writes(rt: &HostRuntime, path: &str, parts: &[&str]) -> bool {
+pub fn writes<R: Host>(rt: &R, path: &str, parts: &[&str]) -> bool {
     match joined(rt.alloc(), parts) {
         Ok(text) => fs::write(rt, path, text.as_bytes()).is_ok(),
         Err(_) => false,
@@ -161,7 +170,7 @@ fn put(image: &mut [u8], at: usize, bytes: &[u8]) {
 }
 
 // Takes away the files of a test, and tells whether they were there.
-pub fn removes(rt: &HostRuntime, paths: &[&str]) -> bool {
+pub fn removes<R: Host>(rt: &R, paths: &[&str]) -> bool {
     for path in paths {
         if fs::remove_file(rt, *path).is_err() {
             return false;
@@ -171,7 +180,7 @@ pub fn removes(rt: &HostRuntime, paths: &[&str]) -> bool {
 }
 
 // Whether a file has these bytes.
-fn holds(rt: &HostRuntime, path: &str, bytes: &[u8]) -> bool {
+fn holds<R: Host>(rt: &R, path: &str, bytes: &[u8]) -> bool {
     match fs::read(rt, path) {
         Ok(found) => found.as_slice() == bytes,
         Err(_) => false,
@@ -179,7 +188,7 @@ fn holds(rt: &HostRuntime, path: &str, bytes: &[u8]) -> bool {
 }
 
 // Whether a file is the volume in layout 1 with these bytes changed.
-pub fn holds_image(rt: &HostRuntime, path: &str, changes: &[(usize, u8)]) -> bool {
+pub fn holds_image<R: Host>(rt: &R, path: &str, changes: &[(usize, u8)]) -> bool {
     match image(rt.alloc(), changes) {
         Ok(image) => holds(rt, path, &image),
         Err(_) => false,
@@ -215,7 +224,7 @@ fn the_first_script_commits_a_byte(rt: HostRuntime) {
 const SHAPE: &str = r#""cpus":1,"tlb":8,"frames":4,"copies":0"#;
 
 // Writes a script with that shape and these steps.
-fn writes_script(rt: &HostRuntime, path: &str, steps: &[&str]) -> bool {
+fn writes_script<R: Host>(rt: &R, path: &str, steps: &[&str]) -> bool {
     writes_shaped(rt, path, SHAPE, steps)
 }
 
@@ -255,7 +264,7 @@ fn steps_are_answered(rt: HostRuntime) {
 }
 
 // Whether steps on a fresh volume are answered so.
-fn answers(rt: &HostRuntime, steps: &str, replies: &str) -> bool {
+fn answers<R: Host>(rt: &R, steps: &str, replies: &str) -> bool {
     makes_volume(rt, "steps.img")
         && writes_script(rt, "steps.json", &[steps])
         && prints(rt, "run|steps.img|steps.json", 0, &[replies], &[])
@@ -407,7 +416,7 @@ fn steps_are_refused(rt: HostRuntime) {
 }
 
 // Whether a script is refused whose second step of two is this, and this is said of it.
-fn refuses_step(rt: &HostRuntime, step: &str, found: &str, cause: &str) -> bool {
+fn refuses_step<R: Host>(rt: &R, step: &str, found: &str, cause: &str) -> bool {
     let told = "famsync: script \"refused_steps.json\": step 2, ";
     writes_script(rt, "refused_steps.json", &["[0,\"create\"],", step])
         && prints(
@@ -481,7 +490,7 @@ fn scripts_are_refused(rt: HostRuntime) {
 }
 
 // Whether a script is refused, and this is said of it.
-fn refuses_script(rt: &HostRuntime, text: &[u8], cause: &str) -> bool {
+fn refuses_script<R: Host>(rt: &R, text: &[u8], cause: &str) -> bool {
     let cause = ["script \"refused.json\": ", cause];
     fs::write(rt, "refused.json", text).is_ok()
         && complains(rt, "run|none.img|refused.json", 1, &cause)
@@ -491,9 +500,10 @@ fn refuses_script(rt: &HostRuntime, text: &[u8], cause: &str) -> bool {
 const BAD_WORDS: &[(&str, &str)] = &[
     ("", "'famsync' requires a subcommand"),
     ("frmat", "unrecognized subcommand 'frmat'"),
+    ("commit|bad.img|s.json", "unrecognized subcommand 'commit'"),
     (
-        "threads|bad.img|s.json",
-        "unrecognized subcommand 'threads'",
+        "threads|bad.img",
+        "the following required arguments were not provided: <SCRIPT>",
     ),
     ("a\nb", "unrecognized subcommand 'a b'"),
     (
@@ -610,7 +620,7 @@ fn faults_are_told(rt: HostRuntime) {
 }
 
 // Whether a volume of a file too many is refused.
-fn refuses_65_files(rt: &HostRuntime) -> bool {
+fn refuses_65_files<R: Host>(rt: &R) -> bool {
     let cause = "disk \"none.img\": badshape: 65 files are asked for, and 1 to 64 are allowed\n";
     match format_of_files(rt.alloc(), "none.img|4", 65) {
         Ok(line) => complains(rt, line.as_str(), 3, &[cause]),
@@ -641,7 +651,7 @@ fn limits_are_served(rt: HostRuntime) {
 }
 
 // Whether a volume of as many files and slots is made.
-fn makes_64_files(rt: &HostRuntime) -> bool {
+fn makes_64_files<R: Host>(rt: &R) -> bool {
     match format_of_files(rt.alloc(), "limits.img|1020", 64) {
         Ok(line) => prints(rt, line.as_str(), 0, &["formatted 1087 blocks\n"], &[]),
         Err(_) => false,
@@ -692,7 +702,7 @@ fn shapes_are_refused(rt: HostRuntime) {
 }
 
 // Whether no machine of this shape is made, and this is said of it.
-fn refuses_shape(rt: &HostRuntime, shape: &str, cause: &str) -> bool {
+fn refuses_shape<R: Host>(rt: &R, shape: &str, cause: &str) -> bool {
     let told = ["famsync: disk \"shape.img\": badshape: ", cause, "\n"];
     writes(
         rt,
@@ -725,7 +735,7 @@ fn image_of_two(alloc: Global, changes: &[(usize, u8)]) -> Result<Vec<u8>, Alloc
 }
 
 // Whether a file is the volume in layout 2 with these bytes changed.
-fn holds_image_of_two(rt: &HostRuntime, path: &str, changes: &[(usize, u8)]) -> bool {
+fn holds_image_of_two<R: Host>(rt: &R, path: &str, changes: &[(usize, u8)]) -> bool {
     match image_of_two(rt.alloc(), changes) {
         Ok(image) => holds(rt, path, &image),
         Err(_) => false,
@@ -733,7 +743,7 @@ fn holds_image_of_two(rt: &HostRuntime, path: &str, changes: &[(usize, u8)]) -> 
 }
 
 // Makes a file such a volume.
-fn writes_image_of_two(rt: &HostRuntime, path: &str, changes: &[(usize, u8)]) -> bool {
+fn writes_image_of_two<R: Host>(rt: &R, path: &str, changes: &[(usize, u8)]) -> bool {
     match image_of_two(rt.alloc(), changes) {
         Ok(image) => fs::write(rt, path, image.as_slice()).is_ok(),
         Err(_) => false,
@@ -802,7 +812,7 @@ const TWO_FLUSHES: &str =
 const TWO_DONE: &str = "going\ngoing\ngoing\ndone 1\ngoing\ngoing\ngoing\ndone 2\nnothing\n";
 
 // Whether steps on a fresh volume of layout 2 are answered so, and it then has the second commit's byte.
-fn follows(rt: &HostRuntime, steps: &[&str], replies: &[&str]) -> bool {
+fn follows<R: Host>(rt: &R, steps: &[&str], replies: &[&str]) -> bool {
     let make = "format|--layout|2|follows.img|4|a=5000|b=4096";
     prints(rt, make, 0, &["formatted 16 blocks\n"], &[])
         && writes_script(rt, "follows.json", steps)
@@ -840,7 +850,7 @@ fn help_is_printed(rt: HostRuntime) {
 }
 
 // Whether a run prints a text with this in it.
-fn shows(rt: &HostRuntime, line: &str, text: &str) -> bool {
+fn shows<R: Host>(rt: &R, line: &str, text: &str) -> bool {
     match famsync(rt, line) {
         Ok(ran) => ran.has(text),
         Err(_) => false,
@@ -848,7 +858,7 @@ fn shows(rt: &HostRuntime, line: &str, text: &str) -> bool {
 }
 
 // Runs the program with an output that has this much room, and whether that is told as a fault.
-fn is_cut_off(rt: &HostRuntime, words: &[&str], room: &mut [u8]) -> bool {
+fn is_cut_off<R: Host>(rt: &R, words: &[&str], room: &mut [u8]) -> bool {
     let alloc = rt.alloc();
     let mut out = room;
     let mut err = Vec::new(alloc);
@@ -865,7 +875,7 @@ fn a_full_output_is_a_fault(rt: HostRuntime) {
 }
 
 // Makes a file of 100,000 bytes, none of them zero.
-fn writes_old_bytes(rt: &HostRuntime, path: &str) -> bool {
+fn writes_old_bytes<R: Host>(rt: &R, path: &str) -> bool {
     match vec![in rt.alloc(); 0xA7; 100_000] {
         Ok(old) => fs::write(rt, path, old.as_slice()).is_ok(),
         Err(_) => false,
@@ -878,7 +888,7 @@ fn are_zero(bytes: &[u8]) -> bool {
 }
 
 // Whether a file has so many bytes, all of them zero after a table of two files.
-fn has_no_old_bytes(rt: &HostRuntime, path: &str, len: usize) -> bool {
+fn has_no_old_bytes<R: Host>(rt: &R, path: &str, len: usize) -> bool {
     match fs::read(rt, path) {
         Ok(bytes) => bytes.len() == len && are_zero(&bytes),
         Err(_) => false,
@@ -975,7 +985,7 @@ fn images_are_refused(rt: HostRuntime) {
 }
 
 // Whether so many bytes of the image of a volume with these changes are refused so.
-fn refuses_image(rt: &HostRuntime, changes: &[(usize, u8)], len: usize, cause: &str) -> bool {
+fn refuses_image<R: Host>(rt: &R, changes: &[(usize, u8)], len: usize, cause: &str) -> bool {
     match image(rt.alloc(), changes) {
         Ok(image) => is_refused(rt, image.get(..len).unwrap_or(&[]), cause),
         Err(_) => false,
@@ -990,7 +1000,7 @@ const SPOILT_JOURNAL: &str =
     "damaged: the descriptor of an open journal breaks the format, or two journals have one mark";
 
 // Whether an image is refused with status 3 and for this cause, to print and to run, and isn't written to.
-fn is_refused(rt: &HostRuntime, image: &[u8], cause: &str) -> bool {
+fn is_refused<R: Host>(rt: &R, image: &[u8], cause: &str) -> bool {
     let told = ["famsync: disk \"images.img\": ", cause, "\n"];
     fs::write(rt, "images.img", image).is_ok()
         && prints(rt, "dump|images.img", 3, &[], &told)
@@ -1026,7 +1036,7 @@ fn images_are_dumped(rt: HostRuntime) {
 }
 
 // Whether the image of a volume with these changes has this dump, and isn't written to.
-fn is_dumped(rt: &HostRuntime, changes: &[(usize, u8)], text: &str) -> bool {
+fn is_dumped<R: Host>(rt: &R, changes: &[(usize, u8)], text: &str) -> bool {
     match image(rt.alloc(), changes) {
         Ok(image) => is_dumped_as(rt, &image, text),
         Err(_) => false,
@@ -1034,7 +1044,7 @@ fn is_dumped(rt: &HostRuntime, changes: &[(usize, u8)], text: &str) -> bool {
 }
 
 // Whether an image has this dump, and isn't written to.
-fn is_dumped_as(rt: &HostRuntime, image: &[u8], text: &str) -> bool {
+fn is_dumped_as<R: Host>(rt: &R, image: &[u8], text: &str) -> bool {
     fs::write(rt, "dumped.img", image).is_ok()
         && prints(rt, "dump|dumped.img", 0, &[text], &[])
         && holds(rt, "dumped.img", image)
@@ -1056,8 +1066,8 @@ const STORED: &str = "fault 6\nfixed\nstored\n";
 
 // Whether these steps, after the start of two processors on a fresh volume, are answered so, and the volume then has this
 // dump.
-fn two_processors(
-    rt: &HostRuntime,
+fn two_processors<R: Host>(
+    rt: &R,
     name: &str,
     shape: &str,
     steps: &str,
@@ -1069,8 +1079,8 @@ fn two_processors(
 }
 
 // Whether these steps on a fresh volume are answered so, and the volume then has this dump.
-pub(crate) fn is_answered(
-    rt: &HostRuntime,
+pub(crate) fn is_answered<R: Host>(
+    rt: &R,
     name: &str,
     shape: &str,
     steps: &[&str],
@@ -1084,8 +1094,8 @@ pub(crate) fn is_answered(
 }
 
 // Whether they are on this disk.
-fn is_answered_on(
-    rt: &HostRuntime,
+fn is_answered_on<R: Host>(
+    rt: &R,
     disk: &str,
     name: &str,
     shape: &str,
@@ -1104,8 +1114,8 @@ fn is_answered_on(
 }
 
 // Whether a script of these steps, in this file, is answered so on a fresh volume.
-fn answers_on(
-    rt: &HostRuntime,
+fn answers_on<R: Host>(
+    rt: &R,
     disk: &str,
     text: &str,
     shape: &str,
@@ -1118,7 +1128,7 @@ fn answers_on(
 }
 
 // Writes a script of this shape and these steps.
-fn writes_shaped(rt: &HostRuntime, path: &str, shape: &str, steps: &[&str]) -> bool {
+fn writes_shaped<R: Host>(rt: &R, path: &str, shape: &str, steps: &[&str]) -> bool {
     match joined(rt.alloc(), steps) {
         Ok(steps) => writes(
             rt,
@@ -1130,7 +1140,7 @@ fn writes_shaped(rt: &HostRuntime, path: &str, shape: &str, steps: &[&str]) -> b
 }
 
 // Whether a volume has this dump.
-fn has_dump(rt: &HostRuntime, disk: &str, dump: &str) -> bool {
+fn has_dump<R: Host>(rt: &R, disk: &str, dump: &str) -> bool {
     run(rt, &["famsync", "dump", disk]).is(0, &[dump], &[])
 }
 
@@ -1244,8 +1254,8 @@ impl io::Write for Watcher<'_> {
 }
 
 // Runs a script on the disk of a watcher, which gets what is printed through a buffer. Gives the status.
-fn run_watched(
-    rt: &HostRuntime,
+fn run_watched<R: Host>(
+    rt: &R,
     script: &str,
     out: &mut Watcher,
     err: &mut Vec<u8>,
@@ -1269,8 +1279,8 @@ fn watching<'a>(rt: &'a HostRuntime, disk: &'a str, line: &'a str, cuts: bool) -
 }
 
 // Whether a run of a script on the disk of a watcher ends with this status and prints these texts.
-fn is_watched(
-    rt: &HostRuntime,
+fn is_watched<R: Host>(
+    rt: &R,
     script: &str,
     watcher: &mut Watcher,
     status: u8,
@@ -1285,7 +1295,7 @@ fn is_watched(
 }
 
 // Whether the watcher found the volume in layout 1 with these bytes changed.
-fn has_found(rt: &HostRuntime, watcher: &Watcher, changes: &[(usize, u8)]) -> bool {
+fn has_found<R: Host>(rt: &R, watcher: &Watcher, changes: &[(usize, u8)]) -> bool {
     match (image(rt.alloc(), changes), &watcher.found) {
         (Ok(image), Some(found)) => found.as_slice() == image.as_slice(),
         _ => false,

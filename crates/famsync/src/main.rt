@@ -1,14 +1,17 @@
-//! `famsync`: makes volumes, runs scripts of a machine that maps their files, and prints the files.
+//! `famsync`: makes volumes, runs scripts and programs on a machine that maps their files, and prints the files.
 #![tactic(auto)]
 
 use console::perform;
-use std::io::{BufWriter, ErrorKind};
+use std::io::{BufWriter, ErrorKind, Stdout};
 use std::process::ExitCode;
 use std::{env, io};
 
 fn main(rt: HostRuntime) -> ExitCode {
-    match started(&rt) {
-        Ok(status) => ExitCode::from(status),
+    match words_and_output(&rt) {
+        Ok((words, mut out)) => {
+            let mut err = rt.stderr();
+            ExitCode::from(perform(&rt, rt.alloc(), &words, &mut out, &mut err))
+        }
         Err(failure) => {
             let _ = eprintln!(rt; "famsync: {failure}");
             match failure.kind() {
@@ -20,10 +23,9 @@ fn main(rt: HostRuntime) -> ExitCode {
 }
 
 // A word that isn't UTF-8 is invalid data, and that memory was refused is the only other failure.
-fn started(rt: &HostRuntime) -> io::Result<u8> {
+fn words_and_output(rt: &HostRuntime) -> io::Result<(Vec<String>, BufWriter<Stdout>)> {
     let alloc = rt.alloc();
-    let words: Vec<String> = env::args(rt)?.collect(alloc)?;
-    let mut out = BufWriter::new(alloc, rt.stdout())?;
-    let mut err = rt.stderr();
-    Ok(perform(rt, alloc, &words, &mut out, &mut err))
+    let words = env::args(rt)?.collect(alloc)?;
+    let out = BufWriter::new(alloc, rt.stdout())?;
+    Ok((words, out))
 }
