@@ -1,5 +1,5 @@
 -- What is left of a machine that was booted, put together.
-use Rattle.std.proofs.Common.{ℕ, ◌≡◌, ◌∙◌, List, Option, Some, None, Result, Ok, Err, IfOk, ap, sym, subst, absurd}
+use Rattle.std.proofs.Common.{ℕ, ◌≡◌, ◌∙◌, List, Option, Some, None, Result, Ok, Err, IfOk, ap, sym, subst}
 use Rattle.device.specs.declared.device.Device.{Ghosts}
 use Rattle.machine.specs.declared.act.Reply.{Reply}
 use Rattle.machine.specs.declared.act.Shape.{Shape}
@@ -12,7 +12,7 @@ use Rattle.driver.specs.declared.running.NotRun.TheVariants.{Start, Share, Gathe
 use Rattle.driver.specs.Driver.{RunsFrom, HasFailed, HasRefused}
 
 -- the value of an option, or another
-value_or : {A : Type 0} → A → Option A → A
+abbrev value_or : {A : Type 0} → A → Option A → A
 value_or other None = other
 value_or other (Some value) = value
 
