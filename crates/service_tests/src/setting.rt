@@ -4,6 +4,7 @@ ghost use Rattle.machine.specs.Fresh.{IsFresh};
 
 use device::MemDisk;
 use machine::{Act, Machine, Reply, Shape, Step};
+use mappings::Rights;
 use page_entry::ProcessorNumber;
 use recovery::{Volume, format_as, open};
 use service::{Cpu, Entry, Origin, Service};
@@ -115,4 +116,20 @@ pub(crate) const MSYNC: Act = Act::Msync {
     va: 0,
     len: 0,
     flags: 4,
+};
+
+// The four pages of file 0, mapped to space 1.
+pub(crate) const MAP: Act = Act::Map {
+    space: 1,
+    va: 4096,
+    len: 16_384,
+    file: 0,
+    offset: 0,
+    prot: Rights::ReadWrite,
+    access: Rights::ReadWrite,
+};
+
+pub(crate) const SWITCH: Act = Act::Switch {
+    space: 1,
+    keep: false,
 };

@@ -2,9 +2,8 @@
 ghost use Rattle.std.specs.Prelude.{◌≡◌, length, Some};
 ghost use Rattle.machine.specs.Fresh.{IsFresh};
 
-use crate::setting::{Disk, MSYNC, Trial, booted, gathered, started};
+use crate::setting::{Disk, MAP, MSYNC, SWITCH, Trial, booted, gathered, started};
 use machine::{Act, FewBytes, ProcState, Reply};
-use mappings::Rights;
 use page_entry::Refusal;
 use service::{Cpu, Entry, Origin};
 use std::alloc::Global;
@@ -19,30 +18,14 @@ use std::thread::Threads;
 const THREADS: u64 = 4;
 
 // Commits that each of them makes.
-const ROUNDS: u64 = 6;
+const ROUNDS: u64 = 40;
 
 // The most entries of the trace.
-const CAPACITY: u64 = 20_000;
+const CAPACITY: u64 = 50_000;
 
 // The most calls for one act, and the most turns of one wait.
 const CALLS: u64 = 2_000;
 const TURNS: u64 = 100_000_000;
-
-// The four pages of file 0, mapped to space 1.
-const MAP: Act = Act::Map {
-    space: 1,
-    va: 4096,
-    len: 16_384,
-    file: 0,
-    offset: 0,
-    prot: Rights::ReadWrite,
-    access: Rights::ReadWrite,
-};
-
-const SWITCH: Act = Act::Switch {
-    space: 1,
-    keep: false,
-};
 
 // What a processor in this state does if it wants to do an act.
 fn next(state: ProcState, act: &Act) -> Act {
@@ -125,7 +108,7 @@ fn commit<L: Origin<Disk>, R: Wait + Abort>(rt: &R, cpu: &mut Cpu<Disk, Global, 
     let mut seen = (u64::from(mark), 0);
     for _ in 0..CALLS {
         seen = horizon(rt, cpu, seen);
-        if seen.1 >= seen.0 || seen.1 >= u64::from(mark) {
+        if seen.1 >= u64::from(mark) {
             return;
         }
         answer_to(rt, cpu, &Act::Flush);
@@ -135,10 +118,12 @@ fn commit<L: Origin<Disk>, R: Wait + Abort>(rt: &R, cpu: &mut Cpu<Disk, Global, 
 
 // What a thread does with its processor: stores to all pages, and commits; and at the end the processor sleeps.
 fn work<L: Origin<Disk>, R: Wait + Abort>(rt: &R, cpu: &mut Cpu<Disk, Global, L>) {
+    let mut seen = (0, 0);
     for round in 0..ROUNDS {
         for page in 1..5 {
             let calls = cpu.calls();
             store(rt, cpu, 4096 * page + calls % 4096, round as u8);
+            seen = horizon(rt, cpu, seen);
         }
         commit(rt, cpu);
     }
