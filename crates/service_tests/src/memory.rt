@@ -45,10 +45,7 @@ fn handed_back<'a, L: Origin<Disk>, R: Abort + AllocGlobal>(
 }
 
 // Whether the processors of a service that has just started make a step.
-fn makes_a_step<L: Origin<Disk>, R: Wait>(
-    rt: &R,
-    cpus: &mut [Cpu<Disk, &Counting, L>],
-) -> bool {
+fn makes_a_step<L: Origin<Disk>, R: Wait>(rt: &R, cpus: &mut [Cpu<Disk, &Counting, L>]) -> bool {
     cpus.len() == 2 && cpus[1].call(rt, Act::Create) == Reply::Space(1) && cpus[0].calls() == 0
 }
 
@@ -74,9 +71,13 @@ fn start_again<'a, L: Origin<Disk>, R: Wait + Abort + AllocGlobal>(
     let (machine, blank) = handed_back::<L, R>(rt, alloc, machine, capacity, blank, why);
     assert!(rt; alloc.requests() == n && alloc.held() == held);
     alloc.restart();
-    let Ok((_service, mut cpus)) =
-        Service::<Disk, &'a Counting, L>::start(alloc, rt.alloc(), machine, 5, blank)
-    else {
+    let Ok((_service, mut cpus)) = Service::<Disk, &'a Counting, L>::start(
+        alloc,
+        rt.alloc(),
+        machine,
+        5,
+        blank,
+    ) else {
         panic!(rt; "no second start after request {n}");
     };
     assert!(rt; alloc.requests() == REQUESTS);

@@ -25,6 +25,7 @@ const CAPACITY: u64 = 50_000;
 
 // The most calls for one act, and the most turns of one wait.
 const CALLS: u64 = 2_000;
+
 const TURNS: u64 = 100_000_000;
 
 // What a processor in this state does if it wants to do an act.
