@@ -33,7 +33,7 @@ fn handed_back<'a, L: Origin<Disk>, R: Abort + AllocGlobal>(
     requires name { blank.name ≡ L.name }
     requires parts { (blank.parts ≡ L.parts) × (L.all ≡ L.parts)
         × (blank.parts ≡ length machine.state.hardware.shootdown.processors) }
-    ensures { (result.0 ≡ machine) × (result.1 ≡ blank) }
+    ensures { (result.0 ≡ machine.entry) × (result.1 ≡ blank) }
 {
     match Service::<Disk, &'a Counting, L>::start(alloc, rt.alloc(), machine, capacity, blank) {
         Ok(_) => panic!(rt; "started"),
