@@ -1,5 +1,5 @@
-//! What the program `famsync` does, from its words to its status: it makes volumes, runs scripts and programs on a machine
-//! that maps their files, and prints the files.
+//! What the program `famsync` does, from its words to its status: it makes volumes, runs scripts and programs on a
+//! machine that maps their files, and prints the files.
 #![tactic(auto)]
 
 mod command;

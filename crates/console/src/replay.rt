@@ -127,8 +127,8 @@ pub struct Replayed {
     pub failure: Option<u64>,
 }
 
-// Opens the volume of a device, boots a machine of the shape of a trace, and makes the steps of the trace one at a time,
-// up to the first whose reply has another text. A refusal hands the device back.
+// Opens the volume of a device, boots a machine of the shape of a trace, and makes the steps of the trace one at a
+// time, up to the first whose reply has another text. A refusal hands the device back.
 fn replay_on<D: Device, A: Allocator + Copy>(
     global: Global,
     alloc: A,

@@ -22,8 +22,8 @@ use volume_files::{Mark, SyncNote, ThreadDisk, for_threads, place, read_file};
 const TURNS: u64 = 100_000_000;
 
 /// Runs the programs of a script in threads on the volume in a file, and prints the trace of all steps that were made,
-/// once all threads have ended. The script is read whole before the disk is opened; `path` and `script` are the names of
-/// the two files. `note` gets what is to be said of syncs that failed. If the call returns.
+/// once all threads have ended. The script is read whole before the disk is opened; `path` and `script` are the names
+/// of the two files. `note` gets what is to be said of syncs that failed. If the call returns.
 pub fn threads<'a, R, W>(
     rt: &R,
     path: &'a str,

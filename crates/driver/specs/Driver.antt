@@ -1,7 +1,6 @@
 -- Programs are run on a machine that was booted over a device: what is left of them, and why there is nothing.
 use Rattle.std.specs.Prelude.{ℕ, ◌≡◌, List, Option, Some, None, ⊤}
 use Rattle.device.specs.declared.device.Device.{Ghosts}
-use Rattle.page_entry.specs.declared.refusal.Refusal.{Refusal}
 use Rattle.machine.specs.declared.act.Reply.{Reply}
 use Rattle.machine.specs.declared.act.Shape.{Shape}
 use Rattle.machine.specs.declared.act.Step.{Step}

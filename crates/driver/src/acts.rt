@@ -23,8 +23,8 @@ pub struct Answer {
     pub seen: u64,
 }
 
-// Makes an act until it is answered otherwise than that it has to wait or to flush. Before each time, what interrupts the
-// processor is acknowledged, and its stalls are ended.
+// Makes an act until it is answered otherwise than that it has to wait or to flush. Before each time, what interrupts
+// the processor is acknowledged, and its stalls are ended.
 pub fn made<D: Device, L: Origin<D>, R: Wait>(
     rt: &R,
     cpu: &mut Cpu<D, Global, L>,
@@ -50,7 +50,8 @@ pub fn made<D: Device, L: Origin<D>, R: Wait>(
     Ok(answer)
 }
 
-// Waits until the processor is neither interrupted nor stalled. Answers how many entries of the trace are progress then.
+// Waits until the processor is neither interrupted nor stalled. Answers how many entries of the trace are progress
+// then.
 fn ready<D: Device, L: Origin<D>, R: Wait>(
     rt: &R,
     cpu: &mut Cpu<D, Global, L>,

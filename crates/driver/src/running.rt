@@ -47,9 +47,9 @@ pub enum NotRun<D> {
 /// one of a processor that isn't there is left out. Then each processor gets a thread, which carries out its program. A
 /// wait of a thread looks at most `turns` times for progress; where that isn't enough, the thread ends.
 ///
-/// The trace and the device are those of a run of the engine, with all that holds of one (`HasRun`). That the threads run
-/// at the same time is promised by nothing: where no thread can be made, they run one after the other, and waits run
-/// out.
+/// The trace and the device are those of a run of the engine, with all that holds of one (`HasRun`). That the threads
+/// run at the same time is promised by nothing: where no thread can be made, they run one after the other, and waits
+/// run out.
 pub fn run_programs<D: Device + Send + Drop, R: Threads + Wait + Sync>(
     rt: &R,
     alloc: Global,

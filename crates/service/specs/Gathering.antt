@@ -1,5 +1,5 @@
 -- What the processors of a service know of their own calls, and what is known once all of them were given back.
-use Rattle.std.specs.Prelude.{ℕ, ◌≡◌, ◌<◌, ◌≤◌, List, [], length, sum_by, slice_get, Option, Some}
+use Rattle.std.specs.Prelude.{ℕ, ◌≡◌, ◌<◌, List, [], length, sum_by, slice_get, Option, Some}
 use Rattle.device.specs.declared.device.Device.{Ghosts}
 use Rattle.machine.specs.declared.act.Act.{Act}
 use Rattle.machine.specs.declared.act.Reply.{Reply}
@@ -10,8 +10,8 @@ use Rattle.service.specs.declared.entry.Entry.{Entry}
 use Rattle.service.specs.Trace.{steps_of, replies_of, of_processor}
 use Rattle.service.specs.Serving.{SharedState, IsServing}
 
--- a processor of a service: its number, its acts with their replies, in order, and the greatest numbers of marks that it
--- has seen stalled and committed
+-- a processor of a service: its number, its acts with their replies, in order, and the greatest numbers of marks that
+-- it has seen stalled and committed
 pub record CpuState : Type 0 where
   pub number : ℕ
   pub answered : List (Act × Reply)

@@ -60,8 +60,9 @@ fn answer_of(act: &Act, reply: &Reply) -> (Act, Reply)
 const SPINS: u64 = 32;
 
 impl<D: Device, A: Allocator + Copy, L: Origin<D>> Cpu<D, A, L> {
-    /// One act of this processor, made under the lock, with an entry in the trace. A mark raises the horizon's stalled, and a
-    /// commit its committed, before the lock is given back; a mark with no store since the mark before it raises both.
+    /// One act of this processor, made under the lock, with an entry in the trace. A mark raises the horizon's stalled,
+    /// and a commit its committed, before the lock is given back; a mark with no store since the mark before it raises
+    /// both.
     ///
     /// `TraceFull` where the trace is full, and nothing is changed. If the call returns.
     pub fn call<R: Wait>(&mut self, rt: &R, act: Act) -> Reply
@@ -111,8 +112,9 @@ impl<D: Device, A: Allocator + Copy, L: Origin<D>> Cpu<D, A, L> {
         self.answered.as_slice()
     }
 
-    /// What this processor is doing, and how many entries of the trace are progress: entries of other acts than loads, fills
-    /// and evictions whose reply isn't `Nothing` nor a refusal other than `Device`. It adds no entry. If the call returns.
+    /// What this processor is doing, and how many entries of the trace are progress: entries of other acts than loads,
+    /// fills and evictions whose reply isn't `Nothing` nor a refusal other than `Device`. It adds no entry. If the call
+    /// returns.
     pub fn look<R: Wait>(&self, rt: &R) -> (ProcState, u64) {
         let guard = self.room.lock.lock(rt);
         match &*guard {
@@ -121,9 +123,9 @@ impl<D: Device, A: Allocator + Copy, L: Origin<D>> Cpu<D, A, L> {
         }
     }
 
-    /// Looks at most `turns` times whether more entries of the trace are progress than `seen`, or the trace is full, and
-    /// answers whether that was so. It adds no entry. A turn at which another thread has the lock sees nothing; at every 32nd
-    /// turn other threads may run on this thread's processor.
+    /// Looks at most `turns` times whether more entries of the trace are progress than `seen`, or the trace is full,
+    /// and answers whether that was so. It adds no entry. A turn at which another thread has the lock sees nothing; at
+    /// every 32nd turn other threads may run on this thread's processor.
     pub fn wait<R: Wait>(&self, _rt: &R, seen: u64, turns: u64) -> bool {
         for turn in 0..turns {
             if self.has_moved(seen) {
@@ -149,8 +151,8 @@ impl<D: Device, A: Allocator + Copy, L: Origin<D>> Cpu<D, A, L> {
         }
     }
 
-    /// The horizon: the greatest numbers of a mark that was stalled for and of one that is committed, read at one moment
-    /// without the lock. Neither is lower than this processor has seen it before. If the call returns.
+    /// The horizon: the greatest numbers of a mark that was stalled for and of one that is committed, read at one
+    /// moment without the lock. Neither is lower than this processor has seen it before. If the call returns.
     pub fn horizon<R: Wait>(&mut self, rt: &R) -> (u64, u64)
         ensures result { result ≡ (self.new.stalled, self.new.committed) }
         ensures ordered { self.new.committed ≤ self.new.stalled }
@@ -190,7 +192,8 @@ fn call_locked<D: Device, A: Allocator + Copy, L: Origin<D>, R: Wait>(
     reply
 }
 
-// Raises the horizon by the reply of the last entry. A mark with no store since the mark before it is committed at once.
+// Raises the horizon by the reply of the last entry. A mark with no store since the mark before it is committed at
+// once.
 fn raise<D: Device, A: Allocator + Copy, L: Origin<D>, R: Wait>(
     rt: &R,
     room: &Room<D, A, L>,

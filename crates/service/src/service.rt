@@ -30,13 +30,13 @@ pub struct Service<D: Device, A: Allocator + Copy, L: Origin<D>> {
 }
 
 impl<D: Device + Drop, A: Allocator + Copy, L: Origin<D>> Service<D, A, L> {
-    /// Shares a machine as it was booted, with an empty trace that may have `capacity` entries, 1 to 1,000,000, and gives a
-    /// `Cpu` for each of its processors, in order. The type `L` stands for this machine, and for the ledger of which `blank`
-    /// is the blank, with a part for each processor.
+    /// Shares a machine as it was booted, with an empty trace that may have `capacity` entries, 1 to 1,000,000, and
+    /// gives a `Cpu` for each of its processors, in order. The type `L` stands for this machine, and for the ledger of
+    /// which `blank` is the blank, with a part for each processor.
     ///
-    /// `BadShape` for another capacity, which is judged before memory is taken; `OutOfMemory` where memory is refused, all of
-    /// which is taken here: no call of a `Cpu` takes any for the service. A refusal hands machine and blank back. The
-    /// horizon's memory is `global`'s, and all other `alloc`'s.
+    /// `BadShape` for another capacity, which is judged before memory is taken; `OutOfMemory` where memory is refused,
+    /// all of which is taken here: no call of a `Cpu` takes any for the service. A refusal hands machine and blank
+    /// back. The horizon's memory is `global`'s, and all other `alloc`'s.
     pub fn start(
         alloc: A,
         global: Global,
@@ -69,9 +69,9 @@ impl<D: Device + Drop, A: Allocator + Copy, L: Origin<D>> Service<D, A, L> {
         }
     }
 
-    /// Takes the machine and the trace out of the service. It first compares the trace's entries of each processor with what
-    /// its `Cpu` was answered; where they differ, or without all `Cpu` values of the service, `Einval`, and all is handed
-    /// back. If the call returns.
+    /// Takes the machine and the trace out of the service. It first compares the trace's entries of each processor with
+    /// what its `Cpu` was answered; where they differ, or without all `Cpu` values of the service, `Einval`, and all is
+    /// handed back. If the call returns.
     pub fn gather<R: Wait>(
         self,
         rt: &R,
@@ -91,8 +91,8 @@ impl<D: Device + Drop, A: Allocator + Copy, L: Origin<D>> Service<D, A, L> {
         }
     }
 
-    /// Takes the machine out of a service that isn't gathered, if it is still there. The steps that were made of it since the
-    /// service started are a legal run, but of who made them nothing is said. If the call returns.
+    /// Takes the machine out of a service that isn't gathered, if it is still there. The steps that were made of it
+    /// since the service started are a legal run, but of who made them nothing is said. If the call returns.
     pub fn abandon<R: Wait>(self, rt: &R) -> Option<Machine<D, A>>
         ensures { IfSome result (λ machine. (first : Whole D) × (steps : List Step) × (replies : List Reply)
             × (L.start ≡ Some first) × StepsTaken D.Device first steps replies machine) }

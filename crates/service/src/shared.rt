@@ -65,8 +65,8 @@ pub(crate) fn is_capacity(capacity: u64) -> bool
 impl<D: Device, A: Allocator + Copy> Shared<D, A> {
     /// A machine as it was booted, with an empty trace that may have `capacity` entries, 1 to 1,000,000.
     ///
-    /// `BadShape` for another capacity, which is judged before memory is taken; `OutOfMemory` where memory for the trace is
-    /// refused. A refusal hands the machine back. No later call takes memory for the trace.
+    /// `BadShape` for another capacity, which is judged before memory is taken; `OutOfMemory` where memory for the
+    /// trace is refused. A refusal hands the machine back. No later call takes memory for the trace.
     pub fn new(
         alloc: A,
         machine: Machine<D, A>,
@@ -128,9 +128,9 @@ impl<D: Device, A: Allocator + Copy> Shared<D, A> {
         self.trace.len() as u64 == self.capacity
     }
 
-    /// Whoever has a machine with its trace has this of it: the trace is a legal run of the machine, over any device, from
-    /// some start that is as boot leaves it (`IsServing`); and if that start was over a volume at rest, on an honest device,
-    /// the trace keeps the laws of machines.
+    /// Whoever has a machine with its trace has this of it: the trace is a legal run of the machine, over any device,
+    /// from some start that is as boot leaves it (`IsServing`); and if that start was over a volume at rest, on an
+    /// honest device, the trace keeps the laws of machines.
     pub fn keeps_the_laws(&self)
         ensures { (start : Whole D) × IsServing D.Device start self.now
             × ((files : List File) → Begins D.Device files start → KeepsLaws D.Device files start self.now) }

@@ -1,5 +1,5 @@
-//! Services as threads see them: what each call answers where memory is ample, threads that run at once, a trace that is
-//! full, `Cpu` values that are missing, and memory that is refused.
+//! Services as threads see them: what each call answers where memory is ample, threads that run at once, a trace that
+//! is full, `Cpu` values that are missing, and memory that is refused.
 #![tactic(auto)]
 
 #[cfg(test)]

@@ -15,8 +15,8 @@ use std::sync::ledger::Blank;
 
 type Counting = CountingAllocator<Global>;
 
-// The requests for memory of a start with two processors: for the trace, the `Cpu` values, what they share, what each is
-// given, and the lists of answers of both.
+// The requests for memory of a start with two processors: for the trace, the `Cpu` values, what they share, what each
+// is given, and the lists of answers of both.
 const REQUESTS: u64 = 6;
 
 // A refused start, which hands its machine and its blank back as they were.

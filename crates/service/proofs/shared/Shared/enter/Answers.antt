@@ -1,4 +1,4 @@
-use Rattle.std.proofs.Common.{◌≡◌, ℕ, List, ◌++◌, ◌∷◌, [], ◌<◌, ◌==◌, length, false, sym, ap, ◌∙◌, subst, arith}
+use Rattle.std.proofs.Common.{◌≡◌, List, ◌++◌, ◌∷◌, [], ◌<◌, ◌==◌, length, false, sym, ap, ◌∙◌, subst, arith}
 use Rattle.machine.specs.declared.act.Step.{Step}
 use Rattle.service.specs.declared.entry.Entry.{Entry}
 use Rattle.service.specs.Serving.{SharedState, IsServing, HasEntered}

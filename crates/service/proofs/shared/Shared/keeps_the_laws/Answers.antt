@@ -1,7 +1,5 @@
 use Rattle.std.proofs.Common.{List, subst}
-use Rattle.machine.specs.OnTrack.{IsOnTrack}
 use Rattle.machine.specs.State.{Whole}
-use Rattle.service.specs.Trace.{steps_of, replies_of}
 use Rattle.service.specs.Serving.{SharedState, IsServing, KeepsLaws}
 use Rattle.volume_codec.specs.Files.{File}
 use Rattle.machine.specs.Crashes.{Begins}

@@ -1,6 +1,6 @@
-use Rattle.std.proofs.Common.{refl, arith, ap, sym, subst, List}
+use Rattle.std.proofs.Common.{refl, arith, sym, subst, List}
 use Rattle.service.specs.declared.entry.Entry.{Entry}
-use Rattle.service.specs.Serving.{SharedState, IsServing}
+use Rattle.service.specs.Serving.{IsServing}
 use Rattle.service.proofs.shared.Shared.over.Goals as goal
 
 pub invariant_of-result : goal.invariant_of-result
