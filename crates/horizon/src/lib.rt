@@ -10,9 +10,6 @@ ghost use Rattle.std.specs.Prelude.{◌≡◌, ◌≤◌, IfOk};
 ghost use Rattle.horizon.specs.Seen.{HasLooked};
 
 mod rule;
-#[cfg(test)]
-mod tests;
-
 use rule::{Holder, RaiseCommitted, RaiseStalled, Read, Same, Words};
 use std::alloc::{AllocError, Global};
 use std::marker::Model;

@@ -5,6 +5,8 @@
 #[cfg(test)]
 mod calls;
 #[cfg(test)]
+mod horizons;
+#[cfg(test)]
 mod loads;
 #[cfg(test)]
 mod memory;

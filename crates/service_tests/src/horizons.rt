@@ -2,7 +2,7 @@
 ghost use Rattle.std.specs.Prelude.{◌≡◌, ◌<◌};
 ghost use Rattle.std.specs.Thread.{IsSync};
 
-use crate::{Horizon, Seen};
+use horizon::{Horizon, Seen};
 use std::sync::Wait;
 use std::thread::{Threads, join};
 
