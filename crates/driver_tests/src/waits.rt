@@ -50,10 +50,12 @@ fn ran<R: Threads + Wait + Sync + Abort + AllocGlobal>(rt: &R, text: &str) -> Ra
 }
 
 // Nobody stores the byte: a fault, its service and one load are all that the program makes.
-const AWAITED: &str = r#"{"cpus":1,"tlb":2,"frames":4,"copies":0,"trace":100,"steps":[[0,"create"],[0,"map",1,4096,4096,0,0,"rw","rw"],[0,"switch",1,"drop"]],"programs":[[["await",4096,1],["store",4096,[2]]]]}"#;
+const AWAITED: &str =
+    r#"{"cpus":1,"tlb":2,"frames":4,"copies":0,"trace":100,"steps":[[0,"create"],[0,"map",1,4096,4096,0,0,"rw","rw"],[0,"switch",1,"drop"]],"programs":[[["await",4096,1],["store",4096,[2]]]]}"#;
 
 // A step lets the processor sleep, and nothing wakes it: its first act is refused once.
-const ASLEEP: &str = r#"{"cpus":1,"tlb":2,"frames":4,"copies":0,"trace":100,"steps":[[0,"idle"]],"programs":[[["load",4096,1]]]}"#;
+const ASLEEP: &str =
+    r#"{"cpus":1,"tlb":2,"frames":4,"copies":0,"trace":100,"steps":[[0,"idle"]],"programs":[[["load",4096,1]]]}"#;
 
 #[test]
 fn a_wait_that_runs_out_ends_the_thread(rt: HostRuntime) {
@@ -88,7 +90,8 @@ fn refusals_hand_the_disk_back(rt: HostRuntime) {
 }
 
 // No act was refused before the wait: each thread of the two ends, and only the waiting one is told of.
-const ONE_WAITS: &str = r#"{"cpus":2,"tlb":2,"frames":4,"copies":0,"trace":100,"steps":[[0,"create"],[0,"map",1,4096,4096,0,0,"rw","rw"],[0,"switch",1,"drop"],[1,"switch",1,"drop"]],"programs":[[],[["await",4096,1]]]}"#;
+const ONE_WAITS: &str =
+    r#"{"cpus":2,"tlb":2,"frames":4,"copies":0,"trace":100,"steps":[[0,"create"],[0,"map",1,4096,4096,0,0,"rw","rw"],[0,"switch",1,"drop"],[1,"switch",1,"drop"]],"programs":[[],[["await",4096,1]]]}"#;
 
 #[test]
 fn one_thread_waits_in_vain(rt: HostRuntime) {

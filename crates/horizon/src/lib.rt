@@ -10,6 +10,7 @@ ghost use Rattle.std.specs.Prelude.{◌≡◌, ◌≤◌, IfOk};
 ghost use Rattle.horizon.specs.Seen.{HasLooked};
 
 mod rule;
+
 use rule::{Holder, RaiseCommitted, RaiseStalled, Read, Same, Words};
 use std::alloc::{AllocError, Global};
 use std::marker::Model;
