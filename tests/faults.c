@@ -19,6 +19,7 @@
 #include <stdio.h>
 #include <stdlib.h>
 #include <string.h>
+#include <sys/syscall.h>
 #include <sys/types.h>
 #include <unistd.h>
 
@@ -63,6 +64,14 @@ __attribute__((destructor)) static void tell(void)
         fprintf(out, "%ld\n", calls);
         fclose(out);
     }
+}
+
+/* A program that has threads ends by this call alone, which runs no destructors. */
+void _exit(int status)
+{
+    tell();
+    for (;;)
+        syscall(SYS_exit_group, status);
 }
 
 #define NEXT(name) ((__typeof__(&name))dlsym(RTLD_NEXT, #name))

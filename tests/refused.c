@@ -5,10 +5,12 @@
  *   REFUSED=N   which request; 0 refuses none
  *   COUNT=PATH  the file to which the number of requests is written at the end
  */
+#define _GNU_SOURCE
 #include <errno.h>
 #include <fcntl.h>
 #include <stdio.h>
 #include <stdlib.h>
+#include <sys/syscall.h>
 #include <unistd.h>
 
 extern void *__libc_malloc(size_t size);
@@ -59,6 +61,14 @@ __attribute__((destructor)) static void tell(void)
         return;
     length = snprintf(text, sizeof text, "%ld\n", requests);
     if (write(file, text, (size_t)length) != length)
-        _exit(125);
+        abort();
     close(file);
+}
+
+/* A program that has threads ends by this call alone, which runs no destructors. */
+void _exit(int status)
+{
+    tell();
+    for (;;)
+        syscall(SYS_exit_group, status);
 }
