@@ -11,7 +11,7 @@ use Rattle.traces.specs.declared.line.Line.{Line}
 use Rattle.console.specs.declared.replay.Comparer.{Comparer}
 use Rattle.console.specs.declared.replay.Verdict.{Verdict}
 use Rattle.console.specs.declared.replay.Verdict.TheVariants.{Same, Differs}
-use Rattle.console.specs.Replay.{is_text, texts_of, verdict_by, Says, Compares}
+use Rattle.console.specs.inside.Replay.{is_text, texts_of, verdict_by, Says, Compares}
 
 abbrev this_or : {X : Type 0} → X → Option X → X
 this_or x None = x

@@ -1,5 +1,5 @@
 -- The program's status, and the failure that names a step.
-use Rattle.std.specs.Prelude.{ℕ, ◌≡◌}
+use Rattle.std.specs.Prelude.{ℕ}
 use Rattle.console.specs.declared.failure.Failure.{Failure}
 use Rattle.console.specs.declared.failure.Failure.TheVariants.{CommandLine, Layout, Slots, FileSpec, Script, Trace, File, Shape, Step, Entry, Act, Wait, Gather, Output, Memory}
 
@@ -20,8 +20,3 @@ status_of (Wait path) = 3
 status_of (Gather path cause) = 3
 status_of (Output cause) = 3
 status_of (Memory cause) = 3
-
--- the step of this number was answered that the device failed
-abbrev pub IsFailedStep : Failure → ℕ → Type 0
-IsFailedStep (Step path step) number = step ≡ number
-IsFailedStep _ number = ⊥

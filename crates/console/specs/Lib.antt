@@ -1,4 +1,4 @@
 pub mod Failure
-pub mod Replay
 pub mod Replies
 pub mod Words
+pub mod inside

@@ -3,7 +3,7 @@ ghost use Rattle.std.specs.Prelude.{◌≡◌, ◌<◌, ◌≤◌, List, map, le
 ghost use Rattle.machine.specs.declared.act.Reply.{Reply};
 ghost use Rattle.machine.specs.Words.{reply_text};
 ghost use Rattle.engine.specs.Engine.{HasNotStarted, HasRun};
-ghost use Rattle.console.specs.Replay.{is_text, texts_of, verdict_by, Says, Compares};
+ghost use Rattle.console.specs.inside.Replay.{is_text, texts_of, verdict_by, Says, Compares};
 
 use crate::failure::Failure;
 use crate::printer::is_failure;

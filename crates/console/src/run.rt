@@ -1,6 +1,6 @@
 // Running a script on the volume in a file.
 ghost use Rattle.std.specs.Prelude.{◌↔◌, IsOk, IfErr, IsNone, IfSome};
-ghost use Rattle.console.specs.Failure.{IsFailedStep};
+ghost use Rattle.console.specs.inside.Failure.{IsFailedStep};
 
 use crate::failure::Failure;
 use crate::printer::Printer;

@@ -9,7 +9,7 @@ use Rattle.machine.specs.State.{Whole}
 use Rattle.engine.specs.Engine.{HasStarted, HasRun}
 use Rattle.driver.specs.declared.running.NotRun.{NotRun}
 use Rattle.driver.specs.declared.running.NotRun.TheVariants.{Start, Share, Gather}
-use Rattle.driver.specs.Driver.{RunsFrom, HasFailed, HasRefused}
+use Rattle.driver.specs.Driver.{RunsFrom, HasNotShared, HasNotRun}
 
 -- the value of an option, or another
 abbrev value_or : {A : Type 0} → A → Option A → A
@@ -44,8 +44,8 @@ of_the_one (Err e) origin P start is all = tt
 -- a machine that failed was booted
 pub refused_so : {D : Type 0} (disk : Ghosts D) (before : D) (shape : Shape) (capacity : ℕ) (start : Whole D)
     (refused : NotRun D)
-    → HasStarted disk before shape start → HasFailed disk start capacity refused
-    → HasRefused disk before shape capacity refused
+    → HasStarted disk before shape start → HasNotShared disk start capacity refused
+    → HasNotRun disk before shape capacity refused
 refused_so disk before shape capacity start (Start refusal after) started failed = absurd failed
 refused_so disk before shape capacity start (Share refusal after) started failed = (start, started, failed)
 refused_so disk before shape capacity start (Gather refusal after) started failed = (start, started, failed)

@@ -21,13 +21,13 @@ IsLeft disk start None = ⊤
 IsLeft disk start (Some after) = (steps : List Step) × (replies : List Reply) × RunsFrom disk start steps replies after
 
 -- this machine wasn't shared with a trace of this capacity, or not gathered
-abbrev pub HasFailed : {D : Type 0} → Ghosts D → Whole D → ℕ → NotRun D → Type 0
-HasFailed disk start capacity (Start refusal after) = ⊥
-HasFailed disk start capacity (Share refusal after) = RefusesCapacity capacity refusal × (after ≡ start.device)
-HasFailed disk start capacity (Gather refusal after) = IsLeft disk start after
+abbrev pub HasNotShared : {D : Type 0} → Ghosts D → Whole D → ℕ → NotRun D → Type 0
+HasNotShared disk start capacity (Start refusal after) = ⊥
+HasNotShared disk start capacity (Share refusal after) = RefusesCapacity capacity refusal × (after ≡ start.device)
+HasNotShared disk start capacity (Gather refusal after) = IsLeft disk start after
 
 -- no machine of this shape was booted over the device, or one was, and failed so
-abbrev pub HasRefused : {D : Type 0} → Ghosts D → D → Shape → ℕ → NotRun D → Type 0
-HasRefused disk before shape capacity (Start refusal after) = HasNotStarted disk before shape after refusal
-HasRefused {D} disk before shape capacity refused =
-    (start : Whole D) × HasStarted disk before shape start × HasFailed disk start capacity refused
+abbrev pub HasNotRun : {D : Type 0} → Ghosts D → D → Shape → ℕ → NotRun D → Type 0
+HasNotRun disk before shape capacity (Start refusal after) = HasNotStarted disk before shape after refusal
+HasNotRun {D} disk before shape capacity refused =
+    (start : Whole D) × HasStarted disk before shape start × HasNotShared disk start capacity refused

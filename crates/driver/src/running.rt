@@ -4,7 +4,7 @@ ghost use Rattle.engine.specs.Engine.{HasRun};
 ghost use Rattle.machine.specs.Fresh.{IsFresh};
 ghost use Rattle.machine.specs.State.{Whole};
 ghost use Rattle.service.specs.Trace.{steps_of, replies_of};
-ghost use Rattle.driver.specs.Driver.{RunsFrom, IsLeft, HasFailed, HasRefused};
+ghost use Rattle.driver.specs.Driver.{RunsFrom, IsLeft, HasNotShared, HasNotRun};
 
 use crate::acts::Stop;
 use crate::commands::worked;
@@ -59,7 +59,7 @@ pub fn run_programs<D: Device + Send + Drop, R: Threads + Wait + Sync>(
 ) -> Result<Ran<D>, NotRun<D>>
     ensures ran { IfOk result (λ ran. HasRun D.Device device script.now.shape (steps_of ran.trace.items)
         (replies_of ran.trace.items) ran.device) }
-    ensures refused { IfErr result (HasRefused D.Device device script.now.shape script.now.trace) }
+    ensures refused { IfErr result (HasNotRun D.Device device script.now.shape script.now.trace) }
 {
     match start(alloc, device, script.shape) {
         Ok(machine) => match named(rt, alloc, machine, script, turns) {
@@ -81,7 +81,7 @@ fn named<D: Device + Send + Drop, R: Threads + Wait + Sync>(
     requires fresh { IsFresh machine.state }
     ensures ran { IfOk result (λ ran. RunsFrom D.Device machine (steps_of ran.trace.items)
         (replies_of ran.trace.items) ran.device) }
-    ensures refused { IfErr result (HasFailed D.Device machine script.now.trace) }
+    ensures refused { IfErr result (HasNotShared D.Device machine script.now.trace) }
 {
     let blank = Blank::new(u64::from(machine.processors()));
     serve::<D, Brand, R>(rt, alloc, machine, script, turns, blank)
@@ -102,7 +102,7 @@ fn serve<D: Device + Send + Drop, L: Origin<D> + Send + Sync, R: Threads + Wait 
         × (blank.parts ≡ length machine.state.hardware.shootdown.processors) }
     ensures ran { IfOk result (λ ran. RunsFrom D.Device machine (steps_of ran.trace.items)
         (replies_of ran.trace.items) ran.device) }
-    ensures refused { IfErr result (HasFailed D.Device machine script.now.trace) }
+    ensures refused { IfErr result (HasNotShared D.Device machine script.now.trace) }
 {
     match Service::<D, Global, L>::start(alloc, alloc, machine, script.trace, blank) {
         Ok((service, mut cpus)) => {
@@ -171,7 +171,7 @@ fn gathered<D: Device + Drop, L: Origin<D>, R: Wait>(
     ensures ran { IfOk result (λ ran. (start : Whole D) → L.start ≡ Some start
         → RunsFrom D.Device start (steps_of ran.trace.items) (replies_of ran.trace.items) ran.device) }
     ensures refused { IfErr result (λ refused. (start : Whole D) → L.start ≡ Some start → (capacity : ℕ)
-        → HasFailed D.Device start capacity refused) }
+        → HasNotShared D.Device start capacity refused) }
 {
     match service.gather(rt, cpus) {
         Ok((machine, trace)) => {

@@ -6,7 +6,7 @@ use Rattle.machine.specs.declared.act.Step.{Step}
 use Rattle.machine.specs.Runs.{StepsTaken}
 use Rattle.machine.specs.State.{Whole}
 use Rattle.service.specs.Serving.{SharedState}
-use Rattle.service.specs.Gathering.{ServesFrom}
+use Rattle.service.specs.inside.Gathering.{ServesFrom}
 use Rattle.service.specs.Trace.{steps_of, replies_of}
 
 -- some steps from the service's start led to the machine: those of the trace

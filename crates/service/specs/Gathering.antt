@@ -8,7 +8,6 @@ use Rattle.machine.specs.Runs.{StepsTaken}
 use Rattle.machine.specs.State.{Whole}
 use Rattle.service.specs.declared.entry.Entry.{Entry}
 use Rattle.service.specs.Trace.{steps_of, replies_of, of_processor}
-use Rattle.service.specs.Serving.{SharedState, IsServing}
 
 -- a processor of a service: its number, its acts with their replies, in order, and the greatest numbers of marks that
 -- it has seen stalled and committed
@@ -34,10 +33,6 @@ calls_of cpus = sum_by (λ cpu. length cpu.answered) cpus
 abbrev pub AreAnswered : List Entry → List CpuState → Type 0
 AreAnswered trace cpus =
     (i : ℕ) (cpu : CpuState) → slice_get cpus i ≡ Some cpu → of_processor cpu.number trace ≡ cpu.answered
-
--- the trace is a legal run from the start that the service's name stands for
-abbrev pub ServesFrom : {D : Type 0} → Ghosts D → Option (Whole D) → SharedState D → Type 0
-ServesFrom {D} disk start s = (first : Whole D) × (start ≡ Some first) × IsServing disk first s
 
 -- What is handed out once all processors of a service were given back.
 pub record HasGathered {D : Type 0} (disk : Ghosts D) (start : Option (Whole D)) (cpus : List CpuState)

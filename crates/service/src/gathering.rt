@@ -1,7 +1,8 @@
 // What is compared when a service is gathered, and how its count is closed.
 ghost use Rattle.std.specs.Prelude.{ℕ, ◌≡◌, ◌<◌, length, IsTrue, IfSome};
 ghost use Rattle.service.specs.Trace.{of_processor};
-ghost use Rattle.service.specs.Gathering.{IsAmong, AreAnswered, ServesFrom, calls_of};
+ghost use Rattle.service.specs.Gathering.{IsAmong, AreAnswered, calls_of};
+ghost use Rattle.service.specs.inside.Gathering.{ServesFrom};
 
 use crate::locked::{Locked, Room};
 use crate::same::is_answer_of;

@@ -3,7 +3,7 @@ ghost use Rattle.std.specs.Prelude.{ℕ, ◌≡◌, ◌≢◌, ◌↔◌, ◌+�
 ghost use Rattle.page_entry.specs.declared.refusal.Refusal.{Refusal};
 ghost use Rattle.machine.specs.declared.act.Reply.{Reply};
 ghost use Rattle.machine.specs.State.{Whole};
-ghost use Rattle.service.specs.Gathering.{ServesFrom};
+ghost use Rattle.service.specs.inside.Gathering.{ServesFrom};
 
 use crate::Shared;
 use device::Device;
@@ -48,7 +48,7 @@ impl<D: Device, A: Allocator + Copy, L: Origin<D>> Model for Locked<D, A, L> {
     ghost use Rattle.std.specs.Coded.{codes};
     ghost use Rattle.machine.specs.inside.Codes.{map_code};
     ghost use Rattle.service.specs.Serving.{SharedState};
-    ghost use Rattle.service.specs.Gathering.{ServesFrom};
+    ghost use Rattle.service.specs.inside.Gathering.{ServesFrom};
 
     ghost Value = { SharedState D };
 

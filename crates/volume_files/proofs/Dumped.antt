@@ -11,7 +11,8 @@ use Rattle.volume_codec.proofs.Blocks.{length-block_at}
 use Rattle.volume_codec.proofs.Recovered.{length-file}
 use Rattle.recovery.specs.Volume.{VolumeState, IsSettled, files_of, bytes_of}
 use Rattle.std.specs.Io.KnownBytes.{Appends}
-use Rattle.volume_files.specs.Dump.{file_text, dump_text, IsOnlyRead, AreFilesOf}
+use Rattle.volume_files.specs.Dump.{file_text, dump_text}
+use Rattle.volume_files.specs.inside.Reading.{IsOnlyRead, AreFilesOf}
 use Rattle.volume_files.proofs.Appending.{appends_both}
 
 named_from : (contents : ℕ → List ℕ) (b : ℕ) (fs : List TableFile) → map (λ (f : File). f.name) (files_from contents b fs (map (λ (f : TableFile). f.capacity) fs)) ≡ map (λ (f : TableFile). f.name) fs

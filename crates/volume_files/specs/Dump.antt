@@ -1,11 +1,8 @@
 -- The text of a dump: of each file its name and length, and its rows of 16 bytes that aren't all zeros.
-use Rattle.std.specs.Prelude.{ℕ, ◌≡◌, ◌↔◌, zero, suc, ◌+◌, ◌-◌, ◌*◌, ◌^◌, ◌/◌, ◌%◌, ◌==◌, if◌then◌else◌, List, [], ◌∷◌, ◌++◌, length, map, take, drop, false}
+use Rattle.std.specs.Prelude.{ℕ, zero, suc, ◌+◌, ◌-◌, ◌*◌, ◌^◌, ◌/◌, ◌%◌, ◌==◌, if◌then◌else◌, List, [], ◌∷◌, ◌++◌, length, take, drop, false}
 use Rattle.std.specs.List.{flat_map, list_all}
 use Rattle.std.specs.Fmt.{decimal, digits, digit_glyph, padded_integral, format_spec}
-use Rattle.device.specs.declared.device.Device.{Ghosts}
-use Rattle.recovery.specs.Volume.{VolumeState, files_of}
 use Rattle.volume_codec.specs.Files.{File}
-use Rattle.volume_codec.specs.Super.{names_in}
 
 -- a byte in two hexadecimal digits, after a space
 abbrev pub byte_text : ℕ → List ℕ
@@ -43,15 +40,3 @@ file_text f = f.name ++ 32 ∷ decimal (length f.bytes) ++ 10 ∷ [] ++ rows_bef
 -- the files in their order
 abbrev pub dump_text : List File → List ℕ
 dump_text files = flat_map file_text files
-
--- a volume that was only read: its table and lengths stay, and so does what an honest device gives
-pub record IsOnlyRead {D : Type 0} (disk : Ghosts D) (old new : VolumeState D) : Type 0 where
-  pub table : new.table ≡ old.table
-  pub lengths : new.lengths ≡ old.lengths
-  pub honest : disk.is_honest new.device ↔ disk.is_honest old.device
-  pub same : disk.is_honest old.device → disk.seen new.device ≡ disk.seen old.device
-
--- the files of a volume whose device has these bytes, as its table and its lengths say
-pub record AreFilesOf {D : Type 0} (volume : VolumeState D) (bytes : List ℕ) : Type 0 where
-  pub names : map (λ f. f.name) (files_of volume.table bytes) ≡ names_in volume.table
-  pub lengths : map (λ f. length f.bytes) (files_of volume.table bytes) ≡ volume.lengths

@@ -4,7 +4,8 @@ ghost use Rattle.std.specs.Io.KnownBytes.{Appends};
 ghost use Rattle.std.specs.List.{list_all};
 ghost use Rattle.volume_codec.specs.Files.{File};
 ghost use Rattle.recovery.specs.Volume.{files_of, bytes_of};
-ghost use Rattle.volume_files.specs.Dump.{row_text, row_line, rows_before, row_count, file_text, dump_text, IsOnlyRead, AreFilesOf};
+ghost use Rattle.volume_files.specs.Dump.{row_text, row_line, rows_before, row_count, file_text, dump_text};
+ghost use Rattle.volume_files.specs.inside.Reading.{IsOnlyRead, AreFilesOf};
 ghost use Rattle.volume_files.specs.inside.Pages.{page_of, rows_at};
 
 use device::Device;

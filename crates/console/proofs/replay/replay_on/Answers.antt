@@ -3,7 +3,7 @@ use Rattle.std.proofs.lemmas.List.{length-map}
 use Rattle.engine.specs.Listening.{HasListened}
 use Rattle.traces.specs.declared.line.Line.{Line}
 use Rattle.console.specs.declared.replay.Comparer.{Comparer}
-use Rattle.console.specs.Replay.{texts_of, verdict_by, Says, Compares}
+use Rattle.console.specs.inside.Replay.{texts_of, verdict_by, Says, Compares}
 use Rattle.console.proofs.Replaying.{verdict_says, said_so}
 use Rattle.console.proofs.replay.replay_on.Goals as goal
 

@@ -1,6 +1,6 @@
 use Rattle.std.proofs.Common.{subst}
 use Rattle.service.specs.Serving.{SharedState}
-use Rattle.service.specs.Gathering.{ServesFrom}
+use Rattle.service.specs.inside.Gathering.{ServesFrom}
 use Rattle.service.proofs.gathering.ended.Goals as goal
 
 pub returns-clause-serves : goal.returns-clause-serves

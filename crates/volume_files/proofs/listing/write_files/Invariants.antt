@@ -1,7 +1,8 @@
 use Rattle.std.proofs.Common.{take}
 use Rattle.std.specs.Io.KnownBytes.{Appends}
 use Rattle.recovery.specs.Volume.{files_of}
-use Rattle.volume_files.specs.Dump.{dump_text, IsOnlyRead}
+use Rattle.volume_files.specs.Dump.{dump_text}
+use Rattle.volume_files.specs.inside.Reading.{IsOnlyRead}
 use Rattle.volume_files.proofs.listing.write_files.Given as goal
 
 abbrev pub invariant-loop-file : goal.invariant-loop-file

@@ -1,7 +1,8 @@
 use Rattle.std.proofs.Common.{◌*◌}
 use Rattle.std.specs.Io.KnownBytes.{Appends}
 use Rattle.recovery.specs.Volume.{files_of, bytes_of}
-use Rattle.volume_files.specs.Dump.{rows_before, IsOnlyRead}
+use Rattle.volume_files.specs.Dump.{rows_before}
+use Rattle.volume_files.specs.inside.Reading.{IsOnlyRead}
 use Rattle.volume_files.proofs.listing.write_rows.Given as goal
 
 abbrev pub invariant-loop-page : goal.invariant-loop-page

@@ -1,7 +1,7 @@
 use Rattle.std.proofs.Common.{◌≡◌, length, sym, ◌∙◌, subst, arith}
 use Rattle.std.proofs.lemmas.Bool.{false≢true}
 use Rattle.service.specs.Serving.{SharedState}
-use Rattle.service.specs.Gathering.{ServesFrom}
+use Rattle.service.specs.inside.Gathering.{ServesFrom}
 use Rattle.service.proofs.Traces.{one_longer}
 use Rattle.service.proofs.locked.Locked.call.Goals as goal
 
