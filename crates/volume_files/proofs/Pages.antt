@@ -4,11 +4,11 @@ use Rattle.std.proofs.lemmas.Bool.{cases_lt}
 use Rattle.std.proofs.lemmas.List.{take_min, drop-drop, drop_all, take-take, drop-take}
 use Rattle.std.specs.Io.KnownBytes.{Appends}
 use Rattle.volume_files.specs.Dump.{row_of, row_line, rows_before, row_count}
-use Rattle.volume_files.specs.inside.Pages.{page_of, rows_at}
+use Rattle.volume_files.specs.inside.Pages.{part_of, rows_at}
 use Rattle.volume_files.proofs.Appending.{appends_both}
 
 -- row k of page p is row 256 p + k
-row_of_page : (bytes : List ℕ) (p k : ℕ) → k < 256 → row_of (page_of bytes p) k ≡ row_of bytes (256 * p + k)
+row_of_page : (bytes : List ℕ) (p k : ℕ) → k < 256 → row_of (part_of bytes p) k ≡ row_of bytes (256 * p + k)
 row_of_page bytes p k lt =
     let xs = drop (4096 * p) bytes in
     let rest = 4096 - 16 * k in
@@ -20,13 +20,13 @@ row_of_page bytes p k lt =
     ∙ ap (λ n. take 16 (drop n bytes)) (omega arith)
 
 -- the rows before page p, and k rows of it
-pub rows_of_page : (bytes : List ℕ) (p k : ℕ) → k ≤ 256 → rows_before bytes (256 * p) ++ rows_at (4096 * p) (page_of bytes p) k ≡ rows_before bytes (256 * p + k)
+pub rows_of_page : (bytes : List ℕ) (p k : ℕ) → k ≤ 256 → rows_before bytes (256 * p) ++ rows_at (4096 * p) (part_of bytes p) k ≡ rows_before bytes (256 * p + k)
 rows_of_page bytes p zero le =
     let none : 256 * p ≡ 256 * p + zero = omega arith in
     append-nil (rows_before bytes (256 * p)) ∙ ap (rows_before bytes) none
 rows_of_page bytes p (suc k) le =
     let n = 256 * p + k in
-    let page = page_of bytes p in
+    let page = part_of bytes p in
     let place : 4096 * p + 16 * k ≡ 16 * n = omega arith in
     let more : suc n ≡ 256 * p + suc k = omega arith in
     sym (append_assoc (rows_before bytes (256 * p)) (rows_at (4096 * p) page k) (row_line (4096 * p + 16 * k) (row_of page k)))
@@ -48,7 +48,7 @@ rows_past bytes m (suc j) le =
     ∙ rows_past bytes m j le
 
 -- the bytes that are read for a page
-pub page_read : (xs : List ℕ) (page n part : ℕ) → length xs ≡ n → 4096 * page < n → part ≡ min (n - 4096 * page) 4096 → slice_range xs (4096 * page) (4096 * page + part) ≡ page_of xs page
+pub page_read : (xs : List ℕ) (page n part : ℕ) → length xs ≡ n → 4096 * page < n → part ≡ min (n - 4096 * page) 4096 → slice_range xs (4096 * page) (4096 * page + part) ≡ part_of xs page
 page_read xs page n part long below is =
     let few : 4096 * page + part - 4096 * page ≡ min 4096 (length (drop (4096 * page) xs)) = omega (arith, is, length-drop (4096 * page) xs, long) in
     ap (λ k. take k (drop (4096 * page) xs)) few ∙ take_min 4096 (drop (4096 * page) xs)
@@ -63,7 +63,7 @@ rows_to_next bytes p k le end = ⊎_elim
     end
 
 -- one page more
-pub page_more : (old mid new : Option (List ℕ)) (bytes : List ℕ) (p n : ℕ) (part : List ℕ) → length bytes ≡ n → 4096 * p < n → length part ≡ min (n - 4096 * p) 4096 → part ≡ page_of bytes p → Appends old mid (rows_before bytes (256 * p)) → Appends mid new (rows_at (4096 * p) part (row_count (length part))) → Appends old new (rows_before bytes (256 * (p + 1)))
+pub page_more : (old mid new : Option (List ℕ)) (bytes : List ℕ) (p n : ℕ) (part : List ℕ) → length bytes ≡ n → 4096 * p < n → length part ≡ min (n - 4096 * p) 4096 → part ≡ part_of bytes p → Appends old mid (rows_before bytes (256 * p)) → Appends mid new (rows_at (4096 * p) part (row_count (length part))) → Appends old new (rows_before bytes (256 * (p + 1)))
 page_more old mid new bytes p n part long below size is before this =
     let k = row_count (length part) in
     let some : k ≤ 256 = omega (arith, size) in
@@ -73,7 +73,7 @@ page_more old mid new bytes p n part long below size is before this =
     (λ (full : 4096 * p + 4096 < n). inl (omega (arith, full, size)))
     (λ (last : n ≤ 4096 * p + 4096). inr (omega (arith, last, size, below, long)))
     (cases_lt (4096 * p + 4096) n) in
-    subst Q (rows_of_page bytes p k some ∙ rows_to_next bytes p k some end) (appends_both old mid new (rows_before bytes (256 * p)) (rows_at (4096 * p) (page_of bytes p) k) before (subst P is this))
+    subst Q (rows_of_page bytes p k some ∙ rows_to_next bytes p k some end) (appends_both old mid new (rows_before bytes (256 * p)) (rows_at (4096 * p) (part_of bytes p) k) before (subst P is this))
 
 -- a row of a page, as it is cut out of it
 pub row_cut : (bytes : List ℕ) (n to : ℕ) → 16 * n < length bytes → to ≡ min (length bytes) (16 * n + 16) → slice_range bytes (16 * n) to ≡ row_of bytes n

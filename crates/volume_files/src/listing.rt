@@ -6,7 +6,7 @@ ghost use Rattle.volume_codec.specs.Files.{File};
 ghost use Rattle.recovery.specs.Volume.{files_of, bytes_of};
 ghost use Rattle.volume_files.specs.Dump.{row_text, row_line, rows_before, row_count, file_text, dump_text};
 ghost use Rattle.volume_files.specs.inside.Reading.{IsOnlyRead, AreFilesOf};
-ghost use Rattle.volume_files.specs.inside.Pages.{page_of, rows_at};
+ghost use Rattle.volume_files.specs.inside.Pages.{part_of, rows_at};
 
 use device::Device;
 use page_entry::{PAGE, Refusal};
@@ -145,7 +145,7 @@ fn read_page<D: Device + Drop, A: Allocator + Copy>(
     requires room { length part.old ≡ min (bytes - 4096 * page) 4096 }
     requires files { D.is_honest volume.old.device → AreFilesOf volume.old (D.seen volume.old.device) }
     ensures page { D.is_honest volume.old.device → OnOk result
-        (part.new ≡ page_of (bytes_of (files_of volume.old.table (D.seen volume.old.device)) file) page) }
+        (part.new ≡ part_of (bytes_of (files_of volume.old.table (D.seen volume.old.device)) file) page) }
     ensures read { IsOnlyRead D.Device volume.old volume.new }
 {
     volume.read_file(file, PAGE * page, part)

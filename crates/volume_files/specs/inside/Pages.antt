@@ -2,9 +2,9 @@
 use Rattle.std.specs.Prelude.{ℕ, zero, suc, ◌+◌, ◌*◌, List, [], ◌++◌, take, drop}
 use Rattle.volume_files.specs.Dump.{row_line, row_of}
 
--- page n of these bytes, or what there is of it
-abbrev pub page_of : List ℕ → ℕ → List ℕ
-page_of bytes n = take 4096 (drop (4096 * n) bytes)
+-- the part of these bytes that is page n, or what there is of it
+abbrev pub part_of : List ℕ → ℕ → List ℕ
+part_of bytes n = take 4096 (drop (4096 * n) bytes)
 
 -- the lines of the first n rows of these bytes, which begin at this offset of a file
 abbrev pub rows_at : ℕ → List ℕ → ℕ → List ℕ

@@ -1,7 +1,7 @@
 use Rattle.std.proofs.Common.{rules, ◌≡◌, ℕ, ◌-◌, ◌*◌, ◌<◌, ◌≤◌, List, length, min, ap, subst, ◌∙◌}
 use Rattle.std.specs.Io.KnownBytes.{Appends}
 use Rattle.recovery.specs.Volume.{files_of, bytes_of}
-use Rattle.volume_files.specs.inside.Pages.{page_of}
+use Rattle.volume_files.specs.inside.Pages.{part_of}
 use Rattle.volume_files.proofs.Dumped.{length_of_file, files_read, read_then}
 use Rattle.volume_files.proofs.Pages.{page_more, rows_all}
 use Rattle.volume_files.proofs.listing.write_rows.Goals as goal
@@ -21,7 +21,7 @@ loop-page-preserved g c =
           let long = length_of_file old seen file c.args.bytes (c.requires.files honest) c.requires.long in
           let below : 4096 * page < c.args.bytes = search rules in
           let size : length c.read_page.new.part ≡ min (c.args.bytes - 4096 * page) 4096 = search rules in
-          let is = c.in_default.ensures.page (before.0.honest.1 honest) ∙ ap (λ files. page_of (bytes_of files file) page) (files_read g.D.Device old mid before.0 honest) in
+          let is = c.in_default.ensures.page (before.0.honest.1 honest) ∙ ap (λ files. part_of (bytes_of files file) page) (files_read g.D.Device old mid before.0 honest) in
           page_more (contents c.args.out.now) (contents c.loop-page.out) (contents c.write_page.new.out) bytes page c.args.bytes c.read_page.new.part long below size is (before.1 honest) c.in_ok-write_page.ensures,
     )
 
