@@ -4,7 +4,6 @@
 #[cfg(test)]
 mod replays;
 #[cfg(test)]
-mod runs_on_files;
 #[cfg(test)]
 mod tests;
 #[cfg(test)]

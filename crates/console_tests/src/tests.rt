@@ -225,49 +225,14 @@ const SHAPE: &str = r#""cpus":1,"tlb":8,"frames":4,"copies":0"#;
 
 // Writes a script with that shape and these steps.
 fn writes_script<R: Host>(rt: &R, path: &str, steps: &[&str]) -> bool {
-    writes_shaped(rt, path, SHAPE, steps)
-}
-
-// Lists of steps, and what each prints.
-const ANSWERED: &[(&str, &str)] = &[
-    ("", ""),
-    (r#"[0,"create"]"#, "space 1\n"),
-    // Nothing was stored: the mark is durable at once.
-    (
-        r#"[0,"create"],[0,"map",1,4096,12288,0,0,"rw","rw"],[0,"switch",1,"drop"],[0,"msync",4096,4096,4],[0,"change"],[0,"flush"]"#,
-        "space 1\nmapped\nswitched\nbegun\nmarked 1\nnothing\n",
-    ),
-    // A store, and a load that reads it.
-    (
-        r#"[0,"create"],[0,"map",1,4096,12288,0,0,"w","rw"],[0,"switch",1,"keep"],[0,"store",4096,[65]],[0,"fix",4096,"write"],[0,"store",4096,[65]],[0,"load",4096,1],[0,"load",4095,2]"#,
-        "space 1\nmapped\nswitched\nfault 6\nfixed\nstored\nbytes 65\neinval\n",
-    ),
-    // A page of another file is read in before the commit.
-    (
-        r#"[0,"create"],[0,"map",1,4096,12288,0,0,"rw","rw"],[0,"map",1,16384,4096,1,0,"r","r"],[0,"switch",1,"drop"],[0,"store",4096,[65]],[0,"fix",4096,"write"],[0,"store",4096,[65]],[0,"fix",16384,"read"],[0,"msync",4096,4096,4],[0,"change"],[0,"flush"],[0,"flush"],[0,"flush"],[0,"flush"],[0,"flush"],[0,"flush"],[0,"flush"],[0,"flush"],[0,"flush"],[0,"flush"]"#,
-        "space 1\nmapped\nmapped\nswitched\nfault 6\nfixed\nstored\nfixed\nbegun\nmarked 1\ngoing\ngoing\ngoing\ngoing\ncommitted 1\ngoing\ngoing\ngoing\ndone 1\nnothing\n",
-    ),
-    // Numbers in the ranges of scripts that the machine refuses.
-    (
-        r#"[255,"flush"],[0,"switch",65535,"keep"],[0,"load",18446744073709551615,255],[0,"store",0,[]],[0,"msync",0,18446744073709551615,255],[0,"map",65535,1,1,65535,1,"r","rw"]"#,
-        "einval\neinval\neinval\neinval\neinval\neinval\n",
-    ),
-];
-
-// Steps on a fresh volume, each list with what it prints.
-#[test]
-fn steps_are_answered(rt: HostRuntime) {
-    for &(steps, replies) in ANSWERED {
-        assert!(rt; answers(&rt, steps, replies), "{steps}");
+    match joined(rt.alloc(), steps) {
+        Ok(steps) => writes(
+            rt,
+            path,
+            &["{", SHAPE, ",\"steps\":[", steps.as_str(), "]}"],
+        ),
+        Err(_) => false,
     }
-    assert!(rt; removes(&rt, &["steps.img", "steps.json"]));
-}
-
-// Whether steps on a fresh volume are answered so.
-fn answers<R: Host>(rt: &R, steps: &str, replies: &str) -> bool {
-    makes_volume(rt, "steps.img")
-        && writes_script(rt, "steps.json", &[steps])
-        && prints(rt, "run|steps.img|steps.json", 0, &[replies], &[])
 }
 
 // Scripts that are read in spite of how they look.
@@ -798,40 +763,6 @@ const BOTH_CLOSED: [(usize, u8); 9] = [
 const DUMP_OF_TWO: &str =
     "a 5000\n000000000000 42 00 00 00 00 00 00 00 00 00 00 00 00 00 00 00\nb 4096\n";
 
-// A commit, and a second one while the first isn't applied yet.
-const TWO_COMMITS: &str =
-    r#"[0,"create"],[0,"map",1,4096,12288,0,0,"rw","rw"],[0,"switch",1,"drop"],[0,"store",4096,[65]],[0,"fix",4096,"write"],[0,"store",4096,[65]],[0,"msync",4096,4096,1],[0,"change"],[0,"flush"],[0,"flush"],[0,"flush"],[0,"flush"],[0,"flush"],[0,"store",4096,[66]],[0,"fix",4096,"write"],[0,"store",4096,[66]],[0,"msync",4096,4096,1],[0,"change"],[0,"flush"],[0,"flush"],[0,"flush"],[0,"flush"],[0,"flush"],[0,"msync",4096,4096,1]"#;
-
-const TWO_COMMITTED: &str =
-    "space 1\nmapped\nswitched\nfault 6\nfixed\nstored\nbegun\nmarked 1\ngoing\ngoing\ngoing\ngoing\ncommitted 1\nfault 7\nfixed\nstored\nbegun\nmarked 2\ngoing\ngoing\ngoing\ngoing\ncommitted 2\nbusy\n";
-
-// Their applications.
-const TWO_FLUSHES: &str =
-    r#"[0,"flush"],[0,"flush"],[0,"flush"],[0,"flush"],[0,"flush"],[0,"flush"],[0,"flush"],[0,"flush"],[0,"flush"]"#;
-
-const TWO_DONE: &str = "going\ngoing\ngoing\ndone 1\ngoing\ngoing\ngoing\ndone 2\nnothing\n";
-
-// Whether steps on a fresh volume of layout 2 are answered so, and it then has the second commit's byte.
-fn follows<R: Host>(rt: &R, steps: &[&str], replies: &[&str]) -> bool {
-    let make = "format|--layout|2|follows.img|4|a=5000|b=4096";
-    prints(rt, make, 0, &["formatted 16 blocks\n"], &[])
-        && writes_script(rt, "follows.json", steps)
-        && prints(rt, "run|follows.img|follows.json", 0, replies, &[])
-        && prints(rt, "dump|follows.img", 0, &[DUMP_OF_TWO], &[])
-}
-
-// A second commit while the first isn't applied yet: each in a journal of its own.
-#[test]
-fn a_commit_follows_one_that_is_not_applied(rt: HostRuntime) {
-    // The run ends with both journals open: their marks are 1 and 2, and home block 13 has its old bytes.
-    assert!(rt; follows(&rt, &[TWO_COMMITS], &[TWO_COMMITTED]));
-    assert!(rt; holds_image_of_two(&rt, "follows.img", &BOTH_OPEN));
-
-    let steps = [TWO_COMMITS, ",", TWO_FLUSHES];
-    assert!(rt; follows(&rt, &steps, &[TWO_COMMITTED, TWO_DONE]));
-    assert!(rt; removes(&rt, &["follows.img", "follows.json"]));
-}
-
 // Help and the version are printed with status 0.
 #[test]
 fn help_is_printed(rt: HostRuntime) {
@@ -1048,181 +979,6 @@ fn is_dumped_as<R: Host>(rt: &R, image: &[u8], text: &str) -> bool {
     fs::write(rt, "dumped.img", image).is_ok()
         && prints(rt, "dump|dumped.img", 0, &[text], &[])
         && holds(rt, "dumped.img", image)
-}
-
-// The members of a script of two processors but for its steps.
-pub(crate) const TWO: &str = r#""cpus":2,"tlb":8,"frames":4,"copies":2"#;
-
-// Two processors share space 1: file `a` is mapped at 4,096, file `b` at 16,384.
-const START: &str =
-    r#"[0,"create"],[0,"map",1,4096,12288,0,0,"rw","rw"],[0,"map",1,16384,4096,1,0,"rw","rw"],[0,"switch",1,"drop"],[1,"switch",1,"drop"]"#;
-
-const STARTED: &str = "space 1\nmapped\nmapped\nswitched\nswitched\n";
-
-// Processor 0 stores 65 at the start of `a`.
-const STORE: &str = r#"[0,"store",4096,[65]],[0,"fix",4096,"write"],[0,"store",4096,[65]]"#;
-
-const STORED: &str = "fault 6\nfixed\nstored\n";
-
-// Whether these steps, after the start of two processors on a fresh volume, are answered so, and the volume then has this
-// dump.
-fn two_processors<R: Host>(
-    rt: &R,
-    name: &str,
-    shape: &str,
-    steps: &str,
-    replies: &str,
-    dump: &str,
-) -> bool {
-    let steps = [START, ",", steps];
-    is_answered(rt, name, shape, &steps, &[STARTED, replies], dump)
-}
-
-// Whether these steps on a fresh volume are answered so, and the volume then has this dump.
-pub(crate) fn is_answered<R: Host>(
-    rt: &R,
-    name: &str,
-    shape: &str,
-    steps: &[&str],
-    replies: &[&str],
-    dump: &str,
-) -> bool {
-    match joined(rt.alloc(), &[name, ".img"]) {
-        Ok(disk) => is_answered_on(rt, disk.as_str(), name, shape, steps, replies, dump),
-        Err(_) => false,
-    }
-}
-
-// Whether they are on this disk.
-fn is_answered_on<R: Host>(
-    rt: &R,
-    disk: &str,
-    name: &str,
-    shape: &str,
-    steps: &[&str],
-    replies: &[&str],
-    dump: &str,
-) -> bool {
-    match joined(rt.alloc(), &[name, ".json"]) {
-        Ok(text) => {
-            answers_on(rt, disk, text.as_str(), shape, steps, replies)
-                && has_dump(rt, disk, dump)
-                && removes(rt, &[disk, text.as_str()])
-        }
-        Err(_) => false,
-    }
-}
-
-// Whether a script of these steps, in this file, is answered so on a fresh volume.
-fn answers_on<R: Host>(
-    rt: &R,
-    disk: &str,
-    text: &str,
-    shape: &str,
-    steps: &[&str],
-    replies: &[&str],
-) -> bool {
-    makes_volume(rt, disk)
-        && writes_shaped(rt, text, shape, steps)
-        && run(rt, &["famsync", "run", disk, text]).is(0, replies, &[])
-}
-
-// Writes a script of this shape and these steps.
-fn writes_shaped<R: Host>(rt: &R, path: &str, shape: &str, steps: &[&str]) -> bool {
-    match joined(rt.alloc(), steps) {
-        Ok(steps) => writes(
-            rt,
-            path,
-            &["{", shape, ",\"steps\":[", steps.as_str(), "]}"],
-        ),
-        Err(_) => false,
-    }
-}
-
-// Whether a volume has this dump.
-fn has_dump<R: Host>(rt: &R, disk: &str, dump: &str) -> bool {
-    run(rt, &["famsync", "dump", disk]).is(0, &[dump], &[])
-}
-
-// A commit waits until the other processor stalls; what that stored before is in it, and what it stores after faults.
-#[test]
-fn a_commit_stalls_the_other_processor(rt: HostRuntime) {
-    let steps = [
-        START,
-        ",",
-        STORE,
-        r#",[1,"load",4096,1],[0,"msync",4096,4096,4],[1,"store",4097,[66]],[0,"change"],[1,"ack"],[1,"store",4098,[67]],[0,"change"],[1,"resume"],[1,"store",4098,[67]],[0,"flush"],[0,"flush"],[0,"flush"],[0,"flush"],[0,"flush"]"#,
-    ];
-    let replies = [
-        STARTED,
-        STORED,
-        "bytes 65\nbegun\nstored\nnotyet 1\nacked\nstalled\nmarked 1\nresumed\nfault 7\ngoing\ngoing\ngoing\ngoing\ncommitted 1\n",
-    ];
-    let dump = "a 5000\n000000000000 41 42 00 00 00 00 00 00 00 00 00 00 00 00 00 00\nb 4096\n";
-    assert!(rt; is_answered(&rt, "stalls", TWO, &steps, &replies, dump));
-}
-
-// An unmap and a change of rights, each with its shootdown; and every act and reply that no other test has.
-#[test]
-fn mappings_change_by_shootdowns(rt: HostRuntime) {
-    let dump = "a 5000\nb 4096\n";
-    let unmap =
-        r#"[0,"unmap",1,8192,4096],[1,"ack"],[0,"change"],[1,"resume"],[0,"load",8192,1],[0,"fix",8192,"read"],[0,"unmap",1,65536,4096]"#;
-    let unmapped = "begun\nacked\nunmapped\nresumed\nfault 4\nsegvmaperr\nfine\n";
-    assert!(rt; two_processors(&rt, "unmap", TWO, unmap, unmapped, dump));
-
-    let protect =
-        r#"[0,"protect",1,4096,4096,"r"],[1,"ack"],[0,"change"],[1,"resume"],[0,"fix",4096,"read"],[0,"load",4096,1],[0,"store",4096,[1]],[0,"fix",4096,"write"]"#;
-    let protected = "begun\nacked\nprotected\nresumed\nfixed\nbytes 0\nfault 7\nsegvaccerr\n";
-    assert!(rt; two_processors(&rt, "protect", TWO, protect, protected, dump));
-
-    let sleep =
-        r#"[1,"idle"],[0,"msync",4096,4096,4],[1,"wake"],[0,"change"],[1,"wake"],[1,"wake"],[0,"ack"],[0,"resume"]"#;
-    let slept = "idled\nbegun\nlocked\nmarked 1\nwoken\nnothing\nnothing\nnothing\n";
-    assert!(rt; two_processors(&rt, "sleep", TWO, sleep, slept, dump));
-
-    let tlb =
-        r#"[0,"fix",16384,"read"],[0,"fill",4],[0,"evict",0],[0,"evict",0],[0,"fill",1],[0,"create"],[0,"destroy",2],[0,"destroy",1]"#;
-    let cached = "fixed\nfilled\nevicted\nnothing\nnothing\nspace 2\ndestroyed\nbusy\n";
-    assert!(rt; two_processors(&rt, "tlb", TWO, tlb, cached, dump));
-
-    let reclaim =
-        r#"[0,"fix",16384,"read"],[0,"reclaim",1,0],[1,"ack"],[0,"change"],[1,"resume"],[0,"reclaim",1,0],[0,"load",16384,1]"#;
-    let reclaimed = "fixed\nbegun\nacked\nreclaimed\nresumed\nnothing\nfault 4\n";
-    assert!(rt; two_processors(&rt, "reclaim", TWO, reclaim, reclaimed, dump));
-}
-
-// A page is mapped twice: a store through one mapping is read through the other; and what is stored after the mark, in a copy
-// of the page, isn't in the commit.
-#[test]
-fn an_alias_sees_stores(rt: HostRuntime) {
-    let steps =
-        r#"[0,"map",1,32768,4096,1,0,"rw","rw"],[0,"store",16384,[1]],[0,"fix",16384,"write"],[0,"store",16384,[1]],[1,"load",32768,1],[1,"fix",32768,"read"],[1,"load",32768,1],[0,"msync",4096,4096,4],[1,"ack"],[0,"change"],[1,"resume"],[1,"store",32768,[2]],[1,"fix",32768,"write"],[1,"store",32768,[2]],[0,"load",16384,1],[0,"flush"],[0,"flush"],[0,"flush"],[0,"flush"],[0,"flush"]"#;
-    let replies =
-        "mapped\nfault 6\nfixed\nstored\nfault 4\nfixed\nbytes 1\nbegun\nacked\nmarked 1\nresumed\nfault 7\nfixed\nstored\nbytes 2\ngoing\ngoing\ngoing\ngoing\ncommitted 1\n";
-    let dump = "a 5000\nb 4096\n000000000000 01 00 00 00 00 00 00 00 00 00 00 00 00 00 00 00\n";
-    assert!(rt; two_processors(&rt, "alias", TWO, steps, replies, dump));
-}
-
-// One copy frame: the first page that is stored to while it waits for its record takes it, and the second page is held until
-// the first record is written.
-#[test]
-fn copies_keep_pages_of_a_commit(rt: HostRuntime) {
-    let shape = r#""cpus":2,"tlb":8,"frames":4,"copies":1"#;
-    let steps =
-        r#"[0,"fix",4096,"write"],[0,"store",4096,[1]],[0,"fix",16384,"write"],[0,"store",16384,[1]],[0,"msync",4096,4096,1],[1,"ack"],[0,"change"],[1,"resume"],[0,"store",4096,[2]],[0,"fix",4096,"write"],[0,"store",4096,[2]],[0,"store",16384,[2]],[0,"fix",16384,"write"],[0,"flush"],[0,"fix",16384,"write"],[0,"store",16384,[2]],[0,"msync",4096,4096,1],[0,"flush"],[0,"flush"],[0,"flush"],[0,"flush"],[0,"flush"]"#;
-    let replies =
-        "fixed\nstored\nfixed\nstored\nbegun\nacked\nmarked 1\nresumed\nfault 7\nfixed\nstored\nfault 7\nheld\ngoing\nfixed\nstored\nbusy\ngoing\ngoing\ngoing\ngoing\ncommitted 1\n";
-    let dump =
-        "a 5000\n000000000000 01 00 00 00 00 00 00 00 00 00 00 00 00 00 00 00\nb 4096\n000000000000 01 00 00 00 00 00 00 00 00 00 00 00 00 00 00 00\n";
-    assert!(rt; two_processors(&rt, "copies", shape, steps, replies, dump));
-}
-
-// A processor that isn't there is the machine's refusal, and none of the script's.
-#[test]
-fn a_processor_that_is_not_there_is_answered(rt: HostRuntime) {
-    let dump = "a 5000\nb 4096\n";
-    assert!(rt; two_processors(&rt, "absent", TWO, r#"[2,"idle"]"#, "einval\n", dump));
 }
 
 // A writer that looks at a disk file when it is flushed after this line, and then may cut the file off.

@@ -61,9 +61,8 @@ fn is_at<L: Origin<Disk>, R: Wait>(
     cpu.look(rt) == look && cpu.calls() == calls && cpu.horizon(rt) == horizon
 }
 
-// Whether the first three calls to two processors are answered as they are by a machine, with a mark of no stores, and
-// whether a wait sees them.
-fn calls_three<L: Origin<Disk>, R: Wait>(
+// Whether the first call to the second of two processors is answered as it is by a machine, and whether a wait sees it.
+fn calls_one<L: Origin<Disk>, R: Wait>(
     rt: &R,
     first: &mut Cpu<Disk, Global, L>,
     second: &mut Cpu<Disk, Global, L>,
@@ -75,7 +74,11 @@ fn calls_three<L: Origin<Disk>, R: Wait>(
         && first.wait(rt, 0, 1)
         && !first.wait(rt, 1, 40)
         && is_at(rt, second, (ProcState::Idle, 1), 1, (0, 0))
-        && first.call(rt, MSYNC) == Reply::Begun
+}
+
+// Whether two calls to the first processor then are so, too: a mark of no stores.
+fn calls_two_more<L: Origin<Disk>, R: Wait>(rt: &R, first: &mut Cpu<Disk, Global, L>) -> bool {
+    first.call(rt, MSYNC) == Reply::Begun
         && is_at(rt, first, (ProcState::Initiating, 2), 1, (0, 0))
         && first.call(rt, Act::Change) == Reply::Marked(1)
 }
@@ -98,7 +101,8 @@ fn fills<L: Origin<Disk>, R: Wait>(rt: &R, cpus: &mut [Cpu<Disk, Global, L>]) ->
     let [first, second] = cpus else {
         return false;
     };
-    calls_three(rt, first, second)
+    calls_one(rt, first, second)
+        && calls_two_more(rt, first)
         && have_made_three(rt, first, second)
         && first.call(rt, Act::Create) == FULL
         && second.call(rt, Act::Wake) == FULL

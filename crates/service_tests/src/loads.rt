@@ -42,8 +42,8 @@ fn are_entered(machine: &mut Trial, count: u64, wanted: &Reply) -> bool {
 
 fn enter<R: Abort + AllocGlobal>(rt: &R, count: u64) {
     let mut machine = booted(rt, rt.alloc(), 1);
-    for act in PREPARED {
-        machine.enter(&Step { p: 0, act });
+    for act in &PREPARED {
+        machine.enter(&Step { p: 0, act: *act });
     }
     let zero = Reply::Bytes(FewBytes::new(&[0]).expect(rt, "a byte"));
     assert!(rt; are_entered(&mut machine, count, &zero));
@@ -78,8 +78,8 @@ fn call<L: Origin<Disk>, R: Wait + Abort + AllocGlobal>(
 {
     let (_service, mut cpus) = started::<L, R>(rt, machine, CAPACITY, blank);
     assert!(rt; cpus.len() == 1);
-    for act in PREPARED {
-        cpus[0].call(rt, act);
+    for act in &PREPARED {
+        cpus[0].call(rt, *act);
     }
     let zero = Reply::Bytes(FewBytes::new(&[0]).expect(rt, "a byte"));
     assert!(rt; are_called(rt, &mut cpus[0], count, &zero));

@@ -229,14 +229,14 @@ fn is_whole(trace: &[Entry], seen: (u64, u64)) -> bool {
 }
 
 // Whether another machine, booted on an equal disk, answers a trace in the same way, and leaves the same bytes.
-fn is_same(machine: &Trial, again: &mut Trial, trace: &[Entry]) -> bool {
-    replays(again, trace) && again.device().bytes() == machine.device().bytes()
+fn is_same<R: Abort + AllocGlobal>(rt: &R, machine: &Trial, trace: &[Entry]) -> bool {
+    let mut again = booted(rt, rt.alloc(), THREADS);
+    replays(&mut again, trace) && again.device().bytes() == machine.device().bytes()
 }
 
 #[test]
 fn the_trace_of_threads_is_replayed(rt: HostRuntime) {
     let (machine, trace, seen) = served(&rt);
-    let mut again = booted(&rt, rt.alloc(), THREADS);
     assert!(rt; is_whole(trace.as_slice(), seen));
-    assert!(rt; is_same(&machine, &mut again, trace.as_slice()));
+    assert!(rt; is_same(&rt, &machine, trace.as_slice()));
 }
