@@ -263,7 +263,10 @@ fn forget(may_cache: &mut [bool], action: Invpcid, space: Pcid)
                 may_cache[pcid as usize] = false;
             }
         }
-        Invpcid::AllContextsAndGlobals | Invpcid::AllContexts => clear_others(may_cache, space as usize),
+        Invpcid::AllContextsAndGlobals | Invpcid::AllContexts => clear_others(
+            may_cache,
+            space as usize,
+        ),
     }
 }
 

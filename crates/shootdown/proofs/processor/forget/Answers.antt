@@ -24,4 +24,3 @@ returns-else-pcid-space c = rw c.in-SingleContext.is (elim c.else-pcid-space.bra
   | else-pcid-space-via-then-pcid-space+else-pcid-may_cache w ↦ flags_kept_all _ _ (λ k within. grind (arith, nat_tests))
   | else-pcid-space-via-else-pcid-space w ↦ flags_kept_all _ _ (λ k within. grind (arith, nat_tests))
 ])
-
