@@ -1,4 +1,4 @@
-use Rattle.std.proofs.Common.{ℕ, ◌+◌, ◌-◌, ◌*◌, ◌≡◌, ◌<◌, ◌≤◌, Some, None, refl, sym, arith}
+use Rattle.std.proofs.Common.{◌+◌, ◌-◌, Some, None, refl, sym, arith}
 use Rattle.journal.specs.declared.stage.Stage.TheVariants.{Recording, Describing, SyncingRecords, Opening, Committing, Applying, SyncingHomes, Closing, Finishing}
 use Rattle.journal.proofs.Stages.{stage_from}
 use Rattle.journal.proofs.stage.stage_at.Goals as goal
