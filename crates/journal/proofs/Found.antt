@@ -13,7 +13,7 @@ use Rattle.journal.specs.Recovered.{RecoversBy}
 use Rattle.journal.specs.inside.Sound.{IsWriteOut, IsOlder, AreInOrder}
 use Rattle.journal.specs.inside.Tied.{open_in, stage_in, IsSeen, IsLeft, IsTied}
 use Rattle.journal.specs.inside.Finishing.{made, found_in}
-use Rattle.journal.proofs.Alls.{all_map, all-append}
+use Rattle.journal.proofs.Alls.{all-append}
 use Rattle.journal.proofs.Batches.{open_of-at, open_in-newest, committed-at}
 use Rattle.journal.proofs.Stages.{stage_from}
 use Rattle.journal.proofs.Sounding.{some_stage, order-push}

@@ -6,39 +6,40 @@ use Rattle.std.proofs.lemmas.List.{get_or_default, length-map}
 use Rattle.journal.specs.WriteOut.{WriteOut, has_committed, advanced_of, begun_of}
 use Rattle.journal.specs.declared.flushed.Flushed.{Flushed}
 use Rattle.journal.specs.declared.flushed.Flushed.TheVariants.{Going, Committed, Done, Device, Broken}
-use Rattle.journal.specs.WriteOut.{FlushValue, flush_of, flush_after, broken_after}
+use Rattle.journal.specs.WriteOut.{broken_after}
+use Rattle.journal.specs.inside.Listed.{ListedWriteOut, listed_of, listed_after}
 use Rattle.journal.specs.WriteOuts.{WriteOutsValue, has_uncommitted, current, advanced, following, next_batch, begun, batches_after, outs_after}
 use Rattle.journal.specs.inside.Sound.{AreInOrder, IsSound}
-use Rattle.journal.specs.inside.Room.{write_outs_in, IsOneOf, IsCurrent, HasRoom, kept_after, spare_after}
-use Rattle.journal.proofs.Alls.{all_map, all-append, all_front, all_back, all_at}
+use Rattle.journal.specs.inside.Room.{write_outs_in, IsCurrent, HasRoom, kept_after, spare_after}
+use Rattle.journal.proofs.Alls.{all-append, all_front, all_back, all_at}
 
 -- ---- the write-outs in the code's list
 
-get-write_outs : (flushes : List FlushValue) (i : ℕ) (d : FlushValue) → get_or (write_outs_in flushes) i d.write_out ≡ (get_or flushes i d).write_out
+get-write_outs : (listed : List ListedWriteOut) (i : ℕ) (d : ListedWriteOut) → get_or (write_outs_in listed) i d.write_out ≡ (get_or listed i d).write_out
 get-write_outs [] i d = refl
-get-write_outs (f ∷ flushes) zero d = refl
-get-write_outs (f ∷ flushes) (suc i) d = get-write_outs flushes i d
+get-write_outs (f ∷ listed) zero d = refl
+get-write_outs (f ∷ listed) (suc i) d = get-write_outs listed i d
 
-pub length-write_outs : (flushes : List FlushValue) → length (write_outs_in flushes) ≡ length flushes
-length-write_outs flushes = length-map flushes (λ f. f.write_out)
+pub length-write_outs : (listed : List ListedWriteOut) → length (write_outs_in listed) ≡ length listed
+length-write_outs listed = length-map listed (λ f. f.write_out)
 
 -- what stands at a place
-pub at_place : (flushes : List FlushValue) (i : ℕ) (f : FlushValue) → i < length flushes → f ≡ get_or flushes i f → (d : WriteOut) → get_or (write_outs_in flushes) i d ≡ f.write_out
-at_place flushes i f lt is d =
-    get_or_default (write_outs_in flushes) i d f.write_out (omega (arith, lt, length-write_outs flushes)) ∙ get-write_outs flushes i f ∙ ap (λ (x : FlushValue). x.write_out) (sym is)
+pub at_place : (listed : List ListedWriteOut) (i : ℕ) (f : ListedWriteOut) → i < length listed → f ≡ get_or listed i f → (d : WriteOut) → get_or (write_outs_in listed) i d ≡ f.write_out
+at_place listed i f lt is d =
+    get_or_default (write_outs_in listed) i d f.write_out (omega (arith, lt, length-write_outs listed)) ∙ get-write_outs listed i f ∙ ap (λ (x : ListedWriteOut). x.write_out) (sym is)
 
 -- ---- a home block of one of them
 
-pub found_block : (flushes : List FlushValue) (i : ℕ) (f : FlushValue) (b : ℕ) → i < length flushes → f ≡ get_or flushes i f → Contains f.write_out.batch.homes b → (w : WriteOut) × Contains (write_outs_in flushes) w × Contains w.batch.homes b
-found_block flushes i f b lt is has = (f.write_out, (i, omega (arith, lt, length-write_outs flushes), at_place flushes i f lt is f.write_out), has)
+pub found_block : (listed : List ListedWriteOut) (i : ℕ) (f : ListedWriteOut) (b : ℕ) → i < length listed → f ≡ get_or listed i f → Contains f.write_out.batch.homes b → (w : WriteOut) × Contains (write_outs_in listed) w × Contains w.batch.homes b
+found_block listed i f b lt is has = (f.write_out, (i, omega (arith, lt, length-write_outs listed), at_place listed i f lt is f.write_out), has)
 
-pub no_block : (flushes : List FlushValue) (b : ℕ) → ((i : ℕ) (d : FlushValue) → i < length flushes → Contains (get_or flushes i d).write_out.batch.homes b → ⊥) → ((w : WriteOut) × Contains (write_outs_in flushes) w × Contains w.batch.homes b) → ⊥
-no_block flushes b none found = by flushes none found.0 found.1.0 found.1.1 found.1.2 found.2
+pub no_block : (listed : List ListedWriteOut) (b : ℕ) → ((i : ℕ) (d : ListedWriteOut) → i < length listed → Contains (get_or listed i d).write_out.batch.homes b → ⊥) → ((w : WriteOut) × Contains (write_outs_in listed) w × Contains w.batch.homes b) → ⊥
+no_block listed b none found = by listed none found.0 found.1.0 found.1.1 found.1.2 found.2
   where
-    by : (flushes : List FlushValue) → ((i : ℕ) (d : FlushValue) → i < length flushes → Contains (get_or flushes i d).write_out.batch.homes b → ⊥) → (w : WriteOut) (i : ℕ) → i < length (write_outs_in flushes) → get_or (write_outs_in flushes) i w ≡ w → Contains w.batch.homes b → ⊥
+    by : (listed : List ListedWriteOut) → ((i : ℕ) (d : ListedWriteOut) → i < length listed → Contains (get_or listed i d).write_out.batch.homes b → ⊥) → (w : WriteOut) (i : ℕ) → i < length (write_outs_in listed) → get_or (write_outs_in listed) i w ≡ w → Contains w.batch.homes b → ⊥
     by [] none w i lt is has = absurd (omega arith)
-    by (f ∷ flushes) none w zero lt is has = none 0 f (omega arith) (subst (λ (x : WriteOut). Contains x.batch.homes b) (sym is) has)
-    by (f ∷ flushes) none w (suc i) lt is has = by flushes (λ k d within. none (suc k) d (omega arith)) w i (omega arith) is has
+    by (f ∷ listed) none w zero lt is has = none 0 f (omega arith) (subst (λ (x : WriteOut). Contains x.batch.homes b) (sym is) has)
+    by (f ∷ listed) none w (suc i) lt is has = by listed (λ k d within. none (suc k) d (omega arith)) w i (omega arith) is has
 
 -- ---- the one whose step comes next
 
@@ -83,31 +84,30 @@ last_is_current batches n e ordered has = record {
 
 -- ---- a batch begins
 
-write_outs-push : (flushes : List FlushValue) (f : FlushValue) → write_outs_in (flushes ++ f ∷ []) ≡ write_outs_in flushes ++ f.write_out ∷ []
+write_outs-push : (listed : List ListedWriteOut) (f : ListedWriteOut) → write_outs_in (listed ++ f ∷ []) ≡ write_outs_in listed ++ f.write_out ∷ []
 write_outs-push [] f = refl
-write_outs-push (x ∷ flushes) f = ap (λ (l : List WriteOut). x.write_out ∷ l) (write_outs-push flushes f)
+write_outs-push (x ∷ listed) f = ap (λ (l : List WriteOut). x.write_out ∷ l) (write_outs-push listed f)
 
 -- the value's write-outs, as the code's list has them
-pub begun_view : (outs : WriteOutsValue) (flushes flushes' : List FlushValue) (mark : ℕ) (homes : List ℕ) (room next : ℕ) → outs.batches ≡ write_outs_in flushes → flushes' ≡ flushes ++ flush_of outs.geometry (next_batch outs mark homes) room ∷ []
-    → next ≡ following outs.geometry.layout outs.next → record outs { next = next; batches = write_outs_in flushes' } ≡ begun outs mark homes
-begun_view outs flushes flushes' mark homes room next are pushed turn =
-    let list : write_outs_in flushes' ≡ outs.batches ++ begun_of (next_batch outs mark homes) ∷ [] =
-    ap write_outs_in pushed ∙ write_outs-push flushes (flush_of outs.geometry (next_batch outs mark homes) room) ∙ ap (λ (l : List WriteOut). l ++ begun_of (next_batch outs mark homes) ∷ []) (sym are) in
+pub begun_view : (outs : WriteOutsValue) (listed listed' : List ListedWriteOut) (mark : ℕ) (homes : List ℕ) (room next : ℕ) → outs.batches ≡ write_outs_in listed → listed' ≡ listed ++ listed_of (next_batch outs mark homes) room ∷ []
+    → next ≡ following outs.geometry.layout outs.next → record outs { next = next; batches = write_outs_in listed' } ≡ begun outs mark homes
+begun_view outs listed listed' mark homes room next are pushed turn =
+    let list : write_outs_in listed' ≡ outs.batches ++ begun_of (next_batch outs mark homes) ∷ [] =
+    ap write_outs_in pushed ∙ write_outs-push listed (listed_of (next_batch outs mark homes) room) ∙ ap (λ (l : List WriteOut). l ++ begun_of (next_batch outs mark homes) ∷ []) (sym are) in
     λ i. record outs { next = turn i; batches = list i }
 
-pub begun_room : (outs : WriteOutsValue) (flushes flushes' : List FlushValue) (spare spare' : List ℕ) (flush_room flush_room' spare_room spare_room' : ℕ) (mark : ℕ) (homes : List ℕ) (list_room room : ℕ)
-    → HasRoom outs flushes flush_room spare spare_room → IsSound (begun outs mark homes) → flushes' ≡ flushes ++ flush_of outs.geometry (next_batch outs mark homes) room ∷ [] → spare ≡ spare' ++ list_room ∷ [] → list_room ≤ room
-    → flush_room ≤ flush_room' → spare_room ≤ spare_room' → HasRoom (begun outs mark homes) flushes' flush_room' spare' spare_room'
-begun_room outs flushes flushes' spare spare' flush_room flush_room' spare_room spare_room' mark homes list_room room has sound pushed popped bigger more more_spare =
+pub begun_room : (outs : WriteOutsValue) (listed listed' : List ListedWriteOut) (spare spare' : List ℕ) (listed_room listed_room' spare_room spare_room' : ℕ) (mark : ℕ) (homes : List ℕ) (list_room room : ℕ)
+    → HasRoom outs listed listed_room spare spare_room → IsSound (begun outs mark homes) → listed' ≡ listed ++ listed_of (next_batch outs mark homes) room ∷ [] → spare ≡ spare' ++ list_room ∷ [] → list_room ≤ room
+    → listed_room ≤ listed_room' → spare_room ≤ spare_room' → HasRoom (begun outs mark homes) listed' listed_room' spare' spare_room'
+begun_room outs listed listed' spare spare' listed_room listed_room' spare_room spare_room' mark homes list_room room has sound pushed popped bigger more more_spare =
     let rooms = subst (AllByRecursion (λ r. outs.geometry.slots ≤ r)) popped has.spare_are in
     record {
       sound = sound;
-      flushes_are = subst (AllByRecursion (IsOneOf (begun outs mark homes))) (sym pushed)
-          (all-append (IsOneOf (begun outs mark homes)) flushes (flush_of outs.geometry (next_batch outs mark homes) room ∷ [])
-          (all_map {P = IsOneOf outs} {Q = IsOneOf (begun outs mark homes)} (λ f is. record { geometry = is.geometry; whole = is.whole; room = is.room }) flushes has.flushes_are)
-          (record { geometry = refl; whole = λ e. refl; room = omega (arith, bigger, (all_back (λ r. outs.geometry.slots ≤ r) spare' (list_room ∷ []) rooms).0) }, tt));
+      listed_are = subst (AllByRecursion (λ (one : ListedWriteOut). outs.geometry.slots ≤ one.room)) (sym pushed)
+          (all-append (λ (one : ListedWriteOut). outs.geometry.slots ≤ one.room) listed (listed_of (next_batch outs mark homes) room ∷ []) has.listed_are
+          (omega (arith, bigger, (all_back (λ r. outs.geometry.slots ≤ r) spare' (list_room ∷ []) rooms).0), tt));
       spare_are = all_front (λ r. outs.geometry.slots ≤ r) spare' (list_room ∷ []) rooms;
-      count = omega (arith, has.count, ap length pushed, ap length popped, length-append flushes (flush_of outs.geometry (next_batch outs mark homes) room ∷ []), length-append spare' (list_room ∷ []));
+      count = omega (arith, has.count, ap length pushed, ap length popped, length-append listed (listed_of (next_batch outs mark homes) room ∷ []), length-append spare' (list_room ∷ []));
       room = omega (arith, has.room, more);
       spare_fits = omega (arith, has.spare_fits, more_spare);
     }
@@ -122,72 +122,58 @@ popped_last f old new o x is some = ap (map f) (is ∙ ap (λ (p : Option _). ne
 
 -- ---- a step
 
-write_outs-set : (flushes : List FlushValue) (i : ℕ) (f : FlushValue) → write_outs_in (set flushes i f) ≡ set (write_outs_in flushes) i f.write_out
+write_outs-set : (listed : List ListedWriteOut) (i : ℕ) (f : ListedWriteOut) → write_outs_in (set listed i f) ≡ set (write_outs_in listed) i f.write_out
 write_outs-set [] i f = refl
-write_outs-set (x ∷ flushes) zero f = refl
-write_outs-set (x ∷ flushes) (suc i) f = ap (λ (l : List WriteOut). x.write_out ∷ l) (write_outs-set flushes i f)
+write_outs-set (x ∷ listed) zero f = refl
+write_outs-set (x ∷ listed) (suc i) f = ap (λ (l : List WriteOut). x.write_out ∷ l) (write_outs-set listed i f)
 
 set-same : (batches : List WriteOut) (i : ℕ) (d : WriteOut) → i < length batches → set batches i (get_or batches i d) ≡ batches
 set-same [] i d lt = absurd (omega arith)
 set-same (w ∷ batches) zero d lt = refl
 set-same (w ∷ batches) (suc i) d lt = ap (λ (l : List WriteOut). w ∷ l) (set-same batches i d (omega arith))
 
-all-set : (P : FlushValue → Type 0) (flushes : List FlushValue) (i : ℕ) (f : FlushValue) → AllByRecursion P flushes → P f → AllByRecursion P (set flushes i f)
+all-set : (P : ListedWriteOut → Type 0) (listed : List ListedWriteOut) (i : ℕ) (f : ListedWriteOut) → AllByRecursion P listed → P f → AllByRecursion P (set listed i f)
 all-set P [] i f all is = tt
-all-set P (x ∷ flushes) zero f all is = (is, all.1)
-all-set P (x ∷ flushes) (suc i) f all is = (all.0, all-set P flushes i f all.1 is)
+all-set P (x ∷ listed) zero f all is = (is, all.1)
+all-set P (x ∷ listed) (suc i) f all is = (all.0, all-set P listed i f all.1 is)
 
-write_outs-rest : (flushes : List FlushValue) (i : ℕ) (f : FlushValue) → i ≡ 0 → write_outs_in (drop 1 (set flushes i f)) ≡ drop 1 (write_outs_in flushes)
-write_outs-rest flushes i f first = ap (λ k. write_outs_in (drop 1 (set flushes k f))) first ∙ by flushes
+write_outs-rest : (listed : List ListedWriteOut) (i : ℕ) (f : ListedWriteOut) → i ≡ 0 → write_outs_in (drop 1 (set listed i f)) ≡ drop 1 (write_outs_in listed)
+write_outs-rest listed i f first = ap (λ k. write_outs_in (drop 1 (set listed k f))) first ∙ by listed
   where
-    by : (l : List FlushValue) → write_outs_in (drop 1 (set l 0 f)) ≡ drop 1 (write_outs_in l)
+    by : (l : List ListedWriteOut) → write_outs_in (drop 1 (set l 0 f)) ≡ drop 1 (write_outs_in l)
     by [] = refl
     by (x ∷ l) = refl
 
-module _ (outs : WriteOutsValue) (flushes : List FlushValue) (at : ℕ) (f f' : FlushValue) (are : outs.batches ≡ write_outs_in flushes) (current_at : IsCurrent (write_outs_in flushes) at) (here : f ≡ get_or flushes at f) where
-  within : at < length flushes
-  within = omega (arith, current_at.within, length-write_outs flushes)
+module _ (outs : WriteOutsValue) (listed : List ListedWriteOut) (at : ℕ) (f f' : ListedWriteOut) (are : outs.batches ≡ write_outs_in listed) (current_at : IsCurrent (write_outs_in listed) at) (here : f ≡ get_or listed at f) where
+  within : at < length listed
+  within = omega (arith, current_at.within, length-write_outs listed)
 
-  place : (d : WriteOut) → get_or (write_outs_in flushes) at d ≡ f.write_out
-  place d = at_place flushes at f within here d
+  place : (d : WriteOut) → get_or (write_outs_in listed) at d ≡ f.write_out
+  place d = at_place listed at f within here d
 
   -- the write-outs after a step that goes on
-  going_on : f'.write_out ≡ advanced_of f.write_out → write_outs_in (set flushes at f') ≡ advanced outs.batches
+  going_on : f'.write_out ≡ advanced_of f.write_out → write_outs_in (set listed at f') ≡ advanced outs.batches
   going_on is =
-      write_outs-set flushes at f' ∙ ap (set (write_outs_in flushes) at) (is ∙ ap advanced_of (sym (place f.write_out)))
+      write_outs-set listed at f' ∙ ap (set (write_outs_in listed) at) (is ∙ ap advanced_of (sym (place f.write_out)))
       ∙ sym (current_at.advanced f.write_out) ∙ ap advanced (sym are)
 
   -- the value after a step
-  stepped_batches : (answer : Flushed) → f' ≡ flush_after f answer → (answer ≡ Broken → ⊥) → ((mark : ℕ) → answer ≡ Done mark → has_committed f.write_out ≡ true)
-      → write_outs_in (kept_after answer (set flushes at f')) ≡ batches_after answer outs.batches
-  stepped_batches Going is not_broken ends = going_on (ap (λ (x : FlushValue). x.write_out) is)
-  stepped_batches (Committed mark) is not_broken ends = going_on (ap (λ (x : FlushValue). x.write_out) is)
+  stepped_batches : (answer : Flushed) → f' ≡ listed_after f answer → (answer ≡ Broken → ⊥) → ((mark : ℕ) → answer ≡ Done mark → has_committed f.write_out ≡ true)
+      → write_outs_in (kept_after answer (set listed at f')) ≡ batches_after answer outs.batches
+  stepped_batches Going is not_broken ends = going_on (ap (λ (x : ListedWriteOut). x.write_out) is)
+  stepped_batches (Committed mark) is not_broken ends = going_on (ap (λ (x : ListedWriteOut). x.write_out) is)
   stepped_batches (Done mark) is not_broken ends =
       let first : at ≡ 0 = current_at.first f.write_out (ap has_committed (place f.write_out) ∙ ends mark refl) in
-      write_outs-rest flushes at f' first ∙ ap (drop 1) (sym are)
+      write_outs-rest listed at f' first ∙ ap (drop 1) (sym are)
   stepped_batches Device is not_broken ends =
-      write_outs-set flushes at f' ∙ ap (set (write_outs_in flushes) at) (ap (λ (x : FlushValue). x.write_out) is ∙ sym (place f.write_out)) ∙ set-same (write_outs_in flushes) at f.write_out current_at.within ∙ sym are
+      write_outs-set listed at f' ∙ ap (set (write_outs_in listed) at) (ap (λ (x : ListedWriteOut). x.write_out) is ∙ sym (place f.write_out)) ∙ set-same (write_outs_in listed) at f.write_out current_at.within ∙ sym are
   stepped_batches Broken is not_broken ends = absurd (not_broken refl)
 
-  pub stepped_view : (answer : Flushed) → f' ≡ flush_after f answer → (answer ≡ Broken → ⊥) → ((mark : ℕ) → answer ≡ Done mark → has_committed f.write_out ≡ true)
-      → record outs { batches = write_outs_in (kept_after answer (set flushes at f')); broken = broken_after answer outs.broken } ≡ outs_after outs answer
+  pub stepped_view : (answer : Flushed) → f' ≡ listed_after f answer → (answer ≡ Broken → ⊥) → ((mark : ℕ) → answer ≡ Done mark → has_committed f.write_out ≡ true)
+      → record outs { batches = write_outs_in (kept_after answer (set listed at f')); broken = broken_after answer outs.broken } ≡ outs_after outs answer
   stepped_view answer is not_broken ends = ap (λ (l : List WriteOut). record outs { batches = l; broken = broken_after answer outs.broken }) (stepped_batches answer is not_broken ends)
 
-  one_after : (answer : Flushed) → (answer ≡ Broken → ⊥) → (outs.broken ≡ false) → IsOneOf outs f → f' ≡ flush_after f answer → IsOneOf (outs_after outs answer) f'
-  one_after Going not_broken whole is after = subst (IsOneOf (outs_after outs Going)) (sym after) (record { geometry = is.geometry; whole = is.whole; room = is.room })
-  one_after (Committed mark) not_broken whole is after = subst (IsOneOf (outs_after outs (Committed mark))) (sym after) (record { geometry = is.geometry; whole = is.whole; room = is.room })
-  one_after (Done mark) not_broken whole is after = subst (IsOneOf (outs_after outs (Done mark))) (sym after) (record { geometry = is.geometry; whole = is.whole; room = is.room })
-  one_after Device not_broken whole is after = subst (IsOneOf (outs_after outs Device)) (sym after) (record { geometry = is.geometry; whole = λ e. absurd (both_ways true e refl); room = is.room })
-  one_after Broken not_broken whole is after = absurd (not_broken refl)
-
-  other_after : (answer : Flushed) (x : FlushValue) → (answer ≡ Broken → ⊥) → IsOneOf outs x → IsOneOf (outs_after outs answer) x
-  other_after Going x not_broken is = record { geometry = is.geometry; whole = is.whole; room = is.room }
-  other_after (Committed mark) x not_broken is = record { geometry = is.geometry; whole = is.whole; room = is.room }
-  other_after (Done mark) x not_broken is = record { geometry = is.geometry; whole = is.whole; room = is.room }
-  other_after Device x not_broken is = record { geometry = is.geometry; whole = λ e. absurd (both_ways true e refl); room = is.room }
-  other_after Broken x not_broken is = absurd (not_broken refl)
-
-  kept_all : (P : FlushValue → Type 0) (answer : Flushed) (l : List FlushValue) → AllByRecursion P l → AllByRecursion P (kept_after answer l)
+  kept_all : (P : ListedWriteOut → Type 0) (answer : Flushed) (l : List ListedWriteOut) → AllByRecursion P l → AllByRecursion P (kept_after answer l)
   kept_all P (Done mark) [] all = tt
   kept_all P (Done mark) (x ∷ l) all = all.1
   kept_all P Going l all = all
@@ -195,7 +181,7 @@ module _ (outs : WriteOutsValue) (flushes : List FlushValue) (at : ℕ) (f f' : 
   kept_all P Device l all = all
   kept_all P Broken l all = all
 
-  spare_all : (slots : ℕ) (answer : Flushed) (l : List FlushValue) (spare : List ℕ) → AllByRecursion (λ (x : FlushValue). slots ≤ x.room) l → AllByRecursion (λ r. slots ≤ r) spare → AllByRecursion (λ r. slots ≤ r) (spare_after answer l spare)
+  spare_all : (slots : ℕ) (answer : Flushed) (l : List ListedWriteOut) (spare : List ℕ) → AllByRecursion (λ (x : ListedWriteOut). slots ≤ x.room) l → AllByRecursion (λ r. slots ≤ r) spare → AllByRecursion (λ r. slots ≤ r) (spare_after answer l spare)
   spare_all slots (Done mark) [] spare rooms all = all
   spare_all slots (Done mark) (x ∷ l) spare rooms all = all-append (λ r. slots ≤ r) spare (x.room ∷ []) all (rooms.0, tt)
   spare_all slots Going l spare rooms all = all
@@ -203,7 +189,7 @@ module _ (outs : WriteOutsValue) (flushes : List FlushValue) (at : ℕ) (f f' : 
   spare_all slots Device l spare rooms all = all
   spare_all slots Broken l spare rooms all = all
 
-  same_count : (answer : Flushed) (l : List FlushValue) (spare : List ℕ) → length (kept_after answer l) + length (spare_after answer l spare) ≡ length l + length spare
+  same_count : (answer : Flushed) (l : List ListedWriteOut) (spare : List ℕ) → length (kept_after answer l) + length (spare_after answer l spare) ≡ length l + length spare
   same_count (Done mark) [] spare = refl
   same_count (Done mark) (x ∷ l) spare = omega (arith, length-append spare (x.room ∷ []))
   same_count Going l spare = refl
@@ -212,18 +198,17 @@ module _ (outs : WriteOutsValue) (flushes : List FlushValue) (at : ℕ) (f f' : 
   same_count Broken l spare = refl
 
   -- and the room
-  pub stepped_room : (answer : Flushed) (spare spare' : List ℕ) (flush_room flush_room' spare_room spare_room' : ℕ) → HasRoom outs flushes flush_room spare spare_room → IsSound (outs_after outs answer) → (answer ≡ Broken → ⊥) → outs.broken ≡ false
-      → f' ≡ flush_after f answer → spare' ≡ spare_after answer (set flushes at f') spare → flush_room ≤ flush_room' → spare_room ≤ spare_room'
-      → HasRoom (outs_after outs answer) (kept_after answer (set flushes at f')) flush_room' spare' spare_room'
-  stepped_room answer spare spare' flush_room flush_room' spare_room spare_room' has sound not_broken whole after spares more more_spare =
-      let is = all_at (IsOneOf outs) flushes f has.flushes_are (at, within, sym here) in
-      let ones = all-set (IsOneOf (outs_after outs answer)) flushes at f' (all_map {P = IsOneOf outs} {Q = IsOneOf (outs_after outs answer)} (λ x. other_after answer x not_broken) flushes has.flushes_are) (one_after answer not_broken whole is after) in
-      let rooms = all_map {P = IsOneOf (outs_after outs answer)} {Q = λ (x : FlushValue). outs.geometry.slots ≤ x.room} (λ x one. one.room) (set flushes at f') ones in
+  pub stepped_room : (answer : Flushed) (spare spare' : List ℕ) (listed_room listed_room' spare_room spare_room' : ℕ) → HasRoom outs listed listed_room spare spare_room → IsSound (outs_after outs answer)
+      → f' ≡ listed_after f answer → spare' ≡ spare_after answer (set listed at f') spare → listed_room ≤ listed_room' → spare_room ≤ spare_room'
+      → HasRoom (outs_after outs answer) (kept_after answer (set listed at f')) listed_room' spare' spare_room'
+  stepped_room answer spare spare' listed_room listed_room' spare_room spare_room' has sound after spares more more_spare =
+      let own : outs.geometry.slots ≤ f.room = all_at (λ (one : ListedWriteOut). outs.geometry.slots ≤ one.room) listed f has.listed_are (at, within, sym here) in
+      let rooms = all-set (λ (one : ListedWriteOut). outs.geometry.slots ≤ one.room) listed at f' has.listed_are (subst (λ (one : ListedWriteOut). outs.geometry.slots ≤ one.room) (sym after) own) in
       record {
         sound = sound;
-        flushes_are = kept_all (IsOneOf (outs_after outs answer)) answer (set flushes at f') ones;
-        spare_are = subst (AllByRecursion (λ r. outs.geometry.slots ≤ r)) (sym spares) (spare_all outs.geometry.slots answer (set flushes at f') spare rooms has.spare_are);
-        count = ap (λ (l : List ℕ). length (kept_after answer (set flushes at f')) + length l) spares ∙ same_count answer (set flushes at f') spare ∙ ap (λ n. n + length spare) (length-set flushes at f') ∙ has.count;
+        listed_are = kept_all (λ (one : ListedWriteOut). outs.geometry.slots ≤ one.room) answer (set listed at f') rooms;
+        spare_are = subst (AllByRecursion (λ r. outs.geometry.slots ≤ r)) (sym spares) (spare_all outs.geometry.slots answer (set listed at f') spare rooms has.spare_are);
+        count = ap (λ (l : List ℕ). length (kept_after answer (set listed at f')) + length l) spares ∙ same_count answer (set listed at f') spare ∙ ap (λ n. n + length spare) (length-set listed at f') ∙ has.count;
         room = omega (arith, has.room, more);
         spare_fits = omega (arith, has.spare_fits, more_spare);
       }

@@ -1,12 +1,15 @@
 -- The stages of a write-out and its steps.
-use Rattle.std.proofs.Common.{◌≡◌, ℕ, zero, suc, ◌+◌, ◌*◌, ◌<◌, ◌≤◌, ltb, eqb, [], length, Option, Some, None, refl, ap, ◌∙◌, subst, arith}
-use Rattle.std.proofs.lemmas.Bool.{cond_both, ltb-true, ltb-false, eqb-true, eqb-false}
-use Rattle.std.proofs.lemmas.Bool.Decides.{nat_tests}
+use Rattle.std.proofs.Common.{◌≡◌, ℕ, zero, suc, ◌+◌, ◌-◌, ◌*◌, ◌<◌, ◌≤◌, inl, inr, List, [], ◌∷◌, ◌++◌, length, map, get_or, Option, Some, None, refl, sym, ap, ◌∙◌, subst, arith, length-append}
+use Rattle.std.specs.List.{range_with_len}
+use Rattle.std.proofs.lemmas.Bool.{cases_order}
+use Rattle.std.proofs.lemmas.List.{get_or_append_left, get_or-append-add}
+use Rattle.std.proofs.lemmas.List.FromFn.{length-map-range_with_len, get_or-map-range_with_len}
+use Rattle.std.proofs.lemmas.Option.{slice_get-get_or, slice_get_past}
 use Rattle.journal.specs.declared.stage.Stage.{Stage}
 use Rattle.journal.specs.declared.stage.Stage.TheVariants.{Recording, Describing, SyncingRecords, Opening, Committing, Applying, SyncingHomes, Closing, Finishing}
 use Rattle.volume_codec.specs.Layout.{GeometryValue}
 use Rattle.volume_codec.specs.Recovery.{Batch}
-use Rattle.journal.specs.Stage.{stage_at}
+use Rattle.journal.specs.Stage.{stages, stage_at}
 use Rattle.journal.specs.Work.{Nothing, work_at, calls_of}
 use Rattle.journal.specs.WriteOut.{calls_in_steps}
 use Rattle.std.specs.Option.{option_map_or}
@@ -24,33 +27,102 @@ IsAt k n (Some Closing) = n ≡ 2 * k + 5
 IsAt k n (Some Finishing) = n ≡ 2 * k + 6
 IsAt k n None = 2 * k + 7 ≤ n
 
-pub stage_is : (k n : ℕ) → IsAt k n (stage_at k n)
-unfolding stage_at
-stage_is k n =
-    cond_both (ltb n k) _ _ (IsAt k n) (λ e. (refl, ltb-true n k e)) (λ e0.
-    cond_both (eqb n k) _ _ (IsAt k n) (λ e. eqb-true n k e) (λ e1.
-    cond_both (eqb n (k + 1)) _ _ (IsAt k n) (λ e. eqb-true n (k + 1) e) (λ e2.
-    cond_both (eqb n (k + 2)) _ _ (IsAt k n) (λ e. eqb-true n (k + 2) e) (λ e3.
-    cond_both (eqb n (k + 3)) _ _ (IsAt k n) (λ e. eqb-true n (k + 3) e) (λ e4.
-    let from : k + 4 ≤ n = omega (arith, ltb-false n k e0, eqb-false n k e1, eqb-false n (k + 1) e2, eqb-false n (k + 2) e3, eqb-false n (k + 3) e4) in
-    cond_both (ltb n (2 * k + 4)) _ _ (IsAt k n) (λ e. let lt : n < 2 * k + 4 = ltb-true n (2 * k + 4) e in (omega arith, omega arith)) (λ e5.
-    cond_both (eqb n (2 * k + 4)) _ _ (IsAt k n) (λ e. eqb-true n (2 * k + 4) e) (λ e6.
-    cond_both (eqb n (2 * k + 5)) _ _ (IsAt k n) (λ e. eqb-true n (2 * k + 5) e) (λ e7.
-    cond_both (eqb n (2 * k + 6)) _ _ (IsAt k n) (λ e. eqb-true n (2 * k + 6) e) (λ e8.
-    omega (arith, ltb-false n (2 * k + 4) e5, eqb-false n (2 * k + 4) e6, eqb-false n (2 * k + 5) e7, eqb-false n (2 * k + 6) e8))))))))))
+-- ---- the list of stages
+
+module _ (k : ℕ) where
+  abbrev records : List Stage
+  records = map Recording (range_with_len 0 k)
+
+  abbrev homes : List Stage
+  homes = map Applying (range_with_len 0 k)
+
+  abbrev ends : List Stage
+  ends = SyncingHomes ∷ Closing ∷ Finishing ∷ []
+
+  abbrev middle : List Stage
+  middle = Describing ∷ SyncingRecords ∷ Opening ∷ Committing ∷ (homes ++ ends)
+
+  length-records : length records ≡ k
+  length-records = length-map-range_with_len Recording 0 k
+
+  length-homes : length homes ≡ k
+  length-homes = length-map-range_with_len Applying 0 k
+
+  pub length-stages : length (stages k) ≡ 2 * k + 7
+  length-stages =
+      let sum : length (records ++ middle) ≡ 2 * k + 7 = omega (arith, length-append records middle, length-append homes ends, length-records, length-homes) in
+      sum
+
+  at_record : (i : ℕ) → i < k → stage_at k i ≡ Some (Recording i)
+  unfolding stage_at
+  at_record i lt =
+      slice_get-get_or (stages k) i Finishing (omega (arith, length-stages))
+      ∙ ap Some (get_or_append_left records middle Finishing i (omega (arith, length-records))
+      ∙ get_or-map-range_with_len Recording 0 k i i Finishing lt (omega arith))
+
+  at_middle : (n j : ℕ) → n ≡ k + j → j < k + 7 → stage_at k n ≡ Some (get_or middle j Finishing)
+  unfolding stage_at
+  at_middle n j is lt =
+      slice_get-get_or (stages k) n Finishing (omega (arith, length-stages))
+      ∙ ap Some (ap (λ m. get_or (stages k) m Finishing) (omega (arith, length-records)) ∙ get_or-append-add records middle j Finishing)
+
+  at_home : (n i : ℕ) → n ≡ k + 4 + i → i < k → stage_at k n ≡ Some (Applying i)
+  at_home n i is lt =
+      at_middle n (suc (suc (suc (suc i)))) (omega arith) (omega arith)
+      ∙ ap Some (get_or_append_left homes ends Finishing i (omega (arith, length-homes))
+      ∙ get_or-map-range_with_len Applying 0 k i i Finishing lt (omega arith))
+
+  at_end : (n j : ℕ) → n ≡ 2 * k + 4 + j → j < 3 → stage_at k n ≡ Some (get_or ends j Finishing)
+  at_end n j is lt =
+      at_middle n (suc (suc (suc (suc (k + j))))) (omega arith) (omega arith)
+      ∙ ap Some (ap (λ m. get_or (homes ++ ends) m Finishing) (omega (arith, length-homes)) ∙ get_or-append-add homes ends j Finishing)
+
+  past_end : (n : ℕ) → 2 * k + 7 ≤ n → stage_at k n ≡ None
+  unfolding stage_at
+  past_end n le = slice_get_past (stages k) n (omega (arith, length-stages))
 
 pub stage_from : (k n : ℕ) (o : Option Stage) → IsAt k n o → stage_at k n ≡ o
-unfolding stage_at
-stage_from k n (Some (Recording i)) at = grind (arith, nat_tests, at.0, at.1)
-stage_from k n (Some Describing) at = grind (arith, nat_tests)
-stage_from k n (Some SyncingRecords) at = grind (arith, nat_tests)
-stage_from k n (Some Opening) at = grind (arith, nat_tests)
-stage_from k n (Some Committing) at = grind (arith, nat_tests)
-stage_from k n (Some (Applying i)) at = grind (arith, nat_tests, at.0, at.1)
-stage_from k n (Some SyncingHomes) at = grind (arith, nat_tests)
-stage_from k n (Some Closing) at = grind (arith, nat_tests)
-stage_from k n (Some Finishing) at = grind (arith, nat_tests)
-stage_from k n None at = grind (arith, nat_tests)
+stage_from k n (Some (Recording i)) at = ap (stage_at k) at.0 ∙ at_record k i at.1
+stage_from k n (Some Describing) at = at_middle k n 0 (omega arith) (omega arith)
+stage_from k n (Some SyncingRecords) at = at_middle k n 1 at (omega arith)
+stage_from k n (Some Opening) at = at_middle k n 2 at (omega arith)
+stage_from k n (Some Committing) at = at_middle k n 3 at (omega arith)
+stage_from k n (Some (Applying i)) at = at_home k n i at.0 at.1
+stage_from k n (Some SyncingHomes) at = at_end k n 0 (omega arith) (omega arith)
+stage_from k n (Some Closing) at = at_end k n 1 (omega arith) (omega arith)
+stage_from k n (Some Finishing) at = at_end k n 2 (omega arith) (omega arith)
+stage_from k n None at = past_end k n at
+
+-- each number of steps is that of one of them, or past the last
+found : (k n : ℕ) → (o : Option Stage) × IsAt k n o
+found k n = elim (cases_order n k) [
+  | inl same ↦ (Some Describing, omega arith)
+  | inr (inl lt) ↦ (Some (Recording n), (refl, lt))
+  | inr (inr gt) ↦ later (n - k) (omega arith)
+]
+  where
+    applied : (i : ℕ) → n ≡ k + 4 + i → (o : Option Stage) × IsAt k n o
+    applied i is = elim (cases_order i k) [
+      | inl same ↦ (Some SyncingHomes, omega arith)
+      | inr (inl lt) ↦ (Some (Applying i), (is, lt))
+      | inr (inr gt) ↦ ending (i - k) (omega arith)
+    ]
+      where
+        ending : (j : ℕ) → n ≡ 2 * k + 4 + j → (o : Option Stage) × IsAt k n o
+        ending zero is = (Some SyncingHomes, omega arith)
+        ending (suc zero) is = (Some Closing, omega arith)
+        ending (suc (suc zero)) is = (Some Finishing, omega arith)
+        ending (suc (suc (suc j))) is = (None, omega arith)
+
+    later : (j : ℕ) → n ≡ k + j → (o : Option Stage) × IsAt k n o
+    later zero is = (Some Describing, omega arith)
+    later (suc zero) is = (Some SyncingRecords, omega arith)
+    later (suc (suc zero)) is = (Some Opening, omega arith)
+    later (suc (suc (suc zero))) is = (Some Committing, omega arith)
+    later (suc (suc (suc (suc i)))) is = applied i (omega arith)
+
+pub stage_is : (k n : ℕ) → IsAt k n (stage_at k n)
+stage_is k n = let is = found k n in subst (IsAt k n) (sym (stage_from k n is.0 is.1)) is.1
 
 -- what is at hand of a stage
 pub stage_at-is : (k n : ℕ) {o : Option Stage} → stage_at k n ≡ o → IsAt k n o

@@ -4,13 +4,13 @@ use Rattle.std.specs.List.{AllByRecursion}
 use Rattle.std.specs.Option.{option_map_or}
 use Rattle.std.proofs.lemmas.Bool.{cases_lt}
 use Rattle.device.specs.Count.{raised}
-use Rattle.device.specs.Device.{Only, LeavesOnly, Torn, written}
+use Rattle.device.specs.Device.{LeavesOnly, Torn, written}
 use Rattle.device.specs.Did.{Did}
 use Rattle.device.specs.declared.device.Device.{Ghosts}
 use Rattle.device.proofs.Done.{did_as, done_seen}
 use Rattle.device.proofs.Moments.{leaves_at_start, leaves_on}
 use Rattle.device.proofs.Ranges.{torn_before, torn_after}
-use Rattle.volume_codec.specs.Layout.{GeometryValue, IsGeometry, IsHome, record_block, gate_block, first_home, block_at}
+use Rattle.volume_codec.specs.Layout.{GeometryValue, IsHome, record_block, gate_block, first_home, block_at}
 use Rattle.volume_codec.specs.Super.{SuperValue, geometry_of}
 use Rattle.volume_codec.specs.Recovery.{Batch, Recovers, IsOpenBatch, AreOpen}
 use Rattle.volume_codec.proofs.Places.{fits_geometry}
@@ -23,13 +23,12 @@ use Rattle.journal.specs.Work.{Work, WriteAt, CopyBlock, Nothing, Sync, work_at,
 use Rattle.journal.specs.WriteOut.{WriteOut, FlushValue, IsBatch, next_stage, has_committed, advanced_of, work_of, answer_of, flush_after, calls_in_steps}
 use Rattle.journal.specs.WriteOuts.{has_uncommitted}
 use Rattle.journal.specs.Crash.{LeftWithin}
-use Rattle.journal.specs.Recovered.{RecoversBy}
 use Rattle.journal.specs.Finished.{IsOutside, gate_byte, Holds, RecoversSame, finishing_calls, Finishes}
 use Rattle.journal.specs.inside.Sound.{IsWriteOut, IsOlder, AreInOrder}
 use Rattle.journal.specs.inside.Tied.{IsTied}
 use Rattle.journal.specs.inside.Finishing.{made, found_in, left_of, IsOnWay, IsUnderWay}
 use Rattle.journal.proofs.Alls.{all_map, all_front}
-use Rattle.journal.proofs.Batches.{committed_parts, committed-at}
+use Rattle.journal.proofs.Batches.{committed-at}
 use Rattle.journal.proofs.Changes.{torn-written, first-written, length-block_at}
 use Rattle.journal.proofs.Places.{gate-below, record-below}
 use Rattle.journal.proofs.Stages.{IsAt, stage_is, stage_at-is, stage_from, applying_within, early_calls, all_calls}

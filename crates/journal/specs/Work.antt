@@ -1,5 +1,5 @@
 -- What the steps of a write-out ask of the device.
-use Rattle.std.specs.Prelude.{ℕ, ◌+◌, ◌*◌, Bool, true, false, List, [], ◌∷◌, slice_index}
+use Rattle.std.specs.Prelude.{ℕ, ◌*◌, Bool, true, false, List, [], ◌∷◌, slice_index}
 use Rattle.volume_codec.specs.Layout.{GeometryValue, gate_block, descriptor_block, record_block}
 use Rattle.volume_codec.specs.Descriptor.{descriptor_text}
 use Rattle.volume_codec.specs.Recovery.{Batch}

@@ -1,4 +1,5 @@
 pub mod Sound
+pub mod Listed
 pub mod Tied
 pub mod Standing
 pub mod Room

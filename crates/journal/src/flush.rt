@@ -1,52 +1,39 @@
 // One write-out.
-ghost use Rattle.std.specs.Prelude.{◌≡◌, ◌↔◌, ◌⊎◌, ◌*◌, ◌<◌, ◌≤◌, true, is_ok, IsTrue, IsSome, length, slice_index, Contains, Some, IfSome};
+ghost use Rattle.std.specs.Prelude.{◌≡◌, ◌↔◌, ◌⊎◌, ◌*◌, ◌<◌, ◌≤◌, true, IsTrue, IsSome, length, Contains, IfSome};
 ghost use Rattle.std.specs.Vec.{vec_capacity};
 ghost use Rattle.device.specs.Did.{Did};
-ghost use Rattle.volume_codec.specs.Layout.{IsHome};
 ghost use Rattle.journal.specs.Work.{has_done};
-ghost use Rattle.journal.specs.inside.Sound.{stage_work};
 ghost use Rattle.journal.specs.WriteOut.{next_stage, has_committed};
 ghost use Rattle.journal.specs.WriteOut.{IsBatch, flush_of, committed_of, flush_record, flush_home, flush_work, flush_answer, flush_after};
 
-use crate::copying::apply_record;
-use crate::gate::{close_gate, open_gate};
-use crate::{Flushed, Stage, stage_at};
-use device::{Device, DeviceFault, make_sure, write_at};
+use crate::listed::Listed;
+use crate::{Flushed, Stage};
+use device::Device;
 use std::alloc::Allocator;
 use std::marker::Model;
-use volume_codec::{Geometry, write_descriptor};
+use volume_codec::Geometry;
 
 /// A write-out: a batch of blocks on its way through a journal to its home blocks, one step at a time.
 #[derive(Drop)]
 pub struct Flush<A: Allocator + Copy> {
     geometry: Geometry,
-    journal: u32,
-    mark: u64,
-    homes: Vec<u32, A>,
-    steps: u32,
+    listed: Listed<A>,
     broken: bool,
 }
 
 impl<A: Allocator + Copy> Model for Flush<A> {
-    ghost use Rattle.std.specs.Vec.{vec_capacity};
-    ghost use Rattle.journal.specs.WriteOut.{FlushValue};
+    ghost use Rattle.journal.specs.WriteOut.{FlushValue, IsBatch};
 
     ghost Value = { FlushValue };
 
-    ghost use Rattle.journal.specs.inside.Sound.{IsFlush};
-
     ghost view = { λ f. record {
       geometry = f.geometry;
-      write_out = record {
-        batch = record { journal = f.journal; mark = f.mark; homes = f.homes.items };
-        steps = f.steps;
-      };
+      write_out = f.listed.write_out;
       broken = f.broken;
-      room = vec_capacity f.homes;
+      room = f.listed.room;
     } };
 
-    ghost invariant = { λ f.
-        IsFlush f.geometry (record { journal = f.journal; mark = f.mark; homes = f.homes.items }) };
+    ghost invariant = { λ f. IsBatch f.geometry f.listed.write_out.batch };
 }
 
 impl<A: Allocator + Copy> Flush<A> {
@@ -57,13 +44,10 @@ impl<A: Allocator + Copy> Flush<A> {
         ensures { result ≡ flush_of geometry
             (record { journal = journal; mark = mark; homes = homes.items }) (vec_capacity homes) }
     {
-        prove!(geometry.slots() <= 1020);
+        let listed = Listed::new(&geometry, journal, mark, homes);
         Flush {
             geometry,
-            journal,
-            mark,
-            homes,
-            steps: 0,
+            listed,
             broken: false,
         }
     }
@@ -75,14 +59,10 @@ impl<A: Allocator + Copy> Flush<A> {
         ensures { result ≡ committed_of geometry
             (record { journal = journal; mark = mark; homes = homes.items }) (vec_capacity homes) }
     {
-        prove!(geometry.slots() <= 1020);
-        let steps = homes.len() as u32 + 4;
+        let listed = Listed::committed(&geometry, journal, mark, homes);
         Flush {
             geometry,
-            journal,
-            mark,
-            homes,
-            steps,
+            listed,
             broken: false,
         }
     }
@@ -91,28 +71,28 @@ impl<A: Allocator + Copy> Flush<A> {
     pub fn journal(&self) -> u32
         ensures { result ≡ self.now.write_out.batch.journal }
     {
-        self.journal
+        self.listed.journal()
     }
 
     /// The mark that the batch is committed under.
     pub fn mark(&self) -> u64
         ensures { result ≡ self.now.write_out.batch.mark }
     {
-        self.mark
+        self.listed.mark()
     }
 
     /// The home blocks, in rising order. Record i is for the block at place i.
     pub fn homes(&self) -> &[u32]
         ensures { result.now ≡ self.now.write_out.batch.homes }
     {
-        &self.homes
+        self.listed.homes()
     }
 
     /// The stage of the next step; `None` once the write-out is done.
     pub fn stage(&self) -> Option<Stage>
         ensures { result ≡ next_stage self.now.write_out }
     {
-        stage_at(self.homes.len() as u32, self.steps)
+        self.listed.stage()
     }
 
     /// Whether a device call failed in a step.
@@ -126,10 +106,7 @@ impl<A: Allocator + Copy> Flush<A> {
     pub fn is_committed(&self) -> bool
         ensures { result ≡ has_committed self.now.write_out }
     {
-        match self.stage() {
-            Some(stage) => stage.is_committed(),
-            None => true,
-        }
+        self.listed.is_committed()
     }
 
     /// The place of the record that the next step writes; `None` where that step is another, or no device call will
@@ -141,70 +118,24 @@ impl<A: Allocator + Copy> Flush<A> {
         if self.broken {
             return None;
         }
-        match self.stage() {
-            Some(Stage::Recording(record)) => Some(record),
-            _ => None,
-        }
+        self.listed.next_record()
     }
 
     /// The home block of that record: the next step is given its new bytes.
     pub fn next_home(&self) -> Option<u32>
         ensures { result ≡ flush_home self.now }
     {
-        let record = self.next_record()?;
-        Some(self.home_at(record))
-    }
-
-    // The home block at a place.
-    fn home_at(&self, place: u32) -> u32
-        requires { place < length self.now.write_out.batch.homes }
-        ensures value { result ≡ slice_index self.now.write_out.batch.homes place }
-        ensures home { IsHome self.now.geometry result }
-        ensures slot { place < self.now.geometry.slots }
-    {
-        self.homes[place as usize]
+        if self.broken {
+            return None;
+        }
+        self.listed.next_home()
     }
 
     /// Whether the home block belongs to the batch.
     pub fn has_block(&self, home: u32) -> bool
         ensures { IsTrue result ↔ Contains self.now.write_out.batch.homes home }
     {
-        self.homes.binary_search(&home).is_ok()
-    }
-
-    // Does what the step of this stage asks of the device.
-    fn carry_out<D: Device>(
-        &self,
-        device: &mut D,
-        stage: Stage,
-        bytes: &[u8; 4096],
-        buffer: &mut [u8; 4096],
-    ) -> Result<(), DeviceFault>
-        requires long { 4096 * self.now.geometry.blocks ≤ length (D.seen device.old) }
-        requires stage { next_stage self.now.write_out ≡ Some stage }
-        ensures { Did D.Device device.old (stage_work self.now bytes.now stage) (is_ok result) device.new }
-    {
-        match stage {
-            Stage::Recording(slot) => {
-                let block = self.geometry.record_block(self.journal, slot);
-                prove!(block < self.geometry.block_count());
-                write_at(device, 4096 * u64::from(block), bytes)
-            }
-            Stage::Describing => {
-                let block = self.geometry.descriptor_block(self.journal);
-                prove!(block < self.geometry.block_count());
-                let descriptor = write_descriptor(&self.geometry, self.mark, &self.homes);
-                write_at(device, 4096 * u64::from(block), &descriptor)
-            }
-            Stage::Opening => open_gate(device, &self.geometry, self.journal),
-            Stage::Applying(slot) => {
-                let home = self.home_at(slot);
-                apply_record(device, &self.geometry, self.journal, slot, home, buffer)
-            }
-            Stage::Closing => close_gate(device, &self.geometry, self.journal),
-            Stage::SyncingRecords | Stage::Committing | Stage::SyncingHomes | Stage::Finishing =>
-                make_sure(device),
-        }
+        self.listed.has_block(home)
     }
 
     /// The next step: what its stage asks is done. It answers what the stage does, or `Device` where a device call
@@ -227,17 +158,11 @@ impl<A: Allocator + Copy> Flush<A> {
         if self.broken {
             return Flushed::Broken;
         }
-        let stage = self.stage().unwrap();
-        match self.carry_out(device, stage, bytes, buffer) {
-            Ok(()) => {
-                self.steps += 1;
-                stage.answer(self.mark)
-            }
-            Err(_) => {
-                self.broken = true;
-                Flushed::Device
-            }
+        let answer = self.listed.step(&self.geometry, device, bytes, buffer);
+        if let Flushed::Device = answer {
+            self.broken = true;
         }
+        answer
     }
 
     /// The list of home blocks, so that its memory serves again.
@@ -247,12 +172,9 @@ impl<A: Allocator + Copy> Flush<A> {
     {
         let Flush {
             geometry: _,
-            journal: _,
-            mark: _,
-            homes,
-            steps: _,
+            listed,
             broken: _,
         } = self;
-        homes
+        listed.into_homes()
     }
 }

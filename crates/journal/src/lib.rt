@@ -9,6 +9,7 @@ mod flush;
 mod flushed;
 mod gate;
 mod laws;
+mod listed;
 mod stage;
 mod write_outs;
 

@@ -55,7 +55,6 @@ impl Stage {
 }
 
 /// The next stage of a write-out of so many blocks after so many steps; `None` once it is done.
-#[tactic(auto, unfolding(crate::specs::Stage::stage_at))]
 pub fn stage_at(blocks: u32, steps: u32) -> Option<Stage>
     ensures { result ≡ stage_at blocks steps }
 {

@@ -14,7 +14,8 @@ ghost use Rattle.journal.specs.inside.Room.{IsCurrent, kept_after, spare_after};
 ghost use Rattle.journal.specs.Crash.{LeftWithin};
 ghost use Rattle.journal.specs.Standing.{Stands};
 
-use crate::{Flush, Flushed, Stage};
+use crate::listed::Listed;
+use crate::{Flushed, Stage};
 use device::Device;
 use std::alloc::{AllocError, Allocator};
 use std::marker::Model;
@@ -27,7 +28,7 @@ pub struct WriteOuts<A: Allocator + Copy> {
     geometry: Geometry,
     next: u32,
     // The oldest first. There is room for one in each journal.
-    flushes: Vec<Flush<A>, A>,
+    listed: Vec<Listed<A>, A>,
     // Lists with room for the home blocks of a batch, for the journals that have none.
     spare: Vec<Vec<u32, A>, A>,
     // Records are read into it on their way to their home blocks.
@@ -44,10 +45,10 @@ impl<A: Allocator + Copy> Model for WriteOuts<A> {
 
     ghost use Rattle.journal.specs.inside.Room.{outs_of, HasRoom};
 
-    ghost view = { λ o. outs_of o.geometry o.next o.flushes.items o.broken };
+    ghost view = { λ o. outs_of o.geometry o.next o.listed.items o.broken };
 
-    ghost invariant = { λ o. HasRoom (outs_of o.geometry o.next o.flushes.items o.broken)
-        o.flushes.items (vec_capacity o.flushes)
+    ghost invariant = { λ o. HasRoom (outs_of o.geometry o.next o.listed.items o.broken)
+        o.listed.items (vec_capacity o.listed)
         (map (λ list. vec_capacity list) o.spare.items) (vec_capacity o.spare) };
 }
 
@@ -101,24 +102,24 @@ fn refilled<A: Allocator + Copy>(mut list: Vec<u32, A>, homes: &[u32]) -> Vec<u3
 // What follows of a step's answer: the oldest leaves where it is done, and its list is spare again; or a device call
 // has failed.
 fn settle<A: Allocator + Copy>(
-    flushes: &mut Vec<Flush<A>, A>,
+    listed: &mut Vec<Listed<A>, A>,
     spare: &mut Vec<Vec<u32, A>, A>,
     broken: &mut bool,
     answer: Flushed,
 )
-    requires some { 0 < vec_len flushes.old }
+    requires some { 0 < vec_len listed.old }
     requires room { vec_len spare.old < vec_capacity spare.old }
-    ensures flushes { flushes.new.items ≡ kept_after answer flushes.old.items }
+    ensures listed { listed.new.items ≡ kept_after answer listed.old.items }
     ensures spare { map (λ list. vec_capacity list) spare.new.items
-        ≡ spare_after answer flushes.old.items (map (λ list. vec_capacity list) spare.old.items) }
+        ≡ spare_after answer listed.old.items (map (λ list. vec_capacity list) spare.old.items) }
     ensures broken { broken.new ≡ broken_after answer broken.old }
-    ensures capacity { vec_capacity flushes.new ≡ vec_capacity flushes.old }
+    ensures capacity { vec_capacity listed.new ≡ vec_capacity listed.old }
     ensures spare_capacity { vec_capacity spare.old ≤ vec_capacity spare.new }
 {
     match answer {
         Flushed::Device => *broken = true,
         Flushed::Done(_) => {
-            let done = flushes.remove(0);
+            let done = listed.remove(0);
             let _ = spare.push(done.into_homes());
         }
         _ => {}
@@ -135,7 +136,7 @@ impl<A: Allocator + Copy> WriteOuts<A> {
         Ok(WriteOuts {
             geometry,
             next: 0,
-            flushes: Vec::with_capacity(alloc, journals)?,
+            listed: Vec::with_capacity(alloc, journals)?,
             spare: spare_lists(alloc, journals, slots)?,
             buffer: blank_block(),
             broken: false,
@@ -146,14 +147,14 @@ impl<A: Allocator + Copy> WriteOuts<A> {
     pub fn is_fresh(&self) -> bool
         ensures { IsTrue result ↔ (self.now ≡ none_of self.now.geometry) }
     {
-        self.next == 0 && self.flushes.is_empty() && !self.broken
+        self.next == 0 && self.listed.is_empty() && !self.broken
     }
 
     /// Whether every batch is done.
     pub fn is_empty(&self) -> bool
         ensures { IsTrue result ↔ (self.now.batches ≡ []) }
     {
-        self.flushes.is_empty()
+        self.listed.is_empty()
     }
 
     /// Whether a device call failed in a step. Then no further step is made.
@@ -167,8 +168,8 @@ impl<A: Allocator + Copy> WriteOuts<A> {
     fn has_uncommitted(&self) -> bool
         ensures { result ≡ has_uncommitted self.now.batches }
     {
-        match self.flushes.len().checked_sub(1) {
-            Some(last) => !self.flushes[last].is_committed(),
+        match self.listed.len().checked_sub(1) {
+            Some(last) => !self.listed[last].is_committed(),
             None => false,
         }
     }
@@ -177,15 +178,15 @@ impl<A: Allocator + Copy> WriteOuts<A> {
     pub fn is_busy(&self) -> bool
         ensures { result ≡ is_busy self.now }
     {
-        self.has_uncommitted() || self.flushes.len() == self.geometry.journals() as usize
+        self.has_uncommitted() || self.listed.len() == self.geometry.journals() as usize
     }
 
     /// Whether a home block belongs to a batch that isn't done.
     pub fn has_block(&self, home: u32) -> bool
         ensures { IsTrue result ↔ HasBlock self.now home }
     {
-        for flush in &self.flushes {
-            if flush.has_block(home) {
+        for one in &self.listed {
+            if one.has_block(home) {
                 return true;
             }
         }
@@ -197,7 +198,7 @@ impl<A: Allocator + Copy> WriteOuts<A> {
         ensures some { IfSome result (IsCurrent self.now.batches) }
         ensures none { IfNone result (self.now.batches ≡ []) }
     {
-        let last = self.flushes.len().checked_sub(1)?;
+        let last = self.listed.len().checked_sub(1)?;
         Some(if self.has_uncommitted() { last } else { 0 })
     }
 
@@ -206,7 +207,7 @@ impl<A: Allocator + Copy> WriteOuts<A> {
         ensures { result ≡ current_stage self.now }
     {
         let at = self.current_place()?;
-        self.flushes[at].stage()
+        self.listed[at].stage()
     }
 
     /// The place, in its batch, of the record that the next step writes; `None` where that step is another, or no
@@ -218,7 +219,7 @@ impl<A: Allocator + Copy> WriteOuts<A> {
             return None;
         }
         let at = self.current_place()?;
-        self.flushes[at].next_record()
+        self.listed[at].next_record()
     }
 
     /// The home block of that record: the next step is given its new bytes.
@@ -229,7 +230,7 @@ impl<A: Allocator + Copy> WriteOuts<A> {
             return None;
         }
         let at = self.current_place()?;
-        self.flushes[at].next_home()
+        self.listed[at].next_home()
     }
 
     /// Begins the write-out of a batch of these home blocks, in rising order, under a mark above those of all that
@@ -244,9 +245,9 @@ impl<A: Allocator + Copy> WriteOuts<A> {
         ensures { self.new ≡ begun self.old mark homes.now }
     {
         let list = refilled(self.spare.pop().unwrap(), homes);
-        let flush = Flush::new(self.geometry, self.next, mark, list);
+        let one = Listed::new(&self.geometry, self.next, mark, list);
         // There is room for a write-out in each journal.
-        let _ = self.flushes.push(flush);
+        let _ = self.listed.push(one);
         self.next = journal_after(&self.geometry, self.next);
     }
 
@@ -278,9 +279,9 @@ impl<A: Allocator + Copy> WriteOuts<A> {
             return Flushed::Broken;
         }
         let at = self.current_place().unwrap();
-        let flush = &mut self.flushes[at];
-        let answer = flush.step(device, bytes, &mut self.buffer);
-        settle(&mut self.flushes, &mut self.spare, &mut self.broken, answer);
+        let one = &mut self.listed[at];
+        let answer = one.step(&self.geometry, device, bytes, &mut self.buffer);
+        settle(&mut self.listed, &mut self.spare, &mut self.broken, answer);
         answer
     }
 }

@@ -1,7 +1,7 @@
 -- The flags of a processor, one for each PCID: what stays of them when some are cleared.
 use Rattle.std.proofs.Common.{◌≡◌, ◌≢◌, ℕ, zero, suc, ◌+◌, ◌<◌, Bool, true, false, ◌&&◌, eqb, List, [], ◌∷◌, length, get_or, set, replicate, refl, sym, ap, ◌∙◌, arith, add-zero, get_or-set_same, get_or-set_other}
 use Rattle.std.proofs.lemmas.Bool.Decides.{nat_tests}
-use Rattle.std.proofs.lemmas.List.{length-set, length-replicate, ext_get_or}
+use Rattle.std.proofs.lemmas.List.{length-set, length-replicate, get_or-replicate, ext_get_or}
 use Rattle.shootdown.specs.Processors.{flags_kept, first_flags, pcids}
 
 pub length-flags_kept : (passes : ℕ → Bool) (i : ℕ) (flags : List Bool) → length (flags_kept passes i flags) ≡ length flags
@@ -31,6 +31,10 @@ and_true : (b : Bool) → (b && true) ≡ b
 and_true true = refl
 and_true false = refl
 
+and_false : (b : Bool) → (b && false) ≡ false
+and_false true = refl
+and_false false = refl
+
 and_and : (a b c : Bool) → ((a && b) && c) ≡ (a && (b && c))
 and_and true b c = refl
 and_and false b c = refl
@@ -51,10 +55,6 @@ pub set-flags_kept : (passes : ℕ → Bool) (flags : List Bool) (pcid : ℕ) �
 set-flags_kept passes flags pcid within cleared others =
     flags_kept-from_each passes flags (set flags pcid false) (length-set flags pcid false) (λ k below. at k (eqb k pcid) refl)
   where
-    and_false : (b : Bool) → (b && false) ≡ false
-    and_false true = refl
-    and_false false = refl
-
     at : (k : ℕ) (b : Bool) → eqb k pcid ≡ b → get_or (set flags pcid false) k false ≡ (get_or flags k false && passes k)
     at k true here =
         let same : k ≡ pcid = grind (arith, nat_tests) in
@@ -63,6 +63,34 @@ set-flags_kept passes flags pcid within cleared others =
     at k false here =
         let other : k ≢ pcid = grind (arith, nat_tests) in
         get_or-set_other flags pcid k false false other ∙ sym (ap (λ b. get_or flags k false && b) (others k other) ∙ and_true (get_or flags k false))
+
+-- all flags are cleared but that of one PCID: it was set, or not
+pub cleared-set : (flags : List Bool) (pcid : ℕ) → pcid < length flags → get_or flags pcid false ≡ true → set (replicate (length flags) false) pcid true ≡ flags_kept (λ k. eqb k pcid) 0 flags
+cleared-set flags pcid within was =
+    flags_kept-from_each (λ k. eqb k pcid) flags (set (replicate (length flags) false) pcid true)
+    (length-set (replicate (length flags) false) pcid true ∙ length-replicate (length flags) false) (λ k below. at k below (eqb k pcid) refl)
+  where
+    at : (k : ℕ) → k < length flags → (b : Bool) → eqb k pcid ≡ b → get_or (set (replicate (length flags) false) pcid true) k false ≡ (get_or flags k false && eqb k pcid)
+    at k below true here =
+        let same : k ≡ pcid = grind (arith, nat_tests) in
+        ap (λ n. get_or (set (replicate (length flags) false) pcid true) n false) same
+        ∙ get_or-set_same (replicate (length flags) false) pcid true false (omega (arith, length-replicate (length flags) false))
+        ∙ sym (ap (λ b. get_or flags k false && b) here ∙ and_true (get_or flags k false) ∙ ap (λ n. get_or flags n false) same ∙ was)
+    at k below false here =
+        let other : k ≢ pcid = grind (arith, nat_tests) in
+        get_or-set_other (replicate (length flags) false) pcid k true false other ∙ get_or-replicate (length flags) k false false below
+        ∙ sym (ap (λ b. get_or flags k false && b) here ∙ and_false (get_or flags k false))
+
+pub cleared-clear : (flags : List Bool) (pcid : ℕ) → get_or flags pcid false ≡ false → replicate (length flags) false ≡ flags_kept (λ k. eqb k pcid) 0 flags
+cleared-clear flags pcid was =
+    flags_kept-from_each (λ k. eqb k pcid) flags (replicate (length flags) false) (length-replicate (length flags) false)
+    (λ k below. get_or-replicate (length flags) k false false below ∙ at k (eqb k pcid) refl)
+  where
+    at : (k : ℕ) (b : Bool) → eqb k pcid ≡ b → false ≡ (get_or flags k false && eqb k pcid)
+    at k true here =
+        let same : k ≡ pcid = grind (arith, nat_tests) in
+        sym (ap (λ b. b && eqb k pcid) (ap (λ n. get_or flags n false) same ∙ was))
+    at k false here = sym (ap (λ b. get_or flags k false && b) here ∙ and_false (get_or flags k false))
 
 -- at boot a processor may cache entries of PCID 0
 pub get_or-first_flags : get_or first_flags 0 false ≡ true

@@ -263,10 +263,20 @@ fn forget(may_cache: &mut [bool], action: Invpcid, space: Pcid)
                 may_cache[pcid as usize] = false;
             }
         }
-        Invpcid::AllContextsAndGlobals | Invpcid::AllContexts => {
-            for (pcid, flag) in may_cache.iter_mut().enumerate() {
-                *flag = *flag && pcid == space as usize;
-            }
-        }
+        Invpcid::AllContextsAndGlobals | Invpcid::AllContexts => clear_others(
+            may_cache,
+            space as usize,
+        ),
+    }
+}
+
+// Clears all flags but that of one PCID.
+fn clear_others(flags: &mut [bool], pcid: usize)
+    ensures { flags.new ≡ flags_kept (λ other. other == pcid) 0 flags.old }
+{
+    let kept = pcid < flags.len() && flags[pcid];
+    flags.fill(false);
+    if kept {
+        flags[pcid] = true;
     }
 }

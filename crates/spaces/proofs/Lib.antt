@@ -11,3 +11,4 @@ pub mod ListedLaws
 pub mod Public
 pub mod Noted
 pub mod Used
+pub mod Freed

@@ -10,7 +10,7 @@ ghost use Rattle.mappings.specs.Judgement.{is_user_range, add_refusal, protect_r
 ghost use Rattle.spaces.specs.Spaces.{empty_space, has_space, space_at, entry_at, place_at, first_spaces, with_space, with_entry, with_mapping, without_mapping, IsLowestFree, EditsEntries, SetsRights, AreSpaces};
 ghost use Rattle.spaces.specs.Requests.{is_user_space, judged_range, judged_mapping, judged_protection, maps_some, maps_each, CreateRefused};
 ghost use Rattle.spaces.specs.Changes.{is_place_of, affects, touches, entries_of, protected_where, without_entries_of};
-ghost use Rattle.spaces.specs.inside.Slots.{SpaceState, edited, without_entries, IsFound, IsMissing, IsFirstFree, AreBelow, NotesSlot, NotesSlots, HasUse, AreInUse, EditsSlot, slot_at};
+ghost use Rattle.spaces.specs.inside.Slots.{SpaceState, edited, without_entries, IsFound, IsMissing, IsFirstFree, AreBelow, NotesSlot, NotesSlots, HasUse, AreInUse, AreFreed, EditsSlot, slot_at};
 
 use crate::space::Space;
 use crate::{Change, EntriesOf, Pcids};
@@ -37,13 +37,15 @@ pub struct Spaces<A: Allocator + Copy = Global> {
     slots: Vec<Option<Space<A>>, A>,
     // A bit for each PCID: whether its space may have a present entry.
     in_use: [u64; 64],
+    // A bit for each PCID below the number of slots: whether there is no space of it.
+    freed: [u64; 64],
     // The pages of a space that one `protect` may give these rights without memory, or without any an `unmap` may take.
     prepared: Option<(Pcid, PageRange, Option<Rights>)>,
 }
 
 impl<A: Allocator + Copy> Model for Spaces<A> {
     ghost use Rattle.spaces.specs.Spaces.{SpacesState};
-    ghost use Rattle.spaces.specs.inside.Slots.{spaces_code, spaces_of, AreSlots, AreInUse};
+    ghost use Rattle.spaces.specs.inside.Slots.{spaces_code, spaces_of, AreSlots, AreInUse, AreFreed};
 
     ghost Value = { SpacesState };
 
@@ -51,19 +53,20 @@ impl<A: Allocator + Copy> Model for Spaces<A> {
 
     ghost view = { λ s. record { map = spaces_of s.slots.items; prepared = s.prepared } };
 
-    ghost invariant = { λ s. AreSlots s.slots.items s.prepared × AreInUse s.slots.items s.in_use };
+    ghost invariant = { λ s. AreSlots s.slots.items s.prepared × AreInUse s.slots.items s.in_use
+        × AreFreed s.slots.items s.freed };
 }
 
 // The first slot without a space, or one past the last.
-fn first_free<A: Allocator + Copy>(slots: &[Option<Space<A>>]) -> usize
+fn first_free<A: Allocator + Copy>(slots: &[Option<Space<A>>], freed: &[u64; 64]) -> usize
+    requires few { length slots.now ≤ 4096 }
+    requires freed { AreFreed slots.now freed.now }
     ensures { IsFirstFree slots.now result }
 {
-    for (at, slot) in slots.iter().enumerate() {
-        if slot.is_none() {
-            return at;
-        }
+    match first_set(freed, 0, 4096) {
+        Some(pcid) => pcid as usize,
+        None => slots.len(),
     }
-    slots.len()
 }
 
 impl<A: Allocator + Copy> Spaces<A> {
@@ -77,6 +80,7 @@ impl<A: Allocator + Copy> Spaces<A> {
         Ok(Spaces {
             slots,
             in_use: [0; 64],
+            freed: [0; 64],
             prepared: None,
         })
     }
@@ -296,7 +300,7 @@ impl<A: Allocator + Copy> Spaces<A> {
         ensures refused { IfErr result (λ why. CreateRefused self.old.map why) }
         ensures err { OnErr result (self.new ≡ self.old) }
     {
-        let free = first_free(&self.slots);
+        let free = first_free(&self.slots, &self.freed);
         if free == PCIDS {
             return Err(Refusal::Enomem);
         }
@@ -305,6 +309,7 @@ impl<A: Allocator + Copy> Spaces<A> {
         };
         if free < self.slots.len() {
             self.slots[free] = Some(space);
+            mark(&mut self.freed, free as u64, false);
             return Ok(free as Pcid);
         }
         if self.slots.push(Some(space)).is_err() {
@@ -319,6 +324,7 @@ impl<A: Allocator + Copy> Spaces<A> {
         ensures { self.new ≡ record { map = maps.remove self.old.map pcid; prepared = None } }
     {
         self.slots[pcid as usize] = None;
+        mark(&mut self.freed, pcid as u64, true);
         self.prepared = None;
     }
 

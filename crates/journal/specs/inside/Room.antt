@@ -1,36 +1,30 @@
 -- The lists that `WriteOuts` keeps, and their memory.
-use Rattle.std.specs.Prelude.{ℕ, ◌≡◌, ◌+◌, ◌<◌, ◌≤◌, Bool, true, false, List, [], ◌∷◌, ◌++◌, length, drop, map, Some, slice_index_or, slice_set}
+use Rattle.std.specs.Prelude.{ℕ, ◌≡◌, ◌+◌, ◌<◌, ◌≤◌, Bool, true, List, [], ◌∷◌, ◌++◌, length, drop, map, Some, slice_index_or, slice_set}
 use Rattle.std.specs.List.{AllByRecursion}
 use Rattle.volume_codec.specs.Layout.{GeometryValue, journals_of}
 use Rattle.journal.specs.declared.flushed.Flushed.{Flushed}
 use Rattle.journal.specs.declared.flushed.Flushed.TheVariants.{Done}
 use Rattle.journal.specs.WriteOut.{WriteOut, has_committed, advanced_of}
-use Rattle.journal.specs.WriteOut.{FlushValue}
+use Rattle.journal.specs.inside.Listed.{ListedWriteOut}
 use Rattle.journal.specs.WriteOuts.{WriteOutsValue, current, advanced}
 use Rattle.journal.specs.inside.Sound.{IsSound}
 
-abbrev pub write_outs_in : List FlushValue → List WriteOut
-write_outs_in flushes = map (λ f. f.write_out) flushes
+abbrev pub write_outs_in : List ListedWriteOut → List WriteOut
+write_outs_in listed = map (λ one. one.write_out) listed
 
 -- the value of write-outs that the code keeps in this list
-abbrev pub outs_of : GeometryValue → ℕ → List FlushValue → Bool → WriteOutsValue
-outs_of g next flushes broken = record { geometry = g; next = next; batches = write_outs_in flushes; broken = broken }
-
--- one of the write-outs: no call of it failed unless it is told, and its list has room for a batch
-pub record IsOneOf (outs : WriteOutsValue) (flush : FlushValue) : Type 0 where
-  pub geometry : flush.geometry ≡ outs.geometry
-  pub whole : outs.broken ≡ false → flush.broken ≡ false
-  pub room : outs.geometry.slots ≤ flush.room
+abbrev pub outs_of : GeometryValue → ℕ → List ListedWriteOut → Bool → WriteOutsValue
+outs_of g next listed broken = record { geometry = g; next = next; batches = write_outs_in listed; broken = broken }
 
 -- the lists of home blocks are as many as journals, each with room for a batch, and no list has to grow
-pub record HasRoom (outs : WriteOutsValue) (flushes : List FlushValue) (flush_room : ℕ) (spare : List ℕ)
+pub record HasRoom (outs : WriteOutsValue) (listed : List ListedWriteOut) (list_room : ℕ) (spare : List ℕ)
     (spare_room : ℕ)
     : Type 0 where
   pub sound : IsSound outs
-  pub flushes_are : AllByRecursion (IsOneOf outs) flushes
+  pub listed_are : AllByRecursion (λ one. outs.geometry.slots ≤ one.room) listed
   pub spare_are : AllByRecursion (λ room. outs.geometry.slots ≤ room) spare
-  pub count : length flushes + length spare ≡ journals_of outs.geometry.layout
-  pub room : journals_of outs.geometry.layout ≤ flush_room
+  pub count : length listed + length spare ≡ journals_of outs.geometry.layout
+  pub room : journals_of outs.geometry.layout ≤ list_room
   pub spare_fits : journals_of outs.geometry.layout ≤ spare_room
 
 -- the write-out whose step comes next stands at this place
@@ -41,10 +35,10 @@ pub record IsCurrent (batches : List WriteOut) (at : ℕ) : Type 0 where
   pub advanced : (d : WriteOut) → advanced batches ≡ slice_set batches at (advanced_of (slice_index_or batches at d))
 
 -- what the lists become by a step's answer
-abbrev pub kept_after : Flushed → List FlushValue → List FlushValue
-kept_after (Done mark) flushes = drop 1 flushes
-kept_after answer flushes = flushes
+abbrev pub kept_after : Flushed → List ListedWriteOut → List ListedWriteOut
+kept_after (Done mark) listed = drop 1 listed
+kept_after answer listed = listed
 
-abbrev pub spare_after : Flushed → List FlushValue → List ℕ → List ℕ
+abbrev pub spare_after : Flushed → List ListedWriteOut → List ℕ → List ℕ
 spare_after (Done mark) (oldest ∷ newer) spare = spare ++ oldest.room ∷ []
-spare_after answer flushes spare = spare
+spare_after answer listed spare = spare

@@ -4,21 +4,15 @@ use Rattle.std.specs.List.{AllByRecursion}
 use Rattle.volume_codec.specs.declared.layout.Layout.{Layout}
 use Rattle.volume_codec.specs.Layout.{GeometryValue, IsGeometry, journals_of}
 use Rattle.volume_codec.specs.Recovery.{Batch}
-use Rattle.journal.specs.declared.stage.Stage.{Stage}
 use Rattle.journal.specs.declared.stage.Stage.TheVariants.{Applying}
-use Rattle.journal.specs.Work.{Work, work_at}
-use Rattle.journal.specs.WriteOut.{WriteOut, FlushValue, next_stage, has_committed}
+use Rattle.journal.specs.WriteOut.{WriteOut, next_stage, has_committed}
 use Rattle.journal.specs.WriteOut.{IsBatch}
 use Rattle.journal.specs.WriteOuts.{WriteOutsValue, following}
 
--- what holds of every `Flush`
+-- what holds of every batch that is on its way, in a volume of this geometry
 pub record IsFlush (g : GeometryValue) (batch : Batch) : Type 0 where
   pub few_slots : g.slots ≤ 1020
   pub is_batch : IsBatch g batch
-
--- what the step of this stage of a `Flush` asks of the device
-abbrev pub stage_work : FlushValue → List ℕ → Stage → Work
-stage_work flush bytes stage = work_at flush.geometry flush.write_out.batch bytes stage
 
 -- a write-out that isn't done
 pub record IsWriteOut (g : GeometryValue) (w : WriteOut) : Type 0 where

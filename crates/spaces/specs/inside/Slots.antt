@@ -107,6 +107,11 @@ HasUse slot used = (s : SpaceState) (page : ℕ) (entry : Mapped) → slot ≡ S
 abbrev pub AreInUse : List (Option SpaceState) → List ℕ → Type 0
 AreInUse slots in_use = (pcid : ℕ) → HasUse (slot_at slots pcid) (is_set in_use pcid)
 
+-- the bit of each slot without a space is set, and no other
+pub record AreFreed (slots : List (Option SpaceState)) (freed : List ℕ) : Type 0 where
+  pub below : (pcid : ℕ) → pcid < length slots → is_set freed pcid ≡ not (is_some (slot_at slots pcid))
+  pub past : (pcid : ℕ) → length slots ≤ pcid → is_set freed pcid ≡ false
+
 -- the entries of one slot's space are edited, if it has one; the other slots stay
 pub record EditsSlot (f : SpaceState → maps.FinMap nat_cmp Mapped) (pcid : ℕ) (old new : List (Option SpaceState)) : Type 0 where
   pub size : length new ≡ length old

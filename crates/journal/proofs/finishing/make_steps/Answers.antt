@@ -1,12 +1,9 @@
-use Rattle.std.proofs.Common.{◌≡◌, ◌+◌, ◌*◌, ◌<◌, ◌≤◌, false, true, length, Some, Result, Ok, Err, refl, sym, ap, ◌∙◌, subst, ⊎_elim, arith}
+use Rattle.std.proofs.Common.{◌≡◌, ◌+◌, ◌*◌, ◌<◌, false, length, refl, sym, ap, ◌∙◌, subst, ⊎_elim, arith}
 use Rattle.std.specs.Prelude.{IsSome}
-use Rattle.device.specs.declared.fault.DeviceFault.{DeviceFault}
-use Rattle.device.specs.Did.{Did}
 use Rattle.device.proofs.Done.{did_as}
-use Rattle.journal.specs.declared.flushed.Flushed.{Flushed}
-use Rattle.journal.specs.declared.flushed.Flushed.TheVariants.{Device, Broken}
-use Rattle.journal.specs.Work.{work_at, has_done}
-use Rattle.journal.specs.WriteOut.{FlushValue, next_stage, advanced_of, flush_work, flush_answer, flush_after}
+use Rattle.journal.specs.declared.flushed.Flushed.TheVariants.{Broken}
+use Rattle.journal.specs.Work.{has_done}
+use Rattle.journal.specs.WriteOut.{FlushValue, next_stage, advanced_of, flush_work, flush_answer}
 use Rattle.journal.specs.inside.Finishing.{made, IsUnderWay}
 use Rattle.journal.proofs.StandsKept.{done_unless}
 use Rattle.journal.proofs.UnderWay.{late_stage, first_step, under_step, under_failed, under_end, after_value, late_answer_of}

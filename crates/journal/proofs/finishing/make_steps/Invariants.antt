@@ -1,5 +1,4 @@
 use Rattle.std.proofs.Common.{◌≡◌, ◌+◌, false, length}
-use Rattle.journal.specs.WriteOut.{FlushValue}
 use Rattle.journal.specs.inside.Finishing.{made, IsUnderWay}
 use Rattle.journal.proofs.finishing.make_steps.Given as goal
 

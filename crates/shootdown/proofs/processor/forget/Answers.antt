@@ -24,10 +24,3 @@ returns-else-pcid-space c = rw c.in-SingleContext.is (elim c.else-pcid-space.bra
   | else-pcid-space-via-then-pcid-space+else-pcid-may_cache w ↦ flags_kept_all _ _ (λ k within. grind (arith, nat_tests))
   | else-pcid-space-via-else-pcid-space w ↦ flags_kept_all _ _ (λ k within. grind (arith, nat_tests))
 ])
-
-all_cleared : (action : Invpcid) (space : ℕ) (flags new : List Bool) → (action ≡ AllContextsAndGlobals) ⊎ (action ≡ AllContexts) → length new ≡ length flags → ((k : ℕ) → k < length flags → get_or new k false ≡ (get_or flags k false && (k == space))) → new ≡ flags_kept (λ pcid. pcid == space || not (drops_pcid action pcid)) 0 flags
-all_cleared action space flags new (inl is) same each = rw is (flags_kept-from_each _ flags new same (λ k within. each k within ∙ ap (λ b. get_or flags k false && b) (or_false (k == space))))
-all_cleared action space flags new (inr is) same each = rw is (flags_kept-from_each _ flags new same (λ k within. each k within ∙ ap (λ b. get_or flags k false && b) (or_false (k == space))))
-
-pub returns-after-loop-pcid : goal.returns-after-loop-pcid
-returns-after-loop-pcid c = all_cleared c.args.action c.args.space _ _ c.in-AllContextsAndGlobals.is (omega arith) (λ k within. c.loop-pcid.invariant.0 k (omega arith))

@@ -4,7 +4,7 @@ use Rattle.std.specs.Vec.{vec_capacity}
 use Rattle.std.specs.List.{AllByRecursion}
 use Rattle.std.proofs.lemmas.Bool.{cond-true}
 use Rattle.volume_codec.specs.Descriptor.{AreHomes}
-use Rattle.journal.specs.WriteOut.{flush_of}
+use Rattle.journal.specs.inside.Listed.{listed_of}
 use Rattle.journal.specs.WriteOuts.{WriteOutsValue, is_busy, next_batch, begun}
 use Rattle.journal.specs.inside.Room.{outs_of, HasRoom}
 use Rattle.journal.specs.inside.Sound.{IsSound}
@@ -14,7 +14,7 @@ use Rattle.journal.proofs.write_outs.WriteOuts.begin.Goals as goal
 
 module _ (g : _) (c : goal.After-self-1 g) where
   abbrev outs : WriteOutsValue
-  outs = outs_of c.self.inside.geometry c.self.inside.next c.self.inside.flushes.items c.self.inside.broken
+  outs = outs_of c.self.inside.geometry c.self.inside.next c.self.inside.listed.items c.self.inside.broken
 
   free : IsFree outs
   free = not_busy outs c.self.invariant.sound (ap is_busy c.self.view_is ∙ c.requires.free)
@@ -29,22 +29,22 @@ module _ (g : _) (c : goal.After-self-1 g) where
   popped : map (λ list. vec_capacity list) c.self.inside.spare.items ≡ map (λ list. vec_capacity list) c.pop.new.self.items ++ vec_capacity c.unwrap.result ∷ []
   popped = popped_last (λ list. vec_capacity list) c.self.inside.spare.items c.pop.new.self.items c.pop.result c.unwrap.result c.pop.ensures.items c.unwrap.ensures
 
-  pushed : c.push.new.self.items ≡ c.self.inside.flushes.items ++ flush_of outs.geometry (next_batch outs c.args.mark c.args.homes.now) (vec_capacity c.refilled-list.result) ∷ []
+  pushed : c.push.new.self.items ≡ c.self.inside.listed.items ++ listed_of (next_batch outs c.args.mark c.args.homes.now) (vec_capacity c.refilled-list.result) ∷ []
   pushed =
-      let size = c.self.inside.flushes.ok.0 in
-      let ok : IsOk c.push.result = c.push.ensures.succeeds (omega (arith, free.fewer, length-write_outs c.self.inside.flushes.items, size, c.self.invariant.room)) in
-      c.push.ensures.items ∙ cond-true (is_ok c.push.result) (c.self.inside.flushes.items ++ c.new-flush.result ∷ []) c.self.inside.flushes.items ok
-      ∙ ap (λ f. c.self.inside.flushes.items ++ f ∷ []) (c.new-flush.ensures ∙ ap (λ l. flush_of outs.geometry (next_batch outs c.args.mark l) (vec_capacity c.refilled-list.result)) c.refilled-list.ensures.items)
+      let size = c.self.inside.listed.ok.0 in
+      let ok : IsOk c.push.result = c.push.ensures.succeeds (omega (arith, free.fewer, length-write_outs c.self.inside.listed.items, size, c.self.invariant.room)) in
+      c.push.ensures.items ∙ cond-true (is_ok c.push.result) (c.self.inside.listed.items ++ c.new-one.result ∷ []) c.self.inside.listed.items ok
+      ∙ ap (λ f. c.self.inside.listed.items ++ f ∷ []) (c.new-one.ensures ∙ ap (λ l. listed_of (next_batch outs c.args.mark l) (vec_capacity c.refilled-list.result)) c.refilled-list.ensures.items)
 
 pub invariant_of-self : goal.invariant_of-self
 invariant_of-self g c =
-    let has = begun_room (outs g c) c.self.inside.flushes.items c.push.new.self.items (map (λ list. vec_capacity list) c.self.inside.spare.items) (map (λ list. vec_capacity list) c.pop.new.self.items)
-    (vec_capacity c.self.inside.flushes) (vec_capacity c.push.new.self) (vec_capacity c.self.inside.spare) (vec_capacity c.pop.new.self) c.args.mark c.args.homes.now (vec_capacity c.unwrap.result) (vec_capacity c.refilled-list.result)
+    let has = begun_room (outs g c) c.self.inside.listed.items c.push.new.self.items (map (λ list. vec_capacity list) c.self.inside.spare.items) (map (λ list. vec_capacity list) c.pop.new.self.items)
+    (vec_capacity c.self.inside.listed) (vec_capacity c.push.new.self) (vec_capacity c.self.inside.spare) (vec_capacity c.pop.new.self) c.args.mark c.args.homes.now (vec_capacity c.unwrap.result) (vec_capacity c.refilled-list.result)
     c.self.invariant (sound g c) (pushed g c) (popped g c) c.refilled-list.ensures.room c.push.ensures.capacity (omega (arith, c.pop.ensures.capacity)) in
-    let same = begun_view (outs g c) c.self.inside.flushes.items c.push.new.self.items c.args.mark c.args.homes.now (vec_capacity c.refilled-list.result) c.journal_after-self-inside.result refl (pushed g c) c.journal_after-self-inside.ensures in
+    let same = begun_view (outs g c) c.self.inside.listed.items c.push.new.self.items c.args.mark c.args.homes.now (vec_capacity c.refilled-list.result) c.journal_after-self-inside.result refl (pushed g c) c.journal_after-self-inside.ensures in
     subst (λ o. HasRoom o c.push.new.self.items (vec_capacity c.push.new.self) (map (λ list. vec_capacity list) c.pop.new.self.items) (vec_capacity c.pop.new.self)) (sym same) has
 
 pub returns : goal.returns
 returns g c =
-    begun_view (outs g c) c.self.inside.flushes.items c.push.new.self.items c.args.mark c.args.homes.now (vec_capacity c.refilled-list.result) c.journal_after-self-inside.result refl (pushed g c) c.journal_after-self-inside.ensures
+    begun_view (outs g c) c.self.inside.listed.items c.push.new.self.items c.args.mark c.args.homes.now (vec_capacity c.refilled-list.result) c.journal_after-self-inside.result refl (pushed g c) c.journal_after-self-inside.ensures
     ∙ ap (λ o. begun o c.args.mark c.args.homes.now) c.self.view_is

@@ -1,7 +1,7 @@
 use Rattle.std.proofs.Common.{ℕ, ◌<◌, get_or}
 use Rattle.std.specs.List.{Contains}
-use Rattle.journal.specs.WriteOut.{FlushValue}
+use Rattle.journal.specs.inside.Listed.{ListedWriteOut}
 use Rattle.journal.proofs.write_outs.WriteOuts.has_block.Given as goal
 
-abbrev pub invariant-loop-flush : goal.invariant-loop-flush
-invariant-loop-flush g l = (k : ℕ) (d : FlushValue) → k < l.flush-index → Contains (get_or l.flush-items k d).write_out.batch.homes l.home → ⊥
+abbrev pub invariant-loop-one : goal.invariant-loop-one
+invariant-loop-one g l = (k : ℕ) (d : ListedWriteOut) → k < l.one-index → Contains (get_or l.one-items k d).write_out.batch.homes l.home → ⊥

@@ -1,15 +1,14 @@
-use Rattle.std.proofs.Common.{◌≡◌, ℕ, ◌<◌, ◌+◌, List, [], true, false, Option, Some, length, map, ap, ◌∙◌, sym, subst, inl, inr, ⊎_elim, arith, refl}
+use Rattle.std.proofs.Common.{◌≡◌, ℕ, ◌<◌, List, [], true, false, Option, Some, length, map, ap, ◌∙◌, sym, subst, inl, inr, ⊎_elim, arith, refl}
 use Rattle.std.specs.Prelude.{IfSome}
 use Rattle.std.specs.Option.{option_map_or}
 use Rattle.std.specs.Vec.{vec_capacity}
 use Rattle.std.proofs.lemmas.Bool.{cond-false}
 use Rattle.device.specs.Device.{LeavesOnly}
-use Rattle.volume_codec.specs.Layout.{GeometryValue}
 use Rattle.journal.specs.declared.flushed.Flushed.{Flushed}
 use Rattle.journal.specs.declared.flushed.Flushed.TheVariants.{Done, Device, Broken}
-use Rattle.journal.specs.Work.{Work, Nothing}
+use Rattle.journal.specs.Work.{Nothing}
 use Rattle.journal.specs.WriteOut.{WriteOut, has_committed, work_of, answer_of}
-use Rattle.journal.specs.WriteOut.{FlushValue, flush_work, flush_answer}
+use Rattle.journal.specs.inside.Listed.{ListedWriteOut}
 use Rattle.journal.specs.WriteOuts.{WriteOutsValue, current, current_stage, outs_home, next_work, next_answer, outs_after}
 use Rattle.volume_codec.specs.Super.{SuperValue}
 use Rattle.device.proofs.Moments.{leaves_weaker, leaves_at_start}
@@ -17,28 +16,37 @@ use Rattle.device.proofs.Done.{did_as}
 use Rattle.journal.specs.Crash.{LeftWithin}
 use Rattle.journal.specs.Standing.{IsStep, Stands, Stepped}
 use Rattle.journal.specs.inside.Sound.{IsSound, IsWriteOut}
-use Rattle.journal.specs.inside.Room.{write_outs_in, IsCurrent, IsOneOf, HasRoom}
+use Rattle.journal.specs.inside.Room.{write_outs_in, IsCurrent, HasRoom}
 use Rattle.journal.proofs.Alls.{all_at}
-use Rattle.journal.proofs.Answering.{sound_of, sound_after, answer_same, step_sound, failed_sound, done_committed}
+use Rattle.journal.proofs.Answering.{step_sound, failed_sound, done_committed}
 use Rattle.journal.proofs.StandsKept.{stands_left, stands_within, standing}
 use Rattle.journal.proofs.Rooms.{at_place, length-write_outs, stepped_view, stepped_room}
 use Rattle.journal.proofs.write_outs.WriteOuts.step.Goals as goal
 
+pub step-answer-requires-clause-batch : goal.step-answer-requires-clause-batch
+step-answer-requires-clause-batch g c =
+    let listed = c.self.inside.listed.items in
+    let w = c.index_mut-one.result.now.write_out in
+    let is : IsCurrent (write_outs_in listed) c.unwrap-at.result = subst (λ o. IsCurrent o.batches c.unwrap-at.result) (sym c.self.view_is) (subst (λ o. IfSome o (IsCurrent c.args.self.now.batches)) c.unwrap-at.ensures c.current_place.ensures.some) in
+    let lt : c.unwrap-at.result < length listed = omega (arith, is.within, length-write_outs listed) in
+    let here = at_place listed c.unwrap-at.result c.index_mut-one.result.now lt c.index_mut-one.ensures.value w in
+    (all_at (IsWriteOut c.self.inside.geometry) (write_outs_in listed) w c.self.invariant.sound.each (c.unwrap-at.result, is.within, here)).batch
+
 pub step-answer-requires-clause-going : goal.step-answer-requires-clause-going
 step-answer-requires-clause-going g c =
-    let flushes = c.self.inside.flushes.items in
-    let w = c.index_mut-flush.result.now.write_out in
-    let is : IsCurrent (write_outs_in flushes) c.unwrap-at.result = subst (λ o. IsCurrent o.batches c.unwrap-at.result) (sym c.self.view_is) (subst (λ o. IfSome o (IsCurrent c.args.self.now.batches)) c.unwrap-at.ensures c.current_place.ensures.some) in
-    let lt : c.unwrap-at.result < length flushes = omega (arith, is.within, length-write_outs flushes) in
-    let here = at_place flushes c.unwrap-at.result c.index_mut-flush.result.now lt c.index_mut-flush.ensures.value w in
-    (all_at (IsWriteOut c.self.inside.geometry) (write_outs_in flushes) w c.self.invariant.sound.each (c.unwrap-at.result, is.within, here)).going
+    let listed = c.self.inside.listed.items in
+    let w = c.index_mut-one.result.now.write_out in
+    let is : IsCurrent (write_outs_in listed) c.unwrap-at.result = subst (λ o. IsCurrent o.batches c.unwrap-at.result) (sym c.self.view_is) (subst (λ o. IfSome o (IsCurrent c.args.self.now.batches)) c.unwrap-at.ensures c.current_place.ensures.some) in
+    let lt : c.unwrap-at.result < length listed = omega (arith, is.within, length-write_outs listed) in
+    let here = at_place listed c.unwrap-at.result c.index_mut-one.result.now lt c.index_mut-one.ensures.value w in
+    (all_at (IsWriteOut c.self.inside.geometry) (write_outs_in listed) w c.self.invariant.sound.each (c.unwrap-at.result, is.within, here)).going
 
 module _ (g : _) (c : goal.After-settle g) where
   abbrev outs : WriteOutsValue
-  outs = record { geometry = c.self.inside.geometry; next = c.self.inside.next; batches = write_outs_in c.self.inside.flushes.items; broken = c.self.inside.broken }
+  outs = record { geometry = c.self.inside.geometry; next = c.self.inside.next; batches = write_outs_in c.self.inside.listed.items; broken = c.self.inside.broken }
 
-  abbrev f : FlushValue
-  f = c.index_mut-flush.result.now
+  abbrev f : ListedWriteOut
+  f = c.index_mut-one.result.now
 
   abbrev bytes : List ℕ
   bytes = c.args.bytes.now
@@ -46,42 +54,29 @@ module _ (g : _) (c : goal.After-settle g) where
   current_at : IsCurrent outs.batches c.unwrap-at.result
   current_at = subst (λ o. IsCurrent o.batches c.unwrap-at.result) (sym c.self.view_is) (subst (λ o. IfSome o (IsCurrent c.args.self.now.batches)) c.unwrap-at.ensures c.current_place.ensures.some)
 
-  within : c.unwrap-at.result < length c.self.inside.flushes.items
-  within = omega (arith, current_at.within, length-write_outs c.self.inside.flushes.items)
+  within : c.unwrap-at.result < length c.self.inside.listed.items
+  within = omega (arith, current_at.within, length-write_outs c.self.inside.listed.items)
 
   current_is : current outs.batches ≡ Some f.write_out
-  current_is = current_at.current f.write_out ∙ ap Some (at_place c.self.inside.flushes.items c.unwrap-at.result f within c.index_mut-flush.ensures.value f.write_out)
-
-  one : IsOneOf outs f
-  one = all_at (IsOneOf outs) c.self.inside.flushes.items f c.self.invariant.flushes_are (c.unwrap-at.result, within, sym c.index_mut-flush.ensures.value)
-
-  whole : f.broken ≡ false
-  whole = one.whole c.if-self.false
+  current_is = current_at.current f.write_out ∙ ap Some (at_place c.self.inside.listed.items c.unwrap-at.result f within c.index_mut-one.ensures.value f.write_out)
 
   some : outs.batches ≡ [] → ⊥
   some e = let none = ap length e in let lt = current_at.within in absurd (omega arith)
 
-  same_work : flush_work f bytes ≡ next_work c.args.self.now bytes
+  same_work : work_of outs.geometry bytes f.write_out ≡ next_work c.args.self.now bytes
   same_work =
-      cond-false f.broken Nothing (work_of f.geometry bytes f.write_out) whole ∙ ap (λ (x : GeometryValue). work_of x bytes f.write_out) one.geometry
-      ∙ sym (cond-false outs.broken Nothing (option_map_or (work_of outs.geometry bytes) (current outs.batches) Nothing) c.if-self.false ∙ ap (λ (o : Option WriteOut). option_map_or (work_of outs.geometry bytes) o Nothing) current_is)
+      sym (cond-false outs.broken Nothing (option_map_or (work_of outs.geometry bytes) (current outs.batches) Nothing) c.if-self.false ∙ ap (λ (o : Option WriteOut). option_map_or (work_of outs.geometry bytes) o Nothing) current_is)
       ∙ ap (λ o. next_work o bytes) c.self.view_is
 
-  own_answer : flush_answer f ≡ answer_of f.write_out
-  own_answer = cond-false f.broken Broken (answer_of f.write_out) whole
-
-  same_answer : flush_answer f ≡ next_answer outs
+  same_answer : answer_of f.write_out ≡ next_answer outs
   same_answer =
-      own_answer ∙ sym (cond-false outs.broken Broken (option_map_or answer_of (current outs.batches) Broken) c.if-self.false ∙ ap (λ (o : Option WriteOut). option_map_or answer_of o Broken) current_is)
+      sym (cond-false outs.broken Broken (option_map_or answer_of (current outs.batches) Broken) c.if-self.false ∙ ap (λ (o : Option WriteOut). option_map_or answer_of o Broken) current_is)
 
   not_broken : c.step-answer.result ≡ Broken → ⊥
-  not_broken e = ⊎_elim (λ is. (sound_after outs.geometry outs.next outs.batches some (sound_of outs c.self.invariant.sound)).not_broken (sym (answer_same outs c.self.invariant.sound c.if-self.false some) ∙ sym same_answer ∙ sym is ∙ e)) (λ is. differ (sym is ∙ e)) c.step-answer.ensures.answer
-    where
-      differ : Device ≡ Broken → ⊥
-      differ e = cc
+  not_broken = c.step-answer.ensures.sane
 
   ends : (mark : ℕ) → c.step-answer.result ≡ Done mark → has_committed f.write_out ≡ true
-  ends mark e = ⊎_elim (λ is. done_committed f.write_out mark (sym own_answer ∙ sym is ∙ e)) (λ is. absurd (differ (sym is ∙ e))) c.step-answer.ensures.answer
+  ends mark e = ⊎_elim (λ is. done_committed f.write_out mark (sym is ∙ e)) (λ is. absurd (differ (sym is ∙ e))) c.step-answer.ensures.answer
     where
       differ : Device ≡ Done mark → ⊥
       differ e = cc
@@ -92,18 +87,18 @@ module _ (g : _) (c : goal.After-settle g) where
       (λ is. subst (λ (a : Flushed). IsSound (outs_after outs a)) (sym is) (failed_sound outs c.self.invariant.sound))
       c.step-answer.ensures.answer
 
-  value : record outs { batches = write_outs_in c.settle.new.flushes.items; broken = c.settle.new.broken } ≡ outs_after outs c.step-answer.result
+  value : record outs { batches = write_outs_in c.settle.new.listed.items; broken = c.settle.new.broken } ≡ outs_after outs c.step-answer.result
   value =
-      (λ i. record outs { batches = write_outs_in (c.settle.ensures.flushes i); broken = c.settle.ensures.broken i })
-      ∙ stepped_view outs c.self.inside.flushes.items c.unwrap-at.result f c.step-answer.new.self refl current_at c.index_mut-flush.ensures.value c.step-answer.result c.step-answer.ensures.value not_broken ends
+      (λ i. record outs { batches = write_outs_in (c.settle.ensures.listed i); broken = c.settle.ensures.broken i })
+      ∙ stepped_view outs c.self.inside.listed.items c.unwrap-at.result f c.step-answer.new.self refl current_at c.index_mut-one.ensures.value c.step-answer.result c.step-answer.ensures.value not_broken ends
 
 pub invariant_of-self : goal.invariant_of-self
 invariant_of-self g c =
-    let has = stepped_room (outs g c) c.self.inside.flushes.items c.unwrap-at.result (f g c) c.step-answer.new.self refl (current_at g c) c.index_mut-flush.ensures.value c.step-answer.result
-    (map (λ list. vec_capacity list) c.self.inside.spare.items) (map (λ list. vec_capacity list) c.settle.new.spare.items) (vec_capacity c.self.inside.flushes) (vec_capacity c.settle.new.flushes) (vec_capacity c.self.inside.spare) (vec_capacity c.settle.new.spare)
-    c.self.invariant (sound g c) (not_broken g c) c.if-self.false c.step-answer.ensures.value c.settle.ensures.spare (omega (arith, c.settle.ensures.capacity)) c.settle.ensures.spare_capacity in
-    subst (λ o. HasRoom o c.settle.new.flushes.items (vec_capacity c.settle.new.flushes) (map (λ list. vec_capacity list) c.settle.new.spare.items) (vec_capacity c.settle.new.spare)) (sym (value g c))
-    (subst (λ l. HasRoom (outs_after (outs g c) c.step-answer.result) l (vec_capacity c.settle.new.flushes) (map (λ list. vec_capacity list) c.settle.new.spare.items) (vec_capacity c.settle.new.spare)) (sym c.settle.ensures.flushes) has)
+    let has = stepped_room (outs g c) c.self.inside.listed.items c.unwrap-at.result (f g c) c.step-answer.new.self refl (current_at g c) c.index_mut-one.ensures.value c.step-answer.result
+    (map (λ list. vec_capacity list) c.self.inside.spare.items) (map (λ list. vec_capacity list) c.settle.new.spare.items) (vec_capacity c.self.inside.listed) (vec_capacity c.settle.new.listed) (vec_capacity c.self.inside.spare) (vec_capacity c.settle.new.spare)
+    c.self.invariant (sound g c) c.step-answer.ensures.value c.settle.ensures.spare (omega (arith, c.settle.ensures.capacity)) c.settle.ensures.spare_capacity in
+    subst (λ o. HasRoom o c.settle.new.listed.items (vec_capacity c.settle.new.listed) (map (λ list. vec_capacity list) c.settle.new.spare.items) (vec_capacity c.settle.new.spare)) (sym (value g c))
+    (subst (λ l. HasRoom (outs_after (outs g c) c.step-answer.result) l (vec_capacity c.settle.new.listed) (map (λ list. vec_capacity list) c.settle.new.spare.items) (vec_capacity c.settle.new.spare)) (sym c.settle.ensures.listed) has)
 
 pub returns-clause-value : goal.returns-clause-value
 returns-clause-value g c = value g c ∙ ap (λ o. outs_after o c.step-answer.result) c.self.view_is

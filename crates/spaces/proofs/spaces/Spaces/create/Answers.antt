@@ -1,8 +1,9 @@
 use Rattle.std.proofs.Common.{ℕ, ◌≡◌, ◌++◌, ◌∷◌, [], length, cond, Some, Result, Ok, Err, is_ok, is_err, true, false, refl, sym, ap, ◌∙◌, subst, arith}
 use Rattle.spaces.specs.Spaces.{SpacesState, empty_space, with_space, IsLowestFree}
-use Rattle.spaces.specs.inside.Slots.{spaces_of, IsFirstFree, AreSlots, AreInUse}
+use Rattle.spaces.specs.inside.Slots.{spaces_of, IsFirstFree, AreSlots, AreInUse, AreFreed}
 use Rattle.spaces.proofs.SlotEdits.{lowest_free, none_free, slots_filled, slots_pushed, set-create, push-create}
 use Rattle.spaces.proofs.Used.{HasUse-blank, in_use_set, in_use_pushed}
+use Rattle.spaces.proofs.Freed.{freed_set, freed_pushed}
 use Rattle.spaces.proofs.spaces.Spaces.create.Goals as goal
 
 pub returns-then-free-eq-PCIDS-clause-refused : goal.returns-then-free-eq-PCIDS-clause-refused
@@ -26,6 +27,7 @@ invariant_of-self g c =
     let first = subst (λ l. IsFirstFree l at) c.deref.ensures.value c.first_free-free.ensures in (
       slots_filled slots c.self.inside.prepared c.self.invariant.0 at first.free c.in-Ok.space c.in-Ok.ensures (omega (arith, c.self.inside.slots.ok.0)),
       in_use_set slots c.self.inside.in_use at (Some c.in-Ok.space) c.self.invariant.1 (omega (arith, c.self.inside.slots.ok.0)) (HasUse-blank c.in-Ok.space _ c.in-Ok.ensures),
+      freed_set slots c.self.inside.freed c.mark.new.mask at (Some c.in-Ok.space) c.self.invariant.2 (omega (arith, c.self.inside.slots.ok.0)) c.mark.ensures,
     )
 
 pub returns-then-free-len-clause-lowest : goal.returns-then-free-len-clause-lowest
@@ -65,7 +67,7 @@ pub invariant_of-self-then-is_err : goal.invariant_of-self-then-is_err
 invariant_of-self-then-is_err g c =
     let slots = c.self.inside.slots.items in
     let kept : c.push.new.self.items ≡ slots = c.push.ensures.items ∙ ap (λ b. cond b (slots ++ Some c.in-Ok.space ∷ []) slots) (refused c.push.result (sym c.is_err.ensures.value ∙ c.if-is_err.true)) in
-    (subst (λ l. AreSlots l c.self.inside.prepared) (sym kept) c.self.invariant.0, subst (λ l. AreInUse l c.self.inside.in_use) (sym kept) c.self.invariant.1)
+    (subst (λ l. AreSlots l c.self.inside.prepared) (sym kept) c.self.invariant.0, subst (λ l. AreInUse l c.self.inside.in_use) (sym kept) c.self.invariant.1, subst (λ l. AreFreed l c.self.inside.freed) (sym kept) c.self.invariant.2)
 
 pub invariant_of-self-2 : goal.invariant_of-self-2
 invariant_of-self-2 g c =
@@ -76,6 +78,7 @@ invariant_of-self-2 g c =
     let last : at ≡ length slots = omega (arith, first.within, c.self.inside.slots.ok.0) in (
       subst (λ l. AreSlots l c.self.inside.prepared) (sym pushed) (slots_pushed slots c.self.inside.prepared c.self.invariant.0 at first.free c.in-Ok.space c.in-Ok.ensures last (lowest_free slots c.self.inside.prepared c.self.invariant.0 at first c.if-free-eq-PCIDS.false).small),
       subst (λ l. AreInUse l c.self.inside.in_use) (sym pushed) (in_use_pushed slots c.self.inside.in_use c.in-Ok.space c.self.invariant.1 c.in-Ok.ensures),
+      subst (λ l. AreFreed l c.self.inside.freed) (sym pushed) (freed_pushed slots c.self.inside.freed c.in-Ok.space c.self.invariant.2),
     )
 
 pub returns-clause-lowest : goal.returns-clause-lowest

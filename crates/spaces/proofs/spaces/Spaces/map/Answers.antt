@@ -10,6 +10,7 @@ use Rattle.spaces.proofs.AreSpacesLaws.{user_space, mappable_ends, AreSpaces-wit
 use Rattle.spaces.proofs.SlotsLemmas.{within_slots, never_missing, slot_is, found_in_slot}
 use Rattle.spaces.proofs.SlotEdits.{slots_kept, slots_changed, set-same, set-with_mapping}
 use Rattle.spaces.proofs.Used.{in_use_same}
+use Rattle.spaces.proofs.Freed.{freed_same}
 use Rattle.spaces.proofs.spaces.Spaces.map.Goals as goal
 
 pub index_mut-requires : goal.index_mut-requires
@@ -44,6 +45,7 @@ invariant_of-self g c =
           (ap (λ (x : AddressSpace). x.places) err) c.in_err-map.ensures.kept
           (subst AreSpaces (sym same) c.self.invariant.0.spaces),
       in_use_same slots c.self.inside.in_use c.args.pcid c.in-Some.space c.map.new.self c.self.invariant.1 at (ap (λ (x : AddressSpace). x.entries) err),
+      freed_same slots c.self.inside.freed c.args.pcid c.in-Some.space c.map.new.self c.self.invariant.2 at,
     )
 
 pub returns-in_err-map-clause-err : goal.returns-in_err-map-clause-err
@@ -64,6 +66,7 @@ invariant_of-self-2 g c =
       slots_changed slots c.args.pcid c.in-Some.space at c.map.new.self c.self.inside.prepared c.self.invariant.0
           (subst AreSpaces (sym is) (AreSpaces-with_mapping (spaces_of slots) c.args.pcid c.args.range c.args.place c.self.invariant.0.spaces user (mappable_ends c.in-Some.space.places c.args.range c.args.place c.in_ok-map.ensures.allowed))),
       in_use_same slots c.self.inside.in_use c.args.pcid c.in-Some.space c.map.new.self c.self.invariant.1 at c.in_ok-map.ensures.entries,
+      freed_same slots c.self.inside.freed c.args.pcid c.in-Some.space c.map.new.self c.self.invariant.2 at,
     )
 
 pub returns-clause-mapped : goal.returns-clause-mapped

@@ -8,6 +8,7 @@ use Rattle.spaces.proofs.AreSpacesLaws.{user_space}
 use Rattle.spaces.proofs.SlotsLemmas.{within_slots, never_missing, slot_is, found_in_slot}
 use Rattle.spaces.proofs.SlotEdits.{slots_kept, slots_prepared, set-same}
 use Rattle.spaces.proofs.Used.{in_use_same}
+use Rattle.spaces.proofs.Freed.{freed_same}
 use Rattle.spaces.proofs.spaces.Spaces.prepare.Goals as goal
 
 pub index_mut-requires : goal.index_mut-requires
@@ -31,6 +32,7 @@ invariant_of-self g c =
           (ap (λ (x : AddressSpace). x.places) c.prepare.ensures.same) c.prepare.ensures.grows
           (subst AreSpaces (sym same) c.self.invariant.0.spaces),
       in_use_same slots c.self.inside.in_use c.args.pcid c.in-Some.space c.prepare.new.self c.self.invariant.1 at (ap (λ (x : AddressSpace). x.entries) c.prepare.ensures.same),
+      freed_same slots c.self.inside.freed c.args.pcid c.in-Some.space c.prepare.new.self c.self.invariant.2 at,
     )
 
 pub returns-in_err-prepare-clause-splits : goal.returns-in_err-prepare-clause-splits
@@ -59,6 +61,7 @@ invariant_of-self-2 g c =
     let at = slot_is c.self.inside.slots.items c.args.pcid c.index_mut.result.now c.in-Some.space (user_space (spaces_of slots) c.args.pcid user).1 c.index_mut.ensures.value c.in-Some.is in (
       slots_prepared slots c.args.pcid c.in-Some.space at c.prepare.new.self c.self.inside.prepared c.args.range c.args.rights c.self.invariant.0 user c.requires.pages c.prepare.ensures.same c.in_ok-prepare.ensures.reserved,
       in_use_same slots c.self.inside.in_use c.args.pcid c.in-Some.space c.prepare.new.self c.self.invariant.1 at (ap (λ (x : AddressSpace). x.entries) c.prepare.ensures.same),
+      freed_same slots c.self.inside.freed c.args.pcid c.in-Some.space c.prepare.new.self c.self.invariant.2 at,
     )
 
 pub returns-clause-prepared : goal.returns-clause-prepared

@@ -7,6 +7,7 @@ use Rattle.spaces.proofs.AreSpacesLaws.{user_space, AreSpaces-SetsRights}
 use Rattle.spaces.proofs.SlotsLemmas.{within_slots, never_missing, slot_is, found_in_slot}
 use Rattle.spaces.proofs.SlotEdits.{slots_changed, set-SetsRights}
 use Rattle.spaces.proofs.Used.{in_use_protected}
+use Rattle.spaces.proofs.Freed.{freed_same}
 use Rattle.spaces.proofs.spaces.Spaces.protect.Goals as goal
 
 pub index_mut-requires : goal.index_mut-requires
@@ -44,6 +45,7 @@ invariant_of-self g c =
       slots_changed slots c.args.pcid c.in-Some.space at c.protect.new.self c.self.inside.prepared c.self.invariant.0
           (AreSpaces-SetsRights c.args.pcid c.args.range c.args.rights (spaces_of slots) _ c.self.invariant.0.spaces sets),
       in_use_protected slots c.self.inside.in_use c.args.pcid c.args.range.first (c.args.range.first + c.args.range.count) (may_write c.args.rights) c.in-Some.space c.protect.new.self c.self.invariant.1 at c.protect.ensures.entries,
+      freed_same slots c.self.inside.freed c.args.pcid c.in-Some.space c.protect.new.self c.self.invariant.2 at,
     )
 
 pub returns-clause-rights : goal.returns-clause-rights

@@ -4,8 +4,9 @@ use Rattle.std.proofs.lemmas.List.{length-map}
 use Rattle.spaces.specs.Spaces.{SpacesState, EditsEntries}
 use Rattle.page_table.specs.Table.{is_marked, frames_protected}
 use Rattle.spaces.specs.Changes.{protected_where}
-use Rattle.spaces.specs.inside.Slots.{spaces_of, edited, AreSlots, AreInUse}
+use Rattle.spaces.specs.inside.Slots.{spaces_of, edited, AreSlots, AreInUse, AreFreed}
 use Rattle.spaces.proofs.SlotEdits.{slots_edited, written, edits-protected}
+use Rattle.spaces.proofs.Freed.{freed_edited}
 use Rattle.spaces.proofs.spaces.Spaces.protect_frames.Goals as goal
 
 pub protect_slots-requires-clause-few : goal.protect_slots-requires-clause-few
@@ -23,6 +24,7 @@ invariant_of-self g c =
       subst (λ l. AreSlots l c.self.inside.prepared) (sym whole)
           (slots_edited (λ s. frames_protected s.entries c.args.noted.now) slots c.self.inside.prepared c.self.invariant.0 (λ q page entry. protected_where (is_marked c.args.noted.now) entry) (edits-protected slots c.args.noted.now) (λ q page. refl)),
       subst (λ l. AreInUse l c.protect_slots.new.in_use) (sym back) c.protect_slots.ensures.used,
+      subst (λ l. AreFreed l c.self.inside.freed) (sym whole) (freed_edited (λ s. frames_protected s.entries c.args.noted.now) slots c.self.inside.freed c.self.invariant.2),
     )
 
 pub returns-clause-entries : goal.returns-clause-entries

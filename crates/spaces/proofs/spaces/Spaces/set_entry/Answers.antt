@@ -7,6 +7,7 @@ use Rattle.spaces.proofs.AreSpacesLaws.{AreSpaces-with_entry}
 use Rattle.spaces.proofs.SlotsLemmas.{within_slots, never_missing, slot_is, found_in_slot}
 use Rattle.spaces.proofs.SlotEdits.{slots_kept, set-with_entry}
 use Rattle.spaces.proofs.Used.{in_use_put}
+use Rattle.spaces.proofs.Freed.{freed_same}
 use Rattle.spaces.proofs.spaces.Spaces.set_entry.Goals as goal
 
 pub index_mut-requires : goal.index_mut-requires
@@ -44,6 +45,7 @@ invariant_of-self g c =
           (ap (λ (s : SpaceState). s.places) c.set_entry.ensures) (let same = ap (λ (s : SpaceState). s.spare) c.set_entry.ensures in omega arith)
           (subst AreSpaces (sym is) (AreSpaces-with_entry (spaces_of slots) c.args.pcid c.args.page c.args.entry c.self.invariant.0.spaces mapped)),
       in_use_put slots c.self.inside.in_use c.mark.new.mask c.args.pcid (Some new) c.self.invariant.1 c.mark.ensures,
+      freed_same slots c.self.inside.freed c.args.pcid c.in-Some.space new c.self.invariant.2 at,
     )
 
 pub returns : goal.returns

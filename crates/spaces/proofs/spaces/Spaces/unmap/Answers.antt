@@ -5,6 +5,7 @@ use Rattle.spaces.proofs.AreSpacesLaws.{user_space, AreSpaces-without_mapping}
 use Rattle.spaces.proofs.SlotsLemmas.{within_slots, never_missing, slot_is}
 use Rattle.spaces.proofs.SlotEdits.{slots_changed, set-without_mapping}
 use Rattle.spaces.proofs.Used.{in_use_outside}
+use Rattle.spaces.proofs.Freed.{freed_same}
 use Rattle.spaces.proofs.spaces.Spaces.unmap.Goals as goal
 
 pub index_mut-requires : goal.index_mut-requires
@@ -38,6 +39,7 @@ invariant_of-self g c =
       slots_changed slots c.args.pcid c.in-Some.space at c.unmap.new.self c.self.inside.prepared c.self.invariant.0
           (subst AreSpaces (sym is) (AreSpaces-without_mapping (spaces_of slots) c.args.pcid c.args.range c.self.invariant.0.spaces there)),
       in_use_outside slots c.self.inside.in_use c.args.pcid c.args.range.first (c.args.range.first + c.args.range.count) c.in-Some.space c.unmap.new.self c.self.invariant.1 at c.unmap.ensures.entries,
+      freed_same slots c.self.inside.freed c.args.pcid c.in-Some.space c.unmap.new.self c.self.invariant.2 at,
     )
 
 pub returns : goal.returns

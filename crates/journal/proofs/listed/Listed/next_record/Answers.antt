@@ -2,7 +2,7 @@ use Rattle.std.proofs.Common.{◌≡◌, Some, length, ap, ◌∙◌, sym}
 use Rattle.journal.specs.WriteOut.{next_stage}
 use Rattle.journal.specs.declared.stage.Stage.TheVariants.{Recording}
 use Rattle.journal.proofs.Stages.{recording_within}
-use Rattle.journal.proofs.flush.Flush.next_record.Goals as goal
+use Rattle.journal.proofs.listed.Listed.next_record.Goals as goal
 
 pub returns-in-Some-Recording-clause-within : goal.returns-in-Some-Recording-clause-within
 returns-in-Some-Recording-clause-within g c =
