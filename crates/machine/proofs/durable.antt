@@ -5,14 +5,8 @@ pub mod Homes
 pub mod Settled
 pub mod Leaves
 pub mod Uncommitted
-pub mod Accesses
 pub mod Waiting
-pub mod Quiet
-pub mod QuietAccesses
-pub mod QuietCalls
-pub mod QuietFaults
-pub mod QuietChanges
-pub mod Kinds
+pub mod AtMark
 pub mod Overlays
 pub mod Marks
 pub mod Records

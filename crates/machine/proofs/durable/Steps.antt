@@ -1,11 +1,12 @@
 -- One step of a machine over an honest device: what the device recovers to still goes with what is told, and a crash within the step or after it reads back.
-use Rattle.std.proofs.Common.{◌≡◌, ◌≢◌, ◌<◌, ℕ, inl, inr, false, List, [], ◌∷◌, ◌++◌, length, map, refl, sym, ap, ◌∙◌, subst, arith}
+use Rattle.std.proofs.Common.{◌≡◌, ◌≢◌, ◌<◌, ℕ, inl, inr, cond, false, List, [], ◌∷◌, ◌++◌, length, map, Option, Some, None, refl, sym, ap, ◌∙◌, subst, arith}
 use Rattle.std.specs.Prelude.{is_some}
 use Rattle.std.specs.List.{Contains}
 use Rattle.std.proofs.lemmas.Bool.{cond-false}
 use Rattle.std.proofs.lemmas.List.Elements.{All-contains, Contains-push}
 use Rattle.page_entry.specs.declared.numbers.FilePage.{FilePage}
 use Rattle.page_entry.specs.declared.refusal.Refusal.TheVariants as refusals
+use Rattle.mappings.specs.declared.place.Place.{Place}
 use Rattle.device.specs.Device.{Only, LeavesOnly}
 use Rattle.device.specs.declared.device.Device.{Ghosts}
 use Rattle.volume_codec.specs.Files.{File}
@@ -15,32 +16,31 @@ use Rattle.journal.specs.declared.flushed.Flushed.{Flushed}
 use Rattle.journal.specs.declared.flushed.Flushed.TheVariants as flushed
 use Rattle.journal.specs.Work.{Work, Sync, Nothing, worked, TornFromWork}
 use Rattle.journal.specs.WriteOut.{WriteOut, begun_of}
-use Rattle.journal.specs.WriteOuts.{WriteOutsValue, current_stage, next_answer, next_batch, begun, outs_record}
+use Rattle.journal.specs.WriteOuts.{WriteOutsValue, current_stage, next_answer, next_batch, begun, outs_record, outs_after}
 use Rattle.journal.specs.Crash.{LeftWithin}
 use Rattle.journal.specs.inside.Standing.{IsStanding}
 use Rattle.journal.specs.inside.Tied.{IsTied}
 use Rattle.journal.proofs.Public.{stands_left}
 use Rattle.machine.specs.declared.act.Act.{Act}
-use Rattle.machine.specs.declared.act.Act.TheVariants as acts
 use Rattle.machine.specs.declared.act.Reply.{Reply}
 use Rattle.machine.specs.declared.act.Reply.TheVariants as replies
 use Rattle.machine.specs.declared.act.Step.{Step}
-use Rattle.machine.specs.History.{Acknowledge}
+use Rattle.machine.specs.History.{Event, Acknowledge}
 use Rattle.machine.specs.State.{State, Whole, home_of}
 use Rattle.checkpoint.specs.Checkpoint.{without_notes}
-use Rattle.machine.specs.Rules.{Acts, end_change, FlushMade, MarkMade, with_batch, work_asked, reply_to}
+use Rattle.machine.specs.Rules.{end_change, FlushMade, MarkMade, with_batch, work_asked, reply_to, after_record}
 use Rattle.machine.specs.inside.Sound.{IsSound}
-use Rattle.machine.specs.Told.{Told, tell, events_of}
+use Rattle.machine.specs.Told.{Told, tell, events_of, place_told, store_at, offset_at}
 use Rattle.machine.specs.Laws.{ReadsBack}
 use Rattle.machine.specs.Crashes.{StepIsSafe}
 use Rattle.machine.specs.Stops.{StopsInStep}
 use Rattle.machine.specs.inside.Tracking.{HasFiles, IsTracked}
 use Rattle.machine.specs.Steps.{step_work, StepMade}
 use Rattle.machine.specs.Runs.{StepTaken}
-use Rattle.machine.proofs.durable.Leaves.{written_left}
-use Rattle.machine.proofs.durable.Quiet.{QuietStep, unchanged}
-use Rattle.machine.proofs.durable.QuietChanges.{MarkStep}
-use Rattle.machine.proofs.durable.Kinds.{by_kind}
+use Rattle.machine.proofs.durable.Histories.{IsQuiet, marked_by}
+use Rattle.machine.proofs.durable.Leaves.{Leaves, written_left}
+use Rattle.machine.proofs.track.Deeds.{AsksNothing, GoesOn, OnPages, Same, Stored, Brought, Left, Deed, Quiet, Marks, Steps, Fails, acknowledged_by}
+use Rattle.machine.proofs.track.Does.{does}
 use Rattle.machine.proofs.durable.Marks.{IsDurable, written_as, marked_durable}
 use Rattle.machine.proofs.durable.Flushes.{flush_within, flush_failed, flush_goes_on, flush_commits}
 use Rattle.machine.proofs.durable.ReadsBack.{reads_within, reads_now}
@@ -67,73 +67,55 @@ durable_as files told told' s seen seen' may same same_seen is = record {
   written = written_as files told told' s is.old is.new same is.written;
 }
 
--- the reply to what a step of the write-outs answers tells the answer
-pub going_is : (a : Flushed) → replies.Going ≡ reply_to a → a ≡ flushed.Going
-going_is flushed.Going e = refl
-going_is (flushed.Committed mark) e = cc
-going_is (flushed.Done mark) e = cc
-going_is flushed.Device e = cc
-going_is flushed.Broken e = cc
+-- a store adds a store, or nothing
+stored_quiet : (o : Option Place) (va : ℕ) (bytes : List ℕ) → IsQuiet (store_at o va bytes)
+stored_quiet None va bytes = inl refl
+stored_quiet (Some place) va bytes = inr (place.file, offset_at place va, bytes, refl)
 
-pub committed_is : (number : ℕ) (a : Flushed) → replies.Committed number ≡ reply_to a → a ≡ flushed.Committed number
-committed_is number flushed.Going e = cc
-committed_is number (flushed.Committed mark) e = ap flushed.Committed (same number mark e)
-  where
-    same : (a b : ℕ) → replies.Committed a ≡ replies.Committed b → b ≡ a
-    same a b e = cc
-committed_is number (flushed.Done mark) e = cc
-committed_is number flushed.Device e = cc
-committed_is number flushed.Broken e = cc
-
-pub done_is : (number : ℕ) (a : Flushed) → replies.Done number ≡ reply_to a → a ≡ flushed.Done number
-done_is number flushed.Going e = cc
-done_is number (flushed.Committed mark) e = cc
-done_is number (flushed.Done mark) e = ap flushed.Done (same number mark e)
-  where
-    same : (a b : ℕ) → replies.Done a ≡ replies.Done b → b ≡ a
-    same a b e = cc
-done_is number flushed.Device e = cc
-done_is number flushed.Broken e = cc
-
-module _ (files : List File) (told : Told) (s : State) (disk : List ℕ) (may : List ℕ → Type 0) (t : IsTracked files told s disk may) (p : ℕ) (new : State) (disk' : List ℕ) (sound' : IsSound new) (may' : List ℕ → Type 0) where
+module _ (files : List File) (told : Told) (s : State) (disk : List ℕ) (may : List ℕ → Type 0) (t : IsTracked files told s disk may) (p : ℕ) (act : Act) (reply : Reply) (new : State) (disk' : List ℕ)
+    (sound' : IsSound new) (may' : List ℕ → Type 0) (left : (c : List ℕ) → may' c → TornFromWork (step_work s act reply) may c)
+    (sure : reply ≢ replies.Refused refusals.Device → step_work s act reply ≡ Sync → Only may' disk) where
   -- what is told after it
-  abbrev told_by : Act → Reply → Told
-  told_by act reply = record told { history = told.history ++ events_of told p act reply }
+  abbrev now : Told
+  now = tell told (record { p = p; act = act }) reply
 
-  -- what a crash after a step leaves
-  abbrev IsLeft : Act → Reply → Type 0
-  IsLeft act reply = (c : List ℕ) → may' c → TornFromWork (step_work s act reply) may c
+  -- what a crash within the step leaves, where it asks for this work
+  abbrev IsWithin : Work → Type 0
+  IsWithin work = (c : List ℕ) → TornFromWork work may c → LeftWithin s.table t.old t.new (current_stage s.write_outs) c
 
-  abbrev IsSure : Act → Reply → Type 0
-  IsSure act reply = reply ≢ replies.Refused refusals.Device → step_work s act reply ≡ Sync → Only may' disk
+  abbrev Outcome : Type 0
+  Outcome = IsDurable files now new disk' may' × IsWithin (step_work s act reply)
 
-  -- and within it
-  abbrev IsWithin : Act → Reply → Type 0
-  IsWithin act reply = (c : List ℕ) → TornFromWork (step_work s act reply) may c → LeftWithin s.table t.old t.new (current_stage s.write_outs) c
-
-  abbrev Outcome : Act → Reply → Type 0
-  Outcome act reply = IsDurable files (told_by act reply) new disk' may' × IsWithin act reply
+  -- where the work is this, so much is left
+  left_by : (work : Work) → step_work s act reply ≡ work → (c : List ℕ) → may' c → TornFromWork work may c
+  left_by work is c left_c = subst (λ (w : Work). TornFromWork w may c) is (left c left_c)
 
   -- ---- acts that leave the write-outs
 
-  as_nothing : (act : Act) (reply : Reply) → step_work s act reply ≡ Nothing → (c : List ℕ) → TornFromWork (step_work s act reply) may c → may c
-  as_nothing act reply work c torn = subst (λ (x : Work). TornFromWork x may c) work torn
+  adds_quietly : OnPages s disk p act reply new → IsQuiet (events_of told p act reply)
+  adds_quietly (Same none pages) = inl (none told)
+  adds_quietly (Stored va bytes h adds made is) = subst IsQuiet (sym (adds told)) (stored_quiet (place_told told p va) va bytes)
+  adds_quietly (Brought va write none made) = inl (none told)
+  adds_quietly (Left none made) = inl (none told)
 
-  left_now : (c : List ℕ) → may c → LeftWithin s.table t.old t.new (current_stage s.write_outs) c
-  left_now c left = stands_left s.table t.old t.new s.write_outs disk may t.stands c left
+  left_now : IsWithin Nothing
+  left_now c left_c = stands_left s.table t.old t.new s.write_outs disk may t.stands c left_c
 
-  quietly : (act : Act) (reply : Reply) → QuietStep told s p act reply new disk disk' → IsLeft act reply → Outcome act reply
-  quietly act reply q left = (
+  within : (work : Work) → step_work s act reply ≡ work → IsWithin work → IsWithin (step_work s act reply)
+  within work is = subst IsWithin (sym is)
+
+  quietly : AsksNothing s act reply → Leaves s new → disk' ≡ disk → OnPages s disk p act reply new → Outcome
+  quietly asks leaves same_disk pages = (
     record {
       old = t.old;
       new = t.new;
-      stands = subst (λ (l : List ℕ). IsStanding new.table new.write_outs t.old t.new l may') (sym q.same_disk)
-          (subst (λ (o : WriteOutsValue). IsStanding new.table o t.old t.new disk may') (sym q.leaves.write_outs)
-          (subst (λ (v : SuperValue). IsStanding v s.write_outs t.old t.new disk may') (sym q.leaves.files.table)
-          (stands_less s.table s.write_outs t.old t.new disk may may' (λ c may_c. as_nothing act reply q.work c (left c may_c)) t.stands)));
-      written = written_left files told (told_by act reply) (events_of told p act reply) s new t.old t.new refl q.quiet q.leaves t.written;
+      stands = subst (λ (l : List ℕ). IsStanding new.table new.write_outs t.old t.new l may') (sym same_disk)
+          (subst (λ (o : WriteOutsValue). IsStanding new.table o t.old t.new disk may') (sym leaves.write_outs)
+          (subst (λ (v : SuperValue). IsStanding v s.write_outs t.old t.new disk may') (sym leaves.files.table)
+          (stands_less s.table s.write_outs t.old t.new disk may may' (left_by Nothing asks.work) t.stands)));
+      written = written_left files told now (events_of told p act reply) s new t.old t.new refl (adds_quietly pages) leaves t.written;
     },
-    λ c torn. left_now c (as_nothing act reply q.work c torn),
+    within Nothing asks.work left_now,
   )
 
   -- ---- a mark
@@ -153,64 +135,68 @@ module _ (files : List File) (told : Told) (s : State) (disk : List ℕ) (may : 
           subst (λ (v : SuperValue). AreHomes (geometry_of v) homes) table
           (All-contains (λ (w : WriteOut). AreHomes (geometry_of new.table) w.batch.homes) new.write_outs.batches (begun_of (next_batch s.write_outs number homes)) sound'.write_outs.homes there)
 
-  marking : (reply : Reply) → MarkStep s p reply new disk disk' → IsLeft acts.Change reply → Outcome acts.Change reply
-  marking reply m left =
-      subst (λ (r : Reply). IsLeft acts.Change r → Outcome acts.Change r) (sym m.answer) (λ left. (
-        durable_as files (record told { history = told.history ++ events_of told p acts.Change (replies.Marked m.number) }) (told_by acts.Change (replies.Marked m.number)) new disk disk' may' refl m.same_disk
-            (marked_durable files told s p m.number disk may' t.old t.new t.sound t.latest t.touched (stands_less s.table s.write_outs t.old t.new disk may may' left t.stands) t.written m.made.next m.made.may.lock new m.made (fits m.number m.made)),
-        left_now,
-      )) left
+  marking : (number : ℕ) → events_of told p act reply ≡ marked_by told.history number → AsksNothing s act reply → disk' ≡ disk → MarkMade s p number new → Outcome
+  marking number adds asks same_disk made = (
+    durable_as files (record told { history = told.history ++ marked_by told.history number }) now new disk disk' may' (ap (λ l. told.history ++ l) adds) same_disk
+        (marked_durable files told s p number disk may' t.old t.new t.sound t.latest t.touched (stands_less s.table s.write_outs t.old t.new disk may may' (left_by Nothing asks.work) t.stands) t.written made.next made.may.lock new made (fits number made)),
+    within Nothing asks.work left_now,
+  )
 
   -- ---- a step of the write-outs
 
-  flush_steps : (reply : Reply) → FlushMade s disk p reply new disk' → ((c : List ℕ) → may' c → TornFromWork (work_asked s) may c) → (work_asked s ≡ Sync → Only may' disk) → (next_answer s.write_outs ≡ flushed.Device → ⊥)
-      → ((n : ℕ) → next_answer s.write_outs ≡ flushed.Committed n → ⊥) → IsDurable files (record told { history = told.history ++ [] }) new disk' may'
-  flush_steps reply made left sure other uncommitting =
-      subst (λ (x : State). IsDurable files (record told { history = told.history ++ [] }) x disk' may') (sym made.done)
-      (durable_as files (record told { history = told.history ++ [] }) (record told { history = told.history ++ [] }) _ (worked disk (work_asked s)) disk' may' refl made.disk_done
-      (flush_goes_on files told s disk may t.old t.new t.sound t.stands t.written p made.allowed made.some (is_some (outs_record s.write_outs)) may' left sure other uncommitting))
+  abbrev after_it : State
+  after_it = record (cond (is_some (outs_record s.write_outs)) (after_record s) s) { write_outs = outs_after s.write_outs (next_answer s.write_outs) }
 
-  going_not : (a : Flushed) → a ≡ flushed.Going → a ≡ flushed.Device → ⊥
-  going_not a e d = let never : flushed.Going ≡ flushed.Device = sym e ∙ d in cc
+  -- a step leaves what goes with this history, where it does so of its own state and device
+  landed : (events : List Event) → events_of told p act reply ≡ events → FlushMade s disk p reply new disk'
+      → IsDurable files (record told { history = told.history ++ events }) after_it (worked disk (work_asked s)) may' → IsDurable files now new disk' may'
+  landed events adds made is =
+      durable_as files (record told { history = told.history ++ events }) now new disk' disk' may' (ap (λ l. told.history ++ l) adds) refl
+      (subst (λ (x : State). IsDurable files (record told { history = told.history ++ events }) x disk' may') (sym made.done)
+      (durable_as files (record told { history = told.history ++ events }) (record told { history = told.history ++ events }) _ (worked disk (work_asked s)) disk' may' refl made.disk_done is))
 
-  going_commits : (a : Flushed) → a ≡ flushed.Going → (n : ℕ) → a ≡ flushed.Committed n → ⊥
-  going_commits a e n c = let never : flushed.Going ≡ flushed.Committed n = sym e ∙ c in cc
+  stepped : (a : Flushed) → next_answer s.write_outs ≡ a → GoesOn a → events_of told p act reply ≡ acknowledged_by a → step_work s act reply ≡ work_asked s → FlushMade s disk p reply new disk' → IsDurable files now new disk' may'
+  stepped a is goes adds work made = by a is goes adds
+    where
+      not_refused : (a : Flushed) → GoesOn a → reply ≡ reply_to a → reply ≢ replies.Refused refusals.Device
+      not_refused flushed.Going goes e = λ r. (let never : replies.Going ≡ replies.Refused refusals.Device = sym e ∙ r in cc)
+      not_refused (flushed.Committed number) goes e = λ r. (let never : replies.Committed number ≡ replies.Refused refusals.Device = sym e ∙ r in cc)
+      not_refused (flushed.Done number) goes e = λ r. (let never : replies.Done number ≡ replies.Refused refusals.Device = sym e ∙ r in cc)
+      not_refused flushed.Device goes e = absurd goes
+      not_refused flushed.Broken goes e = absurd goes
 
-  done_commits : (number : ℕ) (a : Flushed) → a ≡ flushed.Done number → (n : ℕ) → a ≡ flushed.Committed n → ⊥
-  done_commits number a e n c = let never : flushed.Done number ≡ flushed.Committed n = sym e ∙ c in cc
+      sure_by : work_asked s ≡ Sync → Only may' disk
+      sure_by sync = sure (not_refused a goes (made.answered ∙ ap reply_to is)) (work ∙ sync)
 
-  done_not : (number : ℕ) (a : Flushed) → a ≡ flushed.Done number → a ≡ flushed.Device → ⊥
-  done_not number a e d = let never : flushed.Done number ≡ flushed.Device = sym e ∙ d in cc
+      goes_on : (next_answer s.write_outs ≡ flushed.Device → ⊥) → ((n : ℕ) → next_answer s.write_outs ≡ flushed.Committed n → ⊥) → events_of told p act reply ≡ [] → IsDurable files now new disk' may'
+      goes_on other uncommitting adds =
+          landed [] adds made (flush_goes_on files told s disk may t.old t.new t.sound t.stands t.written p made.allowed made.some (is_some (outs_record s.write_outs)) may' (left_by (work_asked s) work) sure_by other uncommitting)
 
-  flushing : (reply : Reply) → Acts s disk p acts.Flush reply new disk' → IsLeft acts.Flush reply → IsSure acts.Flush reply → Outcome acts.Flush reply
-  flushing replies.Going rule left sure = (
-    flush_steps replies.Going rule left (sure (λ e. cc)) (going_not (next_answer s.write_outs) (going_is (next_answer s.write_outs) rule.answered)) (going_commits (next_answer s.write_outs) (going_is (next_answer s.write_outs) rule.answered)),
-    flush_within files told s disk may t.old t.new t.sound t.stands t.written p rule.allowed rule.some,
-  )
-  flushing (replies.Committed number) rule left sure = (
-    subst (λ (x : State). IsDurable files (record told { history = told.history ++ Acknowledge number ∷ [] }) x disk' may') (sym rule.done)
-        (durable_as files (record told { history = told.history ++ Acknowledge number ∷ [] }) (record told { history = told.history ++ Acknowledge number ∷ [] }) _ (worked disk (work_asked s)) disk' may' refl rule.disk_done
-        (flush_commits files told s disk may t.old t.new t.sound t.stands t.written p rule.allowed rule.some (is_some (outs_record s.write_outs)) may' left (sure (λ e. cc)) number (committed_is number (next_answer s.write_outs) rule.answered))),
-    flush_within files told s disk may t.old t.new t.sound t.stands t.written p rule.allowed rule.some,
-  )
-  flushing (replies.Done number) rule left sure = (
-    flush_steps (replies.Done number) rule left (sure (λ e. cc)) (done_not number (next_answer s.write_outs) (done_is number (next_answer s.write_outs) rule.answered)) (done_commits number (next_answer s.write_outs) (done_is number (next_answer s.write_outs) rule.answered)),
-    flush_within files told s disk may t.old t.new t.sound t.stands t.written p rule.allowed rule.some,
-  )
-  flushing (replies.Refused refusals.Device) rule left sure = (
-    flush_failed files told s disk may t.old t.new t.sound t.stands t.written p rule.allowed rule.some new disk' may' rule.done left,
-    flush_within files told s disk may t.old t.new t.sound t.stands t.written p rule.allowed rule.some,
-  )
-  flushing replies.Nothing rule left sure = quietly acts.Flush replies.Nothing (unchanged told s disk p new disk' acts.Flush replies.Nothing refl refl rule.2 rule.3) left
-  flushing (replies.Refused why) rule left sure = quietly acts.Flush (replies.Refused why) (unchanged told s disk p new disk' acts.Flush (replies.Refused why) refl refl rule.0.unchanged rule.1) left
-  flushing reply rule left sure = absurd rule
+      by : (a : Flushed) → next_answer s.write_outs ≡ a → GoesOn a → events_of told p act reply ≡ acknowledged_by a → IsDurable files now new disk' may'
+      by flushed.Going is goes adds =
+          goes_on (λ d. let never : flushed.Going ≡ flushed.Device = sym is ∙ d in cc) (λ n c. let never : flushed.Going ≡ flushed.Committed n = sym is ∙ c in cc) adds
+      by (flushed.Committed number) is goes adds =
+          landed (Acknowledge number ∷ []) adds made
+          (flush_commits files told s disk may t.old t.new t.sound t.stands t.written p made.allowed made.some (is_some (outs_record s.write_outs)) may' (left_by (work_asked s) work) sure_by number is)
+      by (flushed.Done number) is goes adds =
+          goes_on (λ d. let never : flushed.Done number ≡ flushed.Device = sym is ∙ d in cc) (λ n c. let never : flushed.Done number ≡ flushed.Committed n = sym is ∙ c in cc) adds
+      by flushed.Device is goes adds = absurd goes
+      by flushed.Broken is goes adds = absurd goes
 
   -- ---- any act
 
-  pub acting : (act : Act) (reply : Reply) → Acts s disk p act reply new disk' → IsLeft act reply → IsSure act reply → Outcome act reply
-  acting =
-      by_kind told s disk p new disk' t.sound (λ act reply. IsLeft act reply → IsSure act reply → Outcome act reply)
-      (λ act reply quiet left sure. quietly act reply quiet left) (λ reply mark left sure. marking reply mark left) flushing
+  pub acting : Deed s disk p act reply new disk' → Outcome
+  acting (Quiet asks leaves same_disk pages) = quietly asks leaves same_disk pages
+  acting (Marks number adds asks same_disk made) = marking number (adds told) asks same_disk made
+  acting (Steps adds work goes made) = (
+    stepped (next_answer s.write_outs) refl goes (adds told) work made,
+    within (work_asked s) work (flush_within files told s disk may t.old t.new t.sound t.stands t.written p made.allowed made.some),
+  )
+  acting (Fails none work steps made) = (
+    durable_as files (record told { history = told.history ++ [] }) now new disk' disk' may' (ap (λ l. told.history ++ l) (none told)) refl
+        (flush_failed files told s disk may t.old t.new t.sound t.stands t.written p made.allowed made.some new disk' may' made.done (left_by (work_asked s) work)),
+    within (work_asked s) work (flush_within files told s disk may t.old t.new t.sound t.stands t.written p made.allowed made.some),
+  )
 
 -- ---- steps over a device
 
@@ -227,13 +213,15 @@ module _ {D : Type 0} (disk : Ghosts D) (files : List File) (told : Told) (old :
   made : StepMade disk old step reply new
   made = taken.made honest
 
-  outcome : IsDurable files (record told { history = told.history ++ events_of told step.p step.act reply }) new.state (disk.seen new.device) (disk.may_leave new.device)
+  outcome : IsDurable files (tell told step reply) new.state (disk.seen new.device) (disk.may_leave new.device)
       × ((c : List ℕ) → TornFromWork (step_work old.state step.act reply) (disk.may_leave old.device) c → LeftWithin old.state.table t.old t.new (current_stage old.state.write_outs) c)
-  outcome = acting files told old.state (disk.seen old.device) (disk.may_leave old.device) t step.p new.state (disk.seen new.device) sound' (disk.may_leave new.device) step.act reply made.answered made.left made.sure
+  outcome =
+      acting files told old.state (disk.seen old.device) (disk.may_leave old.device) t step.p step.act reply new.state (disk.seen new.device) sound' (disk.may_leave new.device) made.left made.sure
+      (does old.state (disk.seen old.device) step.p new.state (disk.seen new.device) t.sound step.act reply made.answered).deed
 
   -- what the device recovers to still goes with what is told
   pub durable_kept : IsDurable files (tell told step reply) new.state (disk.seen new.device) (disk.may_leave new.device)
-  durable_kept = durable_as files (record told { history = told.history ++ events_of told step.p step.act reply }) (tell told step reply) new.state (disk.seen new.device) (disk.seen new.device) (disk.may_leave new.device) refl refl outcome.0
+  durable_kept = outcome.0
 
   -- a crash within it leaves old files or new ones, by the stage of the write-out
   pub step_stops : LeavesOnly disk.moment disk.left_since old.device new.device (StopsInStep files told.history old.state.write_outs)

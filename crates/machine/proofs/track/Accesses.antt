@@ -7,11 +7,14 @@ use Rattle.frames.specs.Frames.{FramesState, frame_at, bytes_of, with_bytes}
 use Rattle.spaces.specs.Spaces.{entry_at, place_at}
 use Rattle.shootdown.specs.Coherence.{Coheres}
 use Rattle.shootdown.specs.Shootdown.{current}
-use Rattle.checkpoint.specs.Checkpoint.{CheckpointState, Holds, IsDirty}
+use Rattle.shootdown.proofs.Public.{running}
+use Rattle.checkpoint.specs.Checkpoint.{CheckpointState, Holds, IsDirty, is_held}
 use Rattle.checkpoint.specs.Backing.{AreBacked, page_at}
 use Rattle.cpu.specs.Access.{Hardware, LoadMade, StoreMade}
+use Rattle.machine.proofs.durable.Lists.{some_same}
 use Rattle.machine.proofs.track.Translations.{is_translated, memory-translated}
-use Rattle.machine.proofs.track.Still.{dirty_kept, dirty_back, dirty_there}
+use Rattle.machine.proofs.track.DirtyFrames.{dirty_at, dirty_kept, dirty_back, dirty_there}
+use Rattle.machine.proofs.track.Still.{KeepsTold, still_none, told_walked}
 
 -- what a load that was made read
 pub record HasLoaded (h : Hardware) (p va count : ℕ) (bytes : List ℕ) : Type 0 where
@@ -28,45 +31,56 @@ has_loaded h c p va count bytes new coheres backed made =
     record { place = was.place; leads = was.mapped; frame = t.entry.frame; holds = was.held; read = made.read ∙ ap (λ f. take count (drop (va % 4096) (bytes_of (frame_at h.memory f)))) t.same_frame }
 
 -- what a store that was made wrote
-pub record HasStored (h : Hardware) (p va : ℕ) (bytes : List ℕ) (new : Hardware) : Type 0 where
+pub record HasStored (h : Hardware) (c : CheckpointState) (p va : ℕ) (bytes : List ℕ) (new : Hardware) : Type 0 where
   pub place : Place
   pub leads : place_at h.spaces (current h.shootdown p) (va / 4096) ≡ Some place
   pub allowed : may_write place.rights ≡ true
   pub frame : ℕ
   pub holds : Holds h.memory frame (page_at place)
+  -- its page isn't held back
+  pub thawed : is_held h.memory c (page_at place) ≡ false
   pub memory : new.memory ≡ with_bytes h.memory frame (va % 4096) bytes
+  pub told : KeepsTold h new
   -- its frame is dirty from then on, and each other as before
-  pub dirty_now : (c : CheckpointState) → IsDirty new.spaces c frame
-  pub dirty_still : (c : CheckpointState) (f : ℕ) → IsDirty h.spaces c f → IsDirty new.spaces c f
-  pub dirty_before : (c : CheckpointState) (f : ℕ) → f ≢ frame → IsDirty new.spaces c f → IsDirty h.spaces c f
+  pub dirty_now : IsDirty new.spaces c frame
+  pub dirty_still : (f : ℕ) → IsDirty h.spaces c f → IsDirty new.spaces c f
+  pub dirty_before : (f : ℕ) → f ≢ frame → IsDirty new.spaces c f → IsDirty h.spaces c f
 
 true_or : (b : Bool) → (b || true) ≡ true
 true_or true = refl
 true_or false = refl
 
-pub has_stored : (h : Hardware) (c : CheckpointState) (p va : ℕ) (bytes : List ℕ) (new : Hardware) → Coheres h.spaces h.shootdown → AreBacked h.memory c h.spaces → StoreMade h p va bytes new → HasStored h p va bytes new
+pub has_stored : (h : Hardware) (c : CheckpointState) (p va : ℕ) (bytes : List ℕ) (new : Hardware) → Coheres h.spaces h.shootdown → AreBacked h.memory c h.spaces → StoreMade h p va bytes new → HasStored h c p va bytes new
 has_stored h c p va bytes new coheres backed made =
     let t = is_translated h p (va / 4096) true made.frame made.mid coheres made.running made.translation in
     let pcid = current h.shootdown p in
-    let was = backed pcid (va / 4096) t.entry t.present in
+    let page = va / 4096 in
+    let was = backed pcid page t.entry t.present in
     let now : Mapped = record t.entry { accessed = true; dirty = t.entry.dirty || true } in
-    subst (HasStored h p va bytes) (sym made.written) (record {
+    let told : KeepsTold h made.mid = elim t.reached [
+      | inl kept ↦ (still_none h made.mid kept.0).told
+      | inr noted ↦ subst (KeepsTold h) (sym noted) (told_walked h p page t.entry now (running h.shootdown p made.running).0 t.present)
+    ] in
+    subst (HasStored h c p va bytes) (sym made.written) (record {
       place = was.place;
       leads = was.mapped;
       allowed = was.allowed (t.allowed refl);
       frame = t.entry.frame;
       holds = was.held;
-      memory = ap (λ (m : FramesState). with_bytes m made.frame (va % 4096) bytes) (memory-translated h p (va / 4096) true made.frame made.mid t) ∙ ap (λ f. with_bytes h.memory f (va % 4096) bytes) t.same_frame;
-      dirty_now = λ c. elim t.reached [
-        | inl kept ↦ inr (record { pcid = pcid; page = va / 4096; there = tt; entry = t.entry; present = ap (λ (x : Hardware). entry_at x.spaces pcid (va / 4096)) kept.0 ∙ t.present; same_frame = refl; dirty = kept.1 refl })
-        | inr noted ↦ subst (λ (x : Hardware). IsDirty x.spaces c t.entry.frame) (sym noted) (dirty_there h.spaces pcid (va / 4096) t.entry now t.present refl (true_or t.entry.dirty) c)
+      thawed = was.thawed (t.allowed refl);
+      memory = ap (λ (m : FramesState). with_bytes m made.frame (va % 4096) bytes) (memory-translated h p page true made.frame made.mid t) ∙ ap (λ f. with_bytes h.memory f (va % 4096) bytes) t.same_frame;
+      told = record { lock = told.lock; processors = told.processors; spaces = told.spaces };
+      dirty_now = elim t.reached [
+        | inl kept ↦ dirty_at made.mid.spaces c pcid page t.entry.frame t.entry (ap (λ (x : Hardware). entry_at x.spaces pcid page) kept.0 ∙ t.present) refl (kept.1 refl)
+        | inr noted ↦ subst (λ (x : Hardware). IsDirty x.spaces c t.entry.frame) (sym noted) (dirty_there h.spaces pcid page now c (true_or t.entry.dirty))
       ];
-      dirty_still = λ c f is. elim t.reached [
+      dirty_still = λ f is. elim t.reached [
         | inl kept ↦ subst (λ (x : Hardware). IsDirty x.spaces c f) (sym kept.0) is
-        | inr noted ↦ subst (λ (x : Hardware). IsDirty x.spaces c f) (sym noted) (dirty_kept h.spaces pcid (va / 4096) t.entry now t.present refl (λ _. true_or t.entry.dirty) c f is)
+        | inr noted ↦ subst (λ (x : Hardware). IsDirty x.spaces c f) (sym noted) (dirty_kept h.spaces pcid page now c f
+            (λ old at _. (ap (λ (m : Mapped). m.frame) (some_same t.entry old (sym t.present ∙ at)), true_or t.entry.dirty)) is)
       ];
-      dirty_before = λ c f other is. elim t.reached [
+      dirty_before = λ f other is. elim t.reached [
         | inl kept ↦ subst (λ (x : Hardware). IsDirty x.spaces c f) kept.0 is
-        | inr noted ↦ dirty_back h.spaces pcid (va / 4096) t.entry now t.present refl c f (λ _ here. absurd (other here)) (subst (λ (x : Hardware). IsDirty x.spaces c f) noted is)
+        | inr noted ↦ dirty_back h.spaces pcid page now c f (λ _ here. absurd (other (sym here))) (subst (λ (x : Hardware). IsDirty x.spaces c f) noted is)
       ];
     })

@@ -15,16 +15,14 @@ use Rattle.machine.specs.inside.Tracking.{IsLatest, AreTouched}
 use Rattle.machine.proofs.track.Histories.{after_store, stored_there, stored_elsewhere, length-stored, touched_there, touched_elsewhere}
 use Rattle.frames.proofs.Public.{page_of-with_bytes, frame_at-with_bytes_other}
 use Rattle.machine.proofs.track.FramePages.{cases_page, differ, bytes_of-with_bytes, held_by_none, absent_before}
+use Rattle.machine.proofs.durable.Lists.{some_same}
 use Rattle.machine.proofs.track.Pages.{HasPages, files_kept, plain_still}
 use Rattle.machine.proofs.track.Accesses.{HasStored}
 
 small : (va : ℕ) → va % 4096 < 4096
 small va = omega arith
 
-one_page : (a b : FilePage) → Some a ≡ Some b → a ≡ b
-one_page a b e = cc
-
-module _ (files : List File) (told now : Told) (s : State) (p va : ℕ) (bytes : List ℕ) (h : Hardware) (w : HasStored s.hardware p va bytes h) (memory : IsMemory s.hardware.memory) (fits : va % 4096 + length bytes ≤ 4096)
+module _ (files : List File) (told now : Told) (s : State) (p va : ℕ) (bytes : List ℕ) (h : Hardware) (w : HasStored s.hardware s.checkpoint p va bytes h) (memory : IsMemory s.hardware.memory) (fits : va % 4096 + length bytes ≤ 4096)
     (history : now.history ≡ told.history ++ Store w.place.file (4096 * w.place.page + va % 4096) bytes ∷ []) (has : HasPages files told s) where
   abbrev new : State
   new = with_hardware s h
@@ -67,7 +65,7 @@ module _ (files : List File) (told now : Told) (s : State) (p va : ℕ) (bytes :
 
   -- the page is in its frame alone
   other_frame : (frame : ℕ) (o : FilePage) → Holds s.hardware.memory frame o → (o ≡ owner → ⊥) → frame ≢ w.frame
-  other_frame frame o holds other same = other (one_page o owner (sym holds ∙ ap (λ k. page_of (frame_at s.hardware.memory k)) same ∙ w.holds))
+  other_frame frame o holds other same = other (some_same o owner (sym holds ∙ ap (λ k. page_of (frame_at s.hardware.memory k)) same ∙ w.holds))
 
   latest_stored : IsLatest files now new
   latest_stored = record {
@@ -94,10 +92,10 @@ module _ (files : List File) (told now : Told) (s : State) (p va : ℕ) (bytes :
 
   touched_stored : AreTouched now new
   touched_stored o = elim (cases_page o owner) [
-    | inl same ↦ (λ _. (w.frame, held_now w.frame o (w.holds ∙ ap (λ x. Some x) (sym same)), w.dirty_now s.checkpoint), λ _. touched_now o same)
+    | inl same ↦ (λ _. (w.frame, held_now w.frame o (w.holds ∙ ap (λ x. Some x) (sym same)), w.dirty_now), λ _. touched_now o same)
     | inr other ↦ (
-      λ is. let d = (has.touched o).0 (sym (touched_before o other) ∙ is) in (d.0, held_now d.0 o d.1, w.dirty_still s.checkpoint d.0 d.2),
-      λ d. let was = held_then d.0 o d.1 in touched_before o other ∙ (has.touched o).1 (d.0, was, w.dirty_before s.checkpoint d.0 (other_frame d.0 o was other) d.2),
+      λ is. let d = (has.touched o).0 (sym (touched_before o other) ∙ is) in (d.0, held_now d.0 o d.1, w.dirty_still d.0 d.2),
+      λ d. let was = held_then d.0 o d.1 in touched_before o other ∙ (has.touched o).1 (d.0, was, w.dirty_before d.0 (other_frame d.0 o was other) d.2),
     )
   ]
 
@@ -106,7 +104,7 @@ module _ (files : List File) (told now : Told) (s : State) (p va : ℕ) (bytes :
     files_are = files_kept files s new (record { table = refl; lengths = refl }) has.files_are;
     latest = latest_stored;
     touched = touched_stored;
-    plain = plain_still files told now s new (record { table = refl; lengths = refl }) has.plain
-        (λ o is gone. absent_before s.hardware.memory h.memory held_now o gone)
-        (λ o absent. after_elsewhere o (λ same. held_by_none s.hardware.memory o absent w.frame (w.holds ∙ ap (λ x. Some x) (sym same))));
+    plain = plain_still files told now s new (record { table = refl; lengths = refl }) (λ o is gone.
+        let absent = absent_before s.hardware.memory h.memory held_now o gone in
+        (after_elsewhere o (λ same. held_by_none s.hardware.memory o absent w.frame (w.holds ∙ ap (λ x. Some x) (sym same))), has.plain o is absent));
   }

@@ -10,10 +10,10 @@ use Rattle.device.specs.declared.device.Device.{Ghosts}
 use Rattle.machine.specs.Crashes.{Begins}
 use Rattle.machine.specs.Steps.{IsLawful, told_first}
 use Rattle.machine.specs.inside.Tracking.{IsArranged, IsTracked}
-use Rattle.machine.proofs.track.ArrangedKept.{arranged_kept}
+use Rattle.machine.proofs.track.Arranged.{processors_of, spaces_of, lock_of, arranged_from}
+use Rattle.machine.proofs.track.Does.{does}
 use Rattle.machine.proofs.track.Pages.{HasPages}
-use Rattle.machine.proofs.track.PagesChanges.{IsReadable}
-use Rattle.machine.proofs.track.PagesKept.{pages_kept}
+use Rattle.machine.proofs.track.PagesKept.{IsReadable, pages_kept}
 use Rattle.machine.proofs.track.Lawful.{lawful}
 use Rattle.machine.proofs.track.AtStart.{arranged_at_start, pages_at_start}
 use Rattle.machine.proofs.track.FilesAtStart.{files_at_start}
@@ -30,10 +30,13 @@ module _ {files : List File} {told : Told} {s : State} {seen : List ℕ} {may_le
   module _ (step : Step) (reply : Reply) (new : State) (disk' : List ℕ) (rule : Rules s seen step reply new disk') where
     -- after a step, where what a fault reads is the latest memory of its page
     pub as_told_after : IsReadable files told s seen → IsAsTold files (tell told step reply) new
-    as_told_after readable = record {
-      arranged = arranged_kept told s seen step reply new disk' t.sound t.arranged rule;
-      pages = pages_kept files told s seen step reply new disk' t.sound t.arranged readable as_told.pages rule;
-    }
+    as_told_after readable =
+        let d = does s seen step.p new disk' t.sound step.act reply rule in
+        let now = d.arranges told t.arranged in
+        record {
+          arranged = arranged_from (tell told step reply) new (spaces_of now) (processors_of now) (lock_of now) now.same_lengths;
+          pages = pages_kept files told s seen step.p step.act reply new disk' t.sound t.arranged readable as_told.pages d.deed;
+        }
 
     -- and it was answered by what was told before it
     pub lawful_step : IsLawful files told step.p step.act reply
