@@ -18,7 +18,7 @@ use Rattle.journal.specs.declared.flushed.Flushed.TheVariants as flushed
 use Rattle.journal.specs.Stage.{answer_at}
 use Rattle.journal.specs.Work.{Work, Nothing, work_at, calls_of}
 use Rattle.journal.specs.WriteOut.{WriteOut, next_stage, begun_of, advanced_of, work_of, answer_of, calls_in_steps}
-use Rattle.journal.specs.WriteOuts.{WriteOutsValue, has_uncommitted, current, advanced, batches_after, outs_after, outs_record, next_answer, next_batch, begun}
+use Rattle.journal.specs.WriteOuts.{WriteOutsValue, has_uncommitted, current, advanced, outs_after, outs_record, next_answer, next_batch, begun}
 use Rattle.journal.proofs.Public.{IsAt, stage_is, early_calls, all_calls, current-oldest}
 use Rattle.machine.specs.declared.act.Act.{Act}
 use Rattle.machine.specs.declared.act.Reply.{Reply}

@@ -1,5 +1,5 @@
 -- What an act may do to a machine, whatever was told before it: what it tells, what it asks of the device, and which parts of the machine change.
-use Rattle.std.proofs.Common.{ℕ, ◌≡◌, ◌≢◌, ◌↔◌, ◌%◌, ◌/◌, Bool, true, false, cond, List, [], ◌∷◌, None, Some, is_some, refl, sym, ap, ◌∙◌, subst}
+use Rattle.std.proofs.Common.{ℕ, ◌≡◌, ◌↔◌, Bool, true, false, cond, List, [], ◌∷◌, Some, is_some, refl, sym, ap, ◌∙◌, subst}
 use Rattle.std.specs.List.{Contains}
 use Rattle.page_entry.specs.declared.numbers.FilePage.{FilePage}
 use Rattle.frames.specs.Frames.{FramesState}
@@ -17,7 +17,7 @@ use Rattle.machine.specs.declared.act.Reply.{Reply}
 use Rattle.machine.specs.declared.act.Reply.TheVariants as replies
 use Rattle.machine.specs.History.{Event, Acknowledge}
 use Rattle.machine.specs.State.{State}
-use Rattle.machine.specs.Rules.{with_hardware, with_spaces, FixMade, ReclaimMade, MarkMade, FlushMade, FlushFailed, after_record, work_asked, bytes_at_mark}
+use Rattle.machine.specs.Rules.{with_hardware, FixMade, ReclaimMade, MarkMade, FlushMade, FlushFailed, after_record, work_asked, bytes_at_mark}
 use Rattle.machine.specs.Steps.{step_work}
 use Rattle.machine.specs.Told.{Told, arranged, events_of, place_told, store_at}
 use Rattle.machine.specs.inside.Tracking.{IsArranged, change_in}

@@ -3,14 +3,13 @@ use Rattle.std.proofs.Common.{ℕ, ◌≡◌, ◌↔◌, ◌-◌, ◌/◌, ◌%�
 use Rattle.std.specs.Prelude.{nat_le}
 use Rattle.std.specs.FinMap as maps
 use Rattle.std.proofs.lemmas.Bool.{both_ways, and_parts, eqb-true}
-use Rattle.page_entry.specs.declared.numbers.FilePage.{FilePage}
 use Rattle.page_entry.specs.declared.refusal.Refusal.{Refusal}
 use Rattle.page_entry.specs.declared.refusal.Refusal.TheVariants as refusals
 use Rattle.mappings.specs.declared.place.Place.{Place}
 use Rattle.mappings.specs.declared.place.Rights.{Rights}
 use Rattle.mappings.specs.Places.{is_among, may_write}
 use Rattle.mappings.specs.Judgement.{range_of_bytes, mapped_pages_of}
-use Rattle.frames.specs.Frames.{FramesState, with_bytes, without_frame}
+use Rattle.frames.specs.Frames.{FramesState, without_frame}
 use Rattle.spaces.specs.declared.change.Change.{Change}
 use Rattle.spaces.specs.declared.change.Change.TheVariants as changes
 use Rattle.spaces.specs.Spaces.{Spaces, entry_at, empty_space, has_space, with_space, with_mapping, without_mapping}

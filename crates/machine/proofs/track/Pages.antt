@@ -8,7 +8,7 @@ use Rattle.volume_codec.specs.Files.{File}
 use Rattle.volume_codec.specs.Super.{SuperValue}
 use Rattle.volume_codec.specs.Recovery.{lengths_in}
 use Rattle.volume_codec.specs.Text.{padded}
-use Rattle.spaces.specs.Spaces.{Spaces, entry_at, place_at, EditsEntries}
+use Rattle.spaces.specs.Spaces.{entry_at, place_at, EditsEntries}
 use Rattle.spaces.specs.Changes.{is_place_of, without_entries_of}
 use Rattle.checkpoint.specs.Checkpoint.{Holds, IsDirty}
 use Rattle.checkpoint.specs.Backing.{page_at}

@@ -1,5 +1,5 @@
 -- Each step leaves files, frames and dirty pages as it tells them.
-use Rattle.std.proofs.Common.{ℕ, ◌≡◌, ◌↔◌, ◌/◌, Bool, false, not, ◌&&◌, List, [], ◌∷◌, ◌++◌, length, Some, refl, sym, ap, ◌∙◌, subst}
+use Rattle.std.proofs.Common.{ℕ, ◌≡◌, ◌↔◌, ◌/◌, Bool, false, not, ◌&&◌, List, [], ◌++◌, length, Some, refl, sym, ap, ◌∙◌, subst}
 use Rattle.std.proofs.lemmas.Bool.{false≢true}
 use Rattle.page_entry.specs.declared.numbers.FilePage.{FilePage}
 use Rattle.mappings.specs.Places.{may_write}
@@ -10,7 +10,7 @@ use Rattle.shootdown.proofs.Public.{running, is_there_below}
 use Rattle.checkpoint.specs.Checkpoint.{is_held, IsDirty}
 use Rattle.checkpoint.specs.Backing.{page_at}
 use Rattle.cpu.specs.Access.{Hardware, StoreMade}
-use Rattle.fault.specs.Fault.{is_in_memory, fixed_entry, copies_out}
+use Rattle.fault.specs.Fault.{is_in_memory, copies_out}
 use Rattle.journal.specs.declared.flushed.Flushed.{Flushed}
 use Rattle.journal.specs.declared.flushed.Flushed.TheVariants as flushed
 use Rattle.journal.specs.WriteOuts.{next_answer}
@@ -33,7 +33,7 @@ use Rattle.machine.proofs.track.PagesStored.{pages_stored}
 use Rattle.machine.proofs.track.Accesses.{has_stored}
 use Rattle.machine.proofs.track.Places.{place_is}
 use Rattle.machine.proofs.track.Faults.{led_to, servable}
-use Rattle.machine.proofs.track.Deeds.{OnPages, Same, Stored, Brought, Left, Deed, Quiet, Marks, Steps, Fails, acknowledged_by, same_flushed, same_failed}
+use Rattle.machine.proofs.track.Deeds.{Same, Stored, Brought, Left, Deed, Quiet, Marks, Steps, Fails, acknowledged_by, same_flushed, same_failed}
 
 -- What the device gives of a page that isn't in memory is the latest memory of it, while the machine isn't broken.
 abbrev pub IsReadable : List File → Told → State → List ℕ → Type 0
