@@ -1,13 +1,13 @@
--- What frozen pages had at their mark stays: a store reaches none whose bytes aren't copied, a served fault copies a page before a store can reach it, and a page that leaves memory isn't frozen.
+-- What frozen pages had at their mark stays: a store reaches none whose bytes aren't copied, a copy has the bytes of its page, and a page that leaves memory isn't frozen.
 use Rattle.std.proofs.Common.{◌≡◌, ℕ, Bool, true, false, not, List, [], set, slice_get, Option, Some, None, inl, inr, refl, sym, ap, ◌∙◌, subst}
 use Rattle.std.specs.List.{Contains}
 use Rattle.std.proofs.lemmas.Bool.{cases_Bool, both_ways, and_parts, and_from, not-true, not_from_false}
 use Rattle.std.proofs.lemmas.List.Elements.{All-contains}
 use Rattle.std.proofs.lemmas.Option.{slice_get_within, get_or_from_slice_get}
 use Rattle.page_entry.specs.declared.numbers.FilePage.{FilePage}
-use Rattle.frames.specs.Frames.{FramesState, Frame, frame_at, overwrite_frame, with_bytes, with_copy, without_frame, page_of}
+use Rattle.frames.specs.Frames.{FramesState, Frame, frame_at, overwrite_frame, with_bytes, with_page, with_copy, without_frame, page_of}
 use Rattle.checkpoint.specs.Checkpoint.{Holds, is_of_page, is_copied, is_frozen, is_held, same_page}
-use Rattle.fault.specs.Fault.{is_in_memory, copies_out, Brings, CopiesOut}
+use Rattle.fault.specs.Fault.{is_in_memory}
 use Rattle.journal.specs.WriteOuts.{HasBlock}
 use Rattle.machine.specs.State.{State, home_of}
 use Rattle.machine.specs.Rules.{MayLeave, bytes_with, bytes_at_mark}
@@ -56,18 +56,16 @@ module _ (s : State) (sound : IsSound s) where
       ]
 
   -- a page is brought into a frame
-  brought_leaves : (page : FilePage) (bytes : List ℕ) (frame : ℕ) (mid : FramesState) → Brings memory page bytes frame mid
-      → (owner : FilePage) → Contains s.checkpoint.frozen owner → Keeps mid owner
-  brought_leaves page bytes frame mid (inl there) owner has = ap (λ (m : FramesState). bytes_at_mark m owner) there.1
-  brought_leaves page bytes frame mid (inr new) owner has =
-      let differs : owner ≡ page → ⊥ = λ e. both_ways (is_in_memory memory page) new.0 (ap (is_in_memory memory) (sym e) ∙ frozen_there owner has) in
+  pub brought_leaves : (page : FilePage) (bytes : List ℕ) (frame : ℕ) → is_in_memory memory page ≡ false → slice_get memory.frames frame ≡ Some None
+      → (owner : FilePage) → Contains s.checkpoint.frozen owner → Keeps (with_page memory frame page bytes) owner
+  brought_leaves page bytes frame absent free owner has =
+      let differs : owner ≡ page → ⊥ = λ e. both_ways (is_in_memory memory page) absent (ap (is_in_memory memory) (sym e) ∙ frozen_there owner has) in
       let brought : Option Frame = Some (record { page = page; bytes = bytes }) in
-      ap (λ (m : FramesState). bytes_at_mark m owner) new.2
-      ∙ ap (bytes_with owner memory.copies)
-      (bytes_with-set owner memory.frames frame brought [] (ap (is_of_page owner) (get_or_from_slice_get memory.frames frame None None new.1)) (of_page-other owner page brought refl differs))
+      ap (bytes_with owner memory.copies)
+      (bytes_with-set owner memory.frames frame brought [] (ap (is_of_page owner) (get_or_from_slice_get memory.frames frame None None free)) (of_page-other owner page brought refl differs))
 
   -- a copy is made of a held page
-  copy_leaves : (page : FilePage) (frame copy : ℕ) → is_held memory s.checkpoint page ≡ true → Holds memory frame page → slice_get memory.copies copy ≡ Some None
+  pub copy_leaves : (page : FilePage) (frame copy : ℕ) → is_held memory s.checkpoint page ≡ true → Holds memory frame page → slice_get memory.copies copy ≡ Some None
       → (owner : FilePage) → Contains s.checkpoint.frozen owner → Keeps (with_copy memory copy frame) owner
   copy_leaves page frame copy held there free owner has =
       let parts = and_parts (is_frozen s.checkpoint page) (not (is_copied memory page)) held in
@@ -83,22 +81,6 @@ module _ (s : State) (sound : IsSound s) where
             bytes_with-set owner memory.copies copy (frame_at memory frame) frames (ap (is_of_page owner) (get_or_from_slice_get memory.copies copy None None free))
             (of_page-other owner page (frame_at memory frame) there (other_page owner page other))
       ]
-
-  -- both, as a fault is served
-  pub served_leaves : (page : FilePage) (write : Bool) (bytes : List ℕ) (frame : ℕ) (mid new : FramesState) → Brings memory page bytes frame mid → CopiesOut (copies_out memory s.checkpoint page write) mid frame new
-      → (owner : FilePage) → Contains s.checkpoint.frozen owner → Keeps new owner
-  served_leaves page write bytes frame mid new brought copied owner has = by (copies_out memory s.checkpoint page write) refl copied brought
-    where
-      by : (takes : Bool) → copies_out memory s.checkpoint page write ≡ takes → CopiesOut takes mid frame new → Brings memory page bytes frame mid → Keeps new owner
-      by false e same brought = ap (λ (m : FramesState). bytes_at_mark m owner) same ∙ brought_leaves page bytes frame mid brought owner has
-      by true e made (inl there) =
-          ap (λ (m : FramesState). bytes_at_mark m owner) made.2
-          ∙ ap (λ (m : FramesState). bytes_at_mark (with_copy m made.0 frame) owner) there.1
-          ∙ copy_leaves page frame made.0 (and_parts write (is_held memory s.checkpoint page) e).1 there.0 (ap (λ (m : FramesState). slice_get m.copies made.0) (sym there.1) ∙ made.1) owner has
-      by true e made (inr brings) =
-          let held = (and_parts write (is_held memory s.checkpoint page) e).1 in
-          let frozen = (and_parts (is_frozen s.checkpoint page) (not (is_copied memory page)) held).0 in
-          absurd (both_ways (is_in_memory memory page) brings.0 (frozen_there page (frozen_contains page s.checkpoint.frozen frozen)))
 
   -- a page leaves memory
   pub reclaimed_leaves : (page : FilePage) (frame : ℕ) → MayLeave s page frame → (owner : FilePage) → Contains s.checkpoint.frozen owner → Keeps (without_frame memory frame) owner

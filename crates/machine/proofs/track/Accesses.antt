@@ -4,17 +4,20 @@ use Rattle.page_entry.specs.Entry.{Mapped}
 use Rattle.mappings.specs.declared.place.Place.{Place}
 use Rattle.mappings.specs.Places.{may_write}
 use Rattle.frames.specs.Frames.{FramesState, frame_at, bytes_of, with_bytes}
-use Rattle.spaces.specs.Spaces.{entry_at, place_at}
+use Rattle.spaces.specs.Spaces.{entry_at, place_at, with_entry}
+use Rattle.spaces.proofs.Public.{places-with_entry, has_space-with_entry}
 use Rattle.shootdown.specs.Coherence.{Coheres}
-use Rattle.shootdown.specs.Shootdown.{current}
-use Rattle.shootdown.proofs.Public.{running}
+use Rattle.shootdown.specs.Shootdown.{current, is_there}
+use Rattle.shootdown.proofs.Public.{running, is_there_below}
 use Rattle.checkpoint.specs.Checkpoint.{CheckpointState, Holds, IsDirty, is_held}
 use Rattle.checkpoint.specs.Backing.{AreBacked, page_at}
-use Rattle.cpu.specs.Access.{Hardware, LoadMade, StoreMade}
+use Rattle.checkpoint.proofs.Public.{has_space-entry}
+use Rattle.cpu.specs.Access.{Hardware, LoadMade, StoreMade, walked}
 use Rattle.machine.proofs.durable.Lists.{some_same}
 use Rattle.machine.proofs.track.Translations.{is_translated, memory-translated}
 use Rattle.machine.proofs.track.DirtyFrames.{dirty_at, dirty_kept, dirty_back, dirty_there}
-use Rattle.machine.proofs.track.Still.{KeepsTold, still_none, told_walked}
+use Rattle.machine.proofs.track.ToldProcessors.{AreProcessorsTold, told_still}
+use Rattle.machine.proofs.track.ToldSpaces.{ToldSpaces, AreSpacesTold, spaces_still}
 
 -- what a load that was made read
 pub record HasLoaded (h : Hardware) (p va count : ℕ) (bytes : List ℕ) : Type 0 where
@@ -29,6 +32,22 @@ has_loaded h c p va count bytes new coheres backed made =
     let t = is_translated h p (va / 4096) false made.frame new coheres made.running made.translation in
     let was = backed (current h.shootdown p) (va / 4096) t.entry t.present in
     record { place = was.place; leads = was.mapped; frame = t.entry.frame; holds = was.held; read = made.read ∙ ap (λ f. take count (drop (va % 4096) (bytes_of (frame_at h.memory f)))) t.same_frame }
+
+-- the hardware is as told after it where it was before
+pub record KeepsTold (h new : Hardware) : Type 0 where
+  pub lock : new.shootdown.lock ≡ h.shootdown.lock
+  pub processors : (spaces : List ℕ) (runs : List Bool) → AreProcessorsTold spaces runs h.shootdown → AreProcessorsTold spaces runs new.shootdown
+  pub spaces : (told : ToldSpaces) → AreSpacesTold told h.spaces → AreSpacesTold told new.spaces
+
+-- so it is after a walk
+told_walked : (h : Hardware) (p page : ℕ) (old now : Mapped) → is_there h.shootdown p ≡ true → entry_at h.spaces (current h.shootdown p) page ≡ Some old → KeepsTold h (walked h p page now)
+told_walked h p page old now there present = record {
+  lock = refl;
+  processors = λ spaces runs t. told_still spaces runs h.shootdown p _ (is_there_below h.shootdown p there) t refl refl;
+  spaces = λ told t. spaces_still told h.spaces (with_entry h.spaces (current h.shootdown p) page (Some now))
+      (has_space-with_entry h.spaces (current h.shootdown p) page (Some now) (has_space-entry h.spaces (current h.shootdown p) page old present))
+      (places-with_entry h.spaces (current h.shootdown p) page (Some now)) t;
+}
 
 -- what a store that was made wrote
 pub record HasStored (h : Hardware) (c : CheckpointState) (p va : ℕ) (bytes : List ℕ) (new : Hardware) : Type 0 where
@@ -58,7 +77,7 @@ has_stored h c p va bytes new coheres backed made =
     let was = backed pcid page t.entry t.present in
     let now : Mapped = record t.entry { accessed = true; dirty = t.entry.dirty || true } in
     let told : KeepsTold h made.mid = elim t.reached [
-      | inl kept ↦ (still_none h made.mid kept.0).told
+      | inl kept ↦ subst (KeepsTold h) (sym kept.0) (record { lock = refl; processors = λ spaces runs t. t; spaces = λ told t. t })
       | inr noted ↦ subst (KeepsTold h) (sym noted) (told_walked h p page t.entry now (running h.shootdown p made.running).0 t.present)
     ] in
     subst (HasStored h c p va bytes) (sym made.written) (record {

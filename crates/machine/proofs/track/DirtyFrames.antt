@@ -1,5 +1,6 @@
 -- Which frames are dirty after entries and notes change.
 use Rattle.std.proofs.Common.{ℕ, zero, suc, ◌≡◌, ◌⊎◌, ◌↔◌, Bool, true, false, not, ◌&&◌, ◌||◌, cond, eqb, List, length, replicate, get_or, Option, Some, None, IsSome, refl, sym, ap, ◌∙◌, subst, inl, inr}
+use Rattle.std.specs.FinMap as maps
 use Rattle.std.proofs.lemmas.Bool.{cases_Bool, cond-true, cond-false, and_parts, and_from, eqb-true, eq-eqb, false≢true}
 use Rattle.page_entry.specs.Entry.{Mapped, with_writable_of, protected_of}
 use Rattle.page_entry.specs.declared.numbers.FilePage.{FilePage}
@@ -7,10 +8,10 @@ use Rattle.mappings.specs.declared.place.Rights.{Rights}
 use Rattle.mappings.specs.declared.page_range.PageRange.{PageRange}
 use Rattle.mappings.specs.Places.{is_among, may_write}
 use Rattle.frames.specs.Frames.{FramesState, Frame, frame_at, page_of}
-use Rattle.spaces.specs.Spaces.{Spaces, entry_at, with_entry, SetsRights}
+use Rattle.spaces.specs.Spaces.{Spaces, entry_at, with_entry, without_mapping, SetsRights}
 use Rattle.spaces.specs.Changes.{protected_where}
-use Rattle.spaces.proofs.Public.{entry_at-with_entry}
-use Rattle.checkpoint.specs.Checkpoint.{CheckpointState, Holds, is_noted, IsDirty, NotesTaken, Gathers, ProtectsNoted, without_notes}
+use Rattle.spaces.proofs.Public.{entry_at-with_entry, entry_at-without_mapping, entry_at-remove}
+use Rattle.checkpoint.specs.Checkpoint.{CheckpointState, Holds, is_noted, IsDirty, NotesTaken, IsInRange, IsInSpace, Gathers, ProtectsNoted, without_notes}
 use Rattle.checkpoint.specs.Backing.{AreBacked, page_at}
 use Rattle.fault.specs.Fault.{fixed_entry}
 use Rattle.machine.proofs.durable.Lists.{some_same, none_some}
@@ -75,31 +76,40 @@ kept_where : (b : Bool) (old : Option Mapped) (entry : Mapped) → cond b None o
 kept_where true old entry e = absurd (cc)
 kept_where false old entry e = e
 
-pub dirty_taken : (taken : ℕ → ℕ → Type 0) (test : ℕ → ℕ → Bool) (old new : Spaces) (c d : CheckpointState) (frame : ℕ)
-    → ((q at : ℕ) → entry_at new q at ≡ cond (test q at) None (entry_at old q at))
-    → ((q at : ℕ) → test q at ≡ true → taken q at) → NotesTaken old taken c d → IsDirty old c frame ↔ IsDirty new d frame
-dirty_taken taken test old new c d frame entries passes notes = (
+-- what is taken of one table, where a test passes, leaves the other
+pub record Takes (taken : ℕ → ℕ → Type 0) (old new : Spaces) : Type 0 where
+  pub test : ℕ → ℕ → Bool
+  pub entries : (q at : ℕ) → entry_at new q at ≡ cond (test q at) None (entry_at old q at)
+  pub passes : (q at : ℕ) → test q at ≡ true → taken q at
+
+pub takes_range : (spaces : Spaces) (pcid : ℕ) (range : PageRange) → Takes (IsInRange pcid range) spaces (without_mapping spaces pcid range)
+takes_range spaces pcid range = record {
+  test = λ q at. eqb q pcid && is_among range.first range.count at;
+  entries = entry_at-without_mapping spaces pcid range;
+  passes = λ q at h. let parts = and_parts (eqb q pcid) (is_among range.first range.count at) h in (eqb-true q pcid parts.0, parts.1);
+}
+
+pub takes_space : (spaces : Spaces) (pcid : ℕ) → Takes (IsInSpace pcid) spaces (maps.remove spaces pcid)
+takes_space spaces pcid = record { test = λ q at. eqb q pcid; entries = entry_at-remove spaces pcid; passes = λ q at h. eqb-true q pcid h }
+
+pub dirty_taken : (taken : ℕ → ℕ → Type 0) (old new : Spaces) (c d : CheckpointState) (frame : ℕ) → Takes taken old new
+    → NotesTaken old taken c d → IsDirty old c frame ↔ IsDirty new d frame
+dirty_taken taken old new c d frame takes notes = (
   dirty_from old new c d frame (λ noted. inl ((notes.noted frame).1 (inl noted))) (λ q at e is same dirty.
-      elim (cases_Bool (test q at)) [
-        | inl gone ↦ inl ((notes.noted frame).1 (inr (record {
-          pcid = q;
-          page = at;
-          there = passes q at gone;
-          entry = e;
-          present = is;
-          same_frame = same;
-          dirty = dirty;
-        })))
+      elim (cases_Bool (takes.test q at)) [
+        | inl gone ↦
+            (let there = takes.passes q at gone in
+            inl ((notes.noted frame).1 (inr (record { pcid = q; page = at; there = there; entry = e; present = is; same_frame = same; dirty = dirty }))))
         | inr stays ↦
             dirty_at new d q at frame e
-            (entries q at ∙ cond-false (test q at) None (entry_at old q at) stays ∙ is) same dirty
+            (takes.entries q at ∙ cond-false (takes.test q at) None (entry_at old q at) stays ∙ is) same dirty
       ]),
   dirty_from new old d c frame
       (λ noted. elim ((notes.noted frame).0 noted) [
         | inl was ↦ inl was
         | inr x ↦ dirty_at old c x.pcid x.page frame x.entry x.present x.same_frame x.dirty
       ])
-      (λ q at e is. dirty_at old c q at frame e (kept_where (test q at) (entry_at old q at) e (sym (entries q at) ∙ is))),
+      (λ q at e is. dirty_at old c q at frame e (kept_where (takes.test q at) (entry_at old q at) e (sym (takes.entries q at) ∙ is))),
 )
 
 -- ---- one page gets an entry

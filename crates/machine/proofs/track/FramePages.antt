@@ -1,12 +1,13 @@
 -- Which pages frames hold, and with what bytes, after each change of the frames.
-use Rattle.std.proofs.Common.{ℕ, ◌≡◌, ◌≢◌, Bool, true, false, List, get_or, Option, Some, None, refl, sym, ap, subst, ◌∙◌, inl, inr, ◌⊎◌}
+use Rattle.std.proofs.Common.{ℕ, ◌≡◌, ◌≢◌, Bool, true, false, List, slice_get, Option, Some, None, refl, sym, ap, subst, ◌∙◌, inl, inr, ◌⊎◌}
 use Rattle.std.proofs.lemmas.Bool.{cases_eq, false_from_ne_true, false≢true}
 use Rattle.page_entry.specs.declared.numbers.FilePage.{FilePage}
 use Rattle.frames.specs.Frames.{FramesState, Frame, frame_at, bytes_of, overwrite, overwrite_frame, with_page, with_bytes, without_frame, page_of}
 use Rattle.frames.proofs.Public.{frame_at-free, frame_at-with_page_same, frame_at-with_page_other, frame_at-with_bytes_same, frame_at-without_frame_same, frame_at-without_frame_other}
 use Rattle.checkpoint.proofs.Public.{same_page-true, same_page-refl, list_any-has_page, has_page-list_any}
 use Rattle.checkpoint.specs.Checkpoint.{Holds, same_page}
-use Rattle.fault.specs.Fault.{is_in_memory, Brings, CopiesOut}
+use Rattle.fault.specs.Fault.{is_in_memory}
+use Rattle.machine.proofs.durable.Lists.{some_same, none_some}
 
 -- ---- the same page
 
@@ -60,46 +61,23 @@ pub record IsBrought (old : FramesState) (owner : FilePage) (bytes : List ℕ) (
   pub cases : (frame : ℕ) (o : FilePage) → Holds new frame o → (Holds old frame o × (bytes_of (frame_at new frame) ≡ bytes_of (frame_at old frame)))
       ⊎ ((is_in_memory old owner ≡ false) × (frame_at old frame ≡ None) × (o ≡ owner) × (bytes_of (frame_at new frame) ≡ bytes))
 
-some_same : {X : Type 0} (x y : X) → Some x ≡ Some y → x ≡ y
-some_same x y e = cc
-
-brought_same : (old new : FramesState) (owner : FilePage) (bytes : List ℕ) → new ≡ old → IsBrought old owner bytes new
-brought_same old new owner bytes same = subst (IsBrought old owner bytes) (sym same) (record { kept = λ frame o holds. holds; cases = λ frame o holds. inl (holds, refl) })
-
-pub is_brought : (old mid : FramesState) (owner : FilePage) (bytes : List ℕ) (frame : ℕ) → Brings old owner bytes frame mid → IsBrought old owner bytes mid
-is_brought old mid owner bytes frame (inl there) = brought_same old mid owner bytes there.1
-is_brought old mid owner bytes frame (inr read) =
-    let free : frame_at old frame ≡ None = frame_at-free old frame read.1 in
-    subst (IsBrought old owner bytes) (sym read.2) (record {
+pub is_brought : (old : FramesState) (owner : FilePage) (bytes : List ℕ) (frame : ℕ) → is_in_memory old owner ≡ false → slice_get old.frames frame ≡ Some None → IsBrought old owner bytes (with_page old frame owner bytes)
+is_brought old owner bytes frame absent is_free =
+    let free : frame_at old frame ≡ None = frame_at-free old frame is_free in
+    record {
       kept = λ k o holds.
-          let other : k ≢ frame = λ same. absurd (let none : page_of (frame_at old k) ≡ None = ap (λ n. page_of (frame_at old n)) same ∙ ap page_of free in cc) in
+          let other : k ≢ frame = λ same. absurd (none_some o (sym (ap (λ n. page_of (frame_at old n)) same ∙ ap page_of free) ∙ holds)) in
           ap page_of (frame_at-with_page_other old frame owner bytes k other) ∙ holds;
       cases = λ k o holds.
           elim (cases_eq k frame) [
             | inl same ↦
-                let now = ap (frame_at (with_page old frame owner bytes)) same ∙ frame_at-with_page_same old frame owner bytes read.1 in
-                inr (read.0, ap (frame_at old) same ∙ free, some_same o owner (sym holds ∙ ap page_of now), ap bytes_of now)
+                let now = ap (frame_at (with_page old frame owner bytes)) same ∙ frame_at-with_page_same old frame owner bytes is_free in
+                inr (absent, ap (frame_at old) same ∙ free, some_same o owner (sym holds ∙ ap page_of now), ap bytes_of now)
             | inr other ↦
                 let now = frame_at-with_page_other old frame owner bytes k other in
                 inl (sym (ap page_of now) ∙ holds, ap bytes_of now)
           ];
-    })
-
--- a copy leaves the frames
-pub frames-copied : (b : Bool) (mid new : FramesState) (frame : ℕ) → CopiesOut b mid frame new → new.frames ≡ mid.frames
-frames-copied false mid new frame same = ap (λ (m : FramesState). m.frames) same
-frames-copied true mid new frame copied = ap (λ (m : FramesState). m.frames) copied.2
-
--- of memory only the frames matter
-pub IsBrought-frames : (old mid new : FramesState) (owner : FilePage) (bytes : List ℕ) → new.frames ≡ mid.frames → IsBrought old owner bytes mid → IsBrought old owner bytes new
-IsBrought-frames old mid new owner bytes same is = record {
-  kept = λ frame o holds. ap (λ fs. page_of (get_or fs frame None)) same ∙ is.kept frame o holds;
-  cases = λ frame o holds.
-      elim (is.cases frame o (ap (λ fs. page_of (get_or fs frame None)) (sym same) ∙ holds)) [
-        | inl was ↦ inl (was.0, ap (λ fs. bytes_of (get_or fs frame None)) same ∙ was.1)
-        | inr came ↦ inr (came.0, came.1, came.2, ap (λ fs. bytes_of (get_or fs frame None)) same ∙ came.3)
-      ];
-}
+    }
 
 -- ---- a frame becomes free
 

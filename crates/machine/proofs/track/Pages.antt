@@ -135,9 +135,8 @@ module _ (files : List File) (told now : Told) (s new : State) (events : List Ev
         (λ o is gone. has.plain o is (absent_before s.hardware.memory new.hardware.memory brought.kept o gone))
 
   -- a page leaves memory: it is clean, and has its bytes at home
-  module _ (sound : IsSound s) (owner : FilePage) (frame : ℕ) (leaves : MayLeave s owner frame)
-      (cleared : EditsEntries (without_entries_of owner s.hardware.spaces) s.hardware.spaces new.hardware.spaces)
-      (checkpoint : new.checkpoint ≡ s.checkpoint) (memory_is : new.hardware.memory ≡ without_frame s.hardware.memory frame) where
+  module _ (owner : FilePage) (frame : ℕ) (leaves : MayLeave s owner frame) (memory_is : new.hardware.memory ≡ without_frame s.hardware.memory frame)
+      (dirty : (k : ℕ) → IsDirty s.hardware.spaces s.checkpoint k ↔ IsDirty new.hardware.spaces new.checkpoint k) where
     -- frames but for this one hold what they held
     held_then : (k : ℕ) (o : FilePage) → Holds new.hardware.memory k o → (k ≢ frame) × (frame_at new.hardware.memory k ≡ frame_at s.hardware.memory k)
     held_then k o holds =
@@ -146,31 +145,6 @@ module _ (files : List File) (told now : Told) (s new : State) (events : List Ev
 
     held_now : (k : ℕ) (o : FilePage) → k ≢ frame → Holds s.hardware.memory k o → Holds new.hardware.memory k o
     held_now k o other holds = subst (λ (m : FramesState). Holds m k o) (sym memory_is) (held_still s.hardware.memory frame k o other holds)
-
-    abbrev maps_it : ℕ → ℕ → Bool
-    maps_it q at = is_place_of owner (place_at s.hardware.spaces q at)
-
-    kept : (b : Bool) (o : Option Mapped) (e : Mapped) → cond b None o ≡ Some e → o ≡ Some e
-    kept true o e is = absurd (cc)
-    kept false o e is = is
-
-    -- what is dirty was
-    dirty_before : (k : ℕ) → IsDirty new.hardware.spaces new.checkpoint k → IsDirty s.hardware.spaces s.checkpoint k
-    dirty_before k is = dirty_from new.hardware.spaces s.hardware.spaces s.checkpoint s.checkpoint k (λ noted. inl noted)
-        (λ q at e is. dirty_at s.hardware.spaces s.checkpoint q at k e (kept (maps_it q at) (entry_at s.hardware.spaces q at) e (sym (cleared.entries q at) ∙ is)))
-        (subst (λ c. IsDirty new.hardware.spaces c k) checkpoint is)
-
-    -- and what was is, but for the page that left
-    dirty_after : (k : ℕ) → k ≢ frame → IsDirty s.hardware.spaces s.checkpoint k → IsDirty new.hardware.spaces new.checkpoint k
-    dirty_after k other is = subst (λ c. IsDirty new.hardware.spaces c k) (sym checkpoint)
-        (dirty_from s.hardware.spaces new.hardware.spaces s.checkpoint s.checkpoint k (λ noted. inl noted) (λ q at e is same dirty.
-        elim (cases_Bool (maps_it q at)) [
-          | inl maps ↦
-              (let backed = sound.memory.backed q at e is in
-              let page : page_at backed.place ≡ owner = same_page-true (page_at backed.place) owner (sym (ap (is_place_of owner) backed.mapped) ∙ maps) in
-              absurd (other (sym same ∙ sound.memory.memory.one_frame e.frame frame owner (backed.held ∙ ap (λ x. Some x) page) leaves.held)))
-          | inr elsewhere ↦ dirty_at new.hardware.spaces s.checkpoint q at k e (cleared.entries q at ∙ cond-false (maps_it q at) None (entry_at s.hardware.spaces q at) elsewhere ∙ is) same dirty
-        ]) is)
 
     -- the page that left has its bytes at home
     at_home : (o : FilePage) → is_in_memory new.hardware.memory o ≡ false → (holder : (k : ℕ) × Holds s.hardware.memory k o) → latest_then o ≡ cut_at_end s o (latest_then o)
@@ -187,10 +161,8 @@ module _ (files : List File) (told now : Told) (s new : State) (events : List Ev
     pages_left = pages_by
         (λ k o holds. let there = held_then k o holds in ap bytes_of there.1 ∙ has.latest.latest k o (sym (ap page_of there.1) ∙ holds))
         (λ o. (
-          λ d.
-              let other : d.0 ≢ frame = λ same. leaves.clean (subst (λ k. IsDirty s.hardware.spaces s.checkpoint k) same d.2) in
-              (d.0, held_now d.0 o other d.1, dirty_after d.0 other d.2),
-          λ d. (d.0, sym (ap page_of (held_then d.0 o d.1).1) ∙ d.1, dirty_before d.0 d.2),
+          λ d. (d.0, held_now d.0 o (λ same. leaves.clean (subst (λ k. IsDirty s.hardware.spaces s.checkpoint k) same d.2)) d.1, (dirty d.0).0 d.2),
+          λ d. (d.0, sym (ap page_of (held_then d.0 o d.1).1) ∙ d.1, (dirty d.0).1 d.2),
         ))
         (λ o is gone. elim (cases_Bool (is_in_memory s.hardware.memory o)) [
           | inr absent ↦ has.plain o is absent

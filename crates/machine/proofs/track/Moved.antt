@@ -1,0 +1,123 @@
+-- Each move of a tracked machine keeps it tracked.
+use Rattle.std.proofs.Common.{ℕ, ◌≡◌, ◌↔◌, ◌/◌, ◌%◌, false, List, [], ◌∷◌, ◌++◌, Option, Some, None, refl, sym, ap, ◌∙◌, subst, inl, inr, append-nil}
+use Rattle.std.specs.FinMap as maps
+use Rattle.std.specs.List.{Contains}
+use Rattle.page_entry.specs.declared.numbers.FilePage.{FilePage}
+use Rattle.mappings.specs.declared.place.Place.{Place}
+use Rattle.frames.specs.Frames.{FramesState}
+use Rattle.volume_codec.specs.Files.{File}
+use Rattle.volume_codec.specs.Super.{SuperValue}
+use Rattle.spaces.specs.declared.change.Change.TheVariants.{Checkpoint}
+use Rattle.shootdown.proofs.Public.{running, is_there_below}
+use Rattle.checkpoint.specs.Checkpoint.{CheckpointState, IsDirty, IsInSpace}
+use Rattle.checkpoint.specs.Backing.{page_at}
+use Rattle.cpu.specs.Access.{Hardware}
+use Rattle.journal.specs.WriteOuts.{WriteOutsValue}
+use Rattle.journal.specs.inside.Standing.{IsStanding}
+use Rattle.machine.specs.History.{Event}
+use Rattle.machine.specs.State.{State, page_from}
+use Rattle.machine.specs.Rules.{with_hardware, MayLeave, bytes_at_mark}
+use Rattle.machine.specs.Told.{Told, Pending, Unmapping, Protecting, changed, place_told, store_at, offset_at}
+use Rattle.machine.specs.inside.Sound.{IsSound}
+use Rattle.machine.specs.inside.Tracking.{IsArranged, IsTracked, change_in}
+use Rattle.machine.specs.inside.Moves.{Saying, Silent, Running, Entering, Mapping, Leaving, Beginning, Ending, Changing, Storing, said, said_all, StoresBytes, Move, Moves, Replace, Remap, Destroy, Begin, End, Store, Bring, Copy, Drop}
+use Rattle.machine.proofs.moves.Kept.{move_sound}
+use Rattle.machine.proofs.durable.Lists.{some_same, none_some}
+use Rattle.machine.proofs.durable.Histories.{IsQuiet}
+use Rattle.machine.proofs.durable.Leaves.{SameFiles, Leaves, written_left}
+use Rattle.machine.proofs.durable.AtMark.{write_leaves, brought_leaves, copy_leaves, reclaimed_leaves}
+use Rattle.machine.proofs.durable.PagesRead.{page_read}
+use Rattle.machine.proofs.track.Histories.{quiet_nothing}
+use Rattle.machine.proofs.track.Places.{place_is}
+use Rattle.machine.proofs.track.FramePages.{is_brought}
+use Rattle.machine.proofs.track.DirtyFrames.{dirty_taken, takes_space}
+use Rattle.machine.proofs.track.Accesses.{has_stored}
+use Rattle.machine.proofs.track.Arranged.{arranged_moved}
+use Rattle.machine.proofs.track.Pages.{HasPages, SamePages, pages_quiet, pages_fixed, pages_left}
+use Rattle.machine.proofs.track.PagesStored.{pages_stored}
+
+-- ---- what a move adds to the history: a store, or nothing
+
+abbrev adds : Told → Saying → List Event
+adds told (Storing p va bytes) = store_at (place_told told p va) va bytes
+adds told says = []
+
+history_said : (told : Told) (says : Saying) → (said told says).history ≡ told.history ++ adds told says
+history_said told (Storing p va bytes) = refl
+history_said told (Changing p) = by told.pending
+  where
+    by : (pending : Option Pending) → (changed told pending).history ≡ told.history ++ []
+    by None = sym (append-nil told.history)
+    by (Some (Unmapping space range)) = sym (append-nil told.history)
+    by (Some (Protecting space range rights)) = sym (append-nil told.history)
+history_said told Silent = sym (append-nil told.history)
+history_said told (Running p goes) = sym (append-nil told.history)
+history_said told (Entering p space) = sym (append-nil told.history)
+history_said told (Mapping space change) = sym (append-nil told.history)
+history_said told (Leaving space) = sym (append-nil told.history)
+history_said told (Beginning p pending) = sym (append-nil told.history)
+history_said told (Ending p) = sym (append-nil told.history)
+
+adds_quietly : (told : Told) (says : Saying) → IsQuiet (adds told says)
+adds_quietly told (Storing p va bytes) = by (place_told told p va)
+  where
+    by : (o : Option Place) → IsQuiet (store_at o va bytes)
+    by None = inl refl
+    by (Some place) = inr (place.file, offset_at place va, bytes, refl)
+adds_quietly told says = inl refl
+
+-- ---- it leaves the write-outs, and what their records are
+
+module _ (s : State) where
+  -- with this hardware and this checkpoint
+  abbrev KeepsLock : Hardware → Type 0
+  KeepsLock h = s.write_outs.broken ≡ true → change_in h.shootdown.lock ≡ Some Checkpoint → change_in s.hardware.shootdown.lock ≡ Some Checkpoint
+
+  leaves_with : (h : Hardware) (c : CheckpointState) (new : State) → c.frozen ≡ s.checkpoint.frozen → KeepsLock h
+      → ((owner : FilePage) → Contains s.checkpoint.frozen owner → bytes_at_mark h.memory owner ≡ bytes_at_mark s.hardware.memory owner)
+      → new ≡ record s { hardware = h; checkpoint = c } → Leaves s new
+  leaves_with h c new frozen lock bytes done = subst (Leaves s) (sym done) (record { files = record { table = refl; lengths = refl }; write_outs = refl; marks = refl; lock = lock; frozen = frozen; bytes = bytes })
+
+  pub leaves_moved : (disk : List ℕ) (says : Saying) (new : State) → IsSound s → Move disk s says new → Leaves s new
+  leaves_moved disk says new sound (Replace is) = leaves_with _ s.checkpoint new refl (λ broken held. held) (λ owner has. refl) is.done
+  leaves_moved disk says new sound (Remap spaces is dirty) = leaves_with _ s.checkpoint new refl (λ broken held. held) (λ owner has. refl) is.done
+  leaves_moved disk says new sound (Destroy is) = leaves_with _ is.made.checkpoint new is.made.noted.frozen (λ broken held. held) (λ owner has. refl) is.made.done
+  leaves_moved disk says new sound (Begin is) =
+      leaves_with _ s.checkpoint new refl (λ broken held. absurd (both_ways s.write_outs.broken (is.whole (some_same is.change Checkpoint held)) broken)) (λ owner has. refl) is.done
+  leaves_moved disk says new sound (End is) = leaves_with _ is.checkpoint new is.same_frozen (λ broken held. absurd (none_some Checkpoint held)) (λ owner has. refl) is.done
+  leaves_moved disk says new sound (Store is) =
+      let w = has_stored s.hardware s.checkpoint is.p is.va is.bytes is.hardware sound.spaces.coheres sound.memory.backed is.made in
+      leaves_with is.hardware s.checkpoint new refl (λ broken held. sym (ap change_in w.told.lock) ∙ held)
+      (λ owner has. ap (λ (m : FramesState). bytes_at_mark m owner) w.memory ∙ write_leaves s sound (page_at w.place) w.frame (is.va % 4096) is.bytes w.holds w.thawed owner has) is.done
+  leaves_moved disk says new sound (Bring is) =
+      leaves_with _ s.checkpoint new refl (λ broken held. held) (brought_leaves s sound is.owner (page_from s disk is.owner) is.frame is.absent is.free) is.done
+  leaves_moved disk says new sound (Copy is) = leaves_with _ s.checkpoint new refl (λ broken held. held) (copy_leaves s sound is.owner is.frame is.copy is.held is.holds is.free) is.done
+  leaves_moved disk says new sound (Drop is) = leaves_with _ s.checkpoint new refl (λ broken held. held) (reclaimed_leaves s sound is.owner is.frame is.leaves) is.done
+
+-- ---- pages are as it tells them
+
+module _ (files : List File) (told : Told) (s : State) (seen : List ℕ) (may : List ℕ → Type 0) (t : IsTracked files told s seen may) (says : Saying) (new : State) where
+  abbrev now : Told
+  now = said told says
+
+  has : HasPages files told s
+  has = record { files_are = t.files_are; latest = t.latest; touched = t.touched; plain = t.plain }
+
+  -- nothing is added, and the pages stay
+  same_pages : (x : State) → new ≡ x → SameFiles s x → adds told says ≡ [] → SamePages s x → HasPages files now new
+  same_pages x done same none pages =
+      subst (HasPages files now) (sym done) (pages_quiet files told now s x [] (history_said told says ∙ ap (λ l. told.history ++ l) none) (quiet_nothing told.history) same has pages)
+
+  stored : StoresBytes s says new → HasPages files now new
+  stored is =
+      let w = has_stored s.hardware s.checkpoint is.p is.va is.bytes is.hardware t.sound.spaces.coheres t.sound.memory.backed is.made in
+      let there = is_there_below s.hardware.shootdown is.p (running s.hardware.shootdown is.p is.made.running).0 in
+      let leads : place_told told is.p is.va ≡ Some w.place = place_is t.arranged is.p is.va there ∙ w.leads in
+      let history = history_said told says ∙ ap (λ x. told.history ++ adds told x) is.says_is ∙ ap (λ o. told.history ++ store_at o is.va is.bytes) leads in
+      subst (HasPages files now) (sym is.done) (pages_stored files told now s is.p is.va is.bytes is.hardware w t.sound.memory.memory is.made.access.inside history has)
+
+  pub pages_moved : Move seen s says new → HasPages files now new
+  pages_moved (Replace is) = same_pages _ is.done (record { table = refl; lengths = refl }) (by says is.told) (record { frames = refl; dirty = λ frame. (λ d. d, λ d. d) })
+    where
+      by : (says : Saying) → _ → adds told says ≡ []
+      by says told_so = refl
