@@ -21,21 +21,24 @@ use Rattle.journal.specs.WriteOut.{WriteOut, next_stage, begun_of, advanced_of, 
 use Rattle.journal.specs.WriteOuts.{WriteOutsValue, has_uncommitted, current, advanced, outs_after, outs_record, next_answer, next_batch, begun}
 use Rattle.journal.proofs.Public.{IsAt, stage_is, early_calls, all_calls, current-oldest}
 use Rattle.machine.specs.declared.act.Act.{Act}
+use Rattle.machine.specs.declared.act.Act.TheVariants as acts
 use Rattle.machine.specs.declared.act.Reply.{Reply}
 use Rattle.machine.specs.declared.act.Reply.TheVariants as replies
 use Rattle.machine.specs.declared.act.Step.{Step}
 use Rattle.machine.specs.State.{State, Whole, home_of}
-use Rattle.machine.specs.Rules.{MarkMade, with_batch, work_asked, after_record, reply_to, next_record}
+use Rattle.machine.specs.Rules.{Acts, FlushMade, MarkMade, with_batch, work_asked, after_record, reply_to, next_record}
 use Rattle.machine.specs.Steps.{step_work}
 use Rattle.machine.specs.Runs.{StepTaken, StepsTaken}
 use Rattle.machine.specs.Sums.{listed_work, asked_for, AskFor}
 use Rattle.machine.specs.OnTrack.{IsOnTrack}
 use Rattle.machine.specs.inside.Sound.{IsSound}
-use Rattle.machine.proofs.sound.Kept.{sound_kept}
 use Rattle.machine.proofs.sound.ByMark.{marked_sound}
 use Rattle.machine.proofs.sound.Waiting.{blocks, steps_committed, current_uncommitted}
-use Rattle.machine.proofs.track.Deeds.{GoesOn, steps_on, Deed, Quiet, Marks, Steps, Fails}
-use Rattle.machine.proofs.track.Does.{does}
+use Rattle.machine.specs.inside.Moves.{Performed, Moved, Marked, Flushed as Stepped, Failed}
+use Rattle.machine.proofs.acts.All.{performed}
+use Rattle.machine.proofs.sound.Kept.{performed_sound}
+use Rattle.machine.proofs.durable.Steps.{GoesOn, step_goes, step_asks}
+use Rattle.machine.proofs.track.Moved.{moves_leave}
 use Rattle.machine.proofs.Tracks.{follows}
 
 -- ---- what the answer of a step tells
@@ -174,6 +177,13 @@ whole_answer outs goes = elim (cases_Bool outs.broken) [
   | inr whole ↦ (whole, cond-false outs.broken flushed.Broken (option_map_or answer_of (current outs.batches) flushed.Broken) whole)
 ]
 
+-- the work of a step that goes on with the write-outs
+work_now : (s : State) (act : Act) (reply : Reply) → act ≡ acts.Flush → (answer : Flushed) → reply ≡ reply_to answer → GoesOn answer → s.write_outs.broken ≡ false
+    → step_work s act reply ≡ option_map_or (work_of s.write_outs.geometry (next_record s)) (current s.write_outs.batches) Nothing
+work_now s act reply act_is answer reply_is goes whole =
+    (λ i. step_work s (act_is i) (reply_is i)) ∙ step_asks s answer goes
+    ∙ cond-false s.write_outs.broken Nothing (option_map_or (work_of s.write_outs.geometry (next_record s)) (current s.write_outs.batches) Nothing) whole
+
 module _ (n : ℕ) (batch : Batch) (its : batch.mark ≡ n) (g : GeometryValue) where
   -- these batches have its write-out, and its steps so far asked for these works
   record IsUnder (batches : List WriteOut) (works : List Work) : Type 0 where
@@ -275,32 +285,35 @@ module _ (n : ℕ) (batch : Batch) (its : batch.mark ≡ n) (g : GeometryValue) 
     stepped (flushed.Committed mark) goes e (inl broken) = inl broken
     stepped (flushed.Done mark) goes e (inl broken) = inl broken
 
-  module _ (s : State) (disk : List ℕ) (p : ℕ) (act : Act) (reply : Reply) (new : State) (disk' : List ℕ) where
+  module _ (s : State) (disk : List ℕ) (p : ℕ) (act : Act) (reply : Reply) (new : State) (disk' : List ℕ) (sound : IsSound s) where
     -- marks are counted on
-    more_marks : Deed s disk p act reply new disk' → n ≤ s.marks → n ≤ new.marks
-    more_marks (Quiet asks leaves same_disk pages) le = omega (arith, le, leaves.marks)
-    more_marks (Marks number adds asks same_disk made) le = let same : new.marks ≡ number = ap (λ (x : State). x.marks) made.done in omega (arith, le, same, made.next)
-    more_marks (Steps adds work goes made) le = let same = ap (λ (x : State). x.marks) made.done ∙ either (is_some (outs_record s.write_outs)) in omega (arith, le, same)
+    more_marks : Performed s disk p act reply new disk' → n ≤ s.marks → n ≤ new.marks
+    more_marks (Moved by) le = omega (arith, le, (moves_leave disk s by.says new sound by.moves).1)
+    more_marks (Marked number act_is reply_is made same_disk) le = let same : new.marks ≡ number = ap (λ (x : State). x.marks) made.done in omega (arith, le, same, made.next)
+    more_marks (Stepped act_is made fine) le = let same = ap (λ (x : State). x.marks) made.done ∙ either (is_some (outs_record s.write_outs)) in omega (arith, le, same)
       where
         either : (b : Bool) → (cond b (after_record s) s).marks ≡ s.marks
         either true = refl
         either false = refl
-    more_marks (Fails none work steps made) le = let same = ap (λ (x : State). x.marks) made.done in omega (arith, le, same)
+    more_marks (Failed act_is reply_is made) le = let same = ap (λ (x : State). x.marks) made.done in omega (arith, le, same)
 
-    stands_next : Deed s disk p act reply new disk' → n ≤ s.marks → (works : List Work) → Stands s.write_outs works → Stands new.write_outs (works ++ asked_for n s act reply)
-    stands_next (Quiet asks leaves same_disk pages) le works st =
-        subst (λ o. Stands o (works ++ asked_for n s act reply)) (sym leaves.write_outs) (subst (Stands s.write_outs) (sym (asked_nothing s.write_outs.batches works (step_work s act reply) asks.work)) st)
-    stands_next (Marks number adds asks same_disk made) le works st =
-        let other : number ≢ n = λ same. absurd (omega (arith, le, made.next, same)) in
-        subst (λ o. Stands o (works ++ asked_for n s act reply)) (sym (ap (λ (x : State). x.write_outs) made.done))
-        (subst (Stands (with_batch s number made.pages)) (sym (asked_nothing s.write_outs.batches works (step_work s act reply) asks.work)) (marked s works number made.pages other st))
-    stands_next (Steps adds work goes made) le works st =
+    -- a step that asks for nothing
+    idles : (outs : WriteOutsValue) (works : List Work) → new.write_outs ≡ outs → step_work s act reply ≡ Nothing → Stands outs works → Stands new.write_outs (works ++ asked_for n s act reply)
+    idles outs works same none st =
+        subst (λ o. Stands o (works ++ asked_for n s act reply)) (sym same) (subst (Stands outs) (sym (asked_nothing s.write_outs.batches works (step_work s act reply) none)) st)
+
+    stands_next : Performed s disk p act reply new disk' → n ≤ s.marks → (works : List Work) → Stands s.write_outs works → Stands new.write_outs (works ++ asked_for n s act reply)
+    stands_next (Moved by) le works st = idles s.write_outs works (moves_leave disk s by.says new sound by.moves).0 by.no_work st
+    stands_next (Marked number act_is reply_is made same_disk) le works st =
+        idles (with_batch s number made.pages) works (ap (λ (x : State). x.write_outs) made.done) (λ i. step_work s (act_is i) (reply_is i))
+        (marked s works number made.pages (λ same. absurd (omega (arith, le, made.next, same))) st)
+    stands_next (Stepped act_is made fine) le works st =
+        let goes = step_goes (next_answer s.write_outs) reply made.answered fine in
         let whole = whole_answer s.write_outs goes in
-        let now : step_work s act reply ≡ option_map_or (work_of s.write_outs.geometry (next_record s)) (current s.write_outs.batches) Nothing =
-        work ∙ cond-false s.write_outs.broken Nothing (option_map_or (work_of s.write_outs.geometry (next_record s)) (current s.write_outs.batches) Nothing) whole.0 in
         subst (λ o. Stands o (works ++ asked_for n s act reply)) (sym (ap (λ (x : State). x.write_outs) made.done))
-        (subst (λ w. Stands (outs_after s.write_outs (next_answer s.write_outs)) (works ++ asked s.write_outs.batches w)) (sym now) (stepped s works (next_answer s.write_outs) goes (sym whole.1) st))
-    stands_next (Fails none work steps made) le works st = inl (ap (λ (x : State). x.write_outs.broken) made.done)
+        (subst (λ w. Stands (outs_after s.write_outs (next_answer s.write_outs)) (works ++ asked s.write_outs.batches w)) (sym (work_now s act reply act_is (next_answer s.write_outs) made.answered goes whole.0))
+        (stepped s works (next_answer s.write_outs) goes (sym whole.1) st))
+    stands_next (Failed act_is reply_is made) le works st = inl (ap (λ (x : State). x.write_outs.broken) made.done)
 
   -- ---- runs, with one step more
 
@@ -310,7 +323,6 @@ module _ (n : ℕ) (batch : Batch) (its : batch.mark ≡ n) (g : GeometryValue) 
       works : List Work
       asks : AskFor disk n old (steps ++ step ∷ []) (answers ++ reply ∷ []) new (works ++ asked_for n last.state step.act reply)
       stands : Stands last.state.write_outs (before ++ works)
-      sound : IsSound last.state
 
     run : (steps : List Step) (answers : List Reply) (old : Whole D) (before : List Work) → IsSound old.state → n ≤ old.state.marks → StepsTaken disk old steps answers last
         → Stands old.state.write_outs before → Asks old steps answers before
@@ -318,20 +330,18 @@ module _ (n : ℕ) (batch : Batch) (its : batch.mark ≡ n) (g : GeometryValue) 
       works = [];
       asks = (new, [], here, (refl, refl), sym (append-nil (asked_for n last.state step.act reply)));
       stands = subst (λ (x : Whole D). Stands x.state.write_outs (before ++ [])) (sym taken) (subst (Stands old.state.write_outs) (sym (append-nil before)) st);
-      sound = subst (λ (x : Whole D). IsSound x.state) (sym taken) sound;
     })
     run (first ∷ steps) (answer ∷ answers) old before sound le (mid, taken, rest) st =
-        let deed = (does old.state taken.answered.0 first.p mid.state taken.answered.1 sound first.act answer taken.answered.2).deed in
-        let sound' = sound_kept old.state taken.answered.0 first answer mid.state taken.answered.1 sound taken.answered.2 in
+        let by = performed old.state taken.answered.0 first answer mid.state taken.answered.1 sound taken.answered.2 in
+        let sound' = performed_sound sound by in
         let its = asked_for n old.state first.act answer in
-        let le' = more_marks old.state taken.answered.0 first.p first.act answer mid.state taken.answered.1 deed le in
-        let st' = stands_next old.state taken.answered.0 first.p first.act answer mid.state taken.answered.1 deed le before st in
+        let le' = more_marks old.state taken.answered.0 first.p first.act answer mid.state taken.answered.1 sound by le in
+        let st' = stands_next old.state taken.answered.0 first.p first.act answer mid.state taken.answered.1 sound by le before st in
         let later = run steps answers mid (before ++ its) sound' le' rest st' in
         record {
           works = its ++ later.works;
           asks = (mid, later.works ++ asked_for n last.state step.act reply, taken, later.asks, append_assoc its later.works (asked_for n last.state step.act reply));
           stands = subst (Stands last.state.write_outs) (append_assoc before its later.works) later.stands;
-          sound = later.sound;
         }
     run [] (answer ∷ answers) old before sound le taken st = absurd taken
     run (first ∷ steps) [] old before sound le taken st = absurd taken
@@ -348,14 +358,13 @@ module _ (n : ℕ) (batch : Batch) (its : batch.mark ≡ n) (g : GeometryValue) 
       is_of_answer None e = absurd (subst GoesOn (sym e) goes)
       is_of_answer (Some w) e = eq-eqb w.batch.mark n (tells w e)
 
-      ends_with : next_answer last.state.write_outs ≡ answer → step_work last.state step.act reply ≡ work_asked last.state → Stands last.state.write_outs works → HasEnded
-      ends_with is work st =
+      ends : step.act ≡ acts.Flush → reply ≡ reply_to (next_answer last.state.write_outs) → next_answer last.state.write_outs ≡ answer → Stands last.state.write_outs works → HasEnded
+      ends act_is reply_is is st =
           let outs = last.state.write_outs in
           let whole = whole_answer outs (subst GoesOn (sym is) goes) in
           let e = sym whole.1 ∙ is in
           let next = is_of_answer (current outs.batches) e in
-          let now : step_work last.state step.act reply ≡ option_map_or (work_of outs.geometry (next_record last.state)) (current outs.batches) Nothing =
-          work ∙ cond-false outs.broken Nothing (option_map_or (work_of outs.geometry (next_record last.state)) (current outs.batches) Nothing) whole.0 in
+          let now = work_now last.state step.act reply act_is (next_answer outs) reply_is (subst GoesOn (sym is) goes) whole.0 in
           elim st [
             | inl broken ↦ absurd (both_ways outs.broken whole.0 broken)
             | inr (inl none) ↦ absurd (both_ways (is_next n outs.batches) (none_next n outs.batches none) next)
@@ -371,15 +380,32 @@ module _ (n : ℕ) (batch : Batch) (its : batch.mark ≡ n) (g : GeometryValue) 
             ]
           ]
 
-      -- by what the step does
-      ends : IsSound last.state → steps_on reply ≡ true → ((a : Flushed) → reply ≡ reply_to a → a ≡ answer) → Stands last.state.write_outs works → HasEnded
-      ends sound steps answers st = by (does last.state here.answered.0 step.p new.state here.answered.1 sound step.act reply here.answered.2).deed
-        where
-          by : Deed last.state here.answered.0 step.p step.act reply new.state here.answered.1 → HasEnded
-          by (Quiet asks leaves same_disk pages) = absurd (both_ways (steps_on reply) asks.steps steps)
-          by (Marks number adds asks same_disk made) = absurd (both_ways (steps_on reply) asks.steps steps)
-          by (Steps adds work goes made) = ends_with (answers (next_answer last.state.write_outs) made.answered) work st
-          by (Fails none work fails made) = absurd (both_ways (steps_on reply) fails steps)
+-- ---- only a step of the write-outs answers so
+
+module _ (s : State) (disk : List ℕ) (p : ℕ) (new : State) (disk' : List ℕ) (number : ℕ) where
+  abbrev IsStep : Act → Reply → Type 0
+  IsStep act reply = Acts s disk p act reply new disk' → (act ≡ acts.Flush) × FlushMade s disk p reply new disk'
+
+  steps_alone : (act : Act) → IsStep act (replies.Committed number) × IsStep act (replies.Done number)
+  steps_alone (acts.Load va count) = (λ rule. absurd rule.0.1, λ rule. absurd rule.0.1)
+  steps_alone (acts.Store va bytes) = (λ rule. absurd rule.0.1, λ rule. absurd rule.0.1)
+  steps_alone (acts.Fill page) = (λ rule. absurd rule.0.1, λ rule. absurd rule.0.1)
+  steps_alone (acts.Evict slot) = (λ rule. absurd rule.0.1, λ rule. absurd rule.0.1)
+  steps_alone (acts.Switch space keep) = (λ rule. absurd rule.0, λ rule. absurd rule.0)
+  steps_alone acts.Idle = (λ rule. absurd rule.0, λ rule. absurd rule.0)
+  steps_alone acts.Wake = (λ rule. absurd rule.0, λ rule. absurd rule.0)
+  steps_alone (acts.Fix va write) = (λ rule. absurd rule.0, λ rule. absurd rule.0)
+  steps_alone acts.Create = (λ rule. absurd rule.0, λ rule. absurd rule.0)
+  steps_alone (acts.Destroy space) = (λ rule. absurd rule.0, λ rule. absurd rule.0)
+  steps_alone (acts.Map space va len file offset prot access) = (λ rule. absurd rule.0, λ rule. absurd rule.0)
+  steps_alone (acts.Unmap space va len) = (λ rule. absurd rule.0, λ rule. absurd rule.0)
+  steps_alone (acts.Protect space va len prot) = (λ rule. absurd rule.0, λ rule. absurd rule.0)
+  steps_alone (acts.Reclaim file page) = (λ rule. absurd rule.0, λ rule. absurd rule.0)
+  steps_alone (acts.Msync va len flags) = (λ rule. absurd rule.0, λ rule. absurd rule.0)
+  steps_alone acts.Ack = (λ rule. absurd rule.0, λ rule. absurd rule.0)
+  steps_alone acts.Change = (λ rule. absurd rule.0, λ rule. absurd rule.0)
+  steps_alone acts.Resume = (λ rule. absurd rule.0, λ rule. absurd rule.0)
+  steps_alone acts.Flush = (λ rule. (refl, rule), λ rule. (refl, rule))
 
 -- the reply tells the answer
 committed_is : (number : ℕ) (a : Flushed) → replies.Committed number ≡ reply_to a → a ≡ flushed.Committed number
@@ -439,19 +465,21 @@ module _ {D : Type 0} (disk : Ghosts D) (files : List File) (start old marked la
   abbrev HasAsked : Reply → ℕ → Type 0
   HasAsked reply count = (works : List Work) × AskFor disk number marked (steps ++ step ∷ []) (answers ++ reply ∷ []) new works × (length works ≡ count) × (sum_by calls_of works ≡ calls_in_steps g its_batch count)
 
-  counted : (reply : Reply) (answer : Flushed) → GoesOn answer → ((w : WriteOut) → answer_of w ≡ answer → w.batch.mark ≡ number) → steps_on reply ≡ true → ((a : Flushed) → reply ≡ reply_to a → a ≡ answer) → StepTaken disk last step reply new
+  counted : (reply : Reply) (answer : Flushed) → GoesOn answer → ((w : WriteOut) → answer_of w ≡ answer → w.batch.mark ≡ number) → ((d d' : List ℕ) → IsStep last.state d step.p new.state d' number step.act reply) → ((a : Flushed) → reply ≡ reply_to a → a ≡ answer) → StepTaken disk last step reply new
       → (m : ℕ) × (answer_of (record { batch = its_batch; steps = m }) ≡ answer) × HasAsked reply (suc m)
-  counted reply answer goes tells steps_are answers_are here =
+  counted reply answer goes tells is_step answer_is here =
       let marks : marked.state.marks ≡ number = ap (λ (x : State). x.marks) mark.done in
       let st = subst (λ o. Stands number its_batch refl g o []) (sym (ap (λ (x : State). x.write_outs) mark.done)) (begins mark.pages) in
       let asked = run number its_batch refl g disk last new step reply here steps answers marked [] (marked_sound s p number marked.state mark sound) (omega (arith, marks)) taken st in
-      let end = ends number its_batch refl g disk last new step reply here answer goes tells asked.works asked.sound steps_are answers_are asked.stands in
+      let flush = is_step here.answered.0 here.answered.1 here.answered.2 in
+      let end = ends number its_batch refl g disk last new step reply here answer goes tells asked.works flush.0 flush.1.answered (answer_is (next_answer last.state.write_outs) flush.1.answered) asked.stands in
       (end.0, end.1, (asked.works ++ asked_for number last.state step.act reply, asked.asks, end.2, end.3))
 
   pub committed_count : StepTaken disk last step (replies.Committed number) new
       → (works : List Work) × AskFor disk number marked (steps ++ step ∷ []) (answers ++ replies.Committed number ∷ []) new works × (length works ≡ length mark.pages + 4) × (sum_by calls_of works ≡ length mark.pages + 4)
   committed_count here =
-      let found = counted (replies.Committed number) (flushed.Committed number) tt (λ w e. (answered_at w g (flushed.Committed number) e).0) refl (committed_is number) here in
+      let found = counted (replies.Committed number) (flushed.Committed number) tt (λ w e. (answered_at w g (flushed.Committed number) e).0)
+      (λ d d'. (steps_alone last.state d step.p new.state d' number step.act).0) (committed_is number) here in
       let at = (answered_at (record { batch = its_batch; steps = found.0 }) g (flushed.Committed number) found.1).1 in
       let count : suc found.0 ≡ length mark.pages + 4 = omega (arith, at, length-map mark.pages (home_of s.table)) in
       let few : suc found.0 ≤ length its_batch.homes + 4 = omega (arith, at) in
@@ -460,7 +488,8 @@ module _ {D : Type 0} (disk : Ghosts D) (files : List File) (start old marked la
   pub done_count : StepTaken disk last step (replies.Done number) new
       → (works : List Work) × AskFor disk number marked (steps ++ step ∷ []) (answers ++ replies.Done number ∷ []) new works × (length works ≡ 2 * length mark.pages + 7) × (sum_by calls_of works ≡ 3 * length mark.pages + 7)
   done_count here =
-      let found = counted (replies.Done number) (flushed.Done number) tt (λ w e. (answered_at w g (flushed.Done number) e).0) refl (done_is number) here in
+      let found = counted (replies.Done number) (flushed.Done number) tt (λ w e. (answered_at w g (flushed.Done number) e).0)
+      (λ d d'. (steps_alone last.state d step.p new.state d' number step.act).1) (done_is number) here in
       let at = (answered_at (record { batch = its_batch; steps = found.0 }) g (flushed.Done number) found.1).1 in
       let pages = length-map mark.pages (home_of s.table) in
       let count : suc found.0 ≡ 2 * length its_batch.homes + 7 = omega (arith, at) in

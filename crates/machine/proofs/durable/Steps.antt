@@ -1,17 +1,17 @@
--- One step of a machine over an honest device: what the device recovers to still goes with what is told, and a crash within the step or after it reads back.
-use Rattle.std.proofs.Common.{◌≡◌, ◌≢◌, ◌<◌, ℕ, inl, inr, cond, false, List, [], ◌∷◌, ◌++◌, length, map, Option, Some, None, refl, sym, ap, ◌∙◌, subst, arith}
-use Rattle.std.specs.Prelude.{is_some}
+-- One step of a machine over an honest device: it stays tracked, and a crash within the step or after it reads back.
+use Rattle.std.proofs.Common.{◌≡◌, ◌≢◌, ◌<◌, ◌↔◌, ℕ, inl, inr, cond, Bool, true, false, not, List, [], ◌∷◌, ◌++◌, length, map, is_some, refl, sym, ap, ◌∙◌, subst, arith}
 use Rattle.std.specs.List.{Contains}
-use Rattle.std.proofs.lemmas.Bool.{cond-false}
+use Rattle.std.proofs.lemmas.Bool.{cond-false, false≢true}
 use Rattle.std.proofs.lemmas.List.Elements.{All-contains, Contains-push}
 use Rattle.page_entry.specs.declared.numbers.FilePage.{FilePage}
+use Rattle.page_entry.specs.declared.refusal.Refusal.{Refusal}
 use Rattle.page_entry.specs.declared.refusal.Refusal.TheVariants as refusals
-use Rattle.mappings.specs.declared.place.Place.{Place}
 use Rattle.device.specs.Device.{Only, LeavesOnly}
 use Rattle.device.specs.declared.device.Device.{Ghosts}
 use Rattle.volume_codec.specs.Files.{File}
 use Rattle.volume_codec.specs.Super.{SuperValue, geometry_of}
 use Rattle.volume_codec.specs.Descriptor.{AreHomes}
+use Rattle.checkpoint.specs.Checkpoint.{without_notes}
 use Rattle.journal.specs.declared.flushed.Flushed.{Flushed}
 use Rattle.journal.specs.declared.flushed.Flushed.TheVariants as flushed
 use Rattle.journal.specs.Work.{Work, Sync, Nothing, worked, TornFromWork}
@@ -22,29 +22,36 @@ use Rattle.journal.specs.inside.Standing.{IsStanding}
 use Rattle.journal.specs.inside.Tied.{IsTied}
 use Rattle.journal.proofs.Public.{stands_left}
 use Rattle.machine.specs.declared.act.Act.{Act}
+use Rattle.machine.specs.declared.act.Act.TheVariants as acts
 use Rattle.machine.specs.declared.act.Reply.{Reply}
 use Rattle.machine.specs.declared.act.Reply.TheVariants as replies
 use Rattle.machine.specs.declared.act.Step.{Step}
-use Rattle.machine.specs.History.{Event, Acknowledge}
+use Rattle.machine.specs.History.{Event, Memory, Acknowledge, memory_of, after, has_unmarked}
 use Rattle.machine.specs.State.{State, Whole, home_of}
-use Rattle.checkpoint.specs.Checkpoint.{without_notes}
-use Rattle.machine.specs.Rules.{end_change, FlushMade, MarkMade, with_batch, work_asked, reply_to, after_record}
-use Rattle.machine.specs.inside.Sound.{IsSound}
-use Rattle.machine.specs.Told.{Told, tell, events_of, place_told, store_at, offset_at}
+use Rattle.machine.specs.Rules.{end_change, FlushMade, FlushFailed, MarkMade, with_batch, work_asked, reply_to, after_record, after_failure}
+use Rattle.machine.specs.Told.{Told, tell, ended_by}
 use Rattle.machine.specs.Laws.{ReadsBack}
 use Rattle.machine.specs.Crashes.{StepIsSafe}
 use Rattle.machine.specs.Stops.{StopsInStep}
-use Rattle.machine.specs.inside.Tracking.{HasFiles, IsTracked}
 use Rattle.machine.specs.Steps.{step_work, StepMade}
 use Rattle.machine.specs.Runs.{StepTaken}
-use Rattle.machine.proofs.durable.Histories.{IsQuiet, marked_by}
-use Rattle.machine.proofs.durable.Leaves.{Leaves, written_left}
-use Rattle.machine.proofs.track.Deeds.{AsksNothing, GoesOn, OnPages, Same, Stored, Brought, Left, Deed, Quiet, Marks, Steps, Fails, acknowledged_by}
-use Rattle.machine.proofs.track.Does.{does}
+use Rattle.machine.specs.inside.Sound.{IsSound}
+use Rattle.machine.specs.inside.Tracking.{IsArranged, IsTracked}
+use Rattle.machine.specs.inside.Moves.{said_all, IsMoved, Performed, Moved, Marked, Flushed as Stepped, Failed}
+use Rattle.machine.proofs.sound.Kept.{performed_sound}
+use Rattle.machine.proofs.acts.All.{performed}
+use Rattle.machine.proofs.durable.Histories.{marked_by}
+use Rattle.machine.proofs.durable.Leaves.{SameFiles}
 use Rattle.machine.proofs.durable.Marks.{IsDurable, written_as, marked_durable}
 use Rattle.machine.proofs.durable.Flushes.{flush_within, flush_failed, flush_goes_on, flush_commits}
 use Rattle.machine.proofs.durable.ReadsBack.{reads_within, reads_now}
 use Rattle.machine.proofs.durable.Stopped.{stops_within}
+use Rattle.machine.proofs.track.Histories.{AreQuiet, quiet_nothing, quiet_acknowledge, after_mark, touched_mark}
+use Rattle.machine.proofs.track.DirtyFrames.{clean_after_mark}
+use Rattle.machine.proofs.track.ToldSpaces.{spaces_still}
+use Rattle.machine.proofs.track.Arranged.{spaces_of, with_history, arranged_beside, arranged_end}
+use Rattle.machine.proofs.track.Pages.{HasPages, SamePages, files_kept, pages_quiet, plain_still}
+use Rattle.machine.proofs.track.Moved.{moves_tracked}
 
 -- ---- what a crash may leave is among what it might
 
@@ -67,56 +74,109 @@ durable_as files told told' s seen seen' may same same_seen is = record {
   written = written_as files told told' s is.old is.new same is.written;
 }
 
--- a store adds a store, or nothing
-stored_quiet : (o : Option Place) (va : ℕ) (bytes : List ℕ) → IsQuiet (store_at o va bytes)
-stored_quiet None va bytes = inl refl
-stored_quiet (Some place) va bytes = inr (place.file, offset_at place va, bytes, refl)
+-- ---- steps of the write-outs
+
+-- a step that answers so goes on with them
+abbrev pub GoesOn : Flushed → Type 0
+GoesOn flushed.Device = ⊥
+GoesOn flushed.Broken = ⊥
+GoesOn answer = Unit {0}
+
+-- what it adds to a history
+abbrev acknowledged_by : Flushed → List Event
+acknowledged_by (flushed.Committed number) = Acknowledge number ∷ []
+acknowledged_by answer = []
+
+step_told : (told : Told) (p : ℕ) (a : Flushed) → tell told (record { p = p; act = acts.Flush }) (reply_to a) ≡ record told { history = told.history ++ acknowledged_by a }
+step_told told p flushed.Going = refl
+step_told told p (flushed.Committed number) = refl
+step_told told p (flushed.Done number) = refl
+step_told told p flushed.Device = refl
+step_told told p flushed.Broken = refl
+
+pub step_asks : (s : State) (a : Flushed) → GoesOn a → step_work s acts.Flush (reply_to a) ≡ work_asked s
+step_asks s flushed.Going goes = refl
+step_asks s (flushed.Committed number) goes = refl
+step_asks s (flushed.Done number) goes = refl
+step_asks s flushed.Device goes = absurd goes
+step_asks s flushed.Broken goes = absurd goes
+
+step_quiet : (history : List Event) (a : Flushed) → AreQuiet history (acknowledged_by a)
+step_quiet history (flushed.Committed number) = quiet_acknowledge history number
+step_quiet history flushed.Going = quiet_nothing history
+step_quiet history (flushed.Done number) = quiet_nothing history
+step_quiet history flushed.Device = quiet_nothing history
+step_quiet history flushed.Broken = quiet_nothing history
+
+-- a step whose reply is no refusal goes on
+pub step_goes : (a : Flushed) (reply : Reply) → reply ≡ reply_to a → ((why : Refusal) → reply ≢ replies.Refused why) → GoesOn a
+step_goes flushed.Device reply is fine = absurd (fine refusals.Device is)
+step_goes flushed.Broken reply is fine = absurd (fine refusals.Broken is)
+step_goes flushed.Going reply is fine = tt
+step_goes (flushed.Committed number) reply is fine = tt
+step_goes (flushed.Done number) reply is fine = tt
+
+-- ---- one step
 
 module _ (files : List File) (told : Told) (s : State) (disk : List ℕ) (may : List ℕ → Type 0) (t : IsTracked files told s disk may) (p : ℕ) (act : Act) (reply : Reply) (new : State) (disk' : List ℕ)
     (sound' : IsSound new) (may' : List ℕ → Type 0) (left : (c : List ℕ) → may' c → TornFromWork (step_work s act reply) may c)
     (sure : reply ≢ replies.Refused refusals.Device → step_work s act reply ≡ Sync → Only may' disk) where
-  -- what is told after it
-  abbrev now : Told
-  now = tell told (record { p = p; act = act }) reply
-
   -- what a crash within the step leaves, where it asks for this work
   abbrev IsWithin : Work → Type 0
   IsWithin work = (c : List ℕ) → TornFromWork work may c → LeftWithin s.table t.old t.new (current_stage s.write_outs) c
 
-  abbrev Outcome : Type 0
-  Outcome = IsDurable files now new disk' may' × IsWithin (step_work s act reply)
+  -- what is told after it is this
+  abbrev IsTold : Told → Type 0
+  IsTold now = tell told (record { p = p; act = act }) reply ≡ now
 
-  -- where the work is this, so much is left
+  abbrev Outcome : Type 0
+  Outcome = IsTracked files (tell told (record { p = p; act = act }) reply) new disk' may' × IsWithin (step_work s act reply)
+
+  -- where this is told, and this work asked for
+  outcome_as : (now : Told) (work : Work) → IsTold now → step_work s act reply ≡ work → IsTracked files now new disk' may' → IsWithin work → Outcome
+  outcome_as now work told_is work_is tracked within = (subst (λ x. IsTracked files x new disk' may') (sym told_is) tracked, subst IsWithin (sym work_is) within)
+
   left_by : (work : Work) → step_work s act reply ≡ work → (c : List ℕ) → may' c → TornFromWork work may c
   left_by work is c left_c = subst (λ (w : Work). TornFromWork w may c) is (left c left_c)
-
-  -- ---- acts that leave the write-outs
-
-  adds_quietly : OnPages s disk p act reply new → IsQuiet (events_of told p act reply)
-  adds_quietly (Same none pages) = inl (none told)
-  adds_quietly (Stored va bytes h adds made is) = subst IsQuiet (sym (adds told)) (stored_quiet (place_told told p va) va bytes)
-  adds_quietly (Brought va write none made) = inl (none told)
-  adds_quietly (Left none made) = inl (none told)
 
   left_now : IsWithin Nothing
   left_now c left_c = stands_left s.table t.old t.new s.write_outs disk may t.stands c left_c
 
-  within : (work : Work) → step_work s act reply ≡ work → IsWithin work → IsWithin (step_work s act reply)
-  within work is = subst IsWithin (sym is)
+  has : HasPages files told s
+  has = record { files_are = t.files_are; latest = t.latest; touched = t.touched; plain = t.plain }
 
-  quietly : AsksNothing s act reply → Leaves s new → disk' ≡ disk → OnPages s disk p act reply new → Outcome
-  quietly asks leaves same_disk pages = (
-    record {
-      old = t.old;
-      new = t.new;
-      stands = subst (λ (l : List ℕ). IsStanding new.table new.write_outs t.old t.new l may') (sym same_disk)
-          (subst (λ (o : WriteOutsValue). IsStanding new.table o t.old t.new disk may') (sym leaves.write_outs)
-          (subst (λ (v : SuperValue). IsStanding v s.write_outs t.old t.new disk may') (sym leaves.files.table)
-          (stands_less s.table s.write_outs t.old t.new disk may may' (left_by Nothing asks.work) t.stands)));
-      written = written_left files told now (events_of told p act reply) s new t.old t.new refl (adds_quietly pages) leaves t.written;
-    },
-    within Nothing asks.work left_now,
-  )
+  tracked_of : (now : Told) → IsArranged now new → HasPages files now new → IsDurable files now new disk' may' → IsTracked files now new disk' may'
+  tracked_of now arranged pages durable = record {
+    sound = sound';
+    files_are = pages.files_are;
+    arranged = arranged;
+    latest = pages.latest;
+    touched = pages.touched;
+    plain = pages.plain;
+    old = durable.old;
+    new = durable.new;
+    stands = durable.stands;
+    written = durable.written;
+  }
+
+  -- ---- moves
+
+  moving : IsMoved s disk p act reply new disk' → Outcome
+  moving by =
+      let m = moves_tracked files told s disk may t by.says new by.moves in
+      outcome_as (said_all told by.says) Nothing (by.tells told) by.no_work (record {
+        sound = m.sound;
+        files_are = m.files_are;
+        arranged = m.arranged;
+        latest = m.latest;
+        touched = m.touched;
+        plain = m.plain;
+        old = m.old;
+        new = m.new;
+        stands = subst (λ (l : List ℕ). IsStanding new.table new.write_outs m.old m.new l may') (sym by.same_disk)
+            (stands_less new.table new.write_outs m.old m.new disk may may' (left_by Nothing by.no_work) m.stands);
+        written = m.written;
+      }) left_now
 
   -- ---- a mark
 
@@ -135,68 +195,114 @@ module _ (files : List File) (told : Told) (s : State) (disk : List ℕ) (may : 
           subst (λ (v : SuperValue). AreHomes (geometry_of v) homes) table
           (All-contains (λ (w : WriteOut). AreHomes (geometry_of new.table) w.batch.homes) new.write_outs.batches (begun_of (next_batch s.write_outs number homes)) sound'.write_outs.homes there)
 
-  marking : (number : ℕ) → events_of told p act reply ≡ marked_by told.history number → AsksNothing s act reply → disk' ≡ disk → MarkMade s p number new → Outcome
-  marking number adds asks same_disk made = (
-    durable_as files (record told { history = told.history ++ marked_by told.history number }) now new disk disk' may' (ap (λ l. told.history ++ l) adds) same_disk
-        (marked_durable files told s p number disk may' t.old t.new t.sound t.latest t.touched (stands_less s.table s.write_outs t.old t.new disk may may' (left_by Nothing asks.work) t.stands) t.written made.next made.may.lock new made (fits number made)),
-    within Nothing asks.work left_now,
-  )
+  module _ (number : ℕ) (made : MarkMade s p number new) where
+    abbrev marked : Told
+    marked = record (ended_by told p) { history = told.history ++ marked_by told.history number }
+
+    marked_arranged : IsArranged marked new
+    marked_arranged =
+        let m = s.hardware.spaces in
+        let spaces = spaces_still told.spaces m made.spaces made.protected.same_spaces made.protected.same_places (spaces_of t.arranged) in
+        let ended = arranged_end told s t.arranged p told.spaces made.spaces s.hardware.memory (without_notes made.noted) made.may.allowed spaces in
+        subst (IsArranged marked) (sym made.done) (arranged_beside marked (end_change s p made.spaces s.hardware.memory (without_notes made.noted)) _ (with_history marked.history ended) refl refl refl)
+
+    marked_pages : HasPages files marked new
+    marked_pages =
+        let memory = after_mark (memory_of files) told.history number (has_unmarked told.history) in
+        subst (HasPages files marked) (sym made.done) (record {
+          files_are = files_kept files s _ (record { table = refl; lengths = refl }) has.files_are;
+          latest = record {
+            whole = λ file page. ap (λ (m : Memory). length (m file page)) memory ∙ has.latest.whole file page;
+            latest = λ frame owner holds. has.latest.latest frame owner holds ∙ ap (λ (m : Memory). m owner.file owner.page) (sym memory);
+          };
+          touched = λ owner. (
+            λ is. absurd (false≢true (sym (touched_mark told.history number (has_unmarked told.history) owner.file owner.page) ∙ is)),
+            λ d. absurd (clean_after_mark s.hardware.spaces made.spaces s.hardware.memory s.checkpoint made.noted (not s.write_outs.broken) made.pages d.0 made.gathered made.protected d.2),
+          );
+          plain = plain_still files told marked s _ (record { table = refl; lengths = refl }) (λ owner is gone. (ap (λ (m : Memory). m owner.file owner.page) memory, has.plain owner is gone));
+        })
+
+    marking : IsTold marked → step_work s act reply ≡ Nothing → disk' ≡ disk → Outcome
+    marking told_is work same_disk =
+        outcome_as marked Nothing told_is work (tracked_of marked marked_arranged marked_pages
+        (durable_as files (record told { history = told.history ++ marked_by told.history number }) marked new disk disk' may' refl same_disk
+        (marked_durable files told s p number disk may' t.old t.new t.sound t.latest t.touched (stands_less s.table s.write_outs t.old t.new disk may may' (left_by Nothing work) t.stands) t.written made.next made.may.lock new made (fits number made)))) left_now
 
   -- ---- a step of the write-outs
 
-  abbrev after_it : State
-  after_it = record (cond (is_some (outs_record s.write_outs)) (after_record s) s) { write_outs = outs_after s.write_outs (next_answer s.write_outs) }
+  abbrev with_events : List Event → Told
+  with_events events = record told { history = told.history ++ events }
 
-  -- a step leaves what goes with this history, where it does so of its own state and device
-  landed : (events : List Event) → events_of told p act reply ≡ events → FlushMade s disk p reply new disk'
-      → IsDurable files (record told { history = told.history ++ events }) after_it (worked disk (work_asked s)) may' → IsDurable files now new disk' may'
-  landed events adds made is =
-      durable_as files (record told { history = told.history ++ events }) now new disk' disk' may' (ap (λ l. told.history ++ l) adds) refl
-      (subst (λ (x : State). IsDurable files (record told { history = told.history ++ events }) x disk' may') (sym made.done)
-      (durable_as files (record told { history = told.history ++ events }) (record told { history = told.history ++ events }) _ (worked disk (work_asked s)) disk' may' refl made.disk_done is))
+  -- of a state that differs in write-outs, frozen pages and copies alone
+  module _ (events : List Event) (quiet : AreQuiet told.history events) where
+    abbrev IsAsTold : State → Type 0
+    IsAsTold x = IsArranged (with_events events) x × HasPages files (with_events events) x
 
-  stepped : (a : Flushed) → next_answer s.write_outs ≡ a → GoesOn a → events_of told p act reply ≡ acknowledged_by a → step_work s act reply ≡ work_asked s → FlushMade s disk p reply new disk' → IsDurable files now new disk' may'
-  stepped a is goes adds work made = by a is goes adds
-    where
-      not_refused : (a : Flushed) → GoesOn a → reply ≡ reply_to a → reply ≢ replies.Refused refusals.Device
-      not_refused flushed.Going goes e = λ r. (let never : replies.Going ≡ replies.Refused refusals.Device = sym e ∙ r in cc)
-      not_refused (flushed.Committed number) goes e = λ r. (let never : replies.Committed number ≡ replies.Refused refusals.Device = sym e ∙ r in cc)
-      not_refused (flushed.Done number) goes e = λ r. (let never : replies.Done number ≡ replies.Refused refusals.Device = sym e ∙ r in cc)
-      not_refused flushed.Device goes e = absurd goes
-      not_refused flushed.Broken goes e = absurd goes
+    beside : (x : State) → x.hardware.shootdown ≡ s.hardware.shootdown → x.hardware.spaces ≡ s.hardware.spaces → SameFiles s x → SamePages s x → IsAsTold x
+    beside x shootdown spaces same pages = (
+      arranged_beside (with_events events) s x (with_history (told.history ++ events) t.arranged) shootdown spaces same.lengths,
+      pages_quiet files told (with_events events) s x events refl quiet same has pages,
+    )
 
-      sure_by : work_asked s ≡ Sync → Only may' disk
-      sure_by sync = sure (not_refused a goes (made.answered ∙ ap reply_to is)) (work ∙ sync)
+    stepped : FlushMade s disk p reply new disk' → IsAsTold new
+    stepped made =
+        subst IsAsTold (sym made.done)
+        (elim (is_some (outs_record s.write_outs)) as (λ b. IsAsTold (record (cond b (after_record s) s) { write_outs = outs_after s.write_outs (next_answer s.write_outs) })) [
+          | true ↦ beside _ refl refl (record { table = refl; lengths = refl }) (record { frames = refl; dirty = λ frame. (λ d. d, λ d. d) })
+          | false ↦ beside _ refl refl (record { table = refl; lengths = refl }) (record { frames = refl; dirty = λ frame. (λ d. d, λ d. d) })
+        ])
 
-      goes_on : (next_answer s.write_outs ≡ flushed.Device → ⊥) → ((n : ℕ) → next_answer s.write_outs ≡ flushed.Committed n → ⊥) → events_of told p act reply ≡ [] → IsDurable files now new disk' may'
-      goes_on other uncommitting adds =
-          landed [] adds made (flush_goes_on files told s disk may t.old t.new t.sound t.stands t.written p made.allowed made.some (is_some (outs_record s.write_outs)) may' (left_by (work_asked s) work) sure_by other uncommitting)
+  module _ (made : FlushMade s disk p reply new disk') (work : step_work s act reply ≡ work_asked s) (sure_now : work_asked s ≡ Sync → Only may' disk) where
+    abbrev after_it : State
+    after_it = record (cond (is_some (outs_record s.write_outs)) (after_record s) s) { write_outs = outs_after s.write_outs (next_answer s.write_outs) }
 
-      by : (a : Flushed) → next_answer s.write_outs ≡ a → GoesOn a → events_of told p act reply ≡ acknowledged_by a → IsDurable files now new disk' may'
-      by flushed.Going is goes adds =
-          goes_on (λ d. let never : flushed.Going ≡ flushed.Device = sym is ∙ d in cc) (λ n c. let never : flushed.Going ≡ flushed.Committed n = sym is ∙ c in cc) adds
-      by (flushed.Committed number) is goes adds =
-          landed (Acknowledge number ∷ []) adds made
-          (flush_commits files told s disk may t.old t.new t.sound t.stands t.written p made.allowed made.some (is_some (outs_record s.write_outs)) may' (left_by (work_asked s) work) sure_by number is)
-      by (flushed.Done number) is goes adds =
-          goes_on (λ d. let never : flushed.Done number ≡ flushed.Device = sym is ∙ d in cc) (λ n c. let never : flushed.Done number ≡ flushed.Committed n = sym is ∙ c in cc) adds
-      by flushed.Device is goes adds = absurd goes
-      by flushed.Broken is goes adds = absurd goes
+    landed : (events : List Event) → IsDurable files (with_events events) after_it (worked disk (work_asked s)) may' → IsDurable files (with_events events) new disk' may'
+    landed events is =
+        subst (λ (x : State). IsDurable files (with_events events) x disk' may') (sym made.done)
+        (durable_as files (with_events events) (with_events events) after_it (worked disk (work_asked s)) disk' may' refl made.disk_done is)
+
+    goes_on : (next_answer s.write_outs ≡ flushed.Device → ⊥) → ((n : ℕ) → next_answer s.write_outs ≡ flushed.Committed n → ⊥) → IsDurable files (with_events []) new disk' may'
+    goes_on other uncommitting =
+        landed [] (flush_goes_on files told s disk may t.old t.new t.sound t.stands t.written p made.allowed made.some (is_some (outs_record s.write_outs)) may' (left_by (work_asked s) work) sure_now other uncommitting)
+
+    step_durable : (a : Flushed) → next_answer s.write_outs ≡ a → GoesOn a → IsDurable files (with_events (acknowledged_by a)) new disk' may'
+    step_durable flushed.Going is goes = goes_on (λ d. let never : flushed.Going ≡ flushed.Device = sym is ∙ d in cc) (λ n c. let never : flushed.Going ≡ flushed.Committed n = sym is ∙ c in cc)
+    step_durable (flushed.Committed number) is goes =
+        landed (Acknowledge number ∷ [])
+        (flush_commits files told s disk may t.old t.new t.sound t.stands t.written p made.allowed made.some (is_some (outs_record s.write_outs)) may' (left_by (work_asked s) work) sure_now number is)
+    step_durable (flushed.Done number) is goes =
+        goes_on (λ d. let never : flushed.Done number ≡ flushed.Device = sym is ∙ d in cc) (λ n c. let never : flushed.Done number ≡ flushed.Committed n = sym is ∙ c in cc)
+    step_durable flushed.Device is goes = absurd goes
+    step_durable flushed.Broken is goes = absurd goes
+
+  stepping : act ≡ acts.Flush → FlushMade s disk p reply new disk' → ((why : Refusal) → reply ≢ replies.Refused why) → Outcome
+  stepping act_is made fine =
+      let a = next_answer s.write_outs in
+      let goes = step_goes a reply made.answered fine in
+      let told_is = (λ i. tell told (record { p = p; act = act_is i }) (made.answered i)) ∙ step_told told p a in
+      let work = (λ i. step_work s (act_is i) (made.answered i)) ∙ step_asks s a goes in
+      let as_told = stepped (acknowledged_by a) (step_quiet told.history a) made in
+      outcome_as (with_events (acknowledged_by a)) (work_asked s) told_is work
+      (tracked_of (with_events (acknowledged_by a)) as_told.0 as_told.1 (step_durable made work (λ sync. sure (fine refusals.Device) (work ∙ sync)) a refl goes))
+      (flush_within files told s disk may t.old t.new t.sound t.stands t.written p made.allowed made.some)
+
+  failing : act ≡ acts.Flush → reply ≡ replies.Refused refusals.Device → FlushFailed s disk p new disk' → Outcome
+  failing act_is reply_is made =
+      let work : step_work s act reply ≡ work_asked s = λ i. step_work s (act_is i) (reply_is i) in
+      let as_told : IsAsTold [] (quiet_nothing told.history) new =
+      subst (IsAsTold [] (quiet_nothing told.history)) (sym made.done) (beside [] (quiet_nothing told.history) (after_failure s) refl refl (record { table = refl; lengths = refl }) (record { frames = refl; dirty = λ frame. (λ d. d, λ d. d) })) in
+      outcome_as (with_events []) (work_asked s) (λ i. tell told (record { p = p; act = act_is i }) (reply_is i)) work
+      (tracked_of (with_events []) as_told.0 as_told.1 (flush_failed files told s disk may t.old t.new t.sound t.stands t.written p made.allowed made.some new disk' may' made.done (left_by (work_asked s) work)))
+      (flush_within files told s disk may t.old t.new t.sound t.stands t.written p made.allowed made.some)
 
   -- ---- any act
 
-  pub acting : Deed s disk p act reply new disk' → Outcome
-  acting (Quiet asks leaves same_disk pages) = quietly asks leaves same_disk pages
-  acting (Marks number adds asks same_disk made) = marking number (adds told) asks same_disk made
-  acting (Steps adds work goes made) = (
-    stepped (next_answer s.write_outs) refl goes (adds told) work made,
-    within (work_asked s) work (flush_within files told s disk may t.old t.new t.sound t.stands t.written p made.allowed made.some),
-  )
-  acting (Fails none work steps made) = (
-    durable_as files (record told { history = told.history ++ [] }) now new disk' disk' may' (ap (λ l. told.history ++ l) (none told)) refl
-        (flush_failed files told s disk may t.old t.new t.sound t.stands t.written p made.allowed made.some new disk' may' made.done (left_by (work_asked s) work)),
-    within (work_asked s) work (flush_within files told s disk may t.old t.new t.sound t.stands t.written p made.allowed made.some),
-  )
+  pub performing : Performed s disk p act reply new disk' → Outcome
+  performing (Moved by) = moving by
+  performing (Marked number act_is reply_is made same_disk) =
+      marking number made (λ i. tell told (record { p = p; act = act_is i }) (reply_is i)) (λ i. step_work s (act_is i) (reply_is i)) same_disk
+  performing (Stepped act_is made fine) = stepping act_is made fine
+  performing (Failed act_is reply_is made) = failing act_is reply_is made
 
 -- ---- steps over a device
 
@@ -209,31 +315,33 @@ leaves_more moment left_since old new P Q more is = record {
 }
 
 module _ {D : Type 0} (disk : Ghosts D) (files : List File) (told : Told) (old : Whole D) (step : Step) (reply : Reply) (new : Whole D) (t : IsTracked files told old.state (disk.seen old.device) (disk.may_leave old.device))
-    (taken : StepTaken disk old step reply new) (honest : disk.is_honest old.device) (sound' : IsSound new.state) where
+    (taken : StepTaken disk old step reply new) (honest : disk.is_honest old.device) where
   made : StepMade disk old step reply new
   made = taken.made honest
 
-  outcome : IsDurable files (tell told step reply) new.state (disk.seen new.device) (disk.may_leave new.device)
-      × ((c : List ℕ) → TornFromWork (step_work old.state step.act reply) (disk.may_leave old.device) c → LeftWithin old.state.table t.old t.new (current_stage old.state.write_outs) c)
-  outcome =
-      acting files told old.state (disk.seen old.device) (disk.may_leave old.device) t step.p step.act reply new.state (disk.seen new.device) sound' (disk.may_leave new.device) made.left made.sure
-      (does old.state (disk.seen old.device) step.p new.state (disk.seen new.device) t.sound step.act reply made.answered).deed
+  abbrev asked : List ℕ → Type 0
+  asked c = TornFromWork (step_work old.state step.act reply) (disk.may_leave old.device) c
 
-  -- what the device recovers to still goes with what is told
-  pub durable_kept : IsDurable files (tell told step reply) new.state (disk.seen new.device) (disk.may_leave new.device)
-  durable_kept = outcome.0
+  outcome : IsTracked files (tell told step reply) new.state (disk.seen new.device) (disk.may_leave new.device) × ((c : List ℕ) → asked c → LeftWithin old.state.table t.old t.new (current_stage old.state.write_outs) c)
+  outcome =
+      let by = performed old.state (disk.seen old.device) step reply new.state (disk.seen new.device) t.sound made.answered in
+      performing files told old.state (disk.seen old.device) (disk.may_leave old.device) t step.p step.act reply new.state (disk.seen new.device) (performed_sound t.sound by) (disk.may_leave new.device) made.left made.sure by
+
+  pub tracked_kept : IsTracked files (tell told step reply) new.state (disk.seen new.device) (disk.may_leave new.device)
+  tracked_kept = outcome.0
 
   -- a crash within it leaves old files or new ones, by the stage of the write-out
-  pub step_stops : LeavesOnly disk.moment disk.left_since old.device new.device (StopsInStep files told.history old.state.write_outs)
-  step_stops = leaves_more disk.moment disk.left_since old.device new.device (TornFromWork (step_work old.state step.act reply) (disk.may_leave old.device)) (StopsInStep files told.history old.state.write_outs)
+  pub step_stopped : LeavesOnly disk.moment disk.left_since old.device new.device (StopsInStep files told.history old.state.write_outs)
+  step_stopped = leaves_more disk.moment disk.left_since old.device new.device asked (StopsInStep files told.history old.state.write_outs)
       (λ c torn. stops_within files told old.state t.sound t.files_are t.old t.new t.written t.stands.sound.ordered c (outcome.1 c torn)) made.within
 
   -- and a crash at any moment reads back
-  pub step_is_safe : HasFiles files new.state → StepIsSafe disk files told old step reply new
-  step_is_safe has = record {
+  pub step_safe : StepIsSafe disk files told old step reply new
+  step_safe = record {
     taken = taken;
     honest = honest;
-    within = leaves_more disk.moment disk.left_since old.device new.device (TornFromWork (step_work old.state step.act reply) (disk.may_leave old.device)) (ReadsBack files told.history)
+    within = leaves_more disk.moment disk.left_since old.device new.device asked (ReadsBack files told.history)
         (λ c torn. reads_within files told old.state t.sound t.files_are t.old t.new t.written c (outcome.1 c torn)) made.within;
-    after = λ c left. reads_now files (tell told step reply) new.state (disk.seen new.device) (disk.may_leave new.device) sound' has durable_kept c left;
+    after = λ c left. let now = tracked_kept in reads_now files (tell told step reply) new.state (disk.seen new.device) (disk.may_leave new.device) now.sound now.files_are
+        (record { old = now.old; new = now.new; stands = now.stands; written = now.written }) c left;
   }

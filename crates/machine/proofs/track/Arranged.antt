@@ -1,5 +1,5 @@
 -- Each move leaves spaces, processors and the lock as it tells them.
-use Rattle.std.proofs.Common.{ℕ, ◌≡◌, ◌<◌, Bool, true, set, List, length, Option, Some, is_some, refl, sym, ap, ◌∙◌, subst}
+use Rattle.std.proofs.Common.{ℕ, ◌≡◌, ◌<◌, Bool, true, set, List, length, Option, None, Some, is_some, refl, sym, ap, ◌∙◌, subst}
 use Rattle.std.specs.FinMap as maps
 use Rattle.frames.specs.Frames.{FramesState}
 use Rattle.spaces.specs.declared.change.Change.{Change}
@@ -8,7 +8,10 @@ use Rattle.spaces.specs.Spaces.{Spaces}
 use Rattle.shootdown.specs.declared.lock.Lock.{Lock}
 use Rattle.shootdown.specs.Processors.{Processor, woken}
 use Rattle.shootdown.specs.Shootdown.{ShootdownState, processor_at, with_processor}
+use Rattle.shootdown.specs.Calls.{change_refusal}
 use Rattle.shootdown.proofs.Public.{admitted, is_there_below}
+use Rattle.checkpoint.specs.Checkpoint.{CheckpointState}
+use Rattle.machine.specs.History.{Event}
 use Rattle.machine.specs.State.{State}
 use Rattle.machine.specs.Rules.{with_hardware, begin_change, end_change}
 use Rattle.machine.specs.Told.{Told, Pending, changed, ended_by}
@@ -51,6 +54,10 @@ arranged_from told s spaces processors lock lengths = record {
   same_pending = lock.same_pending;
   same_lengths = lengths;
 }
+
+-- of what is told the history doesn't matter
+pub with_history : {told : Told} {s : State} (history : List Event) → IsArranged told s → IsArranged (record told { history = history }) s
+with_history {told} {s} history a = arranged_from (record told { history = history }) s (spaces_of a) (processors_of a) (lock_as a s.hardware.shootdown.lock refl) a.same_lengths
 
 -- of the state only the hardware and the lengths matter
 pub arranged_beside : (told : Told) (s new : State) → IsArranged told s → new.hardware.shootdown ≡ s.hardware.shootdown → new.hardware.spaces ≡ s.hardware.spaces → new.lengths ≡ s.lengths → IsArranged told new
@@ -107,17 +114,21 @@ module _ (told : Told) (s : State) (a : IsArranged told s) where
       by says is t = absurd is
 
   -- a change ends
+  pub arranged_end : (p : ℕ) (places : ToldSpaces) (spaces : Spaces) (memory : FramesState) (c : CheckpointState) → change_refusal processors p ≡ None → AreSpacesTold places spaces
+      → IsArranged (ended_by (record told { spaces = places }) p) (end_change s p spaces memory c)
+  arranged_end p places spaces memory c allowed t =
+      let there = is_there_below processors p (there_at_change processors p allowed) in
+      let runs = told_running told.current told.running processors p (woken (processor_at processors p)) there (processors_of a) true refl refl in
+      arranged_from (ended_by (record told { spaces = places }) p) (end_change s p spaces memory c) t
+      (record { processors = runs.processors; same_current = runs.same_current; as_many = runs.as_many; same_running = runs.same_running })
+      (record { same_locked = refl; same_pending = refl }) a.same_lengths
+
   module _ (says : Saying) (new : State) (is : EndsChange s says new) where
     abbrev ended : State
     ended = end_change s is.p is.spaces s.hardware.memory is.checkpoint
 
     with : (places : ToldSpaces) → AreSpacesTold places is.spaces → IsArranged (ended_by (record told { spaces = places }) is.p) ended
-    with places t =
-        let there = is_there_below processors is.p (there_at_change processors is.p is.may.allowed) in
-        let runs = told_running told.current told.running processors is.p (woken (processor_at processors is.p)) there (processors_of a) true refl refl in
-        arranged_from (ended_by (record told { spaces = places }) is.p) ended t
-        (record { processors = runs.processors; same_current = runs.same_current; as_many = runs.as_many; same_running = runs.same_running })
-        (record { same_locked = refl; same_pending = refl }) a.same_lengths
+    with places t = arranged_end is.p places is.spaces s.hardware.memory is.checkpoint is.may.allowed t
 
     -- the change that was told takes effect
     takes : (change : Change) → told.pending ≡ pending_in (Some change) → IsArranged (ended_by (changed told (pending_in (Some change))) is.p) ended → IsArranged (ended_by (changed told told.pending) is.p) ended

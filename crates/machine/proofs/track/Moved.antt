@@ -1,13 +1,15 @@
 -- Each move of a tracked machine keeps it tracked.
-use Rattle.std.proofs.Common.{ℕ, ◌≡◌, ◌↔◌, ◌/◌, ◌%◌, false, List, [], ◌∷◌, ◌++◌, Option, Some, None, refl, sym, ap, ◌∙◌, subst, inl, inr, append-nil}
+use Rattle.std.proofs.Common.{ℕ, ◌≡◌, ◌↔◌, ◌/◌, ◌%◌, true, false, List, [], ◌∷◌, ◌++◌, Option, Some, None, refl, sym, ap, ◌∙◌, subst, inl, inr, append-nil}
 use Rattle.std.specs.FinMap as maps
 use Rattle.std.specs.List.{Contains}
+use Rattle.std.proofs.lemmas.Bool.{both_ways}
 use Rattle.page_entry.specs.declared.numbers.FilePage.{FilePage}
 use Rattle.mappings.specs.declared.place.Place.{Place}
 use Rattle.frames.specs.Frames.{FramesState}
 use Rattle.volume_codec.specs.Files.{File}
 use Rattle.volume_codec.specs.Super.{SuperValue}
-use Rattle.spaces.specs.declared.change.Change.TheVariants.{Checkpoint}
+use Rattle.spaces.specs.declared.change.Change.{Change}
+use Rattle.spaces.specs.declared.change.Change.TheVariants.{Unmap, Protect, Reclaim, Checkpoint}
 use Rattle.shootdown.proofs.Public.{running, is_there_below}
 use Rattle.checkpoint.specs.Checkpoint.{CheckpointState, IsDirty, IsInSpace}
 use Rattle.checkpoint.specs.Backing.{page_at}
@@ -20,7 +22,7 @@ use Rattle.machine.specs.Rules.{with_hardware, MayLeave, bytes_at_mark}
 use Rattle.machine.specs.Told.{Told, Pending, Unmapping, Protecting, changed, place_told, store_at, offset_at}
 use Rattle.machine.specs.inside.Sound.{IsSound}
 use Rattle.machine.specs.inside.Tracking.{IsArranged, IsTracked, change_in}
-use Rattle.machine.specs.inside.Moves.{Saying, Silent, Running, Entering, Mapping, Leaving, Beginning, Ending, Changing, Storing, said, said_all, StoresBytes, Move, Moves, Replace, Remap, Destroy, Begin, End, Store, Bring, Copy, Drop}
+use Rattle.machine.specs.inside.Moves.{Saying, Silent, Running, Entering, Mapping, Leaving, Beginning, Ending, Changing, Storing, said, said_all, IsProcessorTold, AreSpacesTold, ending_of, StoresBytes, Move, Moves, Replace, Remap, Destroy, Begin, End, Store, Bring, Copy, Drop}
 use Rattle.machine.proofs.moves.Kept.{move_sound}
 use Rattle.machine.proofs.durable.Lists.{some_same, none_some}
 use Rattle.machine.proofs.durable.Histories.{IsQuiet}
@@ -100,24 +102,95 @@ module _ (files : List File) (told : Told) (s : State) (seen : List ℕ) (may : 
   abbrev now : Told
   now = said told says
 
+  history_as : (events : List Event) → adds told says ≡ events → now.history ≡ told.history ++ events
+  history_as events is = history_said told says ∙ ap (λ l. told.history ++ l) is
+
   has : HasPages files told s
   has = record { files_are = t.files_are; latest = t.latest; touched = t.touched; plain = t.plain }
 
+  abbrev new_of : Hardware → CheckpointState → State
+  new_of h c = record s { hardware = h; checkpoint = c }
+
   -- nothing is added, and the pages stay
-  same_pages : (x : State) → new ≡ x → SameFiles s x → adds told says ≡ [] → SamePages s x → HasPages files now new
-  same_pages x done same none pages =
-      subst (HasPages files now) (sym done) (pages_quiet files told now s x [] (history_said told says ∙ ap (λ l. told.history ++ l) none) (quiet_nothing told.history) same has pages)
+  same_pages : (h : Hardware) (c : CheckpointState) → new ≡ new_of h c → adds told says ≡ [] → h.memory.frames ≡ s.hardware.memory.frames
+      → ((frame : ℕ) → IsDirty s.hardware.spaces s.checkpoint frame ↔ IsDirty h.spaces c frame) → HasPages files now new
+  same_pages h c done none frames dirty =
+      subst (HasPages files now) (sym done)
+      (pages_quiet files told now s (new_of h c) [] (history_as [] none) (quiet_nothing told.history) (record { table = refl; lengths = refl }) has (record { frames = frames; dirty = dirty }))
 
   stored : StoresBytes s says new → HasPages files now new
   stored is =
       let w = has_stored s.hardware s.checkpoint is.p is.va is.bytes is.hardware t.sound.spaces.coheres t.sound.memory.backed is.made in
       let there = is_there_below s.hardware.shootdown is.p (running s.hardware.shootdown is.p is.made.running).0 in
       let leads : place_told told is.p is.va ≡ Some w.place = place_is t.arranged is.p is.va there ∙ w.leads in
-      let history = history_said told says ∙ ap (λ x. told.history ++ adds told x) is.says_is ∙ ap (λ o. told.history ++ store_at o is.va is.bytes) leads in
-      subst (HasPages files now) (sym is.done) (pages_stored files told now s is.p is.va is.bytes is.hardware w t.sound.memory.memory is.made.access.inside history has)
+      subst (HasPages files now) (sym is.done)
+      (pages_stored files told now s is.p is.va is.bytes is.hardware w t.sound.memory.memory is.made.access.inside
+      (history_as _ (ap (adds told) is.says_is ∙ ap (λ o. store_at o is.va is.bytes) leads)) has)
 
   pub pages_moved : Move seen s says new → HasPages files now new
-  pages_moved (Replace is) = same_pages _ is.done (record { table = refl; lengths = refl }) (by says is.told) (record { frames = refl; dirty = λ frame. (λ d. d, λ d. d) })
+  pages_moved (Replace is) = same_pages _ s.checkpoint is.done (by_processor says is.told) refl (λ frame. (λ d. d, λ d. d))
     where
-      by : (says : Saying) → _ → adds told says ≡ []
-      by says told_so = refl
+      by_processor : (says : Saying) → IsProcessorTold s.hardware.shootdown is.p is.x says → adds told says ≡ []
+      by_processor (Storing p va bytes) never = absurd never
+      by_processor says is = refl
+  pages_moved (Remap spaces is dirty) = same_pages _ s.checkpoint is.done (by_spaces says is.told) refl dirty
+    where
+      by_spaces : (says : Saying) → AreSpacesTold says s.hardware.spaces spaces → adds told says ≡ []
+      by_spaces (Storing p va bytes) never = absurd never
+      by_spaces says is = refl
+  pages_moved (Destroy is) =
+      same_pages _ is.made.checkpoint is.made.done (ap (adds told) is.says_is) refl
+      (λ frame. dirty_taken (IsInSpace is.pcid) s.hardware.spaces (maps.remove s.hardware.spaces is.pcid) s.checkpoint is.made.checkpoint frame (takes_space s.hardware.spaces is.pcid) is.made.noted)
+  pages_moved (Begin is) = same_pages _ s.checkpoint is.done (ap (adds told) is.says_is) refl (λ frame. (λ d. d, λ d. d))
+  pages_moved (End is) = same_pages _ is.checkpoint is.done (ap (adds told) is.says_is ∙ by_change is.change) refl is.dirty
+    where
+      by_change : (change : Change) → adds told (ending_of is.p change) ≡ []
+      by_change (Unmap pcid range) = refl
+      by_change (Protect pcid range rights) = refl
+      by_change (Reclaim owner) = refl
+      by_change Checkpoint = refl
+  pages_moved (Store is) = stored is
+  pages_moved (Bring is) =
+      let bytes = page_from s seen is.owner in
+      subst (HasPages files now) (sym is.done)
+      (pages_fixed files told now s _ [] (history_as [] (ap (adds told) is.says_is)) (quiet_nothing told.history) (record { table = refl; lengths = refl }) has t.sound is.owner bytes
+      (is_brought s.hardware.memory is.owner bytes is.frame is.absent is.free) (λ frame. (λ d. d, λ d. d))
+      (λ absent. page_read files told s seen may t is.owner is.in_file absent is.whole))
+  pages_moved (Copy is) = same_pages _ s.checkpoint is.done (ap (adds told) is.says_is) refl (λ frame. (λ d. d, λ d. d))
+  pages_moved (Drop is) =
+      subst (HasPages files now) (sym is.done)
+      (pages_left files told now s _ [] (history_as [] (ap (adds told) is.says_is)) (quiet_nothing told.history) (record { table = refl; lengths = refl }) has is.owner is.frame is.leaves refl (λ frame. (λ d. d, λ d. d)))
+
+  -- ---- all that is tracked
+
+  pub tracked_moved : Move seen s says new → IsTracked files now new seen may
+  tracked_moved move =
+      let pages = pages_moved move in
+      let leaves = leaves_moved s seen says new t.sound move in
+      record {
+        sound = move_sound seen s says new move t.sound;
+        files_are = pages.files_are;
+        arranged = arranged_moved told s t.arranged seen says new t.sound move;
+        latest = pages.latest;
+        touched = pages.touched;
+        plain = pages.plain;
+        old = t.old;
+        new = t.new;
+        stands = subst (λ (o : WriteOutsValue). IsStanding new.table o t.old t.new seen may) (sym leaves.write_outs)
+            (subst (λ (v : SuperValue). IsStanding v s.write_outs t.old t.new seen may) (sym leaves.files.table) t.stands);
+        written = written_left files told now (adds told says) s new t.old t.new (history_said told says) (adds_quietly told says) leaves t.written;
+      }
+
+pub moves_tracked : (files : List File) (told : Told) (s : State) (seen : List ℕ) (may : List ℕ → Type 0) → IsTracked files told s seen may → (says : List Saying) (new : State) → Moves seen s says new
+    → IsTracked files (said_all told says) new seen may
+moves_tracked files told s seen may t [] new same = subst (λ (x : State). IsTracked files told x seen may) (sym same) t
+moves_tracked files told s seen may t (first ∷ more) new (mid, move, rest) =
+    moves_tracked files (said told first) mid seen may (tracked_moved files told s seen may t first mid move) more new rest
+
+-- moves leave the write-outs and the marks
+pub moves_leave : (disk : List ℕ) (s : State) (says : List Saying) (new : State) → IsSound s → Moves disk s says new → (new.write_outs ≡ s.write_outs) × (new.marks ≡ s.marks)
+moves_leave disk s [] new sound same = (ap (λ (x : State). x.write_outs) same, ap (λ (x : State). x.marks) same)
+moves_leave disk s (first ∷ more) new sound (mid, move, rest) =
+    let here = leaves_moved s disk first mid sound move in
+    let later = moves_leave disk mid more new (move_sound disk s first mid move sound) rest in
+    (later.0 ∙ here.write_outs, later.1 ∙ here.marks)
