@@ -26,7 +26,7 @@ use Rattle.machine.specs.declared.act.Reply.{Reply}
 use Rattle.machine.specs.declared.act.Reply.TheVariants as replies
 use Rattle.machine.specs.declared.act.Step.{Step}
 use Rattle.machine.specs.State.{State, Whole, home_of}
-use Rattle.machine.specs.Rules.{Acts, FlushMade, MarkMade, with_batch, work_asked, after_record, reply_to, next_record}
+use Rattle.machine.specs.Rules.{Acts, FlushMade, MarkMade, with_batch, after_record, reply_to, next_record}
 use Rattle.machine.specs.Steps.{step_work}
 use Rattle.machine.specs.Runs.{StepTaken, StepsTaken}
 use Rattle.machine.specs.Sums.{listed_work, asked_for, AskFor}

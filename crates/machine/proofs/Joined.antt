@@ -1,6 +1,5 @@
 -- Each step of a tracked machine keeps it tracked, so the laws hold of a run that began on a volume at rest.
 use Rattle.std.proofs.Common.{ℕ, ◌≡◌, List, [], ◌∷◌, ◌++◌, length, map, get_or, refl, sym, ap, ◌∙◌, subst, arith}
-use Rattle.device.specs.Device.{LeavesOnly}
 use Rattle.device.specs.declared.device.Device.{Ghosts}
 use Rattle.volume_codec.specs.Files.{File, TableFile}
 use Rattle.volume_codec.specs.Layout.{block_at}
@@ -11,14 +10,12 @@ use Rattle.machine.specs.declared.act.Step.{Step}
 use Rattle.machine.specs.State.{Whole, length_of}
 use Rattle.machine.specs.Told.{Told, tell, tell_all}
 use Rattle.machine.specs.Laws.{EachStep}
-use Rattle.machine.specs.Steps.{StepMade, IsLawful, told_first}
+use Rattle.machine.specs.Steps.{IsLawful, told_first}
 use Rattle.machine.specs.Runs.{StepTaken}
 use Rattle.machine.specs.inside.Following.{Follows}
 use Rattle.machine.specs.Crashes.{Begins, StepIsSafe, Throughout}
-use Rattle.machine.specs.Stops.{StopsInStep}
-use Rattle.machine.specs.inside.Sound.{IsSound, capacity_of}
+use Rattle.machine.specs.inside.Sound.{capacity_of}
 use Rattle.machine.specs.inside.Tracking.{IsTracked}
-use Rattle.machine.proofs.sound.Kept.{sound_kept}
 use Rattle.machine.proofs.sound.AtBoot.{fresh_sound}
 use Rattle.machine.proofs.durable.Steps.{tracked_kept, step_safe}
 use Rattle.machine.proofs.durable.AtStart.{durable_at_start}

@@ -1,5 +1,5 @@
 -- What frozen pages had at their mark stays: a store reaches none whose bytes aren't copied, a copy has the bytes of its page, and a page that leaves memory isn't frozen.
-use Rattle.std.proofs.Common.{◌≡◌, ℕ, Bool, true, false, not, List, [], set, slice_get, Option, Some, None, inl, inr, refl, sym, ap, ◌∙◌, subst}
+use Rattle.std.proofs.Common.{◌≡◌, ℕ, true, false, not, List, [], set, slice_get, Option, Some, None, inl, inr, refl, sym, ap, ◌∙◌, subst}
 use Rattle.std.specs.List.{Contains}
 use Rattle.std.proofs.lemmas.Bool.{cases_Bool, both_ways, and_parts, and_from, not-true, not_from_false}
 use Rattle.std.proofs.lemmas.List.Elements.{All-contains}
@@ -12,7 +12,7 @@ use Rattle.journal.specs.WriteOuts.{HasBlock}
 use Rattle.machine.specs.State.{State, home_of}
 use Rattle.machine.specs.Rules.{MayLeave, bytes_with, bytes_at_mark}
 use Rattle.machine.specs.inside.Sound.{IsSound}
-use Rattle.machine.proofs.durable.Pages.{same_page-true, same_page-refl, of_page-other, bytes_with-set, bytes_with-one, bytes_with-none, bytes_with-put, bytes_with-held, frozen_contains, contains_frozen}
+use Rattle.machine.proofs.durable.Pages.{same_page-true, same_page-refl, of_page-other, bytes_with-set, bytes_with-one, bytes_with-none, bytes_with-put, bytes_with-held, contains_frozen}
 use Rattle.machine.proofs.durable.Waiting.{frozen_block}
 
 overwritten_page : (f : Option Frame) (at : ℕ) (bytes : List ℕ) → page_of (overwrite_frame f at bytes) ≡ page_of f

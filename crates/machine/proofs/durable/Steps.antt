@@ -1,5 +1,5 @@
 -- One step of a machine over an honest device: it stays tracked, and a crash within the step or after it reads back.
-use Rattle.std.proofs.Common.{◌≡◌, ◌≢◌, ◌<◌, ◌↔◌, ℕ, inl, inr, cond, Bool, true, false, not, List, [], ◌∷◌, ◌++◌, length, map, is_some, refl, sym, ap, ◌∙◌, subst, arith}
+use Rattle.std.proofs.Common.{◌≡◌, ◌≢◌, ◌<◌, ℕ, inl, inr, cond, true, false, not, List, [], ◌∷◌, ◌++◌, length, map, is_some, refl, sym, ap, ◌∙◌, subst, arith}
 use Rattle.std.specs.List.{Contains}
 use Rattle.std.proofs.lemmas.Bool.{cond-false, false≢true}
 use Rattle.std.proofs.lemmas.List.Elements.{All-contains, Contains-push}
@@ -26,7 +26,7 @@ use Rattle.machine.specs.declared.act.Act.TheVariants as acts
 use Rattle.machine.specs.declared.act.Reply.{Reply}
 use Rattle.machine.specs.declared.act.Reply.TheVariants as replies
 use Rattle.machine.specs.declared.act.Step.{Step}
-use Rattle.machine.specs.History.{Event, Memory, Acknowledge, memory_of, after, has_unmarked}
+use Rattle.machine.specs.History.{Event, Memory, Acknowledge, memory_of, has_unmarked}
 use Rattle.machine.specs.State.{State, Whole, home_of}
 use Rattle.machine.specs.Rules.{end_change, FlushMade, FlushFailed, MarkMade, with_batch, work_asked, reply_to, after_record, after_failure}
 use Rattle.machine.specs.Told.{Told, tell, ended_by}

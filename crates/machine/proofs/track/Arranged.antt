@@ -1,6 +1,5 @@
 -- Each move leaves spaces, processors and the lock as it tells them.
 use Rattle.std.proofs.Common.{ℕ, ◌≡◌, ◌<◌, Bool, true, set, List, length, Option, None, Some, is_some, refl, sym, ap, ◌∙◌, subst}
-use Rattle.std.specs.FinMap as maps
 use Rattle.frames.specs.Frames.{FramesState}
 use Rattle.spaces.specs.declared.change.Change.{Change}
 use Rattle.spaces.specs.declared.change.Change.TheVariants.{Unmap, Protect, Reclaim, Checkpoint}
@@ -19,7 +18,7 @@ use Rattle.machine.specs.inside.Sound.{IsSound}
 use Rattle.machine.specs.inside.Tracking.{IsArranged, pending_in, change_in}
 use Rattle.machine.specs.inside.Moves.{Saying, Silent, Running, Entering, Mapping, Leaving, Beginning, Storing, said, IsProcessorTold, AreSpacesTold as AreSaid, effect_of, ending_of, EndsChange, Move, Replace, Remap, Destroy, Begin, End, Store, Bring, Copy, Drop}
 use Rattle.machine.proofs.sound.Admitted.{there_at_change}
-use Rattle.machine.proofs.track.Accesses.{KeepsTold, has_stored}
+use Rattle.machine.proofs.track.Accesses.{has_stored}
 use Rattle.machine.proofs.track.ToldProcessors.{AreProcessorsTold, told_still, told_running, told_switched, told_begun, told_destroyed}
 use Rattle.machine.proofs.track.ToldSpaces.{ToldSpaces, AreSpacesTold, spaces_still, spaces_with, spaces_without}
 

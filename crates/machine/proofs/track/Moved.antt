@@ -1,5 +1,5 @@
 -- Each move of a tracked machine keeps it tracked.
-use Rattle.std.proofs.Common.{ℕ, ◌≡◌, ◌↔◌, ◌/◌, ◌%◌, true, false, List, [], ◌∷◌, ◌++◌, Option, Some, None, refl, sym, ap, ◌∙◌, subst, inl, inr, append-nil}
+use Rattle.std.proofs.Common.{ℕ, ◌≡◌, ◌↔◌, ◌%◌, true, List, [], ◌∷◌, ◌++◌, Option, Some, None, refl, sym, ap, ◌∙◌, subst, inl, inr, append-nil}
 use Rattle.std.specs.FinMap as maps
 use Rattle.std.specs.List.{Contains}
 use Rattle.std.proofs.lemmas.Bool.{both_ways}
@@ -18,15 +18,15 @@ use Rattle.journal.specs.WriteOuts.{WriteOutsValue}
 use Rattle.journal.specs.inside.Standing.{IsStanding}
 use Rattle.machine.specs.History.{Event}
 use Rattle.machine.specs.State.{State, page_from}
-use Rattle.machine.specs.Rules.{with_hardware, MayLeave, bytes_at_mark}
+use Rattle.machine.specs.Rules.{bytes_at_mark}
 use Rattle.machine.specs.Told.{Told, Pending, Unmapping, Protecting, changed, place_told, store_at, offset_at}
 use Rattle.machine.specs.inside.Sound.{IsSound}
-use Rattle.machine.specs.inside.Tracking.{IsArranged, IsTracked, change_in}
+use Rattle.machine.specs.inside.Tracking.{IsTracked, change_in}
 use Rattle.machine.specs.inside.Moves.{Saying, Silent, Running, Entering, Mapping, Leaving, Beginning, Ending, Changing, Storing, said, said_all, IsProcessorTold, AreSpacesTold, ending_of, StoresBytes, Move, Moves, Replace, Remap, Destroy, Begin, End, Store, Bring, Copy, Drop}
 use Rattle.machine.proofs.moves.Kept.{move_sound}
 use Rattle.machine.proofs.durable.Lists.{some_same, none_some}
 use Rattle.machine.proofs.durable.Histories.{IsQuiet}
-use Rattle.machine.proofs.durable.Leaves.{SameFiles, Leaves, written_left}
+use Rattle.machine.proofs.durable.Leaves.{Leaves, written_left}
 use Rattle.machine.proofs.durable.AtMark.{write_leaves, brought_leaves, copy_leaves, reclaimed_leaves}
 use Rattle.machine.proofs.durable.PagesRead.{page_read}
 use Rattle.machine.proofs.track.Histories.{quiet_nothing}
@@ -35,7 +35,7 @@ use Rattle.machine.proofs.track.FramePages.{is_brought}
 use Rattle.machine.proofs.track.DirtyFrames.{dirty_taken, takes_space}
 use Rattle.machine.proofs.track.Accesses.{has_stored}
 use Rattle.machine.proofs.track.Arranged.{arranged_moved}
-use Rattle.machine.proofs.track.Pages.{HasPages, SamePages, pages_quiet, pages_fixed, pages_left}
+use Rattle.machine.proofs.track.Pages.{HasPages, pages_quiet, pages_fixed, pages_left}
 use Rattle.machine.proofs.track.PagesStored.{pages_stored}
 
 -- ---- what a move adds to the history: a store, or nothing

@@ -1,18 +1,13 @@
 -- Files, frames and dirty pages as they are told, and how they stay so where nothing is stored: where no page comes or goes, where one comes into memory, and where one leaves it.
-use Rattle.std.proofs.Common.{ℕ, ◌≡◌, ◌≢◌, ◌↔◌, ◌*◌, ◌-◌, Bool, true, false, cond, List, ◌++◌, length, take, get_or, Option, Some, None, sym, ap, ◌∙◌, subst, inl, inr}
-use Rattle.std.proofs.lemmas.Bool.{cases_Bool, cases_eq, cond-false}
-use Rattle.page_entry.specs.Entry.{Mapped}
+use Rattle.std.proofs.Common.{ℕ, ◌≡◌, ◌≢◌, ◌↔◌, ◌*◌, ◌-◌, false, List, ◌++◌, length, take, get_or, None, sym, ap, ◌∙◌, subst, inl, inr}
+use Rattle.std.proofs.lemmas.Bool.{cases_Bool, cases_eq}
 use Rattle.page_entry.specs.declared.numbers.FilePage.{FilePage}
 use Rattle.frames.specs.Frames.{FramesState, bytes_of, frame_at, page_of, without_frame}
 use Rattle.volume_codec.specs.Files.{File}
 use Rattle.volume_codec.specs.Super.{SuperValue}
 use Rattle.volume_codec.specs.Recovery.{lengths_in}
 use Rattle.volume_codec.specs.Text.{padded}
-use Rattle.spaces.specs.Spaces.{entry_at, place_at, EditsEntries}
-use Rattle.spaces.specs.Changes.{is_place_of, without_entries_of}
 use Rattle.checkpoint.specs.Checkpoint.{Holds, IsDirty}
-use Rattle.checkpoint.specs.Backing.{page_at}
-use Rattle.checkpoint.proofs.Public.{same_page-true}
 use Rattle.fault.specs.Fault.{is_in_memory}
 use Rattle.machine.specs.History.{Event, Memory, memory_of, after, is_touched}
 use Rattle.machine.specs.State.{State, cut_at_end}
@@ -25,7 +20,7 @@ use Rattle.machine.proofs.durable.Lists.{some_same}
 use Rattle.machine.proofs.durable.Leaves.{SameFiles, in_file_as}
 use Rattle.machine.proofs.track.Histories.{AreQuiet}
 use Rattle.machine.proofs.track.FramePages.{IsBrought, holder_of, held_by_none, absent_before, held_without, held_still}
-use Rattle.machine.proofs.track.DirtyFrames.{dirty_at, dirty_from, clean_where_free}
+use Rattle.machine.proofs.track.DirtyFrames.{clean_where_free}
 
 -- the machine has these files, and in its frames the memory of what was told
 pub record HasPages (files : List File) (told : Told) (s : State) : Type 0 where
