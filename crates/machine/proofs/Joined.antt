@@ -18,9 +18,7 @@ use Rattle.machine.specs.inside.Sound.{capacity_of}
 use Rattle.machine.specs.inside.Tracking.{IsTracked}
 use Rattle.machine.proofs.sound.AtBoot.{fresh_sound}
 use Rattle.machine.proofs.durable.Steps.{tracked_kept, step_safe}
-use Rattle.machine.proofs.durable.AtStart.{durable_at_start}
-use Rattle.machine.proofs.track.AtStart.{arranged_at_start, pages_at_start}
-use Rattle.machine.proofs.track.FilesAtStart.{files_at_start}
+use Rattle.machine.proofs.durable.AtStart.{durable_at_start, arranged_at_start, pages_at_start, files_at_start}
 use Rattle.machine.proofs.track.Lawful.{lawful}
 
 -- ---- lists of steps and replies, one longer

@@ -33,11 +33,10 @@ use Rattle.machine.specs.Told.{Told}
 use Rattle.machine.specs.inside.Tracking.{change_in, AreContentsOf, HasAcknowledged, IsLost, IsWaiting, AreMarks, IsWritten}
 use Rattle.machine.specs.Durability.{IsInFile, within_file}
 use Rattle.machine.proofs.durable.Lists.{some_same, none_some}
-use Rattle.machine.proofs.durable.Histories.{IsUntouched, quiet_untouched, touched-append, after-append, acknowledge_same, acknowledge_no_mark, acknowledged_more}
+use Rattle.machine.proofs.durable.Histories.{IsUntouched, quiet_untouched, touched_after-append, after-append, acknowledge_same, acknowledge_no_mark, acknowledged_more, marks_more, marks_settled}
 use Rattle.machine.proofs.durable.Pages.{bytes_with-freed}
 use Rattle.machine.proofs.durable.Leaves.{SameFiles, in_file_as, part_as, contents_more, record_as, AreFrozenRecords}
 use Rattle.machine.proofs.durable.Marks.{IsDurable}
-use Rattle.machine.proofs.durable.Settled.{marks_more, marks_settled}
 use Rattle.machine.proofs.durable.Uncommitted.{none_uncommitted, uncommitted_before, waits_after}
 use Rattle.machine.proofs.sound.Admitted.{second_not_refused}
 use Rattle.machine.proofs.durable.Records.{size_of_record, record_is_new, commits}
@@ -53,7 +52,7 @@ calm_none files history file page is = quiet_untouched (memory_of files) history
 
 pub calm_acknowledge : (files : List File) (history : List Event) (number : ℕ) → AreCalm files history (Acknowledge number ∷ [])
 calm_acknowledge files history number file page is = record {
-  before = sym (touched-append file page false history (Acknowledge number ∷ [])) ∙ is;
+  before = sym (touched_after-append file page false history (Acknowledge number ∷ [])) ∙ is;
   same = ap (λ (m : ℕ → ℕ → List ℕ). m file page) (after-append (memory_of files) history (Acknowledge number ∷ []));
 }
 

@@ -23,7 +23,7 @@ use Rattle.machine.specs.inside.Sound.{IsSound}
 use Rattle.machine.specs.Rules.{next_page, bytes_with, bytes_at_mark, next_record as record_asked}
 use Rattle.machine.proofs.durable.Lists.{some_same, none_some, flat_map-append}
 use Rattle.machine.proofs.durable.Pages.{bytes_with-at, bytes_with-none}
-use Rattle.machine.proofs.durable.Waiting.{all_committed, whole_frozen}
+use Rattle.machine.proofs.durable.Uncommitted.{all_committed, whole_frozen}
 use Rattle.machine.proofs.durable.Leaves.{AreFrozenRecords}
 
 -- ---- the size of a record

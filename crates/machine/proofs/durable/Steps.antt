@@ -40,13 +40,11 @@ use Rattle.machine.specs.inside.Tracking.{IsArranged, IsTracked}
 use Rattle.machine.specs.inside.Moves.{said_all, IsMoved, Performed, Moved, Marked, Flushed as Stepped, Failed}
 use Rattle.machine.proofs.sound.Kept.{performed_sound}
 use Rattle.machine.proofs.acts.All.{performed}
-use Rattle.machine.proofs.durable.Histories.{marked_by}
+use Rattle.machine.proofs.durable.Histories.{marked_by, after_marked, AreQuiet, quiet_nothing, quiet_acknowledge, touched_mark}
 use Rattle.machine.proofs.durable.Leaves.{SameFiles}
 use Rattle.machine.proofs.durable.Marks.{IsDurable, written_as, marked_durable}
 use Rattle.machine.proofs.durable.Flushes.{flush_within, flush_failed, flush_goes_on, flush_commits}
-use Rattle.machine.proofs.durable.ReadsBack.{reads_within, reads_now}
-use Rattle.machine.proofs.durable.Stopped.{stops_within}
-use Rattle.machine.proofs.track.Histories.{AreQuiet, quiet_nothing, quiet_acknowledge, after_mark, touched_mark}
+use Rattle.machine.proofs.durable.ReadsBack.{reads_within, reads_now, stops_within}
 use Rattle.machine.proofs.track.DirtyFrames.{clean_after_mark}
 use Rattle.machine.proofs.track.ToldSpaces.{spaces_still}
 use Rattle.machine.proofs.track.Arranged.{spaces_of, with_history, arranged_beside, arranged_end}
@@ -208,7 +206,7 @@ module _ (files : List File) (told : Told) (s : State) (disk : List ℕ) (may : 
 
     marked_pages : HasPages files marked new
     marked_pages =
-        let memory = after_mark (memory_of files) told.history number (has_unmarked told.history) in
+        let memory = after_marked (memory_of files) told.history number in
         subst (HasPages files marked) (sym made.done) (record {
           files_are = files_kept files s _ (record { table = refl; lengths = refl }) has.files_are;
           latest = record {

@@ -18,9 +18,8 @@ use Rattle.machine.specs.inside.Sound.{IsSound}
 use Rattle.machine.specs.inside.Tracking.{IsArranged, pending_in, change_in}
 use Rattle.machine.specs.inside.Moves.{Saying, Silent, Running, Entering, Mapping, Leaving, Beginning, Storing, said, IsProcessorTold, AreSpacesTold as AreSaid, effect_of, ending_of, EndsChange, Move, Replace, Remap, Destroy, Begin, End, Store, Bring, Copy, Drop}
 use Rattle.machine.proofs.sound.Admitted.{there_at_change}
-use Rattle.machine.proofs.track.Accesses.{has_stored}
-use Rattle.machine.proofs.track.ToldProcessors.{AreProcessorsTold, told_still, told_running, told_switched, told_begun, told_destroyed}
-use Rattle.machine.proofs.track.ToldSpaces.{ToldSpaces, AreSpacesTold, spaces_still, spaces_with, spaces_without}
+use Rattle.machine.proofs.track.Translations.{has_stored}
+use Rattle.machine.proofs.track.ToldSpaces.{AreProcessorsTold, told_still, told_running, told_switched, told_begun, told_destroyed, ToldSpaces, AreSpacesTold, spaces_still, spaces_with, spaces_without}
 
 -- the lock as it is told
 pub record IsLockTold (locked : Bool) (pending : Option Pending) (lock : Option Lock) : Type 0 where

@@ -25,18 +25,15 @@ use Rattle.machine.specs.inside.Tracking.{IsTracked, change_in}
 use Rattle.machine.specs.inside.Moves.{Saying, Silent, Running, Entering, Mapping, Leaving, Beginning, Ending, Changing, Storing, said, said_all, IsProcessorTold, AreSpacesTold, ending_of, StoresBytes, Move, Moves, Replace, Remap, Destroy, Begin, End, Store, Bring, Copy, Drop}
 use Rattle.machine.proofs.moves.Kept.{move_sound}
 use Rattle.machine.proofs.durable.Lists.{some_same, none_some}
-use Rattle.machine.proofs.durable.Histories.{IsQuiet}
+use Rattle.machine.proofs.durable.Histories.{IsQuiet, quiet_nothing}
 use Rattle.machine.proofs.durable.Leaves.{Leaves, written_left}
-use Rattle.machine.proofs.durable.AtMark.{write_leaves, brought_leaves, copy_leaves, reclaimed_leaves}
-use Rattle.machine.proofs.durable.PagesRead.{page_read}
-use Rattle.machine.proofs.track.Histories.{quiet_nothing}
-use Rattle.machine.proofs.track.Places.{place_is}
-use Rattle.machine.proofs.track.FramePages.{is_brought}
+use Rattle.machine.proofs.durable.Pages.{write_leaves, brought_leaves, copy_leaves, reclaimed_leaves, is_brought}
+use Rattle.machine.proofs.durable.Homes.{page_read}
+use Rattle.machine.proofs.track.Lawful.{place_is}
 use Rattle.machine.proofs.track.DirtyFrames.{dirty_taken, takes_space}
-use Rattle.machine.proofs.track.Accesses.{has_stored}
+use Rattle.machine.proofs.track.Translations.{has_stored}
 use Rattle.machine.proofs.track.Arranged.{arranged_moved}
-use Rattle.machine.proofs.track.Pages.{HasPages, pages_quiet, pages_fixed, pages_left}
-use Rattle.machine.proofs.track.PagesStored.{pages_stored}
+use Rattle.machine.proofs.track.Pages.{HasPages, pages_quiet, pages_fixed, pages_left, pages_stored}
 
 -- ---- what a move adds to the history: a store, or nothing
 
