@@ -59,15 +59,9 @@ module _ (w : WriteOut) where
       × (GoesOn (option_map_or (answer_at w.batch.mark) o flushed.Broken)
       → IsOneWork (option_map_or (work_at g w.batch bytes) o Nothing) (option_map_or (work_at h w.batch []) o Nothing))
   at_stage g h bytes None at = (tt, λ never. absurd never)
-  at_stage g h bytes (Some (Recording i)) at = (tt, λ goes. (refl, refl))
-  at_stage g h bytes (Some Describing) at = (tt, λ goes. (refl, refl))
-  at_stage g h bytes (Some SyncingRecords) at = (tt, λ goes. (refl, refl))
-  at_stage g h bytes (Some Opening) at = (tt, λ goes. (refl, refl))
   at_stage g h bytes (Some Committing) at = ((refl, at), λ goes. (refl, refl))
-  at_stage g h bytes (Some (Applying i)) at = (tt, λ goes. (refl, refl))
-  at_stage g h bytes (Some SyncingHomes) at = (tt, λ goes. (refl, refl))
-  at_stage g h bytes (Some Closing) at = (tt, λ goes. (refl, refl))
   at_stage g h bytes (Some Finishing) at = ((refl, at), λ goes. (refl, refl))
+  at_stage g h bytes (Some stage) at = (tt, λ goes. (refl, refl))
 
   answered_at : (g : GeometryValue) (answer : Flushed) → answer_of w ≡ answer → IsAnswered w.batch w.steps answer
   answered_at g answer is = subst (IsAnswered w.batch w.steps) is (at_stage g g [] (next_stage w) (stage_is (blocks w) w.steps)).0
@@ -391,21 +385,8 @@ module _ (s : State) (disk : List ℕ) (p : ℕ) (new : State) (disk' : List ℕ
   steps_alone (acts.Store va bytes) = (λ rule. absurd rule.0.1, λ rule. absurd rule.0.1)
   steps_alone (acts.Fill page) = (λ rule. absurd rule.0.1, λ rule. absurd rule.0.1)
   steps_alone (acts.Evict slot) = (λ rule. absurd rule.0.1, λ rule. absurd rule.0.1)
-  steps_alone (acts.Switch space keep) = (λ rule. absurd rule.0, λ rule. absurd rule.0)
-  steps_alone acts.Idle = (λ rule. absurd rule.0, λ rule. absurd rule.0)
-  steps_alone acts.Wake = (λ rule. absurd rule.0, λ rule. absurd rule.0)
-  steps_alone (acts.Fix va write) = (λ rule. absurd rule.0, λ rule. absurd rule.0)
-  steps_alone acts.Create = (λ rule. absurd rule.0, λ rule. absurd rule.0)
-  steps_alone (acts.Destroy space) = (λ rule. absurd rule.0, λ rule. absurd rule.0)
-  steps_alone (acts.Map space va len file offset prot access) = (λ rule. absurd rule.0, λ rule. absurd rule.0)
-  steps_alone (acts.Unmap space va len) = (λ rule. absurd rule.0, λ rule. absurd rule.0)
-  steps_alone (acts.Protect space va len prot) = (λ rule. absurd rule.0, λ rule. absurd rule.0)
-  steps_alone (acts.Reclaim file page) = (λ rule. absurd rule.0, λ rule. absurd rule.0)
-  steps_alone (acts.Msync va len flags) = (λ rule. absurd rule.0, λ rule. absurd rule.0)
-  steps_alone acts.Ack = (λ rule. absurd rule.0, λ rule. absurd rule.0)
-  steps_alone acts.Change = (λ rule. absurd rule.0, λ rule. absurd rule.0)
-  steps_alone acts.Resume = (λ rule. absurd rule.0, λ rule. absurd rule.0)
   steps_alone acts.Flush = (λ rule. (refl, rule), λ rule. (refl, rule))
+  steps_alone act = (λ rule. absurd rule.0, λ rule. absurd rule.0)
 
 -- the reply tells the answer
 committed_is : (number : ℕ) (a : Flushed) → replies.Committed number ≡ reply_to a → a ≡ flushed.Committed number

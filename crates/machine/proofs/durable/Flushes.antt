@@ -227,11 +227,8 @@ module _ (files : List File) (told : Told) (s : State) (seen : List ℕ) (may : 
     marks_now = subst (λ (o : WriteOutsValue). All (λ (y : WriteOut). Contains w.marked (Mark y.batch.mark)) o.batches) (sym (same_outs s outs records)) (marks_after (next_answer s.write_outs) s.write_outs.batches w.marked w.marks)
 
     still_whole : (answer : Flushed) → (answer ≡ flushed.Device → ⊥) → broken_after answer s.write_outs.broken ≡ false
-    still_whole flushed.Going other = flush_whole
-    still_whole (flushed.Committed mark) other = flush_whole
-    still_whole (flushed.Done mark) other = flush_whole
     still_whole flushed.Device other = absurd (other refl)
-    still_whole flushed.Broken other = flush_whole
+    still_whole answer other = flush_whole
 
     ready_now : (next_answer s.write_outs ≡ flushed.Device → ⊥) → after_it.write_outs.broken ≡ true → change_in after_it.hardware.shootdown.lock ≡ Some Checkpoint → has_uncommitted after_it.write_outs.batches ≡ false
     ready_now other broken held = absurd (both_ways after_it.write_outs.broken (ap (λ (o : WriteOutsValue). o.broken) (same_outs s outs records) ∙ still_whole (next_answer s.write_outs) other) broken)

@@ -23,8 +23,7 @@ use Rattle.machine.specs.Told.{Told}
 pub after-append : (memory : Memory) (history events : List Event) → after memory (history ++ events) ≡ after (after memory history) events
 after-append memory [] events = refl
 after-append memory (Store file offset bytes ∷ history) events = after-append (stored memory file offset bytes) history events
-after-append memory (Mark number ∷ history) events = after-append memory history events
-after-append memory (Acknowledge number ∷ history) events = after-append memory history events
+after-append memory (event ∷ history) events = after-append memory history events
 
 pub after_store : (memory : Memory) (history : List Event) (file offset : ℕ) (bytes : List ℕ) → after memory (history ++ Store file offset bytes ∷ []) ≡ stored (after memory history) file offset bytes
 after_store memory history file offset bytes = after-append memory history _

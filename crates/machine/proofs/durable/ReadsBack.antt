@@ -40,16 +40,12 @@ use Rattle.machine.proofs.durable.Lists.{some_same}
 
 -- what may be left within a step recovers to Old or to New
 pub left_either : (v : SuperValue) (old new : ℕ → List ℕ) (o : Option Stage) (c : List ℕ) → LeftWithin v old new o c → Recovers v old c ⊎ Recovers v new c
-left_either v old new None c left = inr left
 left_either v old new (Some (Recording i)) c left = inl left
 left_either v old new (Some Describing) c left = inl left
 left_either v old new (Some SyncingRecords) c left = inl left
 left_either v old new (Some Opening) c left = left
 left_either v old new (Some Committing) c left = left
-left_either v old new (Some (Applying i)) c left = inr left
-left_either v old new (Some SyncingHomes) c left = inr left
-left_either v old new (Some Closing) c left = inr left
-left_either v old new (Some Finishing) c left = inr left
+left_either v old new o c left = inr left
 
 -- bytes that recover to the contents after a durable prefix read back so
 pub reads_contents : (files : List File) (history : List Event) (s : State) → IsSound s → HasFiles files s → (contents : ℕ → List ℕ) (prefix : List Event) → AreContentsOf files history s contents prefix → HasAcknowledged prefix history
@@ -124,10 +120,7 @@ module _ (files : List File) (told : Told) (s : State) (sound : IsSound s) (has 
     before_at (Some Opening) at left = is_old (committed-at y Opening at) left
     before_at (Some Committing) at (inl left) = inl (is_old (committed-at y Committing at) left)
     before_at (Some Committing) at (inr left) = inr (is_new left)
-    before_at (Some (Applying i)) at left = is_new left
-    before_at (Some SyncingHomes) at left = is_new left
-    before_at (Some Closing) at left = is_new left
-    before_at (Some Finishing) at left = is_new left
+    before_at (Some stage) at left = is_new left
     before_at None at left = settled (none_waits at) left
 
     within_at : (o : Option Stage) → next_stage y ≡ o → LeftWithin s.table old new o c → StopsWithin files told.history y.batch.mark o c
@@ -138,10 +131,7 @@ module _ (files : List File) (told : Told) (s : State) (sound : IsSound s) (has 
     within_at (Some Opening) at (inr left) = inr (is_new left)
     within_at (Some Committing) at (inl left) = inl (is_old (committed-at y Committing at) left)
     within_at (Some Committing) at (inr left) = inr (is_new left)
-    within_at (Some (Applying i)) at left = is_new left
-    within_at (Some SyncingHomes) at left = is_new left
-    within_at (Some Closing) at left = is_new left
-    within_at (Some Finishing) at left = is_new left
+    within_at (Some stage) at left = is_new left
     within_at None at left = settled (none_waits at) left
 
   before_by : (o : Option WriteOut) → current s.write_outs.batches ≡ o → LeftBefore s.table old new (option_and_then next_stage o) c
@@ -207,10 +197,7 @@ left_new v old new (Some Describing) c late left = absurd (both_ways false refl 
 left_new v old new (Some SyncingRecords) c late left = absurd (both_ways false refl late)
 left_new v old new (Some Opening) c late left = absurd (both_ways false refl late)
 left_new v old new (Some Committing) c late left = absurd (both_ways false refl late)
-left_new v old new (Some (Applying i)) c late left = left
-left_new v old new (Some SyncingHomes) c late left = left
-left_new v old new (Some Closing) c late left = left
-left_new v old new (Some Finishing) c late left = left
+left_new v old new (Some stage) c late left = left
 
 module _ (files : List File) (told : Told) (s : State) (seen : List ℕ) (may : List ℕ → Type 0) (t : IsTracked files told s seen may) (p number : ℕ) (new : State) (is : MarkMade s p number new) where
   -- a page that isn't gathered at a mark has the bytes that each list that a crash may leave recovers to

@@ -86,33 +86,23 @@ acknowledged_by (flushed.Committed number) = Acknowledge number ∷ []
 acknowledged_by answer = []
 
 step_told : (told : Told) (p : ℕ) (a : Flushed) → tell told (record { p = p; act = acts.Flush }) (reply_to a) ≡ record told { history = told.history ++ acknowledged_by a }
-step_told told p flushed.Going = refl
 step_told told p (flushed.Committed number) = refl
-step_told told p (flushed.Done number) = refl
-step_told told p flushed.Device = refl
-step_told told p flushed.Broken = refl
+step_told told p answer = refl
 
 pub step_asks : (s : State) (a : Flushed) → GoesOn a → step_work s acts.Flush (reply_to a) ≡ work_asked s
-step_asks s flushed.Going goes = refl
-step_asks s (flushed.Committed number) goes = refl
-step_asks s (flushed.Done number) goes = refl
 step_asks s flushed.Device goes = absurd goes
 step_asks s flushed.Broken goes = absurd goes
+step_asks s answer goes = refl
 
 step_quiet : (history : List Event) (a : Flushed) → AreQuiet history (acknowledged_by a)
 step_quiet history (flushed.Committed number) = quiet_acknowledge history number
-step_quiet history flushed.Going = quiet_nothing history
-step_quiet history (flushed.Done number) = quiet_nothing history
-step_quiet history flushed.Device = quiet_nothing history
-step_quiet history flushed.Broken = quiet_nothing history
+step_quiet history answer = quiet_nothing history
 
 -- a step whose reply is no refusal goes on
 pub step_goes : (a : Flushed) (reply : Reply) → reply ≡ reply_to a → ((why : Refusal) → reply ≢ replies.Refused why) → GoesOn a
 step_goes flushed.Device reply is fine = absurd (fine refusals.Device is)
 step_goes flushed.Broken reply is fine = absurd (fine refusals.Broken is)
-step_goes flushed.Going reply is fine = tt
-step_goes (flushed.Committed number) reply is fine = tt
-step_goes (flushed.Done number) reply is fine = tt
+step_goes answer reply is fine = tt
 
 -- ---- one step
 

@@ -15,6 +15,7 @@ use Rattle.journal.specs.WriteOuts.{has_uncommitted, current, advanced, batches_
 use Rattle.journal.specs.inside.Sound.{IsOlder, AreInOrder}
 use Rattle.journal.proofs.Public.{IsAt, stage_is, committed_parts, done_committed}
 use Rattle.machine.specs.inside.Tracking.{IsWaiting}
+use Rattle.machine.proofs.sound.Waiting.{blocks, committed_steps, committed_still}
 use Rattle.machine.proofs.durable.Lists.{some_same, none_some, contains_map, contains_drop, contains_flat_map, nothing_mapped}
 use Rattle.std.proofs.lemmas.List.{drop_all}
 use Rattle.page_entry.specs.declared.numbers.FilePage.{FilePage}
@@ -22,36 +23,9 @@ use Rattle.machine.specs.State.{State, home_of}
 use Rattle.machine.specs.inside.Sound.{IsSound}
 use Rattle.machine.specs.Durability.{waiting_homes}
 
--- a batch of k blocks is committed after k + 4 steps, and no sooner
-steps_early : (k n : ℕ) (o : Option Stage) → IsAt k n o → option_map_or is_committed o true ≡ false → n ≤ k + 3
-steps_early k n (Some (Recording i)) at early = omega (arith, at.0, at.1)
-steps_early k n (Some Describing) at early = omega (arith, at)
-steps_early k n (Some SyncingRecords) at early = omega (arith, at)
-steps_early k n (Some Opening) at early = omega (arith, at)
-steps_early k n (Some Committing) at early = omega (arith, at)
-steps_early k n (Some (Applying i)) at early = absurd (both_ways true early refl)
-steps_early k n (Some SyncingHomes) at early = absurd (both_ways true early refl)
-steps_early k n (Some Closing) at early = absurd (both_ways true early refl)
-steps_early k n (Some Finishing) at early = absurd (both_ways true early refl)
-steps_early k n None at early = absurd (both_ways true early refl)
-
-steps_late : (k n : ℕ) (o : Option Stage) → IsAt k n o → option_map_or is_committed o true ≡ true → k + 4 ≤ n
-steps_late k n (Some (Recording i)) at late = absurd (both_ways false refl late)
-steps_late k n (Some Describing) at late = absurd (both_ways false refl late)
-steps_late k n (Some SyncingRecords) at late = absurd (both_ways false refl late)
-steps_late k n (Some Opening) at late = absurd (both_ways false refl late)
-steps_late k n (Some Committing) at late = absurd (both_ways false refl late)
-steps_late k n (Some (Applying i)) at late = omega (arith, at.0)
-steps_late k n (Some SyncingHomes) at late = omega (arith, at)
-steps_late k n (Some Closing) at late = omega (arith, at)
-steps_late k n (Some Finishing) at late = omega (arith, at)
-steps_late k n None at late = omega (arith, at)
-
 -- one that isn't committed after a step wasn't before it
 still_uncommitted : (w : WriteOut) → has_committed (advanced_of w) ≡ false → has_committed w ≡ false
-still_uncommitted w early = false_from_ne_true (has_committed w) (λ late.
-    let k = length w.batch.homes in
-    omega (arith, steps_early k (w.steps + 1) (next_stage (advanced_of w)) (stage_is k (w.steps + 1)) early, steps_late k w.steps (next_stage w) (stage_is k w.steps) late))
+still_uncommitted w early = false_from_ne_true (has_committed w) (λ late. both_ways (has_committed (advanced_of w)) early (committed_still w late))
 
 -- where each is committed, none of them isn't
 pub none_uncommitted : (batches : List WriteOut) (w : WriteOut) → has_uncommitted batches ≡ false → Contains batches w → has_committed w ≡ false → ⊥
@@ -99,8 +73,7 @@ uncommitted_before Broken batches w there early = record { before = w; there = t
 
 -- one that was just begun does
 pub begun_early : (batch : Batch) → has_committed (begun_of batch) ≡ false
-begun_early batch = false_from_ne_true (has_committed (begun_of batch)) (λ late.
-    let k = length batch.homes in omega (arith, steps_late k 0 (next_stage (begun_of batch)) (stage_is k 0) late))
+begun_early batch = false_from_ne_true (has_committed (begun_of batch)) (λ late. let many = committed_steps (begun_of batch) late in omega (arith, many))
 
 -- the step by which a batch is committed answers so
 commits_now : (k n mark : ℕ) (o : Option Stage) → IsAt k n o → option_map_or is_committed o true ≡ false → k + 4 ≤ n + 1 → option_map_or (answer_at mark) o Broken ≡ Committed mark
@@ -109,17 +82,11 @@ commits_now k n mark (Some Describing) at early late = absurd (omega (arith, at,
 commits_now k n mark (Some SyncingRecords) at early late = absurd (omega (arith, at, late))
 commits_now k n mark (Some Opening) at early late = absurd (omega (arith, at, late))
 commits_now k n mark (Some Committing) at early late = refl
-commits_now k n mark (Some (Applying i)) at early late = absurd (both_ways true early refl)
-commits_now k n mark (Some SyncingHomes) at early late = absurd (both_ways true early refl)
-commits_now k n mark (Some Closing) at early late = absurd (both_ways true early refl)
-commits_now k n mark (Some Finishing) at early late = absurd (both_ways true early refl)
-commits_now k n mark None at early late = absurd (both_ways true early refl)
+commits_now k n mark o at early late = absurd (both_ways true early refl)
 
 own_step : (x : WriteOut) → has_committed x ≡ false → (has_committed (advanced_of x) ≡ false) ⊎ (answer_of x ≡ Committed x.batch.mark)
 own_step x early = elim (cases_Bool (has_committed (advanced_of x))) [
-  | inl late ↦
-      (let k = length x.batch.homes in
-      inr (commits_now k x.steps x.batch.mark (next_stage x) (stage_is k x.steps) early (steps_late k (x.steps + 1) (next_stage (advanced_of x)) (stage_is k (x.steps + 1)) late)))
+  | inl late ↦ inr (commits_now (blocks x) x.steps x.batch.mark (next_stage x) (stage_is (blocks x) x.steps) early (committed_steps (advanced_of x) late))
   | inr still ↦ inl still
 ]
 

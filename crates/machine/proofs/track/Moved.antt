@@ -49,13 +49,7 @@ history_said told (Changing p) = by told.pending
     by None = sym (append-nil told.history)
     by (Some (Unmapping space range)) = sym (append-nil told.history)
     by (Some (Protecting space range rights)) = sym (append-nil told.history)
-history_said told Silent = sym (append-nil told.history)
-history_said told (Running p goes) = sym (append-nil told.history)
-history_said told (Entering p space) = sym (append-nil told.history)
-history_said told (Mapping space change) = sym (append-nil told.history)
-history_said told (Leaving space) = sym (append-nil told.history)
-history_said told (Beginning p pending) = sym (append-nil told.history)
-history_said told (Ending p) = sym (append-nil told.history)
+history_said told says = sym (append-nil told.history)
 
 adds_quietly : (told : Told) (says : Saying) → IsQuiet (adds told says)
 adds_quietly told (Storing p va bytes) = by (place_told told p va)
@@ -142,10 +136,8 @@ module _ (files : List File) (told : Told) (s : State) (seen : List ℕ) (may : 
   pages_moved (End is) = same_pages _ is.checkpoint is.done (ap (adds told) is.says_is ∙ by_change is.change) refl is.dirty
     where
       by_change : (change : Change) → adds told (ending_of is.p change) ≡ []
-      by_change (Unmap pcid range) = refl
-      by_change (Protect pcid range rights) = refl
-      by_change (Reclaim owner) = refl
       by_change Checkpoint = refl
+      by_change change = refl
   pages_moved (Store is) = stored is
   pages_moved (Bring is) =
       let bytes = page_from s seen is.owner in
