@@ -1,6 +1,5 @@
 -- Each step of a tracked machine keeps it tracked, so the laws hold of a run that began on a volume at rest.
 use Rattle.std.proofs.Common.{ℕ, ◌≡◌, List, [], ◌∷◌, ◌++◌, length, map, get_or, refl, sym, ap, ◌∙◌, subst, arith}
-use Rattle.device.specs.Device.{LeavesOnly}
 use Rattle.device.specs.declared.device.Device.{Ghosts}
 use Rattle.volume_codec.specs.Files.{File, TableFile}
 use Rattle.volume_codec.specs.Layout.{block_at}
@@ -11,19 +10,16 @@ use Rattle.machine.specs.declared.act.Step.{Step}
 use Rattle.machine.specs.State.{Whole, length_of}
 use Rattle.machine.specs.Told.{Told, tell, tell_all}
 use Rattle.machine.specs.Laws.{EachStep}
-use Rattle.machine.specs.Steps.{StepMade, IsLawful, told_first}
+use Rattle.machine.specs.Steps.{IsLawful, told_first}
 use Rattle.machine.specs.Runs.{StepTaken}
 use Rattle.machine.specs.inside.Following.{Follows}
 use Rattle.machine.specs.Crashes.{Begins, StepIsSafe, Throughout}
-use Rattle.machine.specs.Stops.{StopsInStep}
-use Rattle.machine.specs.inside.Sound.{IsSound, capacity_of}
+use Rattle.machine.specs.inside.Sound.{capacity_of}
 use Rattle.machine.specs.inside.Tracking.{IsTracked}
-use Rattle.machine.proofs.sound.Kept.{sound_kept}
 use Rattle.machine.proofs.sound.AtBoot.{fresh_sound}
-use Rattle.machine.proofs.durable.PagesRead.{page_read}
-use Rattle.machine.proofs.durable.Steps.{durable_kept, step_is_safe, step_stops}
-use Rattle.machine.proofs.durable.AtStart.{durable_at_start}
-use Rattle.machine.proofs.track.Together.{as_told_after, as_told_first, lawful_step}
+use Rattle.machine.proofs.durable.Steps.{tracked_kept, step_safe}
+use Rattle.machine.proofs.durable.AtStart.{durable_at_start, arranged_at_start, pages_at_start, files_at_start}
+use Rattle.machine.proofs.track.Lawful.{lawful}
 
 -- ---- lists of steps and replies, one longer
 
@@ -53,39 +49,6 @@ module _ {D : Type 0} (Safe : Told → Whole D → Step → Reply → Whole D �
   each_more P told old [] (answer ∷ replies) now step reply run each here = absurd run
   each_more P told old (first ∷ steps) [] now step reply run each here = absurd run
 
--- ---- one step
-
-module _ {D : Type 0} (disk : Ghosts D) (files : List File) (told : Told) (old : Whole D) (step : Step) (reply : Reply) (new : Whole D) (t : IsTracked files told old.state (disk.seen old.device) (disk.may_leave old.device))
-    (taken : StepTaken disk old step reply new) (honest : disk.is_honest old.device) where
-  made : StepMade disk old step reply new
-  made = taken.made honest
-
-  sound_after : IsSound new.state
-  sound_after = sound_kept old.state (disk.seen old.device) step reply new.state (disk.seen new.device) t.sound made.answered
-
-  pub tracked_kept : IsTracked files (tell told step reply) new.state (disk.seen new.device) (disk.may_leave new.device)
-  tracked_kept =
-      let d = durable_kept disk files told old step reply new t taken honest sound_after in
-      let a = as_told_after t step reply new.state (disk.seen new.device) made.answered (page_read files told old.state (disk.seen old.device) (disk.may_leave old.device) t) in
-      record {
-        sound = sound_after;
-        files_are = a.pages.files_are;
-        arranged = a.arranged;
-        latest = a.pages.latest;
-        touched = a.pages.touched;
-        plain = a.pages.plain;
-        old = d.old;
-        new = d.new;
-        stands = d.stands;
-        written = d.written;
-      }
-
-  pub step_safe : StepIsSafe disk files told old step reply new
-  step_safe = step_is_safe disk files told old step reply new t taken honest sound_after tracked_kept.files_are
-
-  pub step_stopped : LeavesOnly disk.moment disk.left_since old.device new.device (StopsInStep files told.history old.state.write_outs)
-  step_stopped = step_stops disk files told old step reply new t taken honest sound_after
-
 -- ---- runs
 
 module _ {D : Type 0} (disk : Ghosts D) (files : List File) (start : Whole D) where
@@ -96,7 +59,8 @@ module _ {D : Type 0} (disk : Ghosts D) (files : List File) (start : Whole D) wh
       let capacities : s.lengths ≡ map (λ (f : TableFile). f.capacity) s.table.files = begins.lengths_are in
       let sound = fresh_sound s begins.fresh begins.volume.super_block.fits (ap length capacities ∙ length-lengths_in s.table (block_at (disk.seen start.device)))
       (λ file. let same : length_of s file ≡ capacity_of s file = ap (λ (l : List ℕ). get_or l file 0) capacities in omega (arith, same)) in
-      let a = as_told_first disk files start begins in
+      let has = files_at_start files s (disk.seen start.device) begins.volume begins.files_are begins.lengths_are in
+      let pages = pages_at_start files s begins.fresh has in
       let d = durable_at_start disk files start sound begins in
       record {
         begins = begins;
@@ -105,11 +69,11 @@ module _ {D : Type 0} (disk : Ghosts D) (files : List File) (start : Whole D) wh
         lawful = tt;
         tracked = record {
           sound = sound;
-          files_are = a.pages.files_are;
-          arranged = a.arranged;
-          latest = a.pages.latest;
-          touched = a.pages.touched;
-          plain = a.pages.plain;
+          files_are = has;
+          arranged = arranged_at_start files s begins.fresh has;
+          latest = pages.latest;
+          touched = pages.touched;
+          plain = pages.plain;
           old = d.old;
           new = d.new;
           stands = d.stands;
@@ -128,6 +92,6 @@ module _ {D : Type 0} (disk : Ghosts D) (files : List File) (start : Whole D) wh
         begins = on.begins;
         honest = taken.honest.1 on.honest;
         through = through_more (StepIsSafe disk files) first start steps replies now step reply new on.through (step_safe disk files told now step reply new on.tracked taken on.honest);
-        lawful = each_more (StepIsSafe disk files) (IsLawful files) first start steps replies now step reply on.through on.lawful (lawful_step on.tracked step reply new.state (disk.seen new.device) (taken.made on.honest).answered);
+        lawful = each_more (StepIsSafe disk files) (IsLawful files) first start steps replies now step reply on.through on.lawful (lawful files told now.state (disk.seen now.device) step.p step.act reply new.state (disk.seen new.device) on.tracked.sound on.tracked.arranged on.tracked.latest (taken.made on.honest).answered);
         tracked = subst (λ (x : Told). IsTracked files x new.state (disk.seen new.device) (disk.may_leave new.device)) (sym (tell_more (StepIsSafe disk files) first start steps replies now step reply on.through)) t;
       }

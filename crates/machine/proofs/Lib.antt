@@ -1,3 +1,5 @@
+pub mod moves
+pub mod acts
 pub mod code
 pub mod sound
 pub mod track

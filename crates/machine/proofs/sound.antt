@@ -1,16 +1,8 @@
 pub mod Lists
 pub mod Groups
 pub mod Admitted
-pub mod ByProcessor
-pub mod Spaces
 pub mod Frames
-pub mod ByAccess
-pub mod Notes
-pub mod BySpaces
-pub mod ByBegin
-pub mod ByFix
 pub mod Ended
-pub mod ByChange
 pub mod Waiting
 pub mod Homes
 pub mod ByMark

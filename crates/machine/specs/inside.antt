@@ -7,3 +7,4 @@ pub mod Acting
 pub mod Codes
 pub mod Booting
 pub mod Freshness
+pub mod Moves

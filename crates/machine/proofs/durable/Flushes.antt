@@ -33,11 +33,10 @@ use Rattle.machine.specs.Told.{Told}
 use Rattle.machine.specs.inside.Tracking.{change_in, AreContentsOf, HasAcknowledged, IsLost, IsWaiting, AreMarks, IsWritten}
 use Rattle.machine.specs.Durability.{IsInFile, within_file}
 use Rattle.machine.proofs.durable.Lists.{some_same, none_some}
-use Rattle.machine.proofs.durable.Histories.{IsUntouched, quiet_untouched, touched-append, after-append, acknowledge_same, acknowledge_no_mark, acknowledged_more}
+use Rattle.machine.proofs.durable.Histories.{IsUntouched, quiet_untouched, touched_after-append, after-append, acknowledge_same, acknowledge_no_mark, acknowledged_more, marks_more, marks_settled}
 use Rattle.machine.proofs.durable.Pages.{bytes_with-freed}
 use Rattle.machine.proofs.durable.Leaves.{SameFiles, in_file_as, part_as, contents_more, record_as, AreFrozenRecords}
 use Rattle.machine.proofs.durable.Marks.{IsDurable}
-use Rattle.machine.proofs.durable.Settled.{marks_more, marks_settled}
 use Rattle.machine.proofs.durable.Uncommitted.{none_uncommitted, uncommitted_before, waits_after}
 use Rattle.machine.proofs.sound.Admitted.{second_not_refused}
 use Rattle.machine.proofs.durable.Records.{size_of_record, record_is_new, commits}
@@ -53,7 +52,7 @@ calm_none files history file page is = quiet_untouched (memory_of files) history
 
 pub calm_acknowledge : (files : List File) (history : List Event) (number : ℕ) → AreCalm files history (Acknowledge number ∷ [])
 calm_acknowledge files history number file page is = record {
-  before = sym (touched-append file page false history (Acknowledge number ∷ [])) ∙ is;
+  before = sym (touched_after-append file page false history (Acknowledge number ∷ [])) ∙ is;
   same = ap (λ (m : ℕ → ℕ → List ℕ). m file page) (after-append (memory_of files) history (Acknowledge number ∷ []));
 }
 
@@ -228,11 +227,8 @@ module _ (files : List File) (told : Told) (s : State) (seen : List ℕ) (may : 
     marks_now = subst (λ (o : WriteOutsValue). All (λ (y : WriteOut). Contains w.marked (Mark y.batch.mark)) o.batches) (sym (same_outs s outs records)) (marks_after (next_answer s.write_outs) s.write_outs.batches w.marked w.marks)
 
     still_whole : (answer : Flushed) → (answer ≡ flushed.Device → ⊥) → broken_after answer s.write_outs.broken ≡ false
-    still_whole flushed.Going other = flush_whole
-    still_whole (flushed.Committed mark) other = flush_whole
-    still_whole (flushed.Done mark) other = flush_whole
     still_whole flushed.Device other = absurd (other refl)
-    still_whole flushed.Broken other = flush_whole
+    still_whole answer other = flush_whole
 
     ready_now : (next_answer s.write_outs ≡ flushed.Device → ⊥) → after_it.write_outs.broken ≡ true → change_in after_it.hardware.shootdown.lock ≡ Some Checkpoint → has_uncommitted after_it.write_outs.batches ≡ false
     ready_now other broken held = absurd (both_ways after_it.write_outs.broken (ap (λ (o : WriteOutsValue). o.broken) (same_outs s outs records) ∙ still_whole (next_answer s.write_outs) other) broken)

@@ -1,24 +1,117 @@
--- Histories that grow: the memory after them, which pages they touch, and their prefixes.
-use Rattle.std.proofs.Common.{◌≡◌, ℕ, ◌/◌, ◌&&◌, ◌⊎◌, eqb, cond, Bool, true, false, List, [], ◌∷◌, ◌++◌, inl, inr, refl, sym, ap, ◌∙◌, subst, append_assoc}
+-- Histories that grow: the memory after them, the pages that they touch, their prefixes, and which marks are acknowledged, wait or are lost.
+use Rattle.std.proofs.Common.{◌≡◌, ℕ, ◌+◌, ◌*◌, ◌/◌, ◌%◌, ◌<◌, ◌≤◌, Bool, true, false, ◌&&◌, eqb, if◌then◌else◌, List, [], ◌∷◌, ◌++◌, length, take, drop, refl, sym, ap, ◌∙◌, inl, inr, arith, ◌⊎◌, cond, subst, append_assoc, ◌↔◌}
+use Rattle.std.proofs.lemmas.Bool.{cond-true, cond-false, cond_both, and_from, and_left, and_right, eq-eqb, ne_eqb, cases_eq, both_ways, eqb-true, and_parts, false_from_ne_true}
+use Rattle.std.proofs.lemmas.List.{length-take, append-nil}
+use Rattle.volume_codec.specs.Files.{File}
+use Rattle.volume_codec.proofs.Public.{length-padded}
+use Rattle.frames.specs.Frames.{overwrite}
+use Rattle.frames.proofs.Public.{length-overwrite}
+use Rattle.machine.specs.History.{Memory, Event, Store, Mark, Acknowledge, memory_of, file_bytes, stored, after, touched_after, is_touched, unmarked_after, has_unmarked}
 use Rattle.std.specs.List.{Contains}
-use Rattle.std.proofs.lemmas.Bool.{cond-true, cond-false, both_ways, and_from, eq-eqb, eqb-true, and_parts, false_from_ne_true}
-use Rattle.std.proofs.lemmas.List.{append-nil}
 use Rattle.std.proofs.lemmas.List.Elements.{Contains-append_left, Contains-append_cases, Contains-push_cases}
-use Rattle.machine.specs.History.{Event, Memory, Store, Mark, Acknowledge, stored, after, unmarked_after, has_unmarked, touched_after, is_touched}
-use Rattle.machine.specs.inside.Tracking.{HasAcknowledged}
+use Rattle.machine.specs.inside.Tracking.{HasAcknowledged, IsLost, IsWaiting, AreMarks, AreTouched}
 use Rattle.machine.proofs.durable.Lists.{contains_none}
+use Rattle.machine.specs.State.{State}
+use Rattle.page_entry.specs.declared.numbers.FilePage.{FilePage}
+use Rattle.machine.specs.Rules.{MarkMade}
+use Rattle.machine.specs.Told.{Told}
+
+-- ---- the memory after a history and the pages that it touches, one event at a time
+
+-- ---- memory
 
 pub after-append : (memory : Memory) (history events : List Event) → after memory (history ++ events) ≡ after (after memory history) events
 after-append memory [] events = refl
 after-append memory (Store file offset bytes ∷ history) events = after-append (stored memory file offset bytes) history events
-after-append memory (Mark number ∷ history) events = after-append memory history events
-after-append memory (Acknowledge number ∷ history) events = after-append memory history events
+after-append memory (event ∷ history) events = after-append memory history events
 
-pub touched-append : (file page : ℕ) (before : Bool) (history events : List Event) → touched_after file page before (history ++ events) ≡ touched_after file page (touched_after file page before history) events
-touched-append file page before [] events = refl
-touched-append file page before (Store f offset bytes ∷ history) events = touched-append file page (cond (eqb f file && eqb page (offset / 4096)) true before) history events
-touched-append file page before (Mark number ∷ history) events = touched-append file page false history events
-touched-append file page before (Acknowledge number ∷ history) events = touched-append file page before history events
+pub after_store : (memory : Memory) (history : List Event) (file offset : ℕ) (bytes : List ℕ) → after memory (history ++ Store file offset bytes ∷ []) ≡ stored (after memory history) file offset bytes
+after_store memory history file offset bytes = after-append memory history _
+
+-- the page of a store
+pub stored_there : (memory : Memory) (file page at : ℕ) (bytes : List ℕ) → at < 4096 → stored memory file (4096 * page + at) bytes file page ≡ overwrite (memory file page) at bytes
+stored_there memory file page at bytes small =
+    let place : (4096 * page + at) / 4096 ≡ page = omega arith in
+    let inner : (4096 * page + at) % 4096 ≡ at = omega arith in
+    cond-true (eqb file file && eqb page ((4096 * page + at) / 4096)) (overwrite (memory file page) ((4096 * page + at) % 4096) bytes) (memory file page)
+    (and_from (eqb file file) (eqb page ((4096 * page + at) / 4096)) (eq-eqb file file refl) (eq-eqb page ((4096 * page + at) / 4096) (sym place)))
+    ∙ ap (λ k. overwrite (memory file page) k bytes) inner
+
+-- every other page
+pub stored_elsewhere : (memory : Memory) (file page at : ℕ) (bytes : List ℕ) (f p : ℕ) → at < 4096 → (f ≡ file → p ≡ page → ⊥) → stored memory file (4096 * page + at) bytes f p ≡ memory f p
+stored_elsewhere memory file page at bytes f p small other =
+    let place : (4096 * page + at) / 4096 ≡ page = omega arith in
+    let test : (eqb f file && eqb p ((4096 * page + at) / 4096)) ≡ false =
+    elim (cases_eq f file) [
+      | inl same ↦ and_right (eqb f file) (eqb p ((4096 * page + at) / 4096)) (ne_eqb p ((4096 * page + at) / 4096) (λ e. other same (e ∙ place)))
+      | inr ne ↦ and_left (eqb f file) (eqb p ((4096 * page + at) / 4096)) (ne_eqb f file ne)
+    ] in
+    cond-false (eqb f file && eqb p ((4096 * page + at) / 4096)) (overwrite (memory f p) ((4096 * page + at) % 4096) bytes) (memory f p) test
+
+-- pages keep their size
+pub length-stored : (memory : Memory) (file page at : ℕ) (bytes : List ℕ) (f p : ℕ) → ((f p : ℕ) → length (memory f p) ≡ 4096) → at + length bytes ≤ 4096 → at < 4096 → length (stored memory file (4096 * page + at) bytes f p) ≡ 4096
+length-stored memory file page at bytes f p whole fits small =
+    let inner : (4096 * page + at) % 4096 ≡ at = omega arith in
+    cond_both (eqb f file && eqb p ((4096 * page + at) / 4096)) (overwrite (memory f p) ((4096 * page + at) % 4096) bytes) (memory f p) (λ (l : List ℕ). length l ≡ 4096)
+    (λ e. length-overwrite (memory f p) ((4096 * page + at) % 4096) bytes (omega (arith, inner, whole f p)) ∙ whole f p)
+    (λ e. whole f p)
+
+pub length-memory_of : (files : List File) (file page : ℕ) → length (memory_of files file page) ≡ 4096
+length-memory_of files file page =
+    let bytes = drop (4096 * page) (file_bytes files file) in
+    length-padded 4096 (take 4096 bytes) (omega (arith, length-take 4096 bytes))
+
+-- ---- touched pages
+
+pub touched_after-append : (file page : ℕ) (before : Bool) (history events : List Event) → touched_after file page before (history ++ events) ≡ touched_after file page (touched_after file page before history) events
+touched_after-append file page before [] events = refl
+touched_after-append file page before (Store f offset bytes ∷ history) events = touched_after-append file page (if eqb f file && eqb page (offset / 4096) then true else before) history events
+touched_after-append file page before (Mark number ∷ history) events = touched_after-append file page false history events
+touched_after-append file page before (Acknowledge number ∷ history) events = touched_after-append file page before history events
+
+-- after a mark, acknowledged at once or not, no page is touched
+pub touched_mark : (history : List Event) (number : ℕ) (waits : Bool) (file page : ℕ) → is_touched (history ++ Mark number ∷ (if waits then [] else Acknowledge number ∷ [])) file page ≡ false
+touched_mark history number true file page = touched_after-append file page false history (Mark number ∷ [])
+touched_mark history number false file page = touched_after-append file page false history (Mark number ∷ Acknowledge number ∷ [])
+
+pub touched_there : (history : List Event) (file page at : ℕ) (bytes : List ℕ) → at < 4096 → is_touched (history ++ Store file (4096 * page + at) bytes ∷ []) file page ≡ true
+touched_there history file page at bytes small =
+    let place : (4096 * page + at) / 4096 ≡ page = omega arith in
+    touched_after-append file page false history (Store file (4096 * page + at) bytes ∷ [])
+    ∙ cond-true (eqb file file && eqb page ((4096 * page + at) / 4096)) true (is_touched history file page)
+    (and_from (eqb file file) (eqb page ((4096 * page + at) / 4096)) (eq-eqb file file refl) (eq-eqb page ((4096 * page + at) / 4096) (sym place)))
+
+pub touched_elsewhere : (history : List Event) (file page at : ℕ) (bytes : List ℕ) (f p : ℕ) → at < 4096 → (f ≡ file → p ≡ page → ⊥) → is_touched (history ++ Store file (4096 * page + at) bytes ∷ []) f p ≡ is_touched history f p
+touched_elsewhere history file page at bytes f p small other =
+    let place : (4096 * page + at) / 4096 ≡ page = omega arith in
+    let test : (eqb file f && eqb p ((4096 * page + at) / 4096)) ≡ false =
+    elim (cases_eq f file) [
+      | inl same ↦ and_right (eqb file f) (eqb p ((4096 * page + at) / 4096)) (ne_eqb p ((4096 * page + at) / 4096) (λ e. other same (e ∙ place)))
+      | inr ne ↦ and_left (eqb file f) (eqb p ((4096 * page + at) / 4096)) (ne_eqb file f (λ e. ne (sym e)))
+    ] in
+    touched_after-append f p false history (Store file (4096 * page + at) bytes ∷ [])
+    ∙ cond-false (eqb file f && eqb p ((4096 * page + at) / 4096)) true (is_touched history f p) test
+
+-- ---- events that store nothing and mark nothing
+
+-- events that leave memory and the touched pages as they are
+pub record AreQuiet (history events : List Event) : Type 0 where
+  pub memory : (memory : Memory) → after memory (history ++ events) ≡ after memory history
+  pub touched : (file page : ℕ) → is_touched (history ++ events) file page ≡ is_touched history file page
+
+pub quiet_nothing : (history : List Event) → AreQuiet history []
+quiet_nothing history = record {
+  memory = λ memory. after-append memory history [];
+  touched = λ file page. touched_after-append file page false history [];
+}
+
+pub quiet_acknowledge : (history : List Event) (number : ℕ) → AreQuiet history (Acknowledge number ∷ [])
+quiet_acknowledge history number = record {
+  memory = λ memory. after-append memory history (Acknowledge number ∷ []);
+  touched = λ file page. touched_after-append file page false history (Acknowledge number ∷ []);
+}
+
+-- ---- histories that grow: the memory after them, which pages they touch, and their prefixes
 
 -- a page that got a store after the last mark is a store after it
 pub unmarked_by_touched : (file page : ℕ) (before waits : Bool) (events : List Event) → (before ≡ true → waits ≡ true) → touched_after file page before events ≡ true → unmarked_after waits events ≡ true
@@ -115,7 +208,7 @@ pub record IsUntouched (memory : Memory) (history events : List Event) (file pag
 
 untouched_store : (memory : Memory) (history : List Event) (file page f offset : ℕ) (bytes : List ℕ) → is_touched (history ++ Store f offset bytes ∷ []) file page ≡ false → IsUntouched memory history (Store f offset bytes ∷ []) file page
 untouched_store memory history file page f offset bytes is =
-    let was : cond (eqb f file && eqb page (offset / 4096)) true (is_touched history file page) ≡ false = sym (touched-append file page false history (Store f offset bytes ∷ [])) ∙ is in
+    let was : cond (eqb f file && eqb page (offset / 4096)) true (is_touched history file page) ≡ false = sym (touched_after-append file page false history (Store f offset bytes ∷ [])) ∙ is in
     let other : (eqb f file && eqb page (offset / 4096)) ≡ false =
     false_from_ne_true (eqb f file && eqb page (offset / 4096)) (λ e. both_ways (cond (eqb f file && eqb page (offset / 4096)) true (is_touched history file page)) was (cond-true (eqb f file && eqb page (offset / 4096)) true (is_touched history file page) e)) in
     let elsewhere : (eqb file f && eqb page (offset / 4096)) ≡ false = false_from_ne_true (eqb file f && eqb page (offset / 4096)) (λ e.
@@ -148,3 +241,72 @@ in_history prefix rest history e begins has = subst (λ (l : List Event). Contai
 -- events that acknowledge nothing need nothing of a prefix
 pub acknowledged_more : (prefix history events : List Event) → ((n : ℕ) → Contains events (Acknowledge n) → Contains prefix (Mark n)) → HasAcknowledged prefix history → HasAcknowledged prefix (history ++ events)
 acknowledged_more prefix history events more has n there = elim (Contains-append_cases history events (Acknowledge n) there) [ inl before ↦ has n before | inr now ↦ more n now ]
+
+-- ---- which marks are acknowledged, wait or are lost, where the history grows by events that mark nothing
+
+-- what waited is acknowledged by these events, or still waits
+pub marks_more : (before marked history events : List Event) (s x : State) → ((n : ℕ) → Contains events (Mark n) → ⊥)
+    → ((n : ℕ) → IsWaiting s.write_outs.batches n → Contains (history ++ events) (Acknowledge n) ⊎ IsWaiting x.write_outs.batches n) → (IsLost s → IsLost x)
+    → AreMarks history before marked s → AreMarks (history ++ events) before marked x
+marks_more before marked history events s x unmarked waits lost are = record {
+  each = λ n has. elim (Contains-append_cases history events (Mark n) has) [ inl was ↦ by_each n (are.each n was) | inr now ↦ absurd (unmarked n now) ];
+  in_before = λ n has. acked n (are.in_before n has);
+  in_marked = λ n has. by_marked n (are.in_marked n has);
+}
+  where
+    acked : (n : ℕ) → Contains history (Acknowledge n) → Contains (history ++ events) (Acknowledge n)
+    acked n has = Contains-append_left history events (Acknowledge n) has
+
+    by_marked : (n : ℕ) → Contains history (Acknowledge n) ⊎ IsWaiting s.write_outs.batches n → Contains (history ++ events) (Acknowledge n) ⊎ IsWaiting x.write_outs.batches n
+    by_marked n (inl has) = inl (acked n has)
+    by_marked n (inr wait) = waits n wait
+
+    still : (n : ℕ) → Contains (history ++ events) (Acknowledge n) ⊎ IsWaiting x.write_outs.batches n → Contains (history ++ events) (Acknowledge n) ⊎ (IsWaiting x.write_outs.batches n ⊎ IsLost x)
+    still n (inl has) = inl has
+    still n (inr wait) = inr (inl wait)
+
+    by_each : (n : ℕ) → Contains history (Acknowledge n) ⊎ (IsWaiting s.write_outs.batches n ⊎ IsLost s) → Contains (history ++ events) (Acknowledge n) ⊎ (IsWaiting x.write_outs.batches n ⊎ IsLost x)
+    by_each n (inl has) = inl (acked n has)
+    by_each n (inr (inl wait)) = still n (waits n wait)
+    by_each n (inr (inr is)) = inr (inr (lost is))
+
+-- where none waits any more, the second prefix has acknowledged marks alone
+pub marks_settled : (before marked history : List Event) (x : State) → ((n : ℕ) → IsWaiting x.write_outs.batches n → ⊥) → AreMarks history before marked x → AreMarks history marked marked x
+marks_settled before marked history x none are = record {
+  each = are.each;
+  in_before = λ n has. elim (are.in_marked n has) [ inl acked ↦ acked | inr wait ↦ absurd (none n wait) ];
+  in_marked = are.in_marked;
+}
+
+-- ---- which pages a mark gathers, by the history
+
+-- a store that is in no mark yet touched some page
+pub some_touched : (touched : ℕ → ℕ → Bool) (before : Bool) (events : List Event) → (before ≡ true → (file page : ℕ) × (touched file page ≡ true)) → unmarked_after before events ≡ true
+    → (file page : ℕ) × (touched_after file page (touched file page) events ≡ true)
+some_touched touched before [] some stored = some stored
+some_touched touched before (Store f offset bytes ∷ events) some stored =
+    some_touched (λ file page. if eqb f file && eqb page (offset / 4096) then true else touched file page) true events
+    (λ _. (f, offset / 4096, cond-true (eqb f f && eqb (offset / 4096) (offset / 4096)) true (touched f (offset / 4096)) (and_from (eqb f f) (eqb (offset / 4096) (offset / 4096)) (eq-eqb f f refl) (eq-eqb (offset / 4096) (offset / 4096) refl)))) stored
+some_touched touched before (Mark number ∷ events) some stored = some_touched (λ file page. false) false events (λ never. absurd (both_ways false refl never)) stored
+some_touched touched before (Acknowledge number ∷ events) some stored = some_touched touched before events some stored
+
+module _ (told : Told) (s : State) (p number : ℕ) (new : State) (mark : MarkMade s p number new) (touched : AreTouched told s) where
+  -- those that got a store since the last mark
+  pub gathers_touched : (owner : FilePage) → (Contains mark.pages owner) ↔ (is_touched told.history owner.file owner.page ≡ true)
+  gathers_touched owner =
+      let dirty = mark.gathered.gathered.dirty owner in
+      (λ gathered. (touched owner).1 (dirty.0 gathered), λ stored. dirty.1 ((touched owner).0 stored))
+
+  -- none, where there is no such store
+  pub gathers_nothing : (mark.pages ≡ []) ↔ (has_unmarked told.history ≡ false)
+  gathers_nothing = (
+    (λ none. false_from_ne_true (has_unmarked told.history) (λ stored.
+        let some = some_touched (λ file page. false) false told.history (λ never. absurd (both_ways false refl never)) stored in
+        let there = subst (λ (pages : List FilePage). Contains pages (record { file = some.0; page = some.1 })) none ((gathers_touched (record { file = some.0; page = some.1 })).1 some.2) in
+        omega (arith, there.1))),
+    (λ none. empty mark.pages (λ owner gathered. both_ways (has_unmarked told.history) none (unmarked_by_touched owner.file owner.page false false told.history (λ never. never) ((gathers_touched owner).0 gathered)))),
+  )
+    where
+      empty : (pages : List FilePage) → ((owner : FilePage) → Contains pages owner → ⊥) → pages ≡ []
+      empty [] none = refl
+      empty (owner ∷ pages) none = absurd (none owner (0, omega arith, refl))

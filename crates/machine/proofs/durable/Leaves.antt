@@ -13,8 +13,7 @@ use Rattle.machine.specs.Rules.{bytes_at_mark}
 use Rattle.machine.specs.Told.{Told}
 use Rattle.machine.specs.inside.Tracking.{change_in, HasParts, AreContentsOf, HasAcknowledged, IsLost, IsWaiting, AreMarks, IsWritten}
 use Rattle.machine.specs.Durability.{IsInFile, within_file}
-use Rattle.machine.proofs.durable.Histories.{IsQuiet, quiet_acknowledges, quiet_marks, quiet_untouched, begins_more, acknowledged_more}
-use Rattle.machine.proofs.durable.Settled.{marks_more}
+use Rattle.machine.proofs.durable.Histories.{IsQuiet, quiet_acknowledges, quiet_marks, quiet_untouched, begins_more, acknowledged_more, marks_more}
 
 -- ---- the files stay
 

@@ -23,7 +23,7 @@ use Rattle.machine.specs.inside.Sound.{IsSound}
 use Rattle.machine.specs.Rules.{next_page, bytes_with, bytes_at_mark, next_record as record_asked}
 use Rattle.machine.proofs.durable.Lists.{some_same, none_some, flat_map-append}
 use Rattle.machine.proofs.durable.Pages.{bytes_with-at, bytes_with-none}
-use Rattle.machine.proofs.durable.Waiting.{all_committed, whole_frozen}
+use Rattle.machine.proofs.durable.Uncommitted.{all_committed, whole_frozen}
 use Rattle.machine.proofs.durable.Leaves.{AreFrozenRecords}
 
 -- ---- the size of a record
@@ -64,16 +64,8 @@ size_of_record s sound =
 
 -- a stage that writes a record
 record_stage : (o : Option Stage) (i : ℕ) → option_and_then record_at o ≡ Some i → o ≡ Some (Recording i)
-record_stage None i e = absurd (none_some i e)
 record_stage (Some (Recording k)) i e = ap (λ n. Some (Recording n)) (some_same k i e)
-record_stage (Some Describing) i e = absurd (none_some i e)
-record_stage (Some SyncingRecords) i e = absurd (none_some i e)
-record_stage (Some Opening) i e = absurd (none_some i e)
-record_stage (Some Committing) i e = absurd (none_some i e)
-record_stage (Some (Applying k)) i e = absurd (none_some i e)
-record_stage (Some SyncingHomes) i e = absurd (none_some i e)
-record_stage (Some Closing) i e = absurd (none_some i e)
-record_stage (Some Finishing) i e = absurd (none_some i e)
+record_stage o i e = absurd (none_some i e)
 
 -- the place of a record in its batch, and the batch
 pub record IsRecording (batches : List WriteOut) (i : ℕ) : Type 0 where

@@ -5,6 +5,7 @@ use Rattle.page_entry.specs.declared.refusal.Refusal.{Refusal}
 use Rattle.page_entry.specs.declared.refusal.Refusal.TheVariants as refusals
 use Rattle.mappings.specs.declared.place.Place.{Place}
 use Rattle.spaces.specs.Spaces.{Spaces, has_space}
+use Rattle.shootdown.specs.declared.lock.Lock.{Lock}
 use Rattle.shootdown.specs.declared.proc_state.ProcState.{ProcState}
 use Rattle.shootdown.specs.declared.proc_state.ProcState.TheVariants.{Active, Interrupted, Stalled, Initiating, Idle}
 use Rattle.shootdown.specs.Processors.{is_running}
@@ -48,6 +49,10 @@ pub fourth_not_refused : (a b c : Option Refusal) (d : Bool) (why : Refusal) (re
 fourth_not_refused a b c d why reasons e = second_not_refused c d why reasons (first_none b (c ∷ refuse_if d why ∷ reasons) (first_none a (b ∷ c ∷ refuse_if d why ∷ reasons) e).1).1
 
 -- ---- processors and the lock
+
+-- nothing holds of a lock that is free
+pub unlocked : {A : Type 0} (lock : Option Lock) (held : Lock) → lock ≡ None → lock ≡ Some held → A
+unlocked lock held free is = absurd (cc)
 
 -- the processor is there, and the lock is free
 pub free_below : (s : ShootdownState) (p : ℕ) → not_free s p ≡ None → (p < length s.processors) × (s.lock ≡ None)

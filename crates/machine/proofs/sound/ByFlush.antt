@@ -176,16 +176,7 @@ module _ (s : State) (sound : IsSound s) where
   made_sound flushed.Device whole is fine = absurd (fine refusals.Device refl)
   made_sound flushed.Broken whole is fine = absurd (fine refusals.Broken refl)
 
-  flush_made : (disk : List ℕ) (p : ℕ) (reply : Reply) (new : State) (disk' : List ℕ) → FlushMade s disk p reply new disk' → ((why : Refusal) → reply ≢ replies.Refused why) → IsSound new
-  flush_made disk p reply new disk' rule fine =
+  pub flushed_sound : (disk : List ℕ) (p : ℕ) (reply : Reply) (new : State) (disk' : List ℕ) → FlushMade s disk p reply new disk' → ((why : Refusal) → reply ≢ replies.Refused why) → IsSound new
+  flushed_sound disk p reply new disk' rule fine =
       unchanged_sound (after_answer (next_answer s.write_outs)) new rule.done
       (made_sound (next_answer s.write_outs) (flush_admitted s p rule.allowed).1 refl (λ why is. fine why (rule.answered ∙ is)))
-
-  pub flush_sound : (disk : List ℕ) (p : ℕ) (reply : Reply) (new : State) (disk' : List ℕ) → Flushes s disk p reply new disk' → IsSound new
-  flush_sound disk p replies.Going new disk' rule = flush_made disk p replies.Going new disk' rule (λ why e. cc)
-  flush_sound disk p (replies.Committed number) new disk' rule = flush_made disk p (replies.Committed number) new disk' rule (λ why e. cc)
-  flush_sound disk p (replies.Done number) new disk' rule = flush_made disk p (replies.Done number) new disk' rule (λ why e. cc)
-  flush_sound disk p replies.Nothing new disk' rule = unchanged_sound s new rule.2 sound
-  flush_sound disk p (replies.Refused refusals.Device) new disk' rule = unchanged_sound (after_failure s) new rule.done (failed_sound s sound)
-  flush_sound disk p (replies.Refused why) new disk' rule = refused_sound _ why s new rule.0 sound
-  flush_sound disk p reply new disk' rule = absurd rule

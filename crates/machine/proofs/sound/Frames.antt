@@ -1,19 +1,29 @@
 -- Other frames keep a machine sound.
-use Rattle.std.proofs.Common.{ℕ, ◌≡◌, ◌+◌, ◌≤◌, true, List, ◌++◌, length, take, drop, get_or, Option, Some, None, IsSome, refl, sym, ap, ◌∙◌, ⊎_elim, arith}
-use Rattle.std.proofs.lemmas.List.{length-append, length-take-le, length-drop, length-set}
+use Rattle.std.proofs.Common.{ℕ, ◌≡◌, ◌≢◌, ◌+◌, ◌-◌, ◌*◌, ◌≤◌, not, true, false, List, ◌++◌, length, take, drop, get_or, Option, Some, None, IsSome, slice_get, refl, sym, ap, ◌∙◌, subst, inl, ⊎_elim, arith}
+use Rattle.std.specs.List.{list_any}
+use Rattle.std.proofs.lemmas.Bool.{cases_eq, and_parts, not-true, false≢true}
+use Rattle.std.proofs.lemmas.List.{length-append, length-take, length-take-le, length-drop, length-set, get_or-set_other}
+use Rattle.std.proofs.lemmas.List.Elements.{Contains-get_or}
+use Rattle.page_entry.specs.Entry.{Mapped}
 use Rattle.page_entry.specs.declared.numbers.FilePage.{FilePage}
-use Rattle.frames.specs.Frames.{FramesState, Frame, frame_at, overwrite, overwrite_frame, with_bytes, page_of}
+use Rattle.volume_codec.specs.Layout.{block_at}
+use Rattle.volume_codec.proofs.Public.{length-padded}
+use Rattle.frames.specs.Frames.{FramesState, Frame, frame_at, overwrite, overwrite_frame, with_bytes, with_page, with_copy, without_frame, page_of}
 use Rattle.frames.proofs.Public.{after_set}
-use Rattle.checkpoint.specs.Checkpoint.{Holds, is_frozen}
+use Rattle.journal.specs.WriteOuts.{HasBlock}
+use Rattle.spaces.specs.Spaces.{entry_at}
+use Rattle.checkpoint.specs.Checkpoint.{CheckpointState, NotesTaken, Holds, is_noted, is_frozen, is_of_page, is_held, is_copied}
 use Rattle.checkpoint.specs.Backing.{AreBacked}
-use Rattle.checkpoint.proofs.Public.{has_page-list_any, list_any-has_page, AreBacked-with_bytes}
+use Rattle.checkpoint.proofs.Public.{has_page-list_any, list_any-has_page, Holds-with_page, AreBacked-with_bytes, AreBacked-with_page, AreBacked-with_copy, AreBacked-without_frame}
 use Rattle.fault.specs.Fault.{is_in_memory}
-use Rattle.machine.specs.State.{State}
-use Rattle.machine.specs.Rules.{with_hardware}
+use Rattle.machine.specs.State.{State, length_of, home_of, cut_at_end, page_from}
+use Rattle.machine.specs.Rules.{with_hardware, MayLeave}
 use Rattle.machine.specs.Durability.{IsInFile}
-use Rattle.machine.specs.inside.Sound.{IsMemory, IsSound}
+use Rattle.machine.specs.inside.Sound.{IsMemory, IsMemorySound, IsSound}
 use Rattle.machine.proofs.sound.Lists.{held_frame, same_some, once_frames, once_copies, memory_from, AreOnce-set}
-use Rattle.machine.proofs.sound.Groups.{write_outs_moved, prepared_moved}
+use Rattle.machine.proofs.sound.Admitted.{unlocked}
+use Rattle.machine.proofs.sound.Groups.{write_outs_moved, write_outs_kept, prepared_moved}
+use Rattle.machine.proofs.sound.Ended.{frozen_has_block}
 
 -- ---- pages in memory
 
@@ -119,3 +129,131 @@ bytes_sound s frame at bytes within sound =
     (λ k owner holds. page_of-with_bytes memory frame at bytes k ∙ holds)
     (λ k owner holds. sound.memory.in_files k owner (sym (page_of-with_bytes memory frame at bytes k) ∙ holds))
     (AreBacked-with_bytes memory s.checkpoint s.hardware.spaces frame at bytes sound.memory.backed) sound.memory.copied sound
+
+-- ---- a page that is read in
+
+-- it is a whole page
+pub length-cut_at_end : (s : State) (owner : FilePage) (bytes : List ℕ) → length bytes ≤ 4096 → length (cut_at_end s owner bytes) ≡ 4096
+length-cut_at_end s owner bytes few =
+    let kept = length_of s owner.file - 4096 * owner.page in
+    length-padded 4096 (take kept bytes) (omega (arith, few, length-take kept bytes))
+
+pub length-page_from : (s : State) (disk : List ℕ) (owner : FilePage) → length (page_from s disk owner) ≡ 4096
+length-page_from s disk owner =
+    length-cut_at_end s owner (block_at disk (home_of s.table owner)) (omega (arith, length-take 4096 (drop (4096 * home_of s.table owner) disk)))
+
+module _ (s : State) (frame : ℕ) (owner : FilePage) where
+  -- a page comes into a free frame
+  pub page_sound : (bytes : List ℕ) → IsInFile s owner → length bytes ≡ 4096 → is_in_memory s.hardware.memory owner ≡ false → slice_get s.hardware.memory.frames frame ≡ Some None → IsSound s
+      → IsSound (with_memory s (with_page s.hardware.memory frame owner bytes))
+  page_sound bytes in_file whole absent free sound =
+      let memory = s.hardware.memory in
+      let page : Frame = record { page = owner; bytes = bytes } in
+      let once = once_frames memory sound.memory.memory in
+      let its_bytes : (f : Frame) → Some page ≡ Some f → length f.bytes ≡ 4096 = λ f e. sym (ap (λ (x : Frame). length x.bytes) (same_some e)) ∙ whole in
+      let alone : (n : ℕ) (f g : Frame) → n ≢ frame → Some page ≡ Some f → get_or memory.frames n None ≡ Some g → f.page ≡ g.page → ⊥ = λ n f g other new old same.
+      false≢true (sym absent ∙ in_memory_held memory n owner (ap page_of old ∙ ap (λ (p : FilePage). Some p) (sym same ∙ sym (ap (λ (x : Frame). x.page) (same_some new))))) in
+      frames_sound s (with_page memory frame owner bytes) (memory_from (with_page memory frame owner bytes) (AreOnce-set memory.frames frame (Some page) once its_bytes alone) (once_copies memory sound.memory.memory))
+      (length-set memory.frames frame (Some page))
+      (λ k other holds. Holds-with_page memory frame owner bytes k other free holds)
+      (λ k other holds. ⊎_elim
+      (λ old. sound.memory.in_files k other (sym (ap page_of old) ∙ holds))
+      (λ new. subst (IsInFile s) (same_some (sym (ap page_of new.1) ∙ holds)) in_file)
+      (after_set memory.frames frame (Some page) k))
+      (AreBacked-with_page memory s.checkpoint s.hardware.spaces frame owner bytes free sound.memory.backed) sound.memory.copied sound
+
+  -- its bytes are copied, where it is held
+  pub copy_sound : (copy : ℕ) → Holds s.hardware.memory frame owner → is_held s.hardware.memory s.checkpoint owner ≡ true → slice_get s.hardware.memory.copies copy ≡ Some None → IsSound s
+      → IsSound (with_memory s (with_copy s.hardware.memory copy frame))
+  copy_sound copy holds held free sound =
+      let memory = s.hardware.memory in
+      let parts = and_parts (is_frozen s.checkpoint owner) (not (is_copied memory owner)) held in
+      let page_is : (f : Frame) → frame_at memory frame ≡ Some f → f.page ≡ owner = λ f at. same_some (sym (ap page_of at) ∙ holds) in
+      let alone : (n : ℕ) (f g : Frame) → n ≢ copy → frame_at memory frame ≡ Some f → get_or memory.copies n None ≡ Some g → f.page ≡ g.page → ⊥ = λ n f g other new old same.
+      false≢true (sym (not-true (is_copied memory owner) parts.1) ∙ list_any-has_page memory.copies owner n (ap page_of old ∙ ap (λ (p : FilePage). Some p) (sym same ∙ page_is f new))) in
+      frames_sound s (with_copy memory copy frame)
+      (memory_from (with_copy memory copy frame) (once_frames memory sound.memory.memory)
+      (AreOnce-set memory.copies copy (frame_at memory frame) (once_copies memory sound.memory.memory) ((once_frames memory sound.memory.memory).whole frame) alone))
+      refl (λ k other there. there) sound.memory.in_files
+      (AreBacked-with_copy memory s.checkpoint s.hardware.spaces copy frame free sound.memory.backed)
+      (λ k kept there. ⊎_elim
+      (λ old. sound.memory.copied k kept (sym old ∙ there))
+      (λ new. ap (is_frozen s.checkpoint) (page_is kept (sym new.1 ∙ there)) ∙ parts.0)
+      (after_set memory.copies copy (frame_at memory frame) k)) sound
+
+-- a frame that becomes free
+module _ (memory : FramesState) (frame : ℕ) where
+  -- no other loses its page
+  holds_before : (k : ℕ) (owner : FilePage) → Holds (without_frame memory frame) k owner → Holds memory k owner
+  holds_before k owner holds = ⊎_elim (λ old. sym (ap page_of old) ∙ holds) (λ new. absurd (let none = ap page_of new.1 in cc)) (after_set memory.frames frame None k)
+
+  holds_still : (k : ℕ) (owner : FilePage) → k ≢ frame → Holds memory k owner → Holds (without_frame memory frame) k owner
+  holds_still k owner other holds = ap page_of (get_or-set_other memory.frames frame k None None other) ∙ holds
+
+  pub IsMemory-without_frame : IsMemory memory → IsMemory (without_frame memory frame)
+  IsMemory-without_frame is =
+      memory_from (without_frame memory frame)
+      (AreOnce-set memory.frames frame None (once_frames memory is) (λ f e. absurd (cc)) (λ n f g other new old same. absurd (cc)))
+      (once_copies memory is)
+
+  -- another page than its own stays in memory
+  pub other_in_memory : (own other : FilePage) → Holds memory frame own → own ≢ other → is_in_memory memory other ≡ true → is_in_memory (without_frame memory frame) other ≡ true
+  other_in_memory own other holds differs there =
+      let held = held_in_memory memory other there in
+      ⊎_elim (λ same. absurd (differs (same_some (sym holds ∙ ap (λ k. page_of (frame_at memory k)) (sym same) ∙ held.1))))
+      (λ apart. in_memory_held (without_frame memory frame) held.0 other (holds_still held.0 other apart held.1)) (cases_eq held.0 frame)
+
+-- a page leaves memory, which no entry maps any more, while the lock is free
+pub dropped_sound : (s : State) (owner : FilePage) (frame : ℕ) → MayLeave s owner frame → ((pcid page : ℕ) (entry : Mapped) → entry_at s.hardware.spaces pcid page ≡ Some entry → entry.frame ≢ frame)
+    → s.hardware.shootdown.lock ≡ None → IsSound s → IsSound (with_memory s (without_frame s.hardware.memory frame))
+dropped_sound s owner frame leaves unmapped free sound =
+    let memory = s.hardware.memory in
+    let is = sound.memory in
+    record {
+      fits = sound.fits;
+      lengths = sound.lengths;
+      within = sound.within;
+      spaces = record {
+        spaces = sound.spaces.spaces;
+        shootdown = sound.spaces.shootdown;
+        coheres = sound.spaces.coheres;
+        current = sound.spaces.current;
+        in_table = sound.spaces.in_table;
+        prepared = λ lock held. unlocked s.hardware.shootdown.lock lock free held;
+      };
+      memory = record {
+        memory = IsMemory-without_frame memory frame is.memory;
+        few_frames = omega (arith, is.few_frames, length-set memory.frames frame (let none : Option Frame = None in none));
+        in_files = λ k page holds. let file = is.in_files k page (holds_before memory frame k page holds) in record { there = file.there; inside = file.inside };
+        backed = AreBacked-without_frame memory s.checkpoint s.hardware.spaces frame unmapped is.backed;
+        notes = is.notes ∙ sym (length-set memory.frames frame None);
+        noted = λ k noted.
+            let page = its_page (frame_at memory k) (is.noted k noted) in
+            ⊎_elim (λ same. absurd (leaves.clean (inl (ap (λ n. get_or s.checkpoint.notes n false) (sym same) ∙ noted))))
+            (λ other. in_use (frame_at (without_frame memory frame) k) page.0 (holds_still memory frame k page.0 other page.1)) (cases_eq k frame);
+        frozen = λ k d within.
+            let page = get_or s.checkpoint.frozen k d in
+            other_in_memory memory frame owner page leaves.held
+            (apart page (frozen_has_block s page sound.write_outs leaves.whole (Contains-get_or s.checkpoint.frozen k d within))) (is.frozen k d within);
+        rising = is.rising;
+        copied = is.copied;
+      };
+      write_outs = write_outs_kept s (record s.hardware { memory = without_frame memory frame }) s.checkpoint refl
+          (λ other has there. other_in_memory memory frame owner other leaves.held (apart other has) there) sound.write_outs;
+    }
+  where
+    -- its home block is in no batch
+    apart : (other : FilePage) → HasBlock s.write_outs (home_of s.table other) → owner ≢ other
+    apart other has same = leaves.written (subst (λ (o : FilePage). HasBlock s.write_outs (home_of s.table o)) (sym same) has)
+
+-- ---- notes
+
+-- notes that are taken of entries that go are of frames in use
+pub notes_in_use : (s : State) (checkpoint : CheckpointState) (taken : ℕ → ℕ → Type 0) → NotesTaken s.hardware.spaces taken s.checkpoint checkpoint → IsMemorySound s
+    → (frame : ℕ) → is_noted checkpoint frame ≡ true → IsSome (frame_at s.hardware.memory frame)
+notes_in_use s checkpoint taken noted is frame here = ⊎_elim
+    (λ before. is.noted frame before)
+    (λ has.
+    let held = (is.backed has.pcid has.page has.entry has.present).held in
+    subst (λ k. IsSome (frame_at s.hardware.memory k)) has.same_frame (in_use (frame_at s.hardware.memory has.entry.frame) _ held))
+    ((noted.noted frame).0 here)

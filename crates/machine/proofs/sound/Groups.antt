@@ -1,5 +1,6 @@
 -- The groups of facts of a sound machine by what they depend on, so that an act that leaves a group alone keeps it.
-use Rattle.std.proofs.Common.{ℕ, ◌≡◌, ◌+◌, ◌^◌, ◌<◌, true, false, length, map, get_or, Contains, Option, Some, refl, sym, ap, ◌∙◌, subst}
+use Rattle.std.proofs.Common.{ℕ, ◌≡◌, ◌+◌, ◌^◌, ◌<◌, true, false, length, map, get_or, Contains, Option, Some, IsSome, refl, sym, ap, ◌∙◌, subst}
+use Rattle.std.specs.List.{All, list_any}
 use Rattle.std.proofs.lemmas.List.Elements.{Contains-get_or}
 use Rattle.page_entry.specs.declared.numbers.FilePage.{FilePage}
 use Rattle.page_entry.specs.declared.refusal.Refusal.{Refusal}
@@ -9,12 +10,14 @@ use Rattle.volume_codec.specs.Super.{SuperValue}
 use Rattle.journal.specs.WriteOuts.{WriteOutsValue, is_busy, HasBlock}
 use Rattle.spaces.specs.declared.change.Change.{Change}
 use Rattle.spaces.specs.declared.change.Change.TheVariants.{Unmap, Protect, Reclaim, Checkpoint}
-use Rattle.spaces.specs.Spaces.{has_space, space_at}
+use Rattle.spaces.specs.Spaces.{Spaces, has_space, space_at}
 use Rattle.spaces.specs.Requests.{is_user_space}
 use Rattle.shootdown.specs.declared.lock.Lock.{Lock}
 use Rattle.shootdown.specs.Shootdown.{ShootdownState, IsShootdown, current}
 use Rattle.shootdown.specs.Coherence.{Coheres}
-use Rattle.checkpoint.specs.Checkpoint.{CheckpointState}
+use Rattle.checkpoint.specs.Checkpoint.{CheckpointState, is_noted, same_page, AreRising}
+use Rattle.checkpoint.specs.Backing.{AreBacked}
+use Rattle.frames.specs.Frames.{frame_at}
 use Rattle.fault.specs.Fault.{is_in_memory}
 use Rattle.cpu.specs.Access.{Hardware}
 use Rattle.machine.specs.State.{State, home_of}
@@ -31,20 +34,27 @@ refused_sound reason why s new rule sound = unchanged_sound s new rule.unchanged
 
 -- ---- frames
 
--- their facts don't depend on processors, write-outs and marks
-pub memory_same : (s : State) (shootdown : ShootdownState) (outs : WriteOutsValue) (marks : ℕ) → IsMemorySound s
-    → IsMemorySound (record s { hardware = record s.hardware { shootdown = shootdown }; write_outs = outs; marks = marks })
-memory_same s shootdown outs marks is = record {
+-- their facts depend on spaces and notes only by what entries and notes are of, and not on processors, write-outs, marks
+pub memory_beside : (s : State) (shootdown : ShootdownState) (spaces : Spaces) (checkpoint : CheckpointState) (outs : WriteOutsValue) (marks : ℕ)
+    → checkpoint.frozen ≡ s.checkpoint.frozen → length checkpoint.notes ≡ length s.checkpoint.notes
+    → ((frame : ℕ) → is_noted checkpoint frame ≡ true → IsSome (frame_at s.hardware.memory frame))
+    → AreBacked s.hardware.memory checkpoint spaces → IsMemorySound s
+    → IsMemorySound (record s { hardware = record s.hardware { shootdown = shootdown; spaces = spaces }; checkpoint = checkpoint; write_outs = outs; marks = marks })
+memory_beside s shootdown spaces checkpoint outs marks frozen notes noted backed is = record {
   memory = is.memory;
   few_frames = is.few_frames;
   in_files = λ frame owner holds. let file = is.in_files frame owner holds in record { there = file.there; inside = file.inside };
-  backed = is.backed;
-  notes = is.notes;
-  noted = is.noted;
-  frozen = is.frozen;
-  rising = is.rising;
-  copied = is.copied;
+  backed = backed;
+  notes = notes ∙ is.notes;
+  noted = noted;
+  frozen = subst (All (λ owner. is_in_memory s.hardware.memory owner ≡ true)) (sym frozen) is.frozen;
+  rising = subst AreRising (sym frozen) is.rising;
+  copied = λ copy kept there. ap (list_any (same_page kept.page)) frozen ∙ is.copied copy kept there;
 }
+
+pub memory_same : (s : State) (shootdown : ShootdownState) (outs : WriteOutsValue) (marks : ℕ) → IsMemorySound s
+    → IsMemorySound (record s { hardware = record s.hardware { shootdown = shootdown }; write_outs = outs; marks = marks })
+memory_same s shootdown outs marks is = memory_beside s shootdown s.hardware.spaces s.checkpoint outs marks refl refl is.noted is.backed is
 
 -- ---- write-outs
 

@@ -19,7 +19,7 @@ use Rattle.cpu.specs.Access.{IsReachable}
 use Rattle.machine.specs.State.{State, home_of}
 use Rattle.machine.specs.inside.Sound.{IsSound}
 use Rattle.machine.proofs.sound.Frames.{in_use}
-use Rattle.machine.proofs.sound.ByFix.{fault_place}
+use Rattle.machine.proofs.track.Faults.{led_to}
 use Rattle.machine.proofs.sound.Homes.{gathered_homes}
 use Rattle.machine.proofs.sound.ByMark.{gathered_there}
 
@@ -44,7 +44,7 @@ module _ (s : State) (sound : IsSound s) where
   -- a fault that leads to a place leads to a file of the table
   pub fault_file : (p va : ℕ) (write : Bool) (place : Place) → place_of_fault s.hardware.spaces (current_space s.hardware.shootdown p) va write ≡ Ok place → place.file < length s.table.files
   fault_file p va write place leads =
-      sound.spaces.in_table (current_space s.hardware.shootdown p) (va / 4096) place (fault_place s.hardware.spaces (current_space s.hardware.shootdown p) va write place leads)
+      sound.spaces.in_table (current_space s.hardware.shootdown p) (va / 4096) place (led_to s.hardware.spaces (current_space s.hardware.shootdown p) va write place leads).mapped
 
   -- the pages that a mark gathers make a batch, if there are any
   pub batch_homes : (noted : CheckpointState) (freezes : Bool) (pages : List FilePage) → Gathers s.hardware.spaces s.hardware.memory s.checkpoint noted freezes pages → 0 < length pages

@@ -1,5 +1,5 @@
 -- A served fault is served: the access that follows at once answers. From the rules alone.
-use Rattle.std.proofs.Common.{ℕ, ◌≡◌, ◌/◌, Bool, true, false, not, ◌&&◌, ◌||◌, cond, eqb, List, length, Option, Some, None, Result, Ok, Err, refl, sym, ap, ◌∙◌, subst, inl, inr}
+use Rattle.std.proofs.Common.{ℕ, ◌≡◌, ◌/◌, Bool, true, false, not, ◌&&◌, ◌||◌, cond, eqb, List, length, Option, Some, None, Result, Ok, Err, refl, sym, ap, ◌∙◌, subst, inl, inr, [], ◌∷◌}
 use Rattle.std.specs.List.{list_any}
 use Rattle.std.proofs.lemmas.Bool.{cond-true, and_from, and_right, eq-eqb, not_from_true, not_from_false, false≢true}
 use Rattle.std.proofs.lemmas.List.{get_or-set_same}
@@ -23,12 +23,17 @@ use Rattle.machine.specs.declared.act.Act.{Act}
 use Rattle.machine.specs.declared.act.Act.TheVariants as acts
 use Rattle.machine.specs.declared.act.Reply.{Reply}
 use Rattle.machine.specs.declared.act.Reply.TheVariants as replies
-use Rattle.machine.specs.State.{State}
-use Rattle.machine.specs.Rules.{Acts, FixMade, LoadAnswers, StoreAnswers}
-use Rattle.machine.specs.Laws.{IsAnswered, IsAccessOf}
+use Rattle.machine.specs.State.{State, Whole}
+use Rattle.machine.specs.Rules.{Acts, FixMade, LoadAnswers, StoreAnswers, Rules}
+use Rattle.machine.specs.Laws.{IsAnswered, IsAccessOf, ServesNext, FaultsAreServed}
 use Rattle.checkpoint.proofs.Public.{list_any-has_page}
 use Rattle.machine.proofs.track.Faults.{led_to}
 use Rattle.machine.proofs.sound.Admitted.{both_none, free_of}
+use Rattle.device.specs.declared.device.Device.{Ghosts}
+use Rattle.volume_codec.specs.Files.{File}
+use Rattle.machine.specs.declared.act.Step.{Step}
+use Rattle.machine.specs.Told.{Told, tell}
+use Rattle.machine.specs.Crashes.{StepIsSafe, Throughout}
 
 -- ---- a page that has an entry which allows the access is reached
 
@@ -162,3 +167,27 @@ module _ (s : State) (disk : List ℕ) (p va : ℕ) (write : Bool) (new : State)
 pub access_answers : (s : State) (disk : List ℕ) (p va : ℕ) (write : Bool) (mid : State) (between : List ℕ) (act : Act) (reply : Reply) (new : State) (disk' : List ℕ)
     → FixMade s disk p va write mid → IsAccessOf va write act → Acts mid between p act reply new disk' → IsAnswered act reply
 access_answers s disk p va write mid between act reply new disk' made access rule = answers mid between p va write new disk' (ready_after_fix s disk p va write mid made) act reply access rule
+
+-- ---- of every run, each served fault is served: the same processor's access of its page that follows at once answer
+
+module _ {D : Type 0} (disk : Ghosts D) (files : List File) where
+  -- over an honest device the rules hold of its own bytes
+  abbrev RuleOf : Whole D → Step → Reply → Whole D → Type 0
+  RuleOf old step reply new = Rules old.state (disk.seen old.device) step reply new.state (disk.seen new.device)
+
+  rule_of : (told : Told) (old : Whole D) (step : Step) (reply : Reply) (new : Whole D) → StepIsSafe disk files told old step reply new → RuleOf old step reply new
+  rule_of told old step reply new safe = (safe.taken.made safe.honest).answered
+
+  serves_through : (told : Told) (s : State) (bytes : List ℕ) (p : ℕ) (act : Act) (reply : Reply) (mid : Whole D) (steps : List Step) (replies : List Reply) (new : Whole D)
+      → Acts s bytes p act reply mid.state (disk.seen mid.device) → Throughout (StepIsSafe disk files) told mid steps replies new → ServesNext p act reply steps replies
+  serves_through told s bytes p (acts.Fix va write) replies.Fixed mid (next ∷ steps) (reply ∷ rest) new rule run =
+      λ same access.
+      access_answers s bytes p va write mid.state (disk.seen mid.device) next.act reply run.0.state (disk.seen run.0.device) rule.0 access
+      (subst (λ q. Acts mid.state (disk.seen mid.device) q next.act reply run.0.state (disk.seen run.0.device)) same (rule_of told mid next reply run.0 run.1))
+  serves_through told s bytes p act reply mid steps rest new rule run = tt
+
+  pub served_throughout : (told : Told) (old : Whole D) (steps : List Step) (replies : List Reply) (new : Whole D) → Throughout (StepIsSafe disk files) told old steps replies new → FaultsAreServed steps replies
+  served_throughout told old [] replies new run = tt
+  served_throughout told old (step ∷ steps) [] new run = tt
+  served_throughout told old (step ∷ steps) (reply ∷ rest) new run =
+      (serves_through (tell told step reply) old.state (disk.seen old.device) step.p step.act reply run.0 steps rest new (rule_of told old step reply run.0 run.1) run.2, served_throughout (tell told step reply) run.0 steps rest new run.2)

@@ -1,0 +1,7 @@
+pub mod Accesses
+pub mod Processors
+pub mod Begun
+pub mod Spaces
+pub mod Changes
+pub mod Faults
+pub mod All

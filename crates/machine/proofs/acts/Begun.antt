@@ -1,0 +1,65 @@
+-- The moves of changes that begin.
+use Rattle.std.proofs.Common.{ℕ, ◌≡◌, ◌+◌, ◌-◌, ◌<◌, ◌^◌, ◌||◌, not, leb, true, false, List, [], ◌∷◌, length, Some, None, Ok, refl, arith}
+use Rattle.std.proofs.lemmas.Bool.{or_parts, leb-false}
+use Rattle.mappings.specs.declared.place.Rights.{Rights}
+use Rattle.mappings.specs.declared.page_range.PageRange.{PageRange}
+use Rattle.page_entry.specs.declared.numbers.FilePage.{FilePage}
+use Rattle.page_entry.specs.declared.refusal.Refusal.TheVariants as refusals
+use Rattle.journal.specs.WriteOuts.{is_busy}
+use Rattle.spaces.specs.declared.change.Change.{Change}
+use Rattle.spaces.specs.declared.change.Change.TheVariants as changes
+use Rattle.spaces.specs.Requests.{maps_each, judged_range, judged_protection}
+use Rattle.spaces.proofs.Public.{judged_range-ok, judged_protection-ok}
+use Rattle.shootdown.specs.Shootdown.{not_free, current}
+use Rattle.fault.specs.Fault.{is_in_memory}
+use Rattle.machine.specs.State.{State}
+use Rattle.machine.specs.Refusals.{refuse_if, why_not, pages_in_file, is_msync, unmap_refusal, protect_refusal_of, reclaim_refusal, msync_refusal}
+use Rattle.machine.specs.Rules.{begin_change}
+use Rattle.machine.specs.inside.Sound.{IsPrepared, IsSound}
+use Rattle.machine.specs.inside.Tracking.{pending_in}
+use Rattle.machine.specs.inside.Moves.{Beginning, Move, Begin}
+use Rattle.machine.proofs.sound.Admitted.{first_none, refuse_none}
+
+module _ {disk : List ℕ} (s : State) (p : ℕ) {new : State} where
+  begins : (change : Change) → not_free s.hardware.shootdown p ≡ None → IsPrepared s change → (change ≡ changes.Checkpoint → s.write_outs.broken ≡ false)
+      → new ≡ begin_change s p change → Move disk s (Beginning p (pending_in (Some change))) new
+  begins change free prepared whole is =
+      Begin (record { p = p; change = change; free = free; prepared = prepared; whole = whole; says_is = refl; done = is })
+
+  pub unmap_moves : (pcid va len : ℕ) (range : PageRange) → unmap_refusal s p pcid va len ≡ None → judged_range s.hardware.spaces pcid va len ≡ Ok range
+      → new ≡ begin_change s p (changes.Unmap pcid range) → Move disk s (Beginning p (pending_in (Some (changes.Unmap pcid range)))) new
+  unmap_moves pcid va len range none judged is =
+      begins (changes.Unmap pcid range) (first_none (not_free s.hardware.shootdown p) (why_not (judged_range s.hardware.spaces pcid va len) ∷ []) none).0
+      (judged_range-ok s.hardware.spaces pcid va len range judged) (λ e. cc) is
+
+  pub protect_moves : (pcid va len : ℕ) (prot : Rights) (range : PageRange) → protect_refusal_of s p pcid va len prot ≡ None → judged_protection s.hardware.spaces pcid va len prot ≡ Ok range
+      → new ≡ begin_change s p (changes.Protect pcid range prot) → Move disk s (Beginning p (pending_in (Some (changes.Protect pcid range prot)))) new
+  protect_moves pcid va len prot range none judged is =
+      let fit = judged_protection-ok s.hardware.spaces pcid va len prot range judged in
+      let user = judged_range-ok s.hardware.spaces pcid va len range fit.0 in
+      begins (changes.Protect pcid range prot) (first_none (not_free s.hardware.shootdown p) (why_not (judged_protection s.hardware.spaces pcid va len prot) ∷ []) none).0
+      (user.0, user.1, fit.1) (λ e. cc) is
+
+  pub reclaim_moves : (owner : FilePage) → reclaim_refusal s p owner ≡ None → is_in_memory s.hardware.memory owner ≡ true
+      → new ≡ begin_change s p (changes.Reclaim owner) → Move disk s (Beginning p None) new
+  reclaim_moves owner none there is =
+      let no_file = refuse_if (leb (length s.table.files) owner.file) refusals.NoFile in
+      let no_page = refuse_if (leb (pages_in_file s.table.files owner.file) owner.page) refusals.Einval in
+      let parts = first_none (not_free s.hardware.shootdown p) (no_file ∷ no_page ∷ []) none in
+      let two = first_none no_file (no_page ∷ []) parts.1 in
+      let file = leb-false (length s.table.files) owner.file (refuse_none (leb (length s.table.files) owner.file) refusals.NoFile two.0) in
+      let page = leb-false (pages_in_file s.table.files owner.file) owner.page (refuse_none (leb (pages_in_file s.table.files owner.file) owner.page) refusals.Einval (first_none no_page [] two.1).0) in
+      begins (changes.Reclaim owner) parts.0 (file, page, there) (λ e. cc) is
+
+  pub msync_moves : (va len flags : ℕ) → msync_refusal s p va len flags ≡ None → new ≡ begin_change s p changes.Checkpoint → Move disk s (Beginning p None) new
+  msync_moves va len flags none is =
+      let invalid = refuse_if (not (is_msync va len flags)) refusals.Einval in
+      let unmapped = refuse_if (not (maps_each s.hardware.spaces (current s.hardware.shootdown p) va len)) refusals.Enomem in
+      let broken = refuse_if s.write_outs.broken refusals.Broken in
+      let is_full = is_busy s.write_outs || leb (2 ^ 32 - 1) s.marks in
+      let busy = refuse_if is_full refusals.Busy in
+      let parts = first_none (not_free s.hardware.shootdown p) (invalid ∷ unmapped ∷ broken ∷ busy ∷ []) none in
+      let later = first_none broken (busy ∷ []) (first_none unmapped (broken ∷ busy ∷ []) (first_none invalid (unmapped ∷ broken ∷ busy ∷ []) parts.1).1).1 in
+      let two = or_parts (is_busy s.write_outs) (leb (2 ^ 32 - 1) s.marks) (refuse_none is_full refusals.Busy (first_none busy [] later.1).0) in
+      let few : s.marks + 1 < 2 ^ 32 = omega (arith, leb-false (2 ^ 32 - 1) s.marks two.1) in
+      begins changes.Checkpoint parts.0 (few, λ whole. two.0) (λ e. refuse_none s.write_outs.broken refusals.Broken later.0) is

@@ -1,0 +1,4 @@
+pub mod Silent
+pub mod Dirty
+pub mod Entries
+pub mod Kept
