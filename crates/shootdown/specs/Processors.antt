@@ -4,7 +4,7 @@
 use Rattle.std.specs.Prelude.{ℕ, ◌≡◌, ◌<◌, ◌≤◌, ◌+◌, ◌==◌, ◌&&◌, ◌||◌, not, nat_lt, Bool, true, false, List, [], ◌∷◌, ◌++◌, length, fold, replicate, slice_set, slice_index_or, if◌then◌else◌}
 use Rattle.std.specs.List.{list_any, All}
 use Rattle.pcid_tlb.specs.declared.Invpcid.{Invpcid}
-use Rattle.pcid_tlb.specs.declared.Invpcid.TheVariants.{IndividualAddress, SingleContext, AllContextsAndGlobals, AllContexts}
+use Rattle.pcid_tlb.specs.declared.Invpcid.TheVariants.{IndividualAddress, SingleContext, AllContexts}
 use Rattle.pcid_tlb.specs.Tlb.{TlbState, keep_entries, cr3_loaded, IsTlb}
 use Rattle.shootdown.specs.declared.proc_state.ProcState.{ProcState}
 use Rattle.shootdown.specs.declared.proc_state.ProcState.TheVariants.{Active, Interrupted}
@@ -48,23 +48,20 @@ is_running Active = true
 is_running Interrupted = true
 is_running _ = false
 
--- whether an invalidation drops the entry of a page of a PCID
-abbrev pub drops_page : Invpcid → ℕ → ℕ → Bool
-drops_page (IndividualAddress pcid page) q other = q == pcid && other == page
-drops_page (SingleContext pcid) q other = q == pcid
-drops_page AllContextsAndGlobals q other = true
-drops_page AllContexts q other = true
-
--- whether one of these invalidations drops it
-abbrev pub queue_drops : List Invpcid → ℕ → ℕ → Bool
-queue_drops queue pcid page = list_any (λ a. drops_page a pcid page) queue
-
 -- whether an invalidation drops every entry of a PCID
 abbrev pub drops_pcid : Invpcid → ℕ → Bool
 drops_pcid (IndividualAddress pcid page) q = false
 drops_pcid (SingleContext pcid) q = q == pcid
-drops_pcid AllContextsAndGlobals q = true
-drops_pcid AllContexts q = true
+drops_pcid _ q = true
+
+-- whether an invalidation drops the entry of a page of a PCID
+abbrev pub drops_page : Invpcid → ℕ → ℕ → Bool
+drops_page (IndividualAddress pcid page) q other = q == pcid && other == page
+drops_page a q other = drops_pcid a q
+
+-- whether one of these invalidations drops it
+abbrev pub queue_drops : List Invpcid → ℕ → ℕ → Bool
+queue_drops queue pcid page = list_any (λ a. drops_page a pcid page) queue
 
 -- of these flags, counted from PCID i on: those stay that pass
 abbrev pub flags_kept : (ℕ → Bool) → ℕ → List Bool → List Bool
@@ -88,8 +85,7 @@ queued queue a = if nat_lt (length queue) queue_len then queue ++ a ∷ [] else 
 abbrev pub is_concerned : Processor → Invpcid → Bool
 is_concerned p (IndividualAddress pcid page) = slice_index_or p.may_cache pcid false
 is_concerned p (SingleContext pcid) = slice_index_or p.may_cache pcid false
-is_concerned p AllContextsAndGlobals = true
-is_concerned p AllContexts = true
+is_concerned p _ = true
 
 -- the processor is told of an invalidation: it goes to whoever may cache what it drops, whatever space is current
 abbrev pub told : Processor → Invpcid → Processor

@@ -1,9 +1,9 @@
 -- Notes of the dirty entries of spaces, slot by slot.
-use Rattle.std.proofs.Common.{◌≡◌, ◌≢◌, ◌⊎◌, ◌↔◌, ℕ, ◌+◌, ◌<◌, ◌≤◌, Bool, true, false, List, length, get_or, Option, Some, None, refl, sym, ap, ◌∙◌, subst, inl, inr, ⊎_elim, arith}
-use Rattle.std.proofs.lemmas.Bool.{cases_lt, cases_eq}
+use Rattle.std.proofs.Common.{◌≡◌, ◌⊎◌, ◌↔◌, ℕ, ◌+◌, ◌<◌, Bool, true, false, List, length, get_or, Option, Some, None, refl, sym, ap, ◌∙◌, subst, inl, inr, ⊎_elim, arith}
+use Rattle.std.proofs.lemmas.Bool.{cases_lt}
 use Rattle.std.specs.FinMap as maps
 use Rattle.page_entry.specs.Entry.{Mapped}
-use Rattle.spaces.specs.Spaces.{AddressSpace, SpacesState, has_space, entry_at}
+use Rattle.spaces.specs.Spaces.{AddressSpace, SpacesState, entry_at}
 use Rattle.spaces.specs.inside.Slots.{SpaceState, slot_at, spaces_of, MapsDirty, NotesSlot, NotesSlots, AreBelow}
 use Rattle.spaces.proofs.SpacesLaws.{get-empty_entries}
 use Rattle.spaces.proofs.SlotsLemmas.{found_in_slot, missing_in_slot, slot_at-past}

@@ -1,5 +1,5 @@
-use Rattle.std.proofs.Common.{◌≡◌, ◌<◌, true, false, List, Bool, length, replicate, set, get_or, sym, ap, ◌∙◌, arith}
-use Rattle.std.proofs.lemmas.Bool.{both_ways, ltb-true}
+use Rattle.std.proofs.Common.{◌≡◌, true, false, List, Bool, length, replicate, set, sym, ap, ◌∙◌, arith}
+use Rattle.std.proofs.lemmas.Bool.{ltb-true}
 use Rattle.std.proofs.lemmas.List.{get_or_past}
 use Rattle.shootdown.proofs.Flags.{cleared-set, cleared-clear}
 use Rattle.shootdown.proofs.processor.clear_others.Goals.{then-pcid-flags, else-pcid-flags}

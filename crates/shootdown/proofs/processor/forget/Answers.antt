@@ -1,10 +1,7 @@
-use Rattle.std.proofs.Common.{◌≡◌, ◌==◌, ◌⊎◌, inl, inr, ℕ, ◌<◌, Bool, true, false, not, ◌||◌, ◌&&◌, eqb, List, refl, ap, ◌∙◌, arith, get_or, length}
+use Rattle.std.proofs.Common.{◌≡◌, Bool, true, false, ◌||◌, eqb, refl, arith}
 use Rattle.std.proofs.lemmas.Bool.{or_right}
 use Rattle.std.proofs.lemmas.Bool.Decides.{nat_tests}
-use Rattle.pcid_tlb.specs.declared.Invpcid.{Invpcid}
-use Rattle.pcid_tlb.specs.declared.Invpcid.TheVariants.{AllContextsAndGlobals, AllContexts}
-use Rattle.shootdown.specs.Processors.{flags_kept, drops_pcid}
-use Rattle.shootdown.proofs.Flags.{flags_kept_all, set-flags_kept, flags_kept-from_each}
+use Rattle.shootdown.proofs.Flags.{flags_kept_all, set-flags_kept}
 use Rattle.shootdown.proofs.processor.forget.Goals.{else-pcid-space-via-then-pcid-space+else-pcid-may_cache, else-pcid-space-via-else-pcid-space}
 use Rattle.shootdown.proofs.processor.forget.Goals as goal
 

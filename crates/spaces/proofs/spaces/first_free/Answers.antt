@@ -1,4 +1,4 @@
-use Rattle.std.proofs.Common.{◌≡◌, sym, subst}
+use Rattle.std.proofs.Common.{subst}
 use Rattle.page_table.specs.Bits.{IsFirstSet}
 use Rattle.spaces.proofs.Freed.{free_found, free_past}
 use Rattle.spaces.proofs.spaces.first_free.Goals as goal
