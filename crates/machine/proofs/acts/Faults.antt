@@ -13,7 +13,7 @@ use Rattle.spaces.specs.Changes.{Keeps}
 use Rattle.shootdown.specs.Shootdown.{current}
 use Rattle.checkpoint.specs.Checkpoint.{Holds, is_of_page, is_held, is_frozen}
 use Rattle.checkpoint.specs.Backing.{page_at}
-use Rattle.fault.specs.Fault.{copies_out, Brings, CopiesOut, fixed_entry}
+use Rattle.fault.specs.Fault.{is_in_memory, copies_out, Brings, CopiesOut, fixed_entry}
 use Rattle.fault.proofs.Public.{MayBe-fixed, Keeps-fixed}
 use Rattle.machine.specs.State.{State, length_of, page_from}
 use Rattle.machine.specs.Rules.{FixMade}
@@ -34,15 +34,15 @@ module _ (s : State) (disk : List ℕ) (sound : IsSound s) where
     moves : SilentMoves disk s (with_memory s memory)
     holds : Holds memory frame owner
 
-  brought : (owner : FilePage) (frame : ℕ) (mid : FramesState) → IsInFile s owner → Brings s.hardware.memory owner (page_from s disk owner) frame mid
+  brought : (owner : FilePage) (frame : ℕ) (mid : FramesState) → IsInFile s owner → (is_in_memory s.hardware.memory owner ≡ false → s.write_outs.broken ≡ false) → Brings s.hardware.memory owner (page_from s disk owner) frame mid
       → IsThere owner frame mid × (mid.copies ≡ s.hardware.memory.copies)
-  brought owner frame mid in_file (inl there) =
+  brought owner frame mid in_file whole (inl there) =
       subst (λ (m : FramesState). IsThere owner frame m × (m.copies ≡ s.hardware.memory.copies)) (sym there.1) (record { moves = no_moves refl; holds = there.0 }, refl)
-  brought owner frame mid in_file (inr read) =
+  brought owner frame mid in_file whole (inr read) =
       let page : Frame = record { page = owner; bytes = page_from s disk owner } in
       subst (λ (m : FramesState). IsThere owner frame m × (m.copies ≡ s.hardware.memory.copies)) (sym read.2) (
         record {
-          moves = one_move (Bring (record { owner = owner; frame = frame; in_file = in_file; absent = read.0; free = read.1; says_is = refl; done = refl }));
+          moves = one_move (Bring (record { owner = owner; frame = frame; in_file = in_file; absent = read.0; whole = whole read.0; free = read.1; says_is = refl; done = refl }));
           holds = ap page_of (get_or-set_same s.hardware.memory.frames frame (Some page) None (slice_get_within s.hardware.memory.frames frame None read.1));
         },
         refl,
@@ -71,7 +71,7 @@ module _ (s : State) (disk : List ℕ) (sound : IsSound s) where
       let may = servable h.memory c s.write_outs.broken made.place (length_of s made.place.file) write (served_at_fix s p va write made.place made.allowed made.leads) in
       let free = (free_below h.shootdown p (free_of s p _ made.allowed)).1 in
       let in_file : IsInFile s owner = record { there = sound.spaces.in_table pcid page made.place mapped; inside = may.inside } in
-      let half = brought owner served.frame served.mid in_file served.brought in
+      let half = brought owner served.frame served.mid in_file may.absent served.brought in
       let held : copies_out h.memory c owner write ≡ true → is_held served.mid c owner ≡ true = λ copies.
       ap (λ (copies : List (Option Frame)). is_frozen c owner && not (list_any (is_of_page owner) copies)) half.1 ∙ (and_parts write (is_held h.memory c owner) copies).1 in
       let now = copied (copies_out h.memory c owner write) owner served.frame served.mid made.memory half.0 held served.copied in

@@ -200,6 +200,8 @@ pub record BringsPage (disk : List ℕ) (s : State) (says : Saying) (new : State
   pub frame : ℕ
   pub in_file : IsInFile s owner
   pub absent : is_in_memory s.hardware.memory owner ≡ false
+  -- a broken machine reads none
+  pub whole : s.write_outs.broken ≡ false
   pub free : slice_get s.hardware.memory.frames frame ≡ Some None
   pub says_is : says ≡ Silent
   pub done : new ≡ with_hardware s
