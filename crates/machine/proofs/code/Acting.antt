@@ -1,27 +1,14 @@
 -- An act that leaves the device alone, as one act of the layers.
-use Rattle.std.proofs.Common.{ℕ, ◌≡◌, ◌≢◌, ◌+◌, ◌-◌, ◌^◌, ◌<◌, Bool, true, false, not, ◌&&◌, cond, List, [], length, Result, Ok, Err, is_err, is_none, refl, sym, ap, ◌∙◌, subst, arith}
-use Rattle.device.specs.Count.{raised}
-use Rattle.device.specs.Device.{LeavesOnly}
-use Rattle.device.specs.declared.device.Device.{Ghosts}
-use Rattle.device.specs.Did.{Did}
-use Rattle.device.proofs.Public.{leaves_at_start}
-use Rattle.page_entry.specs.declared.refusal.Refusal.{Refusal}
+use Rattle.machine.proofs.Names.{ℕ, ◌≡◌, ◌≢◌, ◌+◌, ◌-◌, ◌^◌, ◌<◌, Bool, true, false, not, ◌&&◌, cond, List, [], length}
+use Rattle.machine.proofs.Names.{Result, Ok, Err, is_err, is_none, refl, sym, ap, ◌∙◌, subst, arith, raised, LeavesOnly}
+use Rattle.machine.proofs.Names.{Ghosts, Did, leaves_at_start, Refusal, Work, WriteAt, CopyBlock, Sync, Nothing}
+use Rattle.machine.proofs.Names.{TornFromWork, calls_of, ReadsOnce, Act, Reply, Step, Layers, State, fix_refusal, Acts}
+use Rattle.machine.proofs.Names.{Fixes, Flushes, work_asked, CallsOf, FixCalls, FlushCalls, reads_page, has_failed}
+use Rattle.machine.proofs.Names.{step_work, state_in, AnswersBy, KeepsReserved, IsQuiet, ActDone}
 use Rattle.page_entry.specs.declared.refusal.Refusal.TheVariants as refusals
-use Rattle.journal.specs.Work.{Work, WriteAt, CopyBlock, Sync, Nothing, TornFromWork, calls_of}
-use Rattle.fault.specs.Fixing.{ReadsOnce}
-use Rattle.machine.specs.declared.act.Act.{Act}
 use Rattle.machine.specs.declared.act.Act.TheVariants as acts
-use Rattle.machine.specs.declared.act.Reply.{Reply}
 use Rattle.machine.specs.declared.act.Reply.TheVariants as replies
-use Rattle.machine.specs.declared.act.Step.{Step}
-use Rattle.machine.specs.declared.layers.Layers.{Layers}
-use Rattle.machine.specs.State.{State}
-use Rattle.machine.specs.Refusals.{fix_refusal}
-use Rattle.machine.specs.Rules.{Acts, Fixes, Flushes, work_asked}
-use Rattle.machine.specs.Calls.{CallsOf, FixCalls, FlushCalls, reads_page, has_failed}
-use Rattle.machine.specs.Steps.{step_work}
-use Rattle.machine.specs.inside.Layers.{state_in, reply_to, AnswersBy, KeepsReserved, IsQuiet}
-use Rattle.machine.specs.inside.Acting.{ActDone}
+use Rattle.machine.specs.inside.Layers.{reply_to}
 
 -- the laws of a device that these lemmas rest on
 abbrev pub SinceNow : {D : Type 0} → Ghosts D → Type 0

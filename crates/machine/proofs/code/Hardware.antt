@@ -1,12 +1,7 @@
 -- Loads, stores, fills and evictions leave the lock as it is.
-use Rattle.std.proofs.Common.{ℕ, ◌≡◌, Bool, Option, Some, None, Result, Ok, Err, refl, ap, ◌∙◌, subst}
-use Rattle.page_entry.specs.declared.refusal.Refusal.{Refusal}
-use Rattle.page_entry.specs.Entry.{Mapped}
-use Rattle.spaces.specs.Spaces.{entry_at}
-use Rattle.shootdown.specs.Shootdown.{current}
-use Rattle.cpu.specs.Access.{Hardware, Fills, Evicts, filled_by}
-use Rattle.machine.specs.State.{State}
-use Rattle.machine.specs.Rules.{Reaches, with_hardware}
+use Rattle.machine.proofs.Names.{ℕ, ◌≡◌, Bool, Option, Some, None, Result, Ok, Err, refl, ap, ◌∙◌, subst, Refusal}
+use Rattle.machine.proofs.Names.{Mapped, entry_at, current, Hardware, Fills, Evicts, filled_by, State, Reaches}
+use Rattle.machine.proofs.Names.{with_hardware}
 
 lock-filled_by : (h : Hardware) (p page : ℕ) (entry : Option Mapped) → (filled_by h p page entry).1.shootdown.lock ≡ h.shootdown.lock
 lock-filled_by h p page None = refl

@@ -1,10 +1,6 @@
 -- What is reserved for a change that is under way stays reserved.
-use Rattle.std.proofs.Common.{ℕ, ◌≡◌, Option, Some, None, sym, ◌∙◌, subst}
-use Rattle.mappings.specs.declared.place.Rights.{Rights}
-use Rattle.mappings.specs.declared.page_range.PageRange.{PageRange}
-use Rattle.shootdown.specs.declared.lock.Lock.{Lock}
-use Rattle.machine.specs.declared.layers.Layers.{Layers}
-use Rattle.machine.specs.inside.Layers.{IsReserved, AreReserved, IsQuiet}
+use Rattle.machine.proofs.Names.{ℕ, ◌≡◌, Option, Some, None, sym, ◌∙◌, subst, Rights, PageRange, Lock, Layers}
+use Rattle.machine.proofs.Names.{IsReserved, AreReserved, IsQuiet}
 
 same_lock : {a b : Lock} → Some a ≡ Some b → a ≡ b
 same_lock e = cc

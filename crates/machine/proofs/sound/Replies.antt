@@ -1,33 +1,20 @@
 -- No step is answered that a trace is full, which a machine alone never is, and only those that want memory are answered
 -- that there is none.
-use Rattle.std.proofs.Common.{ℕ, ◌≡◌, ◌≢◌, ◌-◌, ◌*◌, ◌/◌, ◌%◌, ◌^◌, ◌==◌, ◌&&◌, ◌||◌, not, nat_le, Bool, true, false, cond, List, [], ◌∷◌, length, Option, Some, None, Result, Ok, Err, refl, ap, ◌∙◌, sym, subst}
-use Rattle.std.specs.Option.{option_or}
-use Rattle.std.proofs.lemmas.Bool.{false≢true}
-use Rattle.page_entry.specs.declared.refusal.Refusal.{Refusal}
+use Rattle.machine.proofs.Names.{ℕ, ◌≡◌, ◌≢◌, ◌-◌, ◌*◌, ◌/◌, ◌%◌, ◌^◌, ◌==◌, ◌&&◌, ◌||◌, not, nat_le, Bool, true, false}
+use Rattle.machine.proofs.Names.{cond, List, [], ◌∷◌, length, Option, Some, None, Result, Ok, Err, refl, ap, ◌∙◌, sym}
+use Rattle.machine.proofs.Names.{subst, option_or, false≢true, Refusal, Place, Rights, PageRange, Places, may_write}
+use Rattle.machine.proofs.Names.{allows, any_mapped, all_mapped, any_forbids, pages_holding, is_user_range, is_mappable}
+use Rattle.machine.proofs.Names.{range_of_bytes, mapped_pages_of, add_refusal, protect_refusal, Spaces, space_at}
+use Rattle.machine.proofs.Names.{place_at, is_user_space, judged_range, judged_mapping, unless, allowed, maps_each}
+use Rattle.machine.proofs.Names.{is_busy, Lock, ProcState, ShootdownState, is_current, current, not_running, not_free}
+use Rattle.machine.proofs.Names.{interrupted, not_there, is_stalled, is_idle, wait_refusal, lock_refusal}
+use Rattle.machine.proofs.Names.{destroy_refusal, has_free, page_at, allowed_place, place_of_fault, is_in_memory}
+use Rattle.machine.proofs.Names.{copies_out, Act, Reply, Step, State, length_of, refuse_if, first_of, why_not}
+use Rattle.machine.proofs.Names.{pages_in_file, is_msync, mapping_refusal, served_refusal, IsRefused, WantsMemory, Acts}
+use Rattle.machine.proofs.Names.{Rules}
 use Rattle.page_entry.specs.declared.refusal.Refusal.TheVariants as refusals
-use Rattle.mappings.specs.declared.place.Place.{Place}
-use Rattle.mappings.specs.declared.place.Rights.{Rights}
-use Rattle.mappings.specs.declared.page_range.PageRange.{PageRange}
-use Rattle.mappings.specs.Places.{Places, may_write, allows, any_mapped, all_mapped, any_forbids}
-use Rattle.mappings.specs.Judgement.{pages_holding, is_user_range, is_mappable, range_of_bytes, mapped_pages_of, add_refusal, protect_refusal}
-use Rattle.spaces.specs.Spaces.{Spaces, space_at, place_at}
-use Rattle.spaces.specs.Requests.{is_user_space, judged_range, judged_mapping, unless, allowed, maps_each}
-use Rattle.journal.specs.WriteOuts.{is_busy}
-use Rattle.shootdown.specs.declared.lock.Lock.{Lock}
-use Rattle.shootdown.specs.declared.proc_state.ProcState.{ProcState}
-use Rattle.shootdown.specs.Shootdown.{ShootdownState, is_current, current, not_running, not_free, interrupted}
-use Rattle.shootdown.specs.Calls.{not_there, is_stalled, is_idle, wait_refusal, lock_refusal, destroy_refusal}
-use Rattle.frames.specs.Frames.{has_free}
-use Rattle.checkpoint.specs.Backing.{page_at}
-use Rattle.fault.specs.Fault.{allowed_place, place_of_fault, is_in_memory, copies_out}
-use Rattle.machine.specs.declared.act.Act.{Act}
 use Rattle.machine.specs.declared.act.Act.TheVariants as acts
-use Rattle.machine.specs.declared.act.Reply.{Reply}
 use Rattle.machine.specs.declared.act.Reply.TheVariants as replies
-use Rattle.machine.specs.declared.act.Step.{Step}
-use Rattle.machine.specs.State.{State, length_of}
-use Rattle.machine.specs.Refusals.{refuse_if, first_of, why_not, pages_in_file, is_msync, mapping_refusal, served_refusal}
-use Rattle.machine.specs.Rules.{IsRefused, WantsMemory, Acts, Rules}
 
 -- ---- reasons that aren't these two
 
@@ -192,7 +179,7 @@ module _ (s : State) (disk : List ℕ) (p : ℕ) (new : State) (disk' : List ℕ
       refused_wanting (last_fine _ (mapping_fine s space file prot access _ (judged_fine s.hardware.spaces space va len offset)))
   sparing (acts.Unmap space va len) = refused_wanting (last_fine _ (range_fine s.hardware.spaces space va len))
   sparing (acts.Protect space va len prot) = refused_wanting (last_fine _ (protection_fine s.hardware.spaces space prot _ (range_fine s.hardware.spaces space va len)))
-  sparing (acts.Reclaim file page) = 
+  sparing (acts.Reclaim file page) =
       refused_for (then_fine _ (refuse_fine (nat_le (length s.table.files) file) refusals.NoFile _ refl
       (refuse_fine (nat_le (pages_in_file s.table.files file) page) refusals.Einval None refl no_reason)))
   sparing (acts.Msync va len flags) =

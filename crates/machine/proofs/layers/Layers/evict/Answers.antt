@@ -1,7 +1,4 @@
-use Rattle.std.proofs.Common.{Ok, true, false, refl}
-use Rattle.std.proofs.lemmas.Result.{err_from_is_err_and}
-use Rattle.cpu.specs.Access.{hardware, Evicts}
-use Rattle.machine.specs.inside.Layers.{state_in}
+use Rattle.machine.proofs.Names.{Ok, true, false, refl, err_from_is_err_and, hardware, Evicts, state_in}
 use Rattle.machine.proofs.code.Reserved.{quiet_same}
 use Rattle.machine.proofs.code.Hardware.{answered_so, lock-evicts}
 use Rattle.machine.proofs.layers.Layers.evict.Goals as goal

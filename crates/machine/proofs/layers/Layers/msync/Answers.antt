@@ -1,5 +1,4 @@
-use Rattle.std.proofs.Common.{refl, ap}
-use Rattle.shootdown.specs.Shootdown.{ShootdownState}
+use Rattle.machine.proofs.Names.{refl, ap, ShootdownState}
 use Rattle.machine.proofs.code.Reserved.{quiet_begun}
 use Rattle.machine.proofs.layers.Layers.msync.Goals as goal
 

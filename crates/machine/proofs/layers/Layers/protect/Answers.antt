@@ -1,6 +1,4 @@
-use Rattle.std.proofs.Common.{refl, ap}
-use Rattle.spaces.specs.Spaces.{SpacesState}
-use Rattle.shootdown.specs.Shootdown.{ShootdownState}
+use Rattle.machine.proofs.Names.{refl, ap, SpacesState, ShootdownState}
 use Rattle.machine.proofs.code.Reserved.{quiet_begun}
 use Rattle.machine.proofs.layers.Layers.protect.Goals as goal
 

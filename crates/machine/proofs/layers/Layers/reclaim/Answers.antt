@@ -1,7 +1,4 @@
-use Rattle.std.proofs.Common.{refl, ap, ◌∙◌, arith}
-use Rattle.shootdown.specs.Shootdown.{ShootdownState}
-use Rattle.machine.specs.Rules.{with_shootdown}
-use Rattle.machine.specs.inside.Layers.{state_in}
+use Rattle.machine.proofs.Names.{refl, ap, ◌∙◌, arith, ShootdownState, with_shootdown, state_in}
 use Rattle.machine.proofs.code.Reserved.{quiet_begun}
 use Rattle.machine.proofs.code.Reclaims.{reclaim-past, reclaim-allowed}
 use Rattle.machine.proofs.code.InMemory.{in_memory-found}
