@@ -22,9 +22,8 @@ use Rattle.machine.specs.inside.Sound.{IsSound}
 use Rattle.machine.specs.Told.{Told}
 use Rattle.machine.specs.inside.Tracking.{change_in, HasParts, AreContentsOf, HasAcknowledged, IsLost, IsWaiting, AreMarks, IsWritten, IsLatest, AreTouched}
 use Rattle.machine.specs.Durability.{IsInFile, within_file}
-use Rattle.machine.proofs.durable.Histories.{marked_by, after_mark, after_marked, only_itself, only_marked, unmarked_by_touched, in_history, acknowledged_more, some_touched}
+use Rattle.machine.proofs.durable.Histories.{marked_by, after_mark, after_marked, only_itself, only_marked, unmarked_by_touched, in_history, acknowledged_more, some_touched, contents_more}
 use Rattle.machine.proofs.durable.Uncommitted.{committed_frozen, none_uncommitted, begun_early}
-use Rattle.machine.proofs.durable.Leaves.{contents_more}
 use Rattle.machine.proofs.durable.Homes.{within_cut, overlaid, overlaid-other, overlaid-at, overlaid-elsewhere, bytes_at_mark-held}
 
 -- what the device recovers to goes with what is told

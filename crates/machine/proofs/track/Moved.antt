@@ -25,8 +25,7 @@ use Rattle.machine.specs.inside.Tracking.{IsTracked, change_in}
 use Rattle.machine.specs.inside.Moves.{Saying, Silent, Running, Entering, Mapping, Leaving, Beginning, Ending, Changing, Storing, said, said_all, IsProcessorTold, AreSpacesTold, ending_of, StoresBytes, Move, Moves, Replace, Remap, Destroy, Begin, End, Store, Bring, Copy, Drop}
 use Rattle.machine.proofs.moves.Kept.{move_sound}
 use Rattle.machine.proofs.durable.Lists.{some_same, none_some}
-use Rattle.machine.proofs.durable.Histories.{IsQuiet, quiet_nothing}
-use Rattle.machine.proofs.durable.Leaves.{Leaves, written_left}
+use Rattle.machine.proofs.durable.Histories.{IsQuiet, quiet_nothing, Leaves, written_left}
 use Rattle.machine.proofs.durable.Pages.{write_leaves, brought_leaves, copy_leaves, reclaimed_leaves, is_brought}
 use Rattle.machine.proofs.durable.Homes.{page_read}
 use Rattle.machine.proofs.track.Lawful.{place_is}

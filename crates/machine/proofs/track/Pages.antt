@@ -17,8 +17,7 @@ use Rattle.machine.specs.Told.{Told}
 use Rattle.machine.specs.inside.Sound.{IsSound, IsMemory}
 use Rattle.machine.specs.inside.Tracking.{HasFiles, IsLatest, AreTouched, ArePlain}
 use Rattle.machine.proofs.durable.Lists.{some_same}
-use Rattle.machine.proofs.durable.Leaves.{SameFiles, in_file_as}
-use Rattle.machine.proofs.durable.Histories.{AreQuiet, after_store, stored_there, stored_elsewhere, length-stored, touched_there, touched_elsewhere}
+use Rattle.machine.proofs.durable.Histories.{SameFiles, in_file_as, AreQuiet, after_store, stored_there, stored_elsewhere, length-stored, touched_there, touched_elsewhere}
 use Rattle.machine.proofs.durable.Pages.{IsBrought, holder_of, held_by_none, absent_before, held_without, held_still, cases_page, differ, bytes_of-with_bytes}
 use Rattle.machine.proofs.track.DirtyFrames.{clean_where_free}
 use Rattle.checkpoint.specs.Backing.{page_at}
