@@ -1,33 +1,177 @@
--- At the start the device recovers to the files with which the run begins: Old and New are what its home blocks have.
-use Rattle.std.proofs.Common.{◌≡◌, ℕ, zero, suc, ◌+◌, ◌-◌, ◌*◌, ◌<◌, ◌≤◌, eqb, List, [], ◌∷◌, ◌++◌, length, take, drop, get_or, inl, inr, refl, sym, ap, ◌∙◌, subst, arith}
-use Rattle.std.specs.List.{Contains, All}
-use Rattle.std.proofs.lemmas.Bool.{cases_lt, cond-false, ne_eqb}
-use Rattle.std.proofs.lemmas.List.{take_at, drop_at, drop-drop, drop-take, take-take, take_all, length-take, length-drop}
+-- A fresh machine is as is told at the start of a run, and its device recovers to the files with which the run begins.
+use Rattle.std.proofs.Common.{ℕ, zero, suc, ◌≡◌, ◌-◌, ◌*◌, ◌<◌, true, false, eqb, List, [], ◌∷◌, ◌++◌, length, take, drop, map, replicate, get_or, Option, None, is_some, unwrap_or, refl, sym, ap, ◌∙◌, subst, inl, inr, arith, ◌+◌, ◌≤◌}
+use Rattle.std.specs.Ordering.{nat_cmp}
+use Rattle.std.specs.FinMap as maps
+use Rattle.std.proofs.lemmas.Bool.{cases_lt, cond-false, ne_eqb, false≢true}
+use Rattle.std.proofs.lemmas.List.{length-replicate, get_or-replicate, length-take, length-drop, take_all, append-nil, take_at, drop_at, drop-drop, drop-take, take-take}
+use Rattle.std.proofs.Math.Seq.{take-append_seam}
 use Rattle.page_entry.specs.declared.numbers.FilePage.{FilePage}
+use Rattle.frames.specs.Frames.{Frame, all_free, page_of as page_held}
 use Rattle.volume_codec.specs.Files.{File, TableFile}
+use Rattle.volume_codec.specs.Super.{SuperValue, pages_of, total_pages, geometry_of, block_count}
+use Rattle.volume_codec.specs.Text.{zeros, padded}
+use Rattle.volume_codec.proofs.Public.{zeros-nil, length-padded, length-block_at, length-file, fits_geometry}
+use Rattle.mappings.specs.Places.{Places}
+use Rattle.spaces.specs.Spaces.{AddressSpace, first_spaces, empty_space}
+use Rattle.shootdown.specs.Processors.{Processor, fresh_processor, is_running}
+use Rattle.shootdown.specs.Shootdown.{fresh_shootdown, processor_at}
+use Rattle.checkpoint.specs.Checkpoint.{Holds, CheckpointState}
+use Rattle.machine.specs.declared.act.Shape.{Shape}
+use Rattle.machine.specs.History.{page_of, file_bytes, Mark, Acknowledge, memory_of}
+use Rattle.machine.specs.State.{State, length_of, Whole, home_of, cut_at_end}
+use Rattle.machine.specs.Fresh.{IsFresh, fresh}
+use Rattle.machine.specs.Told.{Told}
+use Rattle.machine.specs.Laws.{told_at_start}
+use Rattle.machine.specs.Steps.{told_first}
+use Rattle.machine.specs.inside.Tracking.{IsArranged, HasFiles, HasParts, AreContentsOf}
+use Rattle.machine.proofs.durable.Histories.{length-memory_of}
+use Rattle.machine.proofs.track.ToldSpaces.{AreProcessorsTold, AreSpacesTold, spaces_made}
+use Rattle.machine.proofs.track.Arranged.{arranged_from}
+use Rattle.machine.proofs.track.Pages.{HasPages}
 use Rattle.volume_codec.specs.Layout.{block_at, first_file_home}
-use Rattle.volume_codec.specs.Super.{pages_of, total_pages, geometry_of, block_count}
-use Rattle.volume_codec.specs.Text.{padded}
-use Rattle.volume_codec.specs.Recovery.{IsVolume, blocks_from, files_from, files_in, lengths_in}
-use Rattle.volume_codec.proofs.Public.{length-padded, fits_geometry}
-use Rattle.checkpoint.specs.Checkpoint.{CheckpointState}
+use Rattle.volume_codec.specs.Recovery.{IsVolume, files_from, files_in, lengths_in, blocks_from}
+use Rattle.std.specs.List.{Contains, All}
 use Rattle.journal.specs.WriteOut.{WriteOut}
 use Rattle.journal.specs.WriteOuts.{WriteOutsValue, none_of, has_uncommitted}
 use Rattle.journal.specs.inside.Standing.{IsStanding}
 use Rattle.journal.proofs.Public.{stands_first}
-use Rattle.machine.specs.History.{Mark, Acknowledge, page_of, file_bytes, memory_of}
-use Rattle.machine.specs.State.{State, Whole, home_of, length_of, cut_at_end}
 use Rattle.machine.specs.Rules.{bytes_at_mark}
 use Rattle.machine.specs.inside.Sound.{IsSound}
 use Rattle.device.specs.declared.device.Device.{Ghosts}
 use Rattle.machine.specs.Crashes.{Begins}
-use Rattle.machine.specs.inside.Tracking.{HasParts, AreContentsOf}
 use Rattle.machine.specs.Durability.{IsInFile, within_file}
-use Rattle.machine.specs.Steps.{told_first}
 use Rattle.machine.proofs.durable.Lists.{contains_none}
-use Rattle.machine.proofs.durable.Homes.{capacity_at, page_in_capacity, home_is}
-use Rattle.machine.proofs.durable.Overlays.{within_cut}
+use Rattle.machine.proofs.durable.Homes.{capacity_at, page_in_capacity, home_is, within_cut}
 use Rattle.machine.proofs.durable.Marks.{IsDurable}
+
+-- ---- afresh machine is as is told at the start of a run: nothing is mapped, no page is in memory, and memory is th
+
+-- ---- what is told of processors and spaces
+
+no_spaces : AreSpacesTold maps.empty maps.empty
+no_spaces = record {
+  same_spaces = λ pcid. ap is_some (maps.get-empty nat_cmp pcid) ∙ sym (ap is_some (maps.get-empty nat_cmp pcid));
+  same_places = λ pcid.
+      ap (λ (o : Option Places). unwrap_or o maps.empty) (maps.get-empty nat_cmp pcid) ∙ sym (ap (λ (o : Option AddressSpace). (unwrap_or o empty_space).places) (maps.get-empty nat_cmp pcid));
+}
+
+first_space : AreSpacesTold (maps.insert maps.empty 0 maps.empty) first_spaces
+first_space = spaces_made maps.empty 0 maps.empty empty_space no_spaces
+
+first_processors : (cpus tlb : ℕ) → AreProcessorsTold (replicate cpus 0) (replicate cpus true) (fresh_shootdown cpus tlb)
+first_processors cpus tlb =
+    let at : (p : ℕ) → p < cpus → processor_at (fresh_shootdown cpus tlb) p ≡ fresh_processor tlb = λ p within. get_or-replicate cpus p (fresh_processor tlb) (fresh_processor 1) within in
+    let processors = length-replicate cpus (fresh_processor tlb) in
+    record {
+      processors = length-replicate {A = ℕ} cpus 0 ∙ sym processors;
+      same_current = λ p within.
+          let below : p < cpus = (let many = length-replicate {A = ℕ} cpus 0 in omega (arith, many)) in
+          get_or-replicate cpus p 0 0 below ∙ sym (ap (λ (x : Processor). x.space) (at p below));
+      as_many = length-replicate cpus true ∙ sym processors;
+      same_running = λ p within.
+          let below : p < cpus = (let many = length-replicate cpus true in omega (arith, many)) in
+          get_or-replicate cpus p true false below ∙ sym (ap (λ (x : Processor). is_running x.state) (at p below));
+    }
+
+-- ---- what is told of pages
+
+none_held : (frames copies frame : ℕ) (owner : FilePage) → Holds (all_free frames copies) frame owner → ⊥
+none_held frames copies frame owner holds = let none = ap page_held (free frames frame) in cc
+  where
+    free : (n k : ℕ) → ◌≡◌ {A = Option Frame} (get_or (replicate n None) k None) None
+    free zero k = refl
+    free (suc n) zero = refl
+    free (suc n) (suc k) = free n k
+
+length-file_bytes : (files : List File) (file : ℕ) → get_or (map (λ (f : File). length f.bytes) files) file 0 ≡ length (file_bytes files file)
+length-file_bytes [] file = refl
+length-file_bytes (f ∷ fs) zero = refl
+length-file_bytes (f ∷ fs) (suc file) =
+    let less : suc file - 1 ≡ file = omega arith in
+    length-file_bytes fs file ∙ ap (λ k. length (file_bytes fs k)) (sym less)
+    ∙ sym (ap length (cond-false (eqb (suc file) 0) f.bytes (file_bytes fs (suc file - 1)) (ne_eqb (suc file) 0 (λ e. absurd (omega arith)))))
+
+padded_whole : (page : List ℕ) → length page ≡ 4096 → padded 4096 page ≡ page
+padded_whole page whole = ap (λ n. page ++ zeros n) (let none : 4096 - length page ≡ 0 = omega arith in none) ∙ ap (λ z. page ++ z) zeros-nil ∙ append-nil page
+
+-- a page has zeros past the end of its bytes
+plain_page : (bytes : List ℕ) (page n : ℕ) → n ≡ length bytes → page_of bytes page ≡ padded 4096 (take (n - 4096 * page) (page_of bytes page))
+plain_page bytes page n is =
+    let rest = drop (4096 * page) bytes in
+    let many : length rest ≡ n - 4096 * page = omega (arith, length-drop (4096 * page) bytes) in
+    let whole : length (page_of bytes page) ≡ 4096 = length-padded 4096 (take 4096 rest) (omega (arith, length-take 4096 rest)) in
+    elim (cases_lt (n - 4096 * page) 4096) [
+      | inl short ↦
+          let all : take 4096 rest ≡ rest = take_all 4096 rest (omega (arith, many, short)) in
+          let seam : take (n - 4096 * page) (padded 4096 rest) ≡ rest = ap (λ k. take k (padded 4096 rest)) (sym many) ∙ take-append_seam rest (zeros (4096 - length rest)) in
+          ap (padded 4096) all ∙ ap (padded 4096) (sym seam) ∙ ap (λ r. padded 4096 (take (n - 4096 * page) (padded 4096 r))) (sym all)
+      | inr long ↦
+          let all : take (n - 4096 * page) (page_of bytes page) ≡ page_of bytes page = take_all (n - 4096 * page) (page_of bytes page) (omega (arith, whole, long)) in
+          sym (padded_whole (page_of bytes page) whole) ∙ ap (padded 4096) (sym all)
+    ]
+
+module _ (files : List File) (table : SuperValue) (lengths : List ℕ) (shape : Shape) (has : HasFiles files (fresh table lengths shape)) where
+  abbrev start : State
+  start = fresh table lengths shape
+
+  abbrev told : Told
+  told = told_at_start files shape.cpus
+
+  arranged_fresh : IsArranged told start
+  arranged_fresh = arranged_from told start first_space (first_processors shape.cpus shape.tlb) (record { same_locked = refl; same_pending = refl }) has.lengths
+
+  pages_fresh : HasPages files told start
+  pages_fresh = record {
+    files_are = has;
+    latest = record {
+      whole = λ file page. length-memory_of files file page;
+      latest = λ frame owner holds. absurd (none_held shape.frames shape.copies frame owner holds);
+    };
+    touched = λ owner. (λ is. absurd (false≢true is), λ d. absurd (none_held shape.frames shape.copies d.0 owner d.1));
+    plain = λ owner is absent.
+        plain_page (file_bytes files owner.file) owner.page (length_of start owner.file) (ap (λ l. get_or l owner.file 0) (sym has.lengths) ∙ length-file_bytes files owner.file);
+  }
+
+-- so is each fresh machine
+pub arranged_at_start : (files : List File) (s : State) → IsFresh s → HasFiles files s → IsArranged (told_first files s) s
+arranged_at_start files s is has =
+    let same = is.as_booted in
+    let cpus : length s.hardware.shootdown.processors ≡ is.shape.cpus = ap (λ (x : State). length x.hardware.shootdown.processors) same ∙ length-replicate is.shape.cpus (fresh_processor is.shape.tlb) in
+    subst (λ n. IsArranged (told_at_start files n) s) (sym cpus)
+    (subst (λ (x : State). HasFiles files x → IsArranged (told_at_start files is.shape.cpus) x) (sym same) (arranged_fresh files s.table s.lengths is.shape) has)
+
+pub pages_at_start : (files : List File) (s : State) → IsFresh s → HasFiles files s → HasPages files (told_first files s) s
+pages_at_start files s is has =
+    let same = is.as_booted in
+    let cpus : length s.hardware.shootdown.processors ≡ is.shape.cpus = ap (λ (x : State). length x.hardware.shootdown.processors) same ∙ length-replicate is.shape.cpus (fresh_processor is.shape.tlb) in
+    subst (λ n. HasPages files (told_at_start files n) s) (sym cpus)
+    (subst (λ (x : State). HasFiles files x → HasPages files (told_at_start files is.shape.cpus) x) (sym same) (pages_fresh files s.table s.lengths is.shape) has)
+
+-- ---- the files of a volume at rest are those of its table, each as long as the table tells
+
+named_from : (contents : ℕ → List ℕ) (b : ℕ) (fs : List TableFile) → map (λ (f : File). let t : TableFile = record { name = f.name; capacity = f.capacity } in t) (files_from contents b fs (map (λ (f : TableFile). f.capacity) fs)) ≡ fs
+named_from contents b [] = refl
+named_from contents b (f ∷ fs) = ap (λ (rest : List TableFile). f ∷ rest) (named_from contents (b + pages_of f.capacity) fs)
+
+lengths_from : (contents : ℕ → List ℕ) (b : ℕ) (fs : List TableFile) → ((i : ℕ) → i < b + total_pages fs → length (contents i) ≡ 4096)
+    → map (λ (f : File). length f.bytes) (files_from contents b fs (map (λ (f : TableFile). f.capacity) fs)) ≡ map (λ (f : TableFile). f.capacity) fs
+lengths_from contents b [] whole = refl
+lengths_from contents b (f ∷ fs) whole =
+    let first = length-file contents b f.capacity f.capacity (λ i low high. whole i (omega arith)) (omega arith) in
+    let rest = lengths_from contents (b + pages_of f.capacity) fs (λ i high. whole i (omega arith)) in
+    λ i. first i ∷ rest i
+
+pub files_at_start : (files : List File) (s : State) (disk : List ℕ) → IsVolume s.table [] disk → files ≡ files_in s.table (block_at disk) → s.lengths ≡ lengths_in s.table (block_at disk) → HasFiles files s
+files_at_start files s disk volume files_are lengths_are =
+    let b = first_file_home s.table.layout s.table.slots in
+    let whole : (i : ℕ) → i < b + total_pages s.table.files → length (block_at disk i) ≡ 4096 = λ i high. length-block_at disk i (let long = volume.long in omega arith) in
+    record {
+      named = ap (map (λ (f : File). let t : TableFile = record { name = f.name; capacity = f.capacity } in t)) files_are ∙ named_from (block_at disk) b s.table.files;
+      lengths = ap (map (λ (f : File). length f.bytes)) files_are ∙ lengths_from (block_at disk) b s.table.files whole ∙ sym lengths_are;
+      fixed = λ contents. sym lengths_are;
+    }
+
+-- ---- at the start the device recovers to the files with which the run begins: Old and New are what its home blocks
 
 -- ---- the bytes of a file in the blocks of a volume
 

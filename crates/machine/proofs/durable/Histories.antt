@@ -1,24 +1,121 @@
--- Histories that grow: the memory after them, which pages they touch, and their prefixes.
-use Rattle.std.proofs.Common.{◌≡◌, ℕ, ◌/◌, ◌&&◌, ◌⊎◌, eqb, cond, Bool, true, false, List, [], ◌∷◌, ◌++◌, inl, inr, refl, sym, ap, ◌∙◌, subst, append_assoc}
-use Rattle.std.specs.List.{Contains}
-use Rattle.std.proofs.lemmas.Bool.{cond-true, cond-false, both_ways, and_from, eq-eqb, eqb-true, and_parts, false_from_ne_true}
-use Rattle.std.proofs.lemmas.List.{append-nil}
-use Rattle.std.proofs.lemmas.List.Elements.{Contains-append_left, Contains-append_cases, Contains-push_cases}
-use Rattle.machine.specs.History.{Event, Memory, Store, Mark, Acknowledge, stored, after, unmarked_after, has_unmarked, touched_after, is_touched}
-use Rattle.machine.specs.inside.Tracking.{HasAcknowledged}
+-- Histories that grow: the memory after them, the pages that they touch, their prefixes, and which marks are acknowledged, wait or are lost.
+use Rattle.std.proofs.Common.{◌≡◌, ℕ, ◌+◌, ◌*◌, ◌/◌, ◌%◌, ◌<◌, ◌≤◌, Bool, true, false, ◌&&◌, eqb, if◌then◌else◌, List, [], ◌∷◌, ◌++◌, length, take, drop, refl, sym, ap, ◌∙◌, inl, inr, arith, ◌⊎◌, cond, subst, append_assoc, ◌↔◌, ◌-◌, get_or, Some}
+use Rattle.std.proofs.lemmas.Bool.{cond-true, cond-false, cond_both, and_from, and_left, and_right, eq-eqb, ne_eqb, cases_eq, both_ways, eqb-true, and_parts, false_from_ne_true}
+use Rattle.std.proofs.lemmas.List.{length-take, append-nil}
+use Rattle.volume_codec.specs.Files.{File}
+use Rattle.volume_codec.proofs.Public.{length-padded}
+use Rattle.frames.specs.Frames.{overwrite}
+use Rattle.frames.proofs.Public.{length-overwrite}
+use Rattle.machine.specs.History.{Memory, Event, Store, Mark, Acknowledge, memory_of, file_bytes, stored, after, touched_after, is_touched, unmarked_after, has_unmarked}
+use Rattle.std.specs.List.{Contains, All}
+use Rattle.std.proofs.lemmas.List.Elements.{Contains-append_left, Contains-append_cases, Contains-push_cases, Contains-get_or}
+use Rattle.machine.specs.inside.Tracking.{HasAcknowledged, IsLost, IsWaiting, AreMarks, AreTouched, change_in, HasParts, AreContentsOf, IsWritten}
 use Rattle.machine.proofs.durable.Lists.{contains_none}
+use Rattle.machine.specs.State.{State, home_of, cut_at_end}
+use Rattle.page_entry.specs.declared.numbers.FilePage.{FilePage}
+use Rattle.machine.specs.Rules.{MarkMade, bytes_at_mark}
+use Rattle.machine.specs.Told.{Told}
+use Rattle.volume_codec.specs.Super.{SuperValue}
+use Rattle.journal.specs.WriteOuts.{WriteOutsValue, has_uncommitted}
+use Rattle.spaces.specs.declared.change.Change.TheVariants.{Checkpoint}
+use Rattle.machine.specs.Durability.{IsInFile, within_file}
+
+-- ---- the memory after a history and the pages that it touches, one event at a time
+
+-- ---- memory
 
 pub after-append : (memory : Memory) (history events : List Event) → after memory (history ++ events) ≡ after (after memory history) events
 after-append memory [] events = refl
 after-append memory (Store file offset bytes ∷ history) events = after-append (stored memory file offset bytes) history events
-after-append memory (Mark number ∷ history) events = after-append memory history events
-after-append memory (Acknowledge number ∷ history) events = after-append memory history events
+after-append memory (event ∷ history) events = after-append memory history events
 
-pub touched-append : (file page : ℕ) (before : Bool) (history events : List Event) → touched_after file page before (history ++ events) ≡ touched_after file page (touched_after file page before history) events
-touched-append file page before [] events = refl
-touched-append file page before (Store f offset bytes ∷ history) events = touched-append file page (cond (eqb f file && eqb page (offset / 4096)) true before) history events
-touched-append file page before (Mark number ∷ history) events = touched-append file page false history events
-touched-append file page before (Acknowledge number ∷ history) events = touched-append file page before history events
+pub after_store : (memory : Memory) (history : List Event) (file offset : ℕ) (bytes : List ℕ) → after memory (history ++ Store file offset bytes ∷ []) ≡ stored (after memory history) file offset bytes
+after_store memory history file offset bytes = after-append memory history _
+
+-- the page of a store
+pub stored_there : (memory : Memory) (file page at : ℕ) (bytes : List ℕ) → at < 4096 → stored memory file (4096 * page + at) bytes file page ≡ overwrite (memory file page) at bytes
+stored_there memory file page at bytes small =
+    let place : (4096 * page + at) / 4096 ≡ page = omega arith in
+    let inner : (4096 * page + at) % 4096 ≡ at = omega arith in
+    cond-true (eqb file file && eqb page ((4096 * page + at) / 4096)) (overwrite (memory file page) ((4096 * page + at) % 4096) bytes) (memory file page)
+    (and_from (eqb file file) (eqb page ((4096 * page + at) / 4096)) (eq-eqb file file refl) (eq-eqb page ((4096 * page + at) / 4096) (sym place)))
+    ∙ ap (λ k. overwrite (memory file page) k bytes) inner
+
+-- every other page
+pub stored_elsewhere : (memory : Memory) (file page at : ℕ) (bytes : List ℕ) (f p : ℕ) → at < 4096 → (f ≡ file → p ≡ page → ⊥) → stored memory file (4096 * page + at) bytes f p ≡ memory f p
+stored_elsewhere memory file page at bytes f p small other =
+    let place : (4096 * page + at) / 4096 ≡ page = omega arith in
+    let test : (eqb f file && eqb p ((4096 * page + at) / 4096)) ≡ false =
+    elim (cases_eq f file) [
+      | inl same ↦ and_right (eqb f file) (eqb p ((4096 * page + at) / 4096)) (ne_eqb p ((4096 * page + at) / 4096) (λ e. other same (e ∙ place)))
+      | inr ne ↦ and_left (eqb f file) (eqb p ((4096 * page + at) / 4096)) (ne_eqb f file ne)
+    ] in
+    cond-false (eqb f file && eqb p ((4096 * page + at) / 4096)) (overwrite (memory f p) ((4096 * page + at) % 4096) bytes) (memory f p) test
+
+-- pages keep their size
+pub length-stored : (memory : Memory) (file page at : ℕ) (bytes : List ℕ) (f p : ℕ) → ((f p : ℕ) → length (memory f p) ≡ 4096) → at + length bytes ≤ 4096 → at < 4096 → length (stored memory file (4096 * page + at) bytes f p) ≡ 4096
+length-stored memory file page at bytes f p whole fits small =
+    let inner : (4096 * page + at) % 4096 ≡ at = omega arith in
+    cond_both (eqb f file && eqb p ((4096 * page + at) / 4096)) (overwrite (memory f p) ((4096 * page + at) % 4096) bytes) (memory f p) (λ (l : List ℕ). length l ≡ 4096)
+    (λ e. length-overwrite (memory f p) ((4096 * page + at) % 4096) bytes (omega (arith, inner, whole f p)) ∙ whole f p)
+    (λ e. whole f p)
+
+pub length-memory_of : (files : List File) (file page : ℕ) → length (memory_of files file page) ≡ 4096
+length-memory_of files file page =
+    let bytes = drop (4096 * page) (file_bytes files file) in
+    length-padded 4096 (take 4096 bytes) (omega (arith, length-take 4096 bytes))
+
+-- ---- touched pages
+
+pub touched_after-append : (file page : ℕ) (before : Bool) (history events : List Event) → touched_after file page before (history ++ events) ≡ touched_after file page (touched_after file page before history) events
+touched_after-append file page before [] events = refl
+touched_after-append file page before (Store f offset bytes ∷ history) events = touched_after-append file page (if eqb f file && eqb page (offset / 4096) then true else before) history events
+touched_after-append file page before (Mark number ∷ history) events = touched_after-append file page false history events
+touched_after-append file page before (Acknowledge number ∷ history) events = touched_after-append file page before history events
+
+-- after a mark, acknowledged at once or not, no page is touched
+pub touched_mark : (history : List Event) (number : ℕ) (waits : Bool) (file page : ℕ) → is_touched (history ++ Mark number ∷ (if waits then [] else Acknowledge number ∷ [])) file page ≡ false
+touched_mark history number true file page = touched_after-append file page false history (Mark number ∷ [])
+touched_mark history number false file page = touched_after-append file page false history (Mark number ∷ Acknowledge number ∷ [])
+
+pub touched_there : (history : List Event) (file page at : ℕ) (bytes : List ℕ) → at < 4096 → is_touched (history ++ Store file (4096 * page + at) bytes ∷ []) file page ≡ true
+touched_there history file page at bytes small =
+    let place : (4096 * page + at) / 4096 ≡ page = omega arith in
+    touched_after-append file page false history (Store file (4096 * page + at) bytes ∷ [])
+    ∙ cond-true (eqb file file && eqb page ((4096 * page + at) / 4096)) true (is_touched history file page)
+    (and_from (eqb file file) (eqb page ((4096 * page + at) / 4096)) (eq-eqb file file refl) (eq-eqb page ((4096 * page + at) / 4096) (sym place)))
+
+pub touched_elsewhere : (history : List Event) (file page at : ℕ) (bytes : List ℕ) (f p : ℕ) → at < 4096 → (f ≡ file → p ≡ page → ⊥) → is_touched (history ++ Store file (4096 * page + at) bytes ∷ []) f p ≡ is_touched history f p
+touched_elsewhere history file page at bytes f p small other =
+    let place : (4096 * page + at) / 4096 ≡ page = omega arith in
+    let test : (eqb file f && eqb p ((4096 * page + at) / 4096)) ≡ false =
+    elim (cases_eq f file) [
+      | inl same ↦ and_right (eqb file f) (eqb p ((4096 * page + at) / 4096)) (ne_eqb p ((4096 * page + at) / 4096) (λ e. other same (e ∙ place)))
+      | inr ne ↦ and_left (eqb file f) (eqb p ((4096 * page + at) / 4096)) (ne_eqb file f (λ e. ne (sym e)))
+    ] in
+    touched_after-append f p false history (Store file (4096 * page + at) bytes ∷ [])
+    ∙ cond-false (eqb file f && eqb p ((4096 * page + at) / 4096)) true (is_touched history f p) test
+
+-- ---- events that store nothing and mark nothing
+
+-- events that leave memory and the touched pages as they are
+pub record AreQuiet (history events : List Event) : Type 0 where
+  pub memory : (memory : Memory) → after memory (history ++ events) ≡ after memory history
+  pub touched : (file page : ℕ) → is_touched (history ++ events) file page ≡ is_touched history file page
+
+pub quiet_nothing : (history : List Event) → AreQuiet history []
+quiet_nothing history = record {
+  memory = λ memory. after-append memory history [];
+  touched = λ file page. touched_after-append file page false history [];
+}
+
+pub quiet_acknowledge : (history : List Event) (number : ℕ) → AreQuiet history (Acknowledge number ∷ [])
+quiet_acknowledge history number = record {
+  memory = λ memory. after-append memory history (Acknowledge number ∷ []);
+  touched = λ file page. touched_after-append file page false history (Acknowledge number ∷ []);
+}
+
+-- ---- histories that grow: the memory after them, which pages they touch, and their prefixes
 
 -- a page that got a store after the last mark is a store after it
 pub unmarked_by_touched : (file page : ℕ) (before waits : Bool) (events : List Event) → (before ≡ true → waits ≡ true) → touched_after file page before events ≡ true → unmarked_after waits events ≡ true
@@ -115,7 +212,7 @@ pub record IsUntouched (memory : Memory) (history events : List Event) (file pag
 
 untouched_store : (memory : Memory) (history : List Event) (file page f offset : ℕ) (bytes : List ℕ) → is_touched (history ++ Store f offset bytes ∷ []) file page ≡ false → IsUntouched memory history (Store f offset bytes ∷ []) file page
 untouched_store memory history file page f offset bytes is =
-    let was : cond (eqb f file && eqb page (offset / 4096)) true (is_touched history file page) ≡ false = sym (touched-append file page false history (Store f offset bytes ∷ [])) ∙ is in
+    let was : cond (eqb f file && eqb page (offset / 4096)) true (is_touched history file page) ≡ false = sym (touched_after-append file page false history (Store f offset bytes ∷ [])) ∙ is in
     let other : (eqb f file && eqb page (offset / 4096)) ≡ false =
     false_from_ne_true (eqb f file && eqb page (offset / 4096)) (λ e. both_ways (cond (eqb f file && eqb page (offset / 4096)) true (is_touched history file page)) was (cond-true (eqb f file && eqb page (offset / 4096)) true (is_touched history file page) e)) in
     let elsewhere : (eqb file f && eqb page (offset / 4096)) ≡ false = false_from_ne_true (eqb file f && eqb page (offset / 4096)) (λ e.
@@ -148,3 +245,176 @@ in_history prefix rest history e begins has = subst (λ (l : List Event). Contai
 -- events that acknowledge nothing need nothing of a prefix
 pub acknowledged_more : (prefix history events : List Event) → ((n : ℕ) → Contains events (Acknowledge n) → Contains prefix (Mark n)) → HasAcknowledged prefix history → HasAcknowledged prefix (history ++ events)
 acknowledged_more prefix history events more has n there = elim (Contains-append_cases history events (Acknowledge n) there) [ inl before ↦ has n before | inr now ↦ more n now ]
+
+-- ---- which marks are acknowledged, wait or are lost, where the history grows by events that mark nothing
+
+-- what waited is acknowledged by these events, or still waits
+pub marks_more : (before marked history events : List Event) (s x : State) → ((n : ℕ) → Contains events (Mark n) → ⊥)
+    → ((n : ℕ) → IsWaiting s.write_outs.batches n → Contains (history ++ events) (Acknowledge n) ⊎ IsWaiting x.write_outs.batches n) → (IsLost s → IsLost x)
+    → AreMarks history before marked s → AreMarks (history ++ events) before marked x
+marks_more before marked history events s x unmarked waits lost are = record {
+  each = λ n has. elim (Contains-append_cases history events (Mark n) has) [ inl was ↦ by_each n (are.each n was) | inr now ↦ absurd (unmarked n now) ];
+  in_before = λ n has. acked n (are.in_before n has);
+  in_marked = λ n has. by_marked n (are.in_marked n has);
+}
+  where
+    acked : (n : ℕ) → Contains history (Acknowledge n) → Contains (history ++ events) (Acknowledge n)
+    acked n has = Contains-append_left history events (Acknowledge n) has
+
+    by_marked : (n : ℕ) → Contains history (Acknowledge n) ⊎ IsWaiting s.write_outs.batches n → Contains (history ++ events) (Acknowledge n) ⊎ IsWaiting x.write_outs.batches n
+    by_marked n (inl has) = inl (acked n has)
+    by_marked n (inr wait) = waits n wait
+
+    still : (n : ℕ) → Contains (history ++ events) (Acknowledge n) ⊎ IsWaiting x.write_outs.batches n → Contains (history ++ events) (Acknowledge n) ⊎ (IsWaiting x.write_outs.batches n ⊎ IsLost x)
+    still n (inl has) = inl has
+    still n (inr wait) = inr (inl wait)
+
+    by_each : (n : ℕ) → Contains history (Acknowledge n) ⊎ (IsWaiting s.write_outs.batches n ⊎ IsLost s) → Contains (history ++ events) (Acknowledge n) ⊎ (IsWaiting x.write_outs.batches n ⊎ IsLost x)
+    by_each n (inl has) = inl (acked n has)
+    by_each n (inr (inl wait)) = still n (waits n wait)
+    by_each n (inr (inr is)) = inr (inr (lost is))
+
+-- where none waits any more, the second prefix has acknowledged marks alone
+pub marks_settled : (before marked history : List Event) (x : State) → ((n : ℕ) → IsWaiting x.write_outs.batches n → ⊥) → AreMarks history before marked x → AreMarks history marked marked x
+marks_settled before marked history x none are = record {
+  each = are.each;
+  in_before = λ n has. elim (are.in_marked n has) [ inl acked ↦ acked | inr wait ↦ absurd (none n wait) ];
+  in_marked = are.in_marked;
+}
+
+-- ---- which pages a mark gathers, by the history
+
+-- a store that is in no mark yet touched some page
+pub some_touched : (touched : ℕ → ℕ → Bool) (before : Bool) (events : List Event) → (before ≡ true → (file page : ℕ) × (touched file page ≡ true)) → unmarked_after before events ≡ true
+    → (file page : ℕ) × (touched_after file page (touched file page) events ≡ true)
+some_touched touched before [] some stored = some stored
+some_touched touched before (Store f offset bytes ∷ events) some stored =
+    some_touched (λ file page. if eqb f file && eqb page (offset / 4096) then true else touched file page) true events
+    (λ _. (f, offset / 4096, cond-true (eqb f f && eqb (offset / 4096) (offset / 4096)) true (touched f (offset / 4096)) (and_from (eqb f f) (eqb (offset / 4096) (offset / 4096)) (eq-eqb f f refl) (eq-eqb (offset / 4096) (offset / 4096) refl)))) stored
+some_touched touched before (Mark number ∷ events) some stored = some_touched (λ file page. false) false events (λ never. absurd (both_ways false refl never)) stored
+some_touched touched before (Acknowledge number ∷ events) some stored = some_touched touched before events some stored
+
+module _ (told : Told) (s : State) (p number : ℕ) (new : State) (mark : MarkMade s p number new) (touched : AreTouched told s) where
+  -- those that got a store since the last mark
+  pub gathers_touched : (owner : FilePage) → (Contains mark.pages owner) ↔ (is_touched told.history owner.file owner.page ≡ true)
+  gathers_touched owner =
+      let dirty = mark.gathered.gathered.dirty owner in
+      (λ gathered. (touched owner).1 (dirty.0 gathered), λ stored. dirty.1 ((touched owner).0 stored))
+
+  -- none, where there is no such store
+  pub gathers_nothing : (mark.pages ≡ []) ↔ (has_unmarked told.history ≡ false)
+  gathers_nothing = (
+    (λ none. false_from_ne_true (has_unmarked told.history) (λ stored.
+        let some = some_touched (λ file page. false) false told.history (λ never. absurd (both_ways false refl never)) stored in
+        let there = subst (λ (pages : List FilePage). Contains pages (record { file = some.0; page = some.1 })) none ((gathers_touched (record { file = some.0; page = some.1 })).1 some.2) in
+        omega (arith, there.1))),
+    (λ none. empty mark.pages (λ owner gathered. both_ways (has_unmarked told.history) none (unmarked_by_touched owner.file owner.page false false told.history (λ never. never) ((gathers_touched owner).0 gathered)))),
+  )
+    where
+      empty : (pages : List FilePage) → ((owner : FilePage) → Contains pages owner → ⊥) → pages ≡ []
+      empty [] none = refl
+      empty (owner ∷ pages) none = absurd (none owner (0, omega arith, refl))
+
+-- ---- acts that leave the write-outs and what their records are: what the device recovers to goes with what is told
+
+-- ---- the files stay
+
+pub record SameFiles (s x : State) : Type 0 where
+  pub table : x.table ≡ s.table
+  pub lengths : x.lengths ≡ s.lengths
+
+pub in_file_as : (s x : State) → SameFiles s x → (owner : FilePage) → IsInFile x owner → IsInFile s owner
+in_file_as s x same owner is = record {
+  there = subst (λ (t : SuperValue). owner.file < length t.files) same.table is.there;
+  inside = subst (λ (l : List ℕ). 4096 * owner.page < get_or l owner.file 0) same.lengths is.inside;
+}
+
+-- a fact on the part of a page in its file, and its home block
+pub part_as : (s x : State) → SameFiles s x → (owner : FilePage) (contents : ℕ → List ℕ) (bytes : List ℕ) → within_file s owner (contents (home_of s.table owner)) ≡ within_file s owner bytes → within_file x owner (contents (home_of x.table owner)) ≡ within_file x owner bytes
+part_as s x same owner contents bytes e =
+    subst (λ (l : List ℕ). take (get_or l owner.file 0 - 4096 * owner.page) (contents (home_of x.table owner)) ≡ take (get_or l owner.file 0 - 4096 * owner.page) bytes) (sym same.lengths)
+    (subst (λ (t : SuperValue). within_file s owner (contents (home_of t owner)) ≡ within_file s owner bytes) (sym same.table) e)
+
+pub parts_as : (s x : State) → SameFiles s x → (contents : ℕ → List ℕ) (memory : Memory) → HasParts s contents memory → HasParts x contents memory
+parts_as s x same contents memory parts owner is = part_as s x same owner contents (memory owner.file owner.page) (parts owner (in_file_as s x same owner is))
+
+-- contents after a prefix of a history are those after a prefix of a longer one
+pub contents_more : (files : List File) (history events : List Event) (s x : State) → SameFiles s x → (contents : ℕ → List ℕ) (prefix : List Event) → AreContentsOf files history s contents prefix → AreContentsOf files (history ++ events) x contents prefix
+contents_more files history events s x same contents prefix are = record {
+  rest = are.rest ++ events;
+  begins = begins_more prefix are.rest history events are.begins;
+  marked = are.marked;
+  whole = are.whole;
+  parts = parts_as s x same contents (after (memory_of files) prefix) are.parts;
+}
+
+-- ---- the write-outs, and what their records are, stay
+
+pub record Leaves (s x : State) : Type 0 where
+  pub files : SameFiles s x
+  pub write_outs : x.write_outs ≡ s.write_outs
+  pub marks : x.marks ≡ s.marks
+  -- no checkpoint is begun of a broken machine
+  pub lock : s.write_outs.broken ≡ true → change_in x.hardware.shootdown.lock ≡ Some Checkpoint → change_in s.hardware.shootdown.lock ≡ Some Checkpoint
+  pub frozen : x.checkpoint.frozen ≡ s.checkpoint.frozen
+  pub bytes : (owner : FilePage) → Contains s.checkpoint.frozen owner → bytes_at_mark x.hardware.memory owner ≡ bytes_at_mark s.hardware.memory owner
+
+-- the records of frozen pages are what was gathered
+abbrev pub AreFrozenRecords : State → (ℕ → List ℕ) → Type 0
+AreFrozenRecords s new = All (λ owner. new (home_of s.table owner) ≡ cut_at_end s owner (bytes_at_mark s.hardware.memory owner)) s.checkpoint.frozen
+
+-- one of them under another state
+pub record_as : (s x : State) → SameFiles s x → (owner : FilePage) (new : ℕ → List ℕ) → bytes_at_mark x.hardware.memory owner ≡ bytes_at_mark s.hardware.memory owner
+    → new (home_of s.table owner) ≡ cut_at_end s owner (bytes_at_mark s.hardware.memory owner) → new (home_of x.table owner) ≡ cut_at_end x owner (bytes_at_mark x.hardware.memory owner)
+record_as s x same owner new bytes e =
+    ap (λ (t : SuperValue). new (home_of t owner)) same.table ∙ e
+    ∙ sym (ap (λ (b : List ℕ). cut_at_end x owner b) bytes ∙ cut_as)
+  where
+    cut_as : cut_at_end x owner (bytes_at_mark s.hardware.memory owner) ≡ cut_at_end s owner (bytes_at_mark s.hardware.memory owner)
+    cut_as = ap (λ (l : List ℕ). cut_at_end (record s { lengths = l }) owner (bytes_at_mark s.hardware.memory owner)) same.lengths
+
+pub records_as : (s x : State) → Leaves s x → (new : ℕ → List ℕ) → AreFrozenRecords s new → AreFrozenRecords x new
+records_as s x leaves new are =
+    subst (λ (pages : List FilePage). All (λ owner. new (home_of x.table owner) ≡ cut_at_end x owner (bytes_at_mark x.hardware.memory owner)) pages) (sym leaves.frozen)
+    (λ k d lt. record_as s x leaves.files (get_or s.checkpoint.frozen k d) new (leaves.bytes (get_or s.checkpoint.frozen k d) (Contains-get_or s.checkpoint.frozen k d lt)) (are k d lt))
+
+broken_as : (s x : State) → x.write_outs ≡ s.write_outs → x.write_outs.broken ≡ true → s.write_outs.broken ≡ true
+broken_as s x same broken = sym (ap (λ (o : WriteOutsValue). o.broken) same) ∙ broken
+
+-- what the device recovers to goes with a history to which nothing or a store is added
+pub written_left : (files : List File) (told told' : Told) (events : List Event) (s x : State) (old new : ℕ → List ℕ) → told'.history ≡ told.history ++ events → IsQuiet events → Leaves s x → IsWritten files told s old new → IsWritten files told' x old new
+written_left files told told' events s x old new grows quiet leaves w =
+    let history_as : (P : List Event → Type 0) → P (told.history ++ events) → P told'.history = λ P p. subst P (sym grows) p in
+    record {
+      before = w.before;
+      old_are = history_as (λ h. AreContentsOf files h x old w.before) (contents_more files told.history events s x leaves.files old w.before w.old_are);
+      acknowledged = history_as (HasAcknowledged w.before) (acknowledged_more w.before told.history events (λ n has. absurd (quiet_acknowledges events n quiet has)) w.acknowledged);
+      marked = w.marked;
+      new_are = history_as (λ h. AreContentsOf files h x new w.marked) (contents_more files told.history events s x leaves.files new w.marked w.new_are);
+      grown = history_as (HasAcknowledged w.marked) (acknowledged_more w.marked told.history events (λ n has. absurd (quiet_acknowledges events n quiet has)) w.grown);
+      marks = subst (λ (o : WriteOutsValue). All (λ batch. Contains w.marked (Mark batch.batch.mark)) o.batches) (sym leaves.write_outs) w.marks;
+      fresh = λ y there early. w.fresh y (subst (λ (o : WriteOutsValue). Contains o.batches y) leaves.write_outs there) early;
+      only = history_as (λ h. AreMarks h w.before w.marked x)
+          (marks_more w.before w.marked told.history events s x (λ n has. quiet_marks events n quiet has) (λ n wait. inr (subst (λ (o : WriteOutsValue). IsWaiting o.batches n) (sym leaves.write_outs) wait)) lost_as w.only);
+      numbered = history_as (λ h. (n : ℕ) → Contains h (Mark n) → n ≤ x.marks) (λ n has. elim (Contains-append_cases told.history events (Mark n) has) [
+        | inl before ↦ subst (λ m. n ≤ m) (sym leaves.marks) (w.numbered n before)
+        | inr now ↦ absurd (quiet_marks events n quiet now)
+      ]);
+      ready = λ broken held.
+          let was : s.write_outs.broken ≡ true = broken_as s x leaves.write_outs broken in
+          ap (λ (o : WriteOutsValue). has_uncommitted o.batches) leaves.write_outs ∙ w.ready was (leaves.lock was held);
+      clean = clean_as w.clean;
+      frozen = records_as s x leaves new w.frozen;
+    }
+  where
+    lost_as : IsLost s → IsLost x
+    lost_as lost = record { broken = ap (λ (o : WriteOutsValue). o.broken) leaves.write_outs ∙ lost.broken; no_mark = λ held. lost.no_mark (leaves.lock lost.broken held) }
+
+    clean_as : IsLost s ⊎ ((owner : FilePage) → IsInFile s owner → is_touched told.history owner.file owner.page ≡ false → within_file s owner (new (home_of s.table owner)) ≡ within_file s owner (after (memory_of files) told.history owner.file owner.page))
+        → IsLost x ⊎ ((owner : FilePage) → IsInFile x owner → is_touched told'.history owner.file owner.page ≡ false → within_file x owner (new (home_of x.table owner)) ≡ within_file x owner (after (memory_of files) told'.history owner.file owner.page))
+    clean_as (inl lost) = inl (lost_as lost)
+    clean_as (inr clean) = inr (λ owner is untouched.
+        let still = quiet_untouched (memory_of files) told.history events owner.file owner.page quiet (sym (ap (λ (h : List Event). is_touched h owner.file owner.page) grows) ∙ untouched) in
+        part_as s x leaves.files owner new (after (memory_of files) told'.history owner.file owner.page)
+        (clean owner (in_file_as s x leaves.files owner is) still.before
+        ∙ sym (ap (within_file s owner) (ap (λ (h : List Event). after (memory_of files) h owner.file owner.page) grows ∙ still.same))))

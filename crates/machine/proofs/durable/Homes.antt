@@ -1,13 +1,29 @@
 -- Home blocks: they lie in the volume, and no two pages of files share one.
-use Rattle.std.proofs.Common.{◌≡◌, ℕ, zero, suc, ◌+◌, ◌*◌, ◌<◌, ◌≤◌, List, [], ◌∷◌, length, map, take, get_or, ap, inl, inr, arith}
-use Rattle.std.proofs.lemmas.Bool.{cases_order}
+use Rattle.std.proofs.Common.{◌≡◌, ℕ, zero, suc, ◌+◌, ◌*◌, ◌<◌, ◌≤◌, List, [], ◌∷◌, length, map, take, get_or, ap, inl, inr, arith, ◌-◌, eqb, cond, false, ◌++◌, Option, Some, None, refl, sym, ◌∙◌, subst, true}
+use Rattle.std.proofs.lemmas.Bool.{cases_order, cond-true, cond-false, cases_Bool, cases_lt, both_ways, ne_eqb, eqb-true, eqb-false, false_from_ne_true}
 use Rattle.page_entry.specs.declared.numbers.FilePage.{FilePage}
-use Rattle.volume_codec.specs.Files.{TableFile}
-use Rattle.volume_codec.specs.Layout.{IsHome, first_home}
+use Rattle.volume_codec.specs.Files.{TableFile, File}
+use Rattle.volume_codec.specs.Layout.{IsHome, first_home, block_at}
 use Rattle.volume_codec.specs.Super.{pages_of, total_pages, geometry_of}
-use Rattle.machine.specs.State.{State, home_of}
-use Rattle.machine.specs.Durability.{IsInFile}
+use Rattle.machine.specs.State.{State, home_of, length_of, cut_at_end, page_from}
+use Rattle.machine.specs.Durability.{IsInFile, within_file}
 use Rattle.machine.specs.inside.Sound.{IsSound}
+use Rattle.std.specs.List.{Contains, list_any, All}
+use Rattle.std.proofs.lemmas.List.{take_at, take_all, length-take, append-nil}
+use Rattle.volume_codec.specs.Text.{zeros, padded}
+use Rattle.volume_codec.proofs.Public.{zeros-nil}
+use Rattle.frames.specs.Frames.{Frame, frame_at, bytes_of, page_of}
+use Rattle.checkpoint.specs.Checkpoint.{Holds, is_of_page, is_frozen, same_page}
+use Rattle.machine.specs.Rules.{bytes_with, bytes_at_mark}
+use Rattle.machine.proofs.durable.Lists.{none_some, contains_head, contains_cons, contains_unmapped}
+use Rattle.machine.proofs.durable.Pages.{holder, holder_of, bytes_with-none, bytes_with-held, in_memory}
+use Rattle.std.proofs.lemmas.List.Elements.{All-contains}
+use Rattle.fault.specs.Fault.{is_in_memory}
+use Rattle.journal.specs.WriteOut.{WriteOut}
+use Rattle.journal.specs.WriteOuts.{HasBlock}
+use Rattle.machine.specs.History.{memory_of, after, is_touched}
+use Rattle.machine.specs.Told.{Told}
+use Rattle.machine.specs.inside.Tracking.{IsTracked}
 
 -- the capacity of a file of a table
 abbrev pub capacity_at : List TableFile → ℕ → ℕ
@@ -62,3 +78,105 @@ module _ (s : State) (sound : IsSound s) where
         | inr (inl lt) ↦ let before = homes_apart a b is_a lt in absurd (omega (arith, before, e))
         | inr (inr gt) ↦ let before = homes_apart b a is_b gt in absurd (omega (arith, before, e))
       ]
+
+-- ---- the contents of a volume with the pages that a mark gathers
+
+-- ---- a page up to its file's end
+
+nothing_padded : (n : ℕ) (t : List ℕ) → length t ≡ n → padded n t ≡ t
+nothing_padded n t size = let none : n - length t ≡ 0 = omega arith in ap (λ k. t ++ zeros k) none ∙ ap (λ (z : List ℕ). t ++ z) zeros-nil ∙ append-nil t
+
+-- what is padded keeps its first bytes
+take-padded_take : (n m : ℕ) (t : List ℕ) → length t ≡ n → take m (padded n (take m t)) ≡ take m t
+take-padded_take n m t size =
+    elim (cases_lt m n) [
+      | inl lt ↦ take_at (take m t) (zeros (n - length (take m t))) m (omega (arith, length-take m t))
+      | inr le ↦
+          let whole : take m t ≡ t = take_all m t (omega arith) in
+          ap (λ (l : List ℕ). take m (padded n l)) whole ∙ ap (take m) (nothing_padded n t size)
+    ]
+
+pub within_cut : (s : State) (owner : FilePage) (bytes : List ℕ) → length bytes ≡ 4096 → within_file s owner (cut_at_end s owner bytes) ≡ within_file s owner bytes
+within_cut s owner bytes size = take-padded_take 4096 (length_of s owner.file - 4096 * owner.page) bytes size
+
+-- ---- the contents with some pages' records
+
+abbrev pub overlaid : State → List FilePage → (ℕ → List ℕ) → ℕ → List ℕ
+overlaid s [] new b = new b
+overlaid s (owner ∷ pages) new b = cond (eqb b (home_of s.table owner)) (cut_at_end s owner (bytes_at_mark s.hardware.memory owner)) (overlaid s pages new b)
+
+-- every other home block stays
+pub overlaid-other : (s : State) (pages : List FilePage) (new : ℕ → List ℕ) (b : ℕ) → (Contains (map (home_of s.table) pages) b → ⊥) → overlaid s pages new b ≡ new b
+overlaid-other s [] new b none = refl
+overlaid-other s (owner ∷ pages) new b none =
+    cond-false (eqb b (home_of s.table owner)) (cut_at_end s owner (bytes_at_mark s.hardware.memory owner)) (overlaid s pages new b)
+    (ne_eqb b (home_of s.table owner) (λ e. none (0, omega arith, sym e)))
+    ∙ overlaid-other s pages new b (λ has. none (contains_cons (home_of s.table owner) (map (home_of s.table) pages) b has))
+
+module _ (s : State) (sound : IsSound s) (new : ℕ → List ℕ) where
+  -- the home block of one of them
+  pub overlaid-at : (pages : List FilePage) (owner : FilePage) → ((o : FilePage) → Contains pages o → IsInFile s o) → Contains pages owner
+      → overlaid s pages new (home_of s.table owner) ≡ cut_at_end s owner (bytes_at_mark s.hardware.memory owner)
+  overlaid-at [] owner in_files has = absurd (omega (arith, has.1))
+  overlaid-at (x ∷ xs) owner in_files has = elim (cases_Bool (eqb (home_of s.table owner) (home_of s.table x))) [
+    | inl same ↦
+        (let is : owner ≡ x = same_home s sound owner x (in_files owner has) (in_files x (contains_head x xs)) (eqb-true (home_of s.table owner) (home_of s.table x) same) in
+        cond-true (eqb (home_of s.table owner) (home_of s.table x)) (cut_at_end s x (bytes_at_mark s.hardware.memory x)) (overlaid s xs new (home_of s.table owner)) same
+        ∙ ap (λ (o : FilePage). cut_at_end s o (bytes_at_mark s.hardware.memory o)) (sym is))
+    | inr other ↦
+        cond-false (eqb (home_of s.table owner) (home_of s.table x)) (cut_at_end s x (bytes_at_mark s.hardware.memory x)) (overlaid s xs new (home_of s.table owner)) other
+        ∙ overlaid-at xs owner (λ o there. in_files o (contains_cons x xs o there)) (later has other)
+  ]
+    where
+      later : Contains (x ∷ xs) owner → eqb (home_of s.table owner) (home_of s.table x) ≡ false → Contains xs owner
+      later (zero, lt, is) other = absurd (eqb-false (home_of s.table owner) (home_of s.table x) other (ap (home_of s.table) (sym is)))
+      later (suc k, lt, is) other = (k, omega arith, is)
+
+  -- that of another page
+  pub overlaid-elsewhere : (pages : List FilePage) (owner : FilePage) → ((o : FilePage) → Contains pages o → IsInFile s o) → IsInFile s owner → (Contains pages owner → ⊥) → overlaid s pages new (home_of s.table owner) ≡ new (home_of s.table owner)
+  overlaid-elsewhere pages owner in_files is none = overlaid-other s pages new (home_of s.table owner) (λ has.
+      let at = contains_unmapped (home_of s.table) pages (home_of s.table owner) has in
+      none (subst (Contains pages) (same_home s sound at.0 owner (in_files at.0 at.1) is at.2) at.1))
+
+-- ---- the bytes of a page at its mark, where none is frozen
+
+pub nothing_copied : (s : State) → IsSound s → s.checkpoint.frozen ≡ [] → (owner : FilePage) → list_any (is_of_page owner) s.hardware.memory.copies ≡ false
+nothing_copied s sound none owner = false_from_ne_true (list_any (is_of_page owner) s.hardware.memory.copies) (λ e.
+    let at = holder owner s.hardware.memory.copies e in
+    by at.0 (get_or s.hardware.memory.copies at.0 None) refl at.1)
+  where
+    by : (k : ℕ) (o : Option Frame) → get_or s.hardware.memory.copies k None ≡ o → page_of o ≡ Some owner → ⊥
+    by k None at e = none_some owner e
+    by k (Some kept) at e = both_ways (is_frozen s.checkpoint kept.page) (ap (λ (l : List FilePage). list_any (same_page kept.page) l) none) (sound.memory.copied k kept at)
+
+pub bytes_at_mark-held : (s : State) → IsSound s → s.checkpoint.frozen ≡ [] → (frame : ℕ) (owner : FilePage) → Holds s.hardware.memory frame owner → bytes_at_mark s.hardware.memory owner ≡ bytes_of (frame_at s.hardware.memory frame)
+bytes_at_mark-held s sound none frame owner held =
+    bytes_with-none owner s.hardware.memory.copies (bytes_with owner s.hardware.memory.frames []) (nothing_copied s sound none owner)
+    ∙ bytes_with-held s.hardware.memory frame owner sound.memory.memory.one_frame held
+
+-- ---- what a fault reads of a page that isn't in memory is the page's latest bytes
+
+-- a page that isn't in memory has a home block of no batch
+pub no_batch : (s : State) → IsSound s → (owner : FilePage) → IsInFile s owner → is_in_memory s.hardware.memory owner ≡ false → HasBlock s.write_outs (home_of s.table owner) → ⊥
+no_batch s sound owner is absent has =
+    let w = has.0 in
+    let homes = All-contains (λ (x : WriteOut). All (λ home. (o : FilePage) × (home ≡ home_of s.table o) × (is_in_memory s.hardware.memory o ≡ true)) x.batch.homes) s.write_outs.batches w sound.write_outs.in_memory has.1 in
+    let page = All-contains (λ home. (o : FilePage) × (home ≡ home_of s.table o) × (is_in_memory s.hardware.memory o ≡ true)) w.batch.homes (home_of s.table owner) homes has.2 in
+    let at = holder_of s.hardware.memory page.0 page.2 in
+    let same : owner ≡ page.0 = same_home s sound owner page.0 is (sound.memory.in_files at.0 page.0 at.1) page.1 in
+    both_ways (is_in_memory s.hardware.memory owner) absent (ap (is_in_memory s.hardware.memory) same ∙ page.2)
+
+module _ (files : List File) (told : Told) (s : State) (seen : List ℕ) (may : List ℕ → Type 0) (t : IsTracked files told s seen may) where
+  -- nor is it touched
+  pub absent_untouched : (owner : FilePage) → is_in_memory s.hardware.memory owner ≡ false → is_touched told.history owner.file owner.page ≡ false
+  absent_untouched owner absent = false_from_ne_true (is_touched told.history owner.file owner.page) (λ is.
+      let at = (t.touched owner).0 is in
+      both_ways (is_in_memory s.hardware.memory owner) absent (in_memory s.hardware.memory at.0 owner at.1))
+
+  pub page_read : (owner : FilePage) → IsInFile s owner → is_in_memory s.hardware.memory owner ≡ false → s.write_outs.broken ≡ false → page_from s seen owner ≡ after (memory_of files) told.history owner.file owner.page
+  page_read owner is absent whole =
+      let home = home_of s.table owner in
+      let block : block_at seen home ≡ t.new home = t.stands.reads whole home (home_is s t.sound owner is) (no_batch s t.sound owner is absent) in
+      let part : within_file s owner (t.new home) ≡ within_file s owner (after (memory_of files) told.history owner.file owner.page) =
+      elim t.written.clean [ inl lost ↦ absurd (both_ways s.write_outs.broken whole lost.broken) | inr clean ↦ clean owner is (absent_untouched owner absent) ] in
+      ap (padded 4096) (ap (within_file s owner) block ∙ part) ∙ sym (t.plain owner is absent)

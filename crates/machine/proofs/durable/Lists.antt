@@ -12,9 +12,6 @@ some_same x y e = cc
 pub none_some : {X : Type 0} (x : X) → None ≡ Some x → ⊥
 none_some x e = cc
 
-pub some_none : {X : Type 0} (x : X) → Some x ≡ None → ⊥
-some_none x e = cc
-
 -- ---- what is in a list
 
 pub contains_none : {X : Type 0} (x : X) → Contains [] x → ⊥
@@ -46,14 +43,6 @@ contains_flat_map f [] y has = absurd (omega (arith, has.1))
 contains_flat_map f (x ∷ xs) y has = elim (Contains-append_cases (f x) (flat_map f xs) y has) [
   | inl here ↦ (x, contains_head x xs, here)
   | inr later ↦ (let r = contains_flat_map f xs y later in (r.0, contains_cons x xs r.0 r.1, r.2))
-]
-
--- what a search finds is in the list and passes
-pub found : {X : Type 0} (test : X → Bool) (xs : List X) (x : X) → find test xs ≡ Some x → Contains xs x × (test x ≡ true)
-found test [] x e = absurd (none_some x e)
-found test (y ∷ ys) x e = elim (cases_Bool (test y)) [
-  | inl passes ↦ (let same : y ≡ x = some_same y x (sym (cond-true (test y) (Some y) (find test ys) passes) ∙ e) in ((0, omega arith, same), ap test (sym same) ∙ passes))
-  | inr fails ↦ (let later = found test ys x (sym (cond-false (test y) (Some y) (find test ys) fails) ∙ e) in (contains_cons y ys x later.0, later.1))
 ]
 
 -- ---- lists made of others

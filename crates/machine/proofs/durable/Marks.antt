@@ -22,12 +22,9 @@ use Rattle.machine.specs.inside.Sound.{IsSound}
 use Rattle.machine.specs.Told.{Told}
 use Rattle.machine.specs.inside.Tracking.{change_in, HasParts, AreContentsOf, HasAcknowledged, IsLost, IsWaiting, AreMarks, IsWritten, IsLatest, AreTouched}
 use Rattle.machine.specs.Durability.{IsInFile, within_file}
-use Rattle.machine.proofs.durable.Histories.{marked_by, after_mark, after_marked, only_itself, only_marked, unmarked_by_touched, in_history, acknowledged_more}
-use Rattle.machine.proofs.durable.Waiting.{committed_frozen}
-use Rattle.machine.proofs.durable.Leaves.{contents_more}
-use Rattle.machine.proofs.durable.Gathered.{some_touched}
-use Rattle.machine.proofs.durable.Uncommitted.{none_uncommitted, begun_early}
-use Rattle.machine.proofs.durable.Overlays.{within_cut, overlaid, overlaid-other, overlaid-at, overlaid-elsewhere, bytes_at_mark-held}
+use Rattle.machine.proofs.durable.Histories.{marked_by, after_mark, after_marked, only_itself, only_marked, unmarked_by_touched, in_history, acknowledged_more, some_touched, contents_more}
+use Rattle.machine.proofs.durable.Uncommitted.{committed_frozen, none_uncommitted, begun_early}
+use Rattle.machine.proofs.durable.Homes.{within_cut, overlaid, overlaid-other, overlaid-at, overlaid-elsewhere, bytes_at_mark-held}
 
 -- what the device recovers to goes with what is told
 pub record IsDurable (files : List File) (told : Told) (s : State) (seen : List ℕ) (may_leave : List ℕ → Type 0) : Type 0 where

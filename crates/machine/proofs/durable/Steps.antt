@@ -1,21 +1,22 @@
--- One step of a machine over an honest device: what the device recovers to still goes with what is told, and a crash within the step or after it reads back.
-use Rattle.std.proofs.Common.{◌≡◌, ◌≢◌, ◌<◌, ℕ, inl, inr, false, List, [], ◌∷◌, ◌++◌, length, map, refl, sym, ap, ◌∙◌, subst, arith}
-use Rattle.std.specs.Prelude.{is_some}
+-- One step of a machine over an honest device: it stays tracked, and a crash within the step or after it reads back.
+use Rattle.std.proofs.Common.{◌≡◌, ◌≢◌, ◌<◌, ℕ, inl, inr, cond, true, false, not, List, [], ◌∷◌, ◌++◌, length, map, is_some, refl, sym, ap, ◌∙◌, subst, arith}
 use Rattle.std.specs.List.{Contains}
-use Rattle.std.proofs.lemmas.Bool.{cond-false}
+use Rattle.std.proofs.lemmas.Bool.{cond-false, false≢true}
 use Rattle.std.proofs.lemmas.List.Elements.{All-contains, Contains-push}
 use Rattle.page_entry.specs.declared.numbers.FilePage.{FilePage}
+use Rattle.page_entry.specs.declared.refusal.Refusal.{Refusal}
 use Rattle.page_entry.specs.declared.refusal.Refusal.TheVariants as refusals
 use Rattle.device.specs.Device.{Only, LeavesOnly}
 use Rattle.device.specs.declared.device.Device.{Ghosts}
 use Rattle.volume_codec.specs.Files.{File}
 use Rattle.volume_codec.specs.Super.{SuperValue, geometry_of}
 use Rattle.volume_codec.specs.Descriptor.{AreHomes}
+use Rattle.checkpoint.specs.Checkpoint.{without_notes}
 use Rattle.journal.specs.declared.flushed.Flushed.{Flushed}
 use Rattle.journal.specs.declared.flushed.Flushed.TheVariants as flushed
 use Rattle.journal.specs.Work.{Work, Sync, Nothing, worked, TornFromWork}
 use Rattle.journal.specs.WriteOut.{WriteOut, begun_of}
-use Rattle.journal.specs.WriteOuts.{WriteOutsValue, current_stage, next_answer, next_batch, begun, outs_record}
+use Rattle.journal.specs.WriteOuts.{WriteOutsValue, current_stage, next_answer, next_batch, begun, outs_record, outs_after}
 use Rattle.journal.specs.Crash.{LeftWithin}
 use Rattle.journal.specs.inside.Standing.{IsStanding}
 use Rattle.journal.specs.inside.Tied.{IsTied}
@@ -25,26 +26,29 @@ use Rattle.machine.specs.declared.act.Act.TheVariants as acts
 use Rattle.machine.specs.declared.act.Reply.{Reply}
 use Rattle.machine.specs.declared.act.Reply.TheVariants as replies
 use Rattle.machine.specs.declared.act.Step.{Step}
-use Rattle.machine.specs.History.{Acknowledge}
+use Rattle.machine.specs.History.{Event, Memory, Acknowledge, memory_of, has_unmarked}
 use Rattle.machine.specs.State.{State, Whole, home_of}
-use Rattle.checkpoint.specs.Checkpoint.{without_notes}
-use Rattle.machine.specs.Rules.{Acts, end_change, FlushMade, MarkMade, with_batch, work_asked, reply_to}
-use Rattle.machine.specs.inside.Sound.{IsSound}
-use Rattle.machine.specs.Told.{Told, tell, events_of}
+use Rattle.machine.specs.Rules.{end_change, FlushMade, FlushFailed, MarkMade, with_batch, work_asked, reply_to, after_record, after_failure}
+use Rattle.machine.specs.Told.{Told, tell, ended_by}
 use Rattle.machine.specs.Laws.{ReadsBack}
 use Rattle.machine.specs.Crashes.{StepIsSafe}
 use Rattle.machine.specs.Stops.{StopsInStep}
-use Rattle.machine.specs.inside.Tracking.{HasFiles, IsTracked}
 use Rattle.machine.specs.Steps.{step_work, StepMade}
 use Rattle.machine.specs.Runs.{StepTaken}
-use Rattle.machine.proofs.durable.Leaves.{written_left}
-use Rattle.machine.proofs.durable.Quiet.{QuietStep, unchanged}
-use Rattle.machine.proofs.durable.QuietChanges.{MarkStep}
-use Rattle.machine.proofs.durable.Kinds.{by_kind}
+use Rattle.machine.specs.inside.Sound.{IsSound}
+use Rattle.machine.specs.inside.Tracking.{IsArranged, IsTracked}
+use Rattle.machine.specs.inside.Moves.{said_all, IsMoved, Performed, Moved, Marked, Flushed as Stepped, Failed}
+use Rattle.machine.proofs.sound.Kept.{performed_sound}
+use Rattle.machine.proofs.acts.All.{performed}
+use Rattle.machine.proofs.durable.Histories.{marked_by, after_marked, AreQuiet, quiet_nothing, quiet_acknowledge, touched_mark, SameFiles}
 use Rattle.machine.proofs.durable.Marks.{IsDurable, written_as, marked_durable}
 use Rattle.machine.proofs.durable.Flushes.{flush_within, flush_failed, flush_goes_on, flush_commits}
-use Rattle.machine.proofs.durable.ReadsBack.{reads_within, reads_now}
-use Rattle.machine.proofs.durable.Stopped.{stops_within}
+use Rattle.machine.proofs.durable.ReadsBack.{reads_within, reads_now, stops_within}
+use Rattle.machine.proofs.track.DirtyFrames.{clean_after_mark}
+use Rattle.machine.proofs.track.ToldSpaces.{spaces_still}
+use Rattle.machine.proofs.track.Arranged.{spaces_of, with_history, arranged_beside, arranged_end}
+use Rattle.machine.proofs.track.Pages.{HasPages, SamePages, files_kept, pages_quiet, plain_still}
+use Rattle.machine.proofs.track.Moved.{moves_tracked}
 
 -- ---- what a crash may leave is among what it might
 
@@ -67,74 +71,99 @@ durable_as files told told' s seen seen' may same same_seen is = record {
   written = written_as files told told' s is.old is.new same is.written;
 }
 
--- the reply to what a step of the write-outs answers tells the answer
-pub going_is : (a : Flushed) → replies.Going ≡ reply_to a → a ≡ flushed.Going
-going_is flushed.Going e = refl
-going_is (flushed.Committed mark) e = cc
-going_is (flushed.Done mark) e = cc
-going_is flushed.Device e = cc
-going_is flushed.Broken e = cc
+-- ---- steps of the write-outs
 
-pub committed_is : (number : ℕ) (a : Flushed) → replies.Committed number ≡ reply_to a → a ≡ flushed.Committed number
-committed_is number flushed.Going e = cc
-committed_is number (flushed.Committed mark) e = ap flushed.Committed (same number mark e)
-  where
-    same : (a b : ℕ) → replies.Committed a ≡ replies.Committed b → b ≡ a
-    same a b e = cc
-committed_is number (flushed.Done mark) e = cc
-committed_is number flushed.Device e = cc
-committed_is number flushed.Broken e = cc
+-- a step that answers so goes on with them
+abbrev pub GoesOn : Flushed → Type 0
+GoesOn flushed.Device = ⊥
+GoesOn flushed.Broken = ⊥
+GoesOn answer = Unit {0}
 
-pub done_is : (number : ℕ) (a : Flushed) → replies.Done number ≡ reply_to a → a ≡ flushed.Done number
-done_is number flushed.Going e = cc
-done_is number (flushed.Committed mark) e = cc
-done_is number (flushed.Done mark) e = ap flushed.Done (same number mark e)
-  where
-    same : (a b : ℕ) → replies.Done a ≡ replies.Done b → b ≡ a
-    same a b e = cc
-done_is number flushed.Device e = cc
-done_is number flushed.Broken e = cc
+-- what it adds to a history
+abbrev acknowledged_by : Flushed → List Event
+acknowledged_by (flushed.Committed number) = Acknowledge number ∷ []
+acknowledged_by answer = []
 
-module _ (files : List File) (told : Told) (s : State) (disk : List ℕ) (may : List ℕ → Type 0) (t : IsTracked files told s disk may) (p : ℕ) (new : State) (disk' : List ℕ) (sound' : IsSound new) (may' : List ℕ → Type 0) where
-  -- what is told after it
-  abbrev told_by : Act → Reply → Told
-  told_by act reply = record told { history = told.history ++ events_of told p act reply }
+step_told : (told : Told) (p : ℕ) (a : Flushed) → tell told (record { p = p; act = acts.Flush }) (reply_to a) ≡ record told { history = told.history ++ acknowledged_by a }
+step_told told p (flushed.Committed number) = refl
+step_told told p answer = refl
 
-  -- what a crash after a step leaves
-  abbrev IsLeft : Act → Reply → Type 0
-  IsLeft act reply = (c : List ℕ) → may' c → TornFromWork (step_work s act reply) may c
+pub step_asks : (s : State) (a : Flushed) → GoesOn a → step_work s acts.Flush (reply_to a) ≡ work_asked s
+step_asks s flushed.Device goes = absurd goes
+step_asks s flushed.Broken goes = absurd goes
+step_asks s answer goes = refl
 
-  abbrev IsSure : Act → Reply → Type 0
-  IsSure act reply = reply ≢ replies.Refused refusals.Device → step_work s act reply ≡ Sync → Only may' disk
+step_quiet : (history : List Event) (a : Flushed) → AreQuiet history (acknowledged_by a)
+step_quiet history (flushed.Committed number) = quiet_acknowledge history number
+step_quiet history answer = quiet_nothing history
 
-  -- and within it
-  abbrev IsWithin : Act → Reply → Type 0
-  IsWithin act reply = (c : List ℕ) → TornFromWork (step_work s act reply) may c → LeftWithin s.table t.old t.new (current_stage s.write_outs) c
+-- a step whose reply is no refusal goes on
+pub step_goes : (a : Flushed) (reply : Reply) → reply ≡ reply_to a → ((why : Refusal) → reply ≢ replies.Refused why) → GoesOn a
+step_goes flushed.Device reply is fine = absurd (fine refusals.Device is)
+step_goes flushed.Broken reply is fine = absurd (fine refusals.Broken is)
+step_goes answer reply is fine = tt
 
-  abbrev Outcome : Act → Reply → Type 0
-  Outcome act reply = IsDurable files (told_by act reply) new disk' may' × IsWithin act reply
+-- ---- one step
 
-  -- ---- acts that leave the write-outs
+module _ (files : List File) (told : Told) (s : State) (disk : List ℕ) (may : List ℕ → Type 0) (t : IsTracked files told s disk may) (p : ℕ) (act : Act) (reply : Reply) (new : State) (disk' : List ℕ)
+    (sound' : IsSound new) (may' : List ℕ → Type 0) (left : (c : List ℕ) → may' c → TornFromWork (step_work s act reply) may c)
+    (sure : reply ≢ replies.Refused refusals.Device → step_work s act reply ≡ Sync → Only may' disk) where
+  -- what a crash within the step leaves, where it asks for this work
+  abbrev IsWithin : Work → Type 0
+  IsWithin work = (c : List ℕ) → TornFromWork work may c → LeftWithin s.table t.old t.new (current_stage s.write_outs) c
 
-  as_nothing : (act : Act) (reply : Reply) → step_work s act reply ≡ Nothing → (c : List ℕ) → TornFromWork (step_work s act reply) may c → may c
-  as_nothing act reply work c torn = subst (λ (x : Work). TornFromWork x may c) work torn
+  -- what is told after it is this
+  abbrev IsTold : Told → Type 0
+  IsTold now = tell told (record { p = p; act = act }) reply ≡ now
 
-  left_now : (c : List ℕ) → may c → LeftWithin s.table t.old t.new (current_stage s.write_outs) c
-  left_now c left = stands_left s.table t.old t.new s.write_outs disk may t.stands c left
+  abbrev Outcome : Type 0
+  Outcome = IsTracked files (tell told (record { p = p; act = act }) reply) new disk' may' × IsWithin (step_work s act reply)
 
-  quietly : (act : Act) (reply : Reply) → QuietStep told s p act reply new disk disk' → IsLeft act reply → Outcome act reply
-  quietly act reply q left = (
-    record {
-      old = t.old;
-      new = t.new;
-      stands = subst (λ (l : List ℕ). IsStanding new.table new.write_outs t.old t.new l may') (sym q.same_disk)
-          (subst (λ (o : WriteOutsValue). IsStanding new.table o t.old t.new disk may') (sym q.leaves.write_outs)
-          (subst (λ (v : SuperValue). IsStanding v s.write_outs t.old t.new disk may') (sym q.leaves.files.table)
-          (stands_less s.table s.write_outs t.old t.new disk may may' (λ c may_c. as_nothing act reply q.work c (left c may_c)) t.stands)));
-      written = written_left files told (told_by act reply) (events_of told p act reply) s new t.old t.new refl q.quiet q.leaves t.written;
-    },
-    λ c torn. left_now c (as_nothing act reply q.work c torn),
-  )
+  -- where this is told, and this work asked for
+  outcome_as : (now : Told) (work : Work) → IsTold now → step_work s act reply ≡ work → IsTracked files now new disk' may' → IsWithin work → Outcome
+  outcome_as now work told_is work_is tracked within = (subst (λ x. IsTracked files x new disk' may') (sym told_is) tracked, subst IsWithin (sym work_is) within)
+
+  left_by : (work : Work) → step_work s act reply ≡ work → (c : List ℕ) → may' c → TornFromWork work may c
+  left_by work is c left_c = subst (λ (w : Work). TornFromWork w may c) is (left c left_c)
+
+  left_now : IsWithin Nothing
+  left_now c left_c = stands_left s.table t.old t.new s.write_outs disk may t.stands c left_c
+
+  has : HasPages files told s
+  has = record { files_are = t.files_are; latest = t.latest; touched = t.touched; plain = t.plain }
+
+  tracked_of : (now : Told) → IsArranged now new → HasPages files now new → IsDurable files now new disk' may' → IsTracked files now new disk' may'
+  tracked_of now arranged pages durable = record {
+    sound = sound';
+    files_are = pages.files_are;
+    arranged = arranged;
+    latest = pages.latest;
+    touched = pages.touched;
+    plain = pages.plain;
+    old = durable.old;
+    new = durable.new;
+    stands = durable.stands;
+    written = durable.written;
+  }
+
+  -- ---- moves
+
+  moving : IsMoved s disk p act reply new disk' → Outcome
+  moving by =
+      let m = moves_tracked files told s disk may t by.says new by.moves in
+      outcome_as (said_all told by.says) Nothing (by.tells told) by.no_work (record {
+        sound = m.sound;
+        files_are = m.files_are;
+        arranged = m.arranged;
+        latest = m.latest;
+        touched = m.touched;
+        plain = m.plain;
+        old = m.old;
+        new = m.new;
+        stands = subst (λ (l : List ℕ). IsStanding new.table new.write_outs m.old m.new l may') (sym by.same_disk)
+            (stands_less new.table new.write_outs m.old m.new disk may may' (left_by Nothing by.no_work) m.stands);
+        written = m.written;
+      }) left_now
 
   -- ---- a mark
 
@@ -153,64 +182,114 @@ module _ (files : List File) (told : Told) (s : State) (disk : List ℕ) (may : 
           subst (λ (v : SuperValue). AreHomes (geometry_of v) homes) table
           (All-contains (λ (w : WriteOut). AreHomes (geometry_of new.table) w.batch.homes) new.write_outs.batches (begun_of (next_batch s.write_outs number homes)) sound'.write_outs.homes there)
 
-  marking : (reply : Reply) → MarkStep s p reply new disk disk' → IsLeft acts.Change reply → Outcome acts.Change reply
-  marking reply m left =
-      subst (λ (r : Reply). IsLeft acts.Change r → Outcome acts.Change r) (sym m.answer) (λ left. (
-        durable_as files (record told { history = told.history ++ events_of told p acts.Change (replies.Marked m.number) }) (told_by acts.Change (replies.Marked m.number)) new disk disk' may' refl m.same_disk
-            (marked_durable files told s p m.number disk may' t.old t.new t.sound t.latest t.touched (stands_less s.table s.write_outs t.old t.new disk may may' left t.stands) t.written m.made.next m.made.may.lock new m.made (fits m.number m.made)),
-        left_now,
-      )) left
+  module _ (number : ℕ) (made : MarkMade s p number new) where
+    abbrev marked : Told
+    marked = record (ended_by told p) { history = told.history ++ marked_by told.history number }
+
+    marked_arranged : IsArranged marked new
+    marked_arranged =
+        let m = s.hardware.spaces in
+        let spaces = spaces_still told.spaces m made.spaces made.protected.same_spaces made.protected.same_places (spaces_of t.arranged) in
+        let ended = arranged_end told s t.arranged p told.spaces made.spaces s.hardware.memory (without_notes made.noted) made.may.allowed spaces in
+        subst (IsArranged marked) (sym made.done) (arranged_beside marked (end_change s p made.spaces s.hardware.memory (without_notes made.noted)) _ (with_history marked.history ended) refl refl refl)
+
+    marked_pages : HasPages files marked new
+    marked_pages =
+        let memory = after_marked (memory_of files) told.history number in
+        subst (HasPages files marked) (sym made.done) (record {
+          files_are = files_kept files s _ (record { table = refl; lengths = refl }) has.files_are;
+          latest = record {
+            whole = λ file page. ap (λ (m : Memory). length (m file page)) memory ∙ has.latest.whole file page;
+            latest = λ frame owner holds. has.latest.latest frame owner holds ∙ ap (λ (m : Memory). m owner.file owner.page) (sym memory);
+          };
+          touched = λ owner. (
+            λ is. absurd (false≢true (sym (touched_mark told.history number (has_unmarked told.history) owner.file owner.page) ∙ is)),
+            λ d. absurd (clean_after_mark s.hardware.spaces made.spaces s.hardware.memory s.checkpoint made.noted (not s.write_outs.broken) made.pages d.0 made.gathered made.protected d.2),
+          );
+          plain = plain_still files told marked s _ (record { table = refl; lengths = refl }) (λ owner is gone. (ap (λ (m : Memory). m owner.file owner.page) memory, has.plain owner is gone));
+        })
+
+    marking : IsTold marked → step_work s act reply ≡ Nothing → disk' ≡ disk → Outcome
+    marking told_is work same_disk =
+        outcome_as marked Nothing told_is work (tracked_of marked marked_arranged marked_pages
+        (durable_as files (record told { history = told.history ++ marked_by told.history number }) marked new disk disk' may' refl same_disk
+        (marked_durable files told s p number disk may' t.old t.new t.sound t.latest t.touched (stands_less s.table s.write_outs t.old t.new disk may may' (left_by Nothing work) t.stands) t.written made.next made.may.lock new made (fits number made)))) left_now
 
   -- ---- a step of the write-outs
 
-  flush_steps : (reply : Reply) → FlushMade s disk p reply new disk' → ((c : List ℕ) → may' c → TornFromWork (work_asked s) may c) → (work_asked s ≡ Sync → Only may' disk) → (next_answer s.write_outs ≡ flushed.Device → ⊥)
-      → ((n : ℕ) → next_answer s.write_outs ≡ flushed.Committed n → ⊥) → IsDurable files (record told { history = told.history ++ [] }) new disk' may'
-  flush_steps reply made left sure other uncommitting =
-      subst (λ (x : State). IsDurable files (record told { history = told.history ++ [] }) x disk' may') (sym made.done)
-      (durable_as files (record told { history = told.history ++ [] }) (record told { history = told.history ++ [] }) _ (worked disk (work_asked s)) disk' may' refl made.disk_done
-      (flush_goes_on files told s disk may t.old t.new t.sound t.stands t.written p made.allowed made.some (is_some (outs_record s.write_outs)) may' left sure other uncommitting))
+  abbrev with_events : List Event → Told
+  with_events events = record told { history = told.history ++ events }
 
-  going_not : (a : Flushed) → a ≡ flushed.Going → a ≡ flushed.Device → ⊥
-  going_not a e d = let never : flushed.Going ≡ flushed.Device = sym e ∙ d in cc
+  -- of a state that differs in write-outs, frozen pages and copies alone
+  module _ (events : List Event) (quiet : AreQuiet told.history events) where
+    abbrev IsAsTold : State → Type 0
+    IsAsTold x = IsArranged (with_events events) x × HasPages files (with_events events) x
 
-  going_commits : (a : Flushed) → a ≡ flushed.Going → (n : ℕ) → a ≡ flushed.Committed n → ⊥
-  going_commits a e n c = let never : flushed.Going ≡ flushed.Committed n = sym e ∙ c in cc
+    beside : (x : State) → x.hardware.shootdown ≡ s.hardware.shootdown → x.hardware.spaces ≡ s.hardware.spaces → SameFiles s x → SamePages s x → IsAsTold x
+    beside x shootdown spaces same pages = (
+      arranged_beside (with_events events) s x (with_history (told.history ++ events) t.arranged) shootdown spaces same.lengths,
+      pages_quiet files told (with_events events) s x events refl quiet same has pages,
+    )
 
-  done_commits : (number : ℕ) (a : Flushed) → a ≡ flushed.Done number → (n : ℕ) → a ≡ flushed.Committed n → ⊥
-  done_commits number a e n c = let never : flushed.Done number ≡ flushed.Committed n = sym e ∙ c in cc
+    stepped : FlushMade s disk p reply new disk' → IsAsTold new
+    stepped made =
+        subst IsAsTold (sym made.done)
+        (elim (is_some (outs_record s.write_outs)) as (λ b. IsAsTold (record (cond b (after_record s) s) { write_outs = outs_after s.write_outs (next_answer s.write_outs) })) [
+          | true ↦ beside _ refl refl (record { table = refl; lengths = refl }) (record { frames = refl; dirty = λ frame. (λ d. d, λ d. d) })
+          | false ↦ beside _ refl refl (record { table = refl; lengths = refl }) (record { frames = refl; dirty = λ frame. (λ d. d, λ d. d) })
+        ])
 
-  done_not : (number : ℕ) (a : Flushed) → a ≡ flushed.Done number → a ≡ flushed.Device → ⊥
-  done_not number a e d = let never : flushed.Done number ≡ flushed.Device = sym e ∙ d in cc
+  module _ (made : FlushMade s disk p reply new disk') (work : step_work s act reply ≡ work_asked s) (sure_now : work_asked s ≡ Sync → Only may' disk) where
+    abbrev after_it : State
+    after_it = record (cond (is_some (outs_record s.write_outs)) (after_record s) s) { write_outs = outs_after s.write_outs (next_answer s.write_outs) }
 
-  flushing : (reply : Reply) → Acts s disk p acts.Flush reply new disk' → IsLeft acts.Flush reply → IsSure acts.Flush reply → Outcome acts.Flush reply
-  flushing replies.Going rule left sure = (
-    flush_steps replies.Going rule left (sure (λ e. cc)) (going_not (next_answer s.write_outs) (going_is (next_answer s.write_outs) rule.answered)) (going_commits (next_answer s.write_outs) (going_is (next_answer s.write_outs) rule.answered)),
-    flush_within files told s disk may t.old t.new t.sound t.stands t.written p rule.allowed rule.some,
-  )
-  flushing (replies.Committed number) rule left sure = (
-    subst (λ (x : State). IsDurable files (record told { history = told.history ++ Acknowledge number ∷ [] }) x disk' may') (sym rule.done)
-        (durable_as files (record told { history = told.history ++ Acknowledge number ∷ [] }) (record told { history = told.history ++ Acknowledge number ∷ [] }) _ (worked disk (work_asked s)) disk' may' refl rule.disk_done
-        (flush_commits files told s disk may t.old t.new t.sound t.stands t.written p rule.allowed rule.some (is_some (outs_record s.write_outs)) may' left (sure (λ e. cc)) number (committed_is number (next_answer s.write_outs) rule.answered))),
-    flush_within files told s disk may t.old t.new t.sound t.stands t.written p rule.allowed rule.some,
-  )
-  flushing (replies.Done number) rule left sure = (
-    flush_steps (replies.Done number) rule left (sure (λ e. cc)) (done_not number (next_answer s.write_outs) (done_is number (next_answer s.write_outs) rule.answered)) (done_commits number (next_answer s.write_outs) (done_is number (next_answer s.write_outs) rule.answered)),
-    flush_within files told s disk may t.old t.new t.sound t.stands t.written p rule.allowed rule.some,
-  )
-  flushing (replies.Refused refusals.Device) rule left sure = (
-    flush_failed files told s disk may t.old t.new t.sound t.stands t.written p rule.allowed rule.some new disk' may' rule.done left,
-    flush_within files told s disk may t.old t.new t.sound t.stands t.written p rule.allowed rule.some,
-  )
-  flushing replies.Nothing rule left sure = quietly acts.Flush replies.Nothing (unchanged told s disk p new disk' acts.Flush replies.Nothing refl refl rule.2 rule.3) left
-  flushing (replies.Refused why) rule left sure = quietly acts.Flush (replies.Refused why) (unchanged told s disk p new disk' acts.Flush (replies.Refused why) refl refl rule.0.unchanged rule.1) left
-  flushing reply rule left sure = absurd rule
+    landed : (events : List Event) → IsDurable files (with_events events) after_it (worked disk (work_asked s)) may' → IsDurable files (with_events events) new disk' may'
+    landed events is =
+        subst (λ (x : State). IsDurable files (with_events events) x disk' may') (sym made.done)
+        (durable_as files (with_events events) (with_events events) after_it (worked disk (work_asked s)) disk' may' refl made.disk_done is)
+
+    goes_on : (next_answer s.write_outs ≡ flushed.Device → ⊥) → ((n : ℕ) → next_answer s.write_outs ≡ flushed.Committed n → ⊥) → IsDurable files (with_events []) new disk' may'
+    goes_on other uncommitting =
+        landed [] (flush_goes_on files told s disk may t.old t.new t.sound t.stands t.written p made.allowed made.some (is_some (outs_record s.write_outs)) may' (left_by (work_asked s) work) sure_now other uncommitting)
+
+    step_durable : (a : Flushed) → next_answer s.write_outs ≡ a → GoesOn a → IsDurable files (with_events (acknowledged_by a)) new disk' may'
+    step_durable flushed.Going is goes = goes_on (λ d. let never : flushed.Going ≡ flushed.Device = sym is ∙ d in cc) (λ n c. let never : flushed.Going ≡ flushed.Committed n = sym is ∙ c in cc)
+    step_durable (flushed.Committed number) is goes =
+        landed (Acknowledge number ∷ [])
+        (flush_commits files told s disk may t.old t.new t.sound t.stands t.written p made.allowed made.some (is_some (outs_record s.write_outs)) may' (left_by (work_asked s) work) sure_now number is)
+    step_durable (flushed.Done number) is goes =
+        goes_on (λ d. let never : flushed.Done number ≡ flushed.Device = sym is ∙ d in cc) (λ n c. let never : flushed.Done number ≡ flushed.Committed n = sym is ∙ c in cc)
+    step_durable flushed.Device is goes = absurd goes
+    step_durable flushed.Broken is goes = absurd goes
+
+  stepping : act ≡ acts.Flush → FlushMade s disk p reply new disk' → ((why : Refusal) → reply ≢ replies.Refused why) → Outcome
+  stepping act_is made fine =
+      let a = next_answer s.write_outs in
+      let goes = step_goes a reply made.answered fine in
+      let told_is = (λ i. tell told (record { p = p; act = act_is i }) (made.answered i)) ∙ step_told told p a in
+      let work = (λ i. step_work s (act_is i) (made.answered i)) ∙ step_asks s a goes in
+      let as_told = stepped (acknowledged_by a) (step_quiet told.history a) made in
+      outcome_as (with_events (acknowledged_by a)) (work_asked s) told_is work
+      (tracked_of (with_events (acknowledged_by a)) as_told.0 as_told.1 (step_durable made work (λ sync. sure (fine refusals.Device) (work ∙ sync)) a refl goes))
+      (flush_within files told s disk may t.old t.new t.sound t.stands t.written p made.allowed made.some)
+
+  failing : act ≡ acts.Flush → reply ≡ replies.Refused refusals.Device → FlushFailed s disk p new disk' → Outcome
+  failing act_is reply_is made =
+      let work : step_work s act reply ≡ work_asked s = λ i. step_work s (act_is i) (reply_is i) in
+      let as_told : IsAsTold [] (quiet_nothing told.history) new =
+      subst (IsAsTold [] (quiet_nothing told.history)) (sym made.done) (beside [] (quiet_nothing told.history) (after_failure s) refl refl (record { table = refl; lengths = refl }) (record { frames = refl; dirty = λ frame. (λ d. d, λ d. d) })) in
+      outcome_as (with_events []) (work_asked s) (λ i. tell told (record { p = p; act = act_is i }) (reply_is i)) work
+      (tracked_of (with_events []) as_told.0 as_told.1 (flush_failed files told s disk may t.old t.new t.sound t.stands t.written p made.allowed made.some new disk' may' made.done (left_by (work_asked s) work)))
+      (flush_within files told s disk may t.old t.new t.sound t.stands t.written p made.allowed made.some)
 
   -- ---- any act
 
-  pub acting : (act : Act) (reply : Reply) → Acts s disk p act reply new disk' → IsLeft act reply → IsSure act reply → Outcome act reply
-  acting =
-      by_kind told s disk p new disk' t.sound (λ act reply. IsLeft act reply → IsSure act reply → Outcome act reply)
-      (λ act reply quiet left sure. quietly act reply quiet left) (λ reply mark left sure. marking reply mark left) flushing
+  pub performing : Performed s disk p act reply new disk' → Outcome
+  performing (Moved by) = moving by
+  performing (Marked number act_is reply_is made same_disk) =
+      marking number made (λ i. tell told (record { p = p; act = act_is i }) (reply_is i)) (λ i. step_work s (act_is i) (reply_is i)) same_disk
+  performing (Stepped act_is made fine) = stepping act_is made fine
+  performing (Failed act_is reply_is made) = failing act_is reply_is made
 
 -- ---- steps over a device
 
@@ -223,29 +302,33 @@ leaves_more moment left_since old new P Q more is = record {
 }
 
 module _ {D : Type 0} (disk : Ghosts D) (files : List File) (told : Told) (old : Whole D) (step : Step) (reply : Reply) (new : Whole D) (t : IsTracked files told old.state (disk.seen old.device) (disk.may_leave old.device))
-    (taken : StepTaken disk old step reply new) (honest : disk.is_honest old.device) (sound' : IsSound new.state) where
+    (taken : StepTaken disk old step reply new) (honest : disk.is_honest old.device) where
   made : StepMade disk old step reply new
   made = taken.made honest
 
-  outcome : IsDurable files (record told { history = told.history ++ events_of told step.p step.act reply }) new.state (disk.seen new.device) (disk.may_leave new.device)
-      × ((c : List ℕ) → TornFromWork (step_work old.state step.act reply) (disk.may_leave old.device) c → LeftWithin old.state.table t.old t.new (current_stage old.state.write_outs) c)
-  outcome = acting files told old.state (disk.seen old.device) (disk.may_leave old.device) t step.p new.state (disk.seen new.device) sound' (disk.may_leave new.device) step.act reply made.answered made.left made.sure
+  abbrev asked : List ℕ → Type 0
+  asked c = TornFromWork (step_work old.state step.act reply) (disk.may_leave old.device) c
 
-  -- what the device recovers to still goes with what is told
-  pub durable_kept : IsDurable files (tell told step reply) new.state (disk.seen new.device) (disk.may_leave new.device)
-  durable_kept = durable_as files (record told { history = told.history ++ events_of told step.p step.act reply }) (tell told step reply) new.state (disk.seen new.device) (disk.seen new.device) (disk.may_leave new.device) refl refl outcome.0
+  outcome : IsTracked files (tell told step reply) new.state (disk.seen new.device) (disk.may_leave new.device) × ((c : List ℕ) → asked c → LeftWithin old.state.table t.old t.new (current_stage old.state.write_outs) c)
+  outcome =
+      let by = performed old.state (disk.seen old.device) step reply new.state (disk.seen new.device) t.sound made.answered in
+      performing files told old.state (disk.seen old.device) (disk.may_leave old.device) t step.p step.act reply new.state (disk.seen new.device) (performed_sound t.sound by) (disk.may_leave new.device) made.left made.sure by
+
+  pub tracked_kept : IsTracked files (tell told step reply) new.state (disk.seen new.device) (disk.may_leave new.device)
+  tracked_kept = outcome.0
 
   -- a crash within it leaves old files or new ones, by the stage of the write-out
-  pub step_stops : LeavesOnly disk.moment disk.left_since old.device new.device (StopsInStep files told.history old.state.write_outs)
-  step_stops = leaves_more disk.moment disk.left_since old.device new.device (TornFromWork (step_work old.state step.act reply) (disk.may_leave old.device)) (StopsInStep files told.history old.state.write_outs)
+  pub step_stopped : LeavesOnly disk.moment disk.left_since old.device new.device (StopsInStep files told.history old.state.write_outs)
+  step_stopped = leaves_more disk.moment disk.left_since old.device new.device asked (StopsInStep files told.history old.state.write_outs)
       (λ c torn. stops_within files told old.state t.sound t.files_are t.old t.new t.written t.stands.sound.ordered c (outcome.1 c torn)) made.within
 
   -- and a crash at any moment reads back
-  pub step_is_safe : HasFiles files new.state → StepIsSafe disk files told old step reply new
-  step_is_safe has = record {
+  pub step_safe : StepIsSafe disk files told old step reply new
+  step_safe = record {
     taken = taken;
     honest = honest;
-    within = leaves_more disk.moment disk.left_since old.device new.device (TornFromWork (step_work old.state step.act reply) (disk.may_leave old.device)) (ReadsBack files told.history)
+    within = leaves_more disk.moment disk.left_since old.device new.device asked (ReadsBack files told.history)
         (λ c torn. reads_within files told old.state t.sound t.files_are t.old t.new t.written c (outcome.1 c torn)) made.within;
-    after = λ c left. reads_now files (tell told step reply) new.state (disk.seen new.device) (disk.may_leave new.device) sound' has durable_kept c left;
+    after = λ c left. let now = tracked_kept in reads_now files (tell told step reply) new.state (disk.seen new.device) (disk.may_leave new.device) now.sound now.files_are
+        (record { old = now.old; new = now.new; stands = now.stands; written = now.written }) c left;
   }

@@ -1,6 +1,6 @@
 -- Batches that aren't committed: a step makes none of one that is.
-use Rattle.std.proofs.Common.{◌≡◌, ◌≤◌, ◌+◌, ◌⊎◌, ℕ, zero, suc, true, false, not, List, [], ◌∷◌, length, Option, Some, None, inl, inr, refl, sym, ap, ◌∙◌, subst, arith}
-use Rattle.std.specs.List.{Contains, AllByRecursion}
+use Rattle.std.proofs.Common.{◌≡◌, ◌≤◌, ◌+◌, ◌⊎◌, ℕ, zero, suc, true, false, not, List, [], ◌∷◌, length, Option, Some, None, inl, inr, refl, sym, ap, ◌∙◌, subst, arith, ◌++◌, map, drop}
+use Rattle.std.specs.List.{Contains, AllByRecursion, flat_map}
 use Rattle.std.specs.Option.{option_map_or}
 use Rattle.std.proofs.lemmas.Bool.{cond-true, cond-false, cases_Bool, both_ways, or_from, not_from_true, false_from_ne_true}
 use Rattle.std.proofs.lemmas.List.Elements.{Contains-append_right}
@@ -11,42 +11,21 @@ use Rattle.journal.specs.declared.stage.Stage.{Stage}
 use Rattle.journal.specs.declared.stage.Stage.TheVariants.{Recording, Describing, SyncingRecords, Opening, Committing, Applying, SyncingHomes, Closing, Finishing}
 use Rattle.journal.specs.Stage.{is_committed, answer_at}
 use Rattle.journal.specs.WriteOut.{WriteOut, begun_of, next_stage, has_committed, advanced_of, answer_of}
-use Rattle.journal.specs.WriteOuts.{has_uncommitted, current, advanced, batches_after}
+use Rattle.journal.specs.WriteOuts.{has_uncommitted, current, advanced, batches_after, HasBlock}
 use Rattle.journal.specs.inside.Sound.{IsOlder, AreInOrder}
 use Rattle.journal.proofs.Public.{IsAt, stage_is, committed_parts, done_committed}
 use Rattle.machine.specs.inside.Tracking.{IsWaiting}
-use Rattle.machine.proofs.durable.Lists.{some_same, none_some}
-
--- a batch of k blocks is committed after k + 4 steps, and no sooner
-steps_early : (k n : ℕ) (o : Option Stage) → IsAt k n o → option_map_or is_committed o true ≡ false → n ≤ k + 3
-steps_early k n (Some (Recording i)) at early = omega (arith, at.0, at.1)
-steps_early k n (Some Describing) at early = omega (arith, at)
-steps_early k n (Some SyncingRecords) at early = omega (arith, at)
-steps_early k n (Some Opening) at early = omega (arith, at)
-steps_early k n (Some Committing) at early = omega (arith, at)
-steps_early k n (Some (Applying i)) at early = absurd (both_ways true early refl)
-steps_early k n (Some SyncingHomes) at early = absurd (both_ways true early refl)
-steps_early k n (Some Closing) at early = absurd (both_ways true early refl)
-steps_early k n (Some Finishing) at early = absurd (both_ways true early refl)
-steps_early k n None at early = absurd (both_ways true early refl)
-
-steps_late : (k n : ℕ) (o : Option Stage) → IsAt k n o → option_map_or is_committed o true ≡ true → k + 4 ≤ n
-steps_late k n (Some (Recording i)) at late = absurd (both_ways false refl late)
-steps_late k n (Some Describing) at late = absurd (both_ways false refl late)
-steps_late k n (Some SyncingRecords) at late = absurd (both_ways false refl late)
-steps_late k n (Some Opening) at late = absurd (both_ways false refl late)
-steps_late k n (Some Committing) at late = absurd (both_ways false refl late)
-steps_late k n (Some (Applying i)) at late = omega (arith, at.0)
-steps_late k n (Some SyncingHomes) at late = omega (arith, at)
-steps_late k n (Some Closing) at late = omega (arith, at)
-steps_late k n (Some Finishing) at late = omega (arith, at)
-steps_late k n None at late = omega (arith, at)
+use Rattle.machine.proofs.sound.Waiting.{blocks, committed_steps, committed_still}
+use Rattle.machine.proofs.durable.Lists.{some_same, none_some, contains_map, contains_drop, contains_flat_map, nothing_mapped}
+use Rattle.std.proofs.lemmas.List.{drop_all}
+use Rattle.page_entry.specs.declared.numbers.FilePage.{FilePage}
+use Rattle.machine.specs.State.{State, home_of}
+use Rattle.machine.specs.inside.Sound.{IsSound}
+use Rattle.machine.specs.Durability.{waiting_homes}
 
 -- one that isn't committed after a step wasn't before it
 still_uncommitted : (w : WriteOut) → has_committed (advanced_of w) ≡ false → has_committed w ≡ false
-still_uncommitted w early = false_from_ne_true (has_committed w) (λ late.
-    let k = length w.batch.homes in
-    omega (arith, steps_early k (w.steps + 1) (next_stage (advanced_of w)) (stage_is k (w.steps + 1)) early, steps_late k w.steps (next_stage w) (stage_is k w.steps) late))
+still_uncommitted w early = false_from_ne_true (has_committed w) (λ late. both_ways (has_committed (advanced_of w)) early (committed_still w late))
 
 -- where each is committed, none of them isn't
 pub none_uncommitted : (batches : List WriteOut) (w : WriteOut) → has_uncommitted batches ≡ false → Contains batches w → has_committed w ≡ false → ⊥
@@ -94,8 +73,7 @@ uncommitted_before Broken batches w there early = record { before = w; there = t
 
 -- one that was just begun does
 pub begun_early : (batch : Batch) → has_committed (begun_of batch) ≡ false
-begun_early batch = false_from_ne_true (has_committed (begun_of batch)) (λ late.
-    let k = length batch.homes in omega (arith, steps_late k 0 (next_stage (begun_of batch)) (stage_is k 0) late))
+begun_early batch = false_from_ne_true (has_committed (begun_of batch)) (λ late. let many = committed_steps (begun_of batch) late in omega (arith, many))
 
 -- the step by which a batch is committed answers so
 commits_now : (k n mark : ℕ) (o : Option Stage) → IsAt k n o → option_map_or is_committed o true ≡ false → k + 4 ≤ n + 1 → option_map_or (answer_at mark) o Broken ≡ Committed mark
@@ -104,17 +82,11 @@ commits_now k n mark (Some Describing) at early late = absurd (omega (arith, at,
 commits_now k n mark (Some SyncingRecords) at early late = absurd (omega (arith, at, late))
 commits_now k n mark (Some Opening) at early late = absurd (omega (arith, at, late))
 commits_now k n mark (Some Committing) at early late = refl
-commits_now k n mark (Some (Applying i)) at early late = absurd (both_ways true early refl)
-commits_now k n mark (Some SyncingHomes) at early late = absurd (both_ways true early refl)
-commits_now k n mark (Some Closing) at early late = absurd (both_ways true early refl)
-commits_now k n mark (Some Finishing) at early late = absurd (both_ways true early refl)
-commits_now k n mark None at early late = absurd (both_ways true early refl)
+commits_now k n mark o at early late = absurd (both_ways true early refl)
 
 own_step : (x : WriteOut) → has_committed x ≡ false → (has_committed (advanced_of x) ≡ false) ⊎ (answer_of x ≡ Committed x.batch.mark)
 own_step x early = elim (cases_Bool (has_committed (advanced_of x))) [
-  | inl late ↦
-      (let k = length x.batch.homes in
-      inr (commits_now k x.steps x.batch.mark (next_stage x) (stage_is k x.steps) early (steps_late k (x.steps + 1) (next_stage (advanced_of x)) (stage_is k (x.steps + 1)) late)))
+  | inl late ↦ inr (commits_now (blocks x) x.steps x.batch.mark (next_stage x) (stage_is (blocks x) x.steps) early (committed_steps (advanced_of x) late))
   | inr still ↦ inl still
 ]
 
@@ -215,3 +187,55 @@ none_current (x ∷ newer) is w there = elim (cases_Bool (has_uncommitted newer)
     found : (l : List WriteOut) → has_uncommitted l ≡ true → (y : WriteOut) × Contains l y
     found [] some = absurd (both_ways false refl some)
     found (y ∷ l) some = (y, (0, omega arith, refl))
+
+-- ---- the frozen pages are those whose records aren't written yet
+
+-- ---- which pages are frozen
+
+module _ (s : State) (sound : IsSound s) where
+  pub broken_frozen : s.write_outs.broken ≡ true → s.checkpoint.frozen ≡ []
+  broken_frozen broken = nothing_mapped (home_of s.table) s.checkpoint.frozen (sound.write_outs.frozen ∙ cond-true s.write_outs.broken [] (waiting_homes s.write_outs) broken)
+
+  pub whole_frozen : s.write_outs.broken ≡ false → map (home_of s.table) s.checkpoint.frozen ≡ waiting_homes s.write_outs
+  whole_frozen whole = sound.write_outs.frozen ∙ cond-false s.write_outs.broken [] (waiting_homes s.write_outs) whole
+
+  -- the home block of a frozen page belongs to a batch
+  pub frozen_block : (owner : FilePage) → Contains s.checkpoint.frozen owner → HasBlock s.write_outs (home_of s.table owner)
+  frozen_block owner has = elim (cases_Bool s.write_outs.broken) [
+    | inl broken ↦ (let none : Contains [] owner = subst (λ (l : List FilePage). Contains l owner) (broken_frozen broken) has in absurd (omega (arith, none.1)))
+    | inr whole ↦
+        (let there = subst (λ (l : List ℕ). Contains l (home_of s.table owner)) (whole_frozen whole) (contains_map (home_of s.table) s.checkpoint.frozen owner has) in
+        let at = contains_flat_map (λ (w : WriteOut). drop w.steps w.batch.homes) s.write_outs.batches (home_of s.table owner) there in
+        (at.0, at.1, contains_drop at.0.steps at.0.batch.homes (home_of s.table owner) at.2))
+  ]
+
+-- ---- records that wait
+
+late_steps : (k n : ℕ) (o : Option Stage) → IsAt k n o → option_map_or is_committed o true ≡ true → k ≤ n
+late_steps k n (Some (Recording i)) at e = absurd (both_ways false refl e)
+late_steps k n (Some Describing) at e = absurd (both_ways false refl e)
+late_steps k n (Some SyncingRecords) at e = absurd (both_ways false refl e)
+late_steps k n (Some Opening) at e = absurd (both_ways false refl e)
+late_steps k n (Some Committing) at e = absurd (both_ways false refl e)
+late_steps k n (Some (Applying i)) at e = omega (arith, at.0)
+late_steps k n (Some SyncingHomes) at e = omega (arith, at)
+late_steps k n (Some Closing) at e = omega (arith, at)
+late_steps k n (Some Finishing) at e = omega (arith, at)
+late_steps k n None at e = omega (arith, at)
+
+-- of a committed batch no record waits
+pub none_waits : (w : WriteOut) → has_committed w ≡ true → drop w.steps w.batch.homes ≡ []
+none_waits w committed = drop_all w.steps w.batch.homes (late_steps (length w.batch.homes) w.steps (next_stage w) (stage_is (length w.batch.homes) w.steps) committed)
+
+pub all_committed : (batches : List WriteOut) → has_uncommitted batches ≡ false → flat_map (λ (w : WriteOut). drop w.steps w.batch.homes) batches ≡ []
+all_committed [] none = refl
+all_committed (w ∷ newer) none =
+    let parts = committed_parts w newer none in
+    ap (λ (l : List ℕ). l ++ flat_map (λ (w : WriteOut). drop w.steps w.batch.homes) newer) (none_waits w parts.0) ∙ all_committed newer parts.1
+
+-- where each batch is committed, no page is frozen
+pub committed_frozen : (s : State) → IsSound s → has_uncommitted s.write_outs.batches ≡ false → s.checkpoint.frozen ≡ []
+committed_frozen s sound none = elim (cases_Bool s.write_outs.broken) [
+  | inl broken ↦ broken_frozen s sound broken
+  | inr whole ↦ nothing_mapped (home_of s.table) s.checkpoint.frozen (whole_frozen s sound whole ∙ all_committed s.write_outs.batches none)
+]

@@ -1,21 +1,25 @@
--- Each act leaves spaces, processors and the lock as it tells them.
-use Rattle.std.proofs.Common.{ℕ, ◌≡◌, Bool, true, List, Option, Some, None, is_some, refl, sym, ap, ◌∙◌, subst}
+-- Each move leaves spaces, processors and the lock as it tells them.
+use Rattle.std.proofs.Common.{ℕ, ◌≡◌, ◌<◌, Bool, true, set, List, length, Option, None, Some, is_some, refl, sym, ap, ◌∙◌, subst}
 use Rattle.frames.specs.Frames.{FramesState}
 use Rattle.spaces.specs.declared.change.Change.{Change}
+use Rattle.spaces.specs.declared.change.Change.TheVariants.{Unmap, Protect, Reclaim, Checkpoint}
 use Rattle.spaces.specs.Spaces.{Spaces}
 use Rattle.shootdown.specs.declared.lock.Lock.{Lock}
-use Rattle.shootdown.specs.Processors.{woken}
-use Rattle.shootdown.specs.Shootdown.{ShootdownState, processor_at, is_there, not_free}
+use Rattle.shootdown.specs.Processors.{Processor, woken}
+use Rattle.shootdown.specs.Shootdown.{ShootdownState, processor_at, with_processor}
+use Rattle.shootdown.specs.Calls.{change_refusal}
 use Rattle.shootdown.proofs.Public.{admitted, is_there_below}
 use Rattle.checkpoint.specs.Checkpoint.{CheckpointState}
-use Rattle.cpu.specs.Access.{Hardware}
+use Rattle.machine.specs.History.{Event}
 use Rattle.machine.specs.State.{State}
-use Rattle.machine.specs.Rules.{with_hardware, with_shootdown, with_spaces, begin_change, end_change}
-use Rattle.machine.specs.Told.{Told, Pending, begun_by, ended_by}
+use Rattle.machine.specs.Rules.{with_hardware, begin_change, end_change}
+use Rattle.machine.specs.Told.{Told, Pending, changed, ended_by}
+use Rattle.machine.specs.inside.Sound.{IsSound}
 use Rattle.machine.specs.inside.Tracking.{IsArranged, pending_in, change_in}
-use Rattle.machine.proofs.track.Still.{KeepsTold}
-use Rattle.machine.proofs.track.ToldProcessors.{AreProcessorsTold, told_running, told_begun}
-use Rattle.machine.proofs.track.ToldSpaces.{ToldSpaces, AreSpacesTold}
+use Rattle.machine.specs.inside.Moves.{Saying, Silent, Running, Entering, Mapping, Leaving, Beginning, Storing, said, IsProcessorTold, AreSpacesTold as AreSaid, effect_of, ending_of, EndsChange, Move, Replace, Remap, Destroy, Begin, End, Store, Bring, Copy, Drop}
+use Rattle.machine.proofs.sound.Admitted.{there_at_change}
+use Rattle.machine.proofs.track.Translations.{has_stored}
+use Rattle.machine.proofs.track.ToldSpaces.{AreProcessorsTold, told_still, told_running, told_switched, told_begun, told_destroyed, ToldSpaces, AreSpacesTold, spaces_still, spaces_with, spaces_without}
 
 -- the lock as it is told
 pub record IsLockTold (locked : Bool) (pending : Option Pending) (lock : Option Lock) : Type 0 where
@@ -31,8 +35,9 @@ module _ {told : Told} {s : State} (a : IsArranged told s) where
   pub spaces_of : AreSpacesTold told.spaces s.hardware.spaces
   spaces_of = record { same_spaces = a.same_spaces; same_places = a.same_places }
 
-  pub lock_of : IsLockTold told.locked told.pending s.hardware.shootdown.lock
-  lock_of = record { same_locked = a.same_locked; same_pending = a.same_pending }
+  -- the lock is told still where it is the same
+  lock_as : (lock : Option Lock) → lock ≡ s.hardware.shootdown.lock → IsLockTold told.locked told.pending lock
+  lock_as lock same = record { same_locked = a.same_locked ∙ sym (ap is_some same); same_pending = a.same_pending ∙ sym (ap (λ l. pending_in (change_in l)) same) }
 
 pub arranged_from : (told : Told) (s : State) → AreSpacesTold told.spaces s.hardware.spaces → AreProcessorsTold told.current told.running s.hardware.shootdown → IsLockTold told.locked told.pending s.hardware.shootdown.lock
     → told.lengths ≡ s.lengths → IsArranged told s
@@ -48,42 +53,9 @@ arranged_from told s spaces processors lock lengths = record {
   same_lengths = lengths;
 }
 
--- ---- what an act changes of them
-
-module _ {told : Told} {s : State} (a : IsArranged told s) where
-  -- the hardware changes, and nothing that is told of it
-  pub arranged_hardware : (h : Hardware) → KeepsTold s.hardware h → IsArranged told (with_hardware s h)
-  arranged_hardware h keeps =
-      arranged_from told (with_hardware s h) (keeps.spaces told.spaces (spaces_of a)) (keeps.processors told.current told.running (processors_of a))
-      (record { same_locked = a.same_locked ∙ sym (ap is_some keeps.lock); same_pending = a.same_pending ∙ sym (ap (λ l. pending_in (change_in l)) keeps.lock) }) a.same_lengths
-
-  -- the spaces change
-  pub arranged_spaces : (places : ToldSpaces) (spaces : Spaces) → AreSpacesTold places spaces → IsArranged (record told { spaces = places }) (with_spaces s spaces)
-  arranged_spaces places spaces t = arranged_from (record told { spaces = places }) (with_spaces s spaces) t (processors_of a) (lock_of a) a.same_lengths
-
-  -- the processors do
-  pub arranged_processors : (spaces : List ℕ) (runs : List Bool) (shootdown : ShootdownState) → shootdown.lock ≡ s.hardware.shootdown.lock → AreProcessorsTold spaces runs shootdown
-      → IsArranged (record told { current = spaces; running = runs }) (with_shootdown s shootdown)
-  arranged_processors spaces runs shootdown lock t =
-      arranged_from (record told { current = spaces; running = runs }) (with_shootdown s shootdown) (spaces_of a) t
-      (record { same_locked = a.same_locked ∙ sym (ap is_some lock); same_pending = a.same_pending ∙ sym (ap (λ l. pending_in (change_in l)) lock) }) a.same_lengths
-
-  -- a change begins
-  pub arranged_begun : (p : ℕ) (change : Change) → not_free s.hardware.shootdown p ≡ None → IsArranged (begun_by told p (pending_in (Some change))) (begin_change s p change)
-  arranged_begun p change free =
-      let there = is_there_below s.hardware.shootdown p (admitted s.hardware.shootdown p free).0 in
-      arranged_from (begun_by told p (pending_in (Some change))) (begin_change s p change) (spaces_of a)
-      (told_begun told.current told.running s.hardware.shootdown p s.hardware.spaces change there (processors_of a))
-      (record { same_locked = refl; same_pending = refl }) a.same_lengths
-
-  -- a change is made, and the spaces are as it leaves them
-  pub arranged_ended : (p : ℕ) (places : ToldSpaces) (spaces : Spaces) (memory : FramesState) (checkpoint : CheckpointState) → is_there s.hardware.shootdown p ≡ true → AreSpacesTold places spaces
-      → IsArranged (ended_by (record told { spaces = places }) p) (end_change s p spaces memory checkpoint)
-  arranged_ended p places spaces memory checkpoint there t =
-      let after_it = told_running told.current told.running s.hardware.shootdown p (woken (processor_at s.hardware.shootdown p)) (is_there_below s.hardware.shootdown p there) (processors_of a) true refl refl in
-      arranged_from (ended_by (record told { spaces = places }) p) (end_change s p spaces memory checkpoint) t
-      (record { processors = after_it.processors; same_current = after_it.same_current; as_many = after_it.as_many; same_running = after_it.same_running })
-      (record { same_locked = refl; same_pending = refl }) a.same_lengths
+-- of what is told the history doesn't matter
+pub with_history : {told : Told} {s : State} (history : List Event) → IsArranged told s → IsArranged (record told { history = history }) s
+with_history {told} {s} history a = arranged_from (record told { history = history }) s (spaces_of a) (processors_of a) (lock_as a s.hardware.shootdown.lock refl) a.same_lengths
 
 -- of the state only the hardware and the lengths matter
 pub arranged_beside : (told : Told) (s new : State) → IsArranged told s → new.hardware.shootdown ≡ s.hardware.shootdown → new.hardware.spaces ≡ s.hardware.spaces → new.lengths ≡ s.lengths → IsArranged told new
@@ -91,5 +63,119 @@ arranged_beside told s new a shootdown spaces lengths =
     arranged_from told new
     (subst (AreSpacesTold told.spaces) (sym spaces) (spaces_of a))
     (subst (AreProcessorsTold told.current told.running) (sym shootdown) (processors_of a))
-    (record { same_locked = a.same_locked ∙ sym (ap (λ (x : ShootdownState). is_some x.lock) shootdown); same_pending = a.same_pending ∙ sym (ap (λ (x : ShootdownState). pending_in (change_in x.lock)) shootdown) })
-    (a.same_lengths ∙ sym lengths)
+    (lock_as a new.hardware.shootdown.lock (ap (λ (x : ShootdownState). x.lock) shootdown)) (a.same_lengths ∙ sym lengths)
+
+-- ---- what moves tell of processors and of spaces
+
+module _ (told : Told) (s : State) (a : IsArranged told s) where
+  abbrev processors : ShootdownState
+  processors = s.hardware.shootdown
+
+  -- another processor
+  arranged_processor : (says : Saying) (new : State) (p : ℕ) (x : Processor) → p < length s.hardware.shootdown.processors → IsProcessorTold processors p x says
+      → new.hardware.shootdown ≡ with_processor processors p x → new.hardware.spaces ≡ s.hardware.spaces → new.lengths ≡ s.lengths → IsArranged (said told says) new
+  arranged_processor says new p x there is shootdown spaces lengths = by says is
+    where
+      with : (current : List ℕ) (running : List Bool) → AreProcessorsTold current running (with_processor processors p x) → IsArranged (record told { current = current; running = running }) new
+      with current running t =
+          arranged_from (record told { current = current; running = running }) new (subst (AreSpacesTold told.spaces) (sym spaces) (spaces_of a))
+          (subst (AreProcessorsTold current running) (sym shootdown) t) (lock_as a new.hardware.shootdown.lock (ap (λ (y : ShootdownState). y.lock) shootdown)) (a.same_lengths ∙ sym lengths)
+
+      by : (says : Saying) → IsProcessorTold processors p x says → IsArranged (said told says) new
+      by Silent is = with told.current told.running (told_still told.current told.running processors p x there (processors_of a) is.0 is.1)
+      by (Running q goes) is =
+          subst (λ k. IsArranged (record told { running = set told.running k goes }) new) (sym is.0)
+          (with told.current (set told.running p goes) (told_running told.current told.running processors p x there (processors_of a) goes is.1 is.2))
+      by (Entering q space) is =
+          subst (λ k. IsArranged (record told { current = set told.current k space }) new) (sym is.0)
+          (with (set told.current p space) told.running (told_switched told.current told.running processors p x there (processors_of a) space is.1 is.2))
+      by says is = absurd is
+
+  -- other spaces
+  spaces_said : (says : Saying) (spaces : Spaces) → AreSaid says s.hardware.spaces spaces → AreSpacesTold (said told says).spaces spaces
+  spaces_said Silent spaces is = spaces_still told.spaces s.hardware.spaces spaces is.there is.places (spaces_of a)
+  spaces_said (Mapping space change) spaces is =
+      spaces_with told.spaces space s.hardware.spaces spaces _ is.there (is.here ∙ ap change (sym (a.same_places space))) is.others (spaces_of a)
+  spaces_said says spaces is = absurd is
+
+  arranged_spaces : (says : Saying) (new : State) → AreSaid says s.hardware.spaces new.hardware.spaces → new.hardware.shootdown ≡ processors → new.lengths ≡ s.lengths → IsArranged (said told says) new
+  arranged_spaces says new is shootdown lengths = by says is (spaces_said says new.hardware.spaces is)
+    where
+      with : (places : ToldSpaces) → AreSpacesTold places new.hardware.spaces → IsArranged (record told { spaces = places }) new
+      with places t =
+          arranged_from (record told { spaces = places }) new t (subst (AreProcessorsTold told.current told.running) (sym shootdown) (processors_of a))
+          (lock_as a new.hardware.shootdown.lock (ap (λ (y : ShootdownState). y.lock) shootdown)) (a.same_lengths ∙ sym lengths)
+
+      by : (says : Saying) → AreSaid says s.hardware.spaces new.hardware.spaces → AreSpacesTold (said told says).spaces new.hardware.spaces → IsArranged (said told says) new
+      by Silent is t = with told.spaces t
+      by (Mapping space change) is t = with _ t
+      by says is t = absurd is
+
+  -- a change ends
+  pub arranged_end : (p : ℕ) (places : ToldSpaces) (spaces : Spaces) (memory : FramesState) (c : CheckpointState) → change_refusal processors p ≡ None → AreSpacesTold places spaces
+      → IsArranged (ended_by (record told { spaces = places }) p) (end_change s p spaces memory c)
+  arranged_end p places spaces memory c allowed t =
+      let there = is_there_below processors p (there_at_change processors p allowed) in
+      let runs = told_running told.current told.running processors p (woken (processor_at processors p)) there (processors_of a) true refl refl in
+      arranged_from (ended_by (record told { spaces = places }) p) (end_change s p spaces memory c) t
+      (record { processors = runs.processors; same_current = runs.same_current; as_many = runs.as_many; same_running = runs.same_running })
+      (record { same_locked = refl; same_pending = refl }) a.same_lengths
+
+  module _ (says : Saying) (new : State) (is : EndsChange s says new) where
+    abbrev ended : State
+    ended = end_change s is.p is.spaces s.hardware.memory is.checkpoint
+
+    with : (places : ToldSpaces) → AreSpacesTold places is.spaces → IsArranged (ended_by (record told { spaces = places }) is.p) ended
+    with places t = arranged_end is.p places is.spaces s.hardware.memory is.checkpoint is.may.allowed t
+
+    -- the change that was told takes effect
+    takes : (change : Change) → told.pending ≡ pending_in (Some change) → IsArranged (ended_by (changed told (pending_in (Some change))) is.p) ended → IsArranged (ended_by (changed told told.pending) is.p) ended
+    takes change same = subst (λ o. IsArranged (ended_by (changed told o) is.p) ended) (sym same)
+
+    by_change : (change : Change) → told.pending ≡ pending_in (Some change) → AreSpacesTold (said told (effect_of change)).spaces is.spaces → IsArranged (said told (ending_of is.p change)) ended
+    by_change (Unmap pcid range) same t = takes (Unmap pcid range) same (with _ t)
+    by_change (Protect pcid range rights) same t = takes (Protect pcid range rights) same (with _ t)
+    by_change (Reclaim owner) same t = with told.spaces t
+    by_change Checkpoint same t = with told.spaces t
+
+    arranged_ended : IsArranged (said told (ending_of is.p is.change)) new
+    arranged_ended =
+        let pending = a.same_pending ∙ ap (λ l. pending_in (change_in l)) is.may.lock in
+        subst (IsArranged (said told (ending_of is.p is.change))) (sym is.done) (by_change is.change pending (spaces_said (effect_of is.change) is.spaces is.told))
+
+  -- ---- each move
+
+  as_said : (says other : Saying) (new : State) → says ≡ other → IsArranged (said told other) new → IsArranged (said told says) new
+  as_said says other new is = subst (λ x. IsArranged (said told x) new) (sym is)
+
+  -- frames alone change
+  by_memory : (says : Saying) (new : State) (memory : FramesState) → says ≡ Silent → new ≡ with_hardware s (record s.hardware { memory = memory }) → IsArranged (said told says) new
+  by_memory says new memory silent done =
+      as_said says Silent new silent (arranged_beside told s new a (ap (λ (x : State). x.hardware.shootdown) done) (ap (λ (x : State). x.hardware.spaces) done) (ap (λ (x : State). x.lengths) done))
+
+  pub arranged_moved : (disk : List ℕ) (says : Saying) (new : State) → IsSound s → Move disk s says new → IsArranged (said told says) new
+  arranged_moved disk says new sound (Replace is) =
+      arranged_processor says new is.p is.x is.there is.told (ap (λ (x : State). x.hardware.shootdown) is.done) (ap (λ (x : State). x.hardware.spaces) is.done) (ap (λ (x : State). x.lengths) is.done)
+  arranged_moved disk says new sound (Remap spaces is dirty) =
+      arranged_spaces says new (subst (AreSaid says s.hardware.spaces) (sym (ap (λ (x : State). x.hardware.spaces) is.done)) is.told)
+      (ap (λ (x : State). x.hardware.shootdown) is.done) (ap (λ (x : State). x.lengths) is.done)
+  arranged_moved disk says new sound (Destroy is) =
+      as_said says (Leaving is.pcid) new is.says_is (subst (IsArranged (said told (Leaving is.pcid))) (sym is.made.done)
+      (arranged_from (said told (Leaving is.pcid)) _ (spaces_without told.spaces is.pcid s.hardware.spaces (spaces_of a))
+      (told_destroyed told.current told.running processors is.pcid (processors_of a)) (lock_as a processors.lock refl) a.same_lengths))
+  arranged_moved disk says new sound (Begin is) =
+      let now = Beginning is.p (pending_in (Some is.change)) in
+      as_said says now new is.says_is (subst (IsArranged (said told now)) (sym is.done)
+      (arranged_from (said told now) (begin_change s is.p is.change) (spaces_of a)
+      (told_begun told.current told.running processors is.p s.hardware.spaces is.change (is_there_below processors is.p (admitted processors is.p is.free).0) (processors_of a))
+      (record { same_locked = refl; same_pending = refl }) a.same_lengths))
+  arranged_moved disk says new sound (End is) = as_said says (ending_of is.p is.change) new is.says_is (arranged_ended says new is)
+  arranged_moved disk says new sound (Store is) =
+      let keeps = (has_stored s.hardware s.checkpoint is.p is.va is.bytes is.hardware sound.spaces.coheres sound.memory.backed is.made).told in
+      let now = Storing is.p is.va is.bytes in
+      as_said says now new is.says_is (subst (IsArranged (said told now)) (sym is.done)
+      (arranged_from (said told now) (with_hardware s is.hardware) (keeps.spaces told.spaces (spaces_of a)) (keeps.processors told.current told.running (processors_of a))
+      (lock_as a is.hardware.shootdown.lock keeps.lock) a.same_lengths))
+  arranged_moved disk says new sound (Bring is) = by_memory says new _ is.says_is is.done
+  arranged_moved disk says new sound (Copy is) = by_memory says new _ is.says_is is.done
+  arranged_moved disk says new sound (Drop is) = by_memory says new _ is.says_is is.done

@@ -1,17 +1,152 @@
--- The spaces as they are told: which there are, and what each maps.
-use Rattle.std.proofs.Common.{ℕ, ◌≡◌, ◌≢◌, ◌+◌, Bool, true, false, not, ◌&&◌, ◌||◌, cond, eqb, Option, Some, None, is_some, unwrap_or, refl, sym, ap, ◌∙◌, subst, inl, inr}
+-- Processors and spaces as they are told: the current space of each processor and whether it goes on, which spaces there are, and what each maps.
+use Rattle.std.proofs.Common.{ℕ, ◌≡◌, ◌<◌, Bool, true, false, cond, eqb, List, length, get_or, set, refl, sym, ap, ◌∙◌, inl, inr, arith, ◌≢◌, ◌+◌, not, ◌&&◌, ◌||◌, Option, Some, None, is_some, unwrap_or, subst}
+use Rattle.std.proofs.lemmas.Bool.{cases_eq, cond-true, cond-false, eq-eqb, ne_eqb}
+use Rattle.std.proofs.lemmas.List.{length-set, get_or-set_same, get_or-set_other}
+use Rattle.pcid_tlb.specs.declared.Invpcid.{Invpcid}
+use Rattle.pcid_tlb.specs.declared.Invpcid.TheVariants.{SingleContext}
+use Rattle.spaces.specs.declared.change.Change.{Change}
+use Rattle.spaces.specs.Spaces.{Spaces, AddressSpace, empty_space, has_space, space_at, with_space, with_entry, with_mapping, without_mapping, SetsRights}
+use Rattle.spaces.specs.Changes.{touches}
+use Rattle.shootdown.specs.declared.proc_state.ProcState.{ProcState}
+use Rattle.shootdown.specs.declared.proc_state.ProcState.TheVariants.{Active, Interrupted, Stalled, Initiating, Idle}
+use Rattle.shootdown.specs.Processors.{Processor, is_running, is_concerned, queued, told}
+use Rattle.shootdown.specs.Shootdown.{ShootdownState, processor_at, state_of, current, with_processor, state_when_begun, begun, destroyed}
+use Rattle.shootdown.proofs.Public.{processor_at-with_same, processor_at-with_other, length-with_processor, processor_at-begun, state-begun_one, current-begun, length-begun, processor_at-destroyed, length-destroyed, current-destroyed}
 use Rattle.std.specs.Ordering.{nat_cmp}
 use Rattle.std.specs.Cmp.{nat_cmp_total, unsigned_tied}
 use Rattle.std.specs.FinMap as maps
-use Rattle.std.proofs.lemmas.Bool.{cases_eq, eq-eqb, ne_eqb}
 use Rattle.mappings.specs.declared.place.Place.{Place}
 use Rattle.mappings.specs.declared.place.Rights.{Rights}
 use Rattle.mappings.specs.declared.page_range.PageRange.{PageRange}
 use Rattle.mappings.specs.Places.{Places, with_range, without_range, with_rights}
 use Rattle.page_entry.specs.Entry.{Mapped}
 use Rattle.page_table.specs.Table.{outside_range}
-use Rattle.spaces.specs.Spaces.{AddressSpace, Spaces, empty_space, has_space, space_at, with_space, with_entry, with_mapping, without_mapping, SetsRights}
 use Rattle.spaces.proofs.Public.{has_space-with_space, space_at-with_space_same, space_at-with_space_other, has_space-remove, space_at-remove, has_space-with_entry, places-with_entry}
+
+-- ---- the processors as they are told: the current space of each, and whether it goes on
+
+-- these current spaces and these running processors
+pub record AreProcessorsTold (spaces : List ℕ) (runs : List Bool) (s : ShootdownState) : Type 0 where
+  pub processors : length spaces ≡ length s.processors
+  pub same_current : (p : ℕ) → p < length spaces → get_or spaces p 0 ≡ current s p
+  pub as_many : length runs ≡ length s.processors
+  pub same_running : (p : ℕ) → p < length runs → get_or runs p false ≡ is_running (state_of s p)
+
+-- the same of processors that are in the same spaces, and go on where these did
+pub told_same : (spaces : List ℕ) (runs : List Bool) (s new : ShootdownState) → length new.processors ≡ length s.processors → ((q : ℕ) → q < length s.processors → current new q ≡ current s q)
+    → ((q : ℕ) → q < length s.processors → is_running (state_of new q) ≡ is_running (state_of s q)) → AreProcessorsTold spaces runs s → AreProcessorsTold spaces runs new
+told_same spaces runs s new as_many same_current same_running t = record {
+  processors = t.processors ∙ sym as_many;
+  same_current = λ q within. t.same_current q within ∙ sym (same_current q (omega (arith, t.processors)));
+  as_many = t.as_many ∙ sym as_many;
+  same_running = λ q within. t.same_running q within ∙ sym (same_running q (omega (arith, t.as_many)));
+}
+
+-- one processor is another, in a space and going on or not
+module _ (spaces : List ℕ) (runs : List Bool) (s : ShootdownState) (p : ℕ) (x : Processor) (there : p < length s.processors) (t : AreProcessorsTold spaces runs s) where
+  -- of each processor, that it is as was told, or is the other one
+  each : {X : Type 0} (part : Processor → X) (values : List X) (d y : X) → length values ≡ length s.processors → ((q : ℕ) → q < length values → get_or values q d ≡ part (processor_at s q)) → part x ≡ y
+      → (q : ℕ) → q < length (set values p y) → get_or (set values p y) q d ≡ part (processor_at (with_processor s p x) q)
+  each part values d y as_many same is q within =
+      let size = length-set values p y in
+      elim (cases_eq q p) [
+        | inl here ↦
+            ap (λ n. get_or (set values p y) n d) here ∙ get_or-set_same values p y d (omega (arith, as_many)) ∙ sym is
+            ∙ sym (ap part (ap (processor_at (with_processor s p x)) here ∙ processor_at-with_same s p x there))
+        | inr other ↦
+            get_or-set_other values p q y d other ∙ same q (omega (arith, size))
+            ∙ sym (ap part (processor_at-with_other s p x q other))
+      ]
+
+  -- as it was: only what isn't told of it changes
+  pub told_still : x.space ≡ current s p → is_running x.state ≡ is_running (state_of s p) → AreProcessorsTold spaces runs (with_processor s p x)
+  told_still space state =
+      told_same spaces runs s (with_processor s p x) (length-with_processor s p x)
+      (λ q within. at (λ (y : Processor). y.space) space q) (λ q within. at (λ (y : Processor). is_running y.state) state q) t
+    where
+      at : {X : Type 0} (part : Processor → X) → part x ≡ part (processor_at s p) → (q : ℕ) → part (processor_at (with_processor s p x) q) ≡ part (processor_at s q)
+      at part is q =
+          elim (cases_eq q p) [
+            | inl here ↦ ap part (ap (processor_at (with_processor s p x)) here ∙ processor_at-with_same s p x there) ∙ is ∙ sym (ap part (ap (processor_at s) here))
+            | inr other ↦ ap part (processor_at-with_other s p x q other)
+          ]
+
+  -- it goes on from now on, or doesn't
+  pub told_running : (b : Bool) → x.space ≡ current s p → is_running x.state ≡ b → AreProcessorsTold spaces (set runs p b) (with_processor s p x)
+  told_running b space state =
+      let still = told_still_space space in
+      record {
+        processors = t.processors ∙ sym (length-with_processor s p x);
+        same_current = λ q within. t.same_current q within ∙ sym (still q);
+        as_many = length-set runs p b ∙ t.as_many ∙ sym (length-with_processor s p x);
+        same_running = each (λ (y : Processor). is_running y.state) runs false b t.as_many t.same_running state;
+      }
+    where
+      told_still_space : x.space ≡ current s p → (q : ℕ) → current (with_processor s p x) q ≡ current s q
+      told_still_space is q =
+          elim (cases_eq q p) [
+            | inl here ↦ ap (λ (y : Processor). y.space) (ap (processor_at (with_processor s p x)) here ∙ processor_at-with_same s p x there) ∙ is ∙ sym (ap (current s) here)
+            | inr other ↦ ap (λ (y : Processor). y.space) (processor_at-with_other s p x q other)
+          ]
+
+  -- it is in another space
+  pub told_switched : (pcid : ℕ) → x.space ≡ pcid → is_running x.state ≡ is_running (state_of s p) → AreProcessorsTold (set spaces p pcid) runs (with_processor s p x)
+  told_switched pcid space state = record {
+    processors = length-set spaces p pcid ∙ t.processors ∙ sym (length-with_processor s p x);
+    same_current = each (λ (y : Processor). y.space) spaces 0 pcid t.processors t.same_current space;
+    as_many = t.as_many ∙ sym (length-with_processor s p x);
+    same_running = λ q within. t.same_running q within ∙ sym (still q);
+  }
+    where
+      still : (q : ℕ) → is_running (state_of (with_processor s p x) q) ≡ is_running (state_of s q)
+      still q =
+          elim (cases_eq q p) [
+            | inl here ↦ ap (λ (y : Processor). is_running y.state) (ap (processor_at (with_processor s p x)) here ∙ processor_at-with_same s p x there) ∙ state ∙ sym (ap (λ n. is_running (state_of s n)) here)
+            | inr other ↦ ap (λ (y : Processor). is_running y.state) (processor_at-with_other s p x q other)
+          ]
+
+-- who goes on still does when a change begins: an interrupted one until it stalls
+running_when_begun : (touched : Bool) (state : ProcState) → is_running (state_when_begun touched state) ≡ is_running state
+running_when_begun true Active = refl
+running_when_begun true Interrupted = refl
+running_when_begun true Stalled = refl
+running_when_begun true Initiating = refl
+running_when_begun true Idle = refl
+running_when_begun false state = refl
+
+-- a change begins: its initiator stops
+pub told_begun : (spaces : List ℕ) (runs : List Bool) (s : ShootdownState) (p : ℕ) (m : Spaces) (change : Change) → p < length s.processors → AreProcessorsTold spaces runs s → AreProcessorsTold spaces (set runs p false) (begun s p m change)
+told_begun spaces runs s p m change there t =
+    let state : (q : ℕ) → q < length s.processors → state_of (begun s p m change) q ≡ cond (eqb q p) Initiating (state_when_begun (touches m change (current s q)) (state_of s q)) = λ q within.
+    ap (λ (y : Processor). y.state) (processor_at-begun s p m change q within) ∙ state-begun_one p m change q (processor_at s q) in
+    record {
+      processors = t.processors ∙ sym (length-begun s p m change);
+      same_current = λ q within. t.same_current q within ∙ sym (current-begun s p m change q (omega (arith, t.processors)));
+      as_many = length-set runs p false ∙ t.as_many ∙ sym (length-begun s p m change);
+      same_running = λ q within.
+          let size = length-set runs p false in
+          let below : q < length s.processors = omega (arith, t.as_many, size) in
+          elim (cases_eq q p) [
+            | inl here ↦
+                ap (λ n. get_or (set runs p false) n false) here ∙ get_or-set_same runs p false false (omega (arith, t.as_many))
+                ∙ sym (ap is_running (state q below ∙ cond-true (eqb q p) Initiating _ (eq-eqb q p here)))
+            | inr other ↦
+                get_or-set_other runs p q false false other ∙ t.same_running q (omega (arith, size))
+                ∙ sym (ap is_running (state q below ∙ cond-false (eqb q p) Initiating _ (ne_eqb q p other)) ∙ running_when_begun (touches m change (current s q)) (state_of s q))
+          ];
+    }
+
+-- who is told of an invalidation goes on as before
+state-told : (x : Processor) (a : Invpcid) → (told x a).state ≡ x.state
+state-told x a = elim (is_concerned x a) as (λ b. (cond b (record x { queue = queued x.queue a }) x).state ≡ x.state) [ true ↦ refl | false ↦ refl ]
+
+-- a space is destroyed
+pub told_destroyed : (spaces : List ℕ) (runs : List Bool) (s : ShootdownState) (pcid : ℕ) → AreProcessorsTold spaces runs s → AreProcessorsTold spaces runs (destroyed s pcid)
+told_destroyed spaces runs s pcid =
+    told_same spaces runs s (destroyed s pcid) (length-destroyed s pcid) (λ q within. current-destroyed s pcid q within)
+    (λ q within. ap (λ (y : Processor). is_running y.state) (processor_at-destroyed s pcid q within) ∙ ap is_running (state-told (processor_at s q) (SingleContext pcid)))
+
+-- ---- the spaces as they are told: which there are, and what each maps
 
 abbrev pub ToldSpaces : Type 0
 ToldSpaces = maps.FinMap nat_cmp Places
@@ -27,11 +162,6 @@ spaces_still told m new spaces places t = record {
   same_spaces = λ q. t.same_spaces q ∙ sym (spaces q);
   same_places = λ q. t.same_places q ∙ sym (places q);
 }
-
--- a page of a space gets another entry
-pub spaces_with_entry : (told : ToldSpaces) (m new : Spaces) (pcid page : ℕ) (entry : Option Mapped) → has_space m pcid ≡ true → new ≡ with_entry m pcid page entry → AreSpacesTold told m → AreSpacesTold told new
-spaces_with_entry told m new pcid page entry there is t =
-    subst (AreSpacesTold told) (sym is) (spaces_still told m (with_entry m pcid page entry) (has_space-with_entry m pcid page entry there) (places-with_entry m pcid page entry) t)
 
 module _ (told : ToldSpaces) (n : ℕ) where
   get-told_insert : (places : Places) (q : ℕ) → maps.get (maps.insert told n places) q ≡ cond (eqb q n) (Some places) (maps.get told q)
@@ -83,33 +213,3 @@ module _ (told : ToldSpaces) (n : ℕ) where
   spaces_made m space =
       spaces_with m (with_space m n space) space.places (has_space-with_space m n space) (ap (λ (x : AddressSpace). x.places) (space_at-with_space_same m n space))
       (λ q other. ap (λ (x : AddressSpace). x.places) (space_at-with_space_other m n space q other))
-
-  abbrev here : Places
-  here = unwrap_or (maps.get told n) maps.empty
-
-  -- pages are mapped
-  pub spaces_mapped : (m : Spaces) (range : PageRange) (place : Place) → AreSpacesTold told m → AreSpacesTold (maps.insert told n (with_range here range.first range.count place)) (with_mapping m n range place)
-  spaces_mapped m range place t =
-      subst (λ (p : Places). AreSpacesTold (maps.insert told n (with_range p range.first range.count place)) (with_mapping m n range place)) (sym (t.same_places n))
-      (spaces_made m (record (space_at m n) { places = with_range (space_at m n).places range.first range.count place }) t)
-
-  -- pages are unmapped
-  pub spaces_unmapped : (m : Spaces) (range : PageRange) → AreSpacesTold told m → AreSpacesTold (maps.insert told n (without_range here range.first range.count)) (without_mapping m n range)
-  spaces_unmapped m range t =
-      subst (λ (p : Places). AreSpacesTold (maps.insert told n (without_range p range.first range.count)) (without_mapping m n range)) (sym (t.same_places n))
-      (spaces_made m (record { entries = outside_range (space_at m n).entries range.first (range.first + range.count); places = without_range (space_at m n).places range.first range.count }) t)
-
-  -- pages get rights
-  pub spaces_protected : (m new : Spaces) (range : PageRange) (rights : Rights) → has_space m n ≡ true → SetsRights n range rights m new → AreSpacesTold told m
-      → AreSpacesTold (maps.insert told n (with_rights here range.first range.count rights)) new
-  spaces_protected m new range rights there sets t =
-      spaces_with m new (with_rights here range.first range.count rights)
-      (λ q. sets.same_spaces q ∙ sym (in_there q))
-      (sets.rights_set ∙ ap (λ (p : Places). with_rights p range.first range.count rights) (sym (t.same_places n)))
-      sets.other_places t
-    where
-      in_there : (q : ℕ) → (eqb q n || has_space m q) ≡ has_space m q
-      in_there q = elim (cases_eq q n) [
-        | inl same ↦ ap (λ b. b || has_space m q) (eq-eqb q n same) ∙ sym (ap (has_space m) same ∙ there)
-        | inr other ↦ ap (λ b. b || has_space m q) (ne_eqb q n other)
-      ]

@@ -1,4 +1,4 @@
-use Rattle.machine.proofs.durable.NothingStored.{files_unchanged, found_unchanged}
+use Rattle.machine.proofs.durable.FileParts.{files_unchanged, found_unchanged}
 use Rattle.machine.proofs.laws.nothing_stored.Goals as goal
 
 pub returns-clause-files : goal.returns-clause-files

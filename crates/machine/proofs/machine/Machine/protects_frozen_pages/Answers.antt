@@ -1,5 +1,5 @@
 use Rattle.machine.proofs.Tracks.{follows}
-use Rattle.machine.proofs.durable.StateLaws.{frozen_protected}
+use Rattle.machine.proofs.durable.ReadsBack.{frozen_protected}
 use Rattle.machine.proofs.machine.Machine.protects_frozen_pages.Goals as goal
 
 pub returns : goal.returns
