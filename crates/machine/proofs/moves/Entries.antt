@@ -12,7 +12,7 @@ use Rattle.machine.proofs.Names.{with_shootdown, with_spaces, IsPrepared, IsSoun
 use Rattle.machine.proofs.Names.{AreSpacesTold, ReplacesProcessor, ReplacesSpaces, Moves, Replace, Remap}
 use Rattle.machine.proofs.sound.Lists.{same_some}
 use Rattle.machine.proofs.moves.Silent.{SilentMoves}
-use Rattle.machine.proofs.moves.Dirty.{dirty_alike}
+use Rattle.machine.proofs.track.DirtyFrames.{dirty_alike}
 use Rattle.machine.proofs.sound.Groups.{unchanged_sound, shootdown_sound, prepared_moved, memory_beside, write_outs_moved}
 
 -- ---- a machine stays sound
@@ -163,5 +163,5 @@ module _ (s : State) (p page : ℕ) (was now : Mapped) (sound : IsSound s) (ther
   walk_moves disk new same is = record {
     says = Silent ∷ Silent ∷ [];
     silent = tt;
-    moves = (mid, Remap spaces walk_noted (λ frame. dirty_alike s.hardware.spaces pcid page was now present noted.same_frame same s.checkpoint frame), (_, Replace walk_cached, is));
+    moves = (mid, Remap spaces walk_noted (λ frame. dirty_alike s.hardware.spaces pcid page now s.checkpoint frame was present noted.same_frame same), (_, Replace walk_cached, is));
   }

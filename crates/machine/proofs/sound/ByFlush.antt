@@ -13,7 +13,7 @@ use Rattle.journal.specs.declared.flushed.Flushed.TheVariants as flushed
 use Rattle.journal.specs.WriteOuts.{current}
 use Rattle.machine.specs.declared.act.Reply.TheVariants as replies
 use Rattle.machine.proofs.sound.Admitted.{first_none, refuse_none}
-use Rattle.machine.proofs.sound.Groups.{unchanged_sound, refused_sound, memory_same}
+use Rattle.machine.proofs.sound.Groups.{unchanged_sound, memory_same}
 use Rattle.machine.proofs.sound.Waiting.{waits_of, waiting, waiting-none, length-advanced, older-rest, older-advanced, recorded, unrecorded}
 use Rattle.machine.proofs.sound.Steps.{stepped_write_outs, stepped_spaces, done_none, none_recorded, free-advanced, free-done, IsMemory-without_copy_of, IsMemory-without_copies, none_left}
 

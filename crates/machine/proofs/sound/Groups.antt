@@ -11,10 +11,6 @@ use Rattle.std.proofs.Common.{Contains}
 pub unchanged_sound : (s new : State) → new ≡ s → IsSound s → IsSound new
 unchanged_sound s new same sound = subst IsSound (sym same) sound
 
--- what was refused leaves the machine as it was
-pub refused_sound : (reason : Option Refusal) (why : Refusal) (s new : State) → IsRefused reason why s new → IsSound s → IsSound new
-refused_sound reason why s new rule sound = unchanged_sound s new rule.unchanged sound
-
 -- ---- frames
 
 -- their facts depend on spaces and notes only by what entries and notes are of, and not on processors, write-outs, marks
