@@ -41,7 +41,7 @@ use Rattle.device.specs.declared.device.Device.{Ghosts}
 use Rattle.machine.specs.Crashes.{Begins}
 use Rattle.machine.specs.Durability.{IsInFile, within_file}
 use Rattle.machine.proofs.durable.Lists.{contains_none}
-use Rattle.machine.proofs.durable.Homes.{capacity_at, page_in_capacity, home_is, within_cut}
+use Rattle.machine.proofs.durable.Homes.{capacity_at, pages_within, page_in_capacity, home_is, within_cut}
 use Rattle.machine.proofs.durable.Marks.{IsDurable}
 
 -- ---- afresh machine is as is told at the start of a run: nothing is mapped, no page is in memory, and memory is th
@@ -239,11 +239,6 @@ block_size bytes count b long lt = omega (arith, length-take 4096 (drop (4096 * 
 pub length-page_of : (bytes : List ℕ) (page : ℕ) → length (page_of bytes page) ≡ 4096
 length-page_of bytes page = length-padded 4096 (take 4096 (drop (4096 * page) bytes)) (omega (arith, length-take 4096 (drop (4096 * page) bytes)))
 
-pages_end : (fs : List TableFile) (i : ℕ) → i < length fs → total_pages (take i fs) + pages_of (capacity_at fs i) ≤ total_pages fs
-pages_end [] i there = absurd (omega arith)
-pages_end (f ∷ fs) zero there = omega arith
-pages_end (f ∷ fs) (suc i) there = let rest = pages_end fs i (omega arith) in omega (arith, rest)
-
 -- the memory of the files that a volume has
 module _ (s : State) (sound : IsSound s) (seen : List ℕ) (files : List File) (volume : IsVolume s.table [] seen) (files_are : files ≡ files_in s.table (block_at seen)) (lengths_are : s.lengths ≡ lengths_in s.table (block_at seen)) where
   page_first : (owner : FilePage) → IsInFile s owner → memory_of files owner.file owner.page ≡ cut_at_end s owner (block_at seen (home_of s.table owner))
@@ -253,7 +248,7 @@ module _ (s : State) (sound : IsSound s) (seen : List ℕ) (files : List File) (
       let bytes : file_bytes files owner.file ≡ take (length_of s owner.file) (blocks_from (block_at seen) b n) =
       ap (λ (l : List File). file_bytes l owner.file) (files_are ∙ ap (files_from (block_at seen) (first_file_home s.table.layout s.table.slots) s.table.files) (sym lengths_are))
       ∙ file_bytes-from (block_at seen) (first_file_home s.table.layout s.table.slots) s.table.files s.lengths owner.file is.there sound.lengths in
-      let before = pages_end s.table.files owner.file is.there in
+      let before = pages_within s.table.files owner.file is.there in
       let inside = is.inside in
       ap (λ (l : List ℕ). padded 4096 (take 4096 (drop (4096 * owner.page) l))) bytes
       ∙ ap (padded 4096) (page_in_blocks (block_at seen) b n (length_of s owner.file) owner.page (λ i low high. block_size seen (block_count s.table) i volume.long (omega (arith, before, high))) (page_in_capacity s sound owner is) (omega (arith, inside)))

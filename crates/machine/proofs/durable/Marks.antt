@@ -33,26 +33,6 @@ pub record IsDurable (files : List File) (told : Told) (s : State) (seen : List 
   pub stands : IsStanding s.table s.write_outs old new seen may_leave
   pub written : IsWritten files told s old new
 
--- of what is told the history alone counts
-pub written_as : (files : List File) (told told' : Told) (s : State) (old new : ℕ → List ℕ) → told'.history ≡ told.history → IsWritten files told s old new → IsWritten files told' s old new
-written_as files told told' s old new same w =
-    let moved : (P : List Event → Type 0) → P told.history → P told'.history = λ P p. subst P (sym same) p in
-    record {
-      before = w.before;
-      old_are = moved (λ h. AreContentsOf files h s old w.before) w.old_are;
-      acknowledged = moved (HasAcknowledged w.before) w.acknowledged;
-      marked = w.marked;
-      new_are = moved (λ h. AreContentsOf files h s new w.marked) w.new_are;
-      grown = moved (HasAcknowledged w.marked) w.grown;
-      marks = w.marks;
-      fresh = w.fresh;
-      only = moved (λ h. AreMarks h w.before w.marked s) w.only;
-      numbered = moved (λ h. (n : ℕ) → Contains h (Mark n) → n ≤ s.marks) w.numbered;
-      ready = w.ready;
-      clean = moved (λ h. IsLost s ⊎ ((owner : FilePage) → IsInFile s owner → is_touched h owner.file owner.page ≡ false → within_file s owner (new (home_of s.table owner)) ≡ within_file s owner (after (memory_of files) h owner.file owner.page))) w.clean;
-      frozen = w.frozen;
-    }
-
 abbrev no_pages : List FilePage
 no_pages = []
 

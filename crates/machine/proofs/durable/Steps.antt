@@ -40,8 +40,8 @@ use Rattle.machine.specs.inside.Tracking.{IsArranged, IsTracked}
 use Rattle.machine.specs.inside.Moves.{said_all, IsMoved, Performed, Moved, Marked, Flushed as Stepped, Failed}
 use Rattle.machine.proofs.sound.Kept.{performed_sound}
 use Rattle.machine.proofs.acts.All.{performed}
-use Rattle.machine.proofs.durable.Histories.{marked_by, after_marked, AreQuiet, quiet_nothing, quiet_acknowledge, touched_mark, SameFiles}
-use Rattle.machine.proofs.durable.Marks.{IsDurable, written_as, marked_durable}
+use Rattle.machine.proofs.durable.Histories.{written_as, marked_by, after_marked, AreQuiet, quiet_nothing, quiet_acknowledge, touched_mark, SameFiles}
+use Rattle.machine.proofs.durable.Marks.{IsDurable, marked_durable}
 use Rattle.machine.proofs.durable.Flushes.{flush_within, flush_failed, flush_goes_on, flush_commits}
 use Rattle.machine.proofs.durable.ReadsBack.{reads_within, reads_now, stops_within}
 use Rattle.machine.proofs.track.DirtyFrames.{clean_after_mark}

@@ -16,7 +16,7 @@ use Rattle.journal.specs.inside.Sound.{IsOlder, AreInOrder}
 use Rattle.journal.proofs.Public.{IsAt, stage_is, committed_parts, done_committed}
 use Rattle.machine.specs.inside.Tracking.{IsWaiting}
 use Rattle.machine.proofs.sound.Waiting.{blocks, committed_steps, committed_still}
-use Rattle.machine.proofs.durable.Lists.{some_same, none_some, contains_map, contains_drop, contains_flat_map, nothing_mapped}
+use Rattle.machine.proofs.durable.Lists.{first_or, some_same, none_some, contains_map, contains_drop, contains_flat_map, nothing_mapped}
 use Rattle.std.proofs.lemmas.List.{drop_all}
 use Rattle.page_entry.specs.declared.numbers.FilePage.{FilePage}
 use Rattle.machine.specs.State.{State, home_of}
@@ -40,10 +40,6 @@ pub record WasUncommitted (batches : List WriteOut) (w : WriteOut) : Type 0 wher
   pub there : Contains batches before
   pub batch : before.batch ≡ w.batch
   pub early : has_committed before ≡ false
-
-first_or : (x : WriteOut) (newer : List WriteOut) (w : WriteOut) → Contains (x ∷ newer) w → (x ≡ w) ⊎ Contains newer w
-first_or x newer w (zero, lt, e) = inl e
-first_or x newer w (suc k, lt, e) = inr (k, omega (arith, lt), e)
 
 later : (x : WriteOut) (newer : List WriteOut) (w : WriteOut) → WasUncommitted newer w → WasUncommitted (x ∷ newer) w
 later x newer w was = record { before = was.before; there = Contains-append_right (x ∷ []) newer was.before was.there; batch = was.batch; early = was.early }
