@@ -1,3 +1,4 @@
+pub mod Names
 pub mod moves
 pub mod acts
 pub mod code

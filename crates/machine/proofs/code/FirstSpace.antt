@@ -1,15 +1,10 @@
 -- Space 0 alone: it maps nothing.
-use Rattle.std.proofs.Common.{ℕ, ◌≡◌, Bool, true, false, cond, eqb, get_or, Option, Some, None, is_some, unwrap_or, refl, sym, ap, ◌∙◌, arith}
-use Rattle.std.specs.Ordering.{nat_cmp}
-use Rattle.std.specs.Cmp.{nat_cmp_total}
+use Rattle.machine.proofs.Names.{ℕ, ◌≡◌, Bool, true, false, cond, eqb, get_or, Option, Some, None, is_some, unwrap_or}
+use Rattle.machine.proofs.Names.{refl, sym, ap, ◌∙◌, arith, nat_cmp, nat_cmp_total, false≢true, nat_tests}
+use Rattle.machine.proofs.Names.{Contains-get_or, All-contains, All, Mapped, AddressSpace, Spaces, empty_space}
+use Rattle.machine.proofs.Names.{has_space, space_at, first_spaces, AreSpaces, same_spaces, has_space-first_spaces}
+use Rattle.machine.proofs.Names.{get-with_space, in_pcids, Contains-pcids}
 use Rattle.std.specs.FinMap as maps
-use Rattle.std.proofs.lemmas.Bool.{false≢true}
-use Rattle.std.proofs.lemmas.Bool.Decides.{nat_tests}
-use Rattle.std.proofs.lemmas.List.Elements.{Contains-get_or, All-contains}
-use Rattle.std.specs.List.{All}
-use Rattle.page_entry.specs.Entry.{Mapped}
-use Rattle.spaces.specs.Spaces.{AddressSpace, Spaces, empty_space, has_space, space_at, first_spaces, AreSpaces}
-use Rattle.spaces.proofs.Public.{same_spaces, has_space-first_spaces, get-with_space, in_pcids, Contains-pcids}
 
 -- a map that answers nothing is empty
 empty_map : {X : Type 0} (m : maps.FinMap nat_cmp X) → ((key : ℕ) → maps.get m key ≡ None) → m ≡ maps.empty

@@ -1,16 +1,8 @@
 -- A machine is as it was made exactly where a look at its layers says so, since space 0 never maps anything.
-use Rattle.std.proofs.Common.{◌≡◌, ℕ, zero, suc, ◌<◌, Bool, true, false, not, ◌&&◌, List, [], ◌∷◌, length, replicate, Option, Some, None, refl, sym, ap, ◌∙◌, subst}
-use Rattle.std.proofs.lemmas.List.{length-replicate, get_or-replicate}
-use Rattle.frames.specs.Frames.{Frame, has_used}
-use Rattle.volume_codec.specs.Super.{SuperValue}
-use Rattle.spaces.specs.Spaces.{first_spaces}
-use Rattle.shootdown.specs.Processors.{fresh_processor}
-use Rattle.checkpoint.specs.Checkpoint.{fresh_checkpoint}
-use Rattle.journal.specs.WriteOuts.{none_of}
-use Rattle.machine.specs.declared.act.Shape.{Shape}
-use Rattle.machine.specs.State.{State}
-use Rattle.machine.specs.Fresh.{IsShape, IsFresh, fresh}
-use Rattle.machine.specs.inside.Sound.{IsSound}
+use Rattle.machine.proofs.Names.{◌≡◌, ℕ, zero, suc, ◌<◌, Bool, true, false, not, ◌&&◌, List, [], ◌∷◌, length, replicate}
+use Rattle.machine.proofs.Names.{Option, Some, None, refl, sym, ap, ◌∙◌, subst, length-replicate, get_or-replicate}
+use Rattle.machine.proofs.Names.{Frame, has_used, SuperValue, first_spaces, fresh_processor, fresh_checkpoint, none_of}
+use Rattle.machine.proofs.Names.{Shape, State, IsShape, IsFresh, fresh, IsSound}
 use Rattle.machine.specs.inside.Freshness.{shape_of, LooksFresh}
 use Rattle.machine.proofs.code.FirstSpace.{first_alone, alone_first}
 

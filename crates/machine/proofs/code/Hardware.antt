@@ -1,10 +1,7 @@
 -- Loads, stores, fills and evictions leave the lock as it is.
-use Rattle.std.proofs.Common.{ℕ, ◌≡◌, Bool, Option, Some, None, Result, Ok, Err, refl, ap, ◌∙◌}
-use Rattle.page_entry.specs.declared.refusal.Refusal.{Refusal}
-use Rattle.page_entry.specs.Entry.{Mapped}
-use Rattle.spaces.specs.Spaces.{entry_at}
-use Rattle.shootdown.specs.Shootdown.{current}
-use Rattle.cpu.specs.Access.{Hardware, Fills, Evicts, filled_by}
+use Rattle.machine.proofs.Names.{ℕ, ◌≡◌, Bool, Option, Some, None, Result, Ok, Err, refl, ap, ◌∙◌, subst, Refusal}
+use Rattle.machine.proofs.Names.{Mapped, entry_at, current, Hardware, Fills, Evicts, filled_by, State, Reaches}
+use Rattle.machine.proofs.Names.{with_hardware}
 
 lock-filled_by : (h : Hardware) (p page : ℕ) (entry : Option Mapped) → (filled_by h p page entry).1.shootdown.lock ≡ h.shootdown.lock
 lock-filled_by h p page None = refl
@@ -18,3 +15,7 @@ lock-fills h p page (Err why) new fills = ap (λ (x : Hardware). x.shootdown.loc
 pub lock-evicts : (h : Hardware) (p slot : ℕ) (answer : Result Bool Refusal) (new : Hardware) → Evicts h p slot answer new → new.shootdown.lock ≡ h.shootdown.lock
 lock-evicts h p slot (Ok there) new evicts = ap (λ (x : Hardware). x.shootdown.lock) evicts.2
 lock-evicts h p slot (Err why) new evicts = ap (λ (x : Hardware). x.shootdown.lock) evicts.2
+
+-- the answer that was given, by what it was found to be
+pub answered_so : (Answers : Bool → Hardware → Type 0) (s : State) (found answer : Bool) (new : Hardware) → found ≡ answer → Answers found new → Reaches s (Answers answer) (with_hardware s new)
+answered_so Answers s found answer new is made = (new, subst (λ b. Answers b new) is made, refl)

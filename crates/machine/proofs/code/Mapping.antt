@@ -1,19 +1,10 @@
 -- Why a mapping is refused.
-use Rattle.std.proofs.Common.{ℕ, ◌≡◌, ◌<◌, ◌≤◌, nat_le, Bool, true, false, cond, [], ◌∷◌, length, Option, Some, None, not, unwrap_or, Ok, refl, sym, ap, ◌∙◌, subst}
-use Rattle.page_entry.specs.declared.refusal.Refusal.{Refusal}
+use Rattle.machine.proofs.Names.{ℕ, ◌≡◌, ◌<◌, ◌≤◌, nat_le, Bool, true, false, cond, [], ◌∷◌, length, Option, Some, None}
+use Rattle.machine.proofs.Names.{not, unwrap_or, Ok, refl, sym, ap, ◌∙◌, subst, Refusal, Place, Rights, PageRange}
+use Rattle.machine.proofs.Names.{Places, allows, any_mapped, is_mappable, add_refusal, space_at, judged_mapping}
+use Rattle.machine.proofs.Names.{not_free, State, refuse_if, mapping_refusal, map_refusal, Maps}
 use Rattle.page_entry.specs.declared.refusal.Refusal.TheVariants as refusals
-use Rattle.mappings.specs.declared.place.Place.{Place}
-use Rattle.mappings.specs.declared.place.Rights.{Rights}
-use Rattle.mappings.specs.declared.page_range.PageRange.{PageRange}
-use Rattle.mappings.specs.Places.{Places, allows, any_mapped}
-use Rattle.mappings.specs.Judgement.{is_mappable, add_refusal}
-use Rattle.spaces.specs.Spaces.{space_at}
-use Rattle.spaces.specs.Requests.{judged_mapping}
-use Rattle.shootdown.specs.Shootdown.{not_free}
 use Rattle.machine.specs.declared.act.Reply.TheVariants as replies
-use Rattle.machine.specs.State.{State}
-use Rattle.machine.specs.Refusals.{refuse_if, mapping_refusal, map_refusal}
-use Rattle.machine.specs.Rules.{Maps}
 use Rattle.machine.proofs.code.Refused.{passed, found, alone, fails, holds, above, at_most}
 
 -- any refusal but that memory was refused

@@ -1,11 +1,7 @@
 -- Why a reclaim is refused.
-use Rattle.std.proofs.Common.{ℕ, ◌≡◌, ◌<◌, ◌≤◌, nat_le, [], ◌∷◌, length, Option, Some, None, ◌∙◌}
-use Rattle.page_entry.specs.declared.numbers.FilePage.{FilePage}
-use Rattle.page_entry.specs.declared.refusal.Refusal.{Refusal}
+use Rattle.machine.proofs.Names.{ℕ, ◌≡◌, ◌<◌, ◌≤◌, nat_le, [], ◌∷◌, length, Option, Some, None, ◌∙◌, FilePage, Refusal}
+use Rattle.machine.proofs.Names.{not_free, State, refuse_if, pages_in_file, reclaim_refusal}
 use Rattle.page_entry.specs.declared.refusal.Refusal.TheVariants as refusals
-use Rattle.shootdown.specs.Shootdown.{not_free}
-use Rattle.machine.specs.State.{State}
-use Rattle.machine.specs.Refusals.{refuse_if, pages_in_file, reclaim_refusal}
 use Rattle.machine.proofs.code.Refused.{passed, alone, fails, holds, above, at_most}
 
 -- of a file that is there

@@ -1,10 +1,6 @@
 -- The first of several reasons.
-use Rattle.std.proofs.Common.{ℕ, ◌≡◌, ◌<◌, ◌≤◌, Bool, true, false, nat_le, List, [], ◌∷◌, Option, Some, None, refl, ap, ◌∙◌, arith}
-use Rattle.std.proofs.lemmas.Bool.{le-leb}
-use Rattle.std.proofs.lemmas.Bool.Decides.{nat_tests}
-use Rattle.std.specs.Option.{option_or}
-use Rattle.page_entry.specs.declared.refusal.Refusal.{Refusal}
-use Rattle.machine.specs.Refusals.{refuse_if, first_of}
+use Rattle.machine.proofs.Names.{ℕ, ◌≡◌, ◌<◌, ◌≤◌, Bool, true, false, nat_le, List, [], ◌∷◌, Option, Some, None, refl}
+use Rattle.machine.proofs.Names.{ap, ◌∙◌, arith, le-leb, nat_tests, option_or, Refusal, refuse_if, first_of}
 
 -- a reason that doesn't hold is passed over
 pub passed : (reason : Option Refusal) (reasons : List (Option Refusal)) (first : Option Refusal) → reason ≡ None → first_of reasons ≡ first → first_of (reason ∷ reasons) ≡ first

@@ -1,20 +1,11 @@
 -- The device calls of steps add up.
-use Rattle.std.proofs.Common.{ℕ, ◌≡◌, ◌+◌, ◌-◌, ◌*◌, ◌^◌, ◌<◌, ◌≤◌, inl, inr, Bool, true, false, cond, List, [], ◌∷◌, length, refl, ap, ◌∙◌, arith}
-use Rattle.std.specs.Prelude.{nat_lt}
-use Rattle.std.proofs.lemmas.Bool.{lt-ltb, cond-true}
+use Rattle.machine.proofs.Names.{ℕ, ◌≡◌, ◌+◌, ◌-◌, ◌*◌, ◌^◌, ◌<◌, ◌≤◌, inl, inr, Bool, true, false, cond, List, [], ◌∷◌}
+use Rattle.machine.proofs.Names.{length, refl, ap, ◌∙◌, arith, nat_lt, lt-ltb, cond-true, Ghosts, raised, Work, WriteAt}
+use Rattle.machine.proofs.Names.{CopyBlock, Sync, Nothing, calls_of, HasFailed, Act, Reply, Step, State, Whole}
+use Rattle.machine.proofs.Names.{work_asked, CallsOf, FixCalls, FlushCalls, reads_page, has_failed, StepsTaken}
 use Rattle.page_entry.specs.declared.refusal.Refusal.TheVariants as refusals
-use Rattle.device.specs.declared.device.Device.{Ghosts}
-use Rattle.device.specs.Count.{raised}
-use Rattle.journal.specs.Work.{Work, WriteAt, CopyBlock, Sync, Nothing, calls_of, HasFailed}
-use Rattle.machine.specs.declared.act.Act.{Act}
 use Rattle.machine.specs.declared.act.Act.TheVariants as acts
-use Rattle.machine.specs.declared.act.Reply.{Reply}
 use Rattle.machine.specs.declared.act.Reply.TheVariants as replies
-use Rattle.machine.specs.declared.act.Step.{Step}
-use Rattle.machine.specs.State.{State, Whole}
-use Rattle.machine.specs.Rules.{work_asked}
-use Rattle.machine.specs.Calls.{CallsOf, FixCalls, FlushCalls, reads_page, has_failed}
-use Rattle.machine.specs.Runs.{StepsTaken}
 use Rattle.machine.specs.Sums.{CallsAddUp}
 
 -- a count that isn't at its end rises by one

@@ -1,9 +1,6 @@
 -- What the table says of a file, by its number.
-use Rattle.std.proofs.Common.{ℕ, zero, suc, ◌≡◌, ◌<◌, ◌-◌, List, [], ◌∷◌, length, map, slice_index, ◌==◌, false, cond, refl, ap, ◌∙◌, arith}
-use Rattle.std.proofs.lemmas.Bool.Decides.{nat_tests}
-use Rattle.volume_codec.specs.Files.{TableFile}
-use Rattle.volume_codec.specs.Super.{pages_of}
-use Rattle.machine.specs.Refusals.{pages_in_file}
+use Rattle.machine.proofs.Names.{ℕ, zero, suc, ◌≡◌, ◌<◌, ◌-◌, List, [], ◌∷◌, length, map, slice_index, ◌==◌, false}
+use Rattle.machine.proofs.Names.{cond, refl, ap, ◌∙◌, arith, nat_tests, TableFile, pages_of, pages_in_file}
 
 pub pages-in_file : (files : List TableFile) (file : ℕ) → file < length files → pages_of (slice_index (map (λ (f : TableFile). f.capacity) files) file) ≡ pages_in_file files file
 pages-in_file [] file below = absurd (omega (arith, below))

@@ -1,25 +1,15 @@
 -- Processors, spaces and entries that are replaced: the conditions of these moves, and that a machine stays sound by them.
-use Rattle.std.proofs.Common.{ℕ, ◌≡◌, ◌<◌, ◌||◌, Bool, true, false, cond, ◌&&◌, eqb, List, [], ◌∷◌, length, Some, is_some, IsSome, refl, sym, ap, ◌∙◌, subst}
-use Rattle.std.proofs.lemmas.Bool.{and_parts, and_from, or_right, eqb-true, eq-eqb, cond-true}
-use Rattle.page_entry.specs.Entry.{Mapped}
-use Rattle.pcid_tlb.specs.Tlb.{TlbState, filled}
-use Rattle.mappings.specs.declared.place.Place.{Place}
-use Rattle.spaces.specs.Spaces.{Spaces, has_space, space_at, entry_at, place_at, with_entry}
-use Rattle.spaces.specs.Changes.{Keeps}
-use Rattle.spaces.specs.Requests.{is_user_space}
-use Rattle.spaces.proofs.Public.{has_space-place_at, entry_at-with_entry, place_at-with_entry, places-with_entry, has_space-with_entry, AreSpaces-with_entry, is_some_from, Grows-with_entry}
-use Rattle.shootdown.specs.declared.lock.Lock.{Lock}
-use Rattle.shootdown.specs.Shootdown.{IsShootdown, processor_at, current, with_processor, with_tlb}
-use Rattle.shootdown.specs.Coherence.{Coheres, Agrees}
-use Rattle.shootdown.proofs.Public.{at-with_processor, IsNoWider-same_places, Coheres-grown, IsShootdown-filled, Coheres-filled}
-use Rattle.checkpoint.specs.Checkpoint.{Holds}
-use Rattle.checkpoint.specs.Backing.{page_at}
-use Rattle.checkpoint.proofs.Public.{MayBe, AreBacked-with_entry}
-use Rattle.cpu.specs.Access.{cached_of, walked}
-use Rattle.machine.specs.State.{State}
-use Rattle.machine.specs.Rules.{with_hardware, with_shootdown, with_spaces}
-use Rattle.machine.specs.inside.Sound.{IsPrepared, IsSound}
-use Rattle.machine.specs.inside.Moves.{Saying, Silent, Mapping, AreSpacesTold, ReplacesProcessor, ReplacesSpaces, Moves, Replace, Remap}
+use Rattle.machine.proofs.Names.{ℕ, ◌≡◌, ◌<◌, ◌||◌, Bool, true, false, cond, ◌&&◌, eqb, List, [], ◌∷◌, length, Some}
+use Rattle.machine.proofs.Names.{is_some, IsSome, refl, sym, ap, ◌∙◌, subst, and_parts, and_from, or_right, eqb-true}
+use Rattle.machine.proofs.Names.{eq-eqb, cond-true, Mapped, TlbState, filled, Place, Spaces, has_space, space_at}
+use Rattle.machine.proofs.Names.{entry_at, place_at, with_entry, Keeps, is_user_space, has_space-place_at}
+use Rattle.machine.proofs.Names.{entry_at-with_entry, place_at-with_entry, places-with_entry, has_space-with_entry}
+use Rattle.machine.proofs.Names.{AreSpaces-with_entry, is_some_from, Grows-with_entry, Lock, IsShootdown, processor_at}
+use Rattle.machine.proofs.Names.{current, with_processor, with_tlb, Coheres, Agrees, at-with_processor}
+use Rattle.machine.proofs.Names.{IsNoWider-same_places, Coheres-grown, IsShootdown-filled, Coheres-filled, Holds}
+use Rattle.machine.proofs.Names.{page_at, MayBe, AreBacked-with_entry, cached_of, walked, State, with_hardware}
+use Rattle.machine.proofs.Names.{with_shootdown, with_spaces, IsPrepared, IsSound, Saying, Silent, Mapping}
+use Rattle.machine.proofs.Names.{AreSpacesTold, ReplacesProcessor, ReplacesSpaces, Moves, Replace, Remap}
 use Rattle.machine.proofs.sound.Lists.{same_some}
 use Rattle.machine.proofs.moves.Silent.{SilentMoves}
 use Rattle.machine.proofs.moves.Dirty.{dirty_alike}

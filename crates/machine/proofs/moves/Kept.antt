@@ -1,23 +1,18 @@
 -- A machine stays sound by each move.
-use Rattle.std.proofs.Common.{ℕ, ◌≡◌, ◌≢◌, ◌<◌, ◌/◌, ◌%◌, ◌||◌, ◌&&◌, not, Bool, true, false, cond, eqb, List, [], ◌∷◌, length, Option, Some, None, refl, sym, ap, ◌∙◌, subst, inl, inr, arith}
+use Rattle.machine.proofs.Names.{ℕ, ◌≡◌, ◌≢◌, ◌<◌, ◌/◌, ◌%◌, ◌||◌, ◌&&◌, not, Bool, true, false, cond, eqb, List, []}
+use Rattle.machine.proofs.Names.{◌∷◌, length, Option, Some, None, refl, sym, ap, ◌∙◌, subst, inl, inr, arith, and_from}
+use Rattle.machine.proofs.Names.{not_from_false, ne_eqb, or_left, has_space, place_at, is_user_space, has_space-remove}
+use Rattle.machine.proofs.Names.{place_at-remove, AreSpaces-remove, user_space, Lock, not_free, is_current, current}
+use Rattle.machine.proofs.Names.{finished, destroyed, destroy_refusal, IsShootdown-begun, length-begun, current-begun}
+use Rattle.machine.proofs.Names.{Coheres-begun, entry_at-remove_other, IsNoWider-remove, elsewhere}
+use Rattle.machine.proofs.Names.{IsShootdown-destroyed, current-destroyed, length-destroyed, Coheres-destroyed}
+use Rattle.machine.proofs.Names.{IsInSpace, AreBacked-remove, AreBacked-frozen, Hardware, State, page_from}
+use Rattle.machine.proofs.Names.{destroy_refusal_of, with_hardware, SpaceDestroyed, IsPrepared, IsSound, Saying}
+use Rattle.machine.proofs.Names.{BeginsChange, EndsChange, StoresBytes, Move, Moves, Replace, Remap, Destroy, Begin}
+use Rattle.machine.proofs.Names.{End, Store, Bring, Copy, Drop}
 use Rattle.std.specs.FinMap as maps
-use Rattle.std.proofs.lemmas.Bool.{and_from, not_from_false, ne_eqb, or_left}
 use Rattle.page_entry.specs.declared.refusal.Refusal.TheVariants as refusals
-use Rattle.spaces.specs.Spaces.{has_space, place_at}
-use Rattle.spaces.specs.Requests.{is_user_space}
-use Rattle.spaces.proofs.Public.{has_space-remove, place_at-remove, AreSpaces-remove, user_space}
-use Rattle.shootdown.specs.declared.lock.Lock.{Lock}
-use Rattle.shootdown.specs.Shootdown.{not_free, is_current, current, begun, finished, destroyed}
-use Rattle.shootdown.specs.Calls.{destroy_refusal}
-use Rattle.shootdown.proofs.Public.{IsShootdown-begun, length-begun, current-begun, Coheres-begun, entry_at-remove_other, IsNoWider-remove, elsewhere, IsShootdown-destroyed, current-destroyed, length-destroyed, Coheres-destroyed}
-use Rattle.checkpoint.specs.Checkpoint.{IsInSpace}
-use Rattle.checkpoint.proofs.Public.{AreBacked-remove, AreBacked-frozen}
-use Rattle.cpu.specs.Access.{Hardware}
-use Rattle.machine.specs.State.{State, page_from}
-use Rattle.machine.specs.Refusals.{destroy_refusal_of}
-use Rattle.machine.specs.Rules.{with_hardware, SpaceDestroyed}
-use Rattle.machine.specs.inside.Sound.{IsPrepared, IsSound}
-use Rattle.machine.specs.inside.Moves.{Saying, BeginsChange, EndsChange, StoresBytes, Move, Moves, Replace, Remap, Destroy, Begin, End, Store, Bring, Copy, Drop}
+use Rattle.shootdown.specs.Shootdown.{begun}
 use Rattle.machine.proofs.sound.Lists.{kept_some}
 use Rattle.machine.proofs.sound.Admitted.{first_none, free_below, running_below, unlocked}
 use Rattle.machine.proofs.sound.Groups.{unchanged_sound, shootdown_sound, memory_beside, write_outs_moved}

@@ -1,20 +1,12 @@
 -- What holds where an act isn't refused.
-use Rattle.std.proofs.Common.{ℕ, ◌≡◌, ◌<◌, Bool, true, false, not, ◌&&◌, cond, List, [], ◌∷◌, length, Option, Some, None, is_some, Ok, refl, subst}
-use Rattle.std.specs.Option.{option_or}
-use Rattle.page_entry.specs.declared.refusal.Refusal.{Refusal}
+use Rattle.machine.proofs.Names.{ℕ, ◌≡◌, ◌<◌, Bool, true, false, not, ◌&&◌, cond, List, [], ◌∷◌, length, Option, Some}
+use Rattle.machine.proofs.Names.{None, is_some, Ok, refl, subst, option_or, Refusal, Place, Spaces, has_space, Lock}
+use Rattle.machine.proofs.Names.{ProcState, Active, Interrupted, Stalled, Initiating, Idle, is_running, ShootdownState}
+use Rattle.machine.proofs.Names.{is_there, state_of, current, not_running, not_free, is_interrupted, interrupted}
+use Rattle.machine.proofs.Names.{not_there, wait_refusal, idle_refusal, switch_refusal, change_refusal, lock_refusal}
+use Rattle.machine.proofs.Names.{is_there_below, none_unless_some, admitted, running, place_of_fault, fault_refusal}
+use Rattle.machine.proofs.Names.{State, length_of, refuse_if, first_of, served_refusal, fix_refusal}
 use Rattle.page_entry.specs.declared.refusal.Refusal.TheVariants as refusals
-use Rattle.mappings.specs.declared.place.Place.{Place}
-use Rattle.spaces.specs.Spaces.{Spaces, has_space}
-use Rattle.shootdown.specs.declared.lock.Lock.{Lock}
-use Rattle.shootdown.specs.declared.proc_state.ProcState.{ProcState}
-use Rattle.shootdown.specs.declared.proc_state.ProcState.TheVariants.{Active, Interrupted, Stalled, Initiating, Idle}
-use Rattle.shootdown.specs.Processors.{is_running}
-use Rattle.shootdown.specs.Shootdown.{ShootdownState, is_there, state_of, current, not_running, not_free, is_interrupted, interrupted}
-use Rattle.shootdown.specs.Calls.{not_there, wait_refusal, idle_refusal, switch_refusal, change_refusal, lock_refusal}
-use Rattle.shootdown.proofs.Public.{is_there_below, none_unless_some, admitted, running}
-use Rattle.fault.specs.Fault.{place_of_fault, fault_refusal}
-use Rattle.machine.specs.State.{State, length_of}
-use Rattle.machine.specs.Refusals.{refuse_if, first_of, served_refusal, fix_refusal}
 
 -- ---- none of several reasons
 

@@ -1,28 +1,17 @@
 -- A step of the write-outs keeps a machine sound, and so does one whose device call failed.
-use Rattle.std.proofs.Common.{ℕ, ◌≡◌, ◌≢◌, ◌<◌, ◌≤◌, true, false, cond, List, [], ◌∷◌, length, map, drop, Option, Some, None, is_some, refl, sym, ap, ◌∙◌, subst, arith}
-use Rattle.std.specs.Option.{option_map_or, option_and_then}
-use Rattle.std.proofs.lemmas.Bool.{cond-false, false≢true}
-use Rattle.std.proofs.lemmas.List.{length-map, length-drop, drop-map, get_or_default}
-use Rattle.std.proofs.lemmas.List.Elements.{All-drop}
-use Rattle.page_entry.specs.declared.refusal.Refusal.{Refusal}
+use Rattle.machine.proofs.Names.{ℕ, ◌≡◌, ◌≢◌, ◌<◌, ◌≤◌, true, false, cond, List, [], ◌∷◌, length, map, drop, Option}
+use Rattle.machine.proofs.Names.{Some, None, is_some, refl, sym, ap, ◌∙◌, subst, arith, option_map_or, option_and_then}
+use Rattle.machine.proofs.Names.{cond-false, false≢true, length-map, length-drop, drop-map, get_or_default, All-drop}
+use Rattle.machine.proofs.Names.{Refusal, without_copies, GeometryValue, journals_of, Flushed, WriteOut, next_record}
+use Rattle.machine.proofs.Names.{answer_of, has_uncommitted, advanced, batches_after, outs_after, outs_record}
+use Rattle.machine.proofs.Names.{next_answer, is_busy, committed_parts, not_running, without_copy_of, released, thawed}
+use Rattle.machine.proofs.Names.{AreRising-drop, AreBacked-thawed, AreBacked-released, AreCopiesOfFrozen-release}
+use Rattle.machine.proofs.Names.{is_in_memory, Reply, State, home_of, refuse_if, flush_refusal, next_page, reply_to}
+use Rattle.machine.proofs.Names.{after_record, after_failure, FlushMade, Flushes, AreOlderCommitted, IsSound}
 use Rattle.page_entry.specs.declared.refusal.Refusal.TheVariants as refusals
-use Rattle.frames.specs.Frames.{without_copies}
-use Rattle.volume_codec.specs.Layout.{GeometryValue, journals_of}
-use Rattle.journal.specs.declared.flushed.Flushed.{Flushed}
 use Rattle.journal.specs.declared.flushed.Flushed.TheVariants as flushed
-use Rattle.journal.specs.WriteOut.{WriteOut, next_record, answer_of}
-use Rattle.journal.specs.WriteOuts.{has_uncommitted, current, advanced, batches_after, outs_after, outs_record, next_answer, is_busy}
-use Rattle.journal.proofs.Public.{committed_parts}
-use Rattle.shootdown.specs.Shootdown.{not_running}
-use Rattle.checkpoint.specs.Checkpoint.{without_copy_of, released, thawed}
-use Rattle.checkpoint.proofs.Public.{AreRising-drop, AreBacked-thawed, AreBacked-released, AreCopiesOfFrozen-release}
-use Rattle.fault.specs.Fault.{is_in_memory}
-use Rattle.machine.specs.declared.act.Reply.{Reply}
+use Rattle.journal.specs.WriteOuts.{current}
 use Rattle.machine.specs.declared.act.Reply.TheVariants as replies
-use Rattle.machine.specs.State.{State, home_of}
-use Rattle.machine.specs.Refusals.{refuse_if, flush_refusal}
-use Rattle.machine.specs.Rules.{next_page, reply_to, after_record, after_failure, FlushMade, Flushes}
-use Rattle.machine.specs.inside.Sound.{AreOlderCommitted, IsSound}
 use Rattle.machine.proofs.sound.Admitted.{first_none, refuse_none}
 use Rattle.machine.proofs.sound.Groups.{unchanged_sound, refused_sound, memory_same}
 use Rattle.machine.proofs.sound.Waiting.{waits_of, waiting, waiting-none, length-advanced, older-rest, older-advanced, recorded, unrecorded}

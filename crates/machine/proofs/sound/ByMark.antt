@@ -1,28 +1,17 @@
 -- A mark keeps a machine sound: the dirty pages are gathered, protected and frozen, and a batch of them begins.
-use Rattle.std.proofs.Common.{ℕ, ◌≡◌, ◌+◌, ◌^◌, ◌<◌, ◌≤◌, eqb, not, Bool, true, false, cond, List, [], ◌∷◌, ◌++◌, length, map, get_or, refl, sym, ap, ◌∙◌, subst, ⊎_elim, arith}
-use Rattle.std.specs.List.{All, list_any}
-use Rattle.std.proofs.lemmas.Bool.{cases_Bool, or_parts, eqb-false, false≢true, cond-true, cond-false}
-use Rattle.std.proofs.lemmas.List.{length-replicate, length-append, flat_map_more}
-use Rattle.std.proofs.lemmas.List.Elements.{All-push, All-map, Contains-get_or}
-use Rattle.page_entry.specs.declared.numbers.FilePage.{FilePage}
-use Rattle.frames.specs.Frames.{FramesState}
-use Rattle.volume_codec.specs.Layout.{GeometryValue, journals_of}
-use Rattle.volume_codec.specs.Super.{geometry_of}
-use Rattle.volume_codec.specs.Descriptor.{AreHomes}
-use Rattle.journal.specs.WriteOut.{WriteOut, begun_of}
-use Rattle.journal.specs.WriteOuts.{WriteOutsValue, has_uncommitted, is_busy, next_batch, begun as outs_begun}
+use Rattle.machine.proofs.Names.{ℕ, ◌≡◌, ◌+◌, ◌^◌, ◌<◌, ◌≤◌, eqb, not, Bool, true, false, cond, List, [], ◌∷◌, ◌++◌}
+use Rattle.machine.proofs.Names.{length, map, get_or, refl, sym, ap, ◌∙◌, subst, ⊎_elim, arith, All, list_any}
+use Rattle.machine.proofs.Names.{cases_Bool, or_parts, eqb-false, false≢true, cond-true, cond-false, length-replicate}
+use Rattle.machine.proofs.Names.{length-append, flat_map_more, All-push, All-map, Contains-get_or, FilePage}
+use Rattle.machine.proofs.Names.{FramesState, GeometryValue, journals_of, geometry_of, AreHomes, WriteOut, begun_of}
+use Rattle.machine.proofs.Names.{WriteOutsValue, has_uncommitted, is_busy, next_batch, Spaces, protected_where}
+use Rattle.machine.proofs.Names.{place_at-EditsEntries, AreSpaces-EditsEntries, ChangesOnlyAffected-checkpoint}
+use Rattle.machine.proofs.Names.{CheckpointState, is_noted, same_page, AreRising, Gathers, ProtectsNoted, without_notes}
+use Rattle.machine.proofs.Names.{AreBacked-protected, is_in_memory, Hardware, State, home_of, end_change, with_batch}
+use Rattle.machine.proofs.Names.{MarkMade, IsPrepared, IsMemorySound, AreWriteOutsSound, IsSound, IsInFile}
+use Rattle.machine.proofs.Names.{waiting_homes, frozen_homes}
+use Rattle.journal.specs.WriteOuts.{begun as outs_begun}
 use Rattle.spaces.specs.declared.change.Change.TheVariants as changes
-use Rattle.spaces.specs.Spaces.{Spaces}
-use Rattle.spaces.specs.Changes.{protected_where}
-use Rattle.spaces.proofs.Public.{place_at-EditsEntries, AreSpaces-EditsEntries, ChangesOnlyAffected-checkpoint}
-use Rattle.checkpoint.specs.Checkpoint.{CheckpointState, is_noted, same_page, AreRising, Gathers, ProtectsNoted, without_notes}
-use Rattle.checkpoint.proofs.Public.{AreBacked-protected}
-use Rattle.fault.specs.Fault.{is_in_memory}
-use Rattle.cpu.specs.Access.{Hardware}
-use Rattle.machine.specs.State.{State, home_of}
-use Rattle.machine.specs.Rules.{end_change, with_batch, MarkMade}
-use Rattle.machine.specs.inside.Sound.{IsPrepared, IsMemorySound, AreWriteOutsSound, IsSound}
-use Rattle.machine.specs.Durability.{IsInFile, waiting_homes, frozen_homes}
 use Rattle.machine.proofs.sound.Lists.{get_or-replicate-same}
 use Rattle.machine.proofs.sound.Groups.{unchanged_sound}
 use Rattle.machine.proofs.sound.Frames.{in_memory_held}

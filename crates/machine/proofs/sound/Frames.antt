@@ -1,25 +1,15 @@
 -- Other frames keep a machine sound.
-use Rattle.std.proofs.Common.{ℕ, ◌≡◌, ◌≢◌, ◌+◌, ◌-◌, ◌*◌, ◌≤◌, not, true, false, List, ◌++◌, length, take, drop, get_or, Option, Some, None, IsSome, slice_get, refl, sym, ap, ◌∙◌, subst, inl, ⊎_elim, arith}
-use Rattle.std.specs.List.{list_any}
-use Rattle.std.proofs.lemmas.Bool.{cases_eq, and_parts, not-true, false≢true}
-use Rattle.std.proofs.lemmas.List.{length-append, length-take, length-take-le, length-drop, length-set, get_or-set_other}
-use Rattle.std.proofs.lemmas.List.Elements.{Contains-get_or}
-use Rattle.page_entry.specs.Entry.{Mapped}
-use Rattle.page_entry.specs.declared.numbers.FilePage.{FilePage}
-use Rattle.volume_codec.specs.Layout.{block_at}
-use Rattle.volume_codec.proofs.Public.{length-padded}
-use Rattle.frames.specs.Frames.{FramesState, Frame, frame_at, overwrite, overwrite_frame, with_bytes, with_page, with_copy, without_frame, page_of}
-use Rattle.frames.proofs.Public.{after_set}
-use Rattle.journal.specs.WriteOuts.{HasBlock}
-use Rattle.spaces.specs.Spaces.{entry_at}
-use Rattle.checkpoint.specs.Checkpoint.{CheckpointState, NotesTaken, Holds, is_noted, is_frozen, is_of_page, is_held, is_copied}
-use Rattle.checkpoint.specs.Backing.{AreBacked}
-use Rattle.checkpoint.proofs.Public.{has_page-list_any, list_any-has_page, Holds-with_page, AreBacked-with_bytes, AreBacked-with_page, AreBacked-with_copy, AreBacked-without_frame}
-use Rattle.fault.specs.Fault.{is_in_memory}
-use Rattle.machine.specs.State.{State, length_of, home_of, cut_at_end, page_from}
-use Rattle.machine.specs.Rules.{with_hardware, MayLeave}
-use Rattle.machine.specs.Durability.{IsInFile}
-use Rattle.machine.specs.inside.Sound.{IsMemory, IsMemorySound, IsSound}
+use Rattle.machine.proofs.Names.{ℕ, ◌≡◌, ◌≢◌, ◌+◌, ◌-◌, ◌*◌, ◌≤◌, not, true, false, List, ◌++◌, length, take, drop}
+use Rattle.machine.proofs.Names.{get_or, Option, Some, None, IsSome, slice_get, refl, sym, ap, ◌∙◌, subst, inl, ⊎_elim}
+use Rattle.machine.proofs.Names.{arith, list_any, cases_eq, and_parts, not-true, false≢true, length-append, length-take}
+use Rattle.machine.proofs.Names.{length-take-le, length-drop, length-set, get_or-set_other, Contains-get_or, Mapped}
+use Rattle.machine.proofs.Names.{FilePage, block_at, length-padded, FramesState, Frame, frame_at, overwrite}
+use Rattle.machine.proofs.Names.{overwrite_frame, with_bytes, with_page, with_copy, without_frame, page_of, after_set}
+use Rattle.machine.proofs.Names.{HasBlock, entry_at, CheckpointState, NotesTaken, Holds, is_noted, is_frozen}
+use Rattle.machine.proofs.Names.{is_of_page, is_held, is_copied, AreBacked, has_page-list_any, list_any-has_page}
+use Rattle.machine.proofs.Names.{Holds-with_page, AreBacked-with_bytes, AreBacked-with_page, AreBacked-with_copy}
+use Rattle.machine.proofs.Names.{AreBacked-without_frame, is_in_memory, State, length_of, home_of, cut_at_end}
+use Rattle.machine.proofs.Names.{page_from, with_hardware, MayLeave, IsInFile, IsMemory, IsMemorySound, IsSound}
 use Rattle.machine.proofs.sound.Lists.{held_frame, same_some, once_frames, once_copies, memory_from, AreOnce-set}
 use Rattle.machine.proofs.sound.Admitted.{unlocked}
 use Rattle.machine.proofs.sound.Groups.{write_outs_moved, write_outs_kept, prepared_moved}

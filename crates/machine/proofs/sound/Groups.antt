@@ -1,29 +1,12 @@
 -- The groups of facts of a sound machine by what they depend on, so that an act that leaves a group alone keeps it.
-use Rattle.std.proofs.Common.{ℕ, ◌≡◌, ◌+◌, ◌^◌, ◌<◌, true, false, length, map, get_or, Contains, Option, Some, IsSome, refl, sym, ap, ◌∙◌, subst}
-use Rattle.std.specs.List.{All, list_any}
-use Rattle.std.proofs.lemmas.List.Elements.{Contains-get_or}
-use Rattle.page_entry.specs.declared.numbers.FilePage.{FilePage}
-use Rattle.page_entry.specs.declared.refusal.Refusal.{Refusal}
-use Rattle.mappings.specs.Judgement.{protect_refusal}
-use Rattle.mappings.specs.Places.{Places}
-use Rattle.volume_codec.specs.Super.{SuperValue}
-use Rattle.journal.specs.WriteOuts.{WriteOutsValue, is_busy, HasBlock}
-use Rattle.spaces.specs.declared.change.Change.{Change}
-use Rattle.spaces.specs.declared.change.Change.TheVariants.{Unmap, Protect, Reclaim, Checkpoint}
-use Rattle.spaces.specs.Spaces.{Spaces, has_space, space_at}
-use Rattle.spaces.specs.Requests.{is_user_space}
-use Rattle.shootdown.specs.declared.lock.Lock.{Lock}
-use Rattle.shootdown.specs.Shootdown.{ShootdownState, IsShootdown, current}
-use Rattle.shootdown.specs.Coherence.{Coheres}
-use Rattle.checkpoint.specs.Checkpoint.{CheckpointState, is_noted, same_page, AreRising}
-use Rattle.checkpoint.specs.Backing.{AreBacked}
-use Rattle.frames.specs.Frames.{frame_at}
-use Rattle.fault.specs.Fault.{is_in_memory}
-use Rattle.cpu.specs.Access.{Hardware}
-use Rattle.machine.specs.State.{State, home_of}
-use Rattle.machine.specs.Refusals.{pages_in_file}
-use Rattle.machine.specs.Rules.{IsRefused, with_shootdown}
-use Rattle.machine.specs.inside.Sound.{IsPrepared, IsMemorySound, AreWriteOutsSound, IsSound}
+use Rattle.machine.proofs.Names.{ℕ, ◌≡◌, ◌+◌, ◌^◌, ◌<◌, true, false, length, map, get_or, Option, Some, IsSome, refl}
+use Rattle.machine.proofs.Names.{sym, ap, ◌∙◌, subst, All, list_any, Contains-get_or, FilePage, Refusal}
+use Rattle.machine.proofs.Names.{protect_refusal, Places, SuperValue, WriteOutsValue, is_busy, HasBlock, Change, Unmap}
+use Rattle.machine.proofs.Names.{Protect, Reclaim, Checkpoint, Spaces, has_space, space_at, is_user_space, Lock}
+use Rattle.machine.proofs.Names.{ShootdownState, IsShootdown, current, Coheres, CheckpointState, is_noted, same_page}
+use Rattle.machine.proofs.Names.{AreRising, AreBacked, frame_at, is_in_memory, Hardware, State, home_of, pages_in_file}
+use Rattle.machine.proofs.Names.{IsRefused, with_shootdown, IsPrepared, IsMemorySound, AreWriteOutsSound, IsSound}
+use Rattle.std.proofs.Common.{Contains}
 
 pub unchanged_sound : (s new : State) → new ≡ s → IsSound s → IsSound new
 unchanged_sound s new same sound = subst IsSound (sym same) sound
