@@ -1,50 +1,33 @@
 -- A step of the write-outs: the record that it writes is what New has; Old and New stay until the batch that wasn't committed is, and then what was New is Old, too.
-use Rattle.std.proofs.Common.{◌≡◌, ◌<◌, ◌≤◌, ◌+◌, ◌-◌, ◌*◌, ℕ, true, false, not, List, [], ◌∷◌, ◌++◌, length, map, take, drop, get_or, Option, Some, None, IsSome, inl, inr, refl, sym, ap, ◌∙◌, subst, arith, ◌==◌, ◌⊎◌, zero, suc, cond, Bool}
-use Rattle.std.specs.List.{Contains, flat_map, list_any, All}
-use Rattle.std.specs.Option.{option_map, option_map_or, option_and_then}
-use Rattle.std.proofs.lemmas.Bool.{cond-false, cases_Bool, both_ways, or_from, not_from_true, or_parts}
-use Rattle.std.proofs.lemmas.List.{append-nil, drop_more, length-take}
-use Rattle.std.proofs.lemmas.List.Folds.{list_any-append}
-use Rattle.std.proofs.lemmas.List.Elements.{Contains-push, Contains-get_or, Contains-push_cases, Contains-append_cases, All-contains}
-use Rattle.page_entry.specs.declared.numbers.FilePage.{FilePage}
-use Rattle.volume_codec.proofs.Public.{length-padded}
-use Rattle.frames.specs.Frames.{Frame, bytes_of, frame_at, page_of, IsBefore}
-use Rattle.checkpoint.proofs.Public.{before_each}
-use Rattle.checkpoint.specs.Checkpoint.{is_of_page, AreRising}
-use Rattle.journal.specs.declared.stage.Stage.{Stage}
-use Rattle.journal.specs.declared.stage.Stage.TheVariants.{Recording, Describing, SyncingRecords, Opening, Committing, Applying, SyncingHomes, Closing, Finishing}
-use Rattle.journal.specs.declared.flushed.Flushed.TheVariants.{Committed, Broken}
-use Rattle.journal.specs.Stage.{answer_at}
-use Rattle.journal.specs.WriteOut.{WriteOut, next_stage, has_committed, advanced_of, record_at, next_record, next_home, answer_of, broken_after}
-use Rattle.journal.specs.WriteOuts.{WriteOutsValue, has_uncommitted, current, advanced, outs_record, outs_home, next_answer, outs_after, current_stage, batches_after}
-use Rattle.journal.specs.inside.Sound.{AreInOrder}
-use Rattle.journal.proofs.Public.{stage_at-is, after_committing, newest_of, current-newest, advanced-newest, committed-at, current_committed, older_committed, batch_before, stands_within, stands_after, stands_failed, stands_other}
-use Rattle.machine.specs.State.{State, length_of, home_of, cut_at_end}
-use Rattle.machine.specs.inside.Sound.{IsSound, IsPrepared}
-use Rattle.machine.specs.Rules.{next_page, bytes_with, bytes_at_mark, next_record as record_asked, work_asked, after_record, after_failure}
+use Rattle.machine.proofs.Names.{◌≡◌, ◌<◌, ◌≤◌, ◌+◌, ◌-◌, ◌*◌, ℕ, true, false, not, List, [], ◌∷◌, ◌++◌, length, map}
+use Rattle.machine.proofs.Names.{take, drop, get_or, Option, Some, None, IsSome, inl, inr, refl, sym, ap, ◌∙◌, subst}
+use Rattle.machine.proofs.Names.{arith, ◌==◌, ◌⊎◌, zero, suc, cond, Bool, Contains, flat_map, list_any, All, option_map}
+use Rattle.machine.proofs.Names.{option_map_or, option_and_then, cond-false, cases_Bool, both_ways, or_from}
+use Rattle.machine.proofs.Names.{not_from_true, or_parts, append-nil, drop_more, length-take, list_any-append}
+use Rattle.machine.proofs.Names.{Contains-push, Contains-get_or, Contains-push_cases, Contains-append_cases}
+use Rattle.machine.proofs.Names.{All-contains, FilePage, length-padded, Frame, bytes_of, frame_at, page_of, IsBefore}
+use Rattle.machine.proofs.Names.{before_each, is_of_page, AreRising, Stage, Recording, Describing, SyncingRecords}
+use Rattle.machine.proofs.Names.{Opening, Committing, Applying, SyncingHomes, Closing, Finishing, Committed, Broken}
+use Rattle.machine.proofs.Names.{answer_at, WriteOut, next_stage, has_committed, advanced_of, record_at, next_record}
+use Rattle.machine.proofs.Names.{next_home, answer_of, broken_after, WriteOutsValue, has_uncommitted, advanced}
+use Rattle.machine.proofs.Names.{outs_record, outs_home, next_answer, outs_after, current_stage, batches_after}
+use Rattle.machine.proofs.Names.{AreInOrder, stage_at-is, after_committing, newest_of, current-newest, advanced-newest}
+use Rattle.machine.proofs.Names.{committed-at, current_committed, older_committed, batch_before, stands_within}
+use Rattle.machine.proofs.Names.{stands_after, stands_failed, stands_other, State, length_of, home_of, cut_at_end}
+use Rattle.machine.proofs.Names.{IsSound, IsPrepared, next_page, bytes_with, bytes_at_mark, work_asked, after_record}
+use Rattle.machine.proofs.Names.{after_failure, File, journals_of, AreHomes, Batch, SuperValue, geometry_of, Flushed}
+use Rattle.machine.proofs.Names.{Sync, worked, TornFromWork, LeftWithin, IsStanding, Checkpoint, Lock, not_running}
+use Rattle.machine.proofs.Names.{Event, Mark, Acknowledge, memory_of, after, is_touched, flush_refusal, Told, change_in}
+use Rattle.machine.proofs.Names.{AreContentsOf, HasAcknowledged, IsLost, IsWaiting, AreMarks, IsWritten, IsInFile}
+use Rattle.machine.proofs.Names.{within_file}
+use Rattle.journal.specs.WriteOuts.{current}
+use Rattle.machine.specs.Rules.{next_record as record_asked}
+use Rattle.journal.specs.declared.flushed.Flushed.TheVariants as flushed
+use Rattle.page_entry.specs.declared.refusal.Refusal.TheVariants as refusals
 use Rattle.machine.proofs.durable.Lists.{only_one, some_same, none_some, flat_map-append}
 use Rattle.machine.proofs.durable.Pages.{bytes_with-at, bytes_with-none, bytes_with-freed}
 use Rattle.machine.proofs.durable.Uncommitted.{all_committed, whole_frozen, none_uncommitted, uncommitted_before, waits_after}
 use Rattle.machine.proofs.durable.Histories.{calm_none, calm_acknowledge, IsFresh, written_same, written_new, AreFrozenRecords, SameFiles, in_file_as, part_as, contents_more, record_as, IsUntouched, quiet_untouched, touched_after-append, after-append, acknowledge_same, acknowledge_no_mark, acknowledged_more, marks_more, marks_settled}
-use Rattle.volume_codec.specs.Files.{File}
-use Rattle.volume_codec.specs.Layout.{journals_of}
-use Rattle.volume_codec.specs.Descriptor.{AreHomes}
-use Rattle.volume_codec.specs.Recovery.{Batch}
-use Rattle.volume_codec.specs.Super.{SuperValue, geometry_of}
-use Rattle.journal.specs.declared.flushed.Flushed.{Flushed}
-use Rattle.journal.specs.declared.flushed.Flushed.TheVariants as flushed
-use Rattle.journal.specs.Work.{Sync, worked, TornFromWork}
-use Rattle.journal.specs.Crash.{LeftWithin}
-use Rattle.journal.specs.inside.Standing.{IsStanding}
-use Rattle.spaces.specs.declared.change.Change.TheVariants.{Checkpoint}
-use Rattle.shootdown.specs.declared.lock.Lock.{Lock}
-use Rattle.shootdown.specs.Shootdown.{not_running}
-use Rattle.page_entry.specs.declared.refusal.Refusal.TheVariants as refusals
-use Rattle.machine.specs.History.{Event, Mark, Acknowledge, memory_of, after, is_touched}
-use Rattle.machine.specs.Refusals.{flush_refusal}
-use Rattle.machine.specs.Told.{Told}
-use Rattle.machine.specs.inside.Tracking.{change_in, AreContentsOf, HasAcknowledged, IsLost, IsWaiting, AreMarks, IsWritten}
-use Rattle.machine.specs.Durability.{IsInFile, within_file}
 use Rattle.machine.proofs.durable.Marks.{IsDurable}
 use Rattle.machine.proofs.sound.Admitted.{second_not_refused}
 

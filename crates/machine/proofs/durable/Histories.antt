@@ -1,25 +1,18 @@
 -- Histories that grow: the memory after them, the pages that they touch, their prefixes, and which marks are acknowledged, wait or are lost.
-use Rattle.std.proofs.Common.{◌≡◌, ℕ, ◌+◌, ◌*◌, ◌/◌, ◌%◌, ◌<◌, ◌≤◌, Bool, true, false, ◌&&◌, eqb, if◌then◌else◌, List, [], ◌∷◌, ◌++◌, length, take, drop, refl, sym, ap, ◌∙◌, inl, inr, arith, ◌⊎◌, cond, subst, append_assoc, ◌↔◌, ◌-◌, get_or, Some}
-use Rattle.std.proofs.lemmas.Bool.{cond-true, cond-false, cond_both, and_from, and_left, and_right, eq-eqb, ne_eqb, cases_eq, both_ways, eqb-true, and_parts, false_from_ne_true}
-use Rattle.std.proofs.lemmas.List.{length-take, append-nil}
-use Rattle.volume_codec.specs.Files.{File}
-use Rattle.volume_codec.proofs.Public.{length-padded}
-use Rattle.frames.specs.Frames.{overwrite}
-use Rattle.frames.proofs.Public.{length-overwrite}
-use Rattle.machine.specs.History.{Memory, Event, Store, Mark, Acknowledge, memory_of, file_bytes, stored, after, touched_after, is_touched, unmarked_after, has_unmarked}
-use Rattle.std.specs.List.{Contains, All}
-use Rattle.std.proofs.lemmas.List.Elements.{Contains-append_left, Contains-append_cases, Contains-push_cases, Contains-get_or}
-use Rattle.machine.specs.inside.Tracking.{HasAcknowledged, IsLost, IsWaiting, AreMarks, AreTouched, change_in, HasParts, AreContentsOf, IsWritten}
+use Rattle.machine.proofs.Names.{◌≡◌, ℕ, ◌+◌, ◌*◌, ◌/◌, ◌%◌, ◌<◌, ◌≤◌, Bool, true, false, ◌&&◌, eqb, if◌then◌else◌}
+use Rattle.machine.proofs.Names.{List, [], ◌∷◌, ◌++◌, length, take, drop, refl, sym, ap, ◌∙◌, inl, inr, arith, ◌⊎◌}
+use Rattle.machine.proofs.Names.{cond, subst, append_assoc, ◌↔◌, ◌-◌, get_or, Some, cond-true, cond-false, cond_both}
+use Rattle.machine.proofs.Names.{and_from, and_left, and_right, eq-eqb, ne_eqb, cases_eq, both_ways, eqb-true}
+use Rattle.machine.proofs.Names.{and_parts, false_from_ne_true, length-take, append-nil, File, length-padded, overwrite}
+use Rattle.machine.proofs.Names.{length-overwrite, Memory, Event, Mark, Acknowledge, memory_of, file_bytes, stored}
+use Rattle.machine.proofs.Names.{after, touched_after, is_touched, unmarked_after, has_unmarked, Contains, All}
+use Rattle.machine.proofs.Names.{Contains-append_left, Contains-append_cases, Contains-push_cases, Contains-get_or}
+use Rattle.machine.proofs.Names.{HasAcknowledged, IsLost, IsWaiting, AreMarks, AreTouched, change_in, HasParts}
+use Rattle.machine.proofs.Names.{AreContentsOf, IsWritten, State, home_of, cut_at_end, FilePage, MarkMade}
+use Rattle.machine.proofs.Names.{bytes_at_mark, Told, SuperValue, WriteOut, has_committed, WriteOutsValue}
+use Rattle.machine.proofs.Names.{has_uncommitted, Checkpoint, IsInFile, within_file}
+use Rattle.machine.specs.History.{Store}
 use Rattle.machine.proofs.durable.Lists.{contains_none, first_or, only_one}
-use Rattle.machine.specs.State.{State, home_of, cut_at_end}
-use Rattle.page_entry.specs.declared.numbers.FilePage.{FilePage}
-use Rattle.machine.specs.Rules.{MarkMade, bytes_at_mark}
-use Rattle.machine.specs.Told.{Told}
-use Rattle.volume_codec.specs.Super.{SuperValue}
-use Rattle.journal.specs.WriteOut.{WriteOut, has_committed}
-use Rattle.journal.specs.WriteOuts.{WriteOutsValue, has_uncommitted}
-use Rattle.spaces.specs.declared.change.Change.TheVariants.{Checkpoint}
-use Rattle.machine.specs.Durability.{IsInFile, within_file}
 
 -- ---- the memory after a history and the pages that it touches, one event at a time
 

@@ -1,31 +1,17 @@
 -- Home blocks: they lie in the volume, and no two pages of files share one.
-use Rattle.std.proofs.Common.{◌≡◌, ℕ, zero, suc, ◌+◌, ◌*◌, ◌<◌, ◌≤◌, List, [], ◌∷◌, length, map, take, get_or, ap, inl, inr, arith, ◌-◌, eqb, cond, false, ◌++◌, Option, Some, None, refl, sym, ◌∙◌, subst, true}
-use Rattle.std.proofs.lemmas.Bool.{cases_order, cond-true, cond-false, cases_Bool, cases_lt, both_ways, ne_eqb, eqb-true, eqb-false, false_from_ne_true}
-use Rattle.page_entry.specs.declared.numbers.FilePage.{FilePage}
-use Rattle.volume_codec.specs.Files.{TableFile, File}
-use Rattle.volume_codec.specs.Layout.{IsHome, first_home, block_at}
-use Rattle.volume_codec.specs.Super.{pages_of, total_pages, geometry_of}
-use Rattle.machine.specs.State.{State, home_of, length_of, cut_at_end, page_from}
-use Rattle.machine.specs.Durability.{IsInFile, within_file}
-use Rattle.machine.specs.inside.Sound.{IsSound}
-use Rattle.std.specs.List.{Contains, list_any, All}
-use Rattle.std.proofs.lemmas.List.{take_at, take_all, length-take, append-nil}
-use Rattle.volume_codec.specs.Text.{zeros, padded}
-use Rattle.volume_codec.proofs.Public.{zeros-nil}
-use Rattle.frames.specs.Frames.{Frame, frame_at, bytes_of, page_of}
-use Rattle.checkpoint.specs.Checkpoint.{Holds, is_of_page, is_frozen, same_page}
-use Rattle.machine.specs.Rules.{bytes_with, bytes_at_mark}
-use Rattle.volume_codec.proofs.Public.{total_pages-take_more, total_pages-take_le}
+use Rattle.machine.proofs.Names.{◌≡◌, ℕ, zero, suc, ◌+◌, ◌*◌, ◌<◌, ◌≤◌, List, [], ◌∷◌, length, map, take, get_or, ap}
+use Rattle.machine.proofs.Names.{inl, inr, arith, ◌-◌, eqb, cond, false, ◌++◌, Option, Some, None, refl, sym, ◌∙◌}
+use Rattle.machine.proofs.Names.{subst, true, cases_order, cond-true, cond-false, cases_Bool, cases_lt, both_ways}
+use Rattle.machine.proofs.Names.{ne_eqb, eqb-true, eqb-false, false_from_ne_true, FilePage, TableFile, File, IsHome}
+use Rattle.machine.proofs.Names.{first_home, block_at, pages_of, total_pages, geometry_of, State, home_of, length_of}
+use Rattle.machine.proofs.Names.{cut_at_end, page_from, IsInFile, within_file, IsSound, Contains, list_any, All}
+use Rattle.machine.proofs.Names.{take_at, take_all, length-take, append-nil, zeros, padded, zeros-nil, Frame, frame_at}
+use Rattle.machine.proofs.Names.{bytes_of, page_of, Holds, is_of_page, is_frozen, same_page, bytes_with, bytes_at_mark}
+use Rattle.machine.proofs.Names.{total_pages-take_more, total_pages-take_le, All-contains, is_in_memory, WriteOut}
+use Rattle.machine.proofs.Names.{HasBlock, memory_of, after, is_touched, Told, IsTracked}
 use Rattle.machine.proofs.sound.Homes.{home-below, same_home}
 use Rattle.machine.proofs.durable.Lists.{none_some, contains_head, contains_cons, contains_unmapped}
 use Rattle.machine.proofs.durable.Pages.{holder, holder_of, bytes_with-none, bytes_with-held, in_memory}
-use Rattle.std.proofs.lemmas.List.Elements.{All-contains}
-use Rattle.fault.specs.Fault.{is_in_memory}
-use Rattle.journal.specs.WriteOut.{WriteOut}
-use Rattle.journal.specs.WriteOuts.{HasBlock}
-use Rattle.machine.specs.History.{memory_of, after, is_touched}
-use Rattle.machine.specs.Told.{Told}
-use Rattle.machine.specs.inside.Tracking.{IsTracked}
 
 -- the capacity of a file of a table
 abbrev pub capacity_at : List TableFile → ℕ → ℕ

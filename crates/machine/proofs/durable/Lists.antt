@@ -1,8 +1,7 @@
 -- Lists and options: what is in them, and what isn't.
-use Rattle.std.proofs.Common.{◌≡◌, ◌⊎◌, ℕ, zero, suc, Bool, true, List, [], ◌∷◌, ◌++◌, map, drop, Some, None, inl, inr, refl, sym, ap, ◌∙◌, arith, append_assoc}
-use Rattle.std.specs.List.{Contains, flat_map, find}
-use Rattle.std.proofs.lemmas.Bool.{cond-true, cond-false, cases_Bool}
-use Rattle.std.proofs.lemmas.List.Elements.{Contains-append_cases}
+use Rattle.machine.proofs.Names.{◌≡◌, ◌⊎◌, ℕ, zero, suc, Bool, true, List, [], ◌∷◌, ◌++◌, map, drop, Some, None, inl}
+use Rattle.machine.proofs.Names.{inr, refl, sym, ap, ◌∙◌, arith, append_assoc, Contains, flat_map, find, cond-true}
+use Rattle.machine.proofs.Names.{cond-false, cases_Bool, Contains-append_cases}
 
 -- ---- options
 
