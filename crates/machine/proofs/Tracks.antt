@@ -1,27 +1,13 @@
 -- The laws hold on the track of a run: each step of a tracked machine keeps it tracked.
-use Rattle.std.proofs.Common.{ℕ, ◌≡◌, List, [], ◌∷◌, ◌++◌, length, map, get_or, refl, sym, ap, ◌∙◌, subst, arith}
-use Rattle.device.specs.declared.device.Device.{Ghosts}
-use Rattle.volume_codec.specs.Files.{File, TableFile}
-use Rattle.volume_codec.specs.Layout.{block_at}
-use Rattle.volume_codec.proofs.Public.{length-lengths_in}
-use Rattle.machine.specs.declared.act.Act.{Act}
-use Rattle.machine.specs.declared.act.Reply.{Reply}
-use Rattle.machine.specs.declared.act.Step.{Step}
-use Rattle.machine.specs.State.{Whole, length_of}
-use Rattle.machine.specs.Told.{Told, tell, tell_all}
-use Rattle.machine.specs.Laws.{EachStep}
-use Rattle.machine.specs.Steps.{IsLawful, told_first}
-use Rattle.machine.specs.Runs.{StepTaken, StepsTaken}
-use Rattle.machine.specs.inside.Following.{Follows}
-use Rattle.machine.specs.Crashes.{Begins, StepIsSafe, Throughout}
-use Rattle.machine.specs.inside.Sound.{capacity_of}
-use Rattle.machine.specs.inside.Tracking.{IsTracked}
+use Rattle.machine.proofs.Names.{ℕ, ◌≡◌, List, [], ◌∷◌, ◌++◌, length, map, get_or, refl, sym, ap, ◌∙◌, subst, arith}
+use Rattle.machine.proofs.Names.{Ghosts, File, TableFile, block_at, length-lengths_in, Act, Reply, Step, Whole}
+use Rattle.machine.proofs.Names.{length_of, Told, tell, tell_all, EachStep, IsLawful, told_first, StepTaken, StepsTaken}
+use Rattle.machine.proofs.Names.{Follows, Begins, StepIsSafe, Throughout, capacity_of, IsTracked, append-nil}
+use Rattle.machine.proofs.Names.{append_assoc, IsOnTrack}
 use Rattle.machine.proofs.sound.AtBoot.{fresh_sound}
 use Rattle.machine.proofs.durable.Steps.{tracked_kept, step_safe}
 use Rattle.machine.proofs.durable.AtStart.{durable_at_start, arranged_at_start, pages_at_start, files_at_start}
 use Rattle.machine.proofs.track.Lawful.{lawful}
-use Rattle.std.proofs.lemmas.List.{append-nil, append_assoc}
-use Rattle.machine.specs.OnTrack.{IsOnTrack}
 
 -- ---- each step of a tracked machine keeps it tracked, so the laws hold of a run that began on a volume at rest
 

@@ -1,49 +1,33 @@
 -- A step of the write-outs: the record that it writes is what New has; Old and New stay until the batch that wasn't committed is, and then what was New is Old, too.
-use Rattle.std.proofs.Common.{◌≡◌, ◌<◌, ◌≤◌, ◌+◌, ◌-◌, ◌*◌, ℕ, true, false, not, List, [], ◌∷◌, ◌++◌, length, map, take, drop, get_or, Option, Some, None, IsSome, inl, inr, refl, sym, ap, ◌∙◌, subst, arith, ◌==◌, ◌⊎◌, zero, suc, cond, Bool}
-use Rattle.std.specs.List.{Contains, flat_map, list_any, All}
-use Rattle.std.specs.Option.{option_map, option_map_or, option_and_then}
-use Rattle.std.proofs.lemmas.Bool.{cond-false, cases_Bool, both_ways, or_from, not_from_true, or_parts}
-use Rattle.std.proofs.lemmas.List.{append-nil, drop_more, length-take}
-use Rattle.std.proofs.lemmas.List.Folds.{list_any-append}
-use Rattle.std.proofs.lemmas.List.Elements.{Contains-push, Contains-get_or, Contains-push_cases, Contains-append_cases, All-contains}
-use Rattle.page_entry.specs.declared.numbers.FilePage.{FilePage}
-use Rattle.volume_codec.proofs.Public.{length-padded}
-use Rattle.frames.specs.Frames.{Frame, bytes_of, frame_at, page_of, IsBefore}
-use Rattle.checkpoint.specs.Checkpoint.{is_of_page, AreRising}
-use Rattle.journal.specs.declared.stage.Stage.{Stage}
-use Rattle.journal.specs.declared.stage.Stage.TheVariants.{Recording, Describing, SyncingRecords, Opening, Committing, Applying, SyncingHomes, Closing, Finishing}
-use Rattle.journal.specs.declared.flushed.Flushed.TheVariants.{Committed, Broken}
-use Rattle.journal.specs.Stage.{answer_at}
-use Rattle.journal.specs.WriteOut.{WriteOut, next_stage, has_committed, advanced_of, record_at, next_record, next_home, answer_of, broken_after}
-use Rattle.journal.specs.WriteOuts.{WriteOutsValue, has_uncommitted, current, advanced, outs_record, outs_home, next_answer, outs_after, current_stage, batches_after}
-use Rattle.journal.specs.inside.Sound.{AreInOrder}
-use Rattle.journal.proofs.Public.{stage_at-is, after_committing, newest_of, current-newest, advanced-newest, committed-at, current_committed, older_committed, batch_before, stands_within, stands_after, stands_failed, stands_other}
-use Rattle.machine.specs.State.{State, length_of, home_of, cut_at_end}
-use Rattle.machine.specs.inside.Sound.{IsSound, IsPrepared}
-use Rattle.machine.specs.Rules.{next_page, bytes_with, bytes_at_mark, next_record as record_asked, work_asked, after_record, after_failure}
-use Rattle.machine.proofs.durable.Lists.{some_same, none_some, flat_map-append}
+use Rattle.machine.proofs.Names.{◌≡◌, ◌<◌, ◌≤◌, ◌+◌, ◌-◌, ◌*◌, ℕ, true, false, not, List, [], ◌∷◌, ◌++◌, length, map}
+use Rattle.machine.proofs.Names.{take, drop, get_or, Option, Some, None, IsSome, inl, inr, refl, sym, ap, ◌∙◌, subst}
+use Rattle.machine.proofs.Names.{arith, ◌==◌, ◌⊎◌, zero, suc, cond, Bool, Contains, flat_map, list_any, All, option_map}
+use Rattle.machine.proofs.Names.{option_map_or, option_and_then, cond-false, cases_Bool, both_ways, or_from}
+use Rattle.machine.proofs.Names.{not_from_true, or_parts, append-nil, drop_more, length-take, list_any-append}
+use Rattle.machine.proofs.Names.{Contains-push, Contains-get_or, Contains-push_cases, Contains-append_cases}
+use Rattle.machine.proofs.Names.{All-contains, FilePage, length-padded, Frame, bytes_of, frame_at, page_of, IsBefore}
+use Rattle.machine.proofs.Names.{before_each, is_of_page, AreRising, Stage, Recording, Describing, SyncingRecords}
+use Rattle.machine.proofs.Names.{Opening, Committing, Applying, SyncingHomes, Closing, Finishing, Committed, Broken}
+use Rattle.machine.proofs.Names.{answer_at, WriteOut, next_stage, has_committed, advanced_of, record_at, next_record}
+use Rattle.machine.proofs.Names.{next_home, answer_of, broken_after, WriteOutsValue, has_uncommitted, advanced}
+use Rattle.machine.proofs.Names.{outs_record, outs_home, next_answer, outs_after, current_stage, batches_after}
+use Rattle.machine.proofs.Names.{AreInOrder, stage_at-is, after_committing, newest_of, current-newest, advanced-newest}
+use Rattle.machine.proofs.Names.{committed-at, current_committed, older_committed, batch_before, stands_within}
+use Rattle.machine.proofs.Names.{stands_after, stands_failed, stands_other, State, length_of, home_of, cut_at_end}
+use Rattle.machine.proofs.Names.{IsSound, IsPrepared, next_page, bytes_with, bytes_at_mark, work_asked, after_record}
+use Rattle.machine.proofs.Names.{after_failure, File, journals_of, AreHomes, Batch, SuperValue, geometry_of, Flushed}
+use Rattle.machine.proofs.Names.{Sync, worked, TornFromWork, LeftWithin, IsStanding, Checkpoint, Lock, not_running}
+use Rattle.machine.proofs.Names.{Event, Mark, Acknowledge, memory_of, after, is_touched, flush_refusal, Told, change_in}
+use Rattle.machine.proofs.Names.{AreContentsOf, HasAcknowledged, IsLost, IsWaiting, AreMarks, IsWritten, IsInFile}
+use Rattle.machine.proofs.Names.{within_file}
+use Rattle.journal.specs.WriteOuts.{current}
+use Rattle.machine.specs.Rules.{next_record as record_asked}
+use Rattle.journal.specs.declared.flushed.Flushed.TheVariants as flushed
+use Rattle.page_entry.specs.declared.refusal.Refusal.TheVariants as refusals
+use Rattle.machine.proofs.durable.Lists.{only_one, some_same, none_some, flat_map-append}
 use Rattle.machine.proofs.durable.Pages.{bytes_with-at, bytes_with-none, bytes_with-freed}
 use Rattle.machine.proofs.durable.Uncommitted.{all_committed, whole_frozen, none_uncommitted, uncommitted_before, waits_after}
-use Rattle.machine.proofs.durable.Histories.{AreFrozenRecords, SameFiles, in_file_as, part_as, contents_more, record_as, IsUntouched, quiet_untouched, touched_after-append, after-append, acknowledge_same, acknowledge_no_mark, acknowledged_more, marks_more, marks_settled}
-use Rattle.volume_codec.specs.Files.{File}
-use Rattle.volume_codec.specs.Layout.{journals_of}
-use Rattle.volume_codec.specs.Descriptor.{AreHomes}
-use Rattle.volume_codec.specs.Recovery.{Batch}
-use Rattle.volume_codec.specs.Super.{SuperValue, geometry_of}
-use Rattle.journal.specs.declared.flushed.Flushed.{Flushed}
-use Rattle.journal.specs.declared.flushed.Flushed.TheVariants as flushed
-use Rattle.journal.specs.Work.{Sync, worked, TornFromWork}
-use Rattle.journal.specs.Crash.{LeftWithin}
-use Rattle.journal.specs.inside.Standing.{IsStanding}
-use Rattle.spaces.specs.declared.change.Change.TheVariants.{Checkpoint}
-use Rattle.shootdown.specs.declared.lock.Lock.{Lock}
-use Rattle.shootdown.specs.Shootdown.{not_running}
-use Rattle.page_entry.specs.declared.refusal.Refusal.TheVariants as refusals
-use Rattle.machine.specs.History.{Event, Mark, Acknowledge, memory_of, after, is_touched}
-use Rattle.machine.specs.Refusals.{flush_refusal}
-use Rattle.machine.specs.Told.{Told}
-use Rattle.machine.specs.inside.Tracking.{change_in, AreContentsOf, HasAcknowledged, IsLost, IsWaiting, AreMarks, IsWritten}
-use Rattle.machine.specs.Durability.{IsInFile, within_file}
+use Rattle.machine.proofs.durable.Histories.{calm_none, calm_acknowledge, IsFresh, written_same, written_new, AreFrozenRecords, SameFiles, in_file_as, part_as, contents_more, record_as, IsUntouched, quiet_untouched, touched_after-append, after-append, acknowledge_same, acknowledge_no_mark, acknowledged_more, marks_more, marks_settled}
 use Rattle.machine.proofs.durable.Marks.{IsDurable}
 use Rattle.machine.proofs.sound.Admitted.{second_not_refused}
 
@@ -231,81 +215,11 @@ commits batches number ordered some e = by (current batches) refl e
 
 -- ---- astep of the write-outs: Old and New stay, until the batch that wasn't committed is; then what was New is Old
 
--- ---- what is told grows by events that touch no page
-
--- events that touch no page and change none
-abbrev pub AreCalm : List File → List Event → List Event → Type 0
-AreCalm files history events = (file page : ℕ) → is_touched (history ++ events) file page ≡ false → IsUntouched (memory_of files) history events file page
-
-pub calm_none : (files : List File) (history : List Event) → AreCalm files history []
-calm_none files history file page is = quiet_untouched (memory_of files) history [] file page (inl refl) is
-
-pub calm_acknowledge : (files : List File) (history : List Event) (number : ℕ) → AreCalm files history (Acknowledge number ∷ [])
-calm_acknowledge files history number file page is = record {
-  before = sym (touched_after-append file page false history (Acknowledge number ∷ [])) ∙ is;
-  same = ap (λ (m : ℕ → ℕ → List ℕ). m file page) (after-append (memory_of files) history (Acknowledge number ∷ []));
-}
-
--- the batches that aren't committed aren't in this prefix
-abbrev IsFresh : State → List Event → Type 0
-IsFresh x before = (y : WriteOut) → Contains x.write_outs.batches y → has_committed y ≡ false → Contains before (Mark y.batch.mark) → ⊥
-
-module _ (files : List File) (told : Told) (s x : State) (old new : ℕ → List ℕ) (w : IsWritten files told s old new) (events : List Event) (calm : AreCalm files told.history events) (same : SameFiles s x)
-    (acks : (n : ℕ) → Contains events (Acknowledge n) → Contains w.marked (Mark n)) (marks : All (λ (y : WriteOut). Contains w.marked (Mark y.batch.mark)) x.write_outs.batches)
-    (ready : x.write_outs.broken ≡ true → change_in x.hardware.shootdown.lock ≡ Some Checkpoint → has_uncommitted x.write_outs.batches ≡ false) (whole : s.write_outs.broken ≡ false) (frozen : AreFrozenRecords x new)
-    (unmarked : (n : ℕ) → Contains events (Mark n) → ⊥) (same_marks : x.marks ≡ s.marks) (only : AreMarks (told.history ++ events) w.before w.marked x) where
-  abbrev now : Told
-  now = record told { history = told.history ++ events }
-
-  -- with another Old
-  pub written_on : (other : ℕ → List ℕ) (before : List Event) → AreContentsOf files (told.history ++ events) x other before → HasAcknowledged before (told.history ++ events) → IsFresh x before → AreMarks (told.history ++ events) before w.marked x → IsWritten files now x other new
-  written_on other before are acknowledged fresh only = record {
-    before = before;
-    old_are = are;
-    acknowledged = acknowledged;
-    marked = w.marked;
-    new_are = contents_more files told.history events s x same new w.marked w.new_are;
-    grown = acknowledged_more w.marked told.history events acks w.grown;
-    marks = marks;
-    fresh = fresh;
-    only = only;
-    numbered = λ n has. elim (Contains-append_cases told.history events (Mark n) has) [ inl was ↦ subst (λ m. n ≤ m) (sym same_marks) (w.numbered n was) | inr this ↦ absurd (unmarked n this) ];
-    ready = ready;
-    clean = inr (λ owner is untouched.
-        let still = calm owner.file owner.page untouched in
-        part_as s x same owner new (after (memory_of files) (told.history ++ events) owner.file owner.page)
-        (clean owner (in_file_as s x same owner is) still.before ∙ sym (ap (within_file s owner) still.same)));
-    frozen = frozen;
-  }
-    where
-      clean : (owner : FilePage) → IsInFile s owner → is_touched told.history owner.file owner.page ≡ false → within_file s owner (new (home_of s.table owner)) ≡ within_file s owner (after (memory_of files) told.history owner.file owner.page)
-      clean owner is untouched = elim w.clean [ inl lost ↦ absurd (both_ways s.write_outs.broken whole lost.broken) | inr are ↦ are owner is untouched ]
-
-  -- with the same Old
-  pub written_same : ((n : ℕ) → Contains events (Acknowledge n) → Contains w.before (Mark n)) → IsFresh x w.before → IsWritten files now x old new
-  written_same old_acks fresh = written_on old w.before (contents_more files told.history events s x same old w.before w.old_are) (acknowledged_more w.before told.history events old_acks w.acknowledged) fresh only
-
-  -- where New is Old, too
-  pub written_new : IsFresh x w.marked → ((n : ℕ) → IsWaiting x.write_outs.batches n → ⊥) → IsWritten files now x new new
-  written_new fresh none = written_on new w.marked (contents_more files told.history events s x same new w.marked w.new_are) (acknowledged_more w.marked told.history events acks w.grown) fresh (marks_settled w.before w.marked (told.history ++ events) x none only)
-
 -- ---- what the state is after a step
 
 before_itself : (a b : FilePage) → IsBefore a b → b ≡ a → ⊥
 before_itself a b (inl less) e = let same : b.file ≡ a.file = ap (λ (o : FilePage). o.file) e in absurd (omega arith)
 before_itself a b (inr less) e = let same : b.page ≡ a.page = ap (λ (o : FilePage). o.page) e in absurd (omega (arith, less.1))
-
-before_trans : (a b c : FilePage) → IsBefore a b → IsBefore b c → IsBefore a c
-before_trans a b c (inl x) (inl y) = inl (omega arith)
-before_trans a b c (inl x) (inr y) = inl (omega (arith, y.0))
-before_trans a b c (inr x) (inl y) = inl (omega (arith, x.0))
-before_trans a b c (inr x) (inr y) = inr (x.0 ∙ y.0, omega (arith, x.1, y.1))
-
--- the first frozen page comes before each other
-before_each : (owner : FilePage) (owners : List FilePage) → AreRising (owner ∷ owners) → (k : ℕ) (d : FilePage) → k < length owners → IsBefore owner (get_or owners k d)
-before_each owner [] rising k d within = absurd (omega arith)
-before_each owner (next ∷ owners) rising zero d within = rising.0
-before_each owner (next ∷ owners) rising (suc k) d within = before_trans owner next (get_or owners k d) rising.0 (before_each next owners rising.1 k d (omega arith))
 
 later_differs : (pages : List FilePage) (first d : FilePage) (k : ℕ) → AreRising pages → k < length (drop 1 pages) → get_or (drop 1 pages) k d ≡ get_or pages 0 first → ⊥
 later_differs [] first d k rising lt e = absurd (omega arith)
@@ -389,7 +303,7 @@ module _ (files : List File) (told : Told) (s : State) (seen : List ℕ) (may : 
     old = old;
     new = new;
     stands = stands_failed s.table old new s.write_outs seen may (record_asked s) (size_of_record s sound) stands flush_whole some is_new seen' may' left;
-    written = written_same files told s (after_failure s) old new w [] (calm_none files told.history) (record { table = refl; lengths = refl }) (λ n has. absurd (omega (arith, has.1))) w.marks (λ broken held. not_busy held) flush_whole (λ k d lt. absurd (omega arith))
+    written = written_same files told s (after_failure s) old new w [] (calm_none files told.history) (record { table = refl; lengths = refl }) (λ n has. absurd (omega (arith, has.1))) w.marks (λ broken held. not_busy held) never_lost (λ k d lt. absurd (omega arith))
         (λ n has. absurd (omega (arith, has.1))) refl (marks_more w.before w.marked told.history [] s (after_failure s) (λ n has. absurd (omega (arith, has.1))) (λ n wait. inr wait) never_lost w.only) (λ n has. absurd (omega (arith, has.1))) w.fresh;
   })
 
@@ -440,7 +354,7 @@ module _ (files : List File) (told : Told) (s : State) (seen : List ℕ) (may : 
       old = old;
       new = new;
       stands = stands_as old stands_now;
-      written = written_same files told s after_it old new w [] (calm_none files told.history) (same_files s outs records) (λ n has. absurd (omega (arith, has.1))) marks_now (ready_now other) flush_whole (stepped_records s outs records new sound w.frozen)
+      written = written_same files told s after_it old new w [] (calm_none files told.history) (same_files s outs records) (λ n has. absurd (omega (arith, has.1))) marks_now (ready_now other) never_lost (stepped_records s outs records new sound w.frozen)
           (λ n has. absurd (omega (arith, has.1))) (same_number s outs records)
           (marks_more w.before w.marked told.history [] s after_it (λ n has. absurd (omega (arith, has.1))) (λ n wait. elim (waits_now n wait) [ inl still ↦ inr still | inr e ↦ absurd (uncommitting n e) ]) never_lost w.only) (λ n has. absurd (omega (arith, has.1))) fresh_still;
     }
@@ -456,7 +370,7 @@ module _ (files : List File) (told : Told) (s : State) (seen : List ℕ) (may : 
           old = new;
           new = new;
           stands = stands_as new (stands_other s.table old new new outs (worked seen (work_asked s)) may' none stands_now);
-          written = written_new files told s after_it old new w (Acknowledge number ∷ []) (calm_acknowledge files told.history number) (same_files s outs records) (acknowledges in_new) marks_now (ready_now (λ e. never number (sym is ∙ e))) flush_whole (stepped_records s outs records new sound w.frozen)
+          written = written_new files told s after_it old new w (Acknowledge number ∷ []) (calm_acknowledge files told.history number) (same_files s outs records) (acknowledges in_new) marks_now (ready_now (λ e. never number (sym is ∙ e))) never_lost (stepped_records s outs records new sound w.frozen)
               (acknowledge_no_mark number) (same_number s outs records)
               (marks_more w.before w.marked told.history (Acknowledge number ∷ []) s after_it (acknowledge_no_mark number) (λ n wait. elim (waits_now n wait) [ inl still ↦ inr still | inr e ↦ inl (this_acked n (sym is ∙ e)) ]) never_lost w.only)
               (λ y there early has. none_uncommitted outs.batches y none (batches_now y there) early) (λ n wait. none_uncommitted outs.batches wait.w none (batches_now wait.w wait.there) wait.early);
@@ -469,7 +383,4 @@ module _ (files : List File) (told : Told) (s : State) (seen : List ℕ) (may : 
         this_acked n e = let same : number ≡ n = cc in subst (λ k. Contains (told.history ++ Acknowledge number ∷ []) (Acknowledge k)) same (Contains-push told.history (Acknowledge number))
 
         acknowledges : Contains w.marked (Mark number) → (n : ℕ) → Contains (Acknowledge number ∷ []) (Acknowledge n) → Contains w.marked (Mark n)
-        acknowledges has n there = elim (Contains-push_cases [] (Acknowledge number) (Acknowledge n) there) [
-          | inl none ↦ absurd (omega (arith, none.1))
-          | inr e ↦ subst (λ k. Contains w.marked (Mark k)) (acknowledge_same number n e) has
-        ]
+        acknowledges has n there = subst (λ k. Contains w.marked (Mark k)) (acknowledge_same number n (only_one (Acknowledge number) (Acknowledge n) there)) has

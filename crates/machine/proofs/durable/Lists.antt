@@ -1,8 +1,7 @@
 -- Lists and options: what is in them, and what isn't.
-use Rattle.std.proofs.Common.{◌≡◌, ℕ, zero, suc, Bool, true, List, [], ◌∷◌, ◌++◌, map, drop, Some, None, inl, inr, refl, sym, ap, ◌∙◌, arith, append_assoc}
-use Rattle.std.specs.List.{Contains, flat_map, find}
-use Rattle.std.proofs.lemmas.Bool.{cond-true, cond-false, cases_Bool}
-use Rattle.std.proofs.lemmas.List.Elements.{Contains-append_cases}
+use Rattle.machine.proofs.Names.{◌≡◌, ◌⊎◌, ℕ, zero, suc, Bool, true, List, [], ◌∷◌, ◌++◌, map, drop, Some, None, inl}
+use Rattle.machine.proofs.Names.{inr, refl, sym, ap, ◌∙◌, arith, append_assoc, Contains, flat_map, find, cond-true}
+use Rattle.machine.proofs.Names.{cond-false, cases_Bool, Contains-append_cases}
 
 -- ---- options
 
@@ -16,6 +15,14 @@ none_some x e = cc
 
 pub contains_none : {X : Type 0} (x : X) → Contains [] x → ⊥
 contains_none x has = absurd (omega (arith, has.1))
+
+-- the first, or one of the others
+pub first_or : {X : Type 0} (y : X) (ys : List X) (x : X) → Contains (y ∷ ys) x → (y ≡ x) ⊎ Contains ys x
+first_or y ys x (zero, lt, e) = inl e
+first_or y ys x (suc k, lt, e) = inr (k, omega (arith, lt), e)
+
+pub only_one : {X : Type 0} (y x : X) → Contains (y ∷ []) x → y ≡ x
+only_one y x has = elim (first_or y [] x has) [ inl e ↦ e | inr none ↦ absurd (contains_none x none) ]
 
 pub contains_head : {X : Type 0} (x : X) (xs : List X) → Contains (x ∷ xs) x
 contains_head x xs = (0, omega arith, refl)

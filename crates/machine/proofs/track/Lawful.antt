@@ -1,51 +1,29 @@
 -- Loads, stores and faults are answered by what was told.
-use Rattle.std.proofs.Common.{ℕ, ◌≡◌, ◌/◌, ◌<◌, length, get_or, ap, ◌∙◌, arith, ◌*◌, ◌^◌, ◌≤◌, Bool, true, false, not, ◌&&◌, ◌||◌, cond, leb, List, Option, Some, None, is_some, Result, Ok, Err, refl, subst, inl, inr, ◌+◌, ◌%◌, take, drop, eqb, sym, [], ◌∷◌}
+use Rattle.machine.proofs.Names.{ℕ, ◌≡◌, ◌/◌, ◌<◌, length, get_or, ap, ◌∙◌, arith, ◌*◌, ◌^◌, ◌≤◌, Bool, true, false}
+use Rattle.machine.proofs.Names.{not, ◌&&◌, ◌||◌, cond, leb, List, Option, Some, None, is_some, Result, Ok, Err, refl}
+use Rattle.machine.proofs.Names.{subst, inl, inr, ◌+◌, ◌%◌, take, drop, eqb, sym, [], ◌∷◌, Places, may_write, place_at}
+use Rattle.machine.proofs.Names.{Spaces, entry_at, current, is_there, state_of, processor_at, not_running, State}
+use Rattle.machine.proofs.Names.{length_of, Whole, Told, places_in, place_told, length_told, tell, IsArranged, IsLatest}
+use Rattle.machine.proofs.Names.{option_or, not-true, leb-false, leb-true, ltb-false, and_parts, cond-true, and_from}
+use Rattle.machine.proofs.Names.{and_right, eq-eqb, not_from_true, not_from_false, false≢true, Refusal, Place, has_free}
+use Rattle.machine.proofs.Names.{FramesState, frame_at, with_copy, page_of, is_running, admitted, is_there_below}
+use Rattle.machine.proofs.Names.{running, page_at, allowed_place, place_of_fault, is_in_memory, copies_out, Brings}
+use Rattle.machine.proofs.Names.{CopiesOut, fixed_entry, Act, Reply, served_refusal, fix_refusal, Acts, Fixes, FixMade}
+use Rattle.machine.proofs.Names.{LoadAnswers, StoreAnswers, Rules, AddressLaw, LeadsTo, IsInside, IsFreeToAct, LoadLaw}
+use Rattle.machine.proofs.Names.{StoreLaw, LoadsLatest, StoresAtPlace, IsAnswered, IsAccessOf, ServesNext}
+use Rattle.machine.proofs.Names.{FaultsAreServed, length-take, length-drop, get_or-set_same, File, Hardware, LoadMade}
+use Rattle.machine.proofs.Names.{StoreMade, IsAccess, AccessRefused, serves, walk, walked_to, translated, translated_by}
+use Rattle.machine.proofs.Names.{memory_of, after, IsSound, IsLawful, list_any, slice_get_within, Mapped, FilePage}
+use Rattle.machine.proofs.Names.{CachedEntry, cached, entry_at-with_entry, CheckpointState, Holds, is_of_page}
+use Rattle.machine.proofs.Names.{is_frozen, is_copied, is_held, list_any-has_page, Ghosts, Step, StepIsSafe, Throughout}
 use Rattle.std.specs.FinMap as maps
-use Rattle.mappings.specs.Places.{Places, may_write}
-use Rattle.spaces.specs.Spaces.{place_at, Spaces, entry_at}
-use Rattle.shootdown.specs.Shootdown.{current, is_there, state_of, processor_at, not_running}
-use Rattle.machine.specs.State.{State, length_of, Whole}
-use Rattle.machine.specs.Told.{Told, places_in, place_told, length_told, tell}
-use Rattle.machine.specs.inside.Tracking.{IsArranged, IsLatest}
-use Rattle.std.specs.Option.{option_or}
-use Rattle.std.proofs.lemmas.Bool.{not-true, leb-false, leb-true, ltb-false, and_parts, cond-true, and_from, and_right, eq-eqb, not_from_true, not_from_false, false≢true}
-use Rattle.page_entry.specs.declared.refusal.Refusal.{Refusal}
 use Rattle.page_entry.specs.declared.refusal.Refusal.TheVariants as refusals
-use Rattle.mappings.specs.declared.place.Place.{Place}
-use Rattle.frames.specs.Frames.{has_free, FramesState, frame_at, with_copy, page_of}
-use Rattle.shootdown.specs.Processors.{is_running}
-use Rattle.shootdown.proofs.Public.{admitted, is_there_below, running}
-use Rattle.checkpoint.specs.Backing.{page_at}
-use Rattle.fault.specs.Fault.{allowed_place, place_of_fault, is_in_memory, copies_out, Brings, CopiesOut, fixed_entry}
-use Rattle.machine.specs.declared.act.Act.{Act}
 use Rattle.machine.specs.declared.act.Act.TheVariants as acts
-use Rattle.machine.specs.declared.act.Reply.{Reply}
 use Rattle.machine.specs.declared.act.Reply.TheVariants as replies
-use Rattle.machine.specs.Refusals.{served_refusal, fix_refusal}
-use Rattle.machine.specs.Rules.{Acts, Fixes, FixMade, LoadAnswers, StoreAnswers, Rules}
-use Rattle.machine.specs.Laws.{AddressLaw, LeadsTo, IsInside, IsFreeToAct, LoadLaw, StoreLaw, LoadsLatest, StoresAtPlace, IsAnswered, IsAccessOf, ServesNext, FaultsAreServed}
 use Rattle.machine.proofs.durable.Lists.{some_same}
 use Rattle.machine.proofs.track.Faults.{or_of_and, led_to, servable}
 use Rattle.machine.proofs.sound.Admitted.{free_of, served_at_fix, both_none}
-use Rattle.std.proofs.lemmas.List.{length-take, length-drop, get_or-set_same}
-use Rattle.volume_codec.specs.Files.{File}
-use Rattle.cpu.specs.Access.{Hardware, LoadMade, StoreMade, IsAccess, AccessRefused, serves, walk, walked_to, translated, translated_by}
-use Rattle.machine.specs.History.{memory_of, after}
-use Rattle.machine.specs.inside.Sound.{IsSound}
-use Rattle.machine.specs.Steps.{IsLawful}
 use Rattle.machine.proofs.track.Translations.{has_loaded, has_stored}
-use Rattle.std.specs.List.{list_any}
-use Rattle.std.proofs.lemmas.Option.{slice_get_within}
-use Rattle.page_entry.specs.Entry.{Mapped}
-use Rattle.page_entry.specs.declared.numbers.FilePage.{FilePage}
-use Rattle.pcid_tlb.specs.declared.CachedEntry.{CachedEntry}
-use Rattle.pcid_tlb.specs.Tlb.{cached}
-use Rattle.spaces.proofs.Public.{entry_at-with_entry}
-use Rattle.checkpoint.specs.Checkpoint.{CheckpointState, Holds, is_of_page, is_frozen, is_copied, is_held}
-use Rattle.checkpoint.proofs.Public.{list_any-has_page}
-use Rattle.device.specs.declared.device.Device.{Ghosts}
-use Rattle.machine.specs.declared.act.Step.{Step}
-use Rattle.machine.specs.Crashes.{StepIsSafe, Throughout}
 
 -- ---- the place that is told of an address is the machine's
 

@@ -1,27 +1,21 @@
 -- Processors and spaces as they are told: the current space of each processor and whether it goes on, which spaces there are, and what each maps.
-use Rattle.std.proofs.Common.{ℕ, ◌≡◌, ◌<◌, Bool, true, false, cond, eqb, List, length, get_or, set, refl, sym, ap, ◌∙◌, inl, inr, arith, ◌≢◌, ◌+◌, not, ◌&&◌, ◌||◌, Option, Some, None, is_some, unwrap_or, subst}
-use Rattle.std.proofs.lemmas.Bool.{cases_eq, cond-true, cond-false, eq-eqb, ne_eqb}
-use Rattle.std.proofs.lemmas.List.{length-set, get_or-set_same, get_or-set_other}
-use Rattle.pcid_tlb.specs.declared.Invpcid.{Invpcid}
-use Rattle.pcid_tlb.specs.declared.Invpcid.TheVariants.{SingleContext}
-use Rattle.spaces.specs.declared.change.Change.{Change}
-use Rattle.spaces.specs.Spaces.{Spaces, AddressSpace, empty_space, has_space, space_at, with_space, with_entry, with_mapping, without_mapping, SetsRights}
-use Rattle.spaces.specs.Changes.{touches}
-use Rattle.shootdown.specs.declared.proc_state.ProcState.{ProcState}
-use Rattle.shootdown.specs.declared.proc_state.ProcState.TheVariants.{Active, Interrupted, Stalled, Initiating, Idle}
-use Rattle.shootdown.specs.Processors.{Processor, is_running, is_concerned, queued, told}
-use Rattle.shootdown.specs.Shootdown.{ShootdownState, processor_at, state_of, current, with_processor, state_when_begun, begun, destroyed}
-use Rattle.shootdown.proofs.Public.{processor_at-with_same, processor_at-with_other, length-with_processor, processor_at-begun, state-begun_one, current-begun, length-begun, processor_at-destroyed, length-destroyed, current-destroyed}
-use Rattle.std.specs.Ordering.{nat_cmp}
-use Rattle.std.specs.Cmp.{nat_cmp_total, unsigned_tied}
+use Rattle.machine.proofs.Names.{ℕ, ◌≡◌, ◌<◌, Bool, true, false, cond, eqb, List, length, get_or, set, refl, sym, ap}
+use Rattle.machine.proofs.Names.{◌∙◌, inl, inr, arith, ◌≢◌, ◌+◌, not, ◌&&◌, ◌||◌, Option, Some, None, is_some}
+use Rattle.machine.proofs.Names.{unwrap_or, subst, cases_eq, cond-true, cond-false, eq-eqb, ne_eqb, length-set}
+use Rattle.machine.proofs.Names.{get_or-set_same, get_or-set_other, Invpcid, SingleContext, Change, Spaces}
+use Rattle.machine.proofs.Names.{AddressSpace, empty_space, has_space, space_at, with_space, with_entry, with_mapping}
+use Rattle.machine.proofs.Names.{without_mapping, SetsRights, touches, ProcState, Active, Interrupted, Stalled}
+use Rattle.machine.proofs.Names.{Initiating, Idle, Processor, is_running, is_concerned, queued, told, ShootdownState}
+use Rattle.machine.proofs.Names.{processor_at, state_of, current, with_processor, state_when_begun, destroyed}
+use Rattle.machine.proofs.Names.{processor_at-with_same, processor_at-with_other, length-with_processor}
+use Rattle.machine.proofs.Names.{processor_at-begun, state-begun_one, current-begun, length-begun}
+use Rattle.machine.proofs.Names.{processor_at-destroyed, length-destroyed, current-destroyed, nat_cmp, nat_cmp_total}
+use Rattle.machine.proofs.Names.{unsigned_tied, Place, Rights, PageRange, Places, with_range, without_range}
+use Rattle.machine.proofs.Names.{with_rights, Mapped, outside_range, has_space-with_space, space_at-with_space_same}
+use Rattle.machine.proofs.Names.{space_at-with_space_other, has_space-remove, space_at-remove, has_space-with_entry}
+use Rattle.machine.proofs.Names.{places-with_entry}
+use Rattle.shootdown.specs.Shootdown.{begun}
 use Rattle.std.specs.FinMap as maps
-use Rattle.mappings.specs.declared.place.Place.{Place}
-use Rattle.mappings.specs.declared.place.Rights.{Rights}
-use Rattle.mappings.specs.declared.page_range.PageRange.{PageRange}
-use Rattle.mappings.specs.Places.{Places, with_range, without_range, with_rights}
-use Rattle.page_entry.specs.Entry.{Mapped}
-use Rattle.page_table.specs.Table.{outside_range}
-use Rattle.spaces.proofs.Public.{has_space-with_space, space_at-with_space_same, space_at-with_space_other, has_space-remove, space_at-remove, has_space-with_entry, places-with_entry}
 
 -- ---- the processors as they are told: the current space of each, and whether it goes on
 
