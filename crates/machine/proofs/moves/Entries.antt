@@ -13,7 +13,7 @@ use Rattle.machine.proofs.Names.{AreSpacesTold, ReplacesProcessor, ReplacesSpace
 use Rattle.machine.proofs.sound.Lists.{same_some}
 use Rattle.machine.proofs.moves.Silent.{SilentMoves}
 use Rattle.machine.proofs.track.DirtyFrames.{dirty_alike}
-use Rattle.machine.proofs.sound.Groups.{unchanged_sound, shootdown_sound, prepared_moved, memory_beside, write_outs_moved}
+use Rattle.machine.proofs.sound.Groups.{still_sound, unchanged_sound, shootdown_sound, prepared_moved, memory_beside, write_outs_moved}
 
 -- ---- a machine stays sound
 
@@ -33,21 +33,17 @@ space_stays (Mapping space change) old new told q is = told.there q ∙ or_right
 space_stays says old new told q is = absurd told
 
 pub spaces_sound : (s : State) (spaces : Spaces) (says : Saying) (new : State) → ReplacesSpaces s spaces says new → IsSound s → IsSound new
-spaces_sound s spaces says new is sound = unchanged_sound _ new is.done (record {
-  fits = sound.fits;
-  lengths = sound.lengths;
-  within = sound.within;
-  spaces = record {
+spaces_sound s spaces says new is sound = unchanged_sound _ new is.done (still_sound sound refl refl
+  (record {
     spaces = is.are_spaces;
     shootdown = sound.spaces.shootdown;
     coheres = is.coheres;
     current = λ p below. space_stays says s.hardware.spaces spaces is.told _ (sound.spaces.current p below);
     in_table = is.in_table;
     prepared = is.prepared;
-  };
-  memory = memory_beside s s.hardware.shootdown spaces s.checkpoint s.write_outs s.marks refl refl sound.memory.noted is.backed sound.memory;
-  write_outs = write_outs_moved s (record s.hardware { spaces = spaces }) s.checkpoint refl (λ owner there. there) sound.write_outs;
-})
+  })
+  (memory_beside s s.hardware.shootdown spaces s.checkpoint s.write_outs s.marks refl refl sound.memory.noted is.backed sound.memory)
+  (write_outs_moved s (record s.hardware { spaces = spaces }) s.checkpoint refl (λ owner there. there) sound.write_outs))
 
 -- ---- another TLB
 
