@@ -1,15 +1,15 @@
 -- Processors, spaces and entries that are replaced: the conditions of these moves, and that a machine stays sound by them.
-use Rattle.machine.proofs.Names.{ℕ, ◌≡◌, ◌<◌, ◌||◌, Bool, true, false, cond, ◌&&◌, eqb, List, [], ◌∷◌, length, Some}
+use Rattle.machine.proofs.Names.{ℕ, ◌≡◌, ◌<◌, Bool, true, false, cond, ◌&&◌, eqb, List, [], ◌∷◌, length, Some}
 use Rattle.machine.proofs.Names.{is_some, IsSome, refl, sym, ap, ◌∙◌, subst, and_parts, and_from, or_right, eqb-true}
 use Rattle.machine.proofs.Names.{eq-eqb, cond-true, Mapped, TlbState, filled, Place, Spaces, has_space, space_at}
-use Rattle.machine.proofs.Names.{entry_at, place_at, with_entry, Keeps, is_user_space, has_space-place_at}
+use Rattle.machine.proofs.Names.{entry_at, place_at, with_entry, Keeps, has_space-place_at}
 use Rattle.machine.proofs.Names.{entry_at-with_entry, place_at-with_entry, places-with_entry, has_space-with_entry}
 use Rattle.machine.proofs.Names.{AreSpaces-with_entry, is_some_from, Grows-with_entry, Lock, IsShootdown, processor_at}
 use Rattle.machine.proofs.Names.{current, with_processor, with_tlb, Coheres, Agrees, at-with_processor}
 use Rattle.machine.proofs.Names.{IsNoWider-same_places, Coheres-grown, IsShootdown-filled, Coheres-filled, Holds}
 use Rattle.machine.proofs.Names.{page_at, MayBe, AreBacked-with_entry, cached_of, walked, State, with_hardware}
-use Rattle.machine.proofs.Names.{with_shootdown, with_spaces, IsPrepared, IsSound, Saying, Silent, Mapping}
-use Rattle.machine.proofs.Names.{AreSpacesTold, ReplacesProcessor, ReplacesSpaces, Moves, Replace, Remap}
+use Rattle.machine.proofs.Names.{with_shootdown, with_spaces, IsSound, Saying, Silent, Mapping}
+use Rattle.machine.proofs.Names.{AreSpacesTold, ReplacesProcessor, ReplacesSpaces, Replace, Remap}
 use Rattle.machine.proofs.sound.Lists.{same_some}
 use Rattle.machine.proofs.moves.Silent.{SilentMoves}
 use Rattle.machine.proofs.track.DirtyFrames.{dirty_alike}

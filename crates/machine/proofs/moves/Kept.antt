@@ -1,6 +1,6 @@
 -- A machine stays sound by each move.
-use Rattle.machine.proofs.Names.{ℕ, ◌≡◌, ◌≢◌, ◌<◌, ◌/◌, ◌%◌, ◌||◌, ◌&&◌, not, Bool, true, false, cond, eqb, List, []}
-use Rattle.machine.proofs.Names.{◌∷◌, length, Option, Some, None, refl, sym, ap, ◌∙◌, subst, inl, inr, arith, and_from}
+use Rattle.machine.proofs.Names.{ℕ, ◌≡◌, ◌≢◌, ◌<◌, ◌/◌, ◌%◌, ◌||◌, not, Bool, true, false, cond, eqb, List, []}
+use Rattle.machine.proofs.Names.{◌∷◌, length, Some, None, refl, sym, ap, ◌∙◌, subst, inl, inr, arith, and_from}
 use Rattle.machine.proofs.Names.{not_from_false, ne_eqb, or_left, has_space, place_at, is_user_space, has_space-remove}
 use Rattle.machine.proofs.Names.{place_at-remove, AreSpaces-remove, user_space, Lock, not_free, is_current, current}
 use Rattle.machine.proofs.Names.{finished, destroyed, destroy_refusal, IsShootdown-begun, length-begun, current-begun}

@@ -7,7 +7,7 @@ use Rattle.machine.proofs.Names.{answer_of, has_uncommitted, advanced, batches_a
 use Rattle.machine.proofs.Names.{next_answer, is_busy, committed_parts, not_running, without_copy_of, released, thawed}
 use Rattle.machine.proofs.Names.{AreRising-drop, AreBacked-thawed, AreBacked-released, AreCopiesOfFrozen-release}
 use Rattle.machine.proofs.Names.{is_in_memory, Reply, State, home_of, refuse_if, flush_refusal, next_page, reply_to}
-use Rattle.machine.proofs.Names.{after_record, after_failure, FlushMade, Flushes, AreOlderCommitted, IsSound}
+use Rattle.machine.proofs.Names.{after_record, after_failure, FlushMade, AreOlderCommitted, IsSound}
 use Rattle.page_entry.specs.declared.refusal.Refusal.TheVariants as refusals
 use Rattle.journal.specs.declared.flushed.Flushed.TheVariants as flushed
 use Rattle.journal.specs.WriteOuts.{current}

@@ -1,12 +1,12 @@
 -- Other frames keep a machine sound.
 use Rattle.machine.proofs.Names.{ℕ, ◌≡◌, ◌≢◌, ◌+◌, ◌-◌, ◌*◌, ◌≤◌, not, true, false, List, ◌++◌, length, take, drop}
 use Rattle.machine.proofs.Names.{get_or, Option, Some, None, IsSome, slice_get, refl, sym, ap, ◌∙◌, subst, inl, ⊎_elim}
-use Rattle.machine.proofs.Names.{arith, list_any, cases_eq, and_parts, not-true, false≢true, length-append, length-take}
+use Rattle.machine.proofs.Names.{arith, cases_eq, and_parts, not-true, false≢true, length-append, length-take}
 use Rattle.machine.proofs.Names.{length-take-le, length-drop, length-set, get_or-set_other, Contains-get_or, Mapped}
 use Rattle.machine.proofs.Names.{FilePage, block_at, length-padded, FramesState, Frame, frame_at, overwrite}
 use Rattle.machine.proofs.Names.{overwrite_frame, with_bytes, with_page, with_copy, without_frame, page_of, after_set}
 use Rattle.machine.proofs.Names.{HasBlock, entry_at, CheckpointState, NotesTaken, Holds, is_noted, is_frozen}
-use Rattle.machine.proofs.Names.{is_of_page, is_held, is_copied, AreBacked, has_page-list_any, list_any-has_page}
+use Rattle.machine.proofs.Names.{is_held, is_copied, AreBacked, has_page-list_any, list_any-has_page}
 use Rattle.machine.proofs.Names.{Holds-with_page, AreBacked-with_bytes, AreBacked-with_page, AreBacked-with_copy}
 use Rattle.machine.proofs.Names.{AreBacked-without_frame, is_in_memory, State, length_of, home_of, cut_at_end}
 use Rattle.machine.proofs.Names.{page_from, with_hardware, MayLeave, IsInFile, IsMemory, IsMemorySound, IsSound}

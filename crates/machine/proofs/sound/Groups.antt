@@ -1,12 +1,12 @@
 -- The groups of facts of a sound machine by what they depend on, so that an act that leaves a group alone keeps it.
 use Rattle.machine.proofs.Names.{arith, List, Fits, AreSpacesSound}
-use Rattle.machine.proofs.Names.{ℕ, ◌≡◌, ◌+◌, ◌^◌, ◌<◌, true, false, length, map, get_or, Option, Some, IsSome, refl}
-use Rattle.machine.proofs.Names.{sym, ap, ◌∙◌, subst, All, list_any, Contains-get_or, FilePage, Refusal}
+use Rattle.machine.proofs.Names.{ℕ, ◌≡◌, ◌+◌, ◌^◌, ◌<◌, true, false, length, map, get_or, Some, IsSome, refl}
+use Rattle.machine.proofs.Names.{sym, ap, ◌∙◌, subst, All, list_any, Contains-get_or, FilePage}
 use Rattle.machine.proofs.Names.{protect_refusal, Places, SuperValue, WriteOutsValue, is_busy, HasBlock, Change, Unmap}
 use Rattle.machine.proofs.Names.{Protect, Reclaim, Checkpoint, Spaces, has_space, space_at, is_user_space, Lock}
 use Rattle.machine.proofs.Names.{ShootdownState, IsShootdown, current, Coheres, CheckpointState, is_noted, same_page}
 use Rattle.machine.proofs.Names.{AreRising, AreBacked, frame_at, is_in_memory, Hardware, State, home_of, pages_in_file}
-use Rattle.machine.proofs.Names.{IsRefused, with_shootdown, IsPrepared, IsMemorySound, AreWriteOutsSound, IsSound}
+use Rattle.machine.proofs.Names.{with_shootdown, IsPrepared, IsMemorySound, AreWriteOutsSound, IsSound}
 use Rattle.std.proofs.Common.{Contains}
 
 pub unchanged_sound : (s new : State) → new ≡ s → IsSound s → IsSound new
