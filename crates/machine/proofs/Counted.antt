@@ -1,40 +1,25 @@
 -- What the write-out of one mark asks of the device in a run, until it is committed and until it is done.
-use Rattle.std.proofs.Common.{ℕ, suc, ◌≡◌, ◌≢◌, ◌+◌, ◌*◌, ◌<◌, ◌≤◌, ◌⊎◌, inl, inr, Bool, true, false, cond, eqb, List, [], ◌∷◌, ◌++◌, length, map, drop, sum_by, Option, Some, None, is_some, refl, sym, ap, ◌∙◌, subst, arith, append_assoc, append-nil, length-append}
-use Rattle.std.specs.List.{AllByRecursion}
-use Rattle.std.specs.Option.{option_map_or}
-use Rattle.std.proofs.lemmas.Bool.{cond-true, cond-false, cases_Bool, both_ways, eq-eqb, ne_eqb}
-use Rattle.std.proofs.lemmas.List.{length-map}
-use Rattle.std.proofs.lemmas.List.Sums.{sum_by-append}
-use Rattle.std.proofs.lemmas.List.Elements.{All-weaker, recursion_from_All}
-use Rattle.page_entry.specs.declared.numbers.FilePage.{FilePage}
-use Rattle.device.specs.declared.device.Device.{Ghosts}
-use Rattle.volume_codec.specs.Files.{File}
-use Rattle.volume_codec.specs.Layout.{GeometryValue}
-use Rattle.volume_codec.specs.Recovery.{Batch}
-use Rattle.journal.specs.declared.stage.Stage.{Stage}
-use Rattle.journal.specs.declared.stage.Stage.TheVariants.{Recording, Describing, SyncingRecords, Opening, Committing, Applying, SyncingHomes, Closing, Finishing}
-use Rattle.journal.specs.declared.flushed.Flushed.{Flushed}
+use Rattle.machine.proofs.Names.{ℕ, suc, ◌≡◌, ◌≢◌, ◌+◌, ◌*◌, ◌<◌, ◌≤◌, ◌⊎◌, inl, inr, Bool, true, false, cond, eqb}
+use Rattle.machine.proofs.Names.{List, [], ◌∷◌, ◌++◌, length, map, drop, sum_by, Option, Some, None, is_some, refl, sym}
+use Rattle.machine.proofs.Names.{ap, ◌∙◌, subst, arith, append_assoc, append-nil, length-append, AllByRecursion}
+use Rattle.machine.proofs.Names.{option_map_or, cond-true, cond-false, cases_Bool, both_ways, eq-eqb, ne_eqb}
+use Rattle.machine.proofs.Names.{length-map, sum_by-append, All-weaker, recursion_from_All, FilePage, Ghosts, File}
+use Rattle.machine.proofs.Names.{GeometryValue, Batch, Stage}
+use Rattle.machine.proofs.Names.{Committing, Finishing, Flushed, answer_at, Work}
+use Rattle.machine.proofs.Names.{Nothing, work_at, calls_of, WriteOut, next_stage, begun_of, advanced_of, work_of}
+use Rattle.machine.proofs.Names.{answer_of, calls_in_steps, WriteOutsValue, has_uncommitted, advanced, outs_after}
+use Rattle.machine.proofs.Names.{outs_record, next_answer, next_batch, begun, IsAt, stage_is, early_calls, all_calls}
+use Rattle.machine.proofs.Names.{current-oldest, Act, Reply, Step, State, Whole, home_of, Acts, FlushMade, MarkMade}
+use Rattle.machine.proofs.Names.{with_batch, after_record, reply_to, step_work, StepTaken, StepsTaken, listed_work}
+use Rattle.machine.proofs.Names.{asked_for, AskFor, IsOnTrack, IsSound, Performed, Moved, Marked, Failed}
 use Rattle.journal.specs.declared.flushed.Flushed.TheVariants as flushed
-use Rattle.journal.specs.Stage.{answer_at}
-use Rattle.journal.specs.Work.{Work, Nothing, work_at, calls_of}
-use Rattle.journal.specs.WriteOut.{WriteOut, next_stage, begun_of, advanced_of, work_of, answer_of, calls_in_steps}
-use Rattle.journal.specs.WriteOuts.{WriteOutsValue, has_uncommitted, current, advanced, outs_after, outs_record, next_answer, next_batch, begun}
-use Rattle.journal.proofs.Public.{IsAt, stage_is, early_calls, all_calls, current-oldest}
-use Rattle.machine.specs.declared.act.Act.{Act}
+use Rattle.journal.specs.WriteOuts.{current}
 use Rattle.machine.specs.declared.act.Act.TheVariants as acts
-use Rattle.machine.specs.declared.act.Reply.{Reply}
 use Rattle.machine.specs.declared.act.Reply.TheVariants as replies
-use Rattle.machine.specs.declared.act.Step.{Step}
-use Rattle.machine.specs.State.{State, Whole, home_of}
-use Rattle.machine.specs.Rules.{Acts, FlushMade, MarkMade, with_batch, after_record, reply_to, next_record}
-use Rattle.machine.specs.Steps.{step_work}
-use Rattle.machine.specs.Runs.{StepTaken, StepsTaken}
-use Rattle.machine.specs.Sums.{listed_work, asked_for, AskFor}
-use Rattle.machine.specs.OnTrack.{IsOnTrack}
-use Rattle.machine.specs.inside.Sound.{IsSound}
+use Rattle.machine.specs.Rules.{next_record}
+use Rattle.machine.specs.inside.Moves.{Flushed as Stepped}
 use Rattle.machine.proofs.sound.ByMark.{marked_sound}
 use Rattle.machine.proofs.sound.Waiting.{blocks, steps_committed, current_uncommitted}
-use Rattle.machine.specs.inside.Moves.{Performed, Moved, Marked, Flushed as Stepped, Failed}
 use Rattle.machine.proofs.acts.All.{performed}
 use Rattle.machine.proofs.sound.Kept.{performed_sound}
 use Rattle.machine.proofs.durable.Steps.{GoesOn, step_goes, step_asks}

@@ -1,9 +1,9 @@
+pub mod Names
 pub mod moves
 pub mod acts
 pub mod code
 pub mod sound
 pub mod track
 pub mod durable
-pub mod Joined
 pub mod Tracks
 pub mod Counted

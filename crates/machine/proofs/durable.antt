@@ -2,10 +2,8 @@ pub mod Lists
 pub mod Histories
 pub mod Pages
 pub mod Homes
-pub mod Leaves
 pub mod Uncommitted
 pub mod Marks
-pub mod Records
 pub mod Flushes
 pub mod FileParts
 pub mod ReadsBack

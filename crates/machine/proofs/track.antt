@@ -6,4 +6,3 @@ pub mod Pages
 pub mod Moved
 pub mod Faults
 pub mod Lawful
-pub mod Served

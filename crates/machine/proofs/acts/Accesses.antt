@@ -1,15 +1,9 @@
 -- The moves of loads, stores, fills and evictions.
-use Rattle.std.proofs.Common.{ℕ, ◌≡◌, ◌/◌, ◌<◌, ◌||◌, Bool, true, false, List, [], ◌∷◌, length, Option, Some, None, refl, sym, ap, ◌∙◌, inl, inr}
-use Rattle.page_entry.specs.Entry.{Mapped}
-use Rattle.pcid_tlb.specs.Tlb.{evicted, without_page}
-use Rattle.shootdown.specs.Shootdown.{processor_at, current, is_there, tlb_of, with_tlb}
-use Rattle.shootdown.proofs.Public.{is_there_below, IsShootdown-without_page, IsShootdown-evicted, Coheres-without_page, Coheres-evicted}
-use Rattle.spaces.specs.Spaces.{entry_at}
-use Rattle.cpu.specs.Access.{Hardware, filled_by, LoadMade, Faults}
-use Rattle.machine.specs.State.{State}
-use Rattle.machine.specs.Rules.{with_hardware}
-use Rattle.machine.specs.inside.Sound.{IsSound}
-use Rattle.machine.specs.inside.Moves.{Replace}
+use Rattle.machine.proofs.Names.{ℕ, ◌≡◌, ◌/◌, ◌||◌, Bool, true, false, List}
+use Rattle.machine.proofs.Names.{refl, ap, ◌∙◌, inl, inr, evicted, without_page, processor_at, current}
+use Rattle.machine.proofs.Names.{is_there, tlb_of, with_tlb, is_there_below, IsShootdown-without_page}
+use Rattle.machine.proofs.Names.{IsShootdown-evicted, Coheres-without_page, Coheres-evicted, entry_at, Hardware}
+use Rattle.machine.proofs.Names.{filled_by, LoadMade, Faults, State, with_hardware, IsSound, Replace}
 use Rattle.machine.proofs.sound.Admitted.{running_below}
 use Rattle.machine.proofs.track.Translations.{is_translated, filled_cases}
 use Rattle.machine.proofs.moves.Silent.{SilentMoves, no_moves, one_move}

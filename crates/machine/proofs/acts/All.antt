@@ -1,21 +1,14 @@
 -- What each act does, by its rule: the one place where acts are told apart.
-use Rattle.std.proofs.Common.{ℕ, ◌≡◌, Bool, true, false, cond, List, [], ◌∷◌, ◌++◌, length, Option, Some, None, Result, Ok, Err, refl, ap, inl, inr}
-use Rattle.page_entry.specs.declared.refusal.Refusal.{Refusal}
+use Rattle.machine.proofs.Names.{ℕ, ◌≡◌, Bool, true, false, cond, List, [], ◌∷◌, ◌++◌, length, Option, Some, None}
+use Rattle.machine.proofs.Names.{Result, Ok, Err, refl, ap, inl, inr, Refusal, range_of_bytes, mapped_pages_of}
+use Rattle.machine.proofs.Names.{is_user_space, judged_protection-ok, is_stalled, is_idle, Act, Reply, Step, State}
+use Rattle.machine.proofs.Names.{Acts, Rules, Told, Pending, Unmapping, Protecting, changed, mapped_in, begun_by}
+use Rattle.machine.proofs.Names.{begun_unmap, begun_protect, IsSound, Silent, Storing, Ending, Leaving, Performed}
+use Rattle.machine.proofs.Names.{Moved, Marked, Failed, Destroy, Store}
 use Rattle.page_entry.specs.declared.refusal.Refusal.TheVariants as refusals
-use Rattle.mappings.specs.Judgement.{range_of_bytes, mapped_pages_of}
-use Rattle.spaces.specs.Requests.{is_user_space}
-use Rattle.spaces.proofs.Public.{judged_protection-ok}
-use Rattle.shootdown.specs.Calls.{is_stalled, is_idle}
-use Rattle.machine.specs.declared.act.Act.{Act}
 use Rattle.machine.specs.declared.act.Act.TheVariants as acts
-use Rattle.machine.specs.declared.act.Reply.{Reply}
 use Rattle.machine.specs.declared.act.Reply.TheVariants as replies
-use Rattle.machine.specs.declared.act.Step.{Step}
-use Rattle.machine.specs.State.{State}
-use Rattle.machine.specs.Rules.{Acts, Rules}
-use Rattle.machine.specs.Told.{Told, Pending, Unmapping, Protecting, changed, mapped_in, begun_by, begun_unmap, begun_protect}
-use Rattle.machine.specs.inside.Sound.{IsSound}
-use Rattle.machine.specs.inside.Moves.{Silent, Storing, Ending, Leaving, Performed, Moved, Marked, Flushed, Failed, Destroy, Store}
+use Rattle.machine.specs.inside.Moves.{Flushed}
 use Rattle.machine.proofs.sound.Admitted.{wait_admitted}
 use Rattle.machine.proofs.moves.Silent.{no_moves, moved, moved_all, silently}
 use Rattle.machine.proofs.acts.Accesses.{same_moves, fault_moves, load_moves, fill_moves, evict_moves}

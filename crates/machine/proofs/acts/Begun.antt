@@ -1,23 +1,12 @@
 -- The moves of changes that begin.
-use Rattle.std.proofs.Common.{ℕ, ◌≡◌, ◌+◌, ◌-◌, ◌<◌, ◌^◌, ◌||◌, not, leb, true, false, List, [], ◌∷◌, length, Some, None, Ok, refl, arith}
-use Rattle.std.proofs.lemmas.Bool.{or_parts, leb-false}
-use Rattle.mappings.specs.declared.place.Rights.{Rights}
-use Rattle.mappings.specs.declared.page_range.PageRange.{PageRange}
-use Rattle.page_entry.specs.declared.numbers.FilePage.{FilePage}
+use Rattle.machine.proofs.Names.{ℕ, ◌≡◌, ◌+◌, ◌-◌, ◌<◌, ◌^◌, ◌||◌, not, leb, true, false, List, [], ◌∷◌, length, Some}
+use Rattle.machine.proofs.Names.{None, Ok, refl, arith, or_parts, leb-false, Rights, PageRange, FilePage, is_busy}
+use Rattle.machine.proofs.Names.{Change, maps_each, judged_range, judged_protection, judged_range-ok}
+use Rattle.machine.proofs.Names.{judged_protection-ok, not_free, current, is_in_memory, State, refuse_if, why_not}
+use Rattle.machine.proofs.Names.{pages_in_file, is_msync, unmap_refusal, protect_refusal_of, reclaim_refusal}
+use Rattle.machine.proofs.Names.{msync_refusal, begin_change, IsPrepared, pending_in, Beginning, Move, Begin}
 use Rattle.page_entry.specs.declared.refusal.Refusal.TheVariants as refusals
-use Rattle.journal.specs.WriteOuts.{is_busy}
-use Rattle.spaces.specs.declared.change.Change.{Change}
 use Rattle.spaces.specs.declared.change.Change.TheVariants as changes
-use Rattle.spaces.specs.Requests.{maps_each, judged_range, judged_protection}
-use Rattle.spaces.proofs.Public.{judged_range-ok, judged_protection-ok}
-use Rattle.shootdown.specs.Shootdown.{not_free, current}
-use Rattle.fault.specs.Fault.{is_in_memory}
-use Rattle.machine.specs.State.{State}
-use Rattle.machine.specs.Refusals.{refuse_if, why_not, pages_in_file, is_msync, unmap_refusal, protect_refusal_of, reclaim_refusal, msync_refusal}
-use Rattle.machine.specs.Rules.{begin_change}
-use Rattle.machine.specs.inside.Sound.{IsPrepared, IsSound}
-use Rattle.machine.specs.inside.Tracking.{pending_in}
-use Rattle.machine.specs.inside.Moves.{Beginning, Move, Begin}
 use Rattle.machine.proofs.sound.Admitted.{first_none, refuse_none}
 
 module _ {disk : List ℕ} (s : State) (p : ℕ) {new : State} where

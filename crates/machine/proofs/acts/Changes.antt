@@ -1,24 +1,19 @@
 -- The moves of changes that are made, but for a mark.
-use Rattle.std.proofs.Common.{ℕ, ◌≡◌, ◌≢◌, ◌<◌, ◌&&◌, ◌||◌, Bool, true, false, cond, eqb, List, [], ◌∷◌, length, Option, Some, None, IsSome, is_some, refl, sym, ap, ◌∙◌, subst, inl, inr, ⊎_elim}
-use Rattle.std.specs.Option.{option_map}
-use Rattle.std.proofs.lemmas.Bool.{cases_Bool, cases_eq, cond-false, and_from, eq-eqb, ne_eqb, false≢true}
-use Rattle.page_entry.specs.Entry.{Mapped}
-use Rattle.page_entry.specs.declared.numbers.FilePage.{FilePage}
-use Rattle.mappings.specs.declared.place.Place.{Place}
-use Rattle.mappings.specs.Places.{Places, is_among, without_range}
-use Rattle.frames.specs.Frames.{FramesState, frame_at, without_frame, page_of}
+use Rattle.machine.proofs.Names.{ℕ, ◌≡◌, ◌≢◌, ◌<◌, ◌&&◌, ◌||◌, Bool, true, false, cond, eqb, List, [], ◌∷◌, length}
+use Rattle.machine.proofs.Names.{Option, Some, None, is_some, refl, sym, ap, ◌∙◌, subst, inl, inr}
+use Rattle.machine.proofs.Names.{option_map, cases_Bool, cases_eq, cond-false, and_from, eq-eqb, ne_eqb, false≢true}
+use Rattle.machine.proofs.Names.{Mapped, FilePage, Place, Places, is_among, without_range, frame_at}
+use Rattle.machine.proofs.Names.{page_of, AddressSpace, Spaces, has_space, space_at, entry_at, place_at}
+use Rattle.machine.proofs.Names.{without_mapping, is_place_of, without_entries_of, has_space-without_mapping}
+use Rattle.machine.proofs.Names.{space_at-with_space_same, space_at-with_space_other, place_at-without_mapping}
+use Rattle.machine.proofs.Names.{place_at-SetsRights, place_at-EditsEntries, with_rights_of, AreSpaces-without_mapping}
+use Rattle.machine.proofs.Names.{AreSpaces-SetsRights, AreSpaces-EditsEntries, user_space}
+use Rattle.machine.proofs.Names.{ChangesOnlyAffected-without_mapping, ChangesOnlyAffected-SetsRights}
+use Rattle.machine.proofs.Names.{ChangesOnlyAffected-reclaim, IsNoWider-same_places, IsDirty, IsInRange, page_at}
+use Rattle.machine.proofs.Names.{AreBacked-without_mapping, AreBacked-rights_set, AreBacked-cleared, AreBacked-frozen}
+use Rattle.machine.proofs.Names.{same_page-true, State, UnmapMade, ProtectMade, ReclaimMade, ReclaimKept, end_change}
+use Rattle.machine.proofs.Names.{IsSound, Ending, Changing, Silent, ChangesPlaces, SameDirty, Move, Moves, End, Drop}
 use Rattle.spaces.specs.declared.change.Change.TheVariants as changes
-use Rattle.spaces.specs.Spaces.{AddressSpace, Spaces, has_space, space_at, entry_at, place_at, without_mapping}
-use Rattle.spaces.specs.Changes.{is_place_of, without_entries_of}
-use Rattle.spaces.proofs.Public.{has_space-without_mapping, space_at-with_space_same, space_at-with_space_other, place_at-without_mapping, place_at-SetsRights, place_at-EditsEntries, with_rights_of, AreSpaces-without_mapping, AreSpaces-SetsRights, AreSpaces-EditsEntries, user_space, ChangesOnlyAffected-without_mapping, ChangesOnlyAffected-SetsRights, ChangesOnlyAffected-reclaim}
-use Rattle.shootdown.proofs.Public.{IsNoWider-same_places}
-use Rattle.checkpoint.specs.Checkpoint.{Holds, IsDirty, IsInRange}
-use Rattle.checkpoint.specs.Backing.{page_at}
-use Rattle.checkpoint.proofs.Public.{AreBacked-without_mapping, AreBacked-rights_set, AreBacked-cleared, AreBacked-frozen, same_page-true}
-use Rattle.machine.specs.State.{State}
-use Rattle.machine.specs.Rules.{UnmapMade, ProtectMade, ReclaimMade, ReclaimKept, end_change}
-use Rattle.machine.specs.inside.Sound.{IsSound}
-use Rattle.machine.specs.inside.Moves.{Ending, Changing, Silent, ChangesPlaces, SameDirty, Move, Moves, End, Drop}
 use Rattle.machine.proofs.sound.Lists.{same_some, kept_some}
 use Rattle.machine.proofs.sound.Ended.{prepared_change}
 use Rattle.machine.proofs.sound.Frames.{notes_in_use}

@@ -1,16 +1,11 @@
 -- The moves of processors that switch, stall, go on, idle and wake.
-use Rattle.std.proofs.Common.{ℕ, ◌≡◌, ◌<◌, Bool, true, false, List, length, None, refl, ap, ◌∙◌}
-use Rattle.spaces.specs.Spaces.{has_space}
-use Rattle.shootdown.specs.declared.proc_state.ProcState.TheVariants.{Interrupted, Stalled, Idle}
-use Rattle.shootdown.specs.Processors.{Processor, is_running, woken, switched}
-use Rattle.shootdown.specs.Shootdown.{IsShootdown, processor_at, current, state_of, with_processor, not_free, switched_to, stalled, idled, resumed}
-use Rattle.shootdown.specs.Calls.{not_there, is_stalled, is_idle, wait_refusal, idle_refusal, switch_refusal}
-use Rattle.shootdown.specs.Coherence.{Coheres}
-use Rattle.shootdown.proofs.Public.{IsShootdown-stalled, IsShootdown-idled, IsShootdown-resumed, IsShootdown-switched_to, Coheres-stalled, Coheres-idled, Coheres-resumed, Coheres-switched_to}
-use Rattle.machine.specs.State.{State}
-use Rattle.machine.specs.Rules.{with_shootdown}
-use Rattle.machine.specs.inside.Sound.{IsSound}
-use Rattle.machine.specs.inside.Moves.{Running, Entering, Move, Replace}
+use Rattle.machine.proofs.Names.{ℕ, ◌≡◌, ◌<◌, Bool, true, false, List, length, None, refl, ap, ◌∙◌, has_space}
+use Rattle.machine.proofs.Names.{Interrupted, Stalled, Idle, Processor, is_running, woken, switched, IsShootdown}
+use Rattle.machine.proofs.Names.{processor_at, current, state_of, with_processor, switched_to, stalled, idled}
+use Rattle.machine.proofs.Names.{resumed, not_there, idle_refusal, switch_refusal}
+use Rattle.machine.proofs.Names.{Coheres, IsShootdown-stalled, IsShootdown-idled, IsShootdown-resumed}
+use Rattle.machine.proofs.Names.{IsShootdown-switched_to, Coheres-stalled, Coheres-idled, Coheres-resumed}
+use Rattle.machine.proofs.Names.{Coheres-switched_to, State, with_shootdown, IsSound, Running, Entering, Move, Replace}
 use Rattle.machine.proofs.sound.Admitted.{free_below, there_below, switch_admitted, idle_admitted}
 
 module _ {disk : List ℕ} (s : State) (p : ℕ) {new : State} (sound : IsSound s) where

@@ -1,25 +1,20 @@
 -- The moves of spaces that are made, and of pages that are mapped.
-use Rattle.std.proofs.Common.{ℕ, ◌≡◌, ◌≢◌, ◌<◌, ◌-◌, ◌||◌, ◌&&◌, not, Bool, true, false, cond, eqb, leb, List, [], ◌∷◌, length, Option, Some, None, Ok, is_some, refl, sym, ap, ◌∙◌, subst, arith}
+use Rattle.machine.proofs.Names.{ℕ, ◌≡◌, ◌<◌, ◌-◌, ◌&&◌, not, Bool, true, false, cond, eqb, leb, List, []}
+use Rattle.machine.proofs.Names.{◌∷◌, length, Option, Some, None, Ok, is_some, refl, sym, ap, ◌∙◌, subst}
+use Rattle.machine.proofs.Names.{and_parts, leb-false, leb-true, ltb-true, false≢true, Place, Rights}
+use Rattle.machine.proofs.Names.{PageRange, Places, allows, is_among, any_mapped, with_range, is_mappable, add_refusal}
+use Rattle.machine.proofs.Names.{AddressSpace, Spaces, empty_space, space_at, place_at, with_space}
+use Rattle.machine.proofs.Names.{with_mapping, IsLowestFree, judged_mapping, has_space-with_space}
+use Rattle.machine.proofs.Names.{space_at-with_space_same, space_at-with_space_other, place_at-create}
+use Rattle.machine.proofs.Names.{place_at-with_mapping, entry_at-create, entry_at-with_mapping, AreSpaces-create}
+use Rattle.machine.proofs.Names.{AreSpaces-with_mapping, mappable_ends, judged_mapping-ok, Grows-create}
+use Rattle.machine.proofs.Names.{Grows-with_mapping, not_free, Coheres-grown, AreBacked-created, AreBacked-with_mapping}
+use Rattle.machine.proofs.Names.{State, refuse_if, first_of, mapping_refusal, map_refusal, with_spaces, MapMade}
+use Rattle.machine.proofs.Names.{IsSound, Mapping, ChangesPlaces, Move, Remap}
 use Rattle.std.specs.FinMap as maps
-use Rattle.std.proofs.lemmas.Bool.{cases_eq, and_parts, leb-false, leb-true, ltb-true, false≢true, eq-eqb}
 use Rattle.page_entry.specs.declared.refusal.Refusal.TheVariants as refusals
-use Rattle.mappings.specs.declared.place.Place.{Place}
-use Rattle.mappings.specs.declared.place.Rights.{Rights}
-use Rattle.mappings.specs.declared.page_range.PageRange.{PageRange}
-use Rattle.mappings.specs.Places.{Places, advanced, allows, is_among, any_mapped, with_range}
-use Rattle.mappings.specs.Judgement.{is_mappable, add_refusal}
+use Rattle.mappings.specs.Places.{advanced}
 use Rattle.mappings.proofs.Public.{Decides-any_in_range}
-use Rattle.spaces.specs.Spaces.{AddressSpace, Spaces, empty_space, has_space, space_at, place_at, with_space, with_mapping, IsLowestFree}
-use Rattle.spaces.specs.Requests.{judged_mapping}
-use Rattle.spaces.proofs.Public.{has_space-with_space, space_at-with_space_same, space_at-with_space_other, place_at-create, place_at-with_mapping, entry_at-create, entry_at-with_mapping, AreSpaces-create, AreSpaces-with_mapping, mappable_ends, judged_mapping-ok, Grows-create, Grows-with_mapping}
-use Rattle.shootdown.specs.Shootdown.{not_free}
-use Rattle.shootdown.proofs.Public.{Coheres-grown}
-use Rattle.checkpoint.proofs.Public.{AreBacked-created, AreBacked-with_mapping}
-use Rattle.machine.specs.State.{State}
-use Rattle.machine.specs.Refusals.{refuse_if, first_of, mapping_refusal, map_refusal}
-use Rattle.machine.specs.Rules.{with_spaces, MapMade}
-use Rattle.machine.specs.inside.Sound.{IsSound}
-use Rattle.machine.specs.inside.Moves.{Mapping, ChangesPlaces, Move, Remap}
 use Rattle.machine.proofs.sound.Lists.{same_some}
 use Rattle.machine.proofs.sound.Admitted.{first_none, refuse_none, free_below, unlocked}
 use Rattle.machine.proofs.track.DirtyFrames.{dirty_equal}

@@ -1,61 +1,51 @@
 -- An act that leaves the device alone, as one act of the layers.
-use Rattle.std.proofs.Common.{ℕ, ◌≡◌, ◌≢◌, ◌+◌, ◌-◌, ◌^◌, ◌<◌, Bool, true, false, not, ◌&&◌, cond, List, [], length, Result, Ok, Err, is_err, is_none, refl, sym, ap, ◌∙◌, subst, arith}
-use Rattle.device.specs.Count.{raised}
-use Rattle.device.specs.Device.{LeavesOnly}
-use Rattle.device.specs.declared.device.Device.{Ghosts}
-use Rattle.device.specs.Did.{Did}
-use Rattle.device.proofs.Public.{leaves_at_start, did_as}
-use Rattle.page_entry.specs.declared.refusal.Refusal.{Refusal}
+use Rattle.machine.proofs.Names.{ℕ, ◌≡◌, ◌≢◌, ◌+◌, ◌-◌, ◌^◌, ◌<◌, Bool, true, false, not, ◌&&◌, cond, List, [], length}
+use Rattle.machine.proofs.Names.{Result, Ok, Err, is_err, is_none, refl, sym, ap, ◌∙◌, subst, arith, raised, LeavesOnly}
+use Rattle.machine.proofs.Names.{Ghosts, Did, leaves_at_start, Refusal, Work, WriteAt, CopyBlock, Sync, Nothing}
+use Rattle.machine.proofs.Names.{TornFromWork, calls_of, ReadsOnce, Act, Reply, Step, Layers, State, fix_refusal, Acts}
+use Rattle.machine.proofs.Names.{Fixes, Flushes, work_asked, CallsOf, FixCalls, FlushCalls, reads_page, has_failed}
+use Rattle.machine.proofs.Names.{step_work, state_in, AnswersBy, KeepsReserved, IsQuiet, ActDone}
 use Rattle.page_entry.specs.declared.refusal.Refusal.TheVariants as refusals
-use Rattle.journal.specs.Work.{Work, WriteAt, CopyBlock, Sync, Nothing, TornFromWork, calls_of}
-use Rattle.fault.specs.Fixing.{ReadsOnce}
-use Rattle.machine.specs.declared.act.Act.{Act}
 use Rattle.machine.specs.declared.act.Act.TheVariants as acts
-use Rattle.machine.specs.declared.act.Reply.{Reply}
 use Rattle.machine.specs.declared.act.Reply.TheVariants as replies
-use Rattle.machine.specs.declared.act.Step.{Step}
-use Rattle.machine.specs.declared.layers.Layers.{Layers}
-use Rattle.machine.specs.State.{State}
-use Rattle.machine.specs.Refusals.{fix_refusal}
-use Rattle.machine.specs.Rules.{Acts, Fixes, Flushes, work_asked}
-use Rattle.machine.specs.Calls.{CallsOf, FlushCalls, reads_page, has_failed}
-use Rattle.machine.specs.Steps.{step_work}
-use Rattle.machine.specs.inside.Layers.{state_in, reply_to, AnswersBy, KeepsReserved, IsQuiet}
-use Rattle.machine.specs.inside.Acting.{ActDone}
+use Rattle.machine.specs.inside.Layers.{reply_to}
 
 -- the laws of a device that these lemmas rest on
 abbrev pub SinceNow : {D : Type 0} → Ghosts D → Type 0
 SinceNow {D} disk = (device : D) (c : List ℕ) → disk.left_since device (disk.moment device) c → disk.may_leave device c
 
-module _ {D Z : Type 0} (disk : Ghosts D) (since_now : SinceNow disk) (old new : Layers D Z) (step : Step) (act : Act) (is : step.act ≡ act) (reply : Reply) where
-  -- what the step asks of the device, by its act
-  work_is : step_work (state_in old) act reply ≡ step_work (state_in old) step.act reply
-  work_is = ap (λ (a : Act). step_work (state_in old) a reply) (sym is)
+-- the step's act may be written in another way
+act_as : {D Z : Type 0} (disk : Ghosts D) (old new : Layers D Z) (step : Step) (act : Act) (reply : Reply) → step.act ≡ act
+    → ActDone disk old (record { p = step.p; act = act }) reply new → ActDone disk old step reply new
+act_as disk old new step act reply is done = subst (λ (a : Act). ActDone disk old (record { p = step.p; act = a }) reply new) (sym is) done
 
+module _ {D Z : Type 0} (disk : Ghosts D) (since_now : SinceNow disk) (old new : Layers D Z) where
   -- the device is as it was
-  pub quiet_done : IsQuiet old new → ((d : List ℕ) → Acts (state_in old) d step.p act reply (state_in new) d) → step_work (state_in old) act reply ≡ Nothing
-      → ((calls faults : ℕ) → CallsOf (state_in old) step.p act reply calls calls faults faults) → ActDone disk old step reply new
-  quiet_done quiet rules work counts =
-      let same = sym quiet.same_device in
-      let asked : Nothing ≡ step_work (state_in old) step.act reply = sym work ∙ work_is in
-      record {
-        rules = record {
-          some_disk = ([], [], subst (λ (a : Act). Acts (state_in old) [] step.p a reply (state_in new) []) (sym is) (rules []));
-          own_disk = λ h. subst (λ (x : D). Acts (state_in old) (disk.seen old.device) step.p step.act reply (state_in new) (disk.seen x)) same
-              (subst (λ (a : Act). Acts (state_in old) (disk.seen old.device) step.p a reply (state_in new) (disk.seen old.device)) (sym is) (rules (disk.seen old.device)));
-        };
-        left = λ c may. subst (λ (w : Work). TornFromWork w (disk.may_leave old.device) c) asked (subst (λ (x : D). disk.may_leave x c) quiet.same_device may);
-        sure = λ honest other sync. absurd (let both = asked ∙ sync in cc);
-        unread = λ honest from to refused copy few calls. absurd (let both = asked ∙ copy in cc);
-        time = subst (λ (x : D). LeavesOnly disk.moment disk.left_since old.device x (TornFromWork (step_work (state_in old) step.act reply) (disk.may_leave old.device))) same
-            (subst (λ (w : Work). LeavesOnly disk.moment disk.left_since old.device old.device (TornFromWork w (disk.may_leave old.device))) asked (leaves_at_start (λ c left. since_now old.device c left)));
-        honest = ((λ h. subst disk.is_honest quiet.same_device h), (λ h. subst disk.is_honest same h));
-        len = ap (λ (x : D). length (disk.seen x)) quiet.same_device;
-        calls = subst (λ (x : D). CallsOf (state_in old) step.p step.act reply (disk.calls_made old.device) (disk.calls_made x) (disk.faults_met old.device) (disk.faults_met x)) same
-            (subst (λ (a : Act). CallsOf (state_in old) step.p a reply (disk.calls_made old.device) (disk.calls_made old.device) (disk.faults_met old.device) (disk.faults_met old.device)) (sym is)
-            (counts (disk.calls_made old.device) (disk.faults_met old.device)));
-        kept = record { same_table = quiet.same_table; still_reserved = quiet.still_reserved };
-      }
+  still_done : (p : ℕ) (act : Act) (reply : Reply)
+      → AnswersBy (disk.is_honest old.device) (λ d d'. Acts (state_in old) d p act reply (state_in new) d') (disk.seen old.device) (disk.seen new.device)
+      → new.device ≡ old.device → step_work (state_in old) act reply ≡ Nothing
+      → CallsOf (state_in old) p act reply (disk.calls_made old.device) (disk.calls_made old.device) (disk.faults_met old.device) (disk.faults_met old.device)
+      → KeepsReserved old new → ActDone disk old (record { p = p; act = act }) reply new
+  still_done p act reply rules same work calls kept = record {
+    rules = rules;
+    left = λ c may. subst (λ (w : Work). TornFromWork w (disk.may_leave old.device) c) (sym work) (subst (λ (x : D). disk.may_leave x c) same may);
+    sure = λ honest other sync. absurd (let both = sym work ∙ sync in cc);
+    unread = λ honest from to refused copy few calls. absurd (let both = sym work ∙ copy in cc);
+    time = subst (λ (x : D). LeavesOnly disk.moment disk.left_since old.device x (TornFromWork (step_work (state_in old) act reply) (disk.may_leave old.device))) (sym same)
+        (subst (λ (w : Work). LeavesOnly disk.moment disk.left_since old.device old.device (TornFromWork w (disk.may_leave old.device))) (sym work) (leaves_at_start (λ c left. since_now old.device c left)));
+    honest = (λ h. subst disk.is_honest same h, λ h. subst disk.is_honest (sym same) h);
+    len = ap (λ (x : D). length (disk.seen x)) same;
+    calls = subst (λ (x : D). CallsOf (state_in old) p act reply (disk.calls_made old.device) (disk.calls_made x) (disk.faults_met old.device) (disk.faults_met x)) (sym same) calls;
+    kept = kept;
+  }
+
+  pub quiet_done : (step : Step) (act : Act) → step.act ≡ act → (reply : Reply) → IsQuiet old new → ((d : List ℕ) → Acts (state_in old) d step.p act reply (state_in new) d)
+      → step_work (state_in old) act reply ≡ Nothing → ((calls faults : ℕ) → CallsOf (state_in old) step.p act reply calls calls faults faults) → ActDone disk old step reply new
+  quiet_done step act is reply quiet rules work counts =
+      act_as disk old new step act reply is (still_done step.p act reply (record {
+        some_disk = ([], [], rules []);
+        own_disk = λ h. subst (λ (x : D). Acts (state_in old) (disk.seen old.device) step.p act reply (state_in new) (disk.seen x)) (sym quiet.same_device) (rules (disk.seen old.device));
+      }) quiet.same_device work (counts _ _) (record { same_table = quiet.same_table; still_reserved = quiet.still_reserved }))
 
 -- ---- a step of the write-outs
 
@@ -83,23 +73,17 @@ pub flush_done : {D Z : Type 0} (disk : Ghosts D) (old new : Layers D Z) (step :
     → AnswersBy (disk.is_honest old.device) (λ d d'. Flushes (state_in old) d step.p reply (state_in new) d') (disk.seen old.device) (disk.seen new.device)
     → Did disk old.device (step_work (state_in old) acts.Flush reply) (not (has_failed reply)) new.device → KeepsReserved old new → ActDone disk old step reply new
 flush_done {D} disk old new step reply is rules did kept =
-    let here = sym is in
-    let its = did_as disk (ap (λ (a : Act). step_work (state_in old) a reply) here) refl did in
-    record {
-      rules = record {
-        some_disk = (rules.some_disk.0, rules.some_disk.1, subst (λ (a : Act). Acts (state_in old) rules.some_disk.0 step.p a reply (state_in new) rules.some_disk.1) here rules.some_disk.2);
-        own_disk = λ h. subst (λ (a : Act). Acts (state_in old) (disk.seen old.device) step.p a reply (state_in new) (disk.seen new.device)) here (rules.own_disk h);
-      };
-      left = its.left;
-      sure = λ honest other sync. its.sure honest (unfailed reply other) sync;
-      unread = λ honest from to refused copy few calls. its.unread honest (ap (λ r. not (has_failed r)) refused) from to copy (omega (arith, few)) calls;
-      time = its.time;
-      honest = its.honest;
-      len = its.same_length;
-      calls = subst (λ (a : Act). CallsOf (state_in old) step.p a reply (disk.calls_made old.device) (disk.calls_made new.device) (disk.faults_met old.device) (disk.faults_met new.device)) here
-          (flush_calls disk (state_in old) old.device new.device reply did);
+    act_as disk old new step acts.Flush reply is (record {
+      rules = rules;
+      left = did.left;
+      sure = λ honest other sync. did.sure honest (unfailed reply other) sync;
+      unread = λ honest from to refused copy few calls. did.unread honest (ap (λ r. not (has_failed r)) refused) from to copy (omega (arith, few)) calls;
+      time = did.time;
+      honest = did.honest;
+      len = did.same_length;
+      calls = flush_calls disk (state_in old) old.device new.device reply did;
       kept = kept;
-    }
+    })
 
 -- ---- a fault that is served
 
@@ -122,50 +106,25 @@ pub fix_done : {D Z : Type 0} (disk : Ghosts D) (since_now : SinceNow disk) (old
     → ReadsOnce disk.seen disk.may_leave disk.is_honest disk.moment disk.left_since disk.calls_made disk.faults_met (is_err result) old.device new.device)
     → KeepsReserved old new → ActDone disk old step (reply_to result) new
 fix_done {D} disk since_now old new step va write result is rules fixed untouched read kept =
-    let here = sym is in
-    let reply = reply_to result in
-    let s = state_in old in
-    let nothing : Nothing ≡ step_work s step.act reply = ap (λ (a : Act). step_work s a reply) here in
-    let reads = reads_page s step.p va write in
-    record {
-      rules = record {
-        some_disk = (rules.some_disk.0, rules.some_disk.1, subst (λ (a : Act). Acts s rules.some_disk.0 step.p a reply (state_in new) rules.some_disk.1) here rules.some_disk.2);
-        own_disk = λ h. subst (λ (a : Act). Acts s (disk.seen old.device) step.p a reply (state_in new) (disk.seen new.device)) here (rules.own_disk h);
-      };
-      left = λ c may. subst (λ (w : Work). TornFromWork w (disk.may_leave old.device) c) nothing (left reads refl c may);
-      sure = λ honest other sync. absurd (let both = nothing ∙ sync in cc);
-      unread = λ honest from to refused copy few calls. absurd (let both = nothing ∙ copy in cc);
-      time = subst (λ (w : Work). LeavesOnly disk.moment disk.left_since old.device new.device (TornFromWork w (disk.may_leave old.device))) nothing (time reads refl);
-      honest = honest reads refl;
-      len = len reads refl;
-      calls = subst (λ (a : Act). CallsOf s step.p a reply (disk.calls_made old.device) (disk.calls_made new.device) (disk.faults_met old.device) (disk.faults_met new.device)) here
-          (record { one_read = calls reads refl; its_fault = faults reads refl });
-      kept = kept;
-    }
+    act_as disk old new step (acts.Fix va write) (reply_to result) is (by (reads_page (state_in old) step.p va write) refl)
   where
-    left : (b : Bool) → reads_page (state_in old) step.p va write ≡ b → (c : List ℕ) → disk.may_leave new.device c → disk.may_leave old.device c
-    left true e = (read e).left
-    left false e = λ c may. subst (λ (x : D). disk.may_leave x c) (untouched e) may
-
-    time : (b : Bool) → reads_page (state_in old) step.p va write ≡ b → LeavesOnly disk.moment disk.left_since old.device new.device (disk.may_leave old.device)
-    time true e = (read e).time
-    time false e = subst (λ (x : D). LeavesOnly disk.moment disk.left_since old.device x (disk.may_leave old.device)) (sym (untouched e)) (leaves_at_start (λ c left. since_now old.device c left))
-
-    honest : (b : Bool) → reads_page (state_in old) step.p va write ≡ b → Rattle.std.specs.Prelude.◌↔◌ (disk.is_honest new.device) (disk.is_honest old.device)
-    honest true e = (read e).honest
-    honest false e = ((λ h. subst disk.is_honest (untouched e) h), (λ h. subst disk.is_honest (sym (untouched e)) h))
-
-    len : (b : Bool) → reads_page (state_in old) step.p va write ≡ b → length (disk.seen new.device) ≡ length (disk.seen old.device)
-    len true e = (read e).len
-    len false e = ap (λ (x : D). length (disk.seen x)) (untouched e)
-
-    calls : (b : Bool) → reads_page (state_in old) step.p va write ≡ b → disk.calls_made new.device ≡ cond b (raised (disk.calls_made old.device)) (disk.calls_made old.device)
-    calls true e = (read e).one_call
-    calls false e = ap disk.calls_made (untouched e)
-
-    faults : (b : Bool) → reads_page (state_in old) step.p va write ≡ b
-        → disk.faults_met new.device ≡ cond (b && has_failed (reply_to result)) (raised (disk.faults_met old.device)) (disk.faults_met old.device)
-    faults true e =
-        (read e).one_fault ∙ ap (λ b. cond b (raised (disk.faults_met old.device)) (disk.faults_met old.device))
-        (failed_if (state_in old) rules.some_disk.0 step.p va write result (state_in new) fixed e rules.some_disk.2.0)
-    faults false e = ap disk.faults_met (untouched e)
+    by : (b : Bool) → reads_page (state_in old) step.p va write ≡ b → ActDone disk old (record { p = step.p; act = acts.Fix va write }) (reply_to result) new
+    by false e =
+        still_done disk since_now old new step.p (acts.Fix va write) (reply_to result) rules (untouched e) refl
+        (subst (λ b. FixCalls b (reply_to result) (disk.calls_made old.device) (disk.calls_made old.device) (disk.faults_met old.device) (disk.faults_met old.device)) (sym e)
+        (record { one_read = refl; its_fault = refl })) kept
+    by true e =
+        let made = read e in
+        let failed = failed_if (state_in old) rules.some_disk.0 step.p va write result (state_in new) fixed e rules.some_disk.2.0 in
+        record {
+          rules = rules;
+          left = made.left;
+          sure = λ honest other sync. absurd (cc);
+          unread = λ honest from to refused copy few calls. absurd (cc);
+          time = made.time;
+          honest = made.honest;
+          len = made.len;
+          calls = subst (λ b. FixCalls b (reply_to result) (disk.calls_made old.device) (disk.calls_made new.device) (disk.faults_met old.device) (disk.faults_met new.device)) (sym e)
+              (record { one_read = made.one_call; its_fault = made.one_fault ∙ ap (λ b. cond b (raised (disk.faults_met old.device)) (disk.faults_met old.device)) failed });
+          kept = kept;
+        }

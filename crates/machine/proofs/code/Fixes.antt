@@ -1,29 +1,18 @@
 -- How faults are served, by what the layer below did.
-use Rattle.std.proofs.Common.{ℕ, ◌≡◌, inl, inr, ◌*◌, ◌/◌, ◌≤◌, ◌&&◌, ◌||◌, not, Bool, true, false, cond, List, [], ◌∷◌, ◌++◌, length, take, Option, Some, None, is_none, Result, Ok, refl, sym, ap, ◌∙◌, subst, ⊎_elim, arith}
-use Rattle.std.proofs.lemmas.List.{drop_at, take_all}
-use Rattle.page_entry.specs.declared.refusal.Refusal.{Refusal}
+use Rattle.machine.proofs.Names.{ℕ, ◌≡◌, inl, inr, ◌*◌, ◌/◌, ◌≤◌, ◌&&◌, ◌||◌, not, Bool, true, false, cond, List, []}
+use Rattle.machine.proofs.Names.{◌∷◌, ◌++◌, length, take, Option, Some, None, is_none, Result, Ok, refl, sym, ap, ◌∙◌}
+use Rattle.machine.proofs.Names.{subst, ⊎_elim, arith, drop_at, take_all, Refusal, Place, may_write, cond-false}
+use Rattle.machine.proofs.Names.{block_at, length-zeros, FramesState, has_free, Spaces, current, not_free, page_at}
+use Rattle.machine.proofs.Names.{FaultServed, is_in_memory, copies_out, place_of_fault, fault_refusal, FixRefused}
+use Rattle.machine.proofs.Names.{FixDone, refusal_of, reads_home, block_from, State, length_of, home_of, page_from}
+use Rattle.machine.proofs.Names.{served_refusal, fix_refusal, is_absent, reads_page, Fixes, with_hardware, AnswersBy}
 use Rattle.page_entry.specs.declared.refusal.Refusal.TheVariants as refusals
-use Rattle.mappings.specs.declared.place.Place.{Place}
-use Rattle.mappings.specs.Places.{may_write}
-use Rattle.std.proofs.lemmas.Bool.{cond-false}
-use Rattle.volume_codec.specs.Text.{zeros}
-use Rattle.volume_codec.specs.Layout.{block_at}
-use Rattle.volume_codec.proofs.Public.{length-zeros}
-use Rattle.frames.specs.Frames.{FramesState, has_free}
-use Rattle.spaces.specs.Spaces.{Spaces}
-use Rattle.shootdown.specs.Shootdown.{current, not_free}
-use Rattle.checkpoint.specs.Backing.{page_at}
 use Rattle.fault.specs.declared.page_fault.PageFault.{PageFault}
-use Rattle.fault.specs.Fault.{FaultServed, is_in_memory, copies_out, place_of_fault, fault_refusal}
-use Rattle.fault.specs.Fixing.{FixRefused, FixDone, refusal_of, reads_home, block_from, cut_to_length as cut_by}
+use Rattle.fault.specs.Fixing.{cut_to_length as cut_by}
 use Rattle.machine.specs.declared.act.Reply.TheVariants as replies
-use Rattle.machine.specs.State.{State, length_of, home_of, page_from}
-use Rattle.machine.specs.Refusals.{served_refusal, fix_refusal}
-use Rattle.machine.specs.Calls.{is_absent, reads_page}
-use Rattle.machine.specs.Rules.{Fixes, with_hardware}
-use Rattle.machine.specs.inside.Layers.{AnswersBy}
+use Rattle.volume_codec.specs.Text.{zeros}
 use Rattle.machine.proofs.track.Faults.{led_to}
-use Rattle.machine.proofs.code.Refused.{passed, found, alone, at_most}
+use Rattle.machine.proofs.code.Refusals.{passed, found, alone, at_most}
 
 -- ---- refused before anything is read
 

@@ -1,28 +1,16 @@
 -- Steps of the write-outs, by what the journal answers.
-use Rattle.std.proofs.Common.{ℕ, ◌≡◌, ◌≢◌, ◌⊎◌, Bool, true, false, not, cond, List, [], Option, Some, None, is_some, refl, sym, ap, ◌∙◌, subst, ⊎_elim}
-use Rattle.std.specs.Prelude.{MatchBool}
-use Rattle.device.specs.Device.{Torn}
-use Rattle.device.specs.declared.device.Device.{Ghosts}
-use Rattle.device.specs.Did.{Did}
-use Rattle.device.proofs.Public.{did_nothing}
-use Rattle.page_entry.specs.declared.refusal.Refusal.{Refusal}
+use Rattle.machine.proofs.Names.{ℕ, ◌≡◌, ◌≢◌, ◌⊎◌, Bool, true, false, not, cond, List, [], Option, Some, None, is_some}
+use Rattle.machine.proofs.Names.{refl, sym, ap, ◌∙◌, subst, ⊎_elim, MatchBool, Torn, Ghosts, Did, did_nothing, Refusal}
+use Rattle.machine.proofs.Names.{Flushed, Work, WriteAt, CopyBlock, Sync, Nothing, worked, TornByWork, has_done}
+use Rattle.machine.proofs.Names.{WriteOutsValue, next_answer, outs_after, outs_record, is_running, ShootdownState}
+use Rattle.machine.proofs.Names.{is_there, state_of, not_running, Reply, State, flush_refusal, reply_to, after_record}
+use Rattle.machine.proofs.Names.{work_asked, FlushMade, Flushes, has_failed, step_work, AnswersBy, reply_of_flush}
+use Rattle.machine.proofs.Names.{memory_after, checkpoint_after, released_memory, released_pages}
 use Rattle.page_entry.specs.declared.refusal.Refusal.TheVariants as refusals
-use Rattle.journal.specs.declared.flushed.Flushed.{Flushed}
 use Rattle.journal.specs.declared.flushed.Flushed.TheVariants as flushed
-use Rattle.journal.specs.Work.{Work, WriteAt, CopyBlock, Sync, Nothing, worked, TornByWork, has_done}
-use Rattle.journal.specs.WriteOuts.{WriteOutsValue, next_answer, outs_after, outs_record}
-use Rattle.shootdown.specs.Processors.{is_running}
-use Rattle.shootdown.specs.Shootdown.{ShootdownState, is_there, state_of, not_running}
 use Rattle.machine.specs.declared.act.Act.TheVariants as acts
-use Rattle.machine.specs.declared.act.Reply.{Reply}
 use Rattle.machine.specs.declared.act.Reply.TheVariants as replies
-use Rattle.machine.specs.State.{State}
-use Rattle.machine.specs.Refusals.{flush_refusal}
-use Rattle.machine.specs.Rules.{reply_to, after_record, work_asked, FlushMade, Flushes}
-use Rattle.machine.specs.Calls.{has_failed}
-use Rattle.machine.specs.Steps.{step_work}
-use Rattle.machine.specs.inside.Layers.{AnswersBy, reply_to as reply_by}
-use Rattle.machine.specs.inside.Flushing.{reply_of_flush, memory_after, checkpoint_after, released_memory, released_pages}
+use Rattle.machine.specs.inside.Layers.{reply_to as reply_by}
 
 -- the state after a step that the journal answers so
 abbrev pub stepped : State → Flushed → State

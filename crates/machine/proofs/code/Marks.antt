@@ -1,20 +1,11 @@
 -- The batch of a mark: the pages that it gathers, unless the machine is broken.
-use Rattle.std.proofs.Common.{ℕ, ◌≡◌, ◌<◌, ◌≤◌, ◌+◌, Bool, true, false, not, cond, List, [], ◌∷◌, length, map, get_or, refl, sym, ap, ◌∙◌, subst, ⊎_elim, arith}
-use Rattle.std.proofs.lemmas.Bool.{cases_lt}
-use Rattle.std.proofs.lemmas.List.{length-map}
-use Rattle.std.specs.List.{All}
-use Rattle.page_entry.specs.declared.numbers.FilePage.{FilePage}
-use Rattle.volume_codec.specs.Layout.{GeometryValue}
-use Rattle.journal.specs.WriteOuts.{is_busy, begun}
-use Rattle.checkpoint.specs.Checkpoint.{CheckpointState, Gathers}
-use Rattle.machine.specs.State.{State, home_of}
-use Rattle.machine.specs.Durability.{IsInFile}
-use Rattle.machine.specs.inside.Sound.{IsSound}
-use Rattle.machine.specs.Rules.{with_batch}
-use Rattle.machine.specs.inside.Layers.{IsPageOf, MayBegin, with_homes}
+use Rattle.machine.proofs.Names.{ℕ, ◌≡◌, ◌<◌, ◌≤◌, ◌+◌, Bool, true, false, not, cond, List, [], ◌∷◌, length, map}
+use Rattle.machine.proofs.Names.{get_or, refl, sym, ap, ◌∙◌, subst, ⊎_elim, arith, cases_lt, length-map, All, FilePage}
+use Rattle.machine.proofs.Names.{GeometryValue, is_busy, begun, CheckpointState, Gathers, State, home_of, IsInFile}
+use Rattle.machine.proofs.Names.{IsSound, with_batch, IsPageOf, MayBegin, with_homes}
 use Rattle.machine.proofs.sound.ByMark.{gathered_there}
 use Rattle.machine.proofs.sound.Uses.{batch_homes, newest_mark}
-use Rattle.machine.proofs.code.Table.{pages-in_file}
+use Rattle.machine.proofs.code.Parts.{pages-in_file}
 
 -- a page that begins before the end of its file is one of the file's
 pub page_there : (s : State) (owner : FilePage) → IsSound s → IsInFile s owner → IsPageOf s.table owner

@@ -1,25 +1,14 @@
 -- The page whose record a step of a write-out writes, and the mark that a step answers.
-use Rattle.std.proofs.Common.{ℕ, suc, ◌≡◌, ◌<◌, ◌≤◌, ◌-◌, ◌*◌, ◌^◌, Bool, true, false, cond, List, [], ◌∷◌, ◌++◌, length, take, Option, Some, None, is_some, IsSome, refl, sym, ap, ◌∙◌, arith}
-use Rattle.std.specs.List.{All}
-use Rattle.std.specs.Option.{option_map_or, option_and_then}
-use Rattle.std.proofs.lemmas.List.{take_all, append-nil}
-use Rattle.volume_codec.specs.Layout.{GeometryValue}
-use Rattle.volume_codec.specs.Recovery.{Batch}
-use Rattle.volume_codec.specs.Text.{zeros, padded}
-use Rattle.volume_codec.proofs.Public.{zeros-nil}
-use Rattle.journal.specs.declared.stage.Stage.{Stage}
-use Rattle.journal.specs.declared.stage.Stage.TheVariants.{Recording, Committing, Finishing}
-use Rattle.journal.specs.Stage.{answer_at}
-use Rattle.journal.specs.declared.flushed.Flushed.TheVariants.{Broken}
-use Rattle.journal.specs.Work.{Nothing, work_at}
-use Rattle.journal.specs.WriteOut.{WriteOut, next_stage, record_at, next_record as record_of, work_of, answer_of}
-use Rattle.journal.specs.WriteOuts.{WriteOutsValue, current, has_uncommitted, outs_record, next_work, next_answer}
-use Rattle.fault.specs.Fault.{is_in_memory}
-use Rattle.machine.specs.State.{State, length_of}
-use Rattle.machine.specs.Durability.{IsInFile}
-use Rattle.machine.specs.inside.Sound.{IsSound}
-use Rattle.machine.specs.Rules.{next_page, next_record, bytes_at_mark}
-use Rattle.machine.specs.inside.Flushing.{HasSmallMark}
+use Rattle.machine.proofs.Names.{ℕ, suc, ◌≡◌, ◌<◌, ◌≤◌, ◌-◌, ◌*◌, ◌^◌, Bool, true, false, cond, List, [], ◌∷◌, ◌++◌}
+use Rattle.machine.proofs.Names.{length, take, Option, Some, None, is_some, IsSome, refl, sym, ap, ◌∙◌, arith, All}
+use Rattle.machine.proofs.Names.{option_map_or, option_and_then, take_all, append-nil, GeometryValue, Batch, zeros}
+use Rattle.machine.proofs.Names.{padded, zeros-nil, Stage, Recording, Committing, Finishing, answer_at, Broken, Nothing}
+use Rattle.machine.proofs.Names.{work_at, WriteOut, next_stage, record_at, work_of, answer_of, WriteOutsValue}
+use Rattle.machine.proofs.Names.{has_uncommitted, outs_record, next_work, next_answer, is_in_memory, State, length_of}
+use Rattle.machine.proofs.Names.{IsInFile, IsSound, next_page, bytes_at_mark, HasSmallMark}
+use Rattle.journal.specs.WriteOut.{next_record as record_of}
+use Rattle.journal.specs.WriteOuts.{current}
+use Rattle.machine.specs.Rules.{next_record}
 use Rattle.machine.proofs.sound.Lists.{some_from}
 use Rattle.machine.proofs.sound.Frames.{held_in_memory}
 use Rattle.machine.proofs.sound.Records.{next_recorded, size_at_mark}

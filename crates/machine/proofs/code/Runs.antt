@@ -1,10 +1,6 @@
 -- Whole runs, by their steps.
-use Rattle.std.proofs.Common.{◌≡◌, ◌↔◌, List, [], ◌∷◌, ◌++◌, length, refl, sym, ap, ◌∙◌, subst}
-use Rattle.device.specs.declared.device.Device.{Ghosts}
-use Rattle.machine.specs.declared.act.Reply.{Reply}
-use Rattle.machine.specs.declared.act.Step.{Step}
-use Rattle.machine.specs.State.{Whole}
-use Rattle.machine.specs.Runs.{StepTaken, StepsTaken}
+use Rattle.machine.proofs.Names.{◌≡◌, ◌↔◌, List, [], ◌∷◌, ◌++◌, length, refl, sym, ap, ◌∙◌, subst, Ghosts, Reply, Step}
+use Rattle.machine.proofs.Names.{Whole, StepTaken, StepsTaken}
 
 -- one step more
 pub steps_more : {D : Type 0} (disk : Ghosts D) (old : Whole D) (steps : List Step) (replies : List Reply) (mid : Whole D) (step : Step) (reply : Reply) (new : Whole D)

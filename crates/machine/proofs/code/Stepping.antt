@@ -1,16 +1,8 @@
 -- One step of a machine, by what its layers did.
-use Rattle.std.proofs.Common.{◌≡◌, ◌≢◌, ap, arith}
-use Rattle.device.specs.declared.device.Device.{Ghosts}
+use Rattle.machine.proofs.Names.{◌≡◌, ◌≢◌, ap, arith, Ghosts, SuperValue, block_count, Reply, Step, Layers, WantsMemory}
+use Rattle.machine.proofs.Names.{StepMade, state_in, whole_in, AreLayers, ActDone}
 use Rattle.page_entry.specs.declared.refusal.Refusal.TheVariants as refusals
-use Rattle.volume_codec.specs.Super.{SuperValue, block_count}
-use Rattle.machine.specs.declared.act.Reply.{Reply}
 use Rattle.machine.specs.declared.act.Reply.TheVariants as replies
-use Rattle.machine.specs.declared.act.Step.{Step}
-use Rattle.machine.specs.declared.layers.Layers.{Layers}
-use Rattle.machine.specs.Rules.{WantsMemory}
-use Rattle.machine.specs.Steps.{StepMade}
-use Rattle.machine.specs.inside.Layers.{state_in, whole_in, AreLayers}
-use Rattle.machine.specs.inside.Acting.{ActDone}
 use Rattle.machine.proofs.sound.Kept.{sound_kept}
 use Rattle.machine.proofs.sound.Replies.{reply_not_full, reply_wants}
 

@@ -1,47 +1,27 @@
 -- A fresh machine is as is told at the start of a run, and its device recovers to the files with which the run begins.
-use Rattle.std.proofs.Common.{ℕ, zero, suc, ◌≡◌, ◌-◌, ◌*◌, ◌<◌, true, false, eqb, List, [], ◌∷◌, ◌++◌, length, take, drop, map, replicate, get_or, Option, None, is_some, unwrap_or, refl, sym, ap, ◌∙◌, subst, inl, inr, arith, ◌+◌, ◌≤◌}
-use Rattle.std.specs.Ordering.{nat_cmp}
+use Rattle.machine.proofs.Names.{ℕ, zero, suc, ◌≡◌, ◌-◌, ◌*◌, ◌<◌, true, false, eqb, List, [], ◌∷◌, ◌++◌, length, take}
+use Rattle.machine.proofs.Names.{drop, map, replicate, get_or, Option, None, is_some, unwrap_or, refl, sym, ap, ◌∙◌}
+use Rattle.machine.proofs.Names.{subst, inl, inr, arith, ◌+◌, ◌≤◌, nat_cmp, cases_lt, cond-false, ne_eqb, false≢true}
+use Rattle.machine.proofs.Names.{length-replicate, get_or-replicate, length-take, length-drop, take_all, append-nil}
+use Rattle.machine.proofs.Names.{take_at, drop_at, drop-drop, drop-take, take-take, take-append_seam, FilePage, Frame}
+use Rattle.machine.proofs.Names.{all_free, File, TableFile, SuperValue, pages_of, total_pages, geometry_of, block_count}
+use Rattle.machine.proofs.Names.{zeros, padded, zeros-nil, length-padded, length-block_at, length-file, fits_geometry}
+use Rattle.machine.proofs.Names.{Places, AddressSpace, first_spaces, empty_space, Processor, fresh_processor}
+use Rattle.machine.proofs.Names.{is_running, fresh_shootdown, processor_at, Holds, CheckpointState, Shape, file_bytes}
+use Rattle.machine.proofs.Names.{Mark, Acknowledge, memory_of, State, length_of, Whole, home_of, cut_at_end, IsFresh}
+use Rattle.machine.proofs.Names.{fresh, Told, told_at_start, told_first, IsArranged, HasFiles, HasParts, AreContentsOf}
+use Rattle.machine.proofs.Names.{block_at, first_file_home, IsVolume, files_from, files_in, lengths_in, blocks_from}
+use Rattle.machine.proofs.Names.{Contains, All, WriteOut, WriteOutsValue, none_of, has_uncommitted, IsStanding}
+use Rattle.machine.proofs.Names.{stands_first, bytes_at_mark, IsSound, Ghosts, Begins, IsInFile, within_file}
 use Rattle.std.specs.FinMap as maps
-use Rattle.std.proofs.lemmas.Bool.{cases_lt, cond-false, ne_eqb, false≢true}
-use Rattle.std.proofs.lemmas.List.{length-replicate, get_or-replicate, length-take, length-drop, take_all, append-nil, take_at, drop_at, drop-drop, drop-take, take-take}
-use Rattle.std.proofs.Math.Seq.{take-append_seam}
-use Rattle.page_entry.specs.declared.numbers.FilePage.{FilePage}
-use Rattle.frames.specs.Frames.{Frame, all_free, page_of as page_held}
-use Rattle.volume_codec.specs.Files.{File, TableFile}
-use Rattle.volume_codec.specs.Super.{SuperValue, pages_of, total_pages, geometry_of, block_count}
-use Rattle.volume_codec.specs.Text.{zeros, padded}
-use Rattle.volume_codec.proofs.Public.{zeros-nil, length-padded, length-block_at, length-file, fits_geometry}
-use Rattle.mappings.specs.Places.{Places}
-use Rattle.spaces.specs.Spaces.{AddressSpace, first_spaces, empty_space}
-use Rattle.shootdown.specs.Processors.{Processor, fresh_processor, is_running}
-use Rattle.shootdown.specs.Shootdown.{fresh_shootdown, processor_at}
-use Rattle.checkpoint.specs.Checkpoint.{Holds, CheckpointState}
-use Rattle.machine.specs.declared.act.Shape.{Shape}
-use Rattle.machine.specs.History.{page_of, file_bytes, Mark, Acknowledge, memory_of}
-use Rattle.machine.specs.State.{State, length_of, Whole, home_of, cut_at_end}
-use Rattle.machine.specs.Fresh.{IsFresh, fresh}
-use Rattle.machine.specs.Told.{Told}
-use Rattle.machine.specs.Laws.{told_at_start}
-use Rattle.machine.specs.Steps.{told_first}
-use Rattle.machine.specs.inside.Tracking.{IsArranged, HasFiles, HasParts, AreContentsOf}
+use Rattle.frames.specs.Frames.{page_of as page_held}
+use Rattle.machine.specs.History.{page_of}
 use Rattle.machine.proofs.durable.Histories.{length-memory_of}
 use Rattle.machine.proofs.track.ToldSpaces.{AreProcessorsTold, AreSpacesTold, spaces_made}
 use Rattle.machine.proofs.track.Arranged.{arranged_from}
 use Rattle.machine.proofs.track.Pages.{HasPages}
-use Rattle.volume_codec.specs.Layout.{block_at, first_file_home}
-use Rattle.volume_codec.specs.Recovery.{IsVolume, files_from, files_in, lengths_in, blocks_from}
-use Rattle.std.specs.List.{Contains, All}
-use Rattle.journal.specs.WriteOut.{WriteOut}
-use Rattle.journal.specs.WriteOuts.{WriteOutsValue, none_of, has_uncommitted}
-use Rattle.journal.specs.inside.Standing.{IsStanding}
-use Rattle.journal.proofs.Public.{stands_first}
-use Rattle.machine.specs.Rules.{bytes_at_mark}
-use Rattle.machine.specs.inside.Sound.{IsSound}
-use Rattle.device.specs.declared.device.Device.{Ghosts}
-use Rattle.machine.specs.Crashes.{Begins}
-use Rattle.machine.specs.Durability.{IsInFile, within_file}
 use Rattle.machine.proofs.durable.Lists.{contains_none}
-use Rattle.machine.proofs.durable.Homes.{capacity_at, page_in_capacity, home_is, within_cut}
+use Rattle.machine.proofs.durable.Homes.{capacity_at, pages_within, page_in_capacity, home_is, within_cut}
 use Rattle.machine.proofs.durable.Marks.{IsDurable}
 
 -- ---- afresh machine is as is told at the start of a run: nothing is mapped, no page is in memory, and memory is th
@@ -239,11 +219,6 @@ block_size bytes count b long lt = omega (arith, length-take 4096 (drop (4096 * 
 pub length-page_of : (bytes : List ℕ) (page : ℕ) → length (page_of bytes page) ≡ 4096
 length-page_of bytes page = length-padded 4096 (take 4096 (drop (4096 * page) bytes)) (omega (arith, length-take 4096 (drop (4096 * page) bytes)))
 
-pages_end : (fs : List TableFile) (i : ℕ) → i < length fs → total_pages (take i fs) + pages_of (capacity_at fs i) ≤ total_pages fs
-pages_end [] i there = absurd (omega arith)
-pages_end (f ∷ fs) zero there = omega arith
-pages_end (f ∷ fs) (suc i) there = let rest = pages_end fs i (omega arith) in omega (arith, rest)
-
 -- the memory of the files that a volume has
 module _ (s : State) (sound : IsSound s) (seen : List ℕ) (files : List File) (volume : IsVolume s.table [] seen) (files_are : files ≡ files_in s.table (block_at seen)) (lengths_are : s.lengths ≡ lengths_in s.table (block_at seen)) where
   page_first : (owner : FilePage) → IsInFile s owner → memory_of files owner.file owner.page ≡ cut_at_end s owner (block_at seen (home_of s.table owner))
@@ -253,7 +228,7 @@ module _ (s : State) (sound : IsSound s) (seen : List ℕ) (files : List File) (
       let bytes : file_bytes files owner.file ≡ take (length_of s owner.file) (blocks_from (block_at seen) b n) =
       ap (λ (l : List File). file_bytes l owner.file) (files_are ∙ ap (files_from (block_at seen) (first_file_home s.table.layout s.table.slots) s.table.files) (sym lengths_are))
       ∙ file_bytes-from (block_at seen) (first_file_home s.table.layout s.table.slots) s.table.files s.lengths owner.file is.there sound.lengths in
-      let before = pages_end s.table.files owner.file is.there in
+      let before = pages_within s.table.files owner.file is.there in
       let inside = is.inside in
       ap (λ (l : List ℕ). padded 4096 (take 4096 (drop (4096 * owner.page) l))) bytes
       ∙ ap (padded 4096) (page_in_blocks (block_at seen) b n (length_of s owner.file) owner.page (λ i low high. block_size seen (block_count s.table) i volume.long (omega (arith, before, high))) (page_in_capacity s sound owner is) (omega (arith, inside)))

@@ -1,19 +1,12 @@
 -- Contents that have the parts of files have these files.
-use Rattle.std.proofs.Common.{◌≡◌, ℕ, zero, suc, ◌+◌, ◌-◌, ◌*◌, ◌<◌, ◌≤◌, List, [], ◌∷◌, ◌++◌, length, map, take, get_or, refl, sym, ap, ◌∙◌, subst, inl, inr, arith, drop}
-use Rattle.std.proofs.lemmas.Bool.{cases_lt}
-use Rattle.std.proofs.lemmas.List.{take-append-le, take_all, length-take, get_or-map, length-map, append-nil, length-drop}
-use Rattle.volume_codec.specs.Files.{File, TableFile}
-use Rattle.volume_codec.specs.Layout.{first_file_home, block_at}
-use Rattle.volume_codec.specs.Super.{pages_of, total_pages}
-use Rattle.volume_codec.specs.Recovery.{blocks_from, files_from, files_in}
-use Rattle.volume_codec.proofs.Public.{take-past, length-padded, zeros-nil, blocks_from-device}
-use Rattle.machine.specs.History.{Memory, bytes_of_pages, files_from_memory, files_in as files_of, Event, page_of, file_bytes, memory_of, files_after}
-use Rattle.machine.specs.State.{State, home_of, length_of}
-use Rattle.machine.specs.Durability.{IsInFile}
-use Rattle.machine.specs.inside.Sound.{IsSound}
-use Rattle.machine.specs.inside.Tracking.{HasParts, HasFiles}
-use Rattle.volume_codec.specs.Text.{zeros}
-use Rattle.machine.specs.Later.{AreDurable}
+use Rattle.machine.proofs.Names.{◌≡◌, ℕ, zero, suc, ◌+◌, ◌-◌, ◌*◌, ◌<◌, ◌≤◌, List, [], ◌∷◌, ◌++◌, length, map, take}
+use Rattle.machine.proofs.Names.{get_or, refl, sym, ap, ◌∙◌, subst, inl, inr, arith, drop, cases_lt, take-append-le}
+use Rattle.machine.proofs.Names.{take_all, length-take, get_or-map, length-map, append-nil, length-drop, File}
+use Rattle.machine.proofs.Names.{TableFile, first_file_home, block_at, pages_of, total_pages, blocks_from, files_from}
+use Rattle.machine.proofs.Names.{files_in, take-past, length-padded, zeros-nil, blocks_from-device, Memory}
+use Rattle.machine.proofs.Names.{bytes_of_pages, files_from_memory, Event, file_bytes, memory_of, files_after, State}
+use Rattle.machine.proofs.Names.{home_of, length_of, IsInFile, IsSound, HasParts, HasFiles, zeros, AreDurable}
+use Rattle.machine.specs.History.{files_in as files_of, page_of}
 use Rattle.machine.proofs.durable.AtStart.{file_bytes-next}
 
 -- ---- the bytes of one file

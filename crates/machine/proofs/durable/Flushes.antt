@@ -1,121 +1,224 @@
--- A step of the write-outs: Old and New stay, until the batch that wasn't committed is; then what was New is Old, too.
-use Rattle.std.proofs.Common.{◌≡◌, ◌<◌, ◌≤◌, ◌==◌, ◌⊎◌, ℕ, zero, suc, cond, Bool, true, false, List, [], ◌∷◌, ◌++◌, length, drop, get_or, Option, Some, None, inl, inr, refl, sym, ap, ◌∙◌, subst, arith}
-use Rattle.std.specs.Option.{option_map_or}
-use Rattle.std.specs.List.{Contains, All}
-use Rattle.std.proofs.lemmas.Bool.{cond-false, both_ways, or_parts}
-use Rattle.std.proofs.lemmas.List.Elements.{Contains-get_or, Contains-push, Contains-push_cases, Contains-append_cases, All-contains}
-use Rattle.page_entry.specs.declared.numbers.FilePage.{FilePage}
-use Rattle.volume_codec.specs.Files.{File}
-use Rattle.volume_codec.specs.Layout.{journals_of}
-use Rattle.volume_codec.specs.Descriptor.{AreHomes}
-use Rattle.volume_codec.specs.Recovery.{Batch}
-use Rattle.volume_codec.specs.Super.{SuperValue, geometry_of}
-use Rattle.frames.specs.Frames.{IsBefore}
-use Rattle.checkpoint.specs.Checkpoint.{AreRising}
-use Rattle.journal.specs.declared.flushed.Flushed.{Flushed}
+-- A step of the write-outs: the record that it writes is what New has; Old and New stay until the batch that wasn't committed is, and then what was New is Old, too.
+use Rattle.machine.proofs.Names.{◌≡◌, ◌<◌, ◌≤◌, ◌+◌, ◌-◌, ◌*◌, ℕ, true, false, not, List, [], ◌∷◌, ◌++◌, length, map}
+use Rattle.machine.proofs.Names.{take, drop, get_or, Option, Some, None, IsSome, inl, inr, refl, sym, ap, ◌∙◌, subst}
+use Rattle.machine.proofs.Names.{arith, ◌==◌, ◌⊎◌, suc, cond, Bool, Contains, flat_map, list_any, All, option_map}
+use Rattle.machine.proofs.Names.{option_map_or, option_and_then, cond-false, cases_Bool, both_ways, or_from}
+use Rattle.machine.proofs.Names.{not_from_true, or_parts, append-nil, drop_more, length-take, list_any-append}
+use Rattle.machine.proofs.Names.{Contains-push, Contains-get_or}
+use Rattle.machine.proofs.Names.{All-contains, FilePage, length-padded, Frame, bytes_of, frame_at, page_of, IsBefore}
+use Rattle.machine.proofs.Names.{before_each, is_of_page, AreRising, Stage, Recording, Describing, SyncingRecords}
+use Rattle.machine.proofs.Names.{Opening, Committing, Applying, SyncingHomes, Closing, Finishing, Committed, Broken}
+use Rattle.machine.proofs.Names.{answer_at, WriteOut, next_stage, has_committed, advanced_of, record_at, next_record}
+use Rattle.machine.proofs.Names.{next_home, answer_of, broken_after, WriteOutsValue, has_uncommitted, advanced}
+use Rattle.machine.proofs.Names.{outs_record, outs_home, next_answer, outs_after, current_stage, batches_after}
+use Rattle.machine.proofs.Names.{AreInOrder, stage_at-is, after_committing, newest_of, current-newest, advanced-newest}
+use Rattle.machine.proofs.Names.{committed-at, current_committed, older_committed, batch_before, stands_within}
+use Rattle.machine.proofs.Names.{stands_after, stands_failed, stands_other, State, length_of, home_of, cut_at_end}
+use Rattle.machine.proofs.Names.{IsSound, IsPrepared, next_page, bytes_with, bytes_at_mark, work_asked, after_record}
+use Rattle.machine.proofs.Names.{after_failure, File, journals_of, AreHomes, Batch, SuperValue, geometry_of, Flushed}
+use Rattle.machine.proofs.Names.{Sync, worked, TornFromWork, LeftWithin, IsStanding, Checkpoint, Lock, not_running}
+use Rattle.machine.proofs.Names.{Event, Mark, Acknowledge, flush_refusal, Told, change_in}
+use Rattle.machine.proofs.Names.{IsLost, IsWaiting, IsWritten}
+use Rattle.journal.specs.WriteOuts.{current}
+use Rattle.machine.specs.Rules.{next_record as record_asked}
 use Rattle.journal.specs.declared.flushed.Flushed.TheVariants as flushed
-use Rattle.journal.specs.Work.{Sync, worked, TornFromWork}
-use Rattle.journal.specs.WriteOut.{WriteOut, has_committed, broken_after, answer_of}
-use Rattle.journal.specs.WriteOuts.{WriteOutsValue, has_uncommitted, current, next_answer, outs_after, outs_home, current_stage, batches_after}
-use Rattle.journal.specs.Crash.{LeftWithin}
-use Rattle.journal.specs.inside.Standing.{IsStanding}
-use Rattle.journal.proofs.Public.{batch_before, stands_within, stands_after, stands_failed, stands_other}
-use Rattle.spaces.specs.declared.change.Change.TheVariants.{Checkpoint}
-use Rattle.shootdown.specs.declared.lock.Lock.{Lock}
-use Rattle.shootdown.specs.Shootdown.{not_running}
 use Rattle.page_entry.specs.declared.refusal.Refusal.TheVariants as refusals
-use Rattle.machine.specs.History.{Event, Mark, Acknowledge, memory_of, after, is_touched}
-use Rattle.machine.specs.State.{State, home_of, cut_at_end}
-use Rattle.machine.specs.Refusals.{flush_refusal}
-use Rattle.machine.specs.Rules.{next_page, next_record, work_asked, after_record, after_failure, bytes_with, bytes_at_mark}
-use Rattle.machine.specs.inside.Sound.{IsSound, IsPrepared}
-use Rattle.machine.specs.Told.{Told}
-use Rattle.machine.specs.inside.Tracking.{change_in, AreContentsOf, HasAcknowledged, IsLost, IsWaiting, AreMarks, IsWritten}
-use Rattle.machine.specs.Durability.{IsInFile, within_file}
-use Rattle.machine.proofs.durable.Lists.{some_same, none_some}
-use Rattle.machine.proofs.durable.Histories.{IsUntouched, quiet_untouched, touched_after-append, after-append, acknowledge_same, acknowledge_no_mark, acknowledged_more, marks_more, marks_settled}
-use Rattle.machine.proofs.durable.Pages.{bytes_with-freed}
-use Rattle.machine.proofs.durable.Leaves.{SameFiles, in_file_as, part_as, contents_more, record_as, AreFrozenRecords}
+use Rattle.machine.proofs.durable.Lists.{only_one, some_same, none_some, flat_map-append}
+use Rattle.machine.proofs.durable.Pages.{bytes_with-at, bytes_with-none, bytes_with-freed}
+use Rattle.machine.proofs.durable.Uncommitted.{all_committed, whole_frozen, none_uncommitted, uncommitted_before, waits_after}
+use Rattle.machine.proofs.durable.Histories.{calm_none, calm_acknowledge, IsFresh, written_same, written_new, AreFrozenRecords, SameFiles, record_as, acknowledge_same, acknowledge_no_mark, marks_more}
 use Rattle.machine.proofs.durable.Marks.{IsDurable}
-use Rattle.machine.proofs.durable.Uncommitted.{none_uncommitted, uncommitted_before, waits_after}
 use Rattle.machine.proofs.sound.Admitted.{second_not_refused}
-use Rattle.machine.proofs.durable.Records.{size_of_record, record_is_new, commits}
 
--- ---- what is told grows by events that touch no page
+-- ---- the record that a step of the write-outs writes is what New has, and the step that commits a batch leaves none
 
--- events that touch no page and change none
-abbrev pub AreCalm : List File → List Event → List Event → Type 0
-AreCalm files history events = (file page : ℕ) → is_touched (history ++ events) file page ≡ false → IsUntouched (memory_of files) history events file page
+-- ---- the size of a record
 
-pub calm_none : (files : List File) (history : List Event) → AreCalm files history []
-calm_none files history file page is = quiet_untouched (memory_of files) history [] file page (inl refl) is
+some_frame : (o : Option Frame) (owner : FilePage) → page_of o ≡ Some owner → IsSome o
+some_frame None owner e = absurd (none_some owner e)
+some_frame (Some f) owner e = refl
 
-pub calm_acknowledge : (files : List File) (history : List Event) (number : ℕ) → AreCalm files history (Acknowledge number ∷ [])
-calm_acknowledge files history number file page is = record {
-  before = sym (touched_after-append file page false history (Acknowledge number ∷ [])) ∙ is;
-  same = ap (λ (m : ℕ → ℕ → List ℕ). m file page) (after-append (memory_of files) history (Acknowledge number ∷ []));
-}
+kept_size : (s : State) → IsSound s → (copy : ℕ) (owner : FilePage) → page_of (get_or s.hardware.memory.copies copy None) ≡ Some owner → length (bytes_of (get_or s.hardware.memory.copies copy None)) ≡ 4096
+kept_size s sound copy owner is = by (get_or s.hardware.memory.copies copy None) refl is
+  where
+    by : (o : Option Frame) → get_or s.hardware.memory.copies copy None ≡ o → page_of o ≡ Some owner → length (bytes_of o) ≡ 4096
+    by None e is = absurd (none_some owner is)
+    by (Some kept) e is = sound.memory.memory.copies_whole copy kept e
 
--- the batches that aren't committed aren't in this prefix
-abbrev IsFresh : State → List Event → Type 0
-IsFresh x before = (y : WriteOut) → Contains x.write_outs.batches y → has_committed y ≡ false → Contains before (Mark y.batch.mark) → ⊥
+pub size_at_mark : (s : State) → IsSound s → (owner : FilePage) → length (bytes_at_mark s.hardware.memory owner) ≤ 4096
+size_at_mark s sound owner = elim (cases_Bool (list_any (is_of_page owner) s.hardware.memory.copies)) [
+  | inl copied ↦
+      (let at = bytes_with-at owner s.hardware.memory.copies (bytes_with owner s.hardware.memory.frames []) copied in
+      omega (arith, ap length at.2, kept_size s sound at.0 owner at.1))
+  | inr none ↦
+      (let same = ap length (bytes_with-none owner s.hardware.memory.copies (bytes_with owner s.hardware.memory.frames []) none) in
+      elim (cases_Bool (list_any (is_of_page owner) s.hardware.memory.frames)) [
+        | inl there ↦
+            (let at = bytes_with-at owner s.hardware.memory.frames [] there in
+            let whole = sound.memory.memory.frames_whole at.0 (some_frame (frame_at s.hardware.memory at.0) owner at.1) in
+            omega (arith, same, ap length at.2, whole))
+        | inr absent ↦ omega (arith, same, ap length (bytes_with-none owner s.hardware.memory.frames [] absent))
+      ])
+]
 
-module _ (files : List File) (told : Told) (s x : State) (old new : ℕ → List ℕ) (w : IsWritten files told s old new) (events : List Event) (calm : AreCalm files told.history events) (same : SameFiles s x)
-    (acks : (n : ℕ) → Contains events (Acknowledge n) → Contains w.marked (Mark n)) (marks : All (λ (y : WriteOut). Contains w.marked (Mark y.batch.mark)) x.write_outs.batches)
-    (ready : x.write_outs.broken ≡ true → change_in x.hardware.shootdown.lock ≡ Some Checkpoint → has_uncommitted x.write_outs.batches ≡ false) (whole : s.write_outs.broken ≡ false) (frozen : AreFrozenRecords x new)
-    (unmarked : (n : ℕ) → Contains events (Mark n) → ⊥) (same_marks : x.marks ≡ s.marks) (only : AreMarks (told.history ++ events) w.before w.marked x) where
-  abbrev now : Told
-  now = record told { history = told.history ++ events }
+pub size_of_record : (s : State) → IsSound s → length (record_asked s) ≡ 4096
+size_of_record s sound =
+    let few = size_at_mark s sound (next_page s) in
+    length-padded 4096 (take (length_of s (next_page s).file - 4096 * (next_page s).page) (bytes_at_mark s.hardware.memory (next_page s))) (omega (arith, few, length-take (length_of s (next_page s).file - 4096 * (next_page s).page) (bytes_at_mark s.hardware.memory (next_page s))))
 
-  -- with another Old
-  pub written_on : (other : ℕ → List ℕ) (before : List Event) → AreContentsOf files (told.history ++ events) x other before → HasAcknowledged before (told.history ++ events) → IsFresh x before → AreMarks (told.history ++ events) before w.marked x → IsWritten files now x other new
-  written_on other before are acknowledged fresh only = record {
-    before = before;
-    old_are = are;
-    acknowledged = acknowledged;
-    marked = w.marked;
-    new_are = contents_more files told.history events s x same new w.marked w.new_are;
-    grown = acknowledged_more w.marked told.history events acks w.grown;
-    marks = marks;
-    fresh = fresh;
-    only = only;
-    numbered = λ n has. elim (Contains-append_cases told.history events (Mark n) has) [ inl was ↦ subst (λ m. n ≤ m) (sym same_marks) (w.numbered n was) | inr this ↦ absurd (unmarked n this) ];
-    ready = ready;
-    clean = inr (λ owner is untouched.
-        let still = calm owner.file owner.page untouched in
-        part_as s x same owner new (after (memory_of files) (told.history ++ events) owner.file owner.page)
-        (clean owner (in_file_as s x same owner is) still.before ∙ sym (ap (within_file s owner) still.same)));
-    frozen = frozen;
-  }
-    where
-      clean : (owner : FilePage) → IsInFile s owner → is_touched told.history owner.file owner.page ≡ false → within_file s owner (new (home_of s.table owner)) ≡ within_file s owner (after (memory_of files) told.history owner.file owner.page)
-      clean owner is untouched = elim w.clean [ inl lost ↦ absurd (both_ways s.write_outs.broken whole lost.broken) | inr are ↦ are owner is untouched ]
+-- ---- the page whose record comes next
 
-  -- with the same Old
-  pub written_same : ((n : ℕ) → Contains events (Acknowledge n) → Contains w.before (Mark n)) → IsFresh x w.before → IsWritten files now x old new
-  written_same old_acks fresh = written_on old w.before (contents_more files told.history events s x same old w.before w.old_are) (acknowledged_more w.before told.history events old_acks w.acknowledged) fresh only
+-- a stage that writes a record
+record_stage : (o : Option Stage) (i : ℕ) → option_and_then record_at o ≡ Some i → o ≡ Some (Recording i)
+record_stage (Some (Recording k)) i e = ap (λ n. Some (Recording n)) (some_same k i e)
+record_stage o i e = absurd (none_some i e)
 
-  -- where New is Old, too
-  pub written_new : IsFresh x w.marked → ((n : ℕ) → IsWaiting x.write_outs.batches n → ⊥) → IsWritten files now x new new
-  written_new fresh none = written_on new w.marked (contents_more files told.history events s x same new w.marked w.new_are) (acknowledged_more w.marked told.history events acks w.grown) fresh (marks_settled w.before w.marked (told.history ++ events) x none only)
+-- the place of a record in its batch, and the batch
+pub record IsRecording (batches : List WriteOut) (i : ℕ) : Type 0 where
+  pub w : WriteOut
+  pub is : current batches ≡ Some w
+  pub at : next_stage w ≡ Some (Recording i)
+
+recording : (batches : List WriteOut) (i : ℕ) → option_and_then next_record (current batches) ≡ Some i → IsRecording batches i
+recording batches i e = by (current batches) refl e
+  where
+    by : (o : Option WriteOut) → current batches ≡ o → option_and_then next_record o ≡ Some i → IsRecording batches i
+    by None is e = absurd (none_some i e)
+    by (Some w) is e = record { w = w; is = is; at = record_stage (next_stage w) i e }
+
+-- its home block is the first that waits
+pub record IsFirst (batches : List WriteOut) (i : ℕ) : Type 0 where
+  pub w : WriteOut
+  pub is : current batches ≡ Some w
+  pub at : next_stage w ≡ Some (Recording i)
+  pub rest : List ℕ
+  pub first : flat_map (λ (x : WriteOut). drop x.steps x.batch.homes) batches ≡ get_or w.batch.homes i 0 ∷ rest
+
+first_waiting : (batches : List WriteOut) (i : ℕ) → AreInOrder batches → IsRecording batches i → IsFirst batches i
+first_waiting batches i ordered r = elim (cases_Bool (has_uncommitted batches)) [
+  | inr none ↦ absurd (both_ways (has_committed r.w) (committed-at r.w (Recording i) r.at) (current_committed batches r.w none r.is))
+  | inl has ↦
+      (let n = newest_of batches ordered has in
+      let is : current batches ≡ Some n.newest = ap current n.are ∙ current-newest n.others n.newest n.uncommitted in
+      let same : r.w ≡ n.newest = some_same r.w n.newest (sym r.is ∙ is) in
+      let place = stage_at-is (length r.w.batch.homes) r.w.steps r.at in
+      let behind : drop r.w.steps r.w.batch.homes ≡ get_or r.w.batch.homes i 0 ∷ drop (r.w.steps + 1) r.w.batch.homes =
+      drop_more r.w.batch.homes r.w.steps 0 (omega (arith, place.0, place.1)) ∙ ap (λ k. get_or r.w.batch.homes k 0 ∷ drop (r.w.steps + 1) r.w.batch.homes) place.0 in
+      let found : IsFirst batches i = record {
+        w = r.w;
+        is = r.is;
+        at = r.at;
+        rest = drop (r.w.steps + 1) r.w.batch.homes;
+        first = ap (flat_map (λ (x : WriteOut). drop x.steps x.batch.homes)) n.are
+            ∙ flat_map-append (λ (x : WriteOut). drop x.steps x.batch.homes) n.others (n.newest ∷ [])
+            ∙ ap (λ (l : List ℕ). l ++ flat_map (λ (x : WriteOut). drop x.steps x.batch.homes) (n.newest ∷ [])) (all_committed n.others (older_committed n.others n.newest n.older))
+            ∙ append-nil (drop n.newest.steps n.newest.batch.homes)
+            ∙ ap (λ (x : WriteOut). drop x.steps x.batch.homes) (sym same) ∙ behind;
+      } in found)
+]
+
+pub record IsNext (s : State) (i : ℕ) : Type 0 where
+  pub w : WriteOut
+  pub is : current s.write_outs.batches ≡ Some w
+  pub at : next_stage w ≡ Some (Recording i)
+  pub some : 0 < length s.checkpoint.frozen
+  pub home : home_of s.table (next_page s) ≡ get_or w.batch.homes i 0
+
+first_page : (f : FilePage → ℕ) (pages : List FilePage) (d : FilePage) (home : ℕ) (rest : List ℕ) → map f pages ≡ home ∷ rest → (0 < length pages) × (f (get_or pages 0 d) ≡ home)
+first_page f [] d home rest e = cc
+first_page f (x ∷ xs) d home rest e = (omega arith, ap (λ (l : List ℕ). get_or l 0 0) e)
+
+pub next_of : (s : State) → IsSound s → AreInOrder s.write_outs.batches → s.write_outs.broken ≡ false → (i : ℕ) → outs_record s.write_outs ≡ Some i → IsNext s i
+next_of s sound ordered whole i e =
+    let some : option_and_then next_record (current s.write_outs.batches) ≡ Some i = sym (cond-false s.write_outs.broken None (option_and_then next_record (current s.write_outs.batches)) whole) ∙ e in
+    let first = first_waiting s.write_outs.batches i ordered (recording s.write_outs.batches i some) in
+    let page = first_page (home_of s.table) s.checkpoint.frozen (record { file = 0; page = 0 }) (get_or first.w.batch.homes i 0) first.rest (whole_frozen s sound whole ∙ first.first) in
+    record { w = first.w; is = first.is; at = first.at; some = page.0; home = page.1 }
+
+-- the place of the record whose home block comes next
+home_record : (outs : WriteOutsValue) (home : ℕ) → outs.broken ≡ false → outs_home outs ≡ Some home → (i : ℕ) × (outs_record outs ≡ Some i)
+home_record outs home whole e =
+    let some : option_and_then next_home (current outs.batches) ≡ Some home = sym (cond-false outs.broken None (option_and_then next_home (current outs.batches)) whole) ∙ e in
+    let found = by (current outs.batches) some in
+    (found.0, cond-false outs.broken None (option_and_then next_record (current outs.batches)) whole ∙ found.1)
+  where
+    mapped : (f : ℕ → ℕ) (o : Option ℕ) → option_map f o ≡ Some home → (i : ℕ) × (o ≡ Some i)
+    mapped f None e = absurd (none_some home e)
+    mapped f (Some i) e = (i, refl)
+
+    by : (o : Option WriteOut) → option_and_then next_home o ≡ Some home → (i : ℕ) × (option_and_then next_record o ≡ Some i)
+    by None e = absurd (none_some home e)
+    by (Some w) e = mapped (λ k. get_or w.batch.homes k 0) (next_record w) e
+
+home_at : (outs : WriteOutsValue) (w : WriteOut) (i home : ℕ) → outs.broken ≡ false → current outs.batches ≡ Some w → next_stage w ≡ Some (Recording i) → outs_home outs ≡ Some home → get_or w.batch.homes i 0 ≡ home
+home_at outs w i home whole is at e =
+    some_same (get_or w.batch.homes i 0) home
+    (sym (cond-false outs.broken None (option_and_then next_home (current outs.batches)) whole
+    ∙ ap (option_and_then next_home) is ∙ ap (λ (o : Option Stage). option_map (λ k. get_or w.batch.homes k 0) (option_and_then record_at o)) at) ∙ e)
+
+-- the record that is asked for is New
+pub record_is_new : (s : State) (new : ℕ → List ℕ) → IsSound s → AreInOrder s.write_outs.batches → s.write_outs.broken ≡ false → AreFrozenRecords s new → (home : ℕ) → outs_home s.write_outs ≡ Some home → record_asked s ≡ new home
+record_is_new s new sound ordered whole frozen home e =
+    let r = home_record s.write_outs home whole e in
+    let next = next_of s sound ordered whole r.0 r.1 in
+    sym (frozen 0 (record { file = 0; page = 0 }) next.some) ∙ ap new (next.home ∙ home_at s.write_outs next.w r.0 home whole next.is next.at e)
+
+-- ---- a batch is committed
+
+-- the stage whose step commits a batch
+committing : (w : WriteOut) (o : Option Stage) (number : ℕ) → option_map_or (answer_at w.batch.mark) o Broken ≡ Committed number → (o ≡ Some Committing) × (w.batch.mark ≡ number)
+committing w None number e = cc
+committing w (Some (Recording i)) number e = cc
+committing w (Some Describing) number e = cc
+committing w (Some SyncingRecords) number e = cc
+committing w (Some Opening) number e = cc
+committing w (Some Committing) number e = (refl, committed_same w.batch.mark number e)
+  where
+    committed_same : (m n : ℕ) → Committed m ≡ Committed n → m ≡ n
+    committed_same m n e = cc
+committing w (Some (Applying i)) number e = cc
+committing w (Some SyncingHomes) number e = cc
+committing w (Some Closing) number e = cc
+committing w (Some Finishing) number e = cc
+
+pub record IsCommitting (batches : List WriteOut) (number : ℕ) : Type 0 where
+  pub w : WriteOut
+  pub there : Contains batches w
+  pub mark : w.batch.mark ≡ number
+  pub none : has_uncommitted (advanced batches) ≡ false
+
+pub commits : (batches : List WriteOut) (number : ℕ) → AreInOrder batches → ((w : WriteOut) → Contains batches w → 0 < length w.batch.homes) → option_map_or answer_of (current batches) Broken ≡ Committed number → IsCommitting batches number
+commits batches number ordered some e = by (current batches) refl e
+  where
+    by : (o : Option WriteOut) → current batches ≡ o → option_map_or answer_of o Broken ≡ Committed number → IsCommitting batches number
+    by None is e = cc
+    by (Some w) is e =
+        let stage = committing w (next_stage w) number e in
+        elim (cases_Bool (has_uncommitted batches)) [
+          | inr none ↦ absurd (both_ways (has_committed w) (committed-at w Committing stage.0) (current_committed batches w none is))
+          | inl has ↦
+              (let n = newest_of batches ordered has in
+              let same : w ≡ n.newest = some_same w n.newest (sym is ∙ ap current n.are ∙ current-newest n.others n.newest n.uncommitted) in
+              let there : Contains batches w = subst (λ (l : List WriteOut). Contains l w) (sym n.are) (subst (Contains (n.others ++ n.newest ∷ [])) (sym same) (Contains-push n.others n.newest)) in
+              let late : has_committed (advanced_of w) ≡ true = committed-at (advanced_of w) (Applying 0) (after_committing (length w.batch.homes) w.steps stage.0 (some w there)) in
+              let found : IsCommitting batches number = record {
+                w = w;
+                there = there;
+                mark = stage.1;
+                none = ap has_uncommitted (ap advanced n.are ∙ advanced-newest n.others n.newest n.uncommitted)
+                    ∙ list_any-append (λ (x : WriteOut). not (has_committed x)) n.others (advanced_of n.newest ∷ [])
+                    ∙ or_from (has_uncommitted n.others) (has_uncommitted (advanced_of n.newest ∷ [])) (older_committed n.others n.newest n.older)
+                    (or_from (not (has_committed (advanced_of n.newest))) false (not_from_true (has_committed (advanced_of n.newest)) (subst (λ (x : WriteOut). has_committed (advanced_of x) ≡ true) same late)) refl);
+              } in found)
+        ]
+
+-- ---- astep of the write-outs: Old and New stay, until the batch that wasn't committed is; then what was New is Old
 
 -- ---- what the state is after a step
 
 before_itself : (a b : FilePage) → IsBefore a b → b ≡ a → ⊥
 before_itself a b (inl less) e = let same : b.file ≡ a.file = ap (λ (o : FilePage). o.file) e in absurd (omega arith)
 before_itself a b (inr less) e = let same : b.page ≡ a.page = ap (λ (o : FilePage). o.page) e in absurd (omega (arith, less.1))
-
-before_trans : (a b c : FilePage) → IsBefore a b → IsBefore b c → IsBefore a c
-before_trans a b c (inl x) (inl y) = inl (omega arith)
-before_trans a b c (inl x) (inr y) = inl (omega (arith, y.0))
-before_trans a b c (inr x) (inl y) = inl (omega (arith, x.0))
-before_trans a b c (inr x) (inr y) = inr (x.0 ∙ y.0, omega (arith, x.1, y.1))
-
--- the first frozen page comes before each other
-before_each : (owner : FilePage) (owners : List FilePage) → AreRising (owner ∷ owners) → (k : ℕ) (d : FilePage) → k < length owners → IsBefore owner (get_or owners k d)
-before_each owner [] rising k d within = absurd (omega arith)
-before_each owner (next ∷ owners) rising zero d within = rising.0
-before_each owner (next ∷ owners) rising (suc k) d within = before_trans owner next (get_or owners k d) rising.0 (before_each next owners rising.1 k d (omega arith))
 
 later_differs : (pages : List FilePage) (first d : FilePage) (k : ℕ) → AreRising pages → k < length (drop 1 pages) → get_or (drop 1 pages) k d ≡ get_or pages 0 first → ⊥
 later_differs [] first d k rising lt e = absurd (omega arith)
@@ -147,10 +250,6 @@ module _ (s : State) (outs : WriteOutsValue) where
   same_files true = record { table = refl; lengths = refl }
   same_files false = record { table = refl; lengths = refl }
 
-  same_lock : (records : Bool) → (stepped s records outs).hardware.shootdown.lock ≡ s.hardware.shootdown.lock
-  same_lock true = refl
-  same_lock false = refl
-
   same_number : (records : Bool) → (stepped s records outs).marks ≡ s.marks
   same_number true = refl
   same_number false = refl
@@ -177,12 +276,12 @@ module _ (files : List File) (told : Told) (s : State) (seen : List ℕ) (may : 
   pub flush_whole : s.write_outs.broken ≡ false
   flush_whole = second_not_refused (not_running s.hardware.shootdown p) s.write_outs.broken refusals.Broken [] allowed
 
-  is_new : (home : ℕ) → outs_home s.write_outs ≡ Some home → next_record s ≡ new home
+  is_new : (home : ℕ) → outs_home s.write_outs ≡ Some home → record_asked s ≡ new home
   is_new home e = record_is_new s new sound stands.sound.ordered flush_whole w.frozen home e
 
   -- what a crash within it leaves
   pub flush_within : (c : List ℕ) → TornFromWork (work_asked s) may c → LeftWithin s.table old new (current_stage s.write_outs) c
-  flush_within c torn = stands_within s.table old new s.write_outs seen may (next_record s) (size_of_record s sound) stands flush_whole some is_new c torn
+  flush_within c torn = stands_within s.table old new s.write_outs seen may (record_asked s) (size_of_record s sound) stands flush_whole some is_new c torn
 
   -- no mark was lost so far
   never_lost : {x : State} → IsLost s → IsLost x
@@ -202,8 +301,8 @@ module _ (files : List File) (told : Told) (s : State) (seen : List ℕ) (may : 
   flush_failed x seen' may' is left = subst (λ (y : State). IsDurable files (record told { history = told.history ++ [] }) y seen' may') (sym is) (record {
     old = old;
     new = new;
-    stands = stands_failed s.table old new s.write_outs seen may (next_record s) (size_of_record s sound) stands flush_whole some is_new seen' may' left;
-    written = written_same files told s (after_failure s) old new w [] (calm_none files told.history) (record { table = refl; lengths = refl }) (λ n has. absurd (omega (arith, has.1))) w.marks (λ broken held. not_busy held) flush_whole (λ k d lt. absurd (omega arith))
+    stands = stands_failed s.table old new s.write_outs seen may (record_asked s) (size_of_record s sound) stands flush_whole some is_new seen' may' left;
+    written = written_same files told s (after_failure s) old new w [] (calm_none files told.history) (record { table = refl; lengths = refl }) (λ n has. absurd (omega (arith, has.1))) w.marks (λ broken held. not_busy held) never_lost (λ k d lt. absurd (omega arith))
         (λ n has. absurd (omega (arith, has.1))) refl (marks_more w.before w.marked told.history [] s (after_failure s) (λ n has. absurd (omega (arith, has.1))) (λ n wait. inr wait) never_lost w.only) (λ n has. absurd (omega (arith, has.1))) w.fresh;
   })
 
@@ -216,7 +315,7 @@ module _ (files : List File) (told : Told) (s : State) (seen : List ℕ) (may : 
     after_it = stepped s records outs
 
     stands_now : IsStanding s.table outs old new (worked seen (work_asked s)) may'
-    stands_now = stands_after s.table old new s.write_outs seen may (next_record s) (size_of_record s sound) stands flush_whole some is_new may' left sure
+    stands_now = stands_after s.table old new s.write_outs seen may (record_asked s) (size_of_record s sound) stands flush_whole some is_new may' left sure
 
     stands_as : (other : ℕ → List ℕ) → IsStanding s.table outs other new (worked seen (work_asked s)) may' → IsStanding after_it.table after_it.write_outs other new (worked seen (work_asked s)) may'
     stands_as other is =
@@ -254,7 +353,7 @@ module _ (files : List File) (told : Told) (s : State) (seen : List ℕ) (may : 
       old = old;
       new = new;
       stands = stands_as old stands_now;
-      written = written_same files told s after_it old new w [] (calm_none files told.history) (same_files s outs records) (λ n has. absurd (omega (arith, has.1))) marks_now (ready_now other) flush_whole (stepped_records s outs records new sound w.frozen)
+      written = written_same files told s after_it old new w [] (calm_none files told.history) (same_files s outs records) (λ n has. absurd (omega (arith, has.1))) marks_now (ready_now other) never_lost (stepped_records s outs records new sound w.frozen)
           (λ n has. absurd (omega (arith, has.1))) (same_number s outs records)
           (marks_more w.before w.marked told.history [] s after_it (λ n has. absurd (omega (arith, has.1))) (λ n wait. elim (waits_now n wait) [ inl still ↦ inr still | inr e ↦ absurd (uncommitting n e) ]) never_lost w.only) (λ n has. absurd (omega (arith, has.1))) fresh_still;
     }
@@ -270,7 +369,7 @@ module _ (files : List File) (told : Told) (s : State) (seen : List ℕ) (may : 
           old = new;
           new = new;
           stands = stands_as new (stands_other s.table old new new outs (worked seen (work_asked s)) may' none stands_now);
-          written = written_new files told s after_it old new w (Acknowledge number ∷ []) (calm_acknowledge files told.history number) (same_files s outs records) (acknowledges in_new) marks_now (ready_now (λ e. never number (sym is ∙ e))) flush_whole (stepped_records s outs records new sound w.frozen)
+          written = written_new files told s after_it old new w (Acknowledge number ∷ []) (calm_acknowledge files told.history number) (same_files s outs records) (acknowledges in_new) marks_now (ready_now (λ e. never number (sym is ∙ e))) never_lost (stepped_records s outs records new sound w.frozen)
               (acknowledge_no_mark number) (same_number s outs records)
               (marks_more w.before w.marked told.history (Acknowledge number ∷ []) s after_it (acknowledge_no_mark number) (λ n wait. elim (waits_now n wait) [ inl still ↦ inr still | inr e ↦ inl (this_acked n (sym is ∙ e)) ]) never_lost w.only)
               (λ y there early has. none_uncommitted outs.batches y none (batches_now y there) early) (λ n wait. none_uncommitted outs.batches wait.w none (batches_now wait.w wait.there) wait.early);
@@ -283,7 +382,4 @@ module _ (files : List File) (told : Told) (s : State) (seen : List ℕ) (may : 
         this_acked n e = let same : number ≡ n = cc in subst (λ k. Contains (told.history ++ Acknowledge number ∷ []) (Acknowledge k)) same (Contains-push told.history (Acknowledge number))
 
         acknowledges : Contains w.marked (Mark number) → (n : ℕ) → Contains (Acknowledge number ∷ []) (Acknowledge n) → Contains w.marked (Mark n)
-        acknowledges has n there = elim (Contains-push_cases [] (Acknowledge number) (Acknowledge n) there) [
-          | inl none ↦ absurd (omega (arith, none.1))
-          | inr e ↦ subst (λ k. Contains w.marked (Mark k)) (acknowledge_same number n e) has
-        ]
+        acknowledges has n there = subst (λ k. Contains w.marked (Mark k)) (acknowledge_same number n (only_one (Acknowledge number) (Acknowledge n) there)) has

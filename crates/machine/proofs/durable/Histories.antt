@@ -1,20 +1,18 @@
 -- Histories that grow: the memory after them, the pages that they touch, their prefixes, and which marks are acknowledged, wait or are lost.
-use Rattle.std.proofs.Common.{◌≡◌, ℕ, ◌+◌, ◌*◌, ◌/◌, ◌%◌, ◌<◌, ◌≤◌, Bool, true, false, ◌&&◌, eqb, if◌then◌else◌, List, [], ◌∷◌, ◌++◌, length, take, drop, refl, sym, ap, ◌∙◌, inl, inr, arith, ◌⊎◌, cond, subst, append_assoc, ◌↔◌}
-use Rattle.std.proofs.lemmas.Bool.{cond-true, cond-false, cond_both, and_from, and_left, and_right, eq-eqb, ne_eqb, cases_eq, both_ways, eqb-true, and_parts, false_from_ne_true}
-use Rattle.std.proofs.lemmas.List.{length-take, append-nil}
-use Rattle.volume_codec.specs.Files.{File}
-use Rattle.volume_codec.proofs.Public.{length-padded}
-use Rattle.frames.specs.Frames.{overwrite}
-use Rattle.frames.proofs.Public.{length-overwrite}
-use Rattle.machine.specs.History.{Memory, Event, Store, Mark, Acknowledge, memory_of, file_bytes, stored, after, touched_after, is_touched, unmarked_after, has_unmarked}
-use Rattle.std.specs.List.{Contains}
-use Rattle.std.proofs.lemmas.List.Elements.{Contains-append_left, Contains-append_cases, Contains-push_cases}
-use Rattle.machine.specs.inside.Tracking.{HasAcknowledged, IsLost, IsWaiting, AreMarks, AreTouched}
-use Rattle.machine.proofs.durable.Lists.{contains_none}
-use Rattle.machine.specs.State.{State}
-use Rattle.page_entry.specs.declared.numbers.FilePage.{FilePage}
-use Rattle.machine.specs.Rules.{MarkMade}
-use Rattle.machine.specs.Told.{Told}
+use Rattle.machine.proofs.Names.{◌≡◌, ℕ, ◌+◌, ◌*◌, ◌/◌, ◌%◌, ◌<◌, ◌≤◌, Bool, true, false, ◌&&◌, eqb, if◌then◌else◌}
+use Rattle.machine.proofs.Names.{List, [], ◌∷◌, ◌++◌, length, take, drop, refl, sym, ap, ◌∙◌, inl, inr, arith, ◌⊎◌}
+use Rattle.machine.proofs.Names.{cond, subst, append_assoc, ◌↔◌, ◌-◌, get_or, Some, cond-true, cond-false, cond_both}
+use Rattle.machine.proofs.Names.{and_from, and_left, and_right, eq-eqb, ne_eqb, cases_eq, both_ways, eqb-true}
+use Rattle.machine.proofs.Names.{and_parts, false_from_ne_true, length-take, append-nil, File, length-padded, overwrite}
+use Rattle.machine.proofs.Names.{length-overwrite, Memory, Event, Mark, Acknowledge, memory_of, file_bytes, stored}
+use Rattle.machine.proofs.Names.{after, touched_after, is_touched, unmarked_after, has_unmarked, Contains, All}
+use Rattle.machine.proofs.Names.{Contains-append_left, Contains-append_cases, Contains-get_or}
+use Rattle.machine.proofs.Names.{HasAcknowledged, IsLost, IsWaiting, AreMarks, AreTouched, change_in, HasParts}
+use Rattle.machine.proofs.Names.{AreContentsOf, IsWritten, State, home_of, cut_at_end, FilePage, MarkMade}
+use Rattle.machine.proofs.Names.{bytes_at_mark, Told, SuperValue, WriteOut, has_committed, WriteOutsValue}
+use Rattle.machine.proofs.Names.{has_uncommitted, Checkpoint, IsInFile, within_file}
+use Rattle.machine.specs.History.{Store}
+use Rattle.machine.proofs.durable.Lists.{contains_none, first_or, only_one}
 
 -- ---- the memory after a history and the pages that it touches, one event at a time
 
@@ -147,10 +145,10 @@ pub only_itself : (history : List Event) (number n : ℕ) → Contains (marked_b
 only_itself history number n has = by (has_unmarked history) has
   where
     by : (waits : Bool) → Contains (Mark number ∷ (cond waits [] (Acknowledge number ∷ []))) (Acknowledge n) → (waits ≡ false) × (number ≡ n)
-    by true has = elim (Contains-push_cases [] (Mark number) (Acknowledge n) has) [ inl none ↦ absurd (contains_none (Acknowledge n) none) | inr e ↦ absurd (mark_not number n e) ]
-    by false has = elim (Contains-push_cases (Mark number ∷ []) (Acknowledge number) (Acknowledge n) has) [
-      | inl first ↦ elim (Contains-push_cases [] (Mark number) (Acknowledge n) first) [ inl none ↦ absurd (contains_none (Acknowledge n) none) | inr e ↦ absurd (mark_not number n e) ]
-      | inr e ↦ (refl, acknowledge_same number n e)
+    by true has = absurd (mark_not number n (only_one (Mark number) (Acknowledge n) has))
+    by false has = elim (first_or (Mark number) (Acknowledge number ∷ []) (Acknowledge n) has) [
+      | inl e ↦ absurd (mark_not number n e)
+      | inr rest ↦ (refl, acknowledge_same number n (only_one (Acknowledge number) (Acknowledge n) rest))
     ]
 
 mark_same : (m n : ℕ) → Mark m ≡ Mark n → m ≡ n
@@ -161,45 +159,31 @@ acknowledge_not m n e = cc
 
 -- an acknowledgement is no mark
 pub acknowledge_no_mark : (number n : ℕ) → Contains (Acknowledge number ∷ []) (Mark n) → ⊥
-acknowledge_no_mark number n has = elim (Contains-push_cases [] (Acknowledge number) (Mark n) has) [ inl none ↦ contains_none (Mark n) none | inr e ↦ acknowledge_not number n e ]
+acknowledge_no_mark number n has = acknowledge_not number n (only_one (Acknowledge number) (Mark n) has)
 
 -- and what a mark adds has no other mark
 pub only_marked : (history : List Event) (number n : ℕ) → Contains (marked_by history number) (Mark n) → number ≡ n
 only_marked history number n has = by (has_unmarked history) has
   where
-    first : Contains (Mark number ∷ []) (Mark n) → number ≡ n
-    first has = elim (Contains-push_cases [] (Mark number) (Mark n) has) [ inl none ↦ absurd (contains_none (Mark n) none) | inr e ↦ mark_same number n e ]
-
     by : (waits : Bool) → Contains (Mark number ∷ (cond waits [] (Acknowledge number ∷ []))) (Mark n) → number ≡ n
-    by true has = first has
-    by false has = elim (Contains-push_cases (Mark number ∷ []) (Acknowledge number) (Mark n) has) [ inl before ↦ first before | inr e ↦ absurd (acknowledge_not number n e) ]
+    by true has = mark_same number n (only_one (Mark number) (Mark n) has)
+    by false has = elim (first_or (Mark number) (Acknowledge number ∷ []) (Mark n) has) [ inl e ↦ mark_same number n e | inr rest ↦ absurd (acknowledge_no_mark number n rest) ]
 
 -- ---- events that acknowledge nothing and mark nothing: none, or a store
 
 abbrev pub IsQuiet : List Event → Type 0
 IsQuiet events = (events ≡ []) ⊎ ((file : ℕ) × (offset : ℕ) × (bytes : List ℕ) × (events ≡ Store file offset bytes ∷ []))
 
-store_not : (file offset n : ℕ) (bytes : List ℕ) → Store file offset bytes ≡ Acknowledge n → ⊥
-store_not file offset n bytes e = cc
+-- what is among them is a store
+quiet_store : (events : List Event) (e : Event) → IsQuiet events → Contains events e → (file : ℕ) × (offset : ℕ) × (bytes : List ℕ) × (Store file offset bytes ≡ e)
+quiet_store events e (inl none) has = absurd (contains_none e (subst (λ (l : List Event). Contains l e) none has))
+quiet_store events e (inr store) has = (store.0, store.1, store.2, only_one (Store store.0 store.1 store.2) e (subst (λ (l : List Event). Contains l e) store.3 has))
 
 pub quiet_acknowledges : (events : List Event) (n : ℕ) → IsQuiet events → Contains events (Acknowledge n) → ⊥
-quiet_acknowledges events n (inl none) has = contains_none (Acknowledge n) (subst (λ (l : List Event). Contains l (Acknowledge n)) none has)
-quiet_acknowledges events n (inr store) has =
-    elim (Contains-push_cases [] (Store store.0 store.1 store.2) (Acknowledge n) (subst (λ (l : List Event). Contains l (Acknowledge n)) store.3 has)) [
-      | inl none ↦ contains_none (Acknowledge n) none
-      | inr e ↦ store_not store.0 store.1 n store.2 e
-    ]
-
-store_no_mark : (file offset n : ℕ) (bytes : List ℕ) → Store file offset bytes ≡ Mark n → ⊥
-store_no_mark file offset n bytes e = cc
+quiet_acknowledges events n quiet has = let store = (quiet_store events (Acknowledge n) quiet has).3 in cc
 
 pub quiet_marks : (events : List Event) (n : ℕ) → IsQuiet events → Contains events (Mark n) → ⊥
-quiet_marks events n (inl none) has = contains_none (Mark n) (subst (λ (l : List Event). Contains l (Mark n)) none has)
-quiet_marks events n (inr store) has =
-    elim (Contains-push_cases [] (Store store.0 store.1 store.2) (Mark n) (subst (λ (l : List Event). Contains l (Mark n)) store.3 has)) [
-      | inl none ↦ contains_none (Mark n) none
-      | inr e ↦ store_no_mark store.0 store.1 n store.2 e
-    ]
+quiet_marks events n quiet has = let store = (quiet_store events (Mark n) quiet has).3 in cc
 
 -- a page that a longer history hasn't touched, the shorter one hasn't, and its bytes are the same
 pub record IsUntouched (memory : Memory) (history events : List Event) (file page : ℕ) : Type 0 where
@@ -310,3 +294,161 @@ module _ (told : Told) (s : State) (p number : ℕ) (new : State) (mark : MarkMa
       empty : (pages : List FilePage) → ((owner : FilePage) → Contains pages owner → ⊥) → pages ≡ []
       empty [] none = refl
       empty (owner ∷ pages) none = absurd (none owner (0, omega arith, refl))
+
+-- ---- acts that leave the write-outs and what their records are: what the device recovers to goes with what is told
+
+-- ---- the files stay
+
+pub record SameFiles (s x : State) : Type 0 where
+  pub table : x.table ≡ s.table
+  pub lengths : x.lengths ≡ s.lengths
+
+pub in_file_as : (s x : State) → SameFiles s x → (owner : FilePage) → IsInFile x owner → IsInFile s owner
+in_file_as s x same owner is = record {
+  there = subst (λ (t : SuperValue). owner.file < length t.files) same.table is.there;
+  inside = subst (λ (l : List ℕ). 4096 * owner.page < get_or l owner.file 0) same.lengths is.inside;
+}
+
+-- a fact on the part of a page in its file, and its home block
+pub part_as : (s x : State) → SameFiles s x → (owner : FilePage) (contents : ℕ → List ℕ) (bytes : List ℕ) → within_file s owner (contents (home_of s.table owner)) ≡ within_file s owner bytes → within_file x owner (contents (home_of x.table owner)) ≡ within_file x owner bytes
+part_as s x same owner contents bytes e =
+    subst (λ (l : List ℕ). take (get_or l owner.file 0 - 4096 * owner.page) (contents (home_of x.table owner)) ≡ take (get_or l owner.file 0 - 4096 * owner.page) bytes) (sym same.lengths)
+    (subst (λ (t : SuperValue). within_file s owner (contents (home_of t owner)) ≡ within_file s owner bytes) (sym same.table) e)
+
+pub parts_as : (s x : State) → SameFiles s x → (contents : ℕ → List ℕ) (memory : Memory) → HasParts s contents memory → HasParts x contents memory
+parts_as s x same contents memory parts owner is = part_as s x same owner contents (memory owner.file owner.page) (parts owner (in_file_as s x same owner is))
+
+-- contents after a prefix of a history are those after a prefix of a longer one
+pub contents_more : (files : List File) (history events : List Event) (s x : State) → SameFiles s x → (contents : ℕ → List ℕ) (prefix : List Event) → AreContentsOf files history s contents prefix → AreContentsOf files (history ++ events) x contents prefix
+contents_more files history events s x same contents prefix are = record {
+  rest = are.rest ++ events;
+  begins = begins_more prefix are.rest history events are.begins;
+  marked = are.marked;
+  whole = are.whole;
+  parts = parts_as s x same contents (after (memory_of files) prefix) are.parts;
+}
+
+-- ---- the write-outs, and what their records are, stay
+
+pub record Leaves (s x : State) : Type 0 where
+  pub files : SameFiles s x
+  pub write_outs : x.write_outs ≡ s.write_outs
+  pub marks : x.marks ≡ s.marks
+  -- no checkpoint is begun of a broken machine
+  pub lock : s.write_outs.broken ≡ true → change_in x.hardware.shootdown.lock ≡ Some Checkpoint → change_in s.hardware.shootdown.lock ≡ Some Checkpoint
+  pub frozen : x.checkpoint.frozen ≡ s.checkpoint.frozen
+  pub bytes : (owner : FilePage) → Contains s.checkpoint.frozen owner → bytes_at_mark x.hardware.memory owner ≡ bytes_at_mark s.hardware.memory owner
+
+-- the records of frozen pages are what was gathered
+abbrev pub AreFrozenRecords : State → (ℕ → List ℕ) → Type 0
+AreFrozenRecords s new = All (λ owner. new (home_of s.table owner) ≡ cut_at_end s owner (bytes_at_mark s.hardware.memory owner)) s.checkpoint.frozen
+
+-- one of them under another state
+pub record_as : (s x : State) → SameFiles s x → (owner : FilePage) (new : ℕ → List ℕ) → bytes_at_mark x.hardware.memory owner ≡ bytes_at_mark s.hardware.memory owner
+    → new (home_of s.table owner) ≡ cut_at_end s owner (bytes_at_mark s.hardware.memory owner) → new (home_of x.table owner) ≡ cut_at_end x owner (bytes_at_mark x.hardware.memory owner)
+record_as s x same owner new bytes e =
+    ap (λ (t : SuperValue). new (home_of t owner)) same.table ∙ e
+    ∙ sym (ap (λ (b : List ℕ). cut_at_end x owner b) bytes ∙ cut_as)
+  where
+    cut_as : cut_at_end x owner (bytes_at_mark s.hardware.memory owner) ≡ cut_at_end s owner (bytes_at_mark s.hardware.memory owner)
+    cut_as = ap (λ (l : List ℕ). cut_at_end (record s { lengths = l }) owner (bytes_at_mark s.hardware.memory owner)) same.lengths
+
+pub records_as : (s x : State) → Leaves s x → (new : ℕ → List ℕ) → AreFrozenRecords s new → AreFrozenRecords x new
+records_as s x leaves new are =
+    subst (λ (pages : List FilePage). All (λ owner. new (home_of x.table owner) ≡ cut_at_end x owner (bytes_at_mark x.hardware.memory owner)) pages) (sym leaves.frozen)
+    (λ k d lt. record_as s x leaves.files (get_or s.checkpoint.frozen k d) new (leaves.bytes (get_or s.checkpoint.frozen k d) (Contains-get_or s.checkpoint.frozen k d lt)) (are k d lt))
+
+-- ---- what is told grows by events that touch no page
+
+-- events that touch no page and change none
+abbrev pub AreCalm : List File → List Event → List Event → Type 0
+AreCalm files history events = (file page : ℕ) → is_touched (history ++ events) file page ≡ false → IsUntouched (memory_of files) history events file page
+
+pub calm_none : (files : List File) (history : List Event) → AreCalm files history []
+calm_none files history file page is = quiet_untouched (memory_of files) history [] file page (inl refl) is
+
+pub calm_acknowledge : (files : List File) (history : List Event) (number : ℕ) → AreCalm files history (Acknowledge number ∷ [])
+calm_acknowledge files history number file page is = record {
+  before = sym (touched_after-append file page false history (Acknowledge number ∷ [])) ∙ is;
+  same = ap (λ (m : ℕ → ℕ → List ℕ). m file page) (after-append (memory_of files) history (Acknowledge number ∷ []));
+}
+
+-- the batches that aren't committed aren't in this prefix
+abbrev pub IsFresh : State → List Event → Type 0
+IsFresh x before = (y : WriteOut) → Contains x.write_outs.batches y → has_committed y ≡ false → Contains before (Mark y.batch.mark) → ⊥
+
+module _ (files : List File) (told : Told) (s x : State) (old new : ℕ → List ℕ) (w : IsWritten files told s old new) (events : List Event) (calm : AreCalm files told.history events) (same : SameFiles s x)
+    (acks : (n : ℕ) → Contains events (Acknowledge n) → Contains w.marked (Mark n)) (marks : All (λ (y : WriteOut). Contains w.marked (Mark y.batch.mark)) x.write_outs.batches)
+    (ready : x.write_outs.broken ≡ true → change_in x.hardware.shootdown.lock ≡ Some Checkpoint → has_uncommitted x.write_outs.batches ≡ false) (lost_as : IsLost s → IsLost x) (frozen : AreFrozenRecords x new)
+    (unmarked : (n : ℕ) → Contains events (Mark n) → ⊥) (same_marks : x.marks ≡ s.marks) (only : AreMarks (told.history ++ events) w.before w.marked x) where
+  abbrev now : Told
+  now = record told { history = told.history ++ events }
+
+  -- with another Old
+  pub written_on : (other : ℕ → List ℕ) (before : List Event) → AreContentsOf files (told.history ++ events) x other before → HasAcknowledged before (told.history ++ events) → IsFresh x before → AreMarks (told.history ++ events) before w.marked x → IsWritten files now x other new
+  written_on other before are acknowledged fresh only = record {
+    before = before;
+    old_are = are;
+    acknowledged = acknowledged;
+    marked = w.marked;
+    new_are = contents_more files told.history events s x same new w.marked w.new_are;
+    grown = acknowledged_more w.marked told.history events acks w.grown;
+    marks = marks;
+    fresh = fresh;
+    only = only;
+    numbered = λ n has. elim (Contains-append_cases told.history events (Mark n) has) [ inl was ↦ subst (λ m. n ≤ m) (sym same_marks) (w.numbered n was) | inr this ↦ absurd (unmarked n this) ];
+    ready = ready;
+    clean = elim w.clean [
+      | inl lost ↦ inl (lost_as lost)
+      | inr clean ↦ inr (λ owner is untouched.
+          let still = calm owner.file owner.page untouched in
+          part_as s x same owner new (after (memory_of files) (told.history ++ events) owner.file owner.page)
+          (clean owner (in_file_as s x same owner is) still.before ∙ sym (ap (within_file s owner) still.same)))
+    ];
+    frozen = frozen;
+  }
+
+  -- with the same Old
+  pub written_same : ((n : ℕ) → Contains events (Acknowledge n) → Contains w.before (Mark n)) → IsFresh x w.before → IsWritten files now x old new
+  written_same old_acks fresh = written_on old w.before (contents_more files told.history events s x same old w.before w.old_are) (acknowledged_more w.before told.history events old_acks w.acknowledged) fresh only
+
+  -- where New is Old, too
+  pub written_new : IsFresh x w.marked → ((n : ℕ) → IsWaiting x.write_outs.batches n → ⊥) → IsWritten files now x new new
+  written_new fresh none = written_on new w.marked (contents_more files told.history events s x same new w.marked w.new_are) (acknowledged_more w.marked told.history events acks w.grown) fresh (marks_settled w.before w.marked (told.history ++ events) x none only)
+
+-- of what is told the history alone counts
+pub written_as : (files : List File) (told told' : Told) (s : State) (old new : ℕ → List ℕ) → told'.history ≡ told.history → IsWritten files told s old new → IsWritten files told' s old new
+written_as files told told' s old new same w =
+    let moved : (P : List Event → Type 0) → P told.history → P told'.history = λ P p. subst P (sym same) p in
+    record {
+      before = w.before;
+      old_are = moved (λ h. AreContentsOf files h s old w.before) w.old_are;
+      acknowledged = moved (HasAcknowledged w.before) w.acknowledged;
+      marked = w.marked;
+      new_are = moved (λ h. AreContentsOf files h s new w.marked) w.new_are;
+      grown = moved (HasAcknowledged w.marked) w.grown;
+      marks = w.marks;
+      fresh = w.fresh;
+      only = moved (λ h. AreMarks h w.before w.marked s) w.only;
+      numbered = moved (λ h. (n : ℕ) → Contains h (Mark n) → n ≤ s.marks) w.numbered;
+      ready = w.ready;
+      clean = moved (λ h. IsLost s ⊎ ((owner : FilePage) → IsInFile s owner → is_touched h owner.file owner.page ≡ false → within_file s owner (new (home_of s.table owner)) ≡ within_file s owner (after (memory_of files) h owner.file owner.page))) w.clean;
+      frozen = w.frozen;
+    }
+
+-- what the device recovers to goes with a history to which nothing or a store is added
+pub written_left : (files : List File) (told told' : Told) (events : List Event) (s x : State) (old new : ℕ → List ℕ) → told'.history ≡ told.history ++ events → IsQuiet events → Leaves s x → IsWritten files told s old new → IsWritten files told' x old new
+written_left files told told' events s x old new grows quiet leaves w =
+    let acks : (n : ℕ) (prefix : List Event) → Contains events (Acknowledge n) → Contains prefix (Mark n) = λ n prefix has. absurd (quiet_acknowledges events n quiet has) in
+    let unmarked : (n : ℕ) → Contains events (Mark n) → ⊥ = λ n has. quiet_marks events n quiet has in
+    let outs = leaves.write_outs in
+    let lost_as : IsLost s → IsLost x = λ lost. record { broken = ap (λ (o : WriteOutsValue). o.broken) outs ∙ lost.broken; no_mark = λ held. lost.no_mark (leaves.lock lost.broken held) } in
+    written_as files (record told { history = told.history ++ events }) told' x old new grows
+    (written_same files told s x old new w events (λ file page is. quiet_untouched (memory_of files) told.history events file page quiet is) leaves.files (λ n has. acks n w.marked has)
+    (subst (λ (o : WriteOutsValue). All (λ batch. Contains w.marked (Mark batch.batch.mark)) o.batches) (sym outs) w.marks)
+    (λ broken held.
+    let was = sym (ap (λ (o : WriteOutsValue). o.broken) outs) ∙ broken in
+    ap (λ (o : WriteOutsValue). has_uncommitted o.batches) outs ∙ w.ready was (leaves.lock was held))
+    lost_as (records_as s x leaves new w.frozen) unmarked leaves.marks
+    (marks_more w.before w.marked told.history events s x unmarked (λ n wait. inr (subst (λ (o : WriteOutsValue). IsWaiting o.batches n) (sym outs) wait)) lost_as w.only)
+    (λ n has. acks n w.before has) (λ y there early. w.fresh y (subst (λ (o : WriteOutsValue). Contains o.batches y) outs there) early))

@@ -1,83 +1,33 @@
 -- Home blocks: they lie in the volume, and no two pages of files share one.
-use Rattle.std.proofs.Common.{◌≡◌, ℕ, zero, suc, ◌+◌, ◌*◌, ◌<◌, ◌≤◌, List, [], ◌∷◌, length, map, take, get_or, ap, inl, inr, arith, ◌-◌, eqb, cond, false, ◌++◌, Option, Some, None, refl, sym, ◌∙◌, subst, true}
-use Rattle.std.proofs.lemmas.Bool.{cases_order, cond-true, cond-false, cases_Bool, cases_lt, both_ways, ne_eqb, eqb-true, eqb-false, false_from_ne_true}
-use Rattle.page_entry.specs.declared.numbers.FilePage.{FilePage}
-use Rattle.volume_codec.specs.Files.{TableFile, File}
-use Rattle.volume_codec.specs.Layout.{IsHome, first_home, block_at}
-use Rattle.volume_codec.specs.Super.{pages_of, total_pages, geometry_of}
-use Rattle.machine.specs.State.{State, home_of, length_of, cut_at_end, page_from}
-use Rattle.machine.specs.Durability.{IsInFile, within_file}
-use Rattle.machine.specs.inside.Sound.{IsSound}
-use Rattle.std.specs.List.{Contains, list_any, All}
-use Rattle.std.proofs.lemmas.List.{take_at, take_all, length-take, append-nil}
-use Rattle.volume_codec.specs.Text.{zeros, padded}
-use Rattle.volume_codec.proofs.Public.{zeros-nil}
-use Rattle.frames.specs.Frames.{Frame, frame_at, bytes_of, page_of}
-use Rattle.checkpoint.specs.Checkpoint.{Holds, is_of_page, is_frozen, same_page}
-use Rattle.machine.specs.Rules.{bytes_with, bytes_at_mark}
+use Rattle.machine.proofs.Names.{◌≡◌, ℕ, zero, suc, ◌+◌, ◌*◌, ◌<◌, ◌≤◌, List, [], ◌∷◌, length, map, take, get_or, ap}
+use Rattle.machine.proofs.Names.{inl, inr, arith, ◌-◌, eqb, cond, false, ◌++◌, Option, Some, None, refl, sym, ◌∙◌}
+use Rattle.machine.proofs.Names.{subst, true, cond-true, cond-false, cases_Bool, cases_lt, both_ways}
+use Rattle.machine.proofs.Names.{ne_eqb, eqb-true, eqb-false, false_from_ne_true, FilePage, TableFile, File, IsHome}
+use Rattle.machine.proofs.Names.{block_at, pages_of, total_pages, geometry_of, State, home_of, length_of}
+use Rattle.machine.proofs.Names.{cut_at_end, page_from, IsInFile, within_file, IsSound, Contains, list_any, All}
+use Rattle.machine.proofs.Names.{take_at, take_all, length-take, append-nil, zeros, padded, zeros-nil, Frame, frame_at}
+use Rattle.machine.proofs.Names.{bytes_of, page_of, Holds, is_of_page, is_frozen, same_page, bytes_with, bytes_at_mark}
+use Rattle.machine.proofs.Names.{total_pages-take_more, total_pages-take_le, All-contains, is_in_memory, WriteOut}
+use Rattle.machine.proofs.Names.{HasBlock, memory_of, after, is_touched, Told, IsTracked}
+use Rattle.machine.proofs.sound.Homes.{home-below, same_home}
 use Rattle.machine.proofs.durable.Lists.{none_some, contains_head, contains_cons, contains_unmapped}
 use Rattle.machine.proofs.durable.Pages.{holder, holder_of, bytes_with-none, bytes_with-held, in_memory}
-use Rattle.std.proofs.lemmas.List.Elements.{All-contains}
-use Rattle.fault.specs.Fault.{is_in_memory}
-use Rattle.journal.specs.WriteOut.{WriteOut}
-use Rattle.journal.specs.WriteOuts.{HasBlock}
-use Rattle.machine.specs.History.{memory_of, after, is_touched}
-use Rattle.machine.specs.Told.{Told}
-use Rattle.machine.specs.inside.Tracking.{IsTracked}
 
 -- the capacity of a file of a table
 abbrev pub capacity_at : List TableFile → ℕ → ℕ
 capacity_at fs i = get_or (map (λ f. f.capacity) fs) i 0
 
--- the blocks of a file come before those of the next ones
-pages_before : (fs : List TableFile) (i j : ℕ) → i < j → i < length fs → total_pages (take i fs) + pages_of (capacity_at fs i) ≤ total_pages (take j fs)
-pages_before [] i j lt there = absurd (omega arith)
-pages_before (f ∷ fs) zero (suc j) lt there = omega arith
-pages_before (f ∷ fs) (suc i) (suc j) lt there =
-    let rest : total_pages (take i fs) + pages_of (capacity_at fs i) ≤ total_pages (take j fs) = pages_before fs i j (omega arith) (omega arith) in
-    omega (arith, rest)
-pages_before (f ∷ fs) i zero lt there = absurd (omega arith)
-
-pages_within : (fs : List TableFile) (i : ℕ) → i < length fs → total_pages (take i fs) + pages_of (capacity_at fs i) ≤ total_pages fs
-pages_within [] i there = absurd (omega arith)
-pages_within (f ∷ fs) zero there = omega arith
-pages_within (f ∷ fs) (suc i) there =
-    let rest : total_pages (take i fs) + pages_of (capacity_at fs i) ≤ total_pages fs = pages_within fs i (omega arith) in
-    omega (arith, rest)
-
-page_below : (page n : ℕ) → 4096 * page < n → page < pages_of n
-page_below page n h = omega arith
-
-same_offset : (f t u a b : ℕ) → t ≡ u → f + t + a ≡ f + u + b → a ≡ b
-same_offset f t u a b e h = omega arith
+-- the blocks of a file lie among those of all
+pub pages_within : (fs : List TableFile) (i : ℕ) → i < length fs → total_pages (take i fs) + pages_of (capacity_at fs i) ≤ total_pages fs
+pages_within fs i there = omega (arith, total_pages-take_more fs i there, total_pages-take_le fs (i + 1))
 
 module _ (s : State) (sound : IsSound s) where
   -- a page in a file is one of those that the file's capacity has
   pub page_in_capacity : (owner : FilePage) → IsInFile s owner → owner.page < pages_of (capacity_at s.table.files owner.file)
-  page_in_capacity owner is = let low = sound.within owner.file in page_below owner.page (capacity_at s.table.files owner.file) (omega (arith, is.inside, low))
+  page_in_capacity owner is = let low = sound.within owner.file in omega (arith, is.inside, low)
 
   pub home_is : (owner : FilePage) → IsInFile s owner → IsHome (geometry_of s.table) (home_of s.table owner)
-  home_is owner is =
-      let below = page_in_capacity owner is in
-      let fits : total_pages (take owner.file s.table.files) + pages_of (capacity_at s.table.files owner.file) ≤ total_pages s.table.files = pages_within s.table.files owner.file is.there in
-      record { low = omega arith; high = omega (arith, below, fits) }
-
-  homes_apart : (a b : FilePage) → IsInFile s a → a.file < b.file → home_of s.table a < home_of s.table b
-  homes_apart a b is lt =
-      let below = page_in_capacity a is in
-      let before : total_pages (take a.file s.table.files) + pages_of (capacity_at s.table.files a.file) ≤ total_pages (take b.file s.table.files) = pages_before s.table.files a.file b.file lt is.there in
-      omega (arith, below, before)
-
-  -- two pages with one home block are one page
-  pub same_home : (a b : FilePage) → IsInFile s a → IsInFile s b → home_of s.table a ≡ home_of s.table b → a ≡ b
-  same_home a b is_a is_b e =
-      elim (cases_order a.file b.file) [
-        | inl same ↦
-            let pages : a.page ≡ b.page = same_offset (first_home s.table.layout s.table.slots) (total_pages (take a.file s.table.files)) (total_pages (take b.file s.table.files)) a.page b.page (ap (λ i. total_pages (take i s.table.files)) same) e in
-            λ i. record { file = same i; page = pages i }
-        | inr (inl lt) ↦ let before = homes_apart a b is_a lt in absurd (omega (arith, before, e))
-        | inr (inr gt) ↦ let before = homes_apart b a is_b gt in absurd (omega (arith, before, e))
-      ]
+  home_is owner is = record { low = omega arith; high = home-below s sound.within owner is }
 
 -- ---- the contents of a volume with the pages that a mark gathers
 
@@ -120,7 +70,7 @@ module _ (s : State) (sound : IsSound s) (new : ℕ → List ℕ) where
   overlaid-at [] owner in_files has = absurd (omega (arith, has.1))
   overlaid-at (x ∷ xs) owner in_files has = elim (cases_Bool (eqb (home_of s.table owner) (home_of s.table x))) [
     | inl same ↦
-        (let is : owner ≡ x = same_home s sound owner x (in_files owner has) (in_files x (contains_head x xs)) (eqb-true (home_of s.table owner) (home_of s.table x) same) in
+        (let is : owner ≡ x = same_home s sound.within owner x (in_files owner has) (in_files x (contains_head x xs)) (eqb-true (home_of s.table owner) (home_of s.table x) same) in
         cond-true (eqb (home_of s.table owner) (home_of s.table x)) (cut_at_end s x (bytes_at_mark s.hardware.memory x)) (overlaid s xs new (home_of s.table owner)) same
         ∙ ap (λ (o : FilePage). cut_at_end s o (bytes_at_mark s.hardware.memory o)) (sym is))
     | inr other ↦
@@ -136,7 +86,7 @@ module _ (s : State) (sound : IsSound s) (new : ℕ → List ℕ) where
   pub overlaid-elsewhere : (pages : List FilePage) (owner : FilePage) → ((o : FilePage) → Contains pages o → IsInFile s o) → IsInFile s owner → (Contains pages owner → ⊥) → overlaid s pages new (home_of s.table owner) ≡ new (home_of s.table owner)
   overlaid-elsewhere pages owner in_files is none = overlaid-other s pages new (home_of s.table owner) (λ has.
       let at = contains_unmapped (home_of s.table) pages (home_of s.table owner) has in
-      none (subst (Contains pages) (same_home s sound at.0 owner (in_files at.0 at.1) is at.2) at.1))
+      none (subst (Contains pages) (same_home s sound.within at.0 owner (in_files at.0 at.1) is at.2) at.1))
 
 -- ---- the bytes of a page at its mark, where none is frozen
 
@@ -163,7 +113,7 @@ no_batch s sound owner is absent has =
     let homes = All-contains (λ (x : WriteOut). All (λ home. (o : FilePage) × (home ≡ home_of s.table o) × (is_in_memory s.hardware.memory o ≡ true)) x.batch.homes) s.write_outs.batches w sound.write_outs.in_memory has.1 in
     let page = All-contains (λ home. (o : FilePage) × (home ≡ home_of s.table o) × (is_in_memory s.hardware.memory o ≡ true)) w.batch.homes (home_of s.table owner) homes has.2 in
     let at = holder_of s.hardware.memory page.0 page.2 in
-    let same : owner ≡ page.0 = same_home s sound owner page.0 is (sound.memory.in_files at.0 page.0 at.1) page.1 in
+    let same : owner ≡ page.0 = same_home s sound.within owner page.0 is (sound.memory.in_files at.0 page.0 at.1) page.1 in
     both_ways (is_in_memory s.hardware.memory owner) absent (ap (is_in_memory s.hardware.memory) same ∙ page.2)
 
 module _ (files : List File) (told : Told) (s : State) (seen : List ℕ) (may : List ℕ → Type 0) (t : IsTracked files told s seen may) where

@@ -1,8 +1,7 @@
 -- Lists and options: what is in them, and what isn't.
-use Rattle.std.proofs.Common.{◌≡◌, ℕ, zero, suc, Bool, true, List, [], ◌∷◌, ◌++◌, map, drop, Some, None, inl, inr, refl, sym, ap, ◌∙◌, arith, append_assoc}
-use Rattle.std.specs.List.{Contains, flat_map, find}
-use Rattle.std.proofs.lemmas.Bool.{cond-true, cond-false, cases_Bool}
-use Rattle.std.proofs.lemmas.List.Elements.{Contains-append_cases}
+use Rattle.machine.proofs.Names.{◌≡◌, ◌⊎◌, ℕ, zero, suc, List, [], ◌∷◌, ◌++◌, map, drop, Some, None, inl}
+use Rattle.machine.proofs.Names.{inr, refl, sym, ap, ◌∙◌, arith, append_assoc, Contains, flat_map}
+use Rattle.machine.proofs.Names.{Contains-append_cases}
 
 -- ---- options
 
@@ -12,13 +11,18 @@ some_same x y e = cc
 pub none_some : {X : Type 0} (x : X) → None ≡ Some x → ⊥
 none_some x e = cc
 
-pub some_none : {X : Type 0} (x : X) → Some x ≡ None → ⊥
-some_none x e = cc
-
 -- ---- what is in a list
 
 pub contains_none : {X : Type 0} (x : X) → Contains [] x → ⊥
 contains_none x has = absurd (omega (arith, has.1))
+
+-- the first, or one of the others
+pub first_or : {X : Type 0} (y : X) (ys : List X) (x : X) → Contains (y ∷ ys) x → (y ≡ x) ⊎ Contains ys x
+first_or y ys x (zero, lt, e) = inl e
+first_or y ys x (suc k, lt, e) = inr (k, omega (arith, lt), e)
+
+pub only_one : {X : Type 0} (y x : X) → Contains (y ∷ []) x → y ≡ x
+only_one y x has = elim (first_or y [] x has) [ inl e ↦ e | inr none ↦ absurd (contains_none x none) ]
 
 pub contains_head : {X : Type 0} (x : X) (xs : List X) → Contains (x ∷ xs) x
 contains_head x xs = (0, omega arith, refl)
@@ -46,14 +50,6 @@ contains_flat_map f [] y has = absurd (omega (arith, has.1))
 contains_flat_map f (x ∷ xs) y has = elim (Contains-append_cases (f x) (flat_map f xs) y has) [
   | inl here ↦ (x, contains_head x xs, here)
   | inr later ↦ (let r = contains_flat_map f xs y later in (r.0, contains_cons x xs r.0 r.1, r.2))
-]
-
--- what a search finds is in the list and passes
-pub found : {X : Type 0} (test : X → Bool) (xs : List X) (x : X) → find test xs ≡ Some x → Contains xs x × (test x ≡ true)
-found test [] x e = absurd (none_some x e)
-found test (y ∷ ys) x e = elim (cases_Bool (test y)) [
-  | inl passes ↦ (let same : y ≡ x = some_same y x (sym (cond-true (test y) (Some y) (find test ys) passes) ∙ e) in ((0, omega arith, same), ap test (sym same) ∙ passes))
-  | inr fails ↦ (let later = found test ys x (sym (cond-false (test y) (Some y) (find test ys) fails) ∙ e) in (contains_cons y ys x later.0, later.1))
 ]
 
 -- ---- lists made of others

@@ -1,30 +1,19 @@
 -- A mark: what was New becomes Old, and New gets the gathered pages; where nothing was stored both stay and Old plays no part; of a broken machine both stay and the mark is lost.
-use Rattle.std.proofs.Common.{◌≡◌, ◌<◌, ◌≤◌, ◌+◌, ◌^◌, ◌==◌, ◌⊎◌, ℕ, cond, Bool, true, false, not, List, [], ◌∷◌, ◌++◌, length, map, get_or, Some, None, inl, inr, refl, sym, ap, ◌∙◌, subst, arith, append_assoc}
-use Rattle.std.specs.List.{Contains, All, AllByRecursion}
-use Rattle.std.proofs.lemmas.Bool.{cond-true, cond-false, cases_Bool, both_ways, or_parts, not_from_true, not_from_false, false_from_ne_true}
-use Rattle.std.proofs.lemmas.List.Elements.{Contains-append_left, Contains-append_right, Contains-append_cases, Contains-push, Contains-push_cases, Contains-get_or, All-push, All-weaker, recursion_from_All}
-use Rattle.page_entry.specs.declared.numbers.FilePage.{FilePage}
-use Rattle.volume_codec.specs.Files.{File}
-use Rattle.volume_codec.specs.Layout.{GeometryValue, journals_of}
-use Rattle.volume_codec.specs.Super.{geometry_of}
-use Rattle.volume_codec.specs.Descriptor.{AreHomes}
-use Rattle.journal.specs.WriteOut.{WriteOut, begun_of, has_committed}
-use Rattle.journal.specs.WriteOuts.{WriteOutsValue, has_uncommitted, is_busy, next_batch, begun}
-use Rattle.journal.specs.inside.Standing.{IsStanding}
-use Rattle.journal.proofs.Public.{stands_begun, stands_other}
-use Rattle.spaces.specs.declared.change.Change.TheVariants.{Checkpoint}
-use Rattle.spaces.specs.Spaces.{Spaces}
-use Rattle.checkpoint.specs.Checkpoint.{CheckpointState, Gathers, without_notes}
-use Rattle.machine.specs.History.{Event, Memory, Mark, Acknowledge, memory_of, after, has_unmarked, is_touched}
-use Rattle.machine.specs.State.{State, home_of, cut_at_end}
-use Rattle.machine.specs.Rules.{MarkMade, end_change, with_batch, bytes_at_mark}
-use Rattle.machine.specs.inside.Sound.{IsSound}
-use Rattle.machine.specs.Told.{Told}
-use Rattle.machine.specs.inside.Tracking.{change_in, HasParts, AreContentsOf, HasAcknowledged, IsLost, IsWaiting, AreMarks, IsWritten, IsLatest, AreTouched}
-use Rattle.machine.specs.Durability.{IsInFile, within_file}
-use Rattle.machine.proofs.durable.Histories.{marked_by, after_mark, after_marked, only_itself, only_marked, unmarked_by_touched, in_history, acknowledged_more, some_touched}
+use Rattle.machine.proofs.Names.{◌≡◌, ◌<◌, ◌≤◌, ◌+◌, ◌^◌, ◌==◌, ℕ, cond, Bool, true, false, not, List, [], ◌∷◌}
+use Rattle.machine.proofs.Names.{◌++◌, length, map, get_or, Some, None, inl, inr, refl, sym, ap, ◌∙◌, subst, arith}
+use Rattle.machine.proofs.Names.{append_assoc, Contains, All, AllByRecursion, cond-true, cond-false, cases_Bool}
+use Rattle.machine.proofs.Names.{both_ways, or_parts, not_from_true, not_from_false, false_from_ne_true}
+use Rattle.machine.proofs.Names.{Contains-append_left, Contains-append_right, Contains-append_cases, Contains-push}
+use Rattle.machine.proofs.Names.{Contains-push_cases, Contains-get_or, All-push, All-weaker, recursion_from_All}
+use Rattle.machine.proofs.Names.{FilePage, File, GeometryValue, journals_of, geometry_of, AreHomes, WriteOut, begun_of}
+use Rattle.machine.proofs.Names.{has_committed, WriteOutsValue, has_uncommitted, is_busy, next_batch, begun, IsStanding}
+use Rattle.machine.proofs.Names.{stands_begun, stands_other, Checkpoint, Spaces, CheckpointState, Gathers}
+use Rattle.machine.proofs.Names.{without_notes, Event, Memory, Mark, Acknowledge, memory_of, after, has_unmarked}
+use Rattle.machine.proofs.Names.{is_touched, State, home_of, cut_at_end, MarkMade, end_change, with_batch}
+use Rattle.machine.proofs.Names.{bytes_at_mark, IsSound, Told, change_in, HasParts, AreContentsOf, HasAcknowledged}
+use Rattle.machine.proofs.Names.{IsWaiting, IsWritten, IsLatest, AreTouched, IsInFile, within_file}
+use Rattle.machine.proofs.durable.Histories.{marked_by, after_mark, after_marked, only_itself, only_marked, unmarked_by_touched, in_history, acknowledged_more, some_touched, contents_more}
 use Rattle.machine.proofs.durable.Uncommitted.{committed_frozen, none_uncommitted, begun_early}
-use Rattle.machine.proofs.durable.Leaves.{contents_more}
 use Rattle.machine.proofs.durable.Homes.{within_cut, overlaid, overlaid-other, overlaid-at, overlaid-elsewhere, bytes_at_mark-held}
 
 -- what the device recovers to goes with what is told
@@ -33,26 +22,6 @@ pub record IsDurable (files : List File) (told : Told) (s : State) (seen : List 
   pub new : ℕ → List ℕ
   pub stands : IsStanding s.table s.write_outs old new seen may_leave
   pub written : IsWritten files told s old new
-
--- of what is told the history alone counts
-pub written_as : (files : List File) (told told' : Told) (s : State) (old new : ℕ → List ℕ) → told'.history ≡ told.history → IsWritten files told s old new → IsWritten files told' s old new
-written_as files told told' s old new same w =
-    let moved : (P : List Event → Type 0) → P told.history → P told'.history = λ P p. subst P (sym same) p in
-    record {
-      before = w.before;
-      old_are = moved (λ h. AreContentsOf files h s old w.before) w.old_are;
-      acknowledged = moved (HasAcknowledged w.before) w.acknowledged;
-      marked = w.marked;
-      new_are = moved (λ h. AreContentsOf files h s new w.marked) w.new_are;
-      grown = moved (HasAcknowledged w.marked) w.grown;
-      marks = w.marks;
-      fresh = w.fresh;
-      only = moved (λ h. AreMarks h w.before w.marked s) w.only;
-      numbered = moved (λ h. (n : ℕ) → Contains h (Mark n) → n ≤ s.marks) w.numbered;
-      ready = w.ready;
-      clean = moved (λ h. IsLost s ⊎ ((owner : FilePage) → IsInFile s owner → is_touched h owner.file owner.page ≡ false → within_file s owner (new (home_of s.table owner)) ≡ within_file s owner (after (memory_of files) h owner.file owner.page))) w.clean;
-      frozen = w.frozen;
-    }
 
 abbrev no_pages : List FilePage
 no_pages = []

@@ -1,20 +1,17 @@
 -- Which pages frames and copies have, and with what bytes, after each change of them; and what frozen pages had at their mark.
-use Rattle.std.proofs.Common.{ℕ, ◌≡◌, ◌≢◌, true, false, List, slice_get, Option, Some, None, refl, sym, ap, ◌∙◌, inl, inr, ◌⊎◌, ◌<◌, ◌||◌, zero, suc, eqb, cond, [], ◌∷◌, length, map, get_or, set, arith, not, subst}
-use Rattle.std.proofs.lemmas.Bool.{cases_eq, false_from_ne_true, false≢true, cond-true, cond-false, both_ways, and_parts, and_from, eqb-true, eq-eqb, or_parts, or_left, or_right, cases_Bool, not-true, not_from_false}
-use Rattle.page_entry.specs.declared.numbers.FilePage.{FilePage}
-use Rattle.frames.specs.Frames.{FramesState, Frame, frame_at, bytes_of, overwrite, overwrite_frame, with_page, with_bytes, without_frame, page_of, with_copy}
-use Rattle.frames.proofs.Public.{frame_at-free, frame_at-with_page_same, frame_at-with_page_other, frame_at-with_bytes_same, frame_at-without_frame_same, frame_at-without_frame_other}
-use Rattle.checkpoint.proofs.Public.{same_page-true, same_page-refl, list_any-has_page, has_page-list_any}
-use Rattle.checkpoint.specs.Checkpoint.{Holds, same_page, is_of_page, freed_copy, is_copied, is_frozen, is_held}
-use Rattle.fault.specs.Fault.{is_in_memory}
+use Rattle.machine.proofs.Names.{ℕ, ◌≡◌, ◌≢◌, true, false, List, slice_get, Option, Some, None, refl, sym, ap, ◌∙◌, inl}
+use Rattle.machine.proofs.Names.{inr, ◌⊎◌, ◌<◌, ◌||◌, zero, suc, cond, [], ◌∷◌, length, map, get_or, set, arith}
+use Rattle.machine.proofs.Names.{not, subst, cases_eq, false_from_ne_true, false≢true, cond-true, cond-false, both_ways}
+use Rattle.machine.proofs.Names.{and_parts, and_from, or_parts, or_left, or_right, cases_Bool}
+use Rattle.machine.proofs.Names.{not-true, not_from_false, FilePage, FramesState, Frame, frame_at, bytes_of, overwrite}
+use Rattle.machine.proofs.Names.{overwrite_frame, with_page, with_bytes, without_frame, page_of, with_copy}
+use Rattle.machine.proofs.Names.{frame_at-free, frame_at-with_page_same, frame_at-with_page_other}
+use Rattle.machine.proofs.Names.{frame_at-with_bytes_same, frame_at-without_frame_same, frame_at-without_frame_other}
+use Rattle.machine.proofs.Names.{same_page-true, same_page-refl, list_any-has_page, has_page-list_any, Holds, same_page}
+use Rattle.machine.proofs.Names.{is_of_page, freed_copy, is_copied, is_frozen, is_held, is_in_memory, Contains}
+use Rattle.machine.proofs.Names.{list_any, bytes_with, MayLeave, bytes_at_mark, All-contains, slice_get_within}
+use Rattle.machine.proofs.Names.{get_or_from_slice_get, HasBlock, State, home_of, IsSound}
 use Rattle.machine.proofs.durable.Lists.{some_same, none_some}
-use Rattle.std.specs.List.{Contains, list_any}
-use Rattle.machine.specs.Rules.{bytes_with, MayLeave, bytes_at_mark}
-use Rattle.std.proofs.lemmas.List.Elements.{All-contains}
-use Rattle.std.proofs.lemmas.Option.{slice_get_within, get_or_from_slice_get}
-use Rattle.journal.specs.WriteOuts.{HasBlock}
-use Rattle.machine.specs.State.{State, home_of}
-use Rattle.machine.specs.inside.Sound.{IsSound}
 use Rattle.machine.proofs.durable.Uncommitted.{frozen_block}
 
 -- ---- which pages frames hold, and with what bytes, after each change of the frames

@@ -1,39 +1,19 @@
 -- What a crash may leave reads back as the files after a durable prefix of the history; no store reaches a frozen page whose bytes aren't copied.
-use Rattle.std.proofs.Common.{ℕ, ◌⊎◌, inl, inr, List, Option, Some, None, ◌≡◌, Bool, true, false, MatchBool, refl, sym, ap, ◌∙◌, ◌<◌, length, subst}
-use Rattle.volume_codec.specs.Files.{File}
-use Rattle.volume_codec.specs.Super.{SuperValue}
-use Rattle.volume_codec.specs.Recovery.{Recovers, RecoversTo}
-use Rattle.journal.specs.declared.stage.Stage.{Stage}
-use Rattle.journal.specs.declared.stage.Stage.TheVariants.{Recording, Describing, SyncingRecords, Opening, Committing, Applying, SyncingHomes, Closing, Finishing}
-use Rattle.journal.specs.WriteOuts.{current_stage, current}
-use Rattle.journal.specs.Crash.{LeftWithin, LeftBefore}
-use Rattle.journal.proofs.Public.{stands_left, committed-at, stage_committed}
-use Rattle.machine.specs.History.{Event, memory_of, after, Mark, files_after, is_touched}
-use Rattle.machine.specs.State.{State}
-use Rattle.machine.specs.Laws.{ReadsBack}
-use Rattle.machine.specs.inside.Sound.{IsSound}
-use Rattle.machine.specs.Told.{Told}
-use Rattle.machine.specs.inside.Tracking.{AreContentsOf, HasAcknowledged, HasFiles, IsWritten, IsWaiting, IsTracked}
+use Rattle.machine.proofs.Names.{ℕ, ◌⊎◌, inl, inr, List, Option, Some, None, ◌≡◌, Bool, true, false, MatchBool, refl}
+use Rattle.machine.proofs.Names.{sym, ap, ◌∙◌, ◌<◌, length, subst, File, SuperValue, Recovers, RecoversTo, Stage}
+use Rattle.machine.proofs.Names.{Recording, Describing, SyncingRecords, Opening, Committing}
+use Rattle.machine.proofs.Names.{current_stage, LeftWithin, LeftBefore, stands_left, committed-at}
+use Rattle.machine.proofs.Names.{stage_committed, Event, memory_of, after, Mark, files_after, is_touched, State}
+use Rattle.machine.proofs.Names.{ReadsBack, IsSound, Told, AreContentsOf, HasAcknowledged, HasFiles, IsWritten}
+use Rattle.machine.proofs.Names.{IsWaiting, IsTracked, Contains, All, option_map_or, option_and_then, both_ways}
+use Rattle.machine.proofs.Names.{false_from_ne_true, All-contains, is_committed, WriteOut, next_stage, has_committed}
+use Rattle.machine.proofs.Names.{AreInOrder, IsAcknowledged, IsOld, IsNew, StopsBefore, StopsWithin, StopsInStep, Stops}
+use Rattle.machine.proofs.Names.{Mapped, FilePage, entry_at, processor_at, IsUsable, Holds, is_held, page_at, MarkMade}
+use Rattle.machine.proofs.Names.{IsInFile, HasPart, AreFrozenProtected}
+use Rattle.journal.specs.WriteOuts.{current}
 use Rattle.machine.proofs.durable.FileParts.{files_have}
 use Rattle.machine.proofs.durable.Marks.{IsDurable, committed, clean}
-use Rattle.std.specs.List.{Contains, All}
-use Rattle.std.specs.Option.{option_map_or, option_and_then}
-use Rattle.std.proofs.lemmas.Bool.{both_ways, false_from_ne_true}
-use Rattle.std.proofs.lemmas.List.Elements.{All-contains}
-use Rattle.journal.specs.Stage.{is_committed}
-use Rattle.journal.specs.WriteOut.{WriteOut, next_stage, has_committed}
-use Rattle.journal.specs.inside.Sound.{AreInOrder}
-use Rattle.machine.specs.Stops.{IsAcknowledged, IsOld, IsNew, StopsBefore, StopsWithin, StopsInStep, Stops}
 use Rattle.machine.proofs.durable.Uncommitted.{current_there, waiting_is_current, none_current}
-use Rattle.page_entry.specs.Entry.{Mapped}
-use Rattle.page_entry.specs.declared.numbers.FilePage.{FilePage}
-use Rattle.spaces.specs.Spaces.{entry_at}
-use Rattle.shootdown.specs.Shootdown.{processor_at}
-use Rattle.shootdown.specs.Coherence.{IsUsable}
-use Rattle.checkpoint.specs.Checkpoint.{Holds, is_held}
-use Rattle.checkpoint.specs.Backing.{page_at}
-use Rattle.machine.specs.Rules.{MarkMade}
-use Rattle.machine.specs.Durability.{IsInFile, HasPart, AreFrozenProtected}
 use Rattle.machine.proofs.durable.Lists.{some_same}
 
 -- ---- what a crash may leave reads back as the files after a durable prefix of the history

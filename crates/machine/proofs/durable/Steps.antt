@@ -1,48 +1,24 @@
 -- One step of a machine over an honest device: it stays tracked, and a crash within the step or after it reads back.
-use Rattle.std.proofs.Common.{◌≡◌, ◌≢◌, ◌<◌, ℕ, inl, inr, cond, true, false, not, List, [], ◌∷◌, ◌++◌, length, map, is_some, refl, sym, ap, ◌∙◌, subst, arith}
-use Rattle.std.specs.List.{Contains}
-use Rattle.std.proofs.lemmas.Bool.{cond-false, false≢true}
-use Rattle.std.proofs.lemmas.List.Elements.{All-contains, Contains-push}
-use Rattle.page_entry.specs.declared.numbers.FilePage.{FilePage}
-use Rattle.page_entry.specs.declared.refusal.Refusal.{Refusal}
+use Rattle.machine.proofs.Names.{◌≡◌, ◌≢◌, ◌<◌, ℕ, inl, inr, cond, true, false, not, List, [], ◌∷◌, ◌++◌, length, map}
+use Rattle.machine.proofs.Names.{is_some, refl, sym, ap, ◌∙◌, subst, arith, Contains, cond-false, false≢true}
+use Rattle.machine.proofs.Names.{All-contains, Contains-push, FilePage, Refusal, Only, LeavesOnly, Ghosts, File}
+use Rattle.machine.proofs.Names.{SuperValue, geometry_of, AreHomes, without_notes, Flushed, Work, Sync, Nothing, worked}
+use Rattle.machine.proofs.Names.{TornFromWork, WriteOut, begun_of, WriteOutsValue, current_stage, next_answer}
+use Rattle.machine.proofs.Names.{next_batch, begun, outs_record, outs_after, LeftWithin, IsStanding, IsTied}
+use Rattle.machine.proofs.Names.{stands_left, Act, Reply, Step, Event, Memory, Acknowledge, memory_of, has_unmarked}
+use Rattle.machine.proofs.Names.{State, Whole, home_of, end_change, FlushMade, FlushFailed, MarkMade, with_batch}
+use Rattle.machine.proofs.Names.{work_asked, reply_to, after_record, after_failure, Told, tell, ended_by, ReadsBack}
+use Rattle.machine.proofs.Names.{StepIsSafe, StopsInStep, step_work, StepMade, StepTaken, IsSound, IsArranged}
+use Rattle.machine.proofs.Names.{IsTracked, said_all, IsMoved, Performed, Moved, Marked, Failed}
 use Rattle.page_entry.specs.declared.refusal.Refusal.TheVariants as refusals
-use Rattle.device.specs.Device.{Only, LeavesOnly}
-use Rattle.device.specs.declared.device.Device.{Ghosts}
-use Rattle.volume_codec.specs.Files.{File}
-use Rattle.volume_codec.specs.Super.{SuperValue, geometry_of}
-use Rattle.volume_codec.specs.Descriptor.{AreHomes}
-use Rattle.checkpoint.specs.Checkpoint.{without_notes}
-use Rattle.journal.specs.declared.flushed.Flushed.{Flushed}
 use Rattle.journal.specs.declared.flushed.Flushed.TheVariants as flushed
-use Rattle.journal.specs.Work.{Work, Sync, Nothing, worked, TornFromWork}
-use Rattle.journal.specs.WriteOut.{WriteOut, begun_of}
-use Rattle.journal.specs.WriteOuts.{WriteOutsValue, current_stage, next_answer, next_batch, begun, outs_record, outs_after}
-use Rattle.journal.specs.Crash.{LeftWithin}
-use Rattle.journal.specs.inside.Standing.{IsStanding}
-use Rattle.journal.specs.inside.Tied.{IsTied}
-use Rattle.journal.proofs.Public.{stands_left}
-use Rattle.machine.specs.declared.act.Act.{Act}
 use Rattle.machine.specs.declared.act.Act.TheVariants as acts
-use Rattle.machine.specs.declared.act.Reply.{Reply}
 use Rattle.machine.specs.declared.act.Reply.TheVariants as replies
-use Rattle.machine.specs.declared.act.Step.{Step}
-use Rattle.machine.specs.History.{Event, Memory, Acknowledge, memory_of, has_unmarked}
-use Rattle.machine.specs.State.{State, Whole, home_of}
-use Rattle.machine.specs.Rules.{end_change, FlushMade, FlushFailed, MarkMade, with_batch, work_asked, reply_to, after_record, after_failure}
-use Rattle.machine.specs.Told.{Told, tell, ended_by}
-use Rattle.machine.specs.Laws.{ReadsBack}
-use Rattle.machine.specs.Crashes.{StepIsSafe}
-use Rattle.machine.specs.Stops.{StopsInStep}
-use Rattle.machine.specs.Steps.{step_work, StepMade}
-use Rattle.machine.specs.Runs.{StepTaken}
-use Rattle.machine.specs.inside.Sound.{IsSound}
-use Rattle.machine.specs.inside.Tracking.{IsArranged, IsTracked}
-use Rattle.machine.specs.inside.Moves.{said_all, IsMoved, Performed, Moved, Marked, Flushed as Stepped, Failed}
+use Rattle.machine.specs.inside.Moves.{Flushed as Stepped}
 use Rattle.machine.proofs.sound.Kept.{performed_sound}
 use Rattle.machine.proofs.acts.All.{performed}
-use Rattle.machine.proofs.durable.Histories.{marked_by, after_marked, AreQuiet, quiet_nothing, quiet_acknowledge, touched_mark}
-use Rattle.machine.proofs.durable.Leaves.{SameFiles}
-use Rattle.machine.proofs.durable.Marks.{IsDurable, written_as, marked_durable}
+use Rattle.machine.proofs.durable.Histories.{written_as, marked_by, after_marked, AreQuiet, quiet_nothing, quiet_acknowledge, touched_mark, SameFiles}
+use Rattle.machine.proofs.durable.Marks.{IsDurable, marked_durable}
 use Rattle.machine.proofs.durable.Flushes.{flush_within, flush_failed, flush_goes_on, flush_commits}
 use Rattle.machine.proofs.durable.ReadsBack.{reads_within, reads_now, stops_within}
 use Rattle.machine.proofs.track.DirtyFrames.{clean_after_mark}

@@ -1,27 +1,17 @@
 -- Batches that aren't committed: a step makes none of one that is.
-use Rattle.std.proofs.Common.{◌≡◌, ◌≤◌, ◌+◌, ◌⊎◌, ℕ, zero, suc, true, false, not, List, [], ◌∷◌, length, Option, Some, None, inl, inr, refl, sym, ap, ◌∙◌, subst, arith, ◌++◌, map, drop}
-use Rattle.std.specs.List.{Contains, AllByRecursion, flat_map}
-use Rattle.std.specs.Option.{option_map_or}
-use Rattle.std.proofs.lemmas.Bool.{cond-true, cond-false, cases_Bool, both_ways, or_from, not_from_true, false_from_ne_true}
-use Rattle.std.proofs.lemmas.List.Elements.{Contains-append_right}
-use Rattle.volume_codec.specs.Recovery.{Batch}
-use Rattle.journal.specs.declared.flushed.Flushed.{Flushed}
-use Rattle.journal.specs.declared.flushed.Flushed.TheVariants.{Going, Committed, Done, Device, Broken}
-use Rattle.journal.specs.declared.stage.Stage.{Stage}
-use Rattle.journal.specs.declared.stage.Stage.TheVariants.{Recording, Describing, SyncingRecords, Opening, Committing, Applying, SyncingHomes, Closing, Finishing}
-use Rattle.journal.specs.Stage.{is_committed, answer_at}
-use Rattle.journal.specs.WriteOut.{WriteOut, begun_of, next_stage, has_committed, advanced_of, answer_of}
-use Rattle.journal.specs.WriteOuts.{has_uncommitted, current, advanced, batches_after, HasBlock}
-use Rattle.journal.specs.inside.Sound.{IsOlder, AreInOrder}
-use Rattle.journal.proofs.Public.{IsAt, stage_is, committed_parts, done_committed}
-use Rattle.machine.specs.inside.Tracking.{IsWaiting}
+use Rattle.machine.proofs.Names.{◌≡◌, ◌≤◌, ◌+◌, ◌⊎◌, ℕ, zero, suc, true, false, not, List, [], ◌∷◌, length, Option}
+use Rattle.machine.proofs.Names.{Some, None, inl, inr, refl, sym, ap, ◌∙◌, subst, arith, ◌++◌, map, drop, Contains}
+use Rattle.machine.proofs.Names.{AllByRecursion, flat_map, option_map_or, cond-true, cond-false, cases_Bool, both_ways}
+use Rattle.machine.proofs.Names.{or_from, not_from_true, false_from_ne_true, Contains-append_right, Batch, Flushed}
+use Rattle.machine.proofs.Names.{Going, Committed, Done, Device, Broken, Stage, Recording, Describing, SyncingRecords}
+use Rattle.machine.proofs.Names.{Opening, Committing, Applying, SyncingHomes, Closing, Finishing, is_committed}
+use Rattle.machine.proofs.Names.{answer_at, WriteOut, begun_of, next_stage, has_committed, advanced_of, answer_of}
+use Rattle.machine.proofs.Names.{has_uncommitted, advanced, batches_after, HasBlock, IsOlder, AreInOrder, IsAt}
+use Rattle.machine.proofs.Names.{stage_is, committed_parts, done_committed, IsWaiting, drop_all, FilePage, State}
+use Rattle.machine.proofs.Names.{home_of, IsSound, waiting_homes}
+use Rattle.journal.specs.WriteOuts.{current}
 use Rattle.machine.proofs.sound.Waiting.{blocks, committed_steps, committed_still}
-use Rattle.machine.proofs.durable.Lists.{some_same, none_some, contains_map, contains_drop, contains_flat_map, nothing_mapped}
-use Rattle.std.proofs.lemmas.List.{drop_all}
-use Rattle.page_entry.specs.declared.numbers.FilePage.{FilePage}
-use Rattle.machine.specs.State.{State, home_of}
-use Rattle.machine.specs.inside.Sound.{IsSound}
-use Rattle.machine.specs.Durability.{waiting_homes}
+use Rattle.machine.proofs.durable.Lists.{first_or, some_same, none_some, contains_map, contains_drop, contains_flat_map, nothing_mapped}
 
 -- one that isn't committed after a step wasn't before it
 still_uncommitted : (w : WriteOut) → has_committed (advanced_of w) ≡ false → has_committed w ≡ false
@@ -40,10 +30,6 @@ pub record WasUncommitted (batches : List WriteOut) (w : WriteOut) : Type 0 wher
   pub there : Contains batches before
   pub batch : before.batch ≡ w.batch
   pub early : has_committed before ≡ false
-
-first_or : (x : WriteOut) (newer : List WriteOut) (w : WriteOut) → Contains (x ∷ newer) w → (x ≡ w) ⊎ Contains newer w
-first_or x newer w (zero, lt, e) = inl e
-first_or x newer w (suc k, lt, e) = inr (k, omega (arith, lt), e)
 
 later : (x : WriteOut) (newer : List WriteOut) (w : WriteOut) → WasUncommitted newer w → WasUncommitted (x ∷ newer) w
 later x newer w was = record { before = was.before; there = Contains-append_right (x ∷ []) newer was.before was.there; batch = was.batch; early = was.early }

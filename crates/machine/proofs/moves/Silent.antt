@@ -1,14 +1,7 @@
 -- Moves that tell nothing, and acts of moves.
-use Rattle.std.proofs.Common.{ℕ, ◌≡◌, List, [], ◌∷◌, ◌++◌, refl, sym, ap, ◌∙◌, subst}
-use Rattle.std.proofs.lemmas.List.{append-nil}
-use Rattle.journal.specs.Work.{Nothing}
-use Rattle.machine.specs.declared.act.Act.{Act}
-use Rattle.machine.specs.declared.act.Reply.{Reply}
-use Rattle.machine.specs.State.{State}
-use Rattle.machine.specs.History.{Event}
-use Rattle.machine.specs.Steps.{step_work}
-use Rattle.machine.specs.Told.{Told, tell}
-use Rattle.machine.specs.inside.Moves.{Saying, Silent, said, said_all, Move, Moves, Performed, Moved}
+use Rattle.machine.proofs.Names.{ℕ, ◌≡◌, List, [], ◌∷◌, ◌++◌, refl, sym, ◌∙◌, subst, append-nil, Nothing, Act}
+use Rattle.machine.proofs.Names.{Reply, State, Event, step_work, Told, tell, Saying, Silent, said, said_all, Move}
+use Rattle.machine.proofs.Names.{Moves, Performed, Moved}
 
 abbrev pub AreSilent : List Saying → Type 0
 AreSilent [] = Unit {0}

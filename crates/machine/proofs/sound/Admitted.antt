@@ -1,20 +1,12 @@
 -- What holds where an act isn't refused.
-use Rattle.std.proofs.Common.{ℕ, ◌≡◌, ◌<◌, Bool, true, false, not, ◌&&◌, cond, List, [], ◌∷◌, length, Option, Some, None, is_some, Ok, refl, subst}
-use Rattle.std.specs.Option.{option_or}
-use Rattle.page_entry.specs.declared.refusal.Refusal.{Refusal}
+use Rattle.machine.proofs.Names.{ℕ, ◌≡◌, ◌<◌, Bool, true, false, not, ◌&&◌, cond, List, [], ◌∷◌, length, Option, Some}
+use Rattle.machine.proofs.Names.{None, is_some, Ok, refl, subst, option_or, Refusal, Place, Spaces, has_space, Lock}
+use Rattle.machine.proofs.Names.{ProcState, Active, Interrupted, Stalled, Initiating, Idle, is_running, ShootdownState}
+use Rattle.machine.proofs.Names.{is_there, state_of, current, not_running, not_free, is_interrupted, interrupted}
+use Rattle.machine.proofs.Names.{not_there, wait_refusal, idle_refusal, switch_refusal, change_refusal, lock_refusal}
+use Rattle.machine.proofs.Names.{is_there_below, none_unless_some, admitted, running, place_of_fault, fault_refusal}
+use Rattle.machine.proofs.Names.{State, length_of, refuse_if, first_of, served_refusal, fix_refusal}
 use Rattle.page_entry.specs.declared.refusal.Refusal.TheVariants as refusals
-use Rattle.mappings.specs.declared.place.Place.{Place}
-use Rattle.spaces.specs.Spaces.{Spaces, has_space}
-use Rattle.shootdown.specs.declared.lock.Lock.{Lock}
-use Rattle.shootdown.specs.declared.proc_state.ProcState.{ProcState}
-use Rattle.shootdown.specs.declared.proc_state.ProcState.TheVariants.{Active, Interrupted, Stalled, Initiating, Idle}
-use Rattle.shootdown.specs.Processors.{is_running}
-use Rattle.shootdown.specs.Shootdown.{ShootdownState, is_there, state_of, current, not_running, not_free, is_interrupted, interrupted}
-use Rattle.shootdown.specs.Calls.{not_there, wait_refusal, idle_refusal, switch_refusal, change_refusal, lock_refusal}
-use Rattle.shootdown.proofs.Public.{is_there_below, none_unless_some, admitted, running}
-use Rattle.fault.specs.Fault.{place_of_fault, fault_refusal}
-use Rattle.machine.specs.State.{State, length_of}
-use Rattle.machine.specs.Refusals.{refuse_if, first_of, served_refusal, fix_refusal}
 
 -- ---- none of several reasons
 
@@ -29,10 +21,6 @@ pub refuse_none : (b : Bool) (why : Refusal) → refuse_if b why ≡ None → b 
 refuse_none true why e = absurd (cc)
 refuse_none false why e = refl
 
-pub refuse_not_none : (b : Bool) (why : Refusal) → refuse_if (not b) why ≡ None → b ≡ true
-refuse_not_none true why e = refl
-refuse_not_none false why e = absurd (cc)
-
 unless_none : (b : Bool) (why : Refusal) → cond b None (Some why) ≡ None → b ≡ true
 unless_none true why e = refl
 unless_none false why e = absurd (cc)
@@ -41,12 +29,9 @@ where_none : (b : Bool) (why : Refusal) → cond b (Some why) None ≡ None → 
 where_none true why e = absurd (cc)
 where_none false why e = refl
 
--- the second and the fourth of some reasons
+-- the second of some reasons
 pub second_not_refused : (a : Option Refusal) (b : Bool) (why : Refusal) (reasons : List (Option Refusal)) → first_of (a ∷ refuse_if b why ∷ reasons) ≡ None → b ≡ false
 second_not_refused a b why reasons e = refuse_none b why (first_none (refuse_if b why) reasons (first_none a (refuse_if b why ∷ reasons) e).1).0
-
-pub fourth_not_refused : (a b c : Option Refusal) (d : Bool) (why : Refusal) (reasons : List (Option Refusal)) → first_of (a ∷ b ∷ c ∷ refuse_if d why ∷ reasons) ≡ None → d ≡ false
-fourth_not_refused a b c d why reasons e = second_not_refused c d why reasons (first_none b (c ∷ refuse_if d why ∷ reasons) (first_none a (b ∷ c ∷ refuse_if d why ∷ reasons) e).1).1
 
 -- ---- processors and the lock
 
@@ -96,9 +81,6 @@ active_from Interrupted runs not = absurd (cc)
 active_from Stalled runs not = absurd (cc)
 active_from Initiating runs not = absurd (cc)
 active_from Idle runs not = absurd (cc)
-
-pub runs_at_idle : (s : ShootdownState) (p : ℕ) → idle_refusal s p ≡ None → not_running s p ≡ None
-runs_at_idle s p none = (both_none (not_running s p) (cond (is_interrupted (state_of s p)) (Some refusals.Locked) None) none).0
 
 pub idle_admitted : (s : ShootdownState) (p : ℕ) → idle_refusal s p ≡ None → (p < length s.processors) × (state_of s p ≡ Active)
 idle_admitted s p none =

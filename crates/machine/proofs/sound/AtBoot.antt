@@ -1,20 +1,11 @@
 -- A fresh machine is sound.
-use Rattle.std.proofs.Common.{ℕ, ◌≡◌, ◌≤◌, false, List, length, replicate, Option, None, refl, sym, ap, ◌∙◌, arith}
-use Rattle.std.proofs.lemmas.Bool.{false≢true, eq-eqb}
-use Rattle.std.proofs.lemmas.List.{length-replicate, get_or-replicate}
-use Rattle.page_entry.specs.declared.numbers.FilePage.{FilePage}
-use Rattle.frames.specs.Frames.{Frame, all_free, page_of}
-use Rattle.volume_codec.specs.Super.{SuperValue, Fits}
-use Rattle.spaces.specs.Spaces.{first_spaces, has_space}
-use Rattle.spaces.proofs.Public.{has_space-first_spaces, entry_at-first_spaces, place_at-first_spaces, AreSpaces-first_spaces}
-use Rattle.shootdown.specs.Processors.{fresh_processor}
-use Rattle.shootdown.specs.Shootdown.{fresh_shootdown, processor_at}
-use Rattle.shootdown.proofs.Public.{IsShootdown-fresh, Coheres-fresh}
-use Rattle.checkpoint.specs.Checkpoint.{Holds}
-use Rattle.machine.specs.declared.act.Shape.{Shape}
-use Rattle.machine.specs.State.{State, length_of}
-use Rattle.machine.specs.Fresh.{IsShape, fresh, IsFresh}
-use Rattle.machine.specs.inside.Sound.{capacity_of, AreSpacesSound, IsMemorySound, AreWriteOutsSound, IsSound}
+use Rattle.machine.proofs.Names.{ℕ, ◌≡◌, ◌≤◌, false, List, length, replicate, Option, None, refl, sym, ap, ◌∙◌, arith}
+use Rattle.machine.proofs.Names.{false≢true, eq-eqb, length-replicate, get_or-replicate, FilePage, Frame, all_free}
+use Rattle.machine.proofs.Names.{page_of, SuperValue, Fits, first_spaces, has_space, has_space-first_spaces}
+use Rattle.machine.proofs.Names.{entry_at-first_spaces, place_at-first_spaces, AreSpaces-first_spaces, fresh_processor}
+use Rattle.machine.proofs.Names.{fresh_shootdown, processor_at, IsShootdown-fresh, Coheres-fresh, Holds, Shape, State}
+use Rattle.machine.proofs.Names.{length_of, IsShape, fresh, IsFresh, capacity_of, AreSpacesSound, IsMemorySound}
+use Rattle.machine.proofs.Names.{AreWriteOutsSound, IsSound}
 use Rattle.machine.proofs.sound.Lists.{get_or-replicate-same, memory_from, AreOnce-none}
 use Rattle.machine.proofs.sound.Groups.{unchanged_sound}
 

@@ -1,30 +1,19 @@
 -- A mark keeps a machine sound: the dirty pages are gathered, protected and frozen, and a batch of them begins.
-use Rattle.std.proofs.Common.{ℕ, ◌≡◌, ◌+◌, ◌^◌, ◌<◌, ◌≤◌, eqb, not, Bool, true, false, cond, List, [], ◌∷◌, ◌++◌, length, map, get_or, refl, sym, ap, ◌∙◌, subst, ⊎_elim, arith}
-use Rattle.std.specs.List.{All, list_any}
-use Rattle.std.proofs.lemmas.Bool.{cases_Bool, or_parts, eqb-false, false≢true, cond-true, cond-false}
-use Rattle.std.proofs.lemmas.List.{length-replicate, length-append, flat_map_more}
-use Rattle.std.proofs.lemmas.List.Elements.{All-push, All-map, Contains-get_or}
-use Rattle.page_entry.specs.declared.numbers.FilePage.{FilePage}
-use Rattle.frames.specs.Frames.{FramesState}
-use Rattle.volume_codec.specs.Layout.{GeometryValue, journals_of}
-use Rattle.volume_codec.specs.Super.{geometry_of}
-use Rattle.volume_codec.specs.Descriptor.{AreHomes}
-use Rattle.journal.specs.WriteOut.{WriteOut, begun_of}
-use Rattle.journal.specs.WriteOuts.{WriteOutsValue, has_uncommitted, is_busy, next_batch, begun as outs_begun}
+use Rattle.machine.proofs.Names.{ℕ, ◌≡◌, ◌+◌, ◌^◌, ◌<◌, ◌≤◌, eqb, not, Bool, true, false, cond, List, [], ◌∷◌, ◌++◌}
+use Rattle.machine.proofs.Names.{length, map, get_or, refl, sym, ap, ◌∙◌, subst, ⊎_elim, arith, All, list_any}
+use Rattle.machine.proofs.Names.{cases_Bool, or_parts, eqb-false, false≢true, cond-true, cond-false, length-replicate}
+use Rattle.machine.proofs.Names.{length-append, flat_map_more, All-push, All-map, Contains-get_or, FilePage}
+use Rattle.machine.proofs.Names.{FramesState, GeometryValue, journals_of, geometry_of, AreHomes, WriteOut, begun_of}
+use Rattle.machine.proofs.Names.{WriteOutsValue, has_uncommitted, is_busy, next_batch, Spaces, protected_where}
+use Rattle.machine.proofs.Names.{place_at-EditsEntries, AreSpaces-EditsEntries, ChangesOnlyAffected-checkpoint}
+use Rattle.machine.proofs.Names.{CheckpointState, is_noted, same_page, AreRising, Gathers, ProtectsNoted, without_notes}
+use Rattle.machine.proofs.Names.{AreBacked-protected, is_in_memory, Hardware, State, home_of, end_change, with_batch}
+use Rattle.machine.proofs.Names.{MarkMade, IsPrepared, IsMemorySound, AreWriteOutsSound, IsSound, IsInFile}
+use Rattle.machine.proofs.Names.{waiting_homes, frozen_homes}
+use Rattle.journal.specs.WriteOuts.{begun as outs_begun}
 use Rattle.spaces.specs.declared.change.Change.TheVariants as changes
-use Rattle.spaces.specs.Spaces.{Spaces}
-use Rattle.spaces.specs.Changes.{protected_where}
-use Rattle.spaces.proofs.Public.{place_at-EditsEntries, AreSpaces-EditsEntries, ChangesOnlyAffected-checkpoint}
-use Rattle.checkpoint.specs.Checkpoint.{CheckpointState, is_noted, same_page, AreRising, Gathers, ProtectsNoted, without_notes}
-use Rattle.checkpoint.proofs.Public.{AreBacked-protected}
-use Rattle.fault.specs.Fault.{is_in_memory}
-use Rattle.cpu.specs.Access.{Hardware}
-use Rattle.machine.specs.State.{State, home_of}
-use Rattle.machine.specs.Rules.{end_change, with_batch, MarkMade}
-use Rattle.machine.specs.inside.Sound.{IsPrepared, IsMemorySound, AreWriteOutsSound, IsSound}
-use Rattle.machine.specs.Durability.{IsInFile, waiting_homes, frozen_homes}
 use Rattle.machine.proofs.sound.Lists.{get_or-replicate-same}
-use Rattle.machine.proofs.sound.Groups.{unchanged_sound}
+use Rattle.machine.proofs.sound.Groups.{still_sound, unchanged_sound}
 use Rattle.machine.proofs.sound.Frames.{in_memory_held}
 use Rattle.machine.proofs.sound.Ended.{prepared_change, ended_spaces}
 use Rattle.machine.proofs.sound.Waiting.{waits_of, waiting, waiting-none, older-push}
@@ -168,14 +157,10 @@ marked_sound s p number new rule sound =
     let hardware = (end_change s p rule.spaces s.hardware.memory checkpoint).hardware in
     let outs = with_batch s (s.marks + 1) rule.pages in
     unchanged_sound (record s { hardware = hardware; checkpoint = checkpoint; write_outs = outs; marks = s.marks + 1 }) new
-    (rule.done ∙ (λ i. record s { hardware = hardware; checkpoint = checkpoint; write_outs = with_batch s (rule.next i) rule.pages; marks = rule.next i })) (record {
-      fits = sound.fits;
-      lengths = sound.lengths;
-      within = sound.within;
-      spaces = ended_spaces s p changes.Checkpoint rule.spaces s.hardware.memory checkpoint outs (s.marks + 1) rule.may (ChangesOnlyAffected-checkpoint old rule.spaces)
+    (rule.done ∙ (λ i. record s { hardware = hardware; checkpoint = checkpoint; write_outs = with_batch s (rule.next i) rule.pages; marks = rule.next i })) (still_sound sound refl refl
+      (ended_spaces s p changes.Checkpoint rule.spaces s.hardware.memory checkpoint outs (s.marks + 1) rule.may (ChangesOnlyAffected-checkpoint old rule.spaces)
           (record { affected = λ pcid page now. now; touched = λ pcid now. now })
           (AreSpaces-EditsEntries (λ pcid page entry. protected_where (is_noted rule.noted) entry) old rule.spaces sound.spaces.spaces rule.protected (λ q at. refl)) rule.protected.same_spaces
-          (λ q page place is. sound.spaces.in_table q page place (sym (place_at-EditsEntries (λ pcid at entry. protected_where (is_noted rule.noted) entry) old rule.spaces rule.protected q page) ∙ is)) sound;
-      memory = memory_marked s p rule.noted (not s.write_outs.broken) rule.pages rule.spaces outs (s.marks + 1) gathers rule.protected none sound.memory;
-      write_outs = write_outs_marked s hardware checkpoint rule.pages refl prepared gathers.frozen gathers.gathered.rising there.0 there.1 sound;
-    })
+          (λ q page place is. sound.spaces.in_table q page place (sym (place_at-EditsEntries (λ pcid at entry. protected_where (is_noted rule.noted) entry) old rule.spaces rule.protected q page) ∙ is)) sound)
+      (memory_marked s p rule.noted (not s.write_outs.broken) rule.pages rule.spaces outs (s.marks + 1) gathers rule.protected none sound.memory)
+      (write_outs_marked s hardware checkpoint rule.pages refl prepared gathers.frozen gathers.gathered.rising there.0 there.1 sound))

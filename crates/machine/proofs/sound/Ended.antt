@@ -1,28 +1,14 @@
 -- What the end of a change leaves of the processors and the page tables.
-use Rattle.std.proofs.Common.{ℕ, ◌≡◌, ◌+◌, ◌-◌, ◌<◌, eqb, Bool, true, false, cond, List, [], length, drop, map, Contains, Some, None, refl, sym, ap, ◌∙◌, subst, arith}
-use Rattle.std.proofs.lemmas.Bool.{eqb-true, eq-eqb}
-use Rattle.std.proofs.lemmas.List.{get_or-drop, length-drop}
-use Rattle.page_entry.specs.declared.numbers.FilePage.{FilePage}
+use Rattle.machine.proofs.Names.{ℕ, ◌≡◌, ◌+◌, ◌-◌, ◌<◌, eqb, Bool, true, false, cond, List, [], length, drop, map, Some}
+use Rattle.machine.proofs.Names.{None, refl, sym, ap, ◌∙◌, subst, arith, eqb-true, eq-eqb, get_or-drop, length-drop}
+use Rattle.machine.proofs.Names.{FilePage, Place, FramesState, WriteOut, WriteOutsValue, HasBlock, Change, Spaces}
+use Rattle.machine.proofs.Names.{AreSpaces, has_space, place_at, ChangesOnlyAffected, Contains-map, in_flat_map, Lock}
+use Rattle.machine.proofs.Names.{woken, processor_at, interrupted, IsUnused, IsNoWider, at-with_processor}
+use Rattle.machine.proofs.Names.{IsShootdown-finished, IsUnused-from_Coheres, Coheres-finished, Coheres-changed}
+use Rattle.machine.proofs.Names.{CheckpointState, State, home_of, not_there, lock_refusal, MayChange, end_change}
+use Rattle.machine.proofs.Names.{IsPrepared, AreSpacesSound, AreWriteOutsSound, IsSound, waiting_homes}
+use Rattle.std.proofs.Common.{Contains}
 use Rattle.page_entry.specs.declared.refusal.Refusal.TheVariants as refusals
-use Rattle.mappings.specs.declared.place.Place.{Place}
-use Rattle.frames.specs.Frames.{FramesState}
-use Rattle.journal.specs.WriteOut.{WriteOut}
-use Rattle.journal.specs.WriteOuts.{WriteOutsValue, HasBlock}
-use Rattle.spaces.specs.declared.change.Change.{Change}
-use Rattle.spaces.specs.Spaces.{Spaces, AreSpaces, has_space, place_at}
-use Rattle.spaces.specs.Changes.{ChangesOnlyAffected}
-use Rattle.spaces.proofs.Public.{Contains-map, in_flat_map}
-use Rattle.shootdown.specs.declared.lock.Lock.{Lock}
-use Rattle.shootdown.specs.Processors.{woken}
-use Rattle.shootdown.specs.Shootdown.{processor_at, interrupted}
-use Rattle.shootdown.specs.Coherence.{IsUnused, IsNoWider}
-use Rattle.shootdown.proofs.Public.{at-with_processor, IsShootdown-finished, IsUnused-from_Coheres, Coheres-finished, Coheres-changed}
-use Rattle.checkpoint.specs.Checkpoint.{CheckpointState}
-use Rattle.machine.specs.State.{State, home_of}
-use Rattle.shootdown.specs.Calls.{not_there, lock_refusal}
-use Rattle.machine.specs.Rules.{MayChange, end_change}
-use Rattle.machine.specs.inside.Sound.{IsPrepared, AreSpacesSound, AreWriteOutsSound, IsSound}
-use Rattle.machine.specs.Durability.{waiting_homes}
 use Rattle.machine.proofs.sound.Admitted.{both_none, there_below}
 
 -- ---- who changes

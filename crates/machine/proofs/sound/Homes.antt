@@ -1,23 +1,13 @@
 -- The home blocks of gathered pages: they rise strictly, lie in the volume, and are no more than the frames.
-use Rattle.std.proofs.Common.{ℕ, ◌≡◌, ◌≢◌, ◌+◌, ◌<◌, ◌≤◌, true, cond, List, [], ◌∷◌, length, take, map, get_or, set, Option, Some, None, is_some, refl, sym, ap, ◌∙◌, subst, inl, inr, ⊎_elim, arith}
-use Rattle.std.specs.List.{All, list_any, count_by}
-use Rattle.std.proofs.lemmas.Bool.{cases_eq, cases_lt}
-use Rattle.std.proofs.lemmas.List.{take-take, get_or-set_other, get_or_past, length-map}
-use Rattle.std.proofs.lemmas.List.Elements.{All-head, All-tail}
+use Rattle.machine.proofs.Names.{ℕ, ◌≡◌, ◌≢◌, ◌+◌, ◌<◌, ◌≤◌, true, cond, List, [], ◌∷◌, length, take, map, get_or, set}
+use Rattle.machine.proofs.Names.{Option, Some, None, is_some, refl, sym, ap, ◌∙◌, subst, inl, inr, ⊎_elim, arith, All}
+use Rattle.machine.proofs.Names.{list_any, count_by, cases_eq, cases_lt, take-take, get_or-set_other, get_or_past}
+use Rattle.machine.proofs.Names.{length-map, All-head, All-tail, FilePage, TableFile, first_home, pages_of, total_pages}
+use Rattle.machine.proofs.Names.{block_count, geometry_of, RiseWithin, AreHomes, total_pages-take_more}
+use Rattle.machine.proofs.Names.{total_pages-take_le, Frame, IsBefore, page_of, is_of_page, AreRising}
+use Rattle.machine.proofs.Names.{has_page-list_any, list_any-has_page, AreRising-tail, before_each, is_in_memory, State}
+use Rattle.machine.proofs.Names.{home_of, length_of, IsInFile, capacity_of, IsSound}
 use Rattle.std.proofs.lemmas.List.Sums.{sum_by-set, count_by-le-length}
-use Rattle.page_entry.specs.declared.numbers.FilePage.{FilePage}
-use Rattle.volume_codec.specs.Files.{TableFile}
-use Rattle.volume_codec.specs.Layout.{first_home}
-use Rattle.volume_codec.specs.Super.{pages_of, total_pages, block_count, geometry_of}
-use Rattle.volume_codec.specs.Descriptor.{RiseWithin, AreHomes}
-use Rattle.volume_codec.proofs.Public.{total_pages-take_more, total_pages-take_le}
-use Rattle.frames.specs.Frames.{Frame, IsBefore, page_of}
-use Rattle.checkpoint.specs.Checkpoint.{is_of_page, AreRising}
-use Rattle.checkpoint.proofs.Public.{has_page-list_any, list_any-has_page, AreRising-tail, before_each}
-use Rattle.fault.specs.Fault.{is_in_memory}
-use Rattle.machine.specs.State.{State, home_of, length_of}
-use Rattle.machine.specs.Durability.{IsInFile}
-use Rattle.machine.specs.inside.Sound.{capacity_of, IsSound}
 use Rattle.machine.proofs.sound.Lists.{held_frame, same_some}
 
 -- ---- where files lie

@@ -1,12 +1,7 @@
 -- Every step keeps a machine sound.
-use Rattle.std.proofs.Common.{ℕ, List}
-use Rattle.machine.specs.declared.act.Act.{Act}
-use Rattle.machine.specs.declared.act.Reply.{Reply}
-use Rattle.machine.specs.declared.act.Step.{Step}
-use Rattle.machine.specs.State.{State}
-use Rattle.machine.specs.Rules.{Rules, after_failure}
-use Rattle.machine.specs.inside.Sound.{IsSound}
-use Rattle.machine.specs.inside.Moves.{Performed, Moved, Marked, Flushed, Failed}
+use Rattle.machine.proofs.Names.{ℕ, List, Act, Reply, Step, State, Rules, after_failure, IsSound, Performed, Moved}
+use Rattle.machine.proofs.Names.{Marked, Failed}
+use Rattle.machine.specs.inside.Moves.{Flushed}
 use Rattle.machine.proofs.sound.Groups.{unchanged_sound}
 use Rattle.machine.proofs.sound.ByMark.{marked_sound}
 use Rattle.machine.proofs.sound.ByFlush.{flushed_sound, failed_sound}

@@ -1,10 +1,7 @@
 -- Frames and copies that have whole pages, each page once.
-use Rattle.std.proofs.Common.{◌≡◌, ◌≢◌, ℕ, List, length, get_or, set, Option, Some, None, is_some, IsSome, refl, sym, ap, ◌∙◌, ⊎_elim, zero, suc, Bool, true, false, cond, replicate}
-use Rattle.std.proofs.lemmas.Bool.{cases_eq}
-use Rattle.page_entry.specs.declared.numbers.FilePage.{FilePage}
-use Rattle.frames.specs.Frames.{FramesState, Frame, frame_at, bytes_of, page_of}
-use Rattle.frames.proofs.Public.{after_set}
-use Rattle.machine.specs.inside.Sound.{IsMemory}
+use Rattle.machine.proofs.Names.{◌≡◌, ◌≢◌, ℕ, List, length, get_or, set, Option, Some, None, is_some, IsSome, refl, sym}
+use Rattle.machine.proofs.Names.{ap, ◌∙◌, ⊎_elim, zero, suc, Bool, true, false, cond, replicate, cases_eq, FilePage}
+use Rattle.machine.proofs.Names.{FramesState, Frame, frame_at, bytes_of, page_of, after_set, IsMemory}
 
 -- what is there is some
 pub some_from : {X : Type 0} (o : Option X) → IsSome o → (x : X) × (o ≡ Some x)

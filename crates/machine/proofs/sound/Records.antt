@@ -1,19 +1,13 @@
 -- The page whose record comes next: it is frozen and in memory, and its record is a whole page.
-use Rattle.std.proofs.Common.{ℕ, zero, suc, ◌≡◌, ◌<◌, Bool, true, false, cond, List, [], ◌∷◌, length, map, get_or, slice_index, Option, Some, None, refl, sym, ap, ◌∙◌, arith}
-use Rattle.std.specs.List.{list_any}
-use Rattle.std.specs.Option.{option_map, option_and_then}
-use Rattle.std.proofs.lemmas.Bool.{cond-false, or_parts}
-use Rattle.std.proofs.lemmas.List.{length-map, length-drop, get_or-drop, get_or-map}
-use Rattle.page_entry.specs.declared.numbers.FilePage.{FilePage}
-use Rattle.frames.specs.Frames.{FramesState, Frame, frame_at, copy_at, page_of, bytes_of, HasNoCopy}
-use Rattle.journal.specs.WriteOut.{next_record as record_of, next_home}
-use Rattle.journal.specs.WriteOuts.{current, outs_record, outs_home}
-use Rattle.checkpoint.specs.Checkpoint.{is_of_page, same_page}
-use Rattle.checkpoint.proofs.Public.{same_page-true, same_page-refl, list_any-no_page}
-use Rattle.fault.specs.Fault.{is_in_memory}
-use Rattle.machine.specs.State.{State, home_of}
-use Rattle.machine.specs.Rules.{next_page, bytes_with, bytes_at_mark}
-use Rattle.machine.specs.inside.Sound.{IsMemory, IsSound}
+use Rattle.machine.proofs.Names.{ℕ, zero, suc, ◌≡◌, ◌<◌, Bool, true, false, cond, List, [], ◌∷◌, length, map, get_or}
+use Rattle.machine.proofs.Names.{slice_index, Option, Some, None, refl, sym, ap, ◌∙◌, arith, list_any, option_map}
+use Rattle.machine.proofs.Names.{option_and_then, cond-false, or_parts, length-map, length-drop, get_or-drop}
+use Rattle.machine.proofs.Names.{get_or-map, FilePage, FramesState, Frame, frame_at, copy_at, page_of, bytes_of}
+use Rattle.machine.proofs.Names.{HasNoCopy, next_home, outs_record, outs_home, is_of_page, same_page, same_page-true}
+use Rattle.machine.proofs.Names.{same_page-refl, list_any-no_page, is_in_memory, State, home_of, next_page, bytes_with}
+use Rattle.machine.proofs.Names.{bytes_at_mark, IsMemory, IsSound}
+use Rattle.journal.specs.WriteOut.{next_record as record_of}
+use Rattle.journal.specs.WriteOuts.{current}
 use Rattle.machine.proofs.sound.Lists.{AreOnce, same_some, held_frame, once_frames, once_copies}
 use Rattle.machine.proofs.sound.Waiting.{waits_of, waiting, recorded}
 use Rattle.machine.proofs.sound.Frames.{held_in_memory}

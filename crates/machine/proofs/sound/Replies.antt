@@ -1,35 +1,20 @@
 -- No step is answered that a trace is full, which a machine alone never is, and only those that want memory are answered
 -- that there is none.
-use Rattle.std.proofs.Common.{ℕ, ◌≡◌, ◌*◌, ◌/◌, ◌%◌, ◌-◌, ◌^◌, ◌&&◌, ◌||◌, not, eqb, leb, Bool, true, false, cond, List, [], ◌∷◌, length, Option, Some, None, is_some, Result, Ok, Err, refl, ap, ◌∙◌, sym, ◌≢◌, subst}
-use Rattle.std.specs.Option.{option_or}
-use Rattle.std.specs.List.{AllByRecursion}
-use Rattle.page_entry.specs.declared.refusal.Refusal.{Refusal}
+use Rattle.machine.proofs.Names.{ℕ, ◌≡◌, ◌≢◌, ◌-◌, ◌*◌, ◌/◌, ◌%◌, ◌^◌, ◌==◌, ◌&&◌, ◌||◌, not, nat_le, Bool, true, false}
+use Rattle.machine.proofs.Names.{cond, List, [], ◌∷◌, length, Option, Some, None, Result, Ok, Err, refl, ap, ◌∙◌, sym}
+use Rattle.machine.proofs.Names.{subst, option_or, false≢true, Refusal, Place, Rights, PageRange, Places, may_write}
+use Rattle.machine.proofs.Names.{allows, any_mapped, all_mapped, any_forbids, pages_holding, is_user_range, is_mappable}
+use Rattle.machine.proofs.Names.{range_of_bytes, mapped_pages_of, add_refusal, protect_refusal, Spaces, space_at}
+use Rattle.machine.proofs.Names.{place_at, is_user_space, judged_range, judged_mapping, unless, allowed, maps_each}
+use Rattle.machine.proofs.Names.{is_busy, Lock, ProcState, ShootdownState, is_current, current, not_running, not_free}
+use Rattle.machine.proofs.Names.{interrupted, not_there, is_stalled, is_idle, wait_refusal, lock_refusal}
+use Rattle.machine.proofs.Names.{destroy_refusal, has_free, page_at, allowed_place, place_of_fault, is_in_memory}
+use Rattle.machine.proofs.Names.{copies_out, Act, Reply, Step, State, length_of, refuse_if, first_of, why_not}
+use Rattle.machine.proofs.Names.{pages_in_file, is_msync, mapping_refusal, served_refusal, IsRefused, WantsMemory, Acts}
+use Rattle.machine.proofs.Names.{Rules}
 use Rattle.page_entry.specs.declared.refusal.Refusal.TheVariants as refusals
-use Rattle.mappings.specs.declared.place.Place.{Place}
-use Rattle.mappings.specs.declared.place.Rights.{Rights}
-use Rattle.mappings.specs.declared.page_range.PageRange.{PageRange}
-use Rattle.mappings.specs.Places.{Places, may_write, allows, any_mapped, all_mapped, any_forbids}
-use Rattle.mappings.specs.Judgement.{pages_holding, is_user_range, is_mappable, range_of_bytes, add_refusal, protect_refusal}
-use Rattle.frames.specs.Frames.{has_free}
-use Rattle.spaces.specs.Spaces.{Spaces, has_space, space_at, place_at}
-use Rattle.spaces.specs.Requests.{is_user_space, judged_range, judged_mapping, judged_protection, unless, allowed, maps_each}
-use Rattle.shootdown.specs.declared.lock.Lock.{Lock}
-use Rattle.shootdown.specs.declared.proc_state.ProcState.{ProcState}
-use Rattle.shootdown.specs.Processors.{is_running}
-use Rattle.shootdown.specs.Shootdown.{ShootdownState, is_there, state_of, current, not_running, not_free, is_interrupted, interrupted, is_current}
-use Rattle.shootdown.specs.Calls.{not_there, is_stalled, is_idle, wait_refusal, idle_refusal, switch_refusal, lock_refusal, change_refusal, destroy_refusal}
-use Rattle.checkpoint.specs.Backing.{page_at}
-use Rattle.fault.specs.Fault.{allowed_place, place_of_fault, is_in_memory, copies_out, fault_refusal}
-use Rattle.machine.specs.declared.act.Act.{Act}
 use Rattle.machine.specs.declared.act.Act.TheVariants as acts
-use Rattle.machine.specs.declared.act.Reply.{Reply}
 use Rattle.machine.specs.declared.act.Reply.TheVariants as replies
-use Rattle.machine.specs.declared.act.Step.{Step}
-use Rattle.machine.specs.State.{State, length_of}
-use Rattle.journal.specs.WriteOuts.{is_busy}
-use Rattle.machine.specs.Refusals.{refuse_if, first_of, why_not, destroy_refusal_of, mapping_refusal, map_refusal, unmap_refusal, protect_refusal_of, pages_in_file, reclaim_refusal, is_msync, msync_refusal, served_refusal, fix_refusal, flush_refusal}
-use Rattle.std.proofs.lemmas.Bool.{false≢true}
-use Rattle.machine.specs.Rules.{IsRefused, WantsMemory, Acts, Rules}
 
 -- ---- reasons that aren't these two
 
@@ -39,236 +24,176 @@ is_odd (Some refusals.OutOfMemory) = true
 is_odd reason = false
 
 -- a reason that is neither of them, or none
-abbrev Fine : Option Refusal → Type 0
-Fine reason = is_odd reason ≡ false
+record IsFine (reason : Option Refusal) : Type 0 where
+  is : is_odd reason ≡ false
 
-cond_fine : (b : Bool) (x y : Option Refusal) → Fine x → Fine y → Fine (cond b x y)
-cond_fine true x y fx fy = fx
-cond_fine false x y fx fy = fy
+no_reason : IsFine None
+no_reason = record { is = refl }
 
-or_fine : (x y : Option Refusal) → Fine x → Fine y → Fine (option_or x y)
+-- this reason where a test passes, or else another
+if_fine : (b : Bool) (why : Refusal) (other : Option Refusal) → is_odd (Some why) ≡ false → IsFine other → IsFine (cond b (Some why) other)
+if_fine true why other is fine = record { is = is }
+if_fine false why other is fine = fine
+
+-- this reason unless a test passes
+unless_fine : (b : Bool) (why : Refusal) (other : Option Refusal) → is_odd (Some why) ≡ false → IsFine other → IsFine (cond b other (Some why))
+unless_fine true why other is fine = fine
+unless_fine false why other is fine = record { is = is }
+
+or_fine : (x y : Option Refusal) → IsFine x → IsFine y → IsFine (option_or x y)
 or_fine None y fx fy = fy
 or_fine (Some why) y fx fy = fx
 
-refuse_fine : (b : Bool) (why : Refusal) → Fine (Some why) → Fine (refuse_if b why)
-refuse_fine true why fine = fine
-refuse_fine false why fine = refl
+-- a reason that a test gives, or else another
+refuse_fine : (b : Bool) (why : Refusal) (other : Option Refusal) → is_odd (Some why) ≡ false → IsFine other → IsFine (option_or (refuse_if b why) other)
+refuse_fine true why other is fine = record { is = is }
+refuse_fine false why other is fine = fine
 
-first_fine : (reasons : List (Option Refusal)) → AllByRecursion Fine reasons → Fine (first_of reasons)
-first_fine [] all = refl
-first_fine (reason ∷ reasons) all = or_fine reason (first_of reasons) all.0 (first_fine reasons all.1)
+-- what was judged, unless a test fails, or another passes
+why_unless : {X : Type 0} (b : Bool) (r : Result X Refusal) (why : Refusal) → IsFine (why_not r) → is_odd (Some why) ≡ false → IsFine (why_not (cond b r (Err why)))
+why_unless true r why fine is = fine
+why_unless false r why fine is = record { is = is }
 
-why_cond : {X : Type 0} (b : Bool) (x y : Result X Refusal) → Fine (why_not x) → Fine (why_not y) → Fine (why_not (cond b x y))
-why_cond true x y fx fy = fx
-why_cond false x y fx fy = fy
+why_if : {X : Type 0} (b : Bool) (r : Result X Refusal) (why : Refusal) → is_odd (Some why) ≡ false → IsFine (why_not r) → IsFine (why_not (cond b (Err why) r))
+why_if true r why is fine = record { is = is }
+why_if false r why is fine = fine
 
--- ---- the reasons of each act
+-- ---- the reasons of processors, spaces and faults
 
-running_fine : (s : ShootdownState) (p : ℕ) → Fine (not_running s p)
-running_fine s p = cond_fine (not (is_there s p)) (Some refusals.Einval) (cond (is_running (state_of s p)) None (Some refusals.Stalled)) refl (cond_fine (is_running (state_of s p)) None (Some refusals.Stalled) refl refl)
+running_fine : (s : ShootdownState) (p : ℕ) → IsFine (not_running s p)
+running_fine s p = if_fine _ _ _ refl (unless_fine _ _ _ refl no_reason)
 
-free_fine : (s : ShootdownState) (p : ℕ) → Fine (not_free s p)
-free_fine s p = or_fine (not_running s p) (cond (is_some s.lock) (Some refusals.Locked) None) (running_fine s p) (cond_fine (is_some s.lock) (Some refusals.Locked) None refl refl)
+free_fine : (s : ShootdownState) (p : ℕ) → IsFine (not_free s p)
+free_fine s p = or_fine _ _ (running_fine s p) (if_fine _ _ _ refl no_reason)
 
-range_fine : (spaces : Spaces) (pcid va len : ℕ) → Fine (why_not (judged_range spaces pcid va len))
-range_fine spaces pcid va len =
-    why_cond (is_user_space spaces pcid) (range_of_bytes va len) (Err refusals.Einval) (why_cond (eqb (va % 4096) 0 && is_user_range (pages_holding va len)) (Ok (pages_holding va len)) (Err refusals.Einval) refl refl) refl
+there_fine : (s : ShootdownState) (p : ℕ) → IsFine (not_there s p)
+there_fine s p = unless_fine _ _ _ refl no_reason
 
-add_fine : (places : Places) (range : PageRange) (place : Place) → Fine (add_refusal places range place)
+wait_fine : (waits : ProcState → Bool) (s : ShootdownState) (p : ℕ) → IsFine (wait_refusal waits s p)
+wait_fine waits s p = or_fine _ _ (there_fine s p) (if_fine _ _ _ refl no_reason)
+
+lock_fine : (p waiting : ℕ) (lock : Option Lock) → IsFine (lock_refusal p waiting lock)
+lock_fine p waiting None = no_reason
+lock_fine p waiting (Some lock) = unless_fine _ _ _ refl (unless_fine _ _ _ refl no_reason)
+
+bytes_fine : (va len : ℕ) → IsFine (why_not (range_of_bytes va len))
+bytes_fine va len = why_unless (va % 4096 == 0 && is_user_range (pages_holding va len)) (Ok (pages_holding va len)) refusals.Einval no_reason refl
+
+range_fine : (spaces : Spaces) (pcid va len : ℕ) → IsFine (why_not (judged_range spaces pcid va len))
+range_fine spaces pcid va len = why_unless (is_user_space spaces pcid) (range_of_bytes va len) refusals.Einval (bytes_fine va len) refl
+
+add_fine : (places : Places) (range : PageRange) (place : Place) → IsFine (add_refusal places range place)
 add_fine places range place =
-    cond_fine (not (is_mappable range place.page)) (Some refusals.Einval) (cond (not (allows place.access place.rights)) (Some refusals.Eacces) (cond (any_mapped places range.first range.count) (Some refusals.Overlap) None)) refl
-    (cond_fine (not (allows place.access place.rights)) (Some refusals.Eacces) (cond (any_mapped places range.first range.count) (Some refusals.Overlap) None) refl
-    (cond_fine (any_mapped places range.first range.count) (Some refusals.Overlap) None refl refl))
+    if_fine (not (is_mappable range place.page)) refusals.Einval _ refl
+    (if_fine (not (allows place.access place.rights)) refusals.Eacces _ refl (if_fine (any_mapped places range.first range.count) refusals.Overlap None refl no_reason))
 
-mapping_fine : (s : State) (pcid file : ℕ) (prot access : Rights) (r : Result (PageRange × ℕ) Refusal) → Fine (why_not r) → Fine (mapping_refusal s pcid file prot access r)
+protect_fine : (places : Places) (range : PageRange) (rights : Rights) → IsFine (protect_refusal places range rights)
+protect_fine places range rights =
+    if_fine (not (is_user_range range)) refusals.Einval _ refl
+    (if_fine (not (all_mapped places range.first range.count)) refusals.Enomem _ refl (if_fine (any_forbids places range.first range.count rights) refusals.Eacces None refl no_reason))
+
+destroy_fine : (s : ShootdownState) (spaces : Spaces) (pcid : ℕ) → IsFine (destroy_refusal s spaces pcid)
+destroy_fine s spaces pcid = if_fine (not (is_user_space spaces pcid)) refusals.Einval _ refl (if_fine (is_current s pcid) refusals.Busy None refl no_reason)
+
+mapping_fine : (s : State) (pcid file : ℕ) (prot access : Rights) (r : Result (PageRange × ℕ) Refusal) → IsFine (why_not r) → IsFine (mapping_refusal s pcid file prot access r)
 mapping_fine s pcid file prot access (Err why) fine = fine
 mapping_fine s pcid file prot access (Ok pages) fine =
-    first_fine (refuse_if (leb (length s.table.files) file) refusals.NoFile ∷ add_refusal (space_at s.hardware.spaces pcid).places pages.0 (record { file = file; page = pages.1; rights = prot; access = access }) ∷ [])
-    (refuse_fine (leb (length s.table.files) file) refusals.NoFile refl, (add_fine (space_at s.hardware.spaces pcid).places pages.0 (record { file = file; page = pages.1; rights = prot; access = access }), tt))
+    let place : Place = record { file = file; page = pages.1; rights = prot; access = access } in
+    refuse_fine _ _ _ refl (or_fine (add_refusal (space_at s.hardware.spaces pcid).places pages.0 place) None (add_fine (space_at s.hardware.spaces pcid).places pages.0 place) no_reason)
 
-judged_mapping_fine : (spaces : Spaces) (pcid va len offset : ℕ) → Fine (why_not (judged_mapping spaces pcid va len offset))
-judged_mapping_fine spaces pcid va len offset = by (is_user_space spaces pcid) (eqb (va % 4096) 0 && eqb (offset % 4096) 0 && is_mappable (pages_holding va len) (offset / 4096))
-  where
-    by : (a b : Bool) → Fine (why_not {X = PageRange × ℕ} (cond a (cond b (Ok (pages_holding va len, offset / 4096)) (Err refusals.Einval)) (Err refusals.Einval)))
-    by true true = refl
-    by true false = refl
-    by false b = refl
+judged_fine : (spaces : Spaces) (pcid va len offset : ℕ) → IsFine (why_not (judged_mapping spaces pcid va len offset))
+judged_fine spaces pcid va len offset = why_unless (is_user_space spaces pcid) (mapped_pages_of va len offset) refusals.Einval
+    (why_unless (va % 4096 == 0 && offset % 4096 == 0 && is_mappable (pages_holding va len) (offset / 4096)) (Ok (pages_holding va len, offset / 4096)) refusals.Einval no_reason refl) refl
 
-protect_fine : (places : Places) (range : PageRange) (rights : Rights) → Fine (protect_refusal places range rights)
-protect_fine places range rights =
-    cond_fine (not (is_user_range range)) (Some refusals.Einval) (cond (not (all_mapped places range.first range.count)) (Some refusals.Enomem) (cond (any_forbids places range.first range.count rights) (Some refusals.Eacces) None)) refl
-    (cond_fine (not (all_mapped places range.first range.count)) (Some refusals.Enomem) (cond (any_forbids places range.first range.count rights) (Some refusals.Eacces) None) refl
-    (cond_fine (any_forbids places range.first range.count rights) (Some refusals.Eacces) None refl refl))
-
-protection_fine : (spaces : Spaces) (pcid : ℕ) (rights : Rights) (r : Result PageRange Refusal) → Fine (why_not r) → Fine (why_not (allowed spaces pcid rights r))
+protection_fine : (spaces : Spaces) (pcid : ℕ) (rights : Rights) (r : Result PageRange Refusal) → IsFine (why_not r) → IsFine (why_not (allowed spaces pcid rights r))
 protection_fine spaces pcid rights (Err why) fine = fine
-protection_fine spaces pcid rights (Ok range) fine = by (protect_refusal (space_at spaces pcid).places range rights) (protect_fine (space_at spaces pcid).places range rights)
+protection_fine spaces pcid rights (Ok range) fine =
+    by (protect_refusal (space_at spaces pcid).places range rights) (protect_fine (space_at spaces pcid).places range rights)
   where
-    by : (o : Option Refusal) → Fine o → Fine (why_not (unless o range))
-    by None fine = refl
+    by : (o : Option Refusal) → IsFine o → IsFine (why_not (unless o range))
+    by None fine = no_reason
     by (Some why) fine = fine
 
-lock_fine : (p waiting : ℕ) (lock : Option Lock) → Fine (lock_refusal p waiting lock)
-lock_fine p waiting None = refl
-lock_fine p waiting (Some lock) =
-    cond_fine (eqb lock.holder p) (cond (eqb waiting 0) None (Some (refusals.NotYet waiting))) (Some refusals.Locked) (cond_fine (eqb waiting 0) None (Some (refusals.NotYet waiting)) refl refl) refl
-
-fault_fine : (s : State) (place : Place) (write : Bool) → Fine (fault_refusal s.hardware.memory s.checkpoint s.write_outs.broken place (length_of s place.file) write)
-fault_fine s place write = by (leb (length_of s place.file) (4096 * place.page)) (copies_out s.hardware.memory s.checkpoint (page_at place) write && not (has_free s.hardware.memory.copies)) (is_in_memory s.hardware.memory (page_at place)) (not (has_free s.hardware.memory.frames)) s.write_outs.broken
+place_fine : (spaces : Spaces) (pcid va : ℕ) (write : Bool) → IsFine (why_not (place_of_fault spaces pcid va write))
+place_fine spaces pcid va write = why_if (nat_le (2 ^ 47) va) (allowed_place write (place_at spaces pcid (va / 4096))) refusals.Einval refl (by (place_at spaces pcid (va / 4096)))
   where
-    by : (a b c d e : Bool) → Fine (cond a (Some refusals.BusAdrErr) (cond b (Some refusals.Held) (cond c None (cond d (Some refusals.NoFrame) (cond e (Some refusals.Device) None)))))
-    by true b c d e = refl
-    by false true c d e = refl
-    by false false true d e = refl
-    by false false false true e = refl
-    by false false false false true = refl
-    by false false false false false = refl
+    by : (o : Option Place) → IsFine (why_not (allowed_place write o))
+    by None = record { is = refl }
+    by (Some place) = why_if (write && not (may_write place.rights)) (Ok place) refusals.SegvAccErr refl no_reason
 
-served_fine : (s : State) (write : Bool) (r : Result Place Refusal) → Fine (why_not r) → Fine (served_refusal s write r)
+served_fine : (s : State) (write : Bool) (r : Result Place Refusal) → IsFine (why_not r) → IsFine (served_refusal s write r)
 served_fine s write (Err why) fine = fine
-served_fine s write (Ok place) fine = fault_fine s place write
-
-place_fine : (spaces : Spaces) (pcid va : ℕ) (write : Bool) → Fine (why_not (place_of_fault spaces pcid va write))
-place_fine spaces pcid va write = why_cond (leb (2 ^ 47) va) (Err refusals.Einval) (allowed_place write (place_at spaces pcid (va / 4096))) refl (by (place_at spaces pcid (va / 4096)))
+served_fine s write (Ok place) fine =
+    let memory = s.hardware.memory in
+    if_fine (nat_le (length_of s place.file) (4096 * place.page)) refusals.BusAdrErr _ refl
+    (if_fine (copies_out memory s.checkpoint (page_at place) write && not (has_free memory.copies)) refusals.Held _ refl
+    (unless_there (is_in_memory memory (page_at place)) (if_fine (not (has_free memory.frames)) refusals.NoFrame _ refl (if_fine s.write_outs.broken refusals.Device None refl no_reason))))
   where
-    by : (o : Option Place) → Fine (why_not (allowed_place write o))
-    by None = refl
-    by (Some place) = why_cond (write && not (may_write place.rights)) (Err refusals.SegvAccErr) (Ok place) refl refl
+    unless_there : (b : Bool) {other : Option Refusal} → IsFine other → IsFine (cond b None other)
+    unless_there true fine = no_reason
+    unless_there false fine = fine
 
--- ---- no act
+-- ---- acts
 
-never : (reason : Option Refusal) (why : Refusal) (s new : State) → is_odd (Some why) ≡ true → Fine reason → IsRefused reason why s new → ⊥
-never reason why s new odd fine refused = false≢true (sym fine ∙ ap is_odd refused.reason_is ∙ odd)
+-- the act isn't answered that a trace is full, and that there is no memory only where it wants some
+abbrev IsSparing : State → List ℕ → ℕ → Act → State → List ℕ → Type 0
+IsSparing s disk p act new disk' =
+    (Acts s disk p act (replies.Refused refusals.TraceFull) new disk' → ⊥) × (Acts s disk p act (replies.Refused refusals.OutOfMemory) new disk' → WantsMemory s p act)
 
-there_fine : (s : ShootdownState) (p : ℕ) → Fine (not_there s p)
-there_fine s p = cond_fine (is_there s p) None (Some refusals.Einval) refl refl
+never : {reason : Option Refusal} {why : Refusal} {s new : State} → is_odd (Some why) ≡ true → IsFine reason → IsRefused reason why s new → ⊥
+never odd fine refused = false≢true (sym fine.is ∙ ap is_odd refused.reason_is ∙ odd)
 
-wait_fine : (waits : ProcState → Bool) (s : ShootdownState) (p : ℕ) → Fine (wait_refusal waits s p)
-wait_fine waits s p =
-    let held = waits (state_of s p) && is_some s.lock in
-    or_fine (not_there s p) (cond held (Some refusals.Locked) None) (there_fine s p) (cond_fine held (Some refusals.Locked) None refl refl)
+module _ (s : State) (disk : List ℕ) (p : ℕ) (new : State) (disk' : List ℕ) where
+  -- refused for these reasons alone
+  refused_for : {reason : Option Refusal} {Same : Type 0} → IsFine reason
+      → (IsRefused reason refusals.TraceFull s new × Same → ⊥) × (IsRefused reason refusals.OutOfMemory s new × Same → ⊥)
+  refused_for fine = (λ rule. never refl fine rule.0, λ rule. never refl fine rule.0)
 
-module _ (s : State) (p : ℕ) where
+  -- or for want of memory
+  refused_wanting : {reason : Option Refusal} {Same Wants : Type 0} → IsFine reason
+      → (IsRefused reason refusals.TraceFull s new × Same → ⊥) × ((Wants × (new ≡ s)) × Same → Wants)
+  refused_wanting fine = (λ rule. never refl fine rule.0, λ rule. rule.0.0)
+
   -- after the processor and the lock
-  then_fine : (reasons : List (Option Refusal)) → AllByRecursion Fine reasons → Fine (first_of (not_free s.hardware.shootdown p ∷ reasons))
-  then_fine reasons all = first_fine (not_free s.hardware.shootdown p ∷ reasons) (free_fine s.hardware.shootdown p, all)
+  abbrev free : Option Refusal
+  free = not_free s.hardware.shootdown p
 
-  -- the first reason against an act; of loads, stores, fills and evictions none is asked
-  abbrev reason_of : Act → Option Refusal
-  reason_of (acts.Load va count) = None
-  reason_of (acts.Store va bytes) = None
-  reason_of (acts.Fill page) = None
-  reason_of (acts.Evict slot) = None
-  reason_of (acts.Switch space keep) = switch_refusal s.hardware.shootdown s.hardware.spaces p space
-  reason_of acts.Idle = idle_refusal s.hardware.shootdown p
-  reason_of acts.Wake = wait_refusal is_idle s.hardware.shootdown p
-  reason_of (acts.Fix va write) = fix_refusal s p va write
-  reason_of acts.Create = not_free s.hardware.shootdown p
-  reason_of (acts.Destroy space) = destroy_refusal_of s p space
-  reason_of (acts.Map space va len file offset prot access) = map_refusal s p space va len file offset prot access
-  reason_of (acts.Unmap space va len) = unmap_refusal s p space va len
-  reason_of (acts.Protect space va len prot) = protect_refusal_of s p space va len prot
-  reason_of (acts.Reclaim file page) = reclaim_refusal s p (record { file = file; page = page })
-  reason_of (acts.Msync va len flags) = msync_refusal s p va len flags
-  reason_of acts.Ack = not_there s.hardware.shootdown p
-  reason_of acts.Change = change_refusal s.hardware.shootdown p
-  reason_of acts.Resume = wait_refusal is_stalled s.hardware.shootdown p
-  reason_of acts.Flush = flush_refusal s p
+  then_fine : (other : Option Refusal) → IsFine other → IsFine (option_or free other)
+  then_fine other fine = or_fine free other (free_fine s.hardware.shootdown p) fine
 
-  act_fine : (act : Act) → Fine (reason_of act)
-  act_fine (acts.Load va count) = refl
-  act_fine (acts.Store va bytes) = refl
-  act_fine (acts.Fill page) = refl
-  act_fine (acts.Evict slot) = refl
-  act_fine (acts.Switch space keep) =
-      let there = has_space s.hardware.spaces space in
-      or_fine (not_free s.hardware.shootdown p) (cond there None (Some refusals.Einval)) (free_fine s.hardware.shootdown p) (cond_fine there None (Some refusals.Einval) refl refl)
-  act_fine acts.Idle =
-      let was = is_interrupted (state_of s.hardware.shootdown p) in
-      or_fine (not_running s.hardware.shootdown p) (cond was (Some refusals.Locked) None) (running_fine s.hardware.shootdown p) (cond_fine was (Some refusals.Locked) None refl refl)
-  act_fine acts.Wake =
-      wait_fine is_idle s.hardware.shootdown p
-  act_fine (acts.Fix va write) =
-      let place = place_of_fault s.hardware.spaces (current s.hardware.shootdown p) va write in
-      then_fine (served_refusal s write place ∷ []) (served_fine s write place (place_fine s.hardware.spaces (current s.hardware.shootdown p) va write), tt)
-  act_fine acts.Create =
-      free_fine s.hardware.shootdown p
-  act_fine (acts.Destroy space) =
-      let used = cond (is_current s.hardware.shootdown space) (Some refusals.Busy) None in
-      let missing = not (is_user_space s.hardware.spaces space) in
-      then_fine (destroy_refusal s.hardware.shootdown s.hardware.spaces space ∷ [])
-      (cond_fine missing (Some refusals.Einval) used refl (cond_fine (is_current s.hardware.shootdown space) (Some refusals.Busy) None refl refl), tt)
-  act_fine (acts.Map space va len file offset prot access) =
-      let judged = judged_mapping s.hardware.spaces space va len offset in
-      then_fine (mapping_refusal s space file prot access judged ∷ []) (mapping_fine s space file prot access judged (judged_mapping_fine s.hardware.spaces space va len offset), tt)
-  act_fine (acts.Unmap space va len) =
-      then_fine (why_not (judged_range s.hardware.spaces space va len) ∷ []) (range_fine s.hardware.spaces space va len, tt)
-  act_fine (acts.Protect space va len prot) =
-      then_fine (why_not (judged_protection s.hardware.spaces space va len prot) ∷ []) (protection_fine s.hardware.spaces space prot (judged_range s.hardware.spaces space va len) (range_fine s.hardware.spaces space va len), tt)
-  act_fine (acts.Reclaim file page) =
-      then_fine (refuse_if (leb (length s.table.files) file) refusals.NoFile ∷ refuse_if (leb (pages_in_file s.table.files file) page) refusals.Einval ∷ [])
-      (refuse_fine (leb (length s.table.files) file) refusals.NoFile refl, (refuse_fine (leb (pages_in_file s.table.files file) page) refusals.Einval refl, tt))
-  act_fine (acts.Msync va len flags) =
-      let unmapped = not (maps_each s.hardware.spaces (current s.hardware.shootdown p) va len) in
-      let full = is_busy s.write_outs || leb (2 ^ 32 - 1) s.marks in
-      then_fine (refuse_if (not (is_msync va len flags)) refusals.Einval ∷ refuse_if unmapped refusals.Enomem ∷ refuse_if s.write_outs.broken refusals.Broken ∷ refuse_if full refusals.Busy ∷ [])
-      (refuse_fine (not (is_msync va len flags)) refusals.Einval refl, (refuse_fine unmapped refusals.Enomem refl, (refuse_fine s.write_outs.broken refusals.Broken refl, (refuse_fine full refusals.Busy refl, tt))))
-  act_fine acts.Ack =
-      there_fine s.hardware.shootdown p
-  act_fine acts.Change =
-      let waits = lock_refusal p (interrupted s.hardware.shootdown) s.hardware.shootdown.lock in
-      or_fine (not_there s.hardware.shootdown p) waits (there_fine s.hardware.shootdown p) (lock_fine p (interrupted s.hardware.shootdown) s.hardware.shootdown.lock)
-  act_fine acts.Resume =
-      wait_fine is_stalled s.hardware.shootdown p
-  act_fine acts.Flush =
-      first_fine (not_running s.hardware.shootdown p ∷ refuse_if s.write_outs.broken refusals.Broken ∷ []) (running_fine s.hardware.shootdown p, (refuse_fine s.write_outs.broken refusals.Broken refl, tt))
+  last_fine : (reason : Option Refusal) → IsFine reason → IsFine (first_of (free ∷ reason ∷ []))
+  last_fine reason fine = then_fine (first_of (reason ∷ [])) (or_fine reason None fine no_reason)
 
-  act_not_full : (disk : List ℕ) (act : Act) (new : State) (disk' : List ℕ) → Acts s disk p act (replies.Refused refusals.TraceFull) new disk' → ⊥
-  act_not_full disk (acts.Load va count) new disk' rule = rule.0.1.0
-  act_not_full disk (acts.Store va bytes) new disk' rule = rule.0.1.0
-  act_not_full disk (acts.Fill page) new disk' rule = let other = rule.0.1.1 in cc
-  act_not_full disk (acts.Evict slot) new disk' rule = let other = rule.0.1.1 in cc
-  act_not_full disk (acts.Switch space keep) new disk' rule = never (reason_of (acts.Switch space keep)) refusals.TraceFull s new refl (act_fine (acts.Switch space keep)) rule.0
-  act_not_full disk acts.Idle new disk' rule = never (reason_of acts.Idle) refusals.TraceFull s new refl (act_fine acts.Idle) rule.0
-  act_not_full disk acts.Wake new disk' rule = never (reason_of acts.Wake) refusals.TraceFull s new refl (act_fine acts.Wake) rule.0
-  act_not_full disk (acts.Fix va write) new disk' rule = never (reason_of (acts.Fix va write)) refusals.TraceFull s new refl (act_fine (acts.Fix va write)) rule.0
-  act_not_full disk acts.Create new disk' rule = never (reason_of acts.Create) refusals.TraceFull s new refl (act_fine acts.Create) rule.0
-  act_not_full disk (acts.Destroy space) new disk' rule = never (reason_of (acts.Destroy space)) refusals.TraceFull s new refl (act_fine (acts.Destroy space)) rule.0
-  act_not_full disk (acts.Map space va len file offset prot access) new disk' rule = never (reason_of (acts.Map space va len file offset prot access)) refusals.TraceFull s new refl (act_fine (acts.Map space va len file offset prot access)) rule.0
-  act_not_full disk (acts.Unmap space va len) new disk' rule = never (reason_of (acts.Unmap space va len)) refusals.TraceFull s new refl (act_fine (acts.Unmap space va len)) rule.0
-  act_not_full disk (acts.Protect space va len prot) new disk' rule = never (reason_of (acts.Protect space va len prot)) refusals.TraceFull s new refl (act_fine (acts.Protect space va len prot)) rule.0
-  act_not_full disk (acts.Reclaim file page) new disk' rule = never (reason_of (acts.Reclaim file page)) refusals.TraceFull s new refl (act_fine (acts.Reclaim file page)) rule.0
-  act_not_full disk (acts.Msync va len flags) new disk' rule = never (reason_of (acts.Msync va len flags)) refusals.TraceFull s new refl (act_fine (acts.Msync va len flags)) rule.0
-  act_not_full disk acts.Ack new disk' rule = never (reason_of acts.Ack) refusals.TraceFull s new refl (act_fine acts.Ack) rule.0
-  act_not_full disk acts.Change new disk' rule = never (reason_of acts.Change) refusals.TraceFull s new refl (act_fine acts.Change) rule.0
-  act_not_full disk acts.Resume new disk' rule = never (reason_of acts.Resume) refusals.TraceFull s new refl (act_fine acts.Resume) rule.0
-  act_not_full disk acts.Flush new disk' rule = never (reason_of acts.Flush) refusals.TraceFull s new refl (act_fine acts.Flush) rule.0
-
-  -- an act that is refused memory wants it
-  act_wants : (disk : List ℕ) (act : Act) (new : State) (disk' : List ℕ) → Acts s disk p act (replies.Refused refusals.OutOfMemory) new disk' → WantsMemory s p act
-  act_wants disk (acts.Load va count) new disk' rule = rule.0.1.0
-  act_wants disk (acts.Store va bytes) new disk' rule = rule.0.1.0
-  act_wants disk (acts.Fill page) new disk' rule = let other = rule.0.1.1 in cc
-  act_wants disk (acts.Evict slot) new disk' rule = let other = rule.0.1.1 in cc
-  act_wants disk (acts.Switch space keep) new disk' rule = never (reason_of (acts.Switch space keep)) refusals.OutOfMemory s new refl (act_fine (acts.Switch space keep)) rule.0
-  act_wants disk acts.Idle new disk' rule = never (reason_of acts.Idle) refusals.OutOfMemory s new refl (act_fine acts.Idle) rule.0
-  act_wants disk acts.Wake new disk' rule = never (reason_of acts.Wake) refusals.OutOfMemory s new refl (act_fine acts.Wake) rule.0
-  act_wants disk (acts.Fix va write) new disk' rule = never (reason_of (acts.Fix va write)) refusals.OutOfMemory s new refl (act_fine (acts.Fix va write)) rule.0
-  act_wants disk acts.Create new disk' rule = rule.0.0
-  act_wants disk (acts.Destroy space) new disk' rule = never (reason_of (acts.Destroy space)) refusals.OutOfMemory s new refl (act_fine (acts.Destroy space)) rule.0
-  act_wants disk (acts.Map space va len file offset prot access) new disk' rule = rule.0.0
-  act_wants disk (acts.Unmap space va len) new disk' rule = rule.0.0
-  act_wants disk (acts.Protect space va len prot) new disk' rule = rule.0.0
-  act_wants disk (acts.Reclaim file page) new disk' rule = never (reason_of (acts.Reclaim file page)) refusals.OutOfMemory s new refl (act_fine (acts.Reclaim file page)) rule.0
-  act_wants disk (acts.Msync va len flags) new disk' rule = never (reason_of (acts.Msync va len flags)) refusals.OutOfMemory s new refl (act_fine (acts.Msync va len flags)) rule.0
-  act_wants disk acts.Ack new disk' rule = never (reason_of acts.Ack) refusals.OutOfMemory s new refl (act_fine acts.Ack) rule.0
-  act_wants disk acts.Change new disk' rule = never (reason_of acts.Change) refusals.OutOfMemory s new refl (act_fine acts.Change) rule.0
-  act_wants disk acts.Resume new disk' rule = never (reason_of acts.Resume) refusals.OutOfMemory s new refl (act_fine acts.Resume) rule.0
-  act_wants disk acts.Flush new disk' rule = never (reason_of acts.Flush) refusals.OutOfMemory s new refl (act_fine acts.Flush) rule.0
+  sparing : (act : Act) → IsSparing s disk p act new disk'
+  sparing (acts.Load va count) = (λ rule. rule.0.1.0, λ rule. rule.0.1.0)
+  sparing (acts.Store va bytes) = (λ rule. rule.0.1.0, λ rule. rule.0.1.0)
+  sparing (acts.Fill page) = (λ rule. let other = rule.0.1.1 in cc, λ rule. let other = rule.0.1.1 in cc)
+  sparing (acts.Evict slot) = (λ rule. let other = rule.0.1.1 in cc, λ rule. let other = rule.0.1.1 in cc)
+  sparing (acts.Switch space keep) = refused_for (then_fine _ (unless_fine _ _ _ refl no_reason))
+  sparing acts.Idle = refused_for (or_fine _ _ (running_fine s.hardware.shootdown p) (if_fine _ _ _ refl no_reason))
+  sparing acts.Wake = refused_for (wait_fine is_idle s.hardware.shootdown p)
+  sparing (acts.Fix va write) = refused_for (last_fine _ (served_fine s write _ (place_fine s.hardware.spaces (current s.hardware.shootdown p) va write)))
+  sparing acts.Create = refused_wanting (free_fine s.hardware.shootdown p)
+  sparing (acts.Destroy space) = refused_for (last_fine _ (destroy_fine s.hardware.shootdown s.hardware.spaces space))
+  sparing (acts.Map space va len file offset prot access) =
+      refused_wanting (last_fine _ (mapping_fine s space file prot access _ (judged_fine s.hardware.spaces space va len offset)))
+  sparing (acts.Unmap space va len) = refused_wanting (last_fine _ (range_fine s.hardware.spaces space va len))
+  sparing (acts.Protect space va len prot) = refused_wanting (last_fine _ (protection_fine s.hardware.spaces space prot _ (range_fine s.hardware.spaces space va len)))
+  sparing (acts.Reclaim file page) =
+      refused_for (then_fine _ (refuse_fine (nat_le (length s.table.files) file) refusals.NoFile _ refl
+      (refuse_fine (nat_le (pages_in_file s.table.files file) page) refusals.Einval None refl no_reason)))
+  sparing (acts.Msync va len flags) =
+      refused_for (then_fine _ (refuse_fine (not (is_msync va len flags)) refusals.Einval _ refl
+      (refuse_fine (not (maps_each s.hardware.spaces (current s.hardware.shootdown p) va len)) refusals.Enomem _ refl
+      (refuse_fine s.write_outs.broken refusals.Broken _ refl (refuse_fine (is_busy s.write_outs || nat_le (2 ^ 32 - 1) s.marks) refusals.Busy None refl no_reason)))))
+  sparing acts.Ack = refused_for (there_fine s.hardware.shootdown p)
+  sparing acts.Change = refused_for (or_fine _ _ (there_fine s.hardware.shootdown p) (lock_fine p (interrupted s.hardware.shootdown) s.hardware.shootdown.lock))
+  sparing acts.Resume = refused_for (wait_fine is_stalled s.hardware.shootdown p)
+  sparing acts.Flush = refused_for (or_fine _ _ (running_fine s.hardware.shootdown p) (refuse_fine s.write_outs.broken refusals.Broken None refl no_reason))
 
 -- whatever state a machine is in
 pub reply_not_full : (s : State) (disk : List ℕ) (step : Step) (reply : Reply) (new : State) (disk' : List ℕ) → Rules s disk step reply new disk' → reply ≢ replies.Refused refusals.TraceFull
-reply_not_full s disk step reply new disk' rule is = act_not_full s step.p disk step.act new disk' (subst (λ (r : Reply). Rules s disk step r new disk') is rule)
+reply_not_full s disk step reply new disk' rule is = (sparing s disk step.p new disk' step.act).0 (subst (λ (r : Reply). Rules s disk step r new disk') is rule)
 
 pub reply_wants : (s : State) (disk : List ℕ) (step : Step) (reply : Reply) (new : State) (disk' : List ℕ) → Rules s disk step reply new disk' → reply ≡ replies.Refused refusals.OutOfMemory → WantsMemory s step.p step.act
-reply_wants s disk step reply new disk' rule is = act_wants s step.p disk step.act new disk' (subst (λ (r : Reply). Rules s disk step r new disk') is rule)
+reply_wants s disk step reply new disk' rule is = (sparing s disk step.p new disk' step.act).1 (subst (λ (r : Reply). Rules s disk step r new disk') is rule)

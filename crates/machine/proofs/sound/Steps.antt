@@ -1,25 +1,15 @@
 -- What a step of the write-outs leaves of processors, batches and copies.
-use Rattle.std.proofs.Common.{ℕ, zero, suc, ◌≡◌, ◌-◌, ◌<◌, ◌≤◌, eqb, Bool, true, false, cond, List, [], ◌∷◌, length, map, drop, get_or, Option, Some, None, refl, ap, ◌∙◌, arith}
-use Rattle.std.specs.List.{All, list_any}
-use Rattle.std.specs.Option.{option_map_or, option_and_then}
-use Rattle.std.proofs.lemmas.Bool.{or_parts, or_from, eqb-false, ne_eqb, cond-false, both_ways, false_from_ne_true}
-use Rattle.std.proofs.lemmas.List.{length-drop}
-use Rattle.page_entry.specs.declared.numbers.FilePage.{FilePage}
-use Rattle.frames.specs.Frames.{FramesState, Frame, without_copies}
-use Rattle.volume_codec.specs.Layout.{journals_of}
-use Rattle.volume_codec.specs.Super.{geometry_of}
-use Rattle.volume_codec.specs.Descriptor.{AreHomes}
-use Rattle.volume_codec.specs.Recovery.{Batch}
-use Rattle.journal.specs.declared.flushed.Flushed.{Flushed}
+use Rattle.machine.proofs.Names.{ℕ, zero, suc, ◌≡◌, ◌-◌, ◌<◌, ◌≤◌, eqb, Bool, true, false, cond, List, [], ◌∷◌, length}
+use Rattle.machine.proofs.Names.{map, drop, get_or, Option, Some, None, refl, ap, ◌∙◌, arith, All, list_any}
+use Rattle.machine.proofs.Names.{option_map_or, option_and_then, or_parts, or_from, eqb-false, ne_eqb, cond-false}
+use Rattle.machine.proofs.Names.{both_ways, false_from_ne_true, length-drop, FilePage, FramesState, Frame}
+use Rattle.machine.proofs.Names.{without_copies, journals_of, geometry_of, AreHomes, Batch, Flushed, WriteOut}
+use Rattle.machine.proofs.Names.{has_committed, next_record, answer_of, WriteOutsValue, has_uncommitted, advanced}
+use Rattle.machine.proofs.Names.{batches_after, is_busy, done_committed, committed_parts, CheckpointState, is_of_page}
+use Rattle.machine.proofs.Names.{freed_copy, without_copy_of, is_in_memory, Hardware, State, home_of, IsMemory}
+use Rattle.machine.proofs.Names.{AreOlderCommitted, AreSpacesSound, AreWriteOutsSound, IsSound}
 use Rattle.journal.specs.declared.flushed.Flushed.TheVariants as flushed
-use Rattle.journal.specs.WriteOut.{WriteOut, has_committed, next_record, answer_of}
-use Rattle.journal.specs.WriteOuts.{WriteOutsValue, has_uncommitted, current, advanced, batches_after, is_busy}
-use Rattle.journal.proofs.Public.{done_committed, committed_parts}
-use Rattle.checkpoint.specs.Checkpoint.{CheckpointState, is_of_page, freed_copy, without_copy_of}
-use Rattle.fault.specs.Fault.{is_in_memory}
-use Rattle.cpu.specs.Access.{Hardware}
-use Rattle.machine.specs.State.{State, home_of}
-use Rattle.machine.specs.inside.Sound.{IsMemory, AreOlderCommitted, AreSpacesSound, AreWriteOutsSound, IsSound}
+use Rattle.journal.specs.WriteOuts.{current}
 use Rattle.machine.proofs.sound.Lists.{once_frames, once_copies, memory_from, AreOnce-fewer, AreOnce-none}
 use Rattle.machine.proofs.sound.Groups.{prepared_moved}
 use Rattle.machine.proofs.sound.Waiting.{waiting, length-advanced, committed-advanced, current_uncommitted, all_after, committed_no_record}

@@ -1,23 +1,9 @@
 -- What a sound machine gives to those who work on its parts: the conditions of their calls.
-use Rattle.std.proofs.Common.{ℕ, ◌≡◌, ◌+◌, ◌<◌, Bool, List, length, map, Some, IsSome, sym, subst, arith, ◌/◌, Ok}
-use Rattle.std.specs.List.{AllByRecursion}
-use Rattle.std.proofs.lemmas.List.Elements.{recursion_from_All}
-use Rattle.page_entry.specs.Entry.{Mapped}
-use Rattle.page_entry.specs.declared.numbers.FilePage.{FilePage}
-use Rattle.mappings.specs.declared.place.Place.{Place}
-use Rattle.frames.specs.Frames.{frame_at}
-use Rattle.volume_codec.specs.Layout.{GeometryValue}
-use Rattle.volume_codec.specs.Descriptor.{AreHomes}
-use Rattle.journal.specs.WriteOut.{WriteOut}
-use Rattle.spaces.specs.Spaces.{entry_at}
+use Rattle.machine.proofs.Names.{ℕ, ◌≡◌, ◌+◌, ◌<◌, Bool, List, length, map, Some, IsSome, sym, subst, arith, ◌/◌, Ok}
+use Rattle.machine.proofs.Names.{AllByRecursion, recursion_from_All, Mapped, FilePage, Place, frame_at, GeometryValue}
+use Rattle.machine.proofs.Names.{AreHomes, WriteOut, entry_at, CheckpointState, Gathers, HasNotes, HasNotes-backed}
+use Rattle.machine.proofs.Names.{place_of_fault, IsReachable, State, home_of, IsSound}
 use Rattle.shootdown.specs.Shootdown.{current as current_space}
-use Rattle.checkpoint.specs.Checkpoint.{CheckpointState, Gathers}
-use Rattle.checkpoint.specs.Backing.{HasNotes}
-use Rattle.checkpoint.proofs.Public.{HasNotes-backed}
-use Rattle.fault.specs.Fault.{place_of_fault}
-use Rattle.cpu.specs.Access.{IsReachable}
-use Rattle.machine.specs.State.{State, home_of}
-use Rattle.machine.specs.inside.Sound.{IsSound}
 use Rattle.machine.proofs.sound.Frames.{in_use}
 use Rattle.machine.proofs.track.Faults.{led_to}
 use Rattle.machine.proofs.sound.Homes.{gathered_homes}

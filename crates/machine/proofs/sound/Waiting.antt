@@ -1,19 +1,13 @@
 -- The home blocks that wait for their records, before a step of the write-outs and after it.
-use Rattle.std.proofs.Common.{ℕ, ◌≡◌, ◌+◌, ◌<◌, ◌≤◌, ◌||◌, not, Bool, true, false, cond, List, [], ◌∷◌, ◌++◌, length, drop, Option, Some, None, refl, sym, ap, ◌∙◌, subst, arith}
-use Rattle.std.specs.List.{flat_map, All}
-use Rattle.std.specs.Option.{option_map_or, option_and_then}
-use Rattle.std.proofs.lemmas.Bool.{cond-true, cond-false, or_from, not_from_true}
-use Rattle.std.proofs.lemmas.List.{drop_all, drop-drop}
-use Rattle.std.proofs.lemmas.List.Elements.{Contains-get_or, All-contains}
-use Rattle.volume_codec.specs.Recovery.{Batch}
-use Rattle.journal.specs.declared.stage.Stage.{Stage}
-use Rattle.journal.specs.declared.stage.Stage.TheVariants.{Recording, Describing, SyncingRecords, Opening, Committing, Applying, SyncingHomes, Closing, Finishing}
-use Rattle.journal.specs.declared.flushed.Flushed.{Flushed}
-use Rattle.journal.specs.Stage.{is_committed}
-use Rattle.journal.specs.WriteOut.{WriteOut, next_stage, has_committed, advanced_of, record_at, next_record}
-use Rattle.journal.specs.WriteOuts.{has_uncommitted, current, advanced, batches_after}
-use Rattle.journal.proofs.Public.{IsAt, stage_is, committed_parts, batch_before}
-use Rattle.machine.specs.inside.Sound.{AreOlderCommitted}
+use Rattle.machine.proofs.Names.{ℕ, ◌≡◌, ◌+◌, ◌<◌, ◌≤◌, ◌||◌, not, Bool, true, false, cond, List, [], ◌∷◌, ◌++◌, length}
+use Rattle.machine.proofs.Names.{drop, Option, Some, None, refl, sym, ap, ◌∙◌, subst, arith, flat_map, All}
+use Rattle.machine.proofs.Names.{option_map_or, option_and_then, cond-true, cond-false, or_from, not_from_true}
+use Rattle.machine.proofs.Names.{drop_all, drop-drop, Contains-get_or, All-contains, Batch, Stage, Recording}
+use Rattle.machine.proofs.Names.{Describing, SyncingRecords, Opening, Committing, Applying, SyncingHomes, Closing}
+use Rattle.machine.proofs.Names.{Finishing, Flushed, is_committed, WriteOut, next_stage, has_committed, advanced_of}
+use Rattle.machine.proofs.Names.{record_at, next_record, has_uncommitted, advanced, batches_after, IsAt, stage_is}
+use Rattle.machine.proofs.Names.{committed_parts, batch_before, AreOlderCommitted}
+use Rattle.journal.specs.WriteOuts.{current}
 
 -- ---- one write-out
 

@@ -1,22 +1,13 @@
 -- Each move leaves spaces, processors and the lock as it tells them.
-use Rattle.std.proofs.Common.{ℕ, ◌≡◌, ◌<◌, Bool, true, set, List, length, Option, None, Some, is_some, refl, sym, ap, ◌∙◌, subst}
-use Rattle.frames.specs.Frames.{FramesState}
-use Rattle.spaces.specs.declared.change.Change.{Change}
-use Rattle.spaces.specs.declared.change.Change.TheVariants.{Unmap, Protect, Reclaim, Checkpoint}
-use Rattle.spaces.specs.Spaces.{Spaces}
-use Rattle.shootdown.specs.declared.lock.Lock.{Lock}
-use Rattle.shootdown.specs.Processors.{Processor, woken}
-use Rattle.shootdown.specs.Shootdown.{ShootdownState, processor_at, with_processor}
-use Rattle.shootdown.specs.Calls.{change_refusal}
-use Rattle.shootdown.proofs.Public.{admitted, is_there_below}
-use Rattle.checkpoint.specs.Checkpoint.{CheckpointState}
-use Rattle.machine.specs.History.{Event}
-use Rattle.machine.specs.State.{State}
-use Rattle.machine.specs.Rules.{with_hardware, begin_change, end_change}
-use Rattle.machine.specs.Told.{Told, Pending, changed, ended_by}
-use Rattle.machine.specs.inside.Sound.{IsSound}
-use Rattle.machine.specs.inside.Tracking.{IsArranged, pending_in, change_in}
-use Rattle.machine.specs.inside.Moves.{Saying, Silent, Running, Entering, Mapping, Leaving, Beginning, Storing, said, IsProcessorTold, AreSpacesTold as AreSaid, effect_of, ending_of, EndsChange, Move, Replace, Remap, Destroy, Begin, End, Store, Bring, Copy, Drop}
+use Rattle.machine.proofs.Names.{ℕ, ◌≡◌, ◌<◌, Bool, true, set, List, length, Option, None, Some, is_some, refl, sym, ap}
+use Rattle.machine.proofs.Names.{◌∙◌, subst, FramesState, Change, Unmap, Protect, Reclaim, Checkpoint, Spaces, Lock}
+use Rattle.machine.proofs.Names.{Processor, woken, ShootdownState, processor_at, with_processor, change_refusal}
+use Rattle.machine.proofs.Names.{admitted, is_there_below, CheckpointState, Event, State, with_hardware, begin_change}
+use Rattle.machine.proofs.Names.{end_change, Told, Pending, changed, ended_by, IsSound, IsArranged, pending_in}
+use Rattle.machine.proofs.Names.{change_in, Saying, Silent, Running, Entering, Mapping, Leaving, Beginning, Storing}
+use Rattle.machine.proofs.Names.{said, IsProcessorTold, effect_of, ending_of, EndsChange, Move, Replace, Remap, Destroy}
+use Rattle.machine.proofs.Names.{Begin, End, Store, Bring, Copy, Drop}
+use Rattle.machine.specs.inside.Moves.{AreSpacesTold as AreSaid}
 use Rattle.machine.proofs.sound.Admitted.{there_at_change}
 use Rattle.machine.proofs.track.Translations.{has_stored}
 use Rattle.machine.proofs.track.ToldSpaces.{AreProcessorsTold, told_still, told_running, told_switched, told_begun, told_destroyed, ToldSpaces, AreSpacesTold, spaces_still, spaces_with, spaces_without}

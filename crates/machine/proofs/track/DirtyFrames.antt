@@ -1,19 +1,14 @@
 -- Which frames are dirty after entries and notes change.
-use Rattle.std.proofs.Common.{ℕ, zero, suc, ◌≡◌, ◌⊎◌, ◌↔◌, Bool, true, false, not, ◌&&◌, ◌||◌, cond, eqb, List, length, replicate, get_or, Option, Some, None, IsSome, refl, sym, ap, ◌∙◌, subst, inl, inr}
+use Rattle.machine.proofs.Names.{ℕ, zero, suc, ◌≡◌, ◌⊎◌, ◌↔◌, Bool, true, false, not, ◌&&◌, ◌||◌, cond, eqb, List}
+use Rattle.machine.proofs.Names.{length, replicate, get_or, Option, Some, None, IsSome, refl, sym, ap, ◌∙◌, subst, inl}
+use Rattle.machine.proofs.Names.{inr, cases_Bool, cond-true, cond-false, and_parts, and_from, eqb-true, eq-eqb}
+use Rattle.machine.proofs.Names.{false≢true, Mapped, with_writable_of, protected_of, FilePage, Rights, PageRange}
+use Rattle.machine.proofs.Names.{is_among, may_write, FramesState, Frame, frame_at, page_of, Spaces, entry_at}
+use Rattle.machine.proofs.Names.{with_entry, without_mapping, SetsRights, protected_where, entry_at-with_entry}
+use Rattle.machine.proofs.Names.{entry_at-without_mapping, entry_at-remove, CheckpointState, Holds, is_noted, IsDirty}
+use Rattle.machine.proofs.Names.{NotesTaken, IsInRange, IsInSpace, Gathers, ProtectsNoted, without_notes, AreBacked}
+use Rattle.machine.proofs.Names.{page_at, fixed_entry}
 use Rattle.std.specs.FinMap as maps
-use Rattle.std.proofs.lemmas.Bool.{cases_Bool, cond-true, cond-false, and_parts, and_from, eqb-true, eq-eqb, false≢true}
-use Rattle.page_entry.specs.Entry.{Mapped, with_writable_of, protected_of}
-use Rattle.page_entry.specs.declared.numbers.FilePage.{FilePage}
-use Rattle.mappings.specs.declared.place.Rights.{Rights}
-use Rattle.mappings.specs.declared.page_range.PageRange.{PageRange}
-use Rattle.mappings.specs.Places.{is_among, may_write}
-use Rattle.frames.specs.Frames.{FramesState, Frame, frame_at, page_of}
-use Rattle.spaces.specs.Spaces.{Spaces, entry_at, with_entry, without_mapping, SetsRights}
-use Rattle.spaces.specs.Changes.{protected_where}
-use Rattle.spaces.proofs.Public.{entry_at-with_entry, entry_at-without_mapping, entry_at-remove}
-use Rattle.checkpoint.specs.Checkpoint.{CheckpointState, Holds, is_noted, IsDirty, NotesTaken, IsInRange, IsInSpace, Gathers, ProtectsNoted, without_notes}
-use Rattle.checkpoint.specs.Backing.{AreBacked, page_at}
-use Rattle.fault.specs.Fault.{fixed_entry}
 use Rattle.machine.proofs.durable.Lists.{some_same, none_some}
 
 -- a frame is dirty by an entry

@@ -1,14 +1,9 @@
 -- What is known of a fault that leads to a place, and against whose service nothing is.
-use Rattle.std.proofs.Common.{ℕ, ◌≡◌, ◌*◌, ◌/◌, ◌^◌, ◌<◌, Bool, true, false, not, ◌&&◌, ◌||◌, cond, leb, length, Option, Some, None, Ok, Err, refl, sym, ap, ◌∙◌, subst}
-use Rattle.std.proofs.lemmas.Bool.{not-false, leb-false, false≢true}
+use Rattle.machine.proofs.Names.{ℕ, ◌≡◌, ◌*◌, ◌/◌, ◌^◌, ◌<◌, Bool, true, false, not, ◌&&◌, ◌||◌, cond, leb, length}
+use Rattle.machine.proofs.Names.{Option, Some, None, Ok, Err, refl, sym, ap, ◌∙◌, subst, not-false, leb-false}
+use Rattle.machine.proofs.Names.{false≢true, Place, may_write, FramesState, has_free, Spaces, place_at, CheckpointState}
+use Rattle.machine.proofs.Names.{page_at, allowed_place, place_of_fault, is_in_memory, copies_out, fault_refusal}
 use Rattle.page_entry.specs.declared.refusal.Refusal.TheVariants as refusals
-use Rattle.mappings.specs.declared.place.Place.{Place}
-use Rattle.mappings.specs.Places.{may_write}
-use Rattle.frames.specs.Frames.{FramesState, has_free}
-use Rattle.spaces.specs.Spaces.{Spaces, place_at}
-use Rattle.checkpoint.specs.Checkpoint.{CheckpointState}
-use Rattle.checkpoint.specs.Backing.{page_at}
-use Rattle.fault.specs.Fault.{allowed_place, place_of_fault, is_in_memory, copies_out, fault_refusal}
 
 -- where a fault leads that is neither past the addresses nor without a place nor without the right
 pub record IsLed (spaces : Spaces) (pcid va : ℕ) (write : Bool) (place : Place) : Type 0 where

@@ -1,32 +1,17 @@
 -- Each move of a tracked machine keeps it tracked.
-use Rattle.std.proofs.Common.{ℕ, ◌≡◌, ◌↔◌, ◌%◌, true, List, [], ◌∷◌, ◌++◌, Option, Some, None, refl, sym, ap, ◌∙◌, subst, inl, inr, append-nil}
+use Rattle.machine.proofs.Names.{ℕ, ◌≡◌, ◌↔◌, ◌%◌, true, List, [], ◌∷◌, ◌++◌, Option, Some, None, refl, sym, ap, ◌∙◌}
+use Rattle.machine.proofs.Names.{subst, inl, inr, append-nil, Contains, both_ways, FilePage, Place, FramesState, File}
+use Rattle.machine.proofs.Names.{SuperValue, Change, Checkpoint, running, is_there_below}
+use Rattle.machine.proofs.Names.{CheckpointState, IsDirty, IsInSpace, page_at, Hardware, WriteOutsValue, IsStanding}
+use Rattle.machine.proofs.Names.{Event, State, page_from, bytes_at_mark, Told, Pending, Unmapping, Protecting, changed}
+use Rattle.machine.proofs.Names.{place_told, store_at, offset_at, IsSound, IsTracked, change_in, Saying}
+use Rattle.machine.proofs.Names.{Changing, Storing, said}
+use Rattle.machine.proofs.Names.{said_all, IsProcessorTold, AreSpacesTold, ending_of, StoresBytes, Move, Moves, Replace}
+use Rattle.machine.proofs.Names.{Remap, Destroy, Begin, End, Store, Bring, Copy, Drop}
 use Rattle.std.specs.FinMap as maps
-use Rattle.std.specs.List.{Contains}
-use Rattle.std.proofs.lemmas.Bool.{both_ways}
-use Rattle.page_entry.specs.declared.numbers.FilePage.{FilePage}
-use Rattle.mappings.specs.declared.place.Place.{Place}
-use Rattle.frames.specs.Frames.{FramesState}
-use Rattle.volume_codec.specs.Files.{File}
-use Rattle.volume_codec.specs.Super.{SuperValue}
-use Rattle.spaces.specs.declared.change.Change.{Change}
-use Rattle.spaces.specs.declared.change.Change.TheVariants.{Unmap, Protect, Reclaim, Checkpoint}
-use Rattle.shootdown.proofs.Public.{running, is_there_below}
-use Rattle.checkpoint.specs.Checkpoint.{CheckpointState, IsDirty, IsInSpace}
-use Rattle.checkpoint.specs.Backing.{page_at}
-use Rattle.cpu.specs.Access.{Hardware}
-use Rattle.journal.specs.WriteOuts.{WriteOutsValue}
-use Rattle.journal.specs.inside.Standing.{IsStanding}
-use Rattle.machine.specs.History.{Event}
-use Rattle.machine.specs.State.{State, page_from}
-use Rattle.machine.specs.Rules.{bytes_at_mark}
-use Rattle.machine.specs.Told.{Told, Pending, Unmapping, Protecting, changed, place_told, store_at, offset_at}
-use Rattle.machine.specs.inside.Sound.{IsSound}
-use Rattle.machine.specs.inside.Tracking.{IsTracked, change_in}
-use Rattle.machine.specs.inside.Moves.{Saying, Silent, Running, Entering, Mapping, Leaving, Beginning, Ending, Changing, Storing, said, said_all, IsProcessorTold, AreSpacesTold, ending_of, StoresBytes, Move, Moves, Replace, Remap, Destroy, Begin, End, Store, Bring, Copy, Drop}
 use Rattle.machine.proofs.moves.Kept.{move_sound}
 use Rattle.machine.proofs.durable.Lists.{some_same, none_some}
-use Rattle.machine.proofs.durable.Histories.{IsQuiet, quiet_nothing}
-use Rattle.machine.proofs.durable.Leaves.{Leaves, written_left}
+use Rattle.machine.proofs.durable.Histories.{IsQuiet, quiet_nothing, Leaves, written_left}
 use Rattle.machine.proofs.durable.Pages.{write_leaves, brought_leaves, copy_leaves, reclaimed_leaves, is_brought}
 use Rattle.machine.proofs.durable.Homes.{page_read}
 use Rattle.machine.proofs.track.Lawful.{place_is}

@@ -1,29 +1,16 @@
 -- Files, frames and dirty pages as they are told, and how they stay so where nothing is stored: where no page comes or goes, where one comes into memory, and where one leaves it.
-use Rattle.std.proofs.Common.{ℕ, ◌≡◌, ◌≢◌, ◌↔◌, ◌*◌, ◌-◌, false, List, ◌++◌, length, take, get_or, None, sym, ap, ◌∙◌, subst, inl, inr, ◌+◌, ◌%◌, ◌<◌, ◌≤◌, true, [], ◌∷◌, Some, refl, arith}
-use Rattle.std.proofs.lemmas.Bool.{cases_Bool, cases_eq}
-use Rattle.page_entry.specs.declared.numbers.FilePage.{FilePage}
-use Rattle.frames.specs.Frames.{FramesState, bytes_of, frame_at, page_of, without_frame, overwrite, with_bytes}
-use Rattle.volume_codec.specs.Files.{File}
-use Rattle.volume_codec.specs.Super.{SuperValue}
-use Rattle.volume_codec.specs.Recovery.{lengths_in}
-use Rattle.volume_codec.specs.Text.{padded}
-use Rattle.checkpoint.specs.Checkpoint.{Holds, IsDirty}
-use Rattle.fault.specs.Fault.{is_in_memory}
-use Rattle.machine.specs.History.{Event, Memory, memory_of, after, is_touched, Store, stored}
-use Rattle.machine.specs.State.{State, cut_at_end}
-use Rattle.machine.specs.Rules.{MayLeave, with_hardware}
-use Rattle.machine.specs.Durability.{IsInFile}
-use Rattle.machine.specs.Told.{Told}
-use Rattle.machine.specs.inside.Sound.{IsSound, IsMemory}
-use Rattle.machine.specs.inside.Tracking.{HasFiles, IsLatest, AreTouched, ArePlain}
+use Rattle.machine.proofs.Names.{ℕ, ◌≡◌, ◌≢◌, ◌↔◌, ◌*◌, ◌-◌, false, List, ◌++◌, length, take, get_or, None, sym, ap}
+use Rattle.machine.proofs.Names.{◌∙◌, subst, inl, inr, ◌+◌, ◌%◌, ◌<◌, ◌≤◌, true, [], ◌∷◌, Some, refl, arith, cases_Bool}
+use Rattle.machine.proofs.Names.{cases_eq, FilePage, FramesState, bytes_of, frame_at, page_of, without_frame, overwrite}
+use Rattle.machine.proofs.Names.{with_bytes, File, SuperValue, lengths_in, padded, Holds, IsDirty, is_in_memory, Event}
+use Rattle.machine.proofs.Names.{Memory, memory_of, after, is_touched, stored, State, cut_at_end, MayLeave}
+use Rattle.machine.proofs.Names.{with_hardware, IsInFile, Told, IsSound, IsMemory, HasFiles, IsLatest, AreTouched}
+use Rattle.machine.proofs.Names.{ArePlain, page_at, Hardware, page_of-with_bytes, frame_at-with_bytes_other}
+use Rattle.machine.specs.History.{Store}
 use Rattle.machine.proofs.durable.Lists.{some_same}
-use Rattle.machine.proofs.durable.Leaves.{SameFiles, in_file_as}
-use Rattle.machine.proofs.durable.Histories.{AreQuiet, after_store, stored_there, stored_elsewhere, length-stored, touched_there, touched_elsewhere}
+use Rattle.machine.proofs.durable.Histories.{SameFiles, in_file_as, AreQuiet, after_store, stored_there, stored_elsewhere, length-stored, touched_there, touched_elsewhere}
 use Rattle.machine.proofs.durable.Pages.{IsBrought, holder_of, held_by_none, absent_before, held_without, held_still, cases_page, differ, bytes_of-with_bytes}
 use Rattle.machine.proofs.track.DirtyFrames.{clean_where_free}
-use Rattle.checkpoint.specs.Backing.{page_at}
-use Rattle.cpu.specs.Access.{Hardware}
-use Rattle.frames.proofs.Public.{page_of-with_bytes, frame_at-with_bytes_other}
 use Rattle.machine.proofs.track.Translations.{HasStored}
 
 -- the machine has these files, and in its frames the memory of what was told

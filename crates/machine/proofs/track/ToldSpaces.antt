@@ -1,27 +1,20 @@
 -- Processors and spaces as they are told: the current space of each processor and whether it goes on, which spaces there are, and what each maps.
-use Rattle.std.proofs.Common.{ℕ, ◌≡◌, ◌<◌, Bool, true, false, cond, eqb, List, length, get_or, set, refl, sym, ap, ◌∙◌, inl, inr, arith, ◌≢◌, ◌+◌, not, ◌&&◌, ◌||◌, Option, Some, None, is_some, unwrap_or, subst}
-use Rattle.std.proofs.lemmas.Bool.{cases_eq, cond-true, cond-false, eq-eqb, ne_eqb}
-use Rattle.std.proofs.lemmas.List.{length-set, get_or-set_same, get_or-set_other}
-use Rattle.pcid_tlb.specs.declared.Invpcid.{Invpcid}
-use Rattle.pcid_tlb.specs.declared.Invpcid.TheVariants.{SingleContext}
-use Rattle.spaces.specs.declared.change.Change.{Change}
-use Rattle.spaces.specs.Spaces.{Spaces, AddressSpace, empty_space, has_space, space_at, with_space, with_entry, with_mapping, without_mapping, SetsRights}
-use Rattle.spaces.specs.Changes.{touches}
-use Rattle.shootdown.specs.declared.proc_state.ProcState.{ProcState}
-use Rattle.shootdown.specs.declared.proc_state.ProcState.TheVariants.{Active, Interrupted, Stalled, Initiating, Idle}
-use Rattle.shootdown.specs.Processors.{Processor, is_running, is_concerned, queued, told}
-use Rattle.shootdown.specs.Shootdown.{ShootdownState, processor_at, state_of, current, with_processor, state_when_begun, begun, destroyed}
-use Rattle.shootdown.proofs.Public.{processor_at-with_same, processor_at-with_other, length-with_processor, processor_at-begun, state-begun_one, current-begun, length-begun, processor_at-destroyed, length-destroyed, current-destroyed}
-use Rattle.std.specs.Ordering.{nat_cmp}
-use Rattle.std.specs.Cmp.{nat_cmp_total, unsigned_tied}
+use Rattle.machine.proofs.Names.{ℕ, ◌≡◌, ◌<◌, Bool, true, false, cond, eqb, List, length, get_or, set, refl, sym, ap}
+use Rattle.machine.proofs.Names.{◌∙◌, inl, inr, arith, ◌≢◌, not, ◌&&◌, ◌||◌, Option, Some, None, is_some}
+use Rattle.machine.proofs.Names.{unwrap_or, cases_eq, cond-true, cond-false, eq-eqb, ne_eqb, length-set}
+use Rattle.machine.proofs.Names.{get_or-set_same, get_or-set_other, Invpcid, SingleContext, Change, Spaces}
+use Rattle.machine.proofs.Names.{AddressSpace, empty_space, has_space, space_at, with_space}
+use Rattle.machine.proofs.Names.{touches, ProcState, Active, Interrupted, Stalled}
+use Rattle.machine.proofs.Names.{Initiating, Idle, Processor, is_running, is_concerned, queued, told, ShootdownState}
+use Rattle.machine.proofs.Names.{processor_at, state_of, current, with_processor, state_when_begun, destroyed}
+use Rattle.machine.proofs.Names.{processor_at-with_same, processor_at-with_other, length-with_processor}
+use Rattle.machine.proofs.Names.{processor_at-begun, state-begun_one, current-begun, length-begun}
+use Rattle.machine.proofs.Names.{processor_at-destroyed, length-destroyed, current-destroyed, nat_cmp, nat_cmp_total}
+use Rattle.machine.proofs.Names.{unsigned_tied, Places}
+use Rattle.machine.proofs.Names.{has_space-with_space, space_at-with_space_same}
+use Rattle.machine.proofs.Names.{space_at-with_space_other, has_space-remove, space_at-remove}
+use Rattle.shootdown.specs.Shootdown.{begun}
 use Rattle.std.specs.FinMap as maps
-use Rattle.mappings.specs.declared.place.Place.{Place}
-use Rattle.mappings.specs.declared.place.Rights.{Rights}
-use Rattle.mappings.specs.declared.page_range.PageRange.{PageRange}
-use Rattle.mappings.specs.Places.{Places, with_range, without_range, with_rights}
-use Rattle.page_entry.specs.Entry.{Mapped}
-use Rattle.page_table.specs.Table.{outside_range}
-use Rattle.spaces.proofs.Public.{has_space-with_space, space_at-with_space_same, space_at-with_space_other, has_space-remove, space_at-remove, has_space-with_entry, places-with_entry}
 
 -- ---- the processors as they are told: the current space of each, and whether it goes on
 
@@ -163,11 +156,6 @@ spaces_still told m new spaces places t = record {
   same_places = λ q. t.same_places q ∙ sym (places q);
 }
 
--- a page of a space gets another entry
-pub spaces_with_entry : (told : ToldSpaces) (m new : Spaces) (pcid page : ℕ) (entry : Option Mapped) → has_space m pcid ≡ true → new ≡ with_entry m pcid page entry → AreSpacesTold told m → AreSpacesTold told new
-spaces_with_entry told m new pcid page entry there is t =
-    subst (AreSpacesTold told) (sym is) (spaces_still told m (with_entry m pcid page entry) (has_space-with_entry m pcid page entry there) (places-with_entry m pcid page entry) t)
-
 module _ (told : ToldSpaces) (n : ℕ) where
   get-told_insert : (places : Places) (q : ℕ) → maps.get (maps.insert told n places) q ≡ cond (eqb q n) (Some places) (maps.get told q)
   get-told_insert places q = maps.get-insert nat_cmp_total told n places q ∙ ap (λ b. cond b (Some places) (maps.get told q)) (unsigned_tied q n)
@@ -218,33 +206,3 @@ module _ (told : ToldSpaces) (n : ℕ) where
   spaces_made m space =
       spaces_with m (with_space m n space) space.places (has_space-with_space m n space) (ap (λ (x : AddressSpace). x.places) (space_at-with_space_same m n space))
       (λ q other. ap (λ (x : AddressSpace). x.places) (space_at-with_space_other m n space q other))
-
-  abbrev here : Places
-  here = unwrap_or (maps.get told n) maps.empty
-
-  -- pages are mapped
-  pub spaces_mapped : (m : Spaces) (range : PageRange) (place : Place) → AreSpacesTold told m → AreSpacesTold (maps.insert told n (with_range here range.first range.count place)) (with_mapping m n range place)
-  spaces_mapped m range place t =
-      subst (λ (p : Places). AreSpacesTold (maps.insert told n (with_range p range.first range.count place)) (with_mapping m n range place)) (sym (t.same_places n))
-      (spaces_made m (record (space_at m n) { places = with_range (space_at m n).places range.first range.count place }) t)
-
-  -- pages are unmapped
-  pub spaces_unmapped : (m : Spaces) (range : PageRange) → AreSpacesTold told m → AreSpacesTold (maps.insert told n (without_range here range.first range.count)) (without_mapping m n range)
-  spaces_unmapped m range t =
-      subst (λ (p : Places). AreSpacesTold (maps.insert told n (without_range p range.first range.count)) (without_mapping m n range)) (sym (t.same_places n))
-      (spaces_made m (record { entries = outside_range (space_at m n).entries range.first (range.first + range.count); places = without_range (space_at m n).places range.first range.count }) t)
-
-  -- pages get rights
-  pub spaces_protected : (m new : Spaces) (range : PageRange) (rights : Rights) → has_space m n ≡ true → SetsRights n range rights m new → AreSpacesTold told m
-      → AreSpacesTold (maps.insert told n (with_rights here range.first range.count rights)) new
-  spaces_protected m new range rights there sets t =
-      spaces_with m new (with_rights here range.first range.count rights)
-      (λ q. sets.same_spaces q ∙ sym (in_there q))
-      (sets.rights_set ∙ ap (λ (p : Places). with_rights p range.first range.count rights) (sym (t.same_places n)))
-      sets.other_places t
-    where
-      in_there : (q : ℕ) → (eqb q n || has_space m q) ≡ has_space m q
-      in_there q = elim (cases_eq q n) [
-        | inl same ↦ ap (λ b. b || has_space m q) (eq-eqb q n same) ∙ sym (ap (has_space m) same ∙ there)
-        | inr other ↦ ap (λ b. b || has_space m q) (ne_eqb q n other)
-      ]

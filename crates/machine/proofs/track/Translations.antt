@@ -1,22 +1,12 @@
 -- What a translation that is made goes through, where a load that is made reads, and where a store that is made writes.
-use Rattle.std.proofs.Common.{ℕ, ◌≡◌, ◌⊎◌, Bool, true, false, not, ◌&&◌, ◌||◌, cond, Option, Some, None, Result, Ok, Err, refl, sym, ap, ◌∙◌, subst, inl, inr, ◌≢◌, ◌/◌, ◌%◌, List, take, drop}
-use Rattle.std.proofs.lemmas.Bool.{and_parts, not-false}
-use Rattle.page_entry.specs.Entry.{Mapped}
-use Rattle.pcid_tlb.specs.declared.CachedEntry.{CachedEntry}
-use Rattle.pcid_tlb.specs.Tlb.{cached}
-use Rattle.pcid_tlb.proofs.Public.{cached-All}
-use Rattle.spaces.specs.Spaces.{entry_at, place_at, with_entry}
-use Rattle.shootdown.specs.Coherence.{Coheres, Agrees, IsUsable}
-use Rattle.shootdown.specs.Shootdown.{processor_at, current, not_running, is_there}
-use Rattle.shootdown.proofs.Public.{running, is_there_below}
-use Rattle.cpu.specs.Access.{Hardware, serves, walk, walked, walked_to, translated, translated_by, filled_by, LoadMade, StoreMade}
-use Rattle.mappings.specs.declared.place.Place.{Place}
-use Rattle.mappings.specs.Places.{may_write}
-use Rattle.frames.specs.Frames.{FramesState, frame_at, bytes_of, with_bytes}
-use Rattle.spaces.proofs.Public.{places-with_entry, has_space-with_entry}
-use Rattle.checkpoint.specs.Checkpoint.{CheckpointState, Holds, IsDirty, is_held}
-use Rattle.checkpoint.specs.Backing.{AreBacked, page_at}
-use Rattle.checkpoint.proofs.Public.{has_space-entry}
+use Rattle.machine.proofs.Names.{ℕ, ◌≡◌, ◌⊎◌, Bool, true, false, not, ◌&&◌, ◌||◌, cond, Option, Some, None, Result, Ok}
+use Rattle.machine.proofs.Names.{Err, refl, sym, ap, ◌∙◌, subst, inl, inr, ◌≢◌, ◌/◌, ◌%◌, List, take, drop, and_parts}
+use Rattle.machine.proofs.Names.{not-false, Mapped, CachedEntry, cached, cached-All, entry_at, place_at, with_entry}
+use Rattle.machine.proofs.Names.{Coheres, Agrees, IsUsable, processor_at, current, not_running, is_there, running}
+use Rattle.machine.proofs.Names.{is_there_below, Hardware, serves, walk, walked, walked_to, translated, translated_by}
+use Rattle.machine.proofs.Names.{filled_by, LoadMade, StoreMade, Place, may_write, FramesState, frame_at, bytes_of}
+use Rattle.machine.proofs.Names.{with_bytes, places-with_entry, has_space-with_entry, CheckpointState, Holds, IsDirty}
+use Rattle.machine.proofs.Names.{is_held, AreBacked, page_at, has_space-entry}
 use Rattle.machine.proofs.durable.Lists.{some_same}
 use Rattle.machine.proofs.track.DirtyFrames.{dirty_at, dirty_kept, dirty_back, dirty_there}
 use Rattle.machine.proofs.track.ToldSpaces.{AreProcessorsTold, told_still, ToldSpaces, AreSpacesTold, spaces_still}

@@ -1,8 +1,5 @@
-use Rattle.std.proofs.Common.{refl, sym, ap, subst}
-use Rattle.machine.specs.declared.act.Act.{Act}
-use Rattle.machine.specs.Calls.{CallsOf}
-use Rattle.machine.specs.Steps.{step_work}
-use Rattle.machine.specs.inside.Layers.{state_in, reply_to}
+use Rattle.machine.proofs.Names.{refl, sym, ap, subst, Act, CallsOf, step_work, state_in}
+use Rattle.machine.specs.inside.Layers.{reply_to}
 use Rattle.machine.proofs.sound.Uses.{reachable, has_notes}
 use Rattle.machine.proofs.code.Acting.{quiet_done, fix_done, flush_done}
 use Rattle.machine.proofs.layers.Layers.act.Goals as goal

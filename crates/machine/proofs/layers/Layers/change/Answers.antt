@@ -1,7 +1,4 @@
-use Rattle.std.proofs.Common.{Option, None, Ok, refl, subst}
-use Rattle.std.proofs.lemmas.Result.{err_from_is_err_and}
-use Rattle.spaces.specs.declared.change.Change.{Change}
-use Rattle.shootdown.specs.Calls.{HandsOut}
+use Rattle.machine.proofs.Names.{Option, None, Ok, refl, subst, err_from_is_err_and, Change, HandsOut}
 use Rattle.machine.proofs.layers.Layers.change.Goals as goal
 
 pub returns-in_err-change-clause-rules : goal.returns-in_err-change-clause-rules

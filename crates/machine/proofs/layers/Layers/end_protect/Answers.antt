@@ -1,9 +1,5 @@
-use Rattle.std.proofs.Common.{ap}
-use Rattle.spaces.specs.declared.change.Change.TheVariants.{Protect}
-use Rattle.shootdown.specs.Shootdown.{ShootdownState}
-use Rattle.machine.specs.Rules.{with_shootdown, with_spaces}
-use Rattle.machine.specs.inside.Layers.{state_in}
-use Rattle.machine.proofs.code.Holders.{may_change}
+use Rattle.machine.proofs.Names.{ap, Protect, ShootdownState, with_shootdown, with_spaces, state_in}
+use Rattle.machine.proofs.code.Parts.{may_change}
 use Rattle.machine.proofs.layers.Layers.end_protect.Goals as goal
 
 pub protect-requires-clause-prepared : goal.protect-requires-clause-prepared

@@ -1,5 +1,4 @@
-use Rattle.spaces.specs.declared.change.Change.TheVariants.{Unmap}
-use Rattle.machine.specs.inside.Layers.{state_in}
+use Rattle.machine.proofs.Names.{Unmap, state_in}
 use Rattle.machine.proofs.sound.Uses.{has_notes}
 use Rattle.machine.proofs.layers.Layers.end_unmap.Goals as goal
 

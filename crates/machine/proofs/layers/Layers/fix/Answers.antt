@@ -1,11 +1,6 @@
-use Rattle.std.proofs.Common.{◌≡◌, Some, sym, ap, ◌∙◌, arith}
-use Rattle.std.proofs.lemmas.Bool.{false≢true}
-use Rattle.std.proofs.lemmas.Result.{err_from_is_err_and}
+use Rattle.machine.proofs.Names.{◌≡◌, Some, sym, ap, ◌∙◌, arith, false≢true, err_from_is_err_and, page_at}
+use Rattle.machine.proofs.Names.{place_of_fault, fix_refusal, state_in}
 use Rattle.page_entry.specs.declared.refusal.Refusal.TheVariants as refusals
-use Rattle.checkpoint.specs.Backing.{page_at}
-use Rattle.fault.specs.Fault.{place_of_fault}
-use Rattle.machine.specs.Refusals.{fix_refusal}
-use Rattle.machine.specs.inside.Layers.{state_in}
 use Rattle.machine.proofs.sound.Uses.{fault_file}
 use Rattle.machine.proofs.code.Fixes.{refused_by, refused_unread, fix_refusal-not_free, fix_refusal-leads, fix_refusal-past, fault_at, seen_same, same_reads, refused_fix, served_fix}
 use Rattle.machine.proofs.code.Marks.{page_there}

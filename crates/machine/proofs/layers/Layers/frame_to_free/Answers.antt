@@ -1,6 +1,4 @@
-use Rattle.std.proofs.Common.{◌≡◌, subst}
-use Rattle.std.proofs.lemmas.Bool.{false≢true}
-use Rattle.machine.specs.inside.Layers.{state_in, IsAtHome}
+use Rattle.machine.proofs.Names.{◌≡◌, subst, false≢true, state_in, IsAtHome}
 use Rattle.machine.proofs.layers.Layers.frame_to_free.Goals as goal
 
 pub returns-else-is_at_home-clause-stays : goal.returns-else-is_at_home-clause-stays

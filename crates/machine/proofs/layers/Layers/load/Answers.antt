@@ -1,6 +1,4 @@
-use Rattle.std.proofs.Common.{refl}
-use Rattle.std.proofs.lemmas.Result.{err_from_is_err_and}
-use Rattle.cpu.specs.Access.{hardware}
+use Rattle.machine.proofs.Names.{refl, err_from_is_err_and, hardware}
 use Rattle.machine.proofs.layers.Layers.load.Goals as goal
 
 pub returns-in_err-bytes-clause-rules : goal.returns-in_err-bytes-clause-rules

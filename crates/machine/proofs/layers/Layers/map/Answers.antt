@@ -1,14 +1,10 @@
-use Rattle.std.proofs.Common.{refl, sym, ap, subst, arith}
-use Rattle.std.proofs.lemmas.Result.{err_from_is_err_and}
+use Rattle.machine.proofs.Names.{refl, sym, ap, subst, arith, err_from_is_err_and, SpacesState, Act, Acts, with_spaces}
+use Rattle.machine.proofs.Names.{state_in}
 use Rattle.page_entry.specs.declared.refusal.Refusal.TheVariants as refusals
-use Rattle.spaces.specs.Spaces.{SpacesState}
-use Rattle.machine.specs.declared.act.Act.{Act}
 use Rattle.machine.specs.declared.act.Reply.TheVariants.{Mapped, Refused}
-use Rattle.machine.specs.Rules.{Acts, with_spaces}
-use Rattle.machine.specs.inside.Layers.{state_in}
 use Rattle.machine.proofs.sound.Admitted.{free_below}
-use Rattle.machine.proofs.code.Reserved.{reserved_free}
-use Rattle.machine.proofs.code.Mapping.{maps-no_file, maps-unadded, map_refusal-adding}
+use Rattle.machine.proofs.code.Parts.{reserved_free}
+use Rattle.machine.proofs.code.Refusals.{maps-no_file, maps-unadded, map_refusal-adding}
 use Rattle.machine.proofs.layers.Layers.map.Goals as goal
 
 pub returns-then-file-file_count-clause-rules : goal.returns-then-file-file_count-clause-rules

@@ -1,14 +1,7 @@
-use Rattle.std.proofs.Common.{◌<◌, ◌≤◌, ◌+◌, not, List, length, map, refl, sym, ap, ◌∙◌, subst}
-use Rattle.std.specs.List.{All}
-use Rattle.page_entry.specs.declared.numbers.FilePage.{FilePage}
-use Rattle.spaces.specs.declared.change.Change.TheVariants.{Checkpoint}
-use Rattle.shootdown.specs.Shootdown.{finished}
-use Rattle.checkpoint.specs.Checkpoint.{CheckpointState, Gathers}
-use Rattle.machine.specs.declared.layers.Layers.{Layers}
-use Rattle.machine.specs.State.{home_of}
-use Rattle.machine.specs.Rules.{MarkMade}
-use Rattle.machine.specs.inside.Layers.{state_in, IsPageOf, MayBegin}
-use Rattle.machine.proofs.code.Holders.{may_change}
+use Rattle.machine.proofs.Names.{◌<◌, ◌≤◌, ◌+◌, not, List, length, map, refl, sym, ap, ◌∙◌, subst, All, FilePage}
+use Rattle.machine.proofs.Names.{Checkpoint, finished, CheckpointState, Gathers, Layers, home_of, MarkMade, state_in}
+use Rattle.machine.proofs.Names.{IsPageOf, MayBegin}
+use Rattle.machine.proofs.code.Parts.{may_change}
 use Rattle.machine.proofs.code.Marks.{few_frozen, frozen_there, may_begin, with_homes-batch}
 use Rattle.machine.proofs.layers.Layers.mark.Goals as goal
 

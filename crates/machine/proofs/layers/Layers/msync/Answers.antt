@@ -1,11 +1,7 @@
-use Rattle.std.proofs.Common.{refl, ap}
-use Rattle.shootdown.specs.Shootdown.{ShootdownState}
-use Rattle.machine.proofs.code.Reserved.{reserved_begun}
+use Rattle.machine.proofs.Names.{refl, ap, ShootdownState}
+use Rattle.machine.proofs.code.Parts.{quiet_begun}
 use Rattle.machine.proofs.layers.Layers.msync.Goals as goal
 
 pub returns-clause-quiet : goal.returns-clause-quiet
-returns-clause-quiet g c = record {
-  same_device = refl;
-  same_table = refl;
-  still_reserved = λ _. reserved_begun _ _ _ (ap (λ (s : ShootdownState). s.lock) c.begin.ensures.begun) tt;
-}
+returns-clause-quiet g c =
+    quiet_begun refl refl (ap (λ (s : ShootdownState). s.lock) c.begin.ensures.begun) tt

@@ -1,10 +1,6 @@
-use Rattle.std.proofs.Common.{refl, ap, ◌∙◌, arith}
-use Rattle.shootdown.specs.Shootdown.{ShootdownState}
-use Rattle.machine.specs.Rules.{with_shootdown}
-use Rattle.machine.specs.inside.Layers.{state_in}
-use Rattle.machine.proofs.code.Reserved.{reserved_begun}
-use Rattle.machine.proofs.code.Reclaims.{reclaim-past, reclaim-allowed}
-use Rattle.machine.proofs.code.InMemory.{in_memory-found}
+use Rattle.machine.proofs.Names.{refl, ap, ◌∙◌, arith, ShootdownState, with_shootdown, state_in}
+use Rattle.machine.proofs.code.Refusals.{reclaim-past, reclaim-allowed}
+use Rattle.machine.proofs.code.Parts.{in_memory-found, quiet_begun}
 use Rattle.machine.proofs.layers.Layers.reclaim.Goals as goal
 
 pub returns-then-page-pages_in_file-clause-rules :
@@ -32,8 +28,5 @@ returns-clause-rules g c = (
 )
 
 pub returns-clause-quiet : goal.returns-clause-quiet
-returns-clause-quiet g c = record {
-  same_device = refl;
-  same_table = refl;
-  still_reserved = λ _. reserved_begun _ _ _ (ap (λ (s : ShootdownState). s.lock) c.begin.ensures.begun) tt;
-}
+returns-clause-quiet g c =
+    quiet_begun refl refl (ap (λ (s : ShootdownState). s.lock) c.begin.ensures.begun) tt

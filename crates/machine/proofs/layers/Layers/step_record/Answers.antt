@@ -1,10 +1,5 @@
-use Rattle.std.proofs.Common.{◌≡◌, ◌<◌, ◌≤◌, ◌-◌, ◌*◌, List, length, get_or, true, sym, ap, subst, ◌∙◌, arith}
-use Rattle.page_entry.specs.declared.numbers.FilePage.{FilePage}
-use Rattle.fault.specs.Fault.{is_in_memory}
-use Rattle.journal.specs.WriteOuts.{next_work}
-use Rattle.machine.specs.State.{length_of}
-use Rattle.machine.specs.Rules.{next_page, bytes_at_mark}
-use Rattle.machine.specs.inside.Layers.{state_in}
+use Rattle.machine.proofs.Names.{◌≡◌, ◌<◌, ◌≤◌, ◌-◌, ◌*◌, List, length, get_or, true, sym, ap, subst, ◌∙◌, arith}
+use Rattle.machine.proofs.Names.{FilePage, is_in_memory, next_work, length_of, next_page, bytes_at_mark, state_in}
 use Rattle.machine.proofs.code.Records.{is_next_page, whole_record}
 use Rattle.machine.proofs.layers.Layers.step_record.Goals as goal
 

@@ -1,17 +1,8 @@
-use Rattle.std.proofs.Common.{◌≡◌, Result, not, refl, sym, ap, ◌∙◌, subst, ⊎_elim}
-use Rattle.device.specs.Did.{Did}
-use Rattle.device.proofs.Public.{did_as}
-use Rattle.page_entry.specs.declared.refusal.Refusal.{Refusal}
-use Rattle.journal.specs.WriteOuts.{next_work}
-use Rattle.machine.specs.declared.act.Reply.{Reply}
-use Rattle.machine.specs.declared.layers.Layers.{Layers}
-use Rattle.machine.specs.State.{State}
-use Rattle.machine.specs.Rules.{Flushes}
+use Rattle.machine.proofs.Names.{◌≡◌, Result, not, refl, sym, ap, ◌∙◌, subst, ⊎_elim, Did, did_as, Refusal, next_work}
+use Rattle.machine.proofs.Names.{Reply, Layers, State, Flushes, has_failed, step_work, state_in, AnswersBy}
+use Rattle.machine.proofs.Names.{HasSmallMark, memory_after, checkpoint_after}
 use Rattle.machine.specs.declared.act.Act.TheVariants as acts
-use Rattle.machine.specs.Calls.{has_failed}
-use Rattle.machine.specs.Steps.{step_work}
-use Rattle.machine.specs.inside.Layers.{state_in, AnswersBy, reply_to as reply_by}
-use Rattle.machine.specs.inside.Flushing.{HasSmallMark, memory_after, checkpoint_after}
+use Rattle.machine.specs.inside.Layers.{reply_to as reply_by}
 use Rattle.machine.proofs.code.Records.{is_next_page, small-next_answer}
 use Rattle.machine.proofs.code.Flushes.{stepped, flushes_by, answer_work, answer_done}
 use Rattle.machine.proofs.layers.Layers.step_with.Goals as goal

@@ -1,4 +1,4 @@
-use Rattle.std.proofs.Common.{is_some, sym, ap, ◌∙◌}
+use Rattle.machine.proofs.Names.{is_some, sym, ap, ◌∙◌}
 use Rattle.machine.proofs.code.Records.{without_record}
 use Rattle.machine.proofs.layers.Layers.step_write_outs.Goals as goal
 

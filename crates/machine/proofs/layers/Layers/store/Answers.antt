@@ -1,6 +1,4 @@
-use Rattle.std.proofs.Common.{ℕ, List, Ok, Err, refl, subst}
-use Rattle.std.proofs.lemmas.Result.{err_from_is_err_and}
-use Rattle.cpu.specs.Access.{hardware, Stores}
+use Rattle.machine.proofs.Names.{ℕ, List, Ok, Err, refl, subst, err_from_is_err_and, hardware, Stores}
 use Rattle.machine.proofs.layers.Layers.store.Goals as goal
 
 pub returns-in_err-store-clause-rules : goal.returns-in_err-store-clause-rules

@@ -1,0 +1,216 @@
+-- The words that proofs use of the libraries, of other crates, and of the definitions of this one.
+pub use Rattle.checkpoint.proofs.Public.{AreBacked-cleared, AreBacked-created, AreBacked-frozen, AreBacked-protected}
+pub use Rattle.checkpoint.proofs.Public.{AreBacked-released, AreBacked-remove, AreBacked-rights_set, AreBacked-thawed}
+pub use Rattle.checkpoint.proofs.Public.{AreBacked-with_bytes, AreBacked-with_copy, AreBacked-with_entry}
+pub use Rattle.checkpoint.proofs.Public.{AreBacked-with_mapping, AreBacked-with_page, AreBacked-without_frame}
+pub use Rattle.checkpoint.proofs.Public.{AreBacked-without_mapping, AreCopiesOfFrozen-release, AreRising-drop}
+pub use Rattle.checkpoint.proofs.Public.{AreRising-tail, HasNotes-backed, Holds-with_page, MayBe, before_each}
+pub use Rattle.checkpoint.proofs.Public.{has_page-list_any, has_space-entry, list_any-found, list_any-has_page}
+pub use Rattle.checkpoint.proofs.Public.{list_any-no_page, same_page-refl, same_page-true}
+pub use Rattle.checkpoint.specs.Backing.{AreBacked, HasNotes, page_at}
+pub use Rattle.checkpoint.specs.Checkpoint.{AreRising, CheckpointState, Gathers, Holds, IsDirty, IsInRange, IsInSpace}
+pub use Rattle.checkpoint.specs.Checkpoint.{NotesTaken, ProtectsNoted, freed_copy, fresh_checkpoint, is_copied}
+pub use Rattle.checkpoint.specs.Checkpoint.{is_frozen, is_held, is_noted, is_of_page, released, same_page, thawed}
+pub use Rattle.checkpoint.specs.Checkpoint.{without_copy_of, without_notes}
+pub use Rattle.cpu.specs.Access.{AccessRefused, Evicts, Faults, Fills, Hardware, IsAccess, IsReachable, LoadMade}
+pub use Rattle.cpu.specs.Access.{StoreMade, Stores, cached_of, filled_by, hardware, serves, translated, translated_by}
+pub use Rattle.cpu.specs.Access.{walk, walked, walked_to}
+pub use Rattle.device.proofs.Public.{did_as, did_nothing, leaves_at_start}
+pub use Rattle.device.specs.Count.{raised}
+pub use Rattle.device.specs.Device.{LeavesOnly, Only, Torn}
+pub use Rattle.device.specs.Did.{Did}
+pub use Rattle.device.specs.declared.device.Device.{Ghosts}
+pub use Rattle.fault.specs.Fault.{Brings, CopiesOut, FaultServed, allowed_place, copies_out, fault_refusal, fixed_entry}
+pub use Rattle.fault.specs.Fault.{is_in_memory, place_of_fault}
+pub use Rattle.fault.specs.Fixing.{FixDone, FixRefused, ReadsOnce, block_from, reads_home, refusal_of}
+pub use Rattle.frames.proofs.Public.{after_set, frame_at-free, frame_at-with_bytes_other, frame_at-with_bytes_same}
+pub use Rattle.frames.proofs.Public.{frame_at-with_page_other, frame_at-with_page_same, frame_at-without_frame_other}
+pub use Rattle.frames.proofs.Public.{frame_at-without_frame_same, length-overwrite, page_of-with_bytes}
+pub use Rattle.frames.specs.Frames.{Frame, FramesState, HasNoCopy, HasNoFrame, IsBefore, all_free, bytes_of, copy_at}
+pub use Rattle.frames.specs.Frames.{frame_at, has_free, has_used, overwrite, overwrite_frame, page_of, with_bytes}
+pub use Rattle.frames.specs.Frames.{with_copy, with_page, without_copies, without_frame}
+pub use Rattle.journal.proofs.Public.{IsAt, advanced-newest, after_committing, all_calls, batch_before, committed-at}
+pub use Rattle.journal.proofs.Public.{committed_parts, current-newest, current-oldest, current_committed}
+pub use Rattle.journal.proofs.Public.{done_committed, early_calls, newest_of, older_committed, stage_at-is}
+pub use Rattle.journal.proofs.Public.{stage_committed, stage_is, stands_after, stands_begun, stands_failed}
+pub use Rattle.journal.proofs.Public.{stands_first, stands_left, stands_other, stands_within}
+pub use Rattle.journal.specs.Crash.{LeftBefore, LeftWithin}
+pub use Rattle.journal.specs.Stage.{answer_at, is_committed}
+pub use Rattle.journal.specs.Work.{CopyBlock, HasFailed, Nothing, Sync, TornByWork, TornFromWork, Work, WriteAt}
+pub use Rattle.journal.specs.Work.{calls_of, has_done, work_at, worked}
+pub use Rattle.journal.specs.WriteOut.{WriteOut, advanced_of, answer_of, begun_of, broken_after, calls_in_steps}
+pub use Rattle.journal.specs.WriteOut.{has_committed, next_home, next_record, next_stage, record_at, work_of}
+pub use Rattle.journal.specs.WriteOuts.{HasBlock, WriteOutsValue, advanced, batches_after, begun, current_stage}
+pub use Rattle.journal.specs.WriteOuts.{has_uncommitted, is_busy, next_answer, next_batch, next_work, none_of}
+pub use Rattle.journal.specs.WriteOuts.{outs_after, outs_home, outs_record}
+pub use Rattle.journal.specs.declared.flushed.Flushed.{Flushed}
+pub use Rattle.journal.specs.declared.flushed.Flushed.TheVariants.{Broken, Committed, Device, Done, Going}
+pub use Rattle.journal.specs.declared.stage.Stage.{Stage}
+pub use Rattle.journal.specs.declared.stage.Stage.TheVariants.{Applying, Closing, Committing, Describing, Finishing}
+pub use Rattle.journal.specs.declared.stage.Stage.TheVariants.{Opening, Recording, SyncingHomes, SyncingRecords}
+pub use Rattle.journal.specs.inside.Sound.{AreInOrder, IsOlder}
+pub use Rattle.journal.specs.inside.Standing.{IsStanding}
+pub use Rattle.journal.specs.inside.Tied.{IsTied}
+pub use Rattle.machine.specs.Calls.{CallsOf, FixCalls, FlushCalls, has_failed, is_absent, reads_page}
+pub use Rattle.machine.specs.Crashes.{Begins, StepIsSafe, Throughout}
+pub use Rattle.machine.specs.Durability.{AreFrozenProtected, HasPart, IsInFile, frozen_homes, waiting_homes}
+pub use Rattle.machine.specs.Durability.{within_file}
+pub use Rattle.machine.specs.Fresh.{IsFresh, IsShape, fresh}
+pub use Rattle.machine.specs.History.{Acknowledge, Event, Mark, Memory, after, bytes_of_pages, file_bytes, files_after}
+pub use Rattle.machine.specs.History.{files_from_memory, has_unmarked, is_touched, memory_of, stored, touched_after}
+pub use Rattle.machine.specs.History.{unmarked_after}
+pub use Rattle.machine.specs.Later.{AreDurable, Finds, FindsDurable, OpensTo}
+pub use Rattle.machine.specs.Laws.{AddressLaw, EachStep, FaultsAreServed, IsAccessOf, IsAnswered, IsFreeToAct, IsInside}
+pub use Rattle.machine.specs.Laws.{LeadsTo, LoadLaw, LoadsLatest, ReadsBack, ServesNext, StoreLaw, StoresAtPlace}
+pub use Rattle.machine.specs.Laws.{told_at_start}
+pub use Rattle.machine.specs.OnTrack.{IsOnTrack}
+pub use Rattle.machine.specs.Refusals.{destroy_refusal_of, first_of, fix_refusal, flush_refusal, is_msync, map_refusal}
+pub use Rattle.machine.specs.Refusals.{mapping_refusal, msync_refusal, pages_in_file, protect_refusal_of}
+pub use Rattle.machine.specs.Refusals.{reclaim_refusal, refuse_if, served_refusal, unmap_refusal, why_not}
+pub use Rattle.machine.specs.Rules.{Acts, FixMade, Fixes, FlushFailed, FlushMade, Flushes, IsRefused, LoadAnswers}
+pub use Rattle.machine.specs.Rules.{MapMade, Maps, MarkMade, MayChange, MayLeave, ProtectMade, Reaches, ReclaimKept}
+pub use Rattle.machine.specs.Rules.{ReclaimMade, Rules, SpaceDestroyed, StoreAnswers, UnmapMade, WantsMemory}
+pub use Rattle.machine.specs.Rules.{after_failure, after_record, begin_change, bytes_at_mark, bytes_with, end_change}
+pub use Rattle.machine.specs.Rules.{next_page, reply_to, with_batch, with_hardware, with_shootdown, with_spaces}
+pub use Rattle.machine.specs.Rules.{work_asked}
+pub use Rattle.machine.specs.Runs.{StepTaken, StepsTaken}
+pub use Rattle.machine.specs.State.{State, Whole, cut_at_end, home_of, length_of, page_from}
+pub use Rattle.machine.specs.Steps.{IsLawful, StepMade, step_work, told_first}
+pub use Rattle.machine.specs.Stops.{IsAcknowledged, IsNew, IsOld, Stops, StopsBefore, StopsInStep, StopsWithin}
+pub use Rattle.machine.specs.Sums.{AskFor, asked_for, listed_work}
+pub use Rattle.machine.specs.Told.{Pending, Protecting, Told, Unmapping, begun_by, begun_protect, begun_unmap, changed}
+pub use Rattle.machine.specs.Told.{ended_by, length_told, mapped_in, offset_at, place_told, places_in, store_at, tell}
+pub use Rattle.machine.specs.Told.{tell_all}
+pub use Rattle.machine.specs.declared.act.Act.{Act}
+pub use Rattle.machine.specs.declared.act.Reply.{Reply}
+pub use Rattle.machine.specs.declared.act.Shape.{Shape}
+pub use Rattle.machine.specs.declared.act.Step.{Step}
+pub use Rattle.machine.specs.declared.layers.Layers.{Layers}
+pub use Rattle.machine.specs.inside.Acting.{ActDone}
+pub use Rattle.machine.specs.inside.Flushing.{HasSmallMark, checkpoint_after, memory_after, released_memory}
+pub use Rattle.machine.specs.inside.Flushing.{released_pages, reply_of_flush}
+pub use Rattle.machine.specs.inside.Following.{Follows}
+pub use Rattle.machine.specs.inside.Layers.{AnswersBy, AreLayers, AreReserved, IsAtHome, IsPageOf, IsQuiet, IsReserved}
+pub use Rattle.machine.specs.inside.Layers.{KeepsReserved, MayBegin, state_in, whole_in, with_homes}
+pub use Rattle.machine.specs.inside.Moves.{AreSpacesTold, Begin, Beginning, BeginsChange, Bring, ChangesPlaces}
+pub use Rattle.machine.specs.inside.Moves.{Changing, Copy, Destroy, Drop, End, Ending, EndsChange, Entering, Failed}
+pub use Rattle.machine.specs.inside.Moves.{IsMoved, IsProcessorTold, Leaving, Mapping, Marked, Move, Moved, Moves}
+pub use Rattle.machine.specs.inside.Moves.{Performed, Remap, Replace, ReplacesProcessor, ReplacesSpaces, Running}
+pub use Rattle.machine.specs.inside.Moves.{SameDirty, Saying, Silent, Store, StoresBytes, Storing, effect_of, ending_of}
+pub use Rattle.machine.specs.inside.Moves.{said, said_all}
+pub use Rattle.machine.specs.inside.Sound.{AreOlderCommitted, AreSpacesSound, AreWriteOutsSound, IsMemory}
+pub use Rattle.machine.specs.inside.Sound.{IsMemorySound, IsPrepared, IsSound, capacity_of}
+pub use Rattle.machine.specs.inside.Tracking.{AreContentsOf, AreMarks, ArePlain, AreTouched, HasAcknowledged, HasFiles}
+pub use Rattle.machine.specs.inside.Tracking.{HasParts, IsArranged, IsLatest, IsLost, IsTracked, IsWaiting, IsWritten}
+pub use Rattle.machine.specs.inside.Tracking.{change_in, pending_in}
+pub use Rattle.mappings.specs.Judgement.{add_refusal, is_mappable, is_user_range, mapped_pages_of, pages_holding}
+pub use Rattle.mappings.specs.Judgement.{protect_refusal, range_of_bytes}
+pub use Rattle.mappings.specs.Places.{Places, all_mapped, allows, any_forbids, any_mapped, is_among, may_write}
+pub use Rattle.mappings.specs.Places.{with_range, with_rights, without_range}
+pub use Rattle.mappings.specs.declared.page_range.PageRange.{PageRange}
+pub use Rattle.mappings.specs.declared.place.Place.{Place}
+pub use Rattle.mappings.specs.declared.place.Rights.{Rights}
+pub use Rattle.page_entry.specs.Entry.{Mapped, protected_of, with_writable_of}
+pub use Rattle.page_entry.specs.declared.numbers.FilePage.{FilePage}
+pub use Rattle.page_entry.specs.declared.refusal.Refusal.{Refusal}
+pub use Rattle.page_entry.specs.declared.refusal.Refusal.TheVariants.{Damaged, NotAVolume, OutOfMemory}
+pub use Rattle.page_table.specs.Table.{outside_range}
+pub use Rattle.pcid_tlb.proofs.Public.{cached-All}
+pub use Rattle.pcid_tlb.specs.Tlb.{TlbState, cached, evicted, filled, without_page}
+pub use Rattle.pcid_tlb.specs.declared.CachedEntry.{CachedEntry}
+pub use Rattle.pcid_tlb.specs.declared.Invpcid.{Invpcid}
+pub use Rattle.pcid_tlb.specs.declared.Invpcid.TheVariants.{SingleContext}
+pub use Rattle.recovery.specs.Counts.{HasCause}
+pub use Rattle.recovery.specs.Opening.{HasOpened, HasRefused}
+pub use Rattle.recovery.specs.Openings.{IsLater, RecoversAs}
+pub use Rattle.recovery.specs.Volume.{files_of}
+pub use Rattle.shootdown.proofs.Public.{Coheres-begun, Coheres-changed, Coheres-destroyed, Coheres-evicted}
+pub use Rattle.shootdown.proofs.Public.{Coheres-filled, Coheres-finished, Coheres-fresh, Coheres-grown, Coheres-idled}
+pub use Rattle.shootdown.proofs.Public.{Coheres-resumed, Coheres-stalled, Coheres-switched_to, Coheres-without_page}
+pub use Rattle.shootdown.proofs.Public.{IsNoWider-remove, IsNoWider-same_places, IsShootdown-begun}
+pub use Rattle.shootdown.proofs.Public.{IsShootdown-destroyed, IsShootdown-evicted, IsShootdown-filled}
+pub use Rattle.shootdown.proofs.Public.{IsShootdown-finished, IsShootdown-fresh, IsShootdown-idled, IsShootdown-resumed}
+pub use Rattle.shootdown.proofs.Public.{IsShootdown-stalled, IsShootdown-switched_to, IsShootdown-without_page}
+pub use Rattle.shootdown.proofs.Public.{IsUnused-from_Coheres, admitted, at-with_processor, current-begun}
+pub use Rattle.shootdown.proofs.Public.{current-destroyed, elsewhere, entry_at-remove_other, is_there_below}
+pub use Rattle.shootdown.proofs.Public.{length-begun, length-destroyed, length-with_processor, none_unless_some}
+pub use Rattle.shootdown.proofs.Public.{processor_at-begun, processor_at-destroyed, processor_at-with_other}
+pub use Rattle.shootdown.proofs.Public.{processor_at-with_same, running, state-begun_one}
+pub use Rattle.shootdown.specs.Calls.{HandsOut, change_refusal, destroy_refusal, idle_refusal, is_idle, is_stalled}
+pub use Rattle.shootdown.specs.Calls.{lock_refusal, not_there, switch_refusal, wait_refusal}
+pub use Rattle.shootdown.specs.Coherence.{Agrees, Coheres, IsNoWider, IsUnused, IsUsable}
+pub use Rattle.shootdown.specs.Processors.{Processor, fresh_processor, is_concerned, is_running, queued, switched, told}
+pub use Rattle.shootdown.specs.Processors.{woken}
+pub use Rattle.shootdown.specs.Shootdown.{IsShootdown, ShootdownState, current, destroyed, finished, fresh_shootdown}
+pub use Rattle.shootdown.specs.Shootdown.{idled, interrupted, is_current, is_interrupted, is_there, not_free}
+pub use Rattle.shootdown.specs.Shootdown.{not_running, processor_at, resumed, stalled, state_of, state_when_begun}
+pub use Rattle.shootdown.specs.Shootdown.{switched_to, tlb_of, with_processor, with_tlb}
+pub use Rattle.shootdown.specs.declared.lock.Lock.{Lock}
+pub use Rattle.shootdown.specs.declared.proc_state.ProcState.{ProcState}
+pub use Rattle.shootdown.specs.declared.proc_state.ProcState.TheVariants.{Active, Idle, Initiating, Interrupted}
+pub use Rattle.shootdown.specs.declared.proc_state.ProcState.TheVariants.{Stalled}
+pub use Rattle.spaces.proofs.Public.{AreSpaces-EditsEntries, AreSpaces-SetsRights, AreSpaces-create}
+pub use Rattle.spaces.proofs.Public.{AreSpaces-first_spaces, AreSpaces-remove, AreSpaces-with_entry}
+pub use Rattle.spaces.proofs.Public.{AreSpaces-with_mapping, AreSpaces-without_mapping, ChangesOnlyAffected-SetsRights}
+pub use Rattle.spaces.proofs.Public.{ChangesOnlyAffected-checkpoint, ChangesOnlyAffected-reclaim}
+pub use Rattle.spaces.proofs.Public.{ChangesOnlyAffected-without_mapping, Contains-map, Contains-pcids, Grows-create}
+pub use Rattle.spaces.proofs.Public.{Grows-with_entry, Grows-with_mapping, entry_at-create, entry_at-first_spaces}
+pub use Rattle.spaces.proofs.Public.{entry_at-remove, entry_at-with_entry, entry_at-with_mapping}
+pub use Rattle.spaces.proofs.Public.{entry_at-without_mapping, get-with_space, has_space-first_spaces}
+pub use Rattle.spaces.proofs.Public.{has_space-place_at, has_space-remove, has_space-with_entry, has_space-with_space}
+pub use Rattle.spaces.proofs.Public.{has_space-without_mapping, in_flat_map, in_pcids, is_some_from, judged_mapping-ok}
+pub use Rattle.spaces.proofs.Public.{judged_protection-ok, judged_range-ok, mappable_ends, place_at-EditsEntries}
+pub use Rattle.spaces.proofs.Public.{place_at-SetsRights, place_at-create, place_at-first_spaces, place_at-remove}
+pub use Rattle.spaces.proofs.Public.{place_at-with_entry, place_at-with_mapping, place_at-without_mapping}
+pub use Rattle.spaces.proofs.Public.{places-with_entry, same_spaces, space_at-remove, space_at-with_space_other}
+pub use Rattle.spaces.proofs.Public.{space_at-with_space_same, user_space, with_rights_of}
+pub use Rattle.spaces.specs.Changes.{ChangesOnlyAffected, Keeps, is_place_of, protected_where, touches}
+pub use Rattle.spaces.specs.Changes.{without_entries_of}
+pub use Rattle.spaces.specs.Requests.{allowed, is_user_space, judged_mapping, judged_protection, judged_range}
+pub use Rattle.spaces.specs.Requests.{maps_each, unless}
+pub use Rattle.spaces.specs.Spaces.{AddressSpace, AreSpaces, IsLowestFree, SetsRights, Spaces, SpacesState, empty_space}
+pub use Rattle.spaces.specs.Spaces.{entry_at, first_spaces, has_space, place_at, space_at, with_entry, with_mapping}
+pub use Rattle.spaces.specs.Spaces.{with_space, without_mapping}
+pub use Rattle.spaces.specs.declared.change.Change.{Change}
+pub use Rattle.spaces.specs.declared.change.Change.TheVariants.{Checkpoint, Protect, Reclaim, Unmap}
+pub use Rattle.std.proofs.Common.{Bool, Err, IsSome, List, MatchResult, None, Ok, Option, Result, Some, [], ap}
+pub use Rattle.std.proofs.Common.{append_assoc, arith, cond, drop, eqb, false, get_or, if◌then◌else◌, inl, inr, is_err}
+pub use Rattle.std.proofs.Common.{is_none, is_some, leb, length, map, nat_le, not, refl, replicate, set, slice_get}
+pub use Rattle.std.proofs.Common.{slice_index, subst, suc, sum_by, sym, take, true, unwrap_or, zero, ℕ, ⊎_elim, ◌%◌}
+pub use Rattle.std.proofs.Common.{◌&&◌, ◌*◌, ◌++◌, ◌+◌, ◌-◌, ◌/◌, ◌<◌, ◌==◌, ◌^◌, ◌||◌, ◌↔◌, ◌∙◌, ◌∷◌, ◌≡◌, ◌≢◌, ◌≤◌}
+pub use Rattle.std.proofs.Common.{◌⊎◌}
+pub use Rattle.std.proofs.Math.Seq.{take-append_seam}
+pub use Rattle.std.proofs.lemmas.Bool.{and_from, and_left, and_parts, and_right, both_ways, cases_Bool, cases_eq}
+pub use Rattle.std.proofs.lemmas.Bool.{cases_lt, cases_order, cond-false, cond-true, cond_both, eq-eqb, eqb-false}
+pub use Rattle.std.proofs.lemmas.Bool.{eqb-true, false_from_ne_true, false≢true, le-leb, leb-false, leb-true, lt-ltb}
+pub use Rattle.std.proofs.lemmas.Bool.{ltb-false, ltb-true, ne_eqb, not-false, not-true, not_from_false, not_from_true}
+pub use Rattle.std.proofs.lemmas.Bool.{or_from, or_left, or_parts, or_right}
+pub use Rattle.std.proofs.lemmas.Bool.Decides.{nat_tests}
+pub use Rattle.std.proofs.lemmas.List.{append-nil, drop-drop, drop-map, drop-take, drop_all, drop_at, drop_more}
+pub use Rattle.std.proofs.lemmas.List.{flat_map_more, get_or-drop, get_or-map, get_or-replicate, get_or-set_other}
+pub use Rattle.std.proofs.lemmas.List.{get_or-set_same, get_or_default, get_or_past, length-append, length-drop}
+pub use Rattle.std.proofs.lemmas.List.{length-map, length-replicate, length-set, length-take, length-take-le}
+pub use Rattle.std.proofs.lemmas.List.{take-append-le, take-take, take_all, take_at}
+pub use Rattle.std.proofs.lemmas.List.Elements.{All-contains, All-drop, All-head, All-map, All-push, All-tail}
+pub use Rattle.std.proofs.lemmas.List.Elements.{All-weaker, Contains-append_cases, Contains-append_left}
+pub use Rattle.std.proofs.lemmas.List.Elements.{Contains-append_right, Contains-get_or, Contains-push}
+pub use Rattle.std.proofs.lemmas.List.Elements.{Contains-push_cases, recursion_from_All}
+pub use Rattle.std.proofs.lemmas.List.Folds.{list_any-append}
+pub use Rattle.std.proofs.lemmas.List.Sums.{sum_by-append}
+pub use Rattle.std.proofs.lemmas.Option.{get_or_from_slice_get, slice_get_within}
+pub use Rattle.std.proofs.lemmas.Result.{err_from_is_err_and}
+pub use Rattle.std.specs.Cmp.{nat_cmp_total, unsigned_tied}
+pub use Rattle.std.specs.List.{All, AllByRecursion, Contains, count_by, find, flat_map, list_any}
+pub use Rattle.std.specs.Option.{IfNone, IfSome, option_and_then, option_map, option_map_or, option_or}
+pub use Rattle.std.specs.Ordering.{nat_cmp}
+pub use Rattle.std.specs.Prelude.{MatchBool, nat_lt}
+pub use Rattle.volume_codec.proofs.Public.{blocks_from-device, fits_geometry, length-block_at, length-file}
+pub use Rattle.volume_codec.proofs.Public.{length-lengths_in, length-padded, length-zeros, take-past}
+pub use Rattle.volume_codec.proofs.Public.{total_pages-take_le, total_pages-take_more, zeros-nil}
+pub use Rattle.volume_codec.specs.Descriptor.{AreHomes, RiseWithin}
+pub use Rattle.volume_codec.specs.Files.{File, TableFile}
+pub use Rattle.volume_codec.specs.Layout.{GeometryValue, IsHome, block_at, first_file_home, first_home, journals_of}
+pub use Rattle.volume_codec.specs.Recovery.{Batch, IsDamaged, IsNotAVolume, IsVolume, Recovers, RecoversTo, blocks_from}
+pub use Rattle.volume_codec.specs.Recovery.{files_from, files_in, lengths_in}
+pub use Rattle.volume_codec.specs.Super.{Fits, SuperValue, block_count, geometry_of, pages_of, total_pages}
+pub use Rattle.volume_codec.specs.Text.{padded, zeros}
