@@ -1,3 +1,4 @@
 pub mod Listening
+pub mod Driving
 pub mod Engine
 pub mod Survival
