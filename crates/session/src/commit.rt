@@ -1,0 +1,88 @@
+// A commit: from the beginning of its mark to the acknowledgement.
+use crate::aside::is_begun;
+use crate::session::Session;
+use device::Device;
+use machine::{Act, Reply, Step};
+use page_entry::{ProcessorNumber, Refusal};
+use std::alloc::Allocator;
+
+impl<D: Device, A: Allocator + Copy> Session<D, A> {
+    /// Commits all stores. Answers `Committed` with the number of the mark, or what refused it.
+    pub fn commit(&mut self, p: ProcessorNumber) -> Reply {
+        let begun = self.begin_mark(p);
+        if !is_begun(&begun) {
+            return begun;
+        }
+        let has_unmarked = self.has_unmarked;
+        let changed = self.change(p);
+        match (&changed, has_unmarked) {
+            (Reply::Marked(mark), true) => self.write_out(p, *mark),
+            (Reply::Marked(mark), false) => Reply::Committed(*mark),
+            _ => changed,
+        }
+    }
+
+    // Begins a mark. Where write-outs have to be done first, it makes steps of them.
+    fn begin_mark(&mut self, p: ProcessorNumber) -> Reply {
+        let msync = Step {
+            p,
+            act: Act::Msync {
+                va: 0,
+                len: 0,
+                flags: 4,
+            },
+        };
+        let mut reply = self.make(&msync);
+        for _ in 0..u64::MAX {
+            if !is_busy(&reply) {
+                return reply;
+            }
+            let flushed = self.flush(p);
+            if is_refused(&flushed) {
+                return flushed;
+            }
+            if is_nothing(&flushed) {
+                return reply;
+            }
+            reply = self.make(&msync);
+        }
+        reply
+    }
+
+    // Makes steps of the write-outs until a mark is acknowledged, or one isn't made.
+    fn write_out(&mut self, p: ProcessorNumber, mark: u32) -> Reply {
+        let mut reply = self.flush(p);
+        for _ in 0..u64::MAX {
+            if !is_before(&reply, mark) {
+                return reply;
+            }
+            reply = self.flush(p);
+        }
+        reply
+    }
+
+    fn flush(&mut self, p: ProcessorNumber) -> Reply {
+        self.make(&Step { p, act: Act::Flush })
+    }
+}
+
+// Whether a step of a write-out was made that isn't the acknowledgement of a mark.
+fn is_before(reply: &Reply, mark: u32) -> bool {
+    match reply {
+        Reply::Going | Reply::Done(_) => true,
+        Reply::Committed(other) => *other != mark,
+        _ => false,
+    }
+}
+
+fn is_busy(reply: &Reply) -> bool {
+    matches!(reply, Reply::Refused(Refusal::Busy))
+}
+
+fn is_refused(reply: &Reply) -> bool {
+    matches!(reply, Reply::Refused(_))
+}
+
+fn is_nothing(reply: &Reply) -> bool {
+    matches!(reply, Reply::Nothing)
+}
