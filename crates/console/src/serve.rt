@@ -40,7 +40,7 @@ where
     match start(alloc, disk, shape) {
         Ok(mut session) => {
             let served = greeted_and_served(rt, alloc, &mut session, &mut input, out);
-            let failed = session.has_failed;
+            let failed = session.notes.has_failed;
             *note = session.into_device().into_file().into_note();
             served?;
             outcome(path, failed)

@@ -1,4 +1,3 @@
 pub mod Listening
-pub mod Driving
 pub mod Engine
 pub mod Survival

@@ -1,14 +1,10 @@
 //! The main job over any disk: a volume is opened, a machine is booted over it, and steps are made one at a time.
 #![tactic(auto)]
 
-mod driver;
-mod driving;
 mod laws;
 mod listener;
 mod running;
 
-pub use driver::Driver;
-pub use driving::drive;
 pub use laws::{crashed_since_refusal, ran_since_start};
 pub use listener::Listener;
 pub use running::{run, start};

@@ -31,7 +31,7 @@ impl<D: Device, A: Allocator + Copy> Session<D, A> {
             Request::Load { p, va, count } => self.answer_load(alloc, *p, *va, *count, out),
             Request::Store { p, va, bytes } => {
                 let reached = self.store(*p, *va, bytes);
-                Ok(write_stored(&reached, out)?)
+                Ok(write_stored(&reached, bytes.len(), out)?)
             }
             Request::Commit { p } => {
                 let reply = self.commit(*p);
@@ -62,16 +62,23 @@ impl<D: Device, A: Allocator + Copy> Session<D, A> {
     ) -> Result<(), AnswerFault> {
         let count = count as usize;
         let mut bytes = Vec::with_capacity(alloc, count)?;
-        let reached = self.load(p, va, count, &mut bytes)?;
+        let reached = self.load(p, va, count, &mut bytes);
+        if is_cut_off(&reached) {
+            return Err(AnswerFault::Memory(AllocError));
+        }
         let digits = hex::encode(alloc, bytes)?;
         Ok(write_loaded(&reached, digits.as_str(), out)?)
     }
 }
 
+fn is_cut_off(reached: &Reached) -> bool {
+    matches!(reached, Reached::NoMemory)
+}
+
 fn write_loaded<W: io::Write>(reached: &Reached, digits: &str, out: &mut W) -> io::Result<()> {
-    match &reached.refused {
-        None => out.write_all(b"loaded")?,
-        Some(reply) => write_refused(reply, reached.count, out)?,
+    match reached {
+        Reached::Refused { count, reply } => write!(out, "{reply} after {count}")?,
+        _ => out.write_all(b"loaded")?,
     }
     if !digits.is_empty() {
         out.write_all(b" ")?;
@@ -80,14 +87,9 @@ fn write_loaded<W: io::Write>(reached: &Reached, digits: &str, out: &mut W) -> i
     out.write_all(b"\n")
 }
 
-fn write_stored<W: io::Write>(reached: &Reached, out: &mut W) -> io::Result<()> {
-    match &reached.refused {
-        None => write!(out, "stored {}", reached.count)?,
-        Some(reply) => write_refused(reply, reached.count, out)?,
+fn write_stored<W: io::Write>(reached: &Reached, count: usize, out: &mut W) -> io::Result<()> {
+    match reached {
+        Reached::Refused { count, reply } => writeln!(out, "{reply} after {count}"),
+        _ => writeln!(out, "stored {count}"),
     }
-    out.write_all(b"\n")
-}
-
-fn write_refused<W: io::Write>(reply: &Reply, count: usize, out: &mut W) -> io::Result<()> {
-    write!(out, "{reply} after {count}")
 }

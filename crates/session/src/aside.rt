@@ -1,4 +1,6 @@
 // Steps that a session makes beside those that it was asked for: faults are served, and frames are made free.
+ghost use Rattle.session.specs.Steps.{GoesAside, IsTold};
+
 use crate::session::Session;
 use device::Device;
 use machine::{Act, ProcState, Reply, Step};
@@ -11,17 +13,27 @@ const PROCESSORS: u8 = 16;
 impl<D: Device, A: Allocator + Copy> Session<D, A> {
     /// Serves a fault of a processor, and makes a frame free for it where none is. Answers `Fixed`, or why it isn't
     /// served.
-    pub fn fix(&mut self, fix: &Step) -> Reply {
-        let reply = self.make(fix);
-        if is_no_frame(&reply) && self.make_room(fix.p) {
-            self.make(fix)
-        } else {
-            reply
+    pub(crate) fn fix(&mut self, p: ProcessorNumber, va: u64, write: bool) -> Reply
+        ensures { IsTold D.Device self.old.machine self.old.notes result self.new.machine self.new.notes }
+    {
+        let fix = Step {
+            p,
+            act: Act::Fix { va, write },
+        };
+        let reply = self.make(&fix);
+        if !is_no_frame(&reply) {
+            return reply;
         }
+        if !self.make_room(p) {
+            return reply;
+        }
+        self.make(&fix)
     }
 
     // Takes the next page that is clean out of memory. Answers whether there was one.
-    fn make_room(&mut self, p: ProcessorNumber) -> bool {
+    fn make_room(&mut self, p: ProcessorNumber) -> bool
+        ensures { GoesAside D.Device self.old.machine self.old.notes self.new.machine self.new.notes }
+    {
         for _ in 0..self.files.pages() {
             let page = self.files.turn();
             if self.take_out(p, page) {
@@ -32,34 +44,47 @@ impl<D: Device, A: Allocator + Copy> Session<D, A> {
     }
 
     // Takes a page out of memory, if it is there and clean.
-    fn take_out(&mut self, p: ProcessorNumber, page: FilePage) -> bool {
-        let begun = self.make(&Step {
+    fn take_out(&mut self, p: ProcessorNumber, page: FilePage) -> bool
+        ensures { GoesAside D.Device self.old.machine self.old.notes self.new.machine self.new.notes }
+    {
+        let reclaim = Step {
             p,
             act: Act::Reclaim {
                 file: page.file,
                 page: page.page,
             },
-        });
-        is_begun(&begun) && is_reclaimed(&self.change(p))
+        };
+        let begun = self.make(&reclaim);
+        if !is_begun(&begun) {
+            return false;
+        }
+        let changed = self.change(p);
+        is_reclaimed(&changed)
     }
 
     /// Makes the change that a processor began. Those that it interrupted stall before, and go on after it.
-    pub fn change(&mut self, p: ProcessorNumber) -> Reply {
+    pub(crate) fn change(&mut self, p: ProcessorNumber) -> Reply
+        ensures { IsTold D.Device self.old.machine self.old.notes result self.new.machine self.new.notes }
+    {
         let stalled = self.stall();
-        let reply = self.make(&Step {
+        let change = Step {
             p,
             act: Act::Change,
-        });
+        };
+        let reply = self.make(&change);
         self.resume(&stalled);
         reply
     }
 
     // Makes each processor stall that is interrupted, and answers which.
-    fn stall(&mut self) -> [bool; 16] {
+    fn stall(&mut self) -> [bool; 16]
+        ensures { GoesAside D.Device self.old.machine self.old.notes self.new.machine self.new.notes }
+    {
         let mut stalled = [false; 16];
         for p in 0..PROCESSORS {
             if self.is_interrupted(p) {
-                self.make(&Step { p, act: Act::Ack });
+                let ack = Step { p, act: Act::Ack };
+                self.make(&ack);
                 stalled[usize::from(p)] = true;
             }
         }
@@ -71,20 +96,23 @@ impl<D: Device, A: Allocator + Copy> Session<D, A> {
     }
 
     // Lets these processors go on.
-    fn resume(&mut self, stalled: &[bool; 16]) {
+    fn resume(&mut self, stalled: &[bool; 16])
+        ensures { GoesAside D.Device self.old.machine self.old.notes self.new.machine self.new.notes }
+    {
         for p in 0..PROCESSORS {
             if stalled[usize::from(p)] {
-                self.make(&Step {
+                let resume = Step {
                     p,
                     act: Act::Resume,
-                });
+                };
+                self.make(&resume);
             }
         }
     }
 }
 
 /// Whether a change was begun.
-pub fn is_begun(reply: &Reply) -> bool {
+pub(crate) fn is_begun(reply: &Reply) -> bool {
     matches!(reply, Reply::Begun)
 }
 

@@ -1,4 +1,8 @@
 // A commit: from the beginning of its mark to the acknowledgement.
+ghost use Rattle.std.specs.Prelude.{Contains};
+ghost use Rattle.session.specs.Ranges.{Does};
+ghost use Rattle.session.specs.Steps.{IsOutcome};
+
 use crate::aside::is_begun;
 use crate::session::Session;
 use device::Device;
@@ -8,12 +12,15 @@ use std::alloc::Allocator;
 
 impl<D: Device, A: Allocator + Copy> Session<D, A> {
     /// Commits all stores. Answers `Committed` with the number of the mark, or what refused it.
-    pub fn commit(&mut self, p: ProcessorNumber) -> Reply {
+    pub(crate) fn commit(&mut self, p: ProcessorNumber) -> Reply
+        ensures { Does D.Device self.old.machine self.old.notes
+            (λ steps replies. IsOutcome self.old.notes replies result) self.new.machine self.new.notes }
+    {
         let begun = self.begin_mark(p);
         if !is_begun(&begun) {
             return begun;
         }
-        let has_unmarked = self.has_unmarked;
+        let has_unmarked = self.notes.has_unmarked;
         let changed = self.change(p);
         match (&changed, has_unmarked) {
             (Reply::Marked(mark), true) => self.write_out(p, *mark),
@@ -23,7 +30,10 @@ impl<D: Device, A: Allocator + Copy> Session<D, A> {
     }
 
     // Begins a mark. Where write-outs have to be done first, it makes steps of them.
-    fn begin_mark(&mut self, p: ProcessorNumber) -> Reply {
+    fn begin_mark(&mut self, p: ProcessorNumber) -> Reply
+        ensures { Does D.Device self.old.machine self.old.notes (λ steps replies. Contains replies result)
+            self.new.machine self.new.notes }
+    {
         let msync = Step {
             p,
             act: Act::Msync {
@@ -50,7 +60,10 @@ impl<D: Device, A: Allocator + Copy> Session<D, A> {
     }
 
     // Makes steps of the write-outs until a mark is acknowledged, or one isn't made.
-    fn write_out(&mut self, p: ProcessorNumber, mark: u32) -> Reply {
+    fn write_out(&mut self, p: ProcessorNumber, mark: u32) -> Reply
+        ensures { Does D.Device self.old.machine self.old.notes (λ steps replies. Contains replies result)
+            self.new.machine self.new.notes }
+    {
         let mut reply = self.flush(p);
         for _ in 0..u64::MAX {
             if !is_before(&reply, mark) {

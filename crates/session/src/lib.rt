@@ -6,6 +6,7 @@ mod aside;
 mod commit;
 mod files;
 mod line;
+mod notes;
 mod ranges;
 mod request;
 mod request_fault;
@@ -14,6 +15,7 @@ mod session;
 
 pub use files::{FileLine, Files};
 pub use line::{Line, read_line};
+pub use notes::Notes;
 pub use request::{Request, read_request, read_shape};
 pub use request_fault::RequestFault;
 pub use serving::{SessionFault, serve_on};

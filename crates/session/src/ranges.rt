@@ -1,139 +1,159 @@
 // Ranges of addresses, loaded and stored in steps of up to eight bytes.
+ghost use Rattle.std.specs.Prelude.{◌≡◌, ◌<◌, ◌≤◌, length, [], true, false, IfOk, IfErr, IfSome, IfNone, IsTrue};
+ghost use Rattle.machine.specs.declared.act.Reply.TheVariants as told;
+ghost use Rattle.session.specs.Steps.{IsTold, Answers, IsAccess, tells_bytes, tells_stored};
+ghost use Rattle.session.specs.Ranges.{Does, LoadsReached, StoresReached};
+
 use crate::session::Session;
 use device::Device;
 use machine::{Act, FewBytes, Reply, Step};
 use page_entry::{PAGE, ProcessorNumber, Refusal};
-use std::alloc::{AllocError, Allocator};
+use std::alloc::Allocator;
 
-/// How many bytes of a range were loaded or stored, and if these aren't all, what was answered then.
+/// How far a range was loaded or stored.
 #[derive(Clone, Copy)]
-pub struct Reached {
-    pub count: usize,
-    pub refused: Option<Reply>,
+pub enum Reached {
+    /// All of it.
+    All,
+    /// So many bytes of it, and then a step was answered so.
+    Refused {
+        count: usize,
+        reply: Reply,
+    },
+    /// To where memory was refused.
+    NoMemory,
 }
 
 impl<D: Device, A: Allocator + Copy> Session<D, A> {
-    /// Loads so many bytes from an address on, and appends them.
-    pub fn load(
+    /// Loads so many bytes from an address on.
+    pub(crate) fn load(
         &mut self,
         p: ProcessorNumber,
         va: u64,
         count: usize,
         bytes: &mut Vec<u8, A>,
-    ) -> Result<Reached, AllocError> {
+    ) -> Reached
+        requires { bytes.old.items ≡ [] }
+        ensures { Does D.Device self.old.machine self.old.notes (LoadsReached p va count bytes.new.items result)
+            self.new.machine self.new.notes }
+    {
         let mut done = 0;
         while done < count {
             let from = va.saturating_add(done as u64);
             let few = piece(from, count - done);
-            let reply = self.access(&Step {
+            let step = Step {
                 p,
                 act: Act::Load {
                     va: from,
                     count: few as u8,
                 },
-            });
-            match bytes_of(&reply) {
-                Some(read) => bytes.extend_from_slice(read.as_slice())?,
-                None => return Ok(Reached {
+            };
+            let answer = match self.access(&step, from, false) {
+                Ok(answer) => answer,
+                Err(reply) => return Reached::Refused { count: done, reply },
+            };
+            let Some(read) = bytes_of(&answer) else {
+                return Reached::Refused {
                     count: done,
-                    refused: Some(reply),
-                }),
+                    reply: answer,
+                };
+            };
+            if bytes.extend_from_slice(read.as_slice()).is_err() {
+                return Reached::NoMemory;
             }
             done += few;
         }
-        Ok(Reached {
-            count,
-            refused: None,
-        })
+        Reached::All
     }
 
     /// Stores bytes from an address on.
-    pub fn store(&mut self, p: ProcessorNumber, va: u64, bytes: &[u8]) -> Reached {
+    pub(crate) fn store(&mut self, p: ProcessorNumber, va: u64, bytes: &[u8]) -> Reached
+        ensures { Does D.Device self.old.machine self.old.notes (StoresReached p va bytes.now result)
+            self.new.machine self.new.notes }
+    {
         let mut done = 0;
         while done < bytes.len() {
             let from = va.saturating_add(done as u64);
             let few = piece(from, bytes.len() - done);
-            let reply = match FewBytes::new(&bytes[done..done + few]) {
-                Some(part) => self.access(&Step {
-                    p,
-                    act: Act::Store {
-                        va: from,
-                        bytes: part,
-                    },
-                }),
-                None => Reply::Nothing,
+            let step = Step {
+                p,
+                act: Act::Store {
+                    va: from,
+                    bytes: part(&bytes[done..done + few]),
+                },
             };
-            if !is_stored(&reply) {
-                return Reached {
+            let answer = match self.access(&step, from, true) {
+                Ok(answer) => answer,
+                Err(reply) => return Reached::Refused { count: done, reply },
+            };
+            if !is_stored(&answer) {
+                return Reached::Refused {
                     count: done,
-                    refused: Some(reply),
+                    reply: answer,
                 };
             }
             done += few;
         }
-        Reached {
-            count: bytes.len(),
-            refused: None,
-        }
+        Reached::All
     }
 
-    // Makes a load or a store, and serves its faults. Answers what it is answered in the end, or why a fault isn't
-    // served.
-    fn access(&mut self, step: &Step) -> Reply {
+    // Makes a load or a store at an address, and serves its faults. Answers what it is answered in the end; or else why
+    // a fault isn't served.
+    fn access(&mut self, step: &Step, va: u64, write: bool) -> Result<Reply, Reply>
+        requires { IsAccess step.now.act }
+        ensures ok { IfOk result (λ reply. Answers D.Device self.old.machine self.old.notes step.now reply
+            self.new.machine self.new.notes) }
+        ensures err { IfErr result (λ reply. IsTold D.Device self.old.machine self.old.notes reply
+            self.new.machine self.new.notes) }
+    {
         let mut reply = self.make(step);
         for _ in 0..u64::MAX {
-            let Some(fix) = fix_of(step, &reply) else {
-                return reply;
-            };
-            let fixed = self.fix(&fix);
+            if !is_fault(&reply) {
+                return Ok(reply);
+            }
+            let fixed = self.fix(step.p, va, write);
             if !is_fixed(&fixed) {
-                return fixed;
+                return Err(fixed);
             }
             reply = self.make(step);
         }
-        reply
+        Ok(reply)
     }
 }
 
 // How many bytes the next step of a range has, of those that are left: up to eight, inside the page of the address.
-fn piece(va: u64, left: usize) -> usize {
+fn piece(va: u64, left: usize) -> usize
+    requires { 0 < left }
+    ensures some { 0 < result }
+    ensures left { result ≤ left }
+    ensures few { result ≤ 8 }
+{
     let to_border = (PAGE - va % PAGE) as usize;
     left.min(8).min(to_border)
 }
 
-// The step that serves the fault of a load or a store.
-fn fix_of(step: &Step, reply: &Reply) -> Option<Step> {
-    if !is_fault(reply) {
-        return None;
-    }
-    match &step.act {
-        Act::Load { va, .. } => Some(Step {
-            p: step.p,
-            act: Act::Fix {
-                va: *va,
-                write: false,
-            },
-        }),
-        Act::Store { va, .. } => Some(Step {
-            p: step.p,
-            act: Act::Fix {
-                va: *va,
-                write: true,
-            },
-        }),
-        _ => None,
-    }
+// These bytes, which are at most eight.
+fn part(bytes: &[u8]) -> FewBytes
+    requires { length bytes.now ≤ 8 }
+    ensures { result ≡ bytes.now }
+{
+    FewBytes::new(bytes).unwrap()
 }
 
-// The bytes that a reply tells.
-fn bytes_of(reply: &Reply) -> Option<&FewBytes> {
+// The bytes that were loaded, where a reply tells them.
+fn bytes_of(reply: &Reply) -> Option<&FewBytes>
+    ensures some { IfSome result (λ bytes. reply.now ≡ told.Bytes bytes.now) }
+    ensures none { IfNone result (tells_bytes reply.now ≡ false) }
+{
     match reply {
         Reply::Bytes(bytes) => Some(bytes),
         _ => None,
     }
 }
 
-fn is_fault(reply: &Reply) -> bool {
+fn is_fault(reply: &Reply) -> bool
+    ensures { IsTrue result → (tells_bytes reply.now ≡ false) × (tells_stored reply.now ≡ false) }
+{
     matches!(reply, Reply::Refused(Refusal::Fault(_)))
 }
 
@@ -141,6 +161,9 @@ fn is_fixed(reply: &Reply) -> bool {
     matches!(reply, Reply::Fixed)
 }
 
-fn is_stored(reply: &Reply) -> bool {
+fn is_stored(reply: &Reply) -> bool
+    ensures value { result ≡ tells_stored reply.now }
+    ensures is { IsTrue result → reply.now ≡ told.Stored }
+{
     matches!(reply, Reply::Stored)
 }

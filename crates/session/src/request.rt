@@ -3,7 +3,7 @@ use crate::request_fault::RequestFault;
 use hex::FromHexError;
 use machine::{Shape, Step};
 use page_entry::ProcessorNumber;
-use scripts::{Form, ScriptFault, judge_form, parsed, read_step, shape, shown};
+use scripts::{Form, ScriptFault, StepFault, judge_form, parsed, read_step, shape, shown};
 use serde_json::Value;
 use std::alloc::{AllocError, Allocator, Global};
 use std::str;
@@ -76,29 +76,46 @@ fn request_of<A: Allocator + Copy>(
 }
 
 fn one_step<A: Allocator + Copy>(alloc: A, value: &Value) -> Result<Request<A>, RequestFault> {
-    let step = read_step(value).map_err(RequestFault::Step)?;
+    let step = match read_step(value) {
+        Ok(step) => step,
+        Err(cause) => return Err(RequestFault::Step(cause)),
+    };
     let mut steps = Vec::new(alloc);
-    steps.push(step)?;
+    if steps.push(step).is_err() {
+        return Err(RequestFault::Memory(AllocError));
+    }
     Ok(Request::Steps(steps))
 }
 
+// All steps of a list, in order. A fault says which is refused first, counted from 1.
 fn steps_of<A: Allocator + Copy>(
     global: Global,
     alloc: A,
     items: &[Value],
 ) -> Result<Request<A>, RequestFault> {
-    let mut steps = Vec::with_capacity(alloc, items.len())?;
+    let mut steps = Vec::with_capacity(alloc, items.len()).map_err(RequestFault::Memory)?;
     for (i, item) in items.iter().enumerate() {
-        match read_step(item) {
-            Ok(step) => steps.push(step)?,
-            Err(cause) => return Err(RequestFault::Steps {
-                number: i as u64 + 1,
-                found: shown(global, item)?,
-                cause,
-            }),
+        let step = match read_step(item) {
+            Ok(step) => step,
+            Err(cause) => return Err(refused_step(global, i as u64 + 1, item, cause)),
+        };
+        if steps.push(step).is_err() {
+            return Err(RequestFault::Memory(AllocError));
         }
     }
     Ok(Request::Steps(steps))
+}
+
+// The step of this number is refused, as it stands in the request.
+fn refused_step(global: Global, number: u64, value: &Value, cause: StepFault) -> RequestFault {
+    match shown(global, value) {
+        Ok(found) => RequestFault::Steps {
+            number,
+            found,
+            cause,
+        },
+        Err(fault) => RequestFault::Memory(fault),
+    }
 }
 
 fn load_of<A: Allocator + Copy>(

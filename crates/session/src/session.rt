@@ -1,5 +1,10 @@
 // A session: a machine, and what has to be known of the steps that were made on it.
+ghost use Rattle.std.specs.Prelude.{◌≡◌, [], ◌∷◌, IfOk, IfErr, true, false};
+ghost use Rattle.engine.specs.Engine.{HasStarted, HasNotStarted};
+ghost use Rattle.session.specs.Steps.{Makes};
+
 use crate::files::Files;
+use crate::notes::Notes;
 use device::Device;
 use machine::{Machine, Reply, Shape, Step};
 use page_entry::Refusal;
@@ -9,10 +14,8 @@ use std::alloc::Allocator;
 #[derive(Drop)]
 pub struct Session<D: Device, A: Allocator + Copy> {
     pub machine: Machine<D, A>,
-    /// Whether a store was made that no mark has yet.
-    pub has_unmarked: bool,
-    /// Whether a step was answered that the device failed.
-    pub has_failed: bool,
+    /// What was noted of the steps that were made.
+    pub notes: Notes,
     pub files: Files<A>,
 }
 
@@ -24,7 +27,11 @@ pub fn start<D: Device, A: Allocator + Copy>(
     alloc: A,
     device: D,
     shape: Shape,
-) -> Result<Session<D, A>, (Refusal, D)> {
+) -> Result<Session<D, A>, (Refusal, D)>
+    ensures started { IfOk result (λ session. HasStarted D.Device device shape session.machine) }
+    ensures nothing { IfOk result (λ session. session.notes ≡ record { has_unmarked = false; has_failed = false }) }
+    ensures refused { IfErr result (λ refused. HasNotStarted D.Device device shape refused.1 refused.0) }
+{
     let volume = match recovery::open(alloc, device) {
         Ok(volume) => volume,
         Err(refused) => return Err(refused),
@@ -36,8 +43,7 @@ pub fn start<D: Device, A: Allocator + Copy>(
     match Machine::boot(alloc, volume, shape) {
         Ok(machine) => Ok(Session {
             machine,
-            has_unmarked: false,
-            has_failed: false,
+            notes: Notes::new(),
             files,
         }),
         Err((refusal, volume)) => Err((refusal, volume.into_device())),
@@ -46,31 +52,21 @@ pub fn start<D: Device, A: Allocator + Copy>(
 
 impl<D: Device, A: Allocator + Copy> Session<D, A> {
     /// Makes a step, and notes what its reply says.
-    pub fn make(&mut self, step: &Step) -> Reply {
+    pub fn make(&mut self, step: &Step) -> Reply
+        ensures { Makes D.Device self.old.machine self.old.notes (step.now ∷ []) (result ∷ []) self.new.machine
+            self.new.notes }
+    {
         let reply = self.machine.enter(step);
-        self.has_unmarked = unmarked_after(self.has_unmarked, &reply);
-        self.has_failed = self.has_failed || is_failure(&reply);
+        self.notes = self.notes.after(&reply);
         reply
     }
 }
 
-// Whether a store has no mark yet, after this reply.
-fn unmarked_after(has_unmarked: bool, reply: &Reply) -> bool {
-    match reply {
-        Reply::Stored => true,
-        Reply::Marked(_) => false,
-        _ => has_unmarked,
-    }
-}
-
-// Whether a reply says that the device failed.
-fn is_failure(reply: &Reply) -> bool {
-    matches!(reply, Reply::Refused(Refusal::Device))
-}
-
 impl<D: Device, A: Allocator + Copy> Session<D, A> {
     /// The device, as it is.
-    pub fn into_device(self) -> D {
+    pub fn into_device(self) -> D
+        ensures { result ≡ self.machine.device }
+    {
         let Session { machine, .. } = self;
         machine.into_device()
     }

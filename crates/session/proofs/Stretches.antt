@@ -1,0 +1,99 @@
+-- Steps after steps: what was made, and that it reads and stores nothing.
+use Rattle.std.proofs.Common.{◌≡◌, ◌⊎◌, inl, inr, ℕ, ◌+◌, Bool, true, false, not, List, [], ◌∷◌, ◌++◌, length, refl, sym, ◌∙◌, ap, subst, Contains}
+use Rattle.std.proofs.lemmas.List.{append_assoc}
+use Rattle.std.proofs.lemmas.List.Elements.{Contains-append_left, Contains-append_right, Contains-push}
+use Rattle.device.specs.declared.device.Device.{Ghosts}
+use Rattle.machine.specs.declared.act.Reply.{Reply}
+use Rattle.machine.specs.declared.act.Step.{Step}
+use Rattle.machine.specs.State.{Whole}
+use Rattle.machine.specs.Runs.{StepTaken, StepsTaken}
+use Rattle.machine.proofs.Tracks.{taken_then}
+use Rattle.session.specs.declared.notes.Notes.{Notes}
+use Rattle.session.specs.Notes.{noted, noted_all}
+use Rattle.session.specs.Steps.{Makes, is_aside, AreAside, GoesAside, IsTold, Answers, IsAccess, tells_bytes, tells_stored}
+
+noted_then : (before : Notes) (replies more : List Reply) → noted_all before (replies ++ more) ≡ noted_all (noted_all before replies) more
+noted_then before [] more = refl
+noted_then before (reply ∷ replies) more = noted_then (noted before reply) replies more
+
+-- no step
+pub makes_none : {D : Type 0} (disk : Ghosts D) (old : Whole D) (before : Notes) → Makes disk old before [] [] old before
+makes_none disk old before = record { taken = refl; notes = refl }
+
+pub makes_then : {D : Type 0} (disk : Ghosts D) (old mid new : Whole D) (before between after : Notes) (steps : List Step) (replies : List Reply) (steps' : List Step) (replies' : List Reply)
+    → Makes disk old before steps replies mid between → Makes disk mid between steps' replies' new after → Makes disk old before (steps ++ steps') (replies ++ replies') new after
+makes_then disk old mid new before between after steps replies steps' replies' first later = record {
+  taken = taken_then disk old mid new steps replies steps' replies' first.taken later.taken;
+  notes = later.notes ∙ ap (λ n. noted_all n replies') first.notes ∙ sym (noted_then before replies replies');
+}
+
+aside_all : (steps : List Step) (replies : List Reply) (steps' : List Step) (replies' : List Reply) → AreAside steps replies → AreAside steps' replies' → AreAside (steps ++ steps') (replies ++ replies')
+aside_all [] [] steps' replies' first later = later
+aside_all (step ∷ steps) (reply ∷ replies) steps' replies' first later = (first.0, aside_all steps replies steps' replies' first.1 later)
+aside_all [] (reply ∷ replies) steps' replies' first later = absurd first
+aside_all (step ∷ steps) [] steps' replies' first later = absurd first
+
+-- no step
+pub aside_none : {D : Type 0} (disk : Ghosts D) (old : Whole D) (before : Notes) → GoesAside disk old before old before
+aside_none disk old before = record { steps = []; replies = []; makes = makes_none disk old before; aside = tt }
+
+-- one step
+pub aside_one : {D : Type 0} (disk : Ghosts D) (old new : Whole D) (before after : Notes) (step : Step) (reply : Reply) → is_aside step.act reply ≡ true → Makes disk old before (step ∷ []) (reply ∷ []) new after → GoesAside disk old before new after
+aside_one disk old new before after step reply is made = record { steps = step ∷ []; replies = reply ∷ []; makes = made; aside = (is, tt) }
+
+pub told_one : {D : Type 0} (disk : Ghosts D) (old new : Whole D) (before after : Notes) (step : Step) (reply : Reply) → is_aside step.act reply ≡ true → Makes disk old before (step ∷ []) (reply ∷ []) new after → IsTold disk old before reply new after
+told_one disk old new before after step reply is made = record { steps = step ∷ []; replies = reply ∷ []; makes = made; aside = (is, tt); told = Contains-push [] reply }
+
+pub aside_then : {D : Type 0} (disk : Ghosts D) (old mid new : Whole D) (before between after : Notes) → GoesAside disk old before mid between → GoesAside disk mid between new after → GoesAside disk old before new after
+aside_then disk old mid new before between after first later = record {
+  steps = first.steps ++ later.steps;
+  replies = first.replies ++ later.replies;
+  makes = makes_then disk old mid new before between after first.steps first.replies later.steps later.replies first.makes later.makes;
+  aside = aside_all first.steps first.replies later.steps later.replies first.aside later.aside;
+}
+
+pub told_aside : {D : Type 0} (disk : Ghosts D) (old new : Whole D) (before after : Notes) (reply : Reply) → IsTold disk old before reply new after → GoesAside disk old before new after
+told_aside disk old new before after reply told = record { steps = told.steps; replies = told.replies; makes = told.makes; aside = told.aside }
+
+-- a reply that came later
+pub told_later : {D : Type 0} (disk : Ghosts D) (old mid new : Whole D) (before between after : Notes) (reply : Reply) → GoesAside disk old before mid between → IsTold disk mid between reply new after → IsTold disk old before reply new after
+told_later disk old mid new before between after reply first later = record {
+  steps = first.steps ++ later.steps;
+  replies = first.replies ++ later.replies;
+  makes = makes_then disk old mid new before between after first.steps first.replies later.steps later.replies first.makes later.makes;
+  aside = aside_all first.steps first.replies later.steps later.replies first.aside later.aside;
+  told = Contains-append_right first.replies later.replies reply later.told;
+}
+
+-- a reply that came earlier
+pub told_before : {D : Type 0} (disk : Ghosts D) (old mid new : Whole D) (before between after : Notes) (reply : Reply) → IsTold disk old before reply mid between → GoesAside disk mid between new after → IsTold disk old before reply new after
+told_before disk old mid new before between after reply first later = record {
+  steps = first.steps ++ later.steps;
+  replies = first.replies ++ later.replies;
+  makes = makes_then disk old mid new before between after first.steps first.replies later.steps later.replies first.makes later.makes;
+  aside = aside_all first.steps first.replies later.steps later.replies first.aside later.aside;
+  told = Contains-append_left first.replies later.replies reply first.told;
+}
+
+-- one step, made first
+pub answers_one : {D : Type 0} (disk : Ghosts D) (old new : Whole D) (before after : Notes) (step : Step) (reply : Reply) → Makes disk old before (step ∷ []) (reply ∷ []) new after → Answers disk old before step reply new after
+answers_one disk old new before after step reply made = record { steps = []; replies = []; makes = made; aside = tt }
+
+pub answers_then : {D : Type 0} (disk : Ghosts D) (old mid new : Whole D) (before between after : Notes) (step : Step) (reply : Reply) → GoesAside disk old before mid between → Makes disk mid between (step ∷ []) (reply ∷ []) new after
+    → Answers disk old before step reply new after
+answers_then disk old mid new before between after step reply first made = record {
+  steps = first.steps;
+  replies = first.replies;
+  makes = makes_then disk old mid new before between after first.steps first.replies (step ∷ []) (reply ∷ []) first.makes made;
+  aside = first.aside;
+}
+
+-- an access that is answered so that it reads and stores nothing
+pub answers_aside : {D : Type 0} (disk : Ghosts D) (old new : Whole D) (before after : Notes) (step : Step) (reply : Reply) → is_aside step.act reply ≡ true → Answers disk old before step reply new after → IsTold disk old before reply new after
+answers_aside disk old new before after step reply is answer = record {
+  steps = answer.steps ++ step ∷ [];
+  replies = answer.replies ++ reply ∷ [];
+  makes = answer.makes;
+  aside = aside_all answer.steps answer.replies (step ∷ []) (reply ∷ []) answer.aside (is, tt);
+  told = Contains-push answer.replies reply;
+}
