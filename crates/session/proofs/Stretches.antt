@@ -10,7 +10,7 @@ use Rattle.machine.specs.Runs.{StepTaken, StepsTaken}
 use Rattle.machine.proofs.Tracks.{taken_then}
 use Rattle.session.specs.declared.notes.Notes.{Notes}
 use Rattle.session.specs.Notes.{noted, noted_all}
-use Rattle.session.specs.Steps.{Makes, is_aside, AreAside, GoesAside, IsTold, Answers, IsAccess, tells_bytes, tells_stored}
+use Rattle.session.specs.Steps.{Makes, HasMade, Says, is_aside, AreAside, GoesAside, IsTold, Answers, IsAccess, tells_bytes, tells_stored}
 
 noted_then : (before : Notes) (replies more : List Reply) → noted_all before (replies ++ more) ≡ noted_all (noted_all before replies) more
 noted_then before [] more = refl
@@ -97,3 +97,45 @@ answers_aside disk old new before after step reply is answer = record {
   aside = aside_all answer.steps answer.replies (step ∷ []) (reply ∷ []) answer.aside (is, tt);
   told = Contains-push answer.replies reply;
 }
+
+-- whatever was made
+pub made_none : {D : Type 0} (disk : Ghosts D) (old : Whole D) (before : Notes) → HasMade disk old before old before
+made_none disk old before = record { steps = []; replies = []; makes = makes_none disk old before }
+
+pub made_then : {D : Type 0} (disk : Ghosts D) (old mid new : Whole D) (before between after : Notes) → HasMade disk old before mid between → HasMade disk mid between new after → HasMade disk old before new after
+made_then disk old mid new before between after first later = record {
+  steps = first.steps ++ later.steps;
+  replies = first.replies ++ later.replies;
+  makes = makes_then disk old mid new before between after first.steps first.replies later.steps later.replies first.makes later.makes;
+}
+
+pub made_one : {D : Type 0} (disk : Ghosts D) (old new : Whole D) (before after : Notes) (step : Step) (reply : Reply) → Makes disk old before (step ∷ []) (reply ∷ []) new after → HasMade disk old before new after
+made_one disk old new before after step reply makes = record { steps = step ∷ []; replies = reply ∷ []; makes = makes }
+
+pub says_one : {D : Type 0} (disk : Ghosts D) (old new : Whole D) (before after : Notes) (step : Step) (reply : Reply) → Makes disk old before (step ∷ []) (reply ∷ []) new after → Says disk old before reply new after
+says_one disk old new before after step reply makes = record { steps = step ∷ []; replies = reply ∷ []; makes = makes; told = Contains-push [] reply }
+
+pub says_later : {D : Type 0} (disk : Ghosts D) (old mid new : Whole D) (before between after : Notes) (reply : Reply) → HasMade disk old before mid between → Says disk mid between reply new after → Says disk old before reply new after
+says_later disk old mid new before between after reply first later = record {
+  steps = first.steps ++ later.steps;
+  replies = first.replies ++ later.replies;
+  makes = makes_then disk old mid new before between after first.steps first.replies later.steps later.replies first.makes later.makes;
+  told = Contains-append_right first.replies later.replies reply later.told;
+}
+
+pub says_before : {D : Type 0} (disk : Ghosts D) (old mid new : Whole D) (before between after : Notes) (reply : Reply) → Says disk old before reply mid between → HasMade disk mid between new after → Says disk old before reply new after
+says_before disk old mid new before between after reply first later = record {
+  steps = first.steps ++ later.steps;
+  replies = first.replies ++ later.replies;
+  makes = makes_then disk old mid new before between after first.steps first.replies later.steps later.replies first.makes later.makes;
+  told = Contains-append_left first.replies later.replies reply first.told;
+}
+
+pub says_told : {D : Type 0} (disk : Ghosts D) (old new : Whole D) (before after : Notes) (reply : Reply) → IsTold disk old before reply new after → Says disk old before reply new after
+says_told disk old new before after reply told = record { steps = told.steps; replies = told.replies; makes = told.makes; told = told.told }
+
+pub made_said : {D : Type 0} (disk : Ghosts D) (old new : Whole D) (before after : Notes) (reply : Reply) → Says disk old before reply new after → HasMade disk old before new after
+made_said disk old new before after reply said = record { steps = said.steps; replies = said.replies; makes = said.makes }
+
+pub made_told : {D : Type 0} (disk : Ghosts D) (old new : Whole D) (before after : Notes) (reply : Reply) → IsTold disk old before reply new after → HasMade disk old before new after
+made_told disk old new before after reply told = record { steps = told.steps; replies = told.replies; makes = told.makes }

@@ -2,7 +2,7 @@
 use Rattle.std.specs.Prelude.{ℕ, ⊤, ◌≡◌, ◌⊎◌, ◌+◌, ◌-◌, ◌^◌, min, Bool, true, false, not, List, [], ◌∷◌, ◌++◌, length, Contains}
 use Rattle.device.specs.declared.device.Device.{Ghosts}
 use Rattle.machine.specs.declared.act.Act.{Act}
-use Rattle.machine.specs.declared.act.Act.TheVariants.{Load, Store, Fix, Reclaim, Ack, Change, Resume}
+use Rattle.machine.specs.declared.act.Act.TheVariants.{Load, Store, Fix, Reclaim, Ack, Change, Resume, Flush}
 use Rattle.machine.specs.declared.act.Reply.{Reply}
 use Rattle.machine.specs.declared.act.Reply.TheVariants.{Bytes, Stored, Marked, Committed}
 use Rattle.machine.specs.declared.act.Step.{Step}
@@ -17,6 +17,21 @@ pub record Makes {D : Type 0} (disk : Ghosts D) (old : Whole D) (before : Notes)
   pub taken : StepsTaken disk old steps replies new
   pub notes : after ≡ noted_all before replies
 
+-- Steps were made.
+pub record HasMade {D : Type 0} (disk : Ghosts D) (old : Whole D) (before : Notes) (new : Whole D)
+    (after : Notes) : Type 0 where
+  pub steps : List Step
+  pub replies : List Reply
+  pub makes : Makes disk old before steps replies new after
+
+-- Steps were made, and this is one of their replies.
+pub record Says {D : Type 0} (disk : Ghosts D) (old : Whole D) (before : Notes) (reply : Reply) (new : Whole D)
+    (after : Notes) : Type 0 where
+  pub steps : List Step
+  pub replies : List Reply
+  pub makes : Makes disk old before steps replies new after
+  pub told : Contains replies reply
+
 -- what was loaded
 abbrev pub tells_bytes : Reply → Bool
 tells_bytes (Bytes bytes) = true
@@ -27,7 +42,7 @@ abbrev pub tells_stored : Reply → Bool
 tells_stored Stored = true
 tells_stored _ = false
 
--- a step that reads and stores nothing: a load or a store that isn't made, or what serves one
+-- a step that reads and stores nothing: a load or a store that isn't made, or what makes one possible
 abbrev pub is_aside : Act → Reply → Bool
 is_aside (Load va count) reply = not (tells_bytes reply)
 is_aside (Store va bytes) reply = not (tells_stored reply)
@@ -36,6 +51,7 @@ is_aside (Reclaim file page) reply = true
 is_aside Ack reply = true
 is_aside Change reply = true
 is_aside Resume reply = true
+is_aside Flush reply = true
 is_aside act reply = false
 
 -- an act that reads and stores nothing unless it is answered so

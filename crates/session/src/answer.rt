@@ -1,55 +1,49 @@
 // The line that answers a request.
+ghost use Rattle.session.specs.Steps.{HasMade};
+
 use crate::ranges::Reached;
 use crate::request::Request;
 use crate::session::Session;
+use crate::session_fault::SessionFault;
 use device::Device;
 use machine::{Reply, Step};
 use page_entry::ProcessorNumber;
 use std::alloc::{AllocError, Allocator};
 use std::io;
-use thiserror::Error;
-
-/// Why a line isn't answered.
-#[derive(Debug, Drop, Error)]
-pub enum AnswerFault {
-    #[error("output: {0}")]
-    Output(#[from] io::Error),
-    #[error("out of memory")]
-    Memory(#[from(alloc)] AllocError),
-}
 
 impl<D: Device, A: Allocator + Copy> Session<D, A> {
     /// Carries out a request, and writes the line that answers it.
-    pub fn answer<W: io::Write>(
+    pub(crate) fn answer<W: io::Write>(
         &mut self,
         alloc: A,
         request: &Request<A>,
         out: &mut W,
-    ) -> Result<(), AnswerFault> {
+    ) -> Result<(), SessionFault>
+        ensures { HasMade D.Device self.old.machine self.old.notes self.new.machine self.new.notes }
+    {
         match request {
-            Request::Steps(steps) => Ok(self.answer_steps(steps, out)?),
+            Request::Steps(steps) => self.answer_steps(steps, out),
             Request::Load { p, va, count } => self.answer_load(alloc, *p, *va, *count, out),
-            Request::Store { p, va, bytes } => {
-                let reached = self.store(*p, *va, bytes);
-                Ok(write_stored(&reached, bytes.len(), out)?)
-            }
-            Request::Commit { p } => {
-                let reply = self.commit(*p);
-                Ok(writeln!(out, "{reply}")?)
-            }
+            Request::Store { p, va, bytes } => self.answer_store(*p, *va, bytes, out),
+            Request::Commit { p } => self.answer_commit(*p, out),
         }
     }
 
     // Makes steps, and writes their replies.
-    fn answer_steps<W: io::Write>(&mut self, steps: &[Step], out: &mut W) -> io::Result<()> {
+    fn answer_steps<W: io::Write>(
+        &mut self,
+        steps: &[Step],
+        out: &mut W,
+    ) -> Result<(), SessionFault>
+        ensures { HasMade D.Device self.old.machine self.old.notes self.new.machine self.new.notes }
+    {
         for (i, step) in steps.iter().enumerate() {
             let reply = self.make(step);
-            if i > 0 {
-                out.write_all(b"; ")?;
+            if let Err(cause) = write_reply(i, &reply, out) {
+                return Err(SessionFault::Output(cause));
             }
-            write!(out, "{reply}")?;
         }
-        out.write_all(b"\n")
+        out.write_all(b"\n").map_err(SessionFault::Output)
     }
 
     fn answer_load<W: io::Write>(
@@ -59,23 +53,66 @@ impl<D: Device, A: Allocator + Copy> Session<D, A> {
         va: u64,
         count: u64,
         out: &mut W,
-    ) -> Result<(), AnswerFault> {
+    ) -> Result<(), SessionFault>
+        ensures { HasMade D.Device self.old.machine self.old.notes self.new.machine self.new.notes }
+    {
         let count = count as usize;
-        let mut bytes = Vec::with_capacity(alloc, count)?;
+        let Ok(mut bytes) = Vec::with_capacity(alloc, count) else {
+            return Err(SessionFault::Memory(AllocError));
+        };
         let reached = self.load(p, va, count, &mut bytes);
-        if is_cut_off(&reached) {
-            return Err(AnswerFault::Memory(AllocError));
-        }
-        let digits = hex::encode(alloc, bytes)?;
-        Ok(write_loaded(&reached, digits.as_str(), out)?)
+        write_loaded(alloc, &reached, &bytes, out)
+    }
+
+    fn answer_store<W: io::Write>(
+        &mut self,
+        p: ProcessorNumber,
+        va: u64,
+        bytes: &[u8],
+        out: &mut W,
+    ) -> Result<(), SessionFault>
+        ensures { HasMade D.Device self.old.machine self.old.notes self.new.machine self.new.notes }
+    {
+        let reached = self.store(p, va, bytes);
+        write_stored(&reached, bytes.len(), out).map_err(SessionFault::Output)
+    }
+
+    fn answer_commit<W: io::Write>(
+        &mut self,
+        p: ProcessorNumber,
+        out: &mut W,
+    ) -> Result<(), SessionFault>
+        ensures { HasMade D.Device self.old.machine self.old.notes self.new.machine self.new.notes }
+    {
+        let reply = self.commit(p);
+        writeln!(out, "{reply}").map_err(SessionFault::Output)
     }
 }
 
-fn is_cut_off(reached: &Reached) -> bool {
-    matches!(reached, Reached::NoMemory)
+// Writes the reply of this number, counted from 0.
+fn write_reply<W: io::Write>(number: usize, reply: &Reply, out: &mut W) -> io::Result<()> {
+    if number > 0 {
+        out.write_all(b"; ")?;
+    }
+    write!(out, "{reply}")
 }
 
-fn write_loaded<W: io::Write>(reached: &Reached, digits: &str, out: &mut W) -> io::Result<()> {
+fn write_loaded<A: Allocator + Copy, W: io::Write>(
+    alloc: A,
+    reached: &Reached,
+    bytes: &[u8],
+    out: &mut W,
+) -> Result<(), SessionFault> {
+    if let Reached::NoMemory = reached {
+        return Err(SessionFault::Memory(AllocError));
+    }
+    match hex::encode(alloc, bytes) {
+        Ok(digits) => write_range(reached, digits.as_str(), out).map_err(SessionFault::Output),
+        Err(cause) => Err(SessionFault::Memory(cause)),
+    }
+}
+
+fn write_range<W: io::Write>(reached: &Reached, digits: &str, out: &mut W) -> io::Result<()> {
     match reached {
         Reached::Refused { count, reply } => write!(out, "{reply} after {count}")?,
         _ => out.write_all(b"loaded")?,

@@ -30,8 +30,21 @@ impl<D: Device, A: Allocator + Copy> Session<D, A> {
         self.make(&fix)
     }
 
-    // Takes the next page that is clean out of memory. Answers whether there was one.
+    // Makes a frame free, if that can be done. A page that belongs to a write-out stays in memory until that is done.
     fn make_room(&mut self, p: ProcessorNumber) -> bool
+        ensures { GoesAside D.Device self.old.machine self.old.notes self.new.machine self.new.notes }
+    {
+        if self.take_next_out(p) {
+            return true;
+        }
+        if !self.write_home(p) {
+            return false;
+        }
+        self.take_next_out(p)
+    }
+
+    // Takes the next page that is clean out of memory. Answers whether there was one.
+    fn take_next_out(&mut self, p: ProcessorNumber) -> bool
         ensures { GoesAside D.Device self.old.machine self.old.notes self.new.machine self.new.notes }
     {
         for _ in 0..self.files.pages() {
@@ -41,6 +54,29 @@ impl<D: Device, A: Allocator + Copy> Session<D, A> {
             }
         }
         false
+    }
+
+    // Makes all steps of the write-outs that are left. Answers whether there was one.
+    fn write_home(&mut self, p: ProcessorNumber) -> bool
+        ensures { GoesAside D.Device self.old.machine self.old.notes self.new.machine self.new.notes }
+    {
+        let mut has_made = false;
+        for _ in 0..u64::MAX {
+            let flushed = self.flush(p);
+            if !is_flushed(&flushed) {
+                return has_made;
+            }
+            has_made = true;
+        }
+        has_made
+    }
+
+    /// Makes a step of the write-outs.
+    pub(crate) fn flush(&mut self, p: ProcessorNumber) -> Reply
+        ensures { IsTold D.Device self.old.machine self.old.notes result self.new.machine self.new.notes }
+    {
+        let flush = Step { p, act: Act::Flush };
+        self.make(&flush)
     }
 
     // Takes a page out of memory, if it is there and clean.
@@ -122,4 +158,9 @@ fn is_reclaimed(reply: &Reply) -> bool {
 
 fn is_no_frame(reply: &Reply) -> bool {
     matches!(reply, Reply::Refused(Refusal::NoFrame))
+}
+
+// Whether a step of a write-out was made.
+fn is_flushed(reply: &Reply) -> bool {
+    matches!(reply, Reply::Going | Reply::Committed(_) | Reply::Done(_))
 }

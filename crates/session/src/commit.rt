@@ -1,7 +1,6 @@
 // A commit: from the beginning of its mark to the acknowledgement.
-ghost use Rattle.std.specs.Prelude.{Contains};
 ghost use Rattle.session.specs.Ranges.{Does};
-ghost use Rattle.session.specs.Steps.{IsOutcome};
+ghost use Rattle.session.specs.Steps.{IsOutcome, Says};
 
 use crate::aside::is_begun;
 use crate::session::Session;
@@ -31,8 +30,7 @@ impl<D: Device, A: Allocator + Copy> Session<D, A> {
 
     // Begins a mark. Where write-outs have to be done first, it makes steps of them.
     fn begin_mark(&mut self, p: ProcessorNumber) -> Reply
-        ensures { Does D.Device self.old.machine self.old.notes (λ steps replies. Contains replies result)
-            self.new.machine self.new.notes }
+        ensures { Says D.Device self.old.machine self.old.notes result self.new.machine self.new.notes }
     {
         let msync = Step {
             p,
@@ -61,8 +59,7 @@ impl<D: Device, A: Allocator + Copy> Session<D, A> {
 
     // Makes steps of the write-outs until a mark is acknowledged, or one isn't made.
     fn write_out(&mut self, p: ProcessorNumber, mark: u32) -> Reply
-        ensures { Does D.Device self.old.machine self.old.notes (λ steps replies. Contains replies result)
-            self.new.machine self.new.notes }
+        ensures { Says D.Device self.old.machine self.old.notes result self.new.machine self.new.notes }
     {
         let mut reply = self.flush(p);
         for _ in 0..u64::MAX {
@@ -72,10 +69,6 @@ impl<D: Device, A: Allocator + Copy> Session<D, A> {
             reply = self.flush(p);
         }
         reply
-    }
-
-    fn flush(&mut self, p: ProcessorNumber) -> Reply {
-        self.make(&Step { p, act: Act::Flush })
     }
 }
 

@@ -12,11 +12,13 @@ mod request;
 mod request_fault;
 mod serving;
 mod session;
+mod session_fault;
 
 pub use files::{FileLine, Files};
 pub use line::{Line, read_line};
 pub use notes::Notes;
 pub use request::{Request, read_request, read_shape};
 pub use request_fault::RequestFault;
-pub use serving::{SessionFault, serve_on};
+pub use serving::serve_on;
 pub use session::{Session, start};
+pub use session_fault::SessionFault;

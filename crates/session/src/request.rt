@@ -1,4 +1,6 @@
 // Requests, and how they are read.
+ghost use Rattle.std.specs.Prelude.{◌≤◌, IfOk};
+
 use crate::request_fault::RequestFault;
 use hex::FromHexError;
 use machine::{Shape, Step};
@@ -162,7 +164,9 @@ fn processor(value: &Value) -> Result<ProcessorNumber, RequestFault> {
 }
 
 // A whole number up to `most`. `what` names it in a fault.
-fn number(value: &Value, most: u64, what: &'static str) -> Result<u64, RequestFault> {
+fn number(value: &Value, most: u64, what: &'static str) -> Result<u64, RequestFault>
+    ensures { IfOk result (λ number. number ≤ most) }
+{
     match value.as_u64() {
         Some(number) if number <= most => Ok(number),
         _ => Err(RequestFault::Number { what, most }),

@@ -36,16 +36,16 @@ pub fn start<D: Device, A: Allocator + Copy>(
         Ok(volume) => volume,
         Err(refused) => return Err(refused),
     };
-    let files = match Files::of(alloc, &volume) {
-        Ok(files) => files,
-        Err(_) => return Err((Refusal::OutOfMemory, volume.into_device())),
-    };
+    let files = Files::of(alloc, &volume);
     match Machine::boot(alloc, volume, shape) {
-        Ok(machine) => Ok(Session {
-            machine,
-            notes: Notes::new(),
-            files,
-        }),
+        Ok(machine) => match files {
+            Ok(files) => Ok(Session {
+                machine,
+                notes: Notes::new(),
+                files,
+            }),
+            Err(_) => Err((Refusal::OutOfMemory, machine.into_device())),
+        },
         Err((refusal, volume)) => Err((refusal, volume.into_device())),
     }
 }

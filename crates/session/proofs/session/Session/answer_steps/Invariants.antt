@@ -1,0 +1,6 @@
+use Rattle.std.proofs.Common.{◌≡◌}
+use Rattle.session.specs.Steps.{HasMade}
+use Rattle.session.proofs.session.Session.answer_steps.Given as goal
+
+abbrev pub invariant-loop : goal.invariant-loop
+invariant-loop g l = HasMade g.D.Device l.initial.self.machine l.initial.self.notes l.self.machine l.self.notes
