@@ -1,16 +1,17 @@
 -- Steps after steps: what was made, and that it reads and stores nothing.
 use Rattle.std.proofs.Common.{◌≡◌, ◌⊎◌, inl, inr, ℕ, ◌+◌, Bool, true, false, not, List, [], ◌∷◌, ◌++◌, length, refl, sym, ◌∙◌, ap, subst, Contains}
-use Rattle.std.proofs.lemmas.List.{append_assoc}
+use Rattle.std.proofs.lemmas.List.{append_assoc, append-nil}
 use Rattle.std.proofs.lemmas.List.Elements.{Contains-append_left, Contains-append_right, Contains-push}
 use Rattle.device.specs.declared.device.Device.{Ghosts}
 use Rattle.machine.specs.declared.act.Reply.{Reply}
+use Rattle.machine.specs.declared.act.Reply.TheVariants.{Marked, Committed}
 use Rattle.machine.specs.declared.act.Step.{Step}
 use Rattle.machine.specs.State.{Whole}
 use Rattle.machine.specs.Runs.{StepTaken, StepsTaken}
 use Rattle.machine.proofs.Tracks.{taken_then}
 use Rattle.session.specs.declared.notes.Notes.{Notes}
 use Rattle.session.specs.Notes.{noted, noted_all}
-use Rattle.session.specs.Steps.{Makes, HasMade, Says, is_aside, AreAside, GoesAside, IsTold, Answers, IsAccess, tells_bytes, tells_stored}
+use Rattle.session.specs.Steps.{Makes, HasMade, Says, is_aside, AreAside, GoesAside, IsTold, Answers, IsAcknowledged, Acknowledges}
 
 noted_then : (before : Notes) (replies more : List Reply) → noted_all before (replies ++ more) ≡ noted_all (noted_all before replies) more
 noted_then before [] more = refl
@@ -139,3 +140,41 @@ made_said disk old new before after reply said = record { steps = said.steps; re
 
 pub made_told : {D : Type 0} (disk : Ghosts D) (old new : Whole D) (before after : Notes) (reply : Reply) → IsTold disk old before reply new after → HasMade disk old before new after
 made_told disk old new before after reply told = record { steps = told.steps; replies = told.replies; makes = told.makes }
+
+-- a mark before which nothing was stored that no mark had
+pub acknowledged_at_once : {D : Type 0} (disk : Ghosts D) (old mid new : Whole D) (before between after : Notes) (begun : Reply) (mark : ℕ) → Says disk old before begun mid between → IsTold disk mid between (Marked mark) new after
+    → between.has_unmarked ≡ false → Acknowledges disk old before mark new after
+acknowledged_at_once disk old mid new before between after begun mark first told none = record {
+  steps = first.steps ++ told.steps;
+  replies = first.replies ++ told.replies;
+  makes = makes_then disk old mid new before between after first.steps first.replies told.steps told.replies first.makes told.makes;
+  acknowledged = record {
+    earlier = first.replies;
+    during = told.replies;
+    later = [];
+    split = ap (λ l. first.replies ++ l) (sym (append-nil told.replies));
+    marked = told.told;
+    durable = inr (ap (λ (n : Notes). n.has_unmarked) (sym first.makes.notes) ∙ none);
+  };
+}
+
+-- a mark that was committed after it was made
+pub acknowledged_later : {D : Type 0} (disk : Ghosts D) (old mid marked new : Whole D) (before between next after : Notes) (begun : Reply) (mark : ℕ) → Says disk old before begun mid between → IsTold disk mid between (Marked mark) marked next
+    → Says disk marked next (Committed mark) new after → Acknowledges disk old before mark new after
+acknowledged_later disk old mid marked new before between next after begun mark first told last = record {
+  steps = (first.steps ++ told.steps) ++ last.steps;
+  replies = (first.replies ++ told.replies) ++ last.replies;
+  makes = makes_then disk old marked new before next after (first.steps ++ told.steps) (first.replies ++ told.replies) last.steps last.replies
+  (makes_then disk old mid marked before between next first.steps first.replies told.steps told.replies first.makes told.makes) last.makes;
+  acknowledged = record {
+    earlier = first.replies;
+    during = told.replies;
+    later = last.replies;
+    split = append_assoc first.replies told.replies last.replies;
+    marked = told.told;
+    durable = inl last.told;
+  };
+}
+
+pub made_acknowledged : {D : Type 0} (disk : Ghosts D) (old new : Whole D) (before after : Notes) (mark : ℕ) → Acknowledges disk old before mark new after → HasMade disk old before new after
+made_acknowledged disk old new before after mark it = record { steps = it.steps; replies = it.replies; makes = it.makes }

@@ -112,14 +112,20 @@ AreStores p va from (step ∷ steps) (reply ∷ replies) bytes =
     × (reply ≡ Stored) × (bytes ≡ few ++ rest) × AreStores p va (from + length few) steps replies rest)
 AreStores p va from steps replies bytes = ⊥
 
--- A mark was made, and acknowledged: it was committed after that, or no store was made since the mark before it.
+-- A mark was made by some of the steps, and is acknowledged: it was committed after them, or before them there was no
+-- store that no mark had yet.
 pub record IsAcknowledged (before : Notes) (replies : List Reply) (mark : ℕ) : Type 0 where
   pub earlier : List Reply
+  pub during : List Reply
   pub later : List Reply
-  pub split : replies ≡ earlier ++ Marked mark ∷ later
+  pub split : replies ≡ earlier ++ during ++ later
+  pub marked : Contains during (Marked mark)
   pub durable : Contains later (Committed mark) ⊎ ((noted_all before earlier).has_unmarked ≡ false)
 
--- what a commit is answered: that a mark is acknowledged, or else what one of its steps was
-abbrev pub IsOutcome : Notes → List Reply → Reply → Type 0
-IsOutcome before replies (Committed mark) = IsAcknowledged before replies mark
-IsOutcome before replies reply = Contains replies reply
+-- Steps were made, by which this mark is acknowledged.
+pub record Acknowledges {D : Type 0} (disk : Ghosts D) (old : Whole D) (before : Notes) (mark : ℕ) (new : Whole D)
+    (after : Notes) : Type 0 where
+  pub steps : List Step
+  pub replies : List Reply
+  pub makes : Makes disk old before steps replies new after
+  pub acknowledged : IsAcknowledged before replies mark

@@ -84,8 +84,8 @@ impl<D: Device, A: Allocator + Copy> Session<D, A> {
     ) -> Result<(), SessionFault>
         ensures { HasMade D.Device self.old.machine self.old.notes self.new.machine self.new.notes }
     {
-        let reply = self.commit(p);
-        writeln!(out, "{reply}").map_err(SessionFault::Output)
+        let committed = self.commit(p);
+        write_committed(&committed, out).map_err(SessionFault::Output)
     }
 }
 
@@ -128,5 +128,12 @@ fn write_stored<W: io::Write>(reached: &Reached, count: usize, out: &mut W) -> i
     match reached {
         Reached::Refused { count, reply } => writeln!(out, "{reply} after {count}"),
         _ => writeln!(out, "stored {count}"),
+    }
+}
+
+fn write_committed<W: io::Write>(committed: &Result<u32, Reply>, out: &mut W) -> io::Result<()> {
+    match committed {
+        Ok(mark) => writeln!(out, "committed {mark}"),
+        Err(reply) => writeln!(out, "{reply}"),
     }
 }

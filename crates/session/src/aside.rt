@@ -30,13 +30,20 @@ impl<D: Device, A: Allocator + Copy> Session<D, A> {
         self.make(&fix)
     }
 
-    // Makes a frame free, if that can be done. A page that belongs to a write-out stays in memory until that is done.
+    // Makes a frame free, if that can be done.
     fn make_room(&mut self, p: ProcessorNumber) -> bool
         ensures { GoesAside D.Device self.old.machine self.old.notes self.new.machine self.new.notes }
     {
         if self.take_next_out(p) {
             return true;
         }
+        self.make_room_later(p)
+    }
+
+    // Makes a frame free, once the write-outs are done: a page that belongs to one stays in memory until then.
+    fn make_room_later(&mut self, p: ProcessorNumber) -> bool
+        ensures { GoesAside D.Device self.old.machine self.old.notes self.new.machine self.new.notes }
+    {
         if !self.write_home(p) {
             return false;
         }
@@ -118,13 +125,21 @@ impl<D: Device, A: Allocator + Copy> Session<D, A> {
     {
         let mut stalled = [false; 16];
         for p in 0..PROCESSORS {
-            if self.is_interrupted(p) {
-                let ack = Step { p, act: Act::Ack };
-                self.make(&ack);
-                stalled[usize::from(p)] = true;
-            }
+            stalled[usize::from(p)] = self.stall_one(p);
         }
         stalled
+    }
+
+    // Makes a processor stall, if it is interrupted. Answers whether it is.
+    fn stall_one(&mut self, p: ProcessorNumber) -> bool
+        ensures { GoesAside D.Device self.old.machine self.old.notes self.new.machine self.new.notes }
+    {
+        if !self.is_interrupted(p) {
+            return false;
+        }
+        let ack = Step { p, act: Act::Ack };
+        self.make(&ack);
+        true
     }
 
     fn is_interrupted(&self, p: ProcessorNumber) -> bool {
@@ -136,15 +151,27 @@ impl<D: Device, A: Allocator + Copy> Session<D, A> {
         ensures { GoesAside D.Device self.old.machine self.old.notes self.new.machine self.new.notes }
     {
         for p in 0..PROCESSORS {
-            if stalled[usize::from(p)] {
-                let resume = Step {
-                    p,
-                    act: Act::Resume,
-                };
-                self.make(&resume);
-            }
+            self.resume_one(p, stalled);
         }
     }
+
+    // Lets a processor go on, if it is one of these.
+    fn resume_one(&mut self, p: ProcessorNumber, stalled: &[bool; 16])
+        ensures { GoesAside D.Device self.old.machine self.old.notes self.new.machine self.new.notes }
+    {
+        if !is_one_of(p, stalled) {
+            return;
+        }
+        let resume = Step {
+            p,
+            act: Act::Resume,
+        };
+        self.make(&resume);
+    }
+}
+
+fn is_one_of(p: ProcessorNumber, stalled: &[bool; 16]) -> bool {
+    stalled.get(usize::from(p)) == Some(&true)
 }
 
 /// Whether a change was begun.
@@ -160,7 +187,7 @@ fn is_no_frame(reply: &Reply) -> bool {
     matches!(reply, Reply::Refused(Refusal::NoFrame))
 }
 
-// Whether a step of a write-out was made.
-fn is_flushed(reply: &Reply) -> bool {
+/// Whether a step of a write-out was made.
+pub(crate) fn is_flushed(reply: &Reply) -> bool {
     matches!(reply, Reply::Going | Reply::Committed(_) | Reply::Done(_))
 }

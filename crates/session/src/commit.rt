@@ -1,8 +1,9 @@
 // A commit: from the beginning of its mark to the acknowledgement.
-ghost use Rattle.session.specs.Ranges.{Does};
-ghost use Rattle.session.specs.Steps.{IsOutcome, Says};
+ghost use Rattle.std.specs.Prelude.{◌≡◌, IfOk, IfErr, IfSome, IsTrue};
+ghost use Rattle.machine.specs.declared.act.Reply.TheVariants as told;
+ghost use Rattle.session.specs.Steps.{Acknowledges, Says};
 
-use crate::aside::is_begun;
+use crate::aside::{is_begun, is_flushed};
 use crate::session::Session;
 use device::Device;
 use machine::{Act, Reply, Step};
@@ -10,22 +11,30 @@ use page_entry::{ProcessorNumber, Refusal};
 use std::alloc::Allocator;
 
 impl<D: Device, A: Allocator + Copy> Session<D, A> {
-    /// Commits all stores. Answers `Committed` with the number of the mark, or what refused it.
-    pub(crate) fn commit(&mut self, p: ProcessorNumber) -> Reply
-        ensures { Does D.Device self.old.machine self.old.notes
-            (λ steps replies. IsOutcome self.old.notes replies result) self.new.machine self.new.notes }
+    /// Commits all stores. Answers the number of the mark, which is acknowledged, or what a step was answered instead.
+    pub(crate) fn commit(&mut self, p: ProcessorNumber) -> Result<u32, Reply>
+        ensures ok { IfOk result (λ mark. Acknowledges D.Device self.old.machine self.old.notes mark
+            self.new.machine self.new.notes) }
+        ensures err { IfErr result (λ reply. Says D.Device self.old.machine self.old.notes reply
+            self.new.machine self.new.notes) }
     {
         let begun = self.begin_mark(p);
         if !is_begun(&begun) {
-            return begun;
+            return Err(begun);
         }
-        let has_unmarked = self.notes.has_unmarked;
+        let before = self.notes;
         let changed = self.change(p);
-        match (&changed, has_unmarked) {
-            (Reply::Marked(mark), true) => self.write_out(p, *mark),
-            (Reply::Marked(mark), false) => Reply::Committed(*mark),
-            _ => changed,
+        let Some(mark) = mark_of(&changed) else {
+            return Err(changed);
+        };
+        if !before.has_unmarked {
+            return Ok(mark);
         }
+        let written = self.write_out(p, mark);
+        if !is_committed(&written, mark) {
+            return Err(written);
+        }
+        Ok(mark)
     }
 
     // Begins a mark. Where write-outs have to be done first, it makes steps of them.
@@ -40,53 +49,61 @@ impl<D: Device, A: Allocator + Copy> Session<D, A> {
                 flags: 4,
             },
         };
-        let mut reply = self.make(&msync);
         for _ in 0..u64::MAX {
-            if !is_busy(&reply) {
-                return reply;
+            let begun = self.make(&msync);
+            if !is_busy(&begun) {
+                return begun;
             }
             let flushed = self.flush(p);
-            if is_refused(&flushed) {
+            if is_nothing(&flushed) {
+                return begun;
+            }
+            if !is_flushed(&flushed) {
                 return flushed;
             }
-            if is_nothing(&flushed) {
-                return reply;
-            }
-            reply = self.make(&msync);
         }
-        reply
+        self.make(&msync)
     }
 
     // Makes steps of the write-outs until a mark is acknowledged, or one isn't made.
     fn write_out(&mut self, p: ProcessorNumber, mark: u32) -> Reply
         ensures { Says D.Device self.old.machine self.old.notes result self.new.machine self.new.notes }
     {
-        let mut reply = self.flush(p);
         for _ in 0..u64::MAX {
-            if !is_before(&reply, mark) {
-                return reply;
+            let flushed = self.flush(p);
+            if is_committed(&flushed, mark) {
+                return flushed;
             }
-            reply = self.flush(p);
+            if !is_flushed(&flushed) {
+                return flushed;
+            }
         }
-        reply
+        self.flush(p)
     }
 }
 
-// Whether a step of a write-out was made that isn't the acknowledgement of a mark.
-fn is_before(reply: &Reply, mark: u32) -> bool {
+// The mark that was made, where a reply tells it.
+fn mark_of(reply: &Reply) -> Option<u32>
+    ensures { IfSome result (λ mark. reply.now ≡ told.Marked mark) }
+{
     match reply {
-        Reply::Going | Reply::Done(_) => true,
-        Reply::Committed(other) => *other != mark,
+        Reply::Marked(mark) => Some(*mark),
+        _ => None,
+    }
+}
+
+// Whether a mark was committed.
+fn is_committed(reply: &Reply, mark: u32) -> bool
+    ensures { IsTrue result → reply.now ≡ told.Committed mark }
+{
+    match reply {
+        Reply::Committed(committed) => *committed == mark,
         _ => false,
     }
 }
 
 fn is_busy(reply: &Reply) -> bool {
     matches!(reply, Reply::Refused(Refusal::Busy))
-}
-
-fn is_refused(reply: &Reply) -> bool {
-    matches!(reply, Reply::Refused(_))
 }
 
 fn is_nothing(reply: &Reply) -> bool {

@@ -106,8 +106,8 @@ impl<D: Device, A: Allocator + Copy> Session<D, A> {
         ensures err { IfErr result (λ reply. IsTold D.Device self.old.machine self.old.notes reply
             self.new.machine self.new.notes) }
     {
-        let mut reply = self.make(step);
         for _ in 0..u64::MAX {
+            let reply = self.make(step);
             if !is_fault(&reply) {
                 return Ok(reply);
             }
@@ -115,9 +115,9 @@ impl<D: Device, A: Allocator + Copy> Session<D, A> {
             if !is_fixed(&fixed) {
                 return Err(fixed);
             }
-            reply = self.make(step);
         }
-        Ok(reply)
+        let last = self.make(step);
+        Ok(last)
     }
 }
 

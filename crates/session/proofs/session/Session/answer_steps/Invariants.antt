@@ -1,4 +1,3 @@
-use Rattle.std.proofs.Common.{◌≡◌}
 use Rattle.session.specs.Steps.{HasMade}
 use Rattle.session.proofs.session.Session.answer_steps.Given as goal
 

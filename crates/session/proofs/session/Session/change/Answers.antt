@@ -1,7 +1,6 @@
-use Rattle.std.proofs.Common.{rules, ◌≡◌, ℕ, ◌+◌, ◌-◌, ◌*◌, ◌<◌, ◌≤◌, length, ◌/◌, ◌%◌, Bool, true, false, nat_eq, nat_lt, List, [], ◌∷◌, ◌++◌, slice_index_or, slice_set, bit_and, bit_or, Fits, w8, w32, w64, Bor, MutBor}
-use Rattle.session.specs.Steps.{GoesAside, IsTold}
+use Rattle.std.proofs.Common.{refl}
+use Rattle.session.proofs.Stretches.{told_before, told_later, told_one}
 use Rattle.session.proofs.session.Session.change.Goals as goal
 
--- src/aside.rt:102:5
 pub returns : goal.returns
-returns g c = ?
+returns g c = told_before g.D.Device _ _ _ _ _ _ _ (told_later g.D.Device _ _ _ _ _ _ _ c.stall-stalled.ensures (told_one g.D.Device _ _ _ _ _ _ refl c.make-reply.ensures)) c.resume.ensures

@@ -1,11 +1,9 @@
-use Rattle.std.proofs.Common.{rules, ◌≡◌, ℕ, ◌+◌, ◌-◌, ◌*◌, ◌<◌, ◌≤◌, length, ◌/◌, ◌%◌, Bool, true, false, nat_eq, nat_lt, List, [], ◌∷◌, ◌++◌, slice_index_or, slice_set, bit_and, bit_or, Fits, w8, w32, w64, Bor, MutBor}
-use Rattle.session.specs.Steps.{GoesAside, IsTold}
+use Rattle.std.proofs.Common.{refl}
+use Rattle.session.proofs.Stretches.{aside_one, aside_then, told_before, told_later, told_one}
 use Rattle.session.proofs.session.Session.fix.Goals as goal
 
--- src/aside.rt:28:13
 pub returns-then-not-make_room : goal.returns-then-not-make_room
-returns-then-not-make_room g c = ?
+returns-then-not-make_room g c = told_before g.D.Device _ _ _ _ _ _ _ (told_one g.D.Device _ _ _ _ _ _ refl c.make-reply.ensures) c.make_room.ensures
 
--- src/aside.rt:16:5
 pub returns : goal.returns
-returns g c = ?
+returns g c = told_later g.D.Device _ _ _ _ _ _ _ (aside_then g.D.Device _ _ _ _ _ _ (aside_one g.D.Device _ _ _ _ _ _ refl c.make-reply.ensures) c.make_room.ensures) (told_one g.D.Device _ _ _ _ _ _ refl c.make.ensures)

@@ -1,11 +1,8 @@
-use Rattle.std.proofs.Common.{rules, ◌≡◌, ℕ, ◌+◌, ◌-◌, ◌*◌, ◌<◌, ◌≤◌, length, ◌/◌, ◌%◌, Bool, true, false, nat_eq, nat_lt, List, [], ◌∷◌, ◌++◌, slice_index_or, slice_set, bit_and, bit_or, Fits, w8, w32, w64, Bor, MutBor}
-use Rattle.session.specs.Steps.{GoesAside, IsTold}
+use Rattle.session.proofs.Stretches.{aside_none, aside_then}
 use Rattle.session.proofs.session.Session.stall.Goals as goal
 
--- src/aside.rt:120:9
 pub loop-p-init : goal.loop-p-init
-loop-p-init g c = ?
+loop-p-init g c = aside_none g.D.Device _ _
 
--- src/aside.rt:120:9
 pub loop-p-preserved : goal.loop-p-preserved
-loop-p-preserved g c = ?
+loop-p-preserved g c = aside_then g.D.Device _ _ _ _ _ _ c.loop-p.invariant c.stall_one.ensures

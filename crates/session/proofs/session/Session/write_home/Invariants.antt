@@ -1,4 +1,3 @@
-use Rattle.std.proofs.Common.{◌≡◌}
 use Rattle.session.specs.Steps.{GoesAside}
 use Rattle.session.proofs.session.Session.write_home.Given as goal
 
