@@ -1,6 +1,6 @@
 -- Steps after steps: what was made, and that it reads and stores nothing.
 use Rattle.std.proofs.Common.{◌≡◌, ◌⊎◌, inl, inr, ℕ, ◌+◌, Bool, true, false, not, List, [], ◌∷◌, ◌++◌, length, refl, sym, ◌∙◌, ap, subst, Contains}
-use Rattle.std.proofs.lemmas.List.{append_assoc, append-nil}
+use Rattle.std.proofs.lemmas.List.{append-nil}
 use Rattle.std.proofs.lemmas.List.Elements.{Contains-append_left, Contains-append_right, Contains-push}
 use Rattle.device.specs.declared.device.Device.{Ghosts}
 use Rattle.machine.specs.declared.act.Reply.{Reply}
@@ -142,9 +142,9 @@ pub made_told : {D : Type 0} (disk : Ghosts D) (old new : Whole D) (before after
 made_told disk old new before after reply told = record { steps = told.steps; replies = told.replies; makes = told.makes }
 
 -- a mark before which nothing was stored that no mark had
-pub acknowledged_at_once : {D : Type 0} (disk : Ghosts D) (old mid new : Whole D) (before between after : Notes) (begun : Reply) (mark : ℕ) → Says disk old before begun mid between → IsTold disk mid between (Marked mark) new after
+pub acknowledged_at_once : {D : Type 0} (disk : Ghosts D) (old mid new : Whole D) (before between after : Notes) (first-reply : Reply) (mark : ℕ) → Says disk old before first-reply mid between → IsTold disk mid between (Marked mark) new after
     → between.has_unmarked ≡ false → Acknowledges disk old before mark new after
-acknowledged_at_once disk old mid new before between after begun mark first told none = record {
+acknowledged_at_once disk old mid new before between after first-reply mark first told none = record {
   steps = first.steps ++ told.steps;
   replies = first.replies ++ told.replies;
   makes = makes_then disk old mid new before between after first.steps first.replies told.steps told.replies first.makes told.makes;
@@ -152,25 +152,25 @@ acknowledged_at_once disk old mid new before between after begun mark first told
     earlier = first.replies;
     during = told.replies;
     later = [];
-    split = ap (λ l. first.replies ++ l) (sym (append-nil told.replies));
+    split = sym (append-nil (first.replies ++ told.replies));
     marked = told.told;
     durable = inr (ap (λ (n : Notes). n.has_unmarked) (sym first.makes.notes) ∙ none);
   };
 }
 
 -- a mark that was committed after it was made
-pub acknowledged_later : {D : Type 0} (disk : Ghosts D) (old mid marked new : Whole D) (before between next after : Notes) (begun : Reply) (mark : ℕ) → Says disk old before begun mid between → IsTold disk mid between (Marked mark) marked next
+pub acknowledged_later : {D : Type 0} (disk : Ghosts D) (old mid marked new : Whole D) (before between next after : Notes) (first-reply : Reply) (mark : ℕ) → Says disk old before first-reply mid between → IsTold disk mid between (Marked mark) marked next
     → Says disk marked next (Committed mark) new after → Acknowledges disk old before mark new after
-acknowledged_later disk old mid marked new before between next after begun mark first told last = record {
+acknowledged_later disk old mid marked new before between next after first-reply mark first told last = record {
   steps = (first.steps ++ told.steps) ++ last.steps;
   replies = (first.replies ++ told.replies) ++ last.replies;
   makes = makes_then disk old marked new before next after (first.steps ++ told.steps) (first.replies ++ told.replies) last.steps last.replies
-  (makes_then disk old mid marked before between next first.steps first.replies told.steps told.replies first.makes told.makes) last.makes;
+      (makes_then disk old mid marked before between next first.steps first.replies told.steps told.replies first.makes told.makes) last.makes;
   acknowledged = record {
     earlier = first.replies;
     during = told.replies;
     later = last.replies;
-    split = append_assoc first.replies told.replies last.replies;
+    split = refl;
     marked = told.told;
     durable = inl last.told;
   };
@@ -178,3 +178,7 @@ acknowledged_later disk old mid marked new before between next after begun mark 
 
 pub made_acknowledged : {D : Type 0} (disk : Ghosts D) (old new : Whole D) (before after : Notes) (mark : ℕ) → Acknowledges disk old before mark new after → HasMade disk old before new after
 made_acknowledged disk old new before after mark it = record { steps = it.steps; replies = it.replies; makes = it.makes }
+
+pub not_true : (b : Bool) → not b ≡ true → b ≡ false
+not_true false is = refl
+not_true true is = sym is

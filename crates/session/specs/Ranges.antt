@@ -20,11 +20,15 @@ LoadsReached p va count bytes (Refused reached reply) steps replies =
     Loads p va reached bytes steps replies × Contains replies reply
 LoadsReached p va count bytes NoMemory steps replies = ⊤
 
+-- these bytes were stored from an address on
+abbrev pub Stores : ℕ → ℕ → List ℕ → List Step → List Reply → Type 0
+Stores p va bytes steps replies = AreStores p va 0 steps replies bytes
+
 -- All bytes were stored from an address on; or so many of them, and a step of these was answered so.
 abbrev pub StoresReached : ℕ → ℕ → List ℕ → Reached → List Step → List Reply → Type 0
-StoresReached p va bytes All steps replies = AreStores p va 0 steps replies bytes
+StoresReached p va bytes All steps replies = Stores p va bytes steps replies
 StoresReached p va bytes (Refused reached reply) steps replies =
-    AreStores p va 0 steps replies (take reached bytes) × Contains replies reply
+    Stores p va (take reached bytes) steps replies × Contains replies reply
 StoresReached p va bytes NoMemory steps replies = ⊤
 
 -- Steps were made of which this holds.

@@ -16,10 +16,7 @@ pub enum Reached {
     /// All of it.
     All,
     /// So many bytes of it, and then a step was answered so.
-    Refused {
-        count: usize,
-        reply: Reply,
-    },
+    Refused { count: usize, reply: Reply },
     /// To where memory was refused.
     NoMemory,
 }

@@ -32,7 +32,7 @@ pub fn serve_on<D: Device, A: Allocator + Copy, I: BufRead, W: io::Write>(
     ensures { (steps : List Step) × (replies : List Reply)
         × Makes D.Device session.old.machine session.old.notes steps replies session.new.machine session.new.notes
         × ((before : D) (shape : Shape) → HasStarted D.Device before shape session.old.machine
-            → HasRun D.Device before shape steps replies session.new.machine.device) }
+        → HasRun D.Device before shape steps replies session.new.machine.device) }
 {
     let served = serve_lines(global, alloc, session, input, out);
     ran_since_start(&session.machine);
