@@ -31,6 +31,11 @@ pub enum Job<'a, A: Allocator + Copy> {
         script: &'a str,
         trust: bool,
     },
+    /// Answer requests on a volume, also on one that is marked as suspect where it is trusted.
+    Serve {
+        disk: &'a str,
+        trust: bool,
+    },
     /// Print the files of a volume, also of one that is marked as suspect where it is trusted.
     Dump {
         disk: &'a str,
@@ -79,6 +84,10 @@ fn job_of<'a, A: Allocator + Copy>(
             trace: text(words, "TRACE"),
             trust: words.get_flag("trust"),
         }),
+        Some(("serve", words)) => Ok(Job::Serve {
+            disk: text(words, "DISK"),
+            trust: words.get_flag("trust"),
+        }),
         Some((_, words)) => Ok(Job::Dump {
             disk: text(words, "DISK"),
             trust: words.get_flag("trust"),
@@ -125,6 +134,7 @@ fn program<'a>(alloc: Global) -> Result<Command<'a>, AllocError> {
         .subcommand(format_command(alloc)?)?
         .subcommand(run_command(alloc)?)?
         .subcommand(threads_command(alloc)?)?
+        .subcommand(serve_command(alloc)?)?
         .subcommand(replay_command(alloc)?)?
         .subcommand(dump_command(alloc)?)
 }
@@ -189,6 +199,15 @@ fn threads_command<'a>(alloc: Global) -> Result<Command<'a>, AllocError> {
             "SCRIPT",
             "The file that holds the script with the programs, a JSON object",
         ))
+}
+
+fn serve_command<'a>(alloc: Global) -> Result<Command<'a>, AllocError> {
+    Command::new(alloc, "serve")
+        .about(
+            "Answers requests on a volume: the first line of the input is the shape of a machine, and each further one a request",
+        )
+        .arg(trust_option(alloc))?
+        .arg(word(alloc, "DISK", "The file that holds the volume"))
 }
 
 fn replay_command<'a>(alloc: Global) -> Result<Command<'a>, AllocError> {

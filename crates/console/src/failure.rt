@@ -53,6 +53,12 @@ pub enum Failure<'a> {
     /// The trace isn't what the threads were answered.
     #[error("script {path:?}: {cause}: the trace isn't what the threads were answered")]
     Gather { path: &'a str, cause: Refusal },
+    /// A step of a session was answered that the device failed.
+    #[error("disk {path:?}: the device failed")]
+    Session { path: &'a str },
+    /// The input couldn't be read.
+    #[error("input: {0}")]
+    Input(io::Error),
     /// The output couldn't be written.
     #[error("output: {0}")]
     Output(#[from] io::Error),

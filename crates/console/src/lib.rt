@@ -8,6 +8,7 @@ mod printer;
 mod program;
 mod replay;
 mod run;
+mod serve;
 mod session;
 mod shape;
 mod threads;

@@ -5,6 +5,7 @@ use crate::command::{Job, read_words};
 use crate::failure::Failure;
 use crate::replay::replay;
 use crate::run::run;
+use crate::serve::serve;
 use crate::threads::threads;
 use std::alloc::Allocator;
 use std::convert::AsStr;
@@ -27,7 +28,7 @@ use volume_files::{Plan, SyncNote, dump, format};
 /// For the command `threads` it holds if the call returns, since its threads wait for one another.
 pub fn perform<R, A, S, O, E>(rt: &R, alloc: A, words: &[S], out: &mut O, err: &mut E) -> u8
 where
-    R: Files<File = File> + AllocGlobal + Threads + Wait + Sync,
+    R: Files<File = File> + Input + AllocGlobal + Threads + Wait + Sync,
     A: Allocator + Copy,
     S: AsStr,
     O: io::Write,
@@ -55,7 +56,7 @@ fn obey_and_flush<'a, R, A, S, O>(
     note: &mut SyncNote,
 ) -> Result<u8, Failure<'a>>
 where
-    R: Files<File = File> + AllocGlobal + Threads + Wait + Sync,
+    R: Files<File = File> + Input + AllocGlobal + Threads + Wait + Sync,
     A: Allocator + Copy,
     S: AsStr,
     O: io::Write,
@@ -76,7 +77,7 @@ fn obey<'a, R, A, S, O>(
     note: &mut SyncNote,
 ) -> Result<u8, Failure<'a>>
 where
-    R: Files<File = File> + AllocGlobal + Threads + Wait + Sync,
+    R: Files<File = File> + Input + AllocGlobal + Threads + Wait + Sync,
     A: Allocator + Copy,
     S: AsStr,
     O: io::Write,
@@ -111,6 +112,10 @@ where
             trust,
         } => {
             threads(rt, disk, script, trust, out, note)?;
+            Ok(0)
+        }
+        Job::Serve { disk, trust } => {
+            serve(rt, alloc, disk, trust, out, note)?;
             Ok(0)
         }
         Job::Replay { disk, trace, trust } => replay(rt, alloc, disk, trace, trust, out, note),

@@ -1,11 +1,11 @@
--- The members of a script, of a script for threads, and of a trace's first line.
+-- The members of a script, of a script for threads, and of the first lines of a trace and of a session.
 use Rattle.std.specs.Prelude.{ℕ, List, [], ◌∷◌, Bool, true, false, not, find, codes, Option, Some, None}
 use Rattle.std.specs.List.{list_any}
 use Rattle.std.specs.Str.{bytes_eq}
 use Rattle.serde_json.specs.Data.{Data, Members, no_members, member}
 use Rattle.serde_json.specs.Find.{as_object}
 use Rattle.scripts.specs.declared.form.Form.{Form}
-use Rattle.scripts.specs.declared.form.Form.TheVariants.{Script, ThreadScript, Trace}
+use Rattle.scripts.specs.declared.form.Form.TheVariants.{Script, ThreadScript, Trace, Session}
 
 -- the names of its members
 abbrev pub members_of_form : Form → List (List ℕ)
@@ -13,6 +13,7 @@ members_of_form Script = codes "cpus" ∷ codes "tlb" ∷ codes "frames" ∷ cod
 members_of_form ThreadScript = codes "cpus" ∷ codes "tlb" ∷ codes "frames" ∷ codes "copies" ∷ codes "trace"
     ∷ codes "steps" ∷ codes "programs" ∷ []
 members_of_form Trace = codes "cpus" ∷ codes "tlb" ∷ codes "frames" ∷ codes "copies" ∷ codes "trace" ∷ []
+members_of_form Session = codes "cpus" ∷ codes "tlb" ∷ codes "frames" ∷ codes "copies" ∷ []
 
 -- whether this is one of the names
 abbrev pub is_member : Form → List ℕ → Bool

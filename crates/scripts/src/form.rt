@@ -1,4 +1,4 @@
-// The members that a script, a script for threads, and the first line of a trace have.
+// The members that a script, a script for threads, and the first lines of a trace and of a session have.
 ghost use Rattle.std.specs.Prelude.{◌≡◌, ◌⊎◌, true, false, not, find, string_bytes, IfErr, OnOk, IsSome, None, option_map};
 ghost use Rattle.std.specs.BTreeMap.{keys};
 ghost use Rattle.serde_json.specs.View.{view, members_view};
@@ -19,6 +19,8 @@ pub enum Form {
     ThreadScript,
     /// The first line of a trace.
     Trace,
+    /// The first line of a session.
+    Session,
 }
 
 impl Form {
@@ -32,6 +34,7 @@ impl Form {
                 "cpus" | "tlb" | "frames" | "copies" | "trace" | "steps" | "programs"
             ),
             Form::Trace => matches!(name, "cpus" | "tlb" | "frames" | "copies" | "trace"),
+            Form::Session => matches!(name, "cpus" | "tlb" | "frames" | "copies"),
         }
     }
 }
@@ -42,6 +45,7 @@ impl fmt::Display for Form {
             Form::Script => "cpus, tlb, frames, copies and steps",
             Form::ThreadScript => "cpus, tlb, frames, copies, trace, steps and programs",
             Form::Trace => "cpus, tlb, frames, copies and trace",
+            Form::Session => "cpus, tlb, frames and copies",
         })
     }
 }

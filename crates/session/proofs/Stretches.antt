@@ -1,0 +1,184 @@
+-- Steps after steps: what was made, and that it reads and stores nothing.
+use Rattle.std.proofs.Common.{◌≡◌, ◌⊎◌, inl, inr, ℕ, ◌+◌, Bool, true, false, not, List, [], ◌∷◌, ◌++◌, length, refl, sym, ◌∙◌, ap, subst, Contains}
+use Rattle.std.proofs.lemmas.List.{append-nil}
+use Rattle.std.proofs.lemmas.List.Elements.{Contains-append_left, Contains-append_right, Contains-push}
+use Rattle.device.specs.declared.device.Device.{Ghosts}
+use Rattle.machine.specs.declared.act.Reply.{Reply}
+use Rattle.machine.specs.declared.act.Reply.TheVariants.{Marked, Committed}
+use Rattle.machine.specs.declared.act.Step.{Step}
+use Rattle.machine.specs.State.{Whole}
+use Rattle.machine.specs.Runs.{StepTaken, StepsTaken}
+use Rattle.machine.proofs.Tracks.{taken_then}
+use Rattle.session.specs.declared.notes.Notes.{Notes}
+use Rattle.session.specs.Notes.{noted, noted_all}
+use Rattle.session.specs.Steps.{Makes, HasMade, Says, is_aside, AreAside, GoesAside, IsTold, Answers, IsAcknowledged, Acknowledges}
+
+noted_then : (before : Notes) (replies more : List Reply) → noted_all before (replies ++ more) ≡ noted_all (noted_all before replies) more
+noted_then before [] more = refl
+noted_then before (reply ∷ replies) more = noted_then (noted before reply) replies more
+
+-- no step
+pub makes_none : {D : Type 0} (disk : Ghosts D) (old : Whole D) (before : Notes) → Makes disk old before [] [] old before
+makes_none disk old before = record { taken = refl; notes = refl }
+
+pub makes_then : {D : Type 0} (disk : Ghosts D) (old mid new : Whole D) (before between after : Notes) (steps : List Step) (replies : List Reply) (steps' : List Step) (replies' : List Reply)
+    → Makes disk old before steps replies mid between → Makes disk mid between steps' replies' new after → Makes disk old before (steps ++ steps') (replies ++ replies') new after
+makes_then disk old mid new before between after steps replies steps' replies' first later = record {
+  taken = taken_then disk old mid new steps replies steps' replies' first.taken later.taken;
+  notes = later.notes ∙ ap (λ n. noted_all n replies') first.notes ∙ sym (noted_then before replies replies');
+}
+
+aside_all : (steps : List Step) (replies : List Reply) (steps' : List Step) (replies' : List Reply) → AreAside steps replies → AreAside steps' replies' → AreAside (steps ++ steps') (replies ++ replies')
+aside_all [] [] steps' replies' first later = later
+aside_all (step ∷ steps) (reply ∷ replies) steps' replies' first later = (first.0, aside_all steps replies steps' replies' first.1 later)
+aside_all [] (reply ∷ replies) steps' replies' first later = absurd first
+aside_all (step ∷ steps) [] steps' replies' first later = absurd first
+
+-- no step
+pub aside_none : {D : Type 0} (disk : Ghosts D) (old : Whole D) (before : Notes) → GoesAside disk old before old before
+aside_none disk old before = record { steps = []; replies = []; makes = makes_none disk old before; aside = tt }
+
+-- one step
+pub aside_one : {D : Type 0} (disk : Ghosts D) (old new : Whole D) (before after : Notes) (step : Step) (reply : Reply) → is_aside step.act reply ≡ true → Makes disk old before (step ∷ []) (reply ∷ []) new after → GoesAside disk old before new after
+aside_one disk old new before after step reply is made = record { steps = step ∷ []; replies = reply ∷ []; makes = made; aside = (is, tt) }
+
+pub told_one : {D : Type 0} (disk : Ghosts D) (old new : Whole D) (before after : Notes) (step : Step) (reply : Reply) → is_aside step.act reply ≡ true → Makes disk old before (step ∷ []) (reply ∷ []) new after → IsTold disk old before reply new after
+told_one disk old new before after step reply is made = record { steps = step ∷ []; replies = reply ∷ []; makes = made; aside = (is, tt); told = Contains-push [] reply }
+
+pub aside_then : {D : Type 0} (disk : Ghosts D) (old mid new : Whole D) (before between after : Notes) → GoesAside disk old before mid between → GoesAside disk mid between new after → GoesAside disk old before new after
+aside_then disk old mid new before between after first later = record {
+  steps = first.steps ++ later.steps;
+  replies = first.replies ++ later.replies;
+  makes = makes_then disk old mid new before between after first.steps first.replies later.steps later.replies first.makes later.makes;
+  aside = aside_all first.steps first.replies later.steps later.replies first.aside later.aside;
+}
+
+pub told_aside : {D : Type 0} (disk : Ghosts D) (old new : Whole D) (before after : Notes) (reply : Reply) → IsTold disk old before reply new after → GoesAside disk old before new after
+told_aside disk old new before after reply told = record { steps = told.steps; replies = told.replies; makes = told.makes; aside = told.aside }
+
+-- a reply that came later
+pub told_later : {D : Type 0} (disk : Ghosts D) (old mid new : Whole D) (before between after : Notes) (reply : Reply) → GoesAside disk old before mid between → IsTold disk mid between reply new after → IsTold disk old before reply new after
+told_later disk old mid new before between after reply first later = record {
+  steps = first.steps ++ later.steps;
+  replies = first.replies ++ later.replies;
+  makes = makes_then disk old mid new before between after first.steps first.replies later.steps later.replies first.makes later.makes;
+  aside = aside_all first.steps first.replies later.steps later.replies first.aside later.aside;
+  told = Contains-append_right first.replies later.replies reply later.told;
+}
+
+-- a reply that came earlier
+pub told_before : {D : Type 0} (disk : Ghosts D) (old mid new : Whole D) (before between after : Notes) (reply : Reply) → IsTold disk old before reply mid between → GoesAside disk mid between new after → IsTold disk old before reply new after
+told_before disk old mid new before between after reply first later = record {
+  steps = first.steps ++ later.steps;
+  replies = first.replies ++ later.replies;
+  makes = makes_then disk old mid new before between after first.steps first.replies later.steps later.replies first.makes later.makes;
+  aside = aside_all first.steps first.replies later.steps later.replies first.aside later.aside;
+  told = Contains-append_left first.replies later.replies reply first.told;
+}
+
+-- one step, made first
+pub answers_one : {D : Type 0} (disk : Ghosts D) (old new : Whole D) (before after : Notes) (step : Step) (reply : Reply) → Makes disk old before (step ∷ []) (reply ∷ []) new after → Answers disk old before step reply new after
+answers_one disk old new before after step reply made = record { steps = []; replies = []; makes = made; aside = tt }
+
+pub answers_then : {D : Type 0} (disk : Ghosts D) (old mid new : Whole D) (before between after : Notes) (step : Step) (reply : Reply) → GoesAside disk old before mid between → Makes disk mid between (step ∷ []) (reply ∷ []) new after
+    → Answers disk old before step reply new after
+answers_then disk old mid new before between after step reply first made = record {
+  steps = first.steps;
+  replies = first.replies;
+  makes = makes_then disk old mid new before between after first.steps first.replies (step ∷ []) (reply ∷ []) first.makes made;
+  aside = first.aside;
+}
+
+-- an access that is answered so that it reads and stores nothing
+pub answers_aside : {D : Type 0} (disk : Ghosts D) (old new : Whole D) (before after : Notes) (step : Step) (reply : Reply) → is_aside step.act reply ≡ true → Answers disk old before step reply new after → IsTold disk old before reply new after
+answers_aside disk old new before after step reply is answer = record {
+  steps = answer.steps ++ step ∷ [];
+  replies = answer.replies ++ reply ∷ [];
+  makes = answer.makes;
+  aside = aside_all answer.steps answer.replies (step ∷ []) (reply ∷ []) answer.aside (is, tt);
+  told = Contains-push answer.replies reply;
+}
+
+-- whatever was made
+pub made_none : {D : Type 0} (disk : Ghosts D) (old : Whole D) (before : Notes) → HasMade disk old before old before
+made_none disk old before = record { steps = []; replies = []; makes = makes_none disk old before }
+
+pub made_then : {D : Type 0} (disk : Ghosts D) (old mid new : Whole D) (before between after : Notes) → HasMade disk old before mid between → HasMade disk mid between new after → HasMade disk old before new after
+made_then disk old mid new before between after first later = record {
+  steps = first.steps ++ later.steps;
+  replies = first.replies ++ later.replies;
+  makes = makes_then disk old mid new before between after first.steps first.replies later.steps later.replies first.makes later.makes;
+}
+
+pub made_one : {D : Type 0} (disk : Ghosts D) (old new : Whole D) (before after : Notes) (step : Step) (reply : Reply) → Makes disk old before (step ∷ []) (reply ∷ []) new after → HasMade disk old before new after
+made_one disk old new before after step reply makes = record { steps = step ∷ []; replies = reply ∷ []; makes = makes }
+
+pub says_one : {D : Type 0} (disk : Ghosts D) (old new : Whole D) (before after : Notes) (step : Step) (reply : Reply) → Makes disk old before (step ∷ []) (reply ∷ []) new after → Says disk old before reply new after
+says_one disk old new before after step reply makes = record { steps = step ∷ []; replies = reply ∷ []; makes = makes; told = Contains-push [] reply }
+
+pub says_later : {D : Type 0} (disk : Ghosts D) (old mid new : Whole D) (before between after : Notes) (reply : Reply) → HasMade disk old before mid between → Says disk mid between reply new after → Says disk old before reply new after
+says_later disk old mid new before between after reply first later = record {
+  steps = first.steps ++ later.steps;
+  replies = first.replies ++ later.replies;
+  makes = makes_then disk old mid new before between after first.steps first.replies later.steps later.replies first.makes later.makes;
+  told = Contains-append_right first.replies later.replies reply later.told;
+}
+
+pub says_before : {D : Type 0} (disk : Ghosts D) (old mid new : Whole D) (before between after : Notes) (reply : Reply) → Says disk old before reply mid between → HasMade disk mid between new after → Says disk old before reply new after
+says_before disk old mid new before between after reply first later = record {
+  steps = first.steps ++ later.steps;
+  replies = first.replies ++ later.replies;
+  makes = makes_then disk old mid new before between after first.steps first.replies later.steps later.replies first.makes later.makes;
+  told = Contains-append_left first.replies later.replies reply first.told;
+}
+
+pub says_told : {D : Type 0} (disk : Ghosts D) (old new : Whole D) (before after : Notes) (reply : Reply) → IsTold disk old before reply new after → Says disk old before reply new after
+says_told disk old new before after reply told = record { steps = told.steps; replies = told.replies; makes = told.makes; told = told.told }
+
+pub made_said : {D : Type 0} (disk : Ghosts D) (old new : Whole D) (before after : Notes) (reply : Reply) → Says disk old before reply new after → HasMade disk old before new after
+made_said disk old new before after reply said = record { steps = said.steps; replies = said.replies; makes = said.makes }
+
+pub made_told : {D : Type 0} (disk : Ghosts D) (old new : Whole D) (before after : Notes) (reply : Reply) → IsTold disk old before reply new after → HasMade disk old before new after
+made_told disk old new before after reply told = record { steps = told.steps; replies = told.replies; makes = told.makes }
+
+-- a mark before which nothing was stored that no mark had
+pub acknowledged_at_once : {D : Type 0} (disk : Ghosts D) (old mid new : Whole D) (before between after : Notes) (first-reply : Reply) (mark : ℕ) → Says disk old before first-reply mid between → IsTold disk mid between (Marked mark) new after
+    → between.has_unmarked ≡ false → Acknowledges disk old before mark new after
+acknowledged_at_once disk old mid new before between after first-reply mark first told none = record {
+  steps = first.steps ++ told.steps;
+  replies = first.replies ++ told.replies;
+  makes = makes_then disk old mid new before between after first.steps first.replies told.steps told.replies first.makes told.makes;
+  acknowledged = record {
+    earlier = first.replies;
+    during = told.replies;
+    later = [];
+    split = sym (append-nil (first.replies ++ told.replies));
+    marked = told.told;
+    durable = inr (ap (λ (n : Notes). n.has_unmarked) (sym first.makes.notes) ∙ none);
+  };
+}
+
+-- a mark that was committed after it was made
+pub acknowledged_later : {D : Type 0} (disk : Ghosts D) (old mid marked new : Whole D) (before between next after : Notes) (first-reply : Reply) (mark : ℕ) → Says disk old before first-reply mid between → IsTold disk mid between (Marked mark) marked next
+    → Says disk marked next (Committed mark) new after → Acknowledges disk old before mark new after
+acknowledged_later disk old mid marked new before between next after first-reply mark first told last = record {
+  steps = (first.steps ++ told.steps) ++ last.steps;
+  replies = (first.replies ++ told.replies) ++ last.replies;
+  makes = makes_then disk old marked new before next after (first.steps ++ told.steps) (first.replies ++ told.replies) last.steps last.replies
+      (makes_then disk old mid marked before between next first.steps first.replies told.steps told.replies first.makes told.makes) last.makes;
+  acknowledged = record {
+    earlier = first.replies;
+    during = told.replies;
+    later = last.replies;
+    split = refl;
+    marked = told.told;
+    durable = inl last.told;
+  };
+}
+
+pub made_acknowledged : {D : Type 0} (disk : Ghosts D) (old new : Whole D) (before after : Notes) (mark : ℕ) → Acknowledges disk old before mark new after → HasMade disk old before new after
+made_acknowledged disk old new before after mark it = record { steps = it.steps; replies = it.replies; makes = it.makes }
+
+pub not_true : (b : Bool) → not b ≡ true → b ≡ false
+not_true false is = refl
+not_true true is = sym is

@@ -1,0 +1,33 @@
+use Rattle.std.proofs.Common.{◌≡◌, ℕ, ◌+◌, ◌-◌, not, List, [], ◌++◌, length, length-take, take, drop, refl, sym, ◌∙◌, ap, subst, arith}
+use Rattle.std.proofs.lemmas.List.{take_all}
+use Rattle.std.proofs.Math.Seq.{take-add}
+use Rattle.machine.specs.declared.act.Act.TheVariants.{Store}
+use Rattle.machine.specs.declared.act.Reply.{Reply}
+use Rattle.session.specs.Steps.{Answers, behind}
+use Rattle.session.proofs.Pieces.{stores_more, stores_refused, stores_all}
+use Rattle.session.proofs.Stretches.{makes_none, answers_aside}
+use Rattle.session.proofs.session.Session.store.Goals as goal
+
+pub loop-done-init : goal.loop-done-init
+loop-done-init g c = (omega arith, record { steps = []; replies = []; makes = makes_none g.D.Device _ _; holds = refl })
+
+pub returns-in-Err : goal.returns-in-Err
+returns-in-Err g c = stores_refused g.D.Device _ _ _ _ _ _ c.args.p c.args.va c.loop-done.done c.args.bytes.now c.in-Err.reply c.loop-done.invariant.1 c.in-Err.ensures.err
+
+pub returns-then-not-is_stored : goal.returns-then-not-is_stored
+returns-then-not-is_stored g c = stores_refused g.D.Device _ _ _ _ _ _ c.args.p c.args.va c.loop-done.done c.args.bytes.now c.in-Ok.answer c.loop-done.invariant.1 (answers_aside g.D.Device _ _ _ _ _ _ (ap not (sym c.if-not-is_stored.ensures.value)) c.in-Ok.ensures.ok)
+
+pub loop-done-preserved : goal.loop-done-preserved
+loop-done-preserved g c =
+    let bytes = c.args.bytes.now in
+    let few = c.piece-few.result in
+    let P : ℕ → Type 0 = λ at. Answers g.D.Device c.loop-done.self.machine c.loop-done.self.notes (record { p = c.args.p; act = Store at c.part.result }) c.in-Ok.answer c.access.new.self.machine c.access.new.self.notes in
+    let Q : Reply → Type 0 = λ r. Answers g.D.Device c.loop-done.self.machine c.loop-done.self.notes (record { p = c.args.p; act = Store (behind c.args.va c.loop-done.done) c.part.result }) r c.access.new.self.machine c.access.new.self.notes in
+    let answer = subst Q (c.if-not-is_stored.ensures.is refl) (subst P c.saturating_add-from.ensures c.in-Ok.ensures.ok) in
+    let span : c.loop-done.done + few - c.loop-done.done ≡ few = omega arith in
+    let long : length (take c.loop-done.done bytes) ≡ c.loop-done.done = omega (arith, length-take c.loop-done.done bytes, c.loop-done.invariant.0) in
+    let all : take c.loop-done.done bytes ++ c.part.result ≡ take (c.loop-done.done + few) bytes = ap (λ l. take c.loop-done.done bytes ++ l) (c.part.ensures ∙ ap (λ m. take m (drop c.loop-done.done bytes)) span) ∙ sym (take-add c.loop-done.done few bytes) in
+    (omega (arith, c.piece-few.ensures.left, c.loop-done.invariant.0, c.loop-done-test.true), stores_more g.D.Device _ _ _ _ _ _ c.args.p c.args.va c.loop-done.done (take c.loop-done.done bytes) c.part.result (take (c.loop-done.done + few) bytes) long all c.loop-done.invariant.1 answer)
+
+pub returns : goal.returns
+returns g c = stores_all g.D.Device _ _ _ _ c.args.p c.args.va (take c.loop-done.done c.args.bytes.now) c.args.bytes.now (take_all c.loop-done.done c.args.bytes.now c.loop-done-test.false) c.loop-done.invariant.1

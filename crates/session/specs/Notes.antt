@@ -1,0 +1,28 @@
+-- What a session has to know of the steps that were made before.
+use Rattle.std.specs.Prelude.{ℕ, ◌≡◌, Bool, true, false, List, [], ◌∷◌}
+use Rattle.page_entry.specs.declared.refusal.Refusal.TheVariants.{Device}
+use Rattle.machine.specs.declared.act.Reply.{Reply}
+use Rattle.machine.specs.declared.act.Reply.TheVariants.{Stored, Marked, Refused}
+use Rattle.session.specs.declared.notes.Notes.{Notes}
+
+-- whether a store was made that no mark has yet, after one reply more
+abbrev pub unmarked_by : Bool → Reply → Bool
+unmarked_by before Stored = true
+unmarked_by before (Marked mark) = false
+unmarked_by before _ = before
+
+-- whether a step was answered that the device failed, after one reply more
+abbrev pub failed_by : Bool → Reply → Bool
+failed_by before (Refused Device) = true
+failed_by before _ = before
+
+abbrev pub noted : Notes → Reply → Notes
+noted before reply = record {
+  has_unmarked = unmarked_by before.has_unmarked reply;
+  has_failed = failed_by before.has_failed reply;
+}
+
+-- after all these replies
+abbrev pub noted_all : Notes → List Reply → Notes
+noted_all before [] = before
+noted_all before (reply ∷ replies) = noted_all (noted before reply) replies

@@ -1,0 +1,40 @@
+-- What a range comes to.
+use Rattle.std.specs.Prelude.{ℕ, ◌≡◌, ⊤, List, take, Contains}
+use Rattle.device.specs.declared.device.Device.{Ghosts}
+use Rattle.machine.specs.declared.act.Reply.{Reply}
+use Rattle.machine.specs.declared.act.Step.{Step}
+use Rattle.machine.specs.State.{Whole}
+use Rattle.session.specs.declared.notes.Notes.{Notes}
+use Rattle.session.specs.declared.ranges.Reached.{Reached}
+use Rattle.session.specs.declared.ranges.Reached.TheVariants.{All, Refused, NoMemory}
+use Rattle.session.specs.Steps.{Makes, AreLoads, AreStores}
+
+-- so many bytes from an address on were loaded, which are these
+abbrev pub Loads : ℕ → ℕ → ℕ → List ℕ → List Step → List Reply → Type 0
+Loads p va count bytes steps replies = AreLoads p va 0 count steps replies bytes
+
+-- All bytes of a range were loaded; or so many of them, and a step of these was answered so.
+abbrev pub LoadsReached : ℕ → ℕ → ℕ → List ℕ → Reached → List Step → List Reply → Type 0
+LoadsReached p va count bytes All steps replies = Loads p va count bytes steps replies
+LoadsReached p va count bytes (Refused reached reply) steps replies =
+    Loads p va reached bytes steps replies × Contains replies reply
+LoadsReached p va count bytes NoMemory steps replies = ⊤
+
+-- these bytes were stored from an address on
+abbrev pub Stores : ℕ → ℕ → List ℕ → List Step → List Reply → Type 0
+Stores p va bytes steps replies = AreStores p va 0 steps replies bytes
+
+-- All bytes were stored from an address on; or so many of them, and a step of these was answered so.
+abbrev pub StoresReached : ℕ → ℕ → List ℕ → Reached → List Step → List Reply → Type 0
+StoresReached p va bytes All steps replies = Stores p va bytes steps replies
+StoresReached p va bytes (Refused reached reply) steps replies =
+    Stores p va (take reached bytes) steps replies × Contains replies reply
+StoresReached p va bytes NoMemory steps replies = ⊤
+
+-- Steps were made of which this holds.
+pub record Does {D : Type 0} (disk : Ghosts D) (old : Whole D) (before : Notes)
+    (what : List Step → List Reply → Type 0) (new : Whole D) (after : Notes) : Type 0 where
+  pub steps : List Step
+  pub replies : List Reply
+  pub makes : Makes disk old before steps replies new after
+  pub holds : what steps replies

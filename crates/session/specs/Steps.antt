@@ -1,0 +1,131 @@
+-- What steps a request makes, and what they are answered.
+use Rattle.std.specs.Prelude.{ℕ, ⊤, ◌≡◌, ◌⊎◌, ◌+◌, ◌-◌, ◌^◌, min, Bool, true, false, not, List, [], ◌∷◌, ◌++◌, length, Contains}
+use Rattle.device.specs.declared.device.Device.{Ghosts}
+use Rattle.machine.specs.declared.act.Act.{Act}
+use Rattle.machine.specs.declared.act.Act.TheVariants.{Load, Store, Fix, Reclaim, Ack, Change, Resume, Flush}
+use Rattle.machine.specs.declared.act.Reply.{Reply}
+use Rattle.machine.specs.declared.act.Reply.TheVariants.{Bytes, Stored, Marked, Committed}
+use Rattle.machine.specs.declared.act.Step.{Step}
+use Rattle.machine.specs.State.{Whole}
+use Rattle.machine.specs.Runs.{StepsTaken}
+use Rattle.session.specs.declared.notes.Notes.{Notes}
+use Rattle.session.specs.Notes.{noted_all}
+
+-- These steps were made, and so answered; and what is noted of them is noted.
+pub record Makes {D : Type 0} (disk : Ghosts D) (old : Whole D) (before : Notes) (steps : List Step)
+    (replies : List Reply) (new : Whole D) (after : Notes) : Type 0 where
+  pub taken : StepsTaken disk old steps replies new
+  pub notes : after ≡ noted_all before replies
+
+-- Steps were made.
+pub record HasMade {D : Type 0} (disk : Ghosts D) (old : Whole D) (before : Notes) (new : Whole D)
+    (after : Notes) : Type 0 where
+  pub steps : List Step
+  pub replies : List Reply
+  pub makes : Makes disk old before steps replies new after
+
+-- Steps were made, and this is one of their replies.
+pub record Says {D : Type 0} (disk : Ghosts D) (old : Whole D) (before : Notes) (reply : Reply) (new : Whole D)
+    (after : Notes) : Type 0 where
+  pub steps : List Step
+  pub replies : List Reply
+  pub makes : Makes disk old before steps replies new after
+  pub told : Contains replies reply
+
+-- what was loaded
+abbrev pub tells_bytes : Reply → Bool
+tells_bytes (Bytes bytes) = true
+tells_bytes _ = false
+
+-- that something was stored
+abbrev pub tells_stored : Reply → Bool
+tells_stored Stored = true
+tells_stored _ = false
+
+-- a step that reads and stores nothing: a load or a store that isn't made, or what makes one possible
+abbrev pub is_aside : Act → Reply → Bool
+is_aside (Load va count) reply = not (tells_bytes reply)
+is_aside (Store va bytes) reply = not (tells_stored reply)
+is_aside (Fix va write) reply = true
+is_aside (Reclaim file page) reply = true
+is_aside Ack reply = true
+is_aside Change reply = true
+is_aside Resume reply = true
+is_aside Flush reply = true
+is_aside act reply = false
+
+-- an act that reads and stores nothing unless it is answered so
+abbrev pub IsAccess : Act → Type 0
+IsAccess act = (reply : Reply) → tells_bytes reply ≡ false → tells_stored reply ≡ false → is_aside act reply ≡ true
+
+abbrev pub AreAside : List Step → List Reply → Type 0
+AreAside [] [] = ⊤
+AreAside (step ∷ steps) (reply ∷ replies) = (is_aside step.act reply ≡ true) × AreAside steps replies
+AreAside steps replies = ⊥
+
+-- Steps were made that read and store nothing.
+pub record GoesAside {D : Type 0} (disk : Ghosts D) (old : Whole D) (before : Notes) (new : Whole D)
+    (after : Notes) : Type 0 where
+  pub steps : List Step
+  pub replies : List Reply
+  pub makes : Makes disk old before steps replies new after
+  pub aside : AreAside steps replies
+
+-- So they were, and this is one of their replies.
+pub record IsTold {D : Type 0} (disk : Ghosts D) (old : Whole D) (before : Notes) (reply : Reply) (new : Whole D)
+    (after : Notes) : Type 0 where
+  pub steps : List Step
+  pub replies : List Reply
+  pub makes : Makes disk old before steps replies new after
+  pub aside : AreAside steps replies
+  pub told : Contains replies reply
+
+-- A step was made, after others that read and store nothing.
+pub record Answers {D : Type 0} (disk : Ghosts D) (old : Whole D) (before : Notes) (step : Step) (reply : Reply)
+    (new : Whole D) (after : Notes) : Type 0 where
+  pub steps : List Step
+  pub replies : List Reply
+  pub makes : Makes disk old before (steps ++ step ∷ []) (replies ++ reply ∷ []) new after
+  pub aside : AreAside steps replies
+
+-- the address that lies so far behind another one
+abbrev pub behind : ℕ → ℕ → ℕ
+behind va count = min (va + count) (2 ^ 64 - 1)
+
+-- Of a range from an address on, the bytes from one offset to another were loaded, piece by piece in order: these bytes
+-- are what the loads among the steps were answered, and the other steps read and store nothing.
+abbrev pub AreLoads : ℕ → ℕ → ℕ → ℕ → List Step → List Reply → List ℕ → Type 0
+AreLoads p va from to [] [] bytes = (from ≡ to) × (bytes ≡ [])
+AreLoads p va from to (step ∷ steps) (reply ∷ replies) bytes =
+    ((is_aside step.act reply ≡ true) × AreLoads p va from to steps replies bytes)
+    ⊎ ((count : ℕ) × (few rest : List ℕ) × (step ≡ record { p = p; act = Load (behind va from) count })
+    × (reply ≡ Bytes few) × (bytes ≡ few ++ rest) × AreLoads p va (from + count) to steps replies rest)
+AreLoads p va from to steps replies bytes = ⊥
+
+-- Of a range from an address on, these bytes were stored from an offset on, piece by piece in order, and the other steps
+-- read and store nothing.
+abbrev pub AreStores : ℕ → ℕ → ℕ → List Step → List Reply → List ℕ → Type 0
+AreStores p va from [] [] bytes = bytes ≡ []
+AreStores p va from (step ∷ steps) (reply ∷ replies) bytes =
+    ((is_aside step.act reply ≡ true) × AreStores p va from steps replies bytes)
+    ⊎ ((few rest : List ℕ) × (step ≡ record { p = p; act = Store (behind va from) few })
+    × (reply ≡ Stored) × (bytes ≡ few ++ rest) × AreStores p va (from + length few) steps replies rest)
+AreStores p va from steps replies bytes = ⊥
+
+-- A mark was made by some of the steps, and is acknowledged: it was committed after them, or before them there was no
+-- store that no mark had yet.
+pub record IsAcknowledged (before : Notes) (replies : List Reply) (mark : ℕ) : Type 0 where
+  pub earlier : List Reply
+  pub during : List Reply
+  pub later : List Reply
+  pub split : replies ≡ earlier ++ during ++ later
+  pub marked : Contains during (Marked mark)
+  pub durable : Contains later (Committed mark) ⊎ ((noted_all before earlier).has_unmarked ≡ false)
+
+-- Steps were made, by which this mark is acknowledged.
+pub record Acknowledges {D : Type 0} (disk : Ghosts D) (old : Whole D) (before : Notes) (mark : ℕ) (new : Whole D)
+    (after : Notes) : Type 0 where
+  pub steps : List Step
+  pub replies : List Reply
+  pub makes : Makes disk old before steps replies new after
+  pub acknowledged : IsAcknowledged before replies mark

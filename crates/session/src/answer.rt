@@ -1,0 +1,139 @@
+// The line that answers a request.
+ghost use Rattle.session.specs.Steps.{HasMade};
+
+use crate::ranges::Reached;
+use crate::request::Request;
+use crate::session::Session;
+use crate::session_fault::SessionFault;
+use device::Device;
+use machine::{Reply, Step};
+use page_entry::ProcessorNumber;
+use std::alloc::{AllocError, Allocator};
+use std::io;
+
+impl<D: Device, A: Allocator + Copy> Session<D, A> {
+    /// Carries out a request, and writes the line that answers it.
+    pub(crate) fn answer<W: io::Write>(
+        &mut self,
+        alloc: A,
+        request: &Request<A>,
+        out: &mut W,
+    ) -> Result<(), SessionFault>
+        ensures { HasMade D.Device self.old.machine self.old.notes self.new.machine self.new.notes }
+    {
+        match request {
+            Request::Steps(steps) => self.answer_steps(steps, out),
+            Request::Load { p, va, count } => self.answer_load(alloc, *p, *va, *count, out),
+            Request::Store { p, va, bytes } => self.answer_store(*p, *va, bytes, out),
+            Request::Commit { p } => self.answer_commit(*p, out),
+        }
+    }
+
+    // Makes steps, and writes their replies.
+    fn answer_steps<W: io::Write>(
+        &mut self,
+        steps: &[Step],
+        out: &mut W,
+    ) -> Result<(), SessionFault>
+        ensures { HasMade D.Device self.old.machine self.old.notes self.new.machine self.new.notes }
+    {
+        for (i, step) in steps.iter().enumerate() {
+            let reply = self.make(step);
+            if let Err(cause) = write_reply(i, &reply, out) {
+                return Err(SessionFault::Output(cause));
+            }
+        }
+        out.write_all(b"\n").map_err(SessionFault::Output)
+    }
+
+    fn answer_load<W: io::Write>(
+        &mut self,
+        alloc: A,
+        p: ProcessorNumber,
+        va: u64,
+        count: u64,
+        out: &mut W,
+    ) -> Result<(), SessionFault>
+        ensures { HasMade D.Device self.old.machine self.old.notes self.new.machine self.new.notes }
+    {
+        let count = count as usize;
+        let Ok(mut bytes) = Vec::with_capacity(alloc, count) else {
+            return Err(SessionFault::Memory(AllocError));
+        };
+        let reached = self.load(p, va, count, &mut bytes);
+        write_loaded(alloc, &reached, &bytes, out)
+    }
+
+    fn answer_store<W: io::Write>(
+        &mut self,
+        p: ProcessorNumber,
+        va: u64,
+        bytes: &[u8],
+        out: &mut W,
+    ) -> Result<(), SessionFault>
+        ensures { HasMade D.Device self.old.machine self.old.notes self.new.machine self.new.notes }
+    {
+        let reached = self.store(p, va, bytes);
+        write_stored(&reached, bytes.len(), out).map_err(SessionFault::Output)
+    }
+
+    fn answer_commit<W: io::Write>(
+        &mut self,
+        p: ProcessorNumber,
+        out: &mut W,
+    ) -> Result<(), SessionFault>
+        ensures { HasMade D.Device self.old.machine self.old.notes self.new.machine self.new.notes }
+    {
+        let committed = self.commit(p);
+        write_committed(&committed, out).map_err(SessionFault::Output)
+    }
+}
+
+// Writes the reply of this number, counted from 0.
+fn write_reply<W: io::Write>(number: usize, reply: &Reply, out: &mut W) -> io::Result<()> {
+    if number > 0 {
+        out.write_all(b"; ")?;
+    }
+    write!(out, "{reply}")
+}
+
+fn write_loaded<A: Allocator + Copy, W: io::Write>(
+    alloc: A,
+    reached: &Reached,
+    bytes: &[u8],
+    out: &mut W,
+) -> Result<(), SessionFault> {
+    if let Reached::NoMemory = reached {
+        return Err(SessionFault::Memory(AllocError));
+    }
+    match hex::encode(alloc, bytes) {
+        Ok(digits) => write_range(reached, digits.as_str(), out).map_err(SessionFault::Output),
+        Err(cause) => Err(SessionFault::Memory(cause)),
+    }
+}
+
+fn write_range<W: io::Write>(reached: &Reached, digits: &str, out: &mut W) -> io::Result<()> {
+    match reached {
+        Reached::Refused { count, reply } => write!(out, "{reply} after {count}")?,
+        _ => out.write_all(b"loaded")?,
+    }
+    if !digits.is_empty() {
+        out.write_all(b" ")?;
+        out.write_all(digits.as_bytes())?;
+    }
+    out.write_all(b"\n")
+}
+
+fn write_stored<W: io::Write>(reached: &Reached, count: usize, out: &mut W) -> io::Result<()> {
+    match reached {
+        Reached::Refused { count, reply } => writeln!(out, "{reply} after {count}"),
+        _ => writeln!(out, "stored {count}"),
+    }
+}
+
+fn write_committed<W: io::Write>(committed: &Result<u32, Reply>, out: &mut W) -> io::Result<()> {
+    match committed {
+        Ok(mark) => writeln!(out, "committed {mark}"),
+        Err(reply) => writeln!(out, "{reply}"),
+    }
+}

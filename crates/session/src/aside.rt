@@ -1,0 +1,193 @@
+// Steps that a session makes beside those that it was asked for: faults are served, and frames are made free.
+ghost use Rattle.session.specs.Steps.{GoesAside, IsTold};
+
+use crate::session::Session;
+use device::Device;
+use machine::{Act, ProcState, Reply, Step};
+use page_entry::{FilePage, ProcessorNumber, Refusal};
+use std::alloc::Allocator;
+
+/// The most processors that a machine has.
+const PROCESSORS: u8 = 16;
+
+impl<D: Device, A: Allocator + Copy> Session<D, A> {
+    /// Serves a fault of a processor, and makes a frame free for it where none is. Answers `Fixed`, or why it isn't
+    /// served.
+    pub(crate) fn fix(&mut self, p: ProcessorNumber, va: u64, write: bool) -> Reply
+        ensures { IsTold D.Device self.old.machine self.old.notes result self.new.machine self.new.notes }
+    {
+        let fix = Step {
+            p,
+            act: Act::Fix { va, write },
+        };
+        let reply = self.make(&fix);
+        if !is_no_frame(&reply) {
+            return reply;
+        }
+        if !self.make_room(p) {
+            return reply;
+        }
+        self.make(&fix)
+    }
+
+    // Makes a frame free, if that can be done.
+    fn make_room(&mut self, p: ProcessorNumber) -> bool
+        ensures { GoesAside D.Device self.old.machine self.old.notes self.new.machine self.new.notes }
+    {
+        if self.take_next_out(p) {
+            return true;
+        }
+        self.make_room_later(p)
+    }
+
+    // Makes a frame free, once the write-outs are done: a page that belongs to one stays in memory until then.
+    fn make_room_later(&mut self, p: ProcessorNumber) -> bool
+        ensures { GoesAside D.Device self.old.machine self.old.notes self.new.machine self.new.notes }
+    {
+        if !self.write_home(p) {
+            return false;
+        }
+        self.take_next_out(p)
+    }
+
+    // Takes the next page that is clean out of memory. Answers whether there was one.
+    fn take_next_out(&mut self, p: ProcessorNumber) -> bool
+        ensures { GoesAside D.Device self.old.machine self.old.notes self.new.machine self.new.notes }
+    {
+        for _ in 0..self.files.pages() {
+            let page = self.files.turn();
+            if self.take_out(p, page) {
+                return true;
+            }
+        }
+        false
+    }
+
+    // Makes all steps of the write-outs that are left. Answers whether there was one.
+    fn write_home(&mut self, p: ProcessorNumber) -> bool
+        ensures { GoesAside D.Device self.old.machine self.old.notes self.new.machine self.new.notes }
+    {
+        let mut has_made = false;
+        for _ in 0..u64::MAX {
+            let flushed = self.flush(p);
+            if !is_flushed(&flushed) {
+                return has_made;
+            }
+            has_made = true;
+        }
+        has_made
+    }
+
+    /// Makes a step of the write-outs.
+    pub(crate) fn flush(&mut self, p: ProcessorNumber) -> Reply
+        ensures { IsTold D.Device self.old.machine self.old.notes result self.new.machine self.new.notes }
+    {
+        let flush = Step { p, act: Act::Flush };
+        self.make(&flush)
+    }
+
+    // Takes a page out of memory, if it is there and clean.
+    fn take_out(&mut self, p: ProcessorNumber, page: FilePage) -> bool
+        ensures { GoesAside D.Device self.old.machine self.old.notes self.new.machine self.new.notes }
+    {
+        let reclaim = Step {
+            p,
+            act: Act::Reclaim {
+                file: page.file,
+                page: page.page,
+            },
+        };
+        let begun = self.make(&reclaim);
+        if !is_begun(&begun) {
+            return false;
+        }
+        let changed = self.change(p);
+        is_reclaimed(&changed)
+    }
+
+    /// Makes the change that a processor began. Those that it interrupted stall before, and go on after it.
+    pub(crate) fn change(&mut self, p: ProcessorNumber) -> Reply
+        ensures { IsTold D.Device self.old.machine self.old.notes result self.new.machine self.new.notes }
+    {
+        let stalled = self.stall();
+        let change = Step {
+            p,
+            act: Act::Change,
+        };
+        let reply = self.make(&change);
+        self.resume(&stalled);
+        reply
+    }
+
+    // Makes each processor stall that is interrupted, and answers which.
+    fn stall(&mut self) -> [bool; 16]
+        ensures { GoesAside D.Device self.old.machine self.old.notes self.new.machine self.new.notes }
+    {
+        let mut stalled = [false; 16];
+        for p in 0..PROCESSORS {
+            stalled[usize::from(p)] = self.stall_one(p);
+        }
+        stalled
+    }
+
+    // Makes a processor stall, if it is interrupted. Answers whether it is.
+    fn stall_one(&mut self, p: ProcessorNumber) -> bool
+        ensures { GoesAside D.Device self.old.machine self.old.notes self.new.machine self.new.notes }
+    {
+        if !self.is_interrupted(p) {
+            return false;
+        }
+        let ack = Step { p, act: Act::Ack };
+        self.make(&ack);
+        true
+    }
+
+    fn is_interrupted(&self, p: ProcessorNumber) -> bool {
+        matches!(self.machine.state(p), Ok(ProcState::Interrupted))
+    }
+
+    // Lets these processors go on.
+    fn resume(&mut self, stalled: &[bool; 16])
+        ensures { GoesAside D.Device self.old.machine self.old.notes self.new.machine self.new.notes }
+    {
+        for p in 0..PROCESSORS {
+            self.resume_one(p, stalled);
+        }
+    }
+
+    // Lets a processor go on, if it is one of these.
+    fn resume_one(&mut self, p: ProcessorNumber, stalled: &[bool; 16])
+        ensures { GoesAside D.Device self.old.machine self.old.notes self.new.machine self.new.notes }
+    {
+        if !is_one_of(p, stalled) {
+            return;
+        }
+        let resume = Step {
+            p,
+            act: Act::Resume,
+        };
+        self.make(&resume);
+    }
+}
+
+fn is_one_of(p: ProcessorNumber, stalled: &[bool; 16]) -> bool {
+    stalled.get(usize::from(p)) == Some(&true)
+}
+
+/// Whether a change was begun.
+pub(crate) fn is_begun(reply: &Reply) -> bool {
+    matches!(reply, Reply::Begun)
+}
+
+fn is_reclaimed(reply: &Reply) -> bool {
+    matches!(reply, Reply::Reclaimed)
+}
+
+fn is_no_frame(reply: &Reply) -> bool {
+    matches!(reply, Reply::Refused(Refusal::NoFrame))
+}
+
+/// Whether a step of a write-out was made.
+pub(crate) fn is_flushed(reply: &Reply) -> bool {
+    matches!(reply, Reply::Going | Reply::Committed(_) | Reply::Done(_))
+}

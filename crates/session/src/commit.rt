@@ -1,0 +1,111 @@
+// A commit: from the beginning of its mark to the acknowledgement.
+ghost use Rattle.std.specs.Prelude.{◌≡◌, IfOk, IfErr, IfSome, IsTrue};
+ghost use Rattle.machine.specs.declared.act.Reply.TheVariants as told;
+ghost use Rattle.session.specs.Steps.{Acknowledges, Says};
+
+use crate::aside::{is_begun, is_flushed};
+use crate::session::Session;
+use device::Device;
+use machine::{Act, Reply, Step};
+use page_entry::{ProcessorNumber, Refusal};
+use std::alloc::Allocator;
+
+impl<D: Device, A: Allocator + Copy> Session<D, A> {
+    /// Commits all stores. Answers the number of the mark, which is acknowledged, or what a step was answered instead.
+    pub(crate) fn commit(&mut self, p: ProcessorNumber) -> Result<u32, Reply>
+        ensures ok { IfOk result (λ mark. Acknowledges D.Device self.old.machine self.old.notes mark
+            self.new.machine self.new.notes) }
+        ensures err { IfErr result (λ reply. Says D.Device self.old.machine self.old.notes reply
+            self.new.machine self.new.notes) }
+    {
+        let begun = self.begin_mark(p);
+        if !is_begun(&begun) {
+            return Err(begun);
+        }
+        let before = self.notes;
+        let changed = self.change(p);
+        let Some(mark) = mark_of(&changed) else {
+            return Err(changed);
+        };
+        if !before.has_unmarked {
+            return Ok(mark);
+        }
+        let written = self.write_out(p, mark);
+        if !is_committed(&written, mark) {
+            return Err(written);
+        }
+        Ok(mark)
+    }
+
+    // Begins a mark. Where write-outs have to be done first, it makes steps of them.
+    fn begin_mark(&mut self, p: ProcessorNumber) -> Reply
+        ensures { Says D.Device self.old.machine self.old.notes result self.new.machine self.new.notes }
+    {
+        let msync = Step {
+            p,
+            act: Act::Msync {
+                va: 0,
+                len: 0,
+                flags: 4,
+            },
+        };
+        for _ in 0..u64::MAX {
+            let begun = self.make(&msync);
+            if !is_busy(&begun) {
+                return begun;
+            }
+            let flushed = self.flush(p);
+            if is_nothing(&flushed) {
+                return begun;
+            }
+            if !is_flushed(&flushed) {
+                return flushed;
+            }
+        }
+        self.make(&msync)
+    }
+
+    // Makes steps of the write-outs until a mark is acknowledged, or one isn't made.
+    fn write_out(&mut self, p: ProcessorNumber, mark: u32) -> Reply
+        ensures { Says D.Device self.old.machine self.old.notes result self.new.machine self.new.notes }
+    {
+        for _ in 0..u64::MAX {
+            let flushed = self.flush(p);
+            if is_committed(&flushed, mark) {
+                return flushed;
+            }
+            if !is_flushed(&flushed) {
+                return flushed;
+            }
+        }
+        self.flush(p)
+    }
+}
+
+// The mark that was made, where a reply tells it.
+fn mark_of(reply: &Reply) -> Option<u32>
+    ensures { IfSome result (λ mark. reply.now ≡ told.Marked mark) }
+{
+    match reply {
+        Reply::Marked(mark) => Some(*mark),
+        _ => None,
+    }
+}
+
+// Whether a mark was committed.
+fn is_committed(reply: &Reply, mark: u32) -> bool
+    ensures { IsTrue result → reply.now ≡ told.Committed mark }
+{
+    match reply {
+        Reply::Committed(committed) => *committed == mark,
+        _ => false,
+    }
+}
+
+fn is_busy(reply: &Reply) -> bool {
+    matches!(reply, Reply::Refused(Refusal::Busy))
+}
+
+fn is_nothing(reply: &Reply) -> bool {
+    matches!(reply, Reply::Nothing)
+}

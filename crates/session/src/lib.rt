@@ -1,0 +1,24 @@
+//! A session over any disk: requests are read from a line each, carried out on a machine, and answered by a line.
+#![tactic(auto)]
+
+mod answer;
+mod aside;
+mod commit;
+mod files;
+mod line;
+mod notes;
+mod ranges;
+mod request;
+mod request_fault;
+mod serving;
+mod session;
+mod session_fault;
+
+pub use files::{FileLine, Files};
+pub use line::{Line, read_line};
+pub use notes::Notes;
+pub use request::{Request, read_request, read_shape};
+pub use request_fault::RequestFault;
+pub use serving::serve_on;
+pub use session::{Session, start};
+pub use session_fault::SessionFault;

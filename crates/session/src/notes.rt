@@ -1,0 +1,58 @@
+// What a session notes of the steps that were made.
+ghost use Rattle.std.specs.Prelude.{◌≡◌, false};
+ghost use Rattle.session.specs.Notes.{noted, unmarked_by, failed_by};
+
+use machine::Reply;
+use page_entry::Refusal;
+
+/// What a session has to know of the steps that were made before.
+#[derive(Clone, Copy, Debug, PartialEq, Eq)]
+pub struct Notes {
+    /// Whether a store was made that no mark has yet.
+    pub has_unmarked: bool,
+    /// Whether a step was answered that the device failed.
+    pub has_failed: bool,
+}
+
+impl Notes {
+    /// No step was made.
+    pub(crate) fn new() -> Self
+        ensures { result ≡ record { has_unmarked = false; has_failed = false } }
+    {
+        Notes {
+            has_unmarked: false,
+            has_failed: false,
+        }
+    }
+
+    /// These, and what one reply more says.
+    pub(crate) fn after(self, reply: &Reply) -> Self
+        ensures { result ≡ noted self reply.now }
+    {
+        Notes {
+            has_unmarked: unmarked_by(self.has_unmarked, reply),
+            has_failed: failed_by(self.has_failed, reply),
+        }
+    }
+}
+
+// Whether a store was made that no mark has yet, after one reply more.
+fn unmarked_by(before: bool, reply: &Reply) -> bool
+    ensures { result ≡ unmarked_by before reply.now }
+{
+    match reply {
+        Reply::Stored => true,
+        Reply::Marked(_) => false,
+        _ => before,
+    }
+}
+
+// Whether a step was answered that the device failed, after one reply more.
+fn failed_by(before: bool, reply: &Reply) -> bool
+    ensures { result ≡ failed_by before reply.now }
+{
+    match reply {
+        Reply::Refused(Refusal::Device) => true,
+        _ => before,
+    }
+}

@@ -1,0 +1,166 @@
+// Ranges of addresses, loaded and stored in steps of up to eight bytes.
+ghost use Rattle.std.specs.Prelude.{◌≡◌, ◌<◌, ◌≤◌, length, [], true, false, IfOk, IfErr, IfSome, IfNone, IsTrue};
+ghost use Rattle.machine.specs.declared.act.Reply.TheVariants as told;
+ghost use Rattle.session.specs.Steps.{IsTold, Answers, IsAccess, tells_bytes, tells_stored};
+ghost use Rattle.session.specs.Ranges.{Does, LoadsReached, StoresReached};
+
+use crate::session::Session;
+use device::Device;
+use machine::{Act, FewBytes, Reply, Step};
+use page_entry::{PAGE, ProcessorNumber, Refusal};
+use std::alloc::Allocator;
+
+/// How far a range was loaded or stored.
+#[derive(Clone, Copy)]
+pub enum Reached {
+    /// All of it.
+    All,
+    /// So many bytes of it, and then a step was answered so.
+    Refused { count: usize, reply: Reply },
+    /// To where memory was refused.
+    NoMemory,
+}
+
+impl<D: Device, A: Allocator + Copy> Session<D, A> {
+    /// Loads so many bytes from an address on.
+    pub(crate) fn load(
+        &mut self,
+        p: ProcessorNumber,
+        va: u64,
+        count: usize,
+        bytes: &mut Vec<u8, A>,
+    ) -> Reached
+        requires { bytes.old.items ≡ [] }
+        ensures { Does D.Device self.old.machine self.old.notes (LoadsReached p va count bytes.new.items result)
+            self.new.machine self.new.notes }
+    {
+        let mut done = 0;
+        while done < count {
+            let from = va.saturating_add(done as u64);
+            let few = piece(from, count - done);
+            let step = Step {
+                p,
+                act: Act::Load {
+                    va: from,
+                    count: few as u8,
+                },
+            };
+            let answer = match self.access(&step, from, false) {
+                Ok(answer) => answer,
+                Err(reply) => return Reached::Refused { count: done, reply },
+            };
+            let Some(read) = bytes_of(&answer) else {
+                return Reached::Refused {
+                    count: done,
+                    reply: answer,
+                };
+            };
+            if bytes.extend_from_slice(read.as_slice()).is_err() {
+                return Reached::NoMemory;
+            }
+            done += few;
+        }
+        Reached::All
+    }
+
+    /// Stores bytes from an address on.
+    pub(crate) fn store(&mut self, p: ProcessorNumber, va: u64, bytes: &[u8]) -> Reached
+        ensures { Does D.Device self.old.machine self.old.notes (StoresReached p va bytes.now result)
+            self.new.machine self.new.notes }
+    {
+        let mut done = 0;
+        while done < bytes.len() {
+            let from = va.saturating_add(done as u64);
+            let few = piece(from, bytes.len() - done);
+            let step = Step {
+                p,
+                act: Act::Store {
+                    va: from,
+                    bytes: part(&bytes[done..done + few]),
+                },
+            };
+            let answer = match self.access(&step, from, true) {
+                Ok(answer) => answer,
+                Err(reply) => return Reached::Refused { count: done, reply },
+            };
+            if !is_stored(&answer) {
+                return Reached::Refused {
+                    count: done,
+                    reply: answer,
+                };
+            }
+            done += few;
+        }
+        Reached::All
+    }
+
+    // Makes a load or a store at an address, and serves its faults. Answers what it is answered in the end; or else why
+    // a fault isn't served.
+    fn access(&mut self, step: &Step, va: u64, write: bool) -> Result<Reply, Reply>
+        requires { IsAccess step.now.act }
+        ensures ok { IfOk result (λ reply. Answers D.Device self.old.machine self.old.notes step.now reply
+            self.new.machine self.new.notes) }
+        ensures err { IfErr result (λ reply. IsTold D.Device self.old.machine self.old.notes reply
+            self.new.machine self.new.notes) }
+    {
+        for _ in 0..u64::MAX {
+            let reply = self.make(step);
+            if !is_fault(&reply) {
+                return Ok(reply);
+            }
+            let fixed = self.fix(step.p, va, write);
+            if !is_fixed(&fixed) {
+                return Err(fixed);
+            }
+        }
+        let last = self.make(step);
+        Ok(last)
+    }
+}
+
+// How many bytes the next step of a range has, of those that are left: up to eight, inside the page of the address.
+fn piece(va: u64, left: usize) -> usize
+    requires { 0 < left }
+    ensures some { 0 < result }
+    ensures left { result ≤ left }
+    ensures few { result ≤ 8 }
+{
+    let to_border = (PAGE - va % PAGE) as usize;
+    left.min(8).min(to_border)
+}
+
+// These bytes, which are at most eight.
+fn part(bytes: &[u8]) -> FewBytes
+    requires { length bytes.now ≤ 8 }
+    ensures { result ≡ bytes.now }
+{
+    FewBytes::new(bytes).unwrap()
+}
+
+// The bytes that were loaded, where a reply tells them.
+fn bytes_of(reply: &Reply) -> Option<&FewBytes>
+    ensures some { IfSome result (λ bytes. reply.now ≡ told.Bytes bytes.now) }
+    ensures none { IfNone result (tells_bytes reply.now ≡ false) }
+{
+    match reply {
+        Reply::Bytes(bytes) => Some(bytes),
+        _ => None,
+    }
+}
+
+fn is_fault(reply: &Reply) -> bool
+    ensures { IsTrue result → (tells_bytes reply.now ≡ false) × (tells_stored reply.now ≡ false) }
+{
+    matches!(reply, Reply::Refused(Refusal::Fault(_)))
+}
+
+fn is_fixed(reply: &Reply) -> bool {
+    matches!(reply, Reply::Fixed)
+}
+
+fn is_stored(reply: &Reply) -> bool
+    ensures value { result ≡ tells_stored reply.now }
+    ensures is { IsTrue result → reply.now ≡ told.Stored }
+{
+    matches!(reply, Reply::Stored)
+}
