@@ -566,6 +566,9 @@ int famsync_open(const char *volume, const struct famsync_options *options, fams
             code = complaint_of(handle, options->message, options->message_size);
         if (code != FAMSYNC_OK)
             end(handle, code);
+        /* where posix_spawn can't tell that no program was started, this status does */
+        if (code == FAMSYNC_GONE && WIFEXITED(handle->status) && WEXITSTATUS(handle->status) == 127)
+            code = FAMSYNC_NOPROGRAM;
     }
     if (code == FAMSYNC_OK) {
         length = line_of(handle, "[[0,\"create\"],[0,\"switch\",1,\"drop\"]]\n");

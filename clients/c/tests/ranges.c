@@ -9,8 +9,11 @@ static unsigned char pattern(size_t at, unsigned round)
 static void any_address_any_count(void)
 {
     static unsigned char bytes[300000], found[300000];
-    static const size_t places[] = {0, 1, 4093, 4096, 65535, 65536, 65537, 131071};
-    static const size_t counts[] = {0, 1, 7, 8, 9, 4095, 4097, 65535, 65536, 65537, 131072, 140000};
+    static const size_t cases[][2] = {
+        {0, 0},     {0, 1},        {1, 7},         {4093, 8},     {4093, 9},         {65535, 1},      {65535, 2},
+        {65536, 0}, {4096, 4095},  {4095, 4097},   {65537, 9},    {0, 65535},        {1, 65536},      {65536, 65537},
+        {8, 131072}, {4093, 70000}, {299999, 1},    {230000, 70000},
+    };
     uint64_t address, mark;
     unsigned round = 0;
     size_t done;
@@ -20,16 +23,16 @@ static void any_address_any_count(void)
     WANT(strcmp(famsync_file_name(handle, 1), "b") == 0 && famsync_file_length(handle, 1) == 5000);
     WANT(famsync_file_name(handle, 2) == NULL && famsync_service(handle) > 0);
     WANT_CODE(famsync_map(handle, "a", 0, 0, FAMSYNC_READ | FAMSYNC_WRITE, &address), FAMSYNC_OK);
-    for (size_t place = 0; place < sizeof places / sizeof *places; place++)
-        for (size_t count = 0; count < sizeof counts / sizeof *counts; count++, round++) {
-            for (size_t i = 0; i < counts[count]; i++)
-                bytes[places[place] + i] = pattern(i, round);
-            WANT_CODE(famsync_store(handle, address + places[place], bytes + places[place], counts[count], &done), FAMSYNC_OK);
-            WANT(done == counts[count]);
-            memset(found, 0, sizeof found);
-            WANT_CODE(famsync_load(handle, address + places[place], found, counts[count], &done), FAMSYNC_OK);
-            WANT(done == counts[count] && memcmp(found, bytes + places[place], counts[count]) == 0);
-        }
+    for (; round < sizeof cases / sizeof *cases; round++) {
+        size_t place = cases[round][0], count = cases[round][1];
+        for (size_t i = 0; i < count; i++)
+            bytes[place + i] = pattern(i, round);
+        WANT_CODE(famsync_store(handle, address + place, bytes + place, count, &done), FAMSYNC_OK);
+        WANT(done == count);
+        memset(found, 0, sizeof found);
+        WANT_CODE(famsync_load(handle, address + place, found, count, &done), FAMSYNC_OK);
+        WANT(done == count && memcmp(found, bytes + place, count) == 0);
+    }
     WANT(famsync_acknowledged(handle) == 0);
     WANT_CODE(famsync_msync(handle, &mark), FAMSYNC_OK);
     WANT(mark == 1 && famsync_acknowledged(handle) == 1);
@@ -69,7 +72,7 @@ static void refusals(void)
     WANT_CODE(famsync_load(handle, part + 4000, bytes, 1000, &done), FAMSYNC_SEGVMAPERR);
     WANT(done == 96);
     WANT_CODE(famsync_load(handle, 0, bytes, 1, &done), FAMSYNC_SEGVMAPERR);
-    WANT_CODE(famsync_load(handle, UINT64_MAX - 5, bytes, 3, &done), FAMSYNC_SEGVMAPERR);
+    WANT_CODE(famsync_load(handle, UINT64_MAX - 5, bytes, 3, &done), FAMSYNC_EINVAL);
     WANT_CODE(famsync_load(handle, UINT64_MAX - 5, bytes, 30, &done), FAMSYNC_ARGUMENT);
     WANT_CODE(famsync_load(handle, whole, NULL, 30, &done), FAMSYNC_ARGUMENT);
     /* and the session goes on */

@@ -3,8 +3,8 @@
 
 #include <stdatomic.h>
 
-#define WORKERS 4
-#define STEPS 20
+#define WORKERS 3
+#define STEPS 6
 
 static famsync *handle;
 static unsigned char *at;
@@ -15,7 +15,7 @@ static uint64_t address;
    from a page that is counted earlier to one that is counted later. */
 static volatile uint64_t *count_of(unsigned worker, unsigned step)
 {
-    return (volatile uint64_t *)(at + ((size_t)(step * 7 % STEPS) * WORKERS + worker) * 4096 + 8 * worker);
+    return (volatile uint64_t *)(at + ((size_t)(step * 5 % STEPS) * WORKERS + worker) * 4096 + 8 * worker);
 }
 
 static void *work(void *argument)
@@ -33,7 +33,7 @@ static void *others_load(void *argument)
     (void)argument;
     while (!atomic_load(&stopped)) {
         WANT_CODE(famsync_load(handle, address + 4000, bytes, sizeof bytes, NULL), FAMSYNC_OK);
-        usleep(1000);
+        usleep(5000);
     }
     return NULL;
 }
@@ -51,7 +51,7 @@ int main(void)
     static unsigned char committed[WORKERS * STEPS * 4096];
     famsync_memory *memory;
     unsigned commits = 0, between = 0;
-    make_volume(100, "a=331776");
+    make_volume(24, "a=77824");
     handle = opened();
     WANT_CODE(famsync_memory_open(handle, "a", &memory), FAMSYNC_OK);
     at = famsync_memory_at(memory);
@@ -62,7 +62,7 @@ int main(void)
     struct sigaction action = {.sa_handler = on_alarm, .sa_flags = SA_RESTART};
     WANT(sigaction(SIGALRM, &action, NULL) == 0);
     ualarm(2000, 2000);
-    for (; commits < 40; commits++) {
+    for (; commits < 25; commits++) {
         WANT_CODE(famsync_msync(handle, NULL), FAMSYNC_OK);
         /* what the service has is what was committed */
         WANT_CODE(famsync_load(handle, address, committed, sizeof committed, NULL), FAMSYNC_OK);
