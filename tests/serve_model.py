@@ -163,7 +163,7 @@ class Model:
             # A step of a range lies in one page.
             some = min(count, PAGE - at % PAGE)
             if at >= LAST:
-                return places, "segvmaperr"
+                return places, "einval"
             found = self.mapping(self.current[processor], at // PAGE)
             if found is None:
                 return places, "segvmaperr"
@@ -179,8 +179,11 @@ class Model:
     def range(self, request):
         act, processor, at, what = request
         write = act == "stores"
-        if processor >= len(self.current):
+        # a range without bytes makes no step, and so isn't refused
+        if processor >= len(self.current) and (len(what) if write else what) > 0:
             return "einval after 0"
+        if processor >= len(self.current):
+            return "stored 0" if write else "loaded "
         places, cause = self.access(processor, at, len(what) if write else what, write)
         done, loaded = 0, b""
         for file, begin, some in places:
