@@ -35,13 +35,12 @@ ACTS = {
     "resume": [],
     "flush": [],
 }
-REFUSALS = (
-    "stalled locked segvmaperr segvaccerr busadrerr held noframe device broken einval enomem eacces overlap nofile busy "
-    "outofmemory"
-).split()
+REFUSALS = "stalled locked segvmaperr segvaccerr busadrerr held noframe device broken einval enomem eacces".split()
+REFUSALS += "overlap nofile busy outofmemory".split()
 STEP = re.compile(
-    r"(?:notyet \d+|fault [467]|space \d+|bytes(?: \d+)*|marked \d+|committed \d+|done \d+|destroyed|switched|mapped|begun|fine"
-    r"|nothing|stored|fixed|filled|evicted|idled|woken|acked|unmapped|protected|reclaimed|kept|resumed|going|"
+    r"(?:notyet \d+|fault [467]|space \d+|bytes(?: \d+)*|marked \d+|committed \d+|done \d+"
+    r"|destroyed|switched|mapped|begun|fine|nothing|stored|fixed|filled|evicted|idled|woken|acked|unmapped|protected"
+    r"|reclaimed|kept|resumed|going|"
     + "|".join(REFUSALS)
     + r")\Z"
 )
@@ -139,6 +138,8 @@ class Model:
         self.memory = [bytearray((length + PAGE - 1) // PAGE * PAGE) for _, length in files]
         self.kept = [bytes(memory) for memory in self.memory]
         self.stored = set()
+        # pages of the last commit, whose write-out may still be under way
+        self.last = set()
         self.marks = 0
         self.spaces = {}
         self.current = [0] * cpus
@@ -197,8 +198,30 @@ class Model:
             return f"stored {done}" if write else f"loaded {loaded.hex()}"
         return f"{cause} after {done}" + (f" {loaded.hex()}" if loaded else "")
 
+    def saved(self):
+        return [bytes(memory) for memory in self.memory], set(self.stored)
+
+    def restore(self, saved):
+        self.memory, self.stored = [bytearray(memory) for memory in saved[0]], saved[1]
+
+    def stopped(self, request, reply, frames):
+        """The reply to a range that stops for want of a frame where `reply` says, or that it can't stop there."""
+        processor, act, at, what = request
+        found = re.fullmatch(r"noframe after (\d+)(?: [0-9a-f]+)?", reply)
+        done = int(found[1]) if found else -1
+        count = what if act == "loads" else len(what) // 2
+        if not 0 <= done < count or (done > 0 and (at + done) % PAGE != 0):
+            return "noframe after a whole page, or after 0"
+        cut = (act, processor, at, done if act == "loads" else bytes.fromhex(what[: 2 * done]))
+        whole = self.range(cut)
+        if len(self.stored | self.last) < frames:
+            return f"a page more, as {len(self.stored | self.last)} were stored to and there are {frames} frames"
+        return f"noframe after {done}" + (" " + whole[7:] if act == "loads" and done > 0 else "")
+
     def commit(self):
         self.marks += 1
+        if self.stored:
+            self.last = set(self.stored)
         for file, page in self.stored:
             kept = bytearray(self.kept[file])
             kept[page * PAGE : (page + 1) * PAGE] = self.memory[file][page * PAGE : (page + 1) * PAGE]
@@ -253,7 +276,7 @@ class Model:
         return "mapped"
 
     def answer(self, line):
-        """The reply to a line. `badline` stands for one that says why; None for an answer that this model can't tell."""
+        """The reply to a line: `badline` for one that says why; None for an answer that this model can't tell."""
         try:
             request = request_of(line)
         except Bad:
