@@ -1,0 +1,287 @@
+"""An independent reading of the protocol of `famsync serve`: what a session answers, as far as lines alone decide it.
+
+It has the files' bytes, the mappings, the pages that were stored to and the marks, and nothing of how a commit is made:
+no TLB, no frames, no journal. Where an answer hangs on those, it says so.
+"""
+
+import json
+import re
+
+PAGE = 4096
+RANGE = 65536
+LONGEST = 262144
+LAST = 1 << 47
+
+# Each act with the kinds of its arguments: the greatest number, a list of words, or bytes.
+BYTE, SPACE, LONG, WIDE = 255, 65535, 4294967295, (1 << 64) - 1
+ACTS = {
+    "create": [],
+    "destroy": [SPACE],
+    "switch": [SPACE, ("keep", "drop")],
+    "map": [SPACE, WIDE, WIDE, SPACE, WIDE, ("r", "w", "rw"), ("r", "rw")],
+    "unmap": [SPACE, WIDE, WIDE],
+    "protect": [SPACE, WIDE, WIDE, ("r", "w", "rw")],
+    "reclaim": [SPACE, LONG],
+    "msync": [WIDE, WIDE, BYTE],
+    "load": [WIDE, BYTE],
+    "store": [WIDE, bytes],
+    "fix": [WIDE, ("read", "write")],
+    "fill": [WIDE],
+    "evict": [BYTE],
+    "idle": [],
+    "wake": [],
+    "ack": [],
+    "change": [],
+    "resume": [],
+    "flush": [],
+}
+REFUSALS = "stalled locked segvmaperr segvaccerr busadrerr held noframe device broken einval enomem eacces".split()
+REFUSALS += "overlap nofile busy outofmemory".split()
+STEP = re.compile(
+    r"(?:notyet \d+|fault [467]|space \d+|bytes(?: \d+)*|marked \d+|committed \d+|done \d+"
+    r"|destroyed|switched|mapped|begun|fine|nothing|stored|fixed|filled|evicted|idled|woken|acked|unmapped|protected"
+    r"|reclaimed|kept|resumed|going|"
+    + "|".join(REFUSALS)
+    + r")\Z"
+)
+
+
+class Bad(Exception):
+    """The line is a bad one."""
+
+
+def whole(value, greatest):
+    if type(value) is not int or not 0 <= value <= greatest:
+        raise Bad(f"{value!r} isn't a whole number up to {greatest}")
+    return value
+
+
+def argument(value, kind):
+    if kind is bytes:
+        if type(value) is not list or len(value) > 8:
+            raise Bad("not a list of up to 8 bytes")
+        return bytes(whole(byte, 255) for byte in value)
+    if type(kind) is tuple:
+        if type(value) is not str or value not in kind:
+            raise Bad("not one of the words")
+        return value
+    return whole(value, kind)
+
+
+def no_member_twice(pairs):
+    return dict(pairs)
+
+
+def json_of(line):
+    if len(line) > LONGEST:
+        raise Bad("the line is too long")
+    try:
+        text = line.decode("utf-8")
+    except UnicodeDecodeError:
+        raise Bad("it isn't UTF-8") from None
+
+    def refuse(what):
+        raise Bad(f"{what} isn't JSON")
+
+    def number(digits):
+        if not re.fullmatch(r"0|[1-9][0-9]*", digits):
+            raise Bad("a number has a sign")
+        return int(digits[:30])
+
+    try:
+        # a line has no line feed, and the other white space of JSON is allowed
+        return json.loads(text, parse_constant=refuse, parse_int=number, parse_float=lambda _: refuse("a fraction"))
+    except (ValueError, RecursionError):
+        raise Bad("it isn't JSON") from None
+
+
+def step_of(value):
+    """A step, or Bad."""
+    if type(value) is not list or len(value) < 2:
+        raise Bad("not a step")
+    processor, act, *rest = value
+    whole(processor, 255)
+    if type(act) is not str or act not in ACTS:
+        raise Bad("no such act")
+    if len(rest) != len(ACTS[act]):
+        raise Bad("another number of arguments")
+    return (processor, act, *(argument(one, kind) for one, kind in zip(rest, ACTS[act])))
+
+
+def request_of(line):
+    """What a line asks for: a list of steps, or a tuple that begins with loads, stores or commit; or Bad."""
+    value = json_of(line)
+    if type(value) is not list or not value:
+        raise Bad("not a request")
+    if type(value[0]) is list:
+        return [step_of(one) for one in value]
+    if len(value) >= 2 and type(value[1]) is str and value[1] in ("loads", "stores", "commit"):
+        processor, act, *rest = value
+        whole(processor, 255)
+        if act == "commit" and not rest:
+            return ("commit", processor)
+        if act != "commit" and len(rest) == 2:
+            at = whole(rest[0], WIDE)
+            if act == "loads":
+                return ("loads", processor, at, whole(rest[1], RANGE))
+            if type(rest[1]) is str and re.fullmatch(r"(?:[0-9a-fA-F]{2})*", rest[1]) and len(rest[1]) <= 2 * RANGE:
+                return ("stores", processor, at, bytes.fromhex(rest[1]))
+        raise Bad("other arguments")
+    return [step_of(value)]
+
+
+class Model:
+    """One processor, or several that are all active and in whatever space they were switched to."""
+
+    def __init__(self, files, cpus=1):
+        self.files = files
+        self.memory = [bytearray((length + PAGE - 1) // PAGE * PAGE) for _, length in files]
+        self.kept = [bytes(memory) for memory in self.memory]
+        self.stored = set()
+        # pages of the last commit, whose write-out may still be under way
+        self.last = set()
+        self.marks = 0
+        self.spaces = {}
+        self.current = [0] * cpus
+
+    def fill(self, contents):
+        for file, content in enumerate(contents):
+            self.memory[file][: len(content)] = content
+        self.kept = [bytes(memory) for memory in self.memory]
+
+    def committed(self):
+        """The files' bytes as the last commit left them."""
+        return [kept[:length] for kept, (_, length) in zip(self.kept, self.files)]
+
+    def mapping(self, space, page):
+        """Of a page of a space: file, page of the file and rights, or None."""
+        return self.spaces.get(space, {}).get(page)
+
+    def access(self, processor, at, count, write):
+        """How many bytes can be accessed, and the cause where not all can; and the places of those that can."""
+        places = []
+        while count > 0:
+            # A step of a range lies in one page.
+            some = min(count, PAGE - at % PAGE)
+            if at >= LAST:
+                return places, "einval"
+            found = self.mapping(self.current[processor], at // PAGE)
+            if found is None:
+                return places, "segvmaperr"
+            file, page, rights = found
+            if ("w" if write else "r") not in rights:
+                return places, "segvaccerr"
+            if page * PAGE >= len(self.memory[file]):
+                return places, "busadrerr"
+            places.append((file, page * PAGE + at % PAGE, some))
+            at, count = at + some, count - some
+        return places, None
+
+    def range(self, request):
+        act, processor, at, what = request
+        write = act == "stores"
+        # a range without bytes makes no step, and so isn't refused
+        if processor >= len(self.current) and (len(what) if write else what) > 0:
+            return "einval after 0"
+        if processor >= len(self.current):
+            return "stored 0" if write else "loaded "
+        places, cause = self.access(processor, at, len(what) if write else what, write)
+        done, loaded = 0, b""
+        for file, begin, some in places:
+            if write:
+                self.memory[file][begin : begin + some] = what[done : done + some]
+                self.stored.add((file, begin // PAGE))
+            else:
+                loaded += self.memory[file][begin : begin + some]
+            done += some
+        if cause is None:
+            return f"stored {done}" if write else f"loaded {loaded.hex()}"
+        return f"{cause} after {done}" + (f" {loaded.hex()}" if loaded else "")
+
+    def saved(self):
+        return [bytes(memory) for memory in self.memory], set(self.stored)
+
+    def restore(self, saved):
+        self.memory, self.stored = [bytearray(memory) for memory in saved[0]], saved[1]
+
+    def stopped(self, request, reply, frames):
+        """The reply to a range that stops for want of a frame where `reply` says, or that it can't stop there."""
+        processor, act, at, what = request
+        found = re.fullmatch(r"noframe after (\d+)(?: [0-9a-f]+)?", reply)
+        done = int(found[1]) if found else -1
+        count = what if act == "loads" else len(what) // 2
+        if not 0 <= done < count or (done > 0 and (at + done) % PAGE != 0):
+            return "noframe after a whole page, or after 0"
+        cut = (act, processor, at, done if act == "loads" else bytes.fromhex(what[: 2 * done]))
+        whole = self.range(cut)
+        if len(self.stored | self.last) < frames:
+            return f"a page more, as {len(self.stored | self.last)} were stored to and there are {frames} frames"
+        return f"noframe after {done}" + (" " + whole[7:] if act == "loads" and done > 0 else "")
+
+    def commit(self):
+        self.marks += 1
+        if self.stored:
+            self.last = set(self.stored)
+        for file, page in self.stored:
+            kept = bytearray(self.kept[file])
+            kept[page * PAGE : (page + 1) * PAGE] = self.memory[file][page * PAGE : (page + 1) * PAGE]
+            self.kept[file] = bytes(kept)
+        self.stored.clear()
+        return f"committed {self.marks}"
+
+    def step(self, step):
+        """The reply to one step of those that this model knows; else None."""
+        processor, act, *rest = step
+        if processor >= len(self.current):
+            return "einval"
+        if act == "create":
+            space = next(number for number in range(1, 4097) if number not in self.spaces)
+            if space > 4095:
+                return "enomem"
+            self.spaces[space] = {}
+            return f"space {space}"
+        if act == "switch":
+            space, _ = rest
+            if space != 0 and space not in self.spaces:
+                return "einval"
+            self.current[processor] = space
+            return "switched"
+        if act == "map":
+            return self.map(*rest)
+        if act == "destroy":
+            if rest[0] not in self.spaces:
+                return "einval"
+            if rest[0] in self.current:
+                return "busy"
+            del self.spaces[rest[0]]
+            return "destroyed"
+        return None
+
+    def map(self, space, at, length, file, offset, rights, opened):
+        pages = (length + PAGE - 1) // PAGE
+        first = offset // PAGE
+        if space not in self.spaces or at % PAGE or offset % PAGE or not 1 <= pages <= 65536:
+            return "einval"
+        if at < PAGE or at + pages * PAGE > LAST or first + pages - 1 > LONG:
+            return "einval"
+        if file >= len(self.files):
+            return "nofile"
+        if "w" in rights and opened == "r":
+            return "eacces"
+        table = self.spaces[space]
+        if any(at // PAGE + i in table for i in range(pages)):
+            return "overlap"
+        for i in range(pages):
+            table[at // PAGE + i] = (file, first + i, "rw" if "w" in rights else "r")
+        return "mapped"
+
+    def answer(self, line):
+        """The reply to a line: `badline` for one that says why; None for an answer that this model can't tell."""
+        try:
+            request = request_of(line)
+        except Bad:
+            return "badline"
+        if type(request) is tuple:
+            return self.commit() if request[0] == "commit" else self.range(request)
+        replies = [self.step(step) for step in request]
+        return None if None in replies else "; ".join(replies)
