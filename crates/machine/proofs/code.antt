@@ -1,11 +1,3 @@
-pub mod Reserved
-pub mod Hardware
-pub mod Refused
-pub mod InMemory
-pub mod Mapping
-pub mod Table
-pub mod Reclaims
-pub mod Holders
 pub mod Marks
 pub mod Records
 pub mod Flushes
@@ -14,5 +6,6 @@ pub mod Acting
 pub mod Stepping
 pub mod Runs
 pub mod Sums
-pub mod FirstSpace
+pub mod Refusals
+pub mod Parts
 pub mod Freshness

@@ -5,7 +5,7 @@ use Rattle.machine.proofs.Names.{GeometryValue, is_busy, begun, CheckpointState,
 use Rattle.machine.proofs.Names.{IsSound, with_batch, IsPageOf, MayBegin, with_homes}
 use Rattle.machine.proofs.sound.ByMark.{gathered_there}
 use Rattle.machine.proofs.sound.Uses.{batch_homes, newest_mark}
-use Rattle.machine.proofs.code.Table.{pages-in_file}
+use Rattle.machine.proofs.code.Parts.{pages-in_file}
 
 -- a page that begins before the end of its file is one of the file's
 pub page_there : (s : State) (owner : FilePage) → IsSound s → IsInFile s owner → IsPageOf s.table owner

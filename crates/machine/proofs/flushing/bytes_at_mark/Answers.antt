@@ -3,7 +3,7 @@ use Rattle.std.specs.Option.{IfSome}
 use Rattle.frames.specs.Frames.{frame_at, copy_at, page_of}
 use Rattle.machine.proofs.sound.Frames.{in_use}
 use Rattle.machine.proofs.sound.Records.{mark_bytes-copied, mark_bytes-framed}
-use Rattle.machine.proofs.code.InMemory.{in_memory-found}
+use Rattle.machine.proofs.code.Parts.{in_memory-found}
 use Rattle.machine.proofs.flushing.bytes_at_mark.Goals as goal
 
 pub copy_bytes-requires : goal.copy_bytes-requires

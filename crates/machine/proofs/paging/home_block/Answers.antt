@@ -1,6 +1,6 @@
 use Rattle.std.proofs.Common.{◌+◌, arith}
 use Rattle.volume_codec.proofs.Public.{first_home_of-next, first_home_of-le}
-use Rattle.machine.proofs.code.Table.{pages-in_file}
+use Rattle.machine.proofs.code.Parts.{pages-in_file}
 use Rattle.machine.proofs.paging.home_block.Goals as goal
 
 pub overflow_add-result : goal.overflow_add-result

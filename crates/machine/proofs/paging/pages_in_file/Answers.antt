@@ -1,5 +1,5 @@
 use Rattle.std.proofs.Common.{◌∙◌}
-use Rattle.machine.proofs.code.Table.{pages-in_file}
+use Rattle.machine.proofs.code.Parts.{pages-in_file}
 use Rattle.machine.proofs.paging.pages_in_file.Goals as goal
 
 pub returns : goal.returns

@@ -1,5 +1,5 @@
 use Rattle.machine.proofs.Names.{ap, Protect, ShootdownState, with_shootdown, with_spaces, state_in}
-use Rattle.machine.proofs.code.Holders.{may_change}
+use Rattle.machine.proofs.code.Parts.{may_change}
 use Rattle.machine.proofs.layers.Layers.end_protect.Goals as goal
 
 pub protect-requires-clause-prepared : goal.protect-requires-clause-prepared

@@ -1,6 +1,6 @@
 use Rattle.machine.proofs.Names.{state_in}
 use Rattle.machine.proofs.sound.Uses.{has_notes}
-use Rattle.machine.proofs.code.Holders.{may_change}
+use Rattle.machine.proofs.code.Parts.{may_change}
 use Rattle.machine.proofs.layers.Layers.end_reclaim.Goals as goal
 
 pub clear-requires : goal.clear-requires

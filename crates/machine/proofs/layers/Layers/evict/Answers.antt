@@ -1,6 +1,5 @@
 use Rattle.machine.proofs.Names.{Ok, true, false, refl, err_from_is_err_and, hardware, Evicts, state_in}
-use Rattle.machine.proofs.code.Reserved.{quiet_same}
-use Rattle.machine.proofs.code.Hardware.{answered_so, lock-evicts}
+use Rattle.machine.proofs.code.Parts.{quiet_same, answered_so, lock-evicts}
 use Rattle.machine.proofs.layers.Layers.evict.Goals as goal
 
 pub returns-in_err-evict-clause-rules : goal.returns-in_err-evict-clause-rules

@@ -1,6 +1,5 @@
 use Rattle.machine.proofs.Names.{Ok, true, false, refl, err_from_is_err_and, hardware, Fills, state_in}
-use Rattle.machine.proofs.code.Reserved.{quiet_same}
-use Rattle.machine.proofs.code.Hardware.{answered_so, lock-fills}
+use Rattle.machine.proofs.code.Parts.{quiet_same, answered_so, lock-fills}
 use Rattle.machine.proofs.layers.Layers.fill.Goals as goal
 
 pub returns-in_err-fill-clause-rules : goal.returns-in_err-fill-clause-rules

@@ -1,6 +1,6 @@
 use Rattle.machine.proofs.Names.{[], ◌∷◌, err_from_is_err_and, not_running, refuse_if, state_in}
 use Rattle.page_entry.specs.declared.refusal.Refusal.TheVariants as refusals
-use Rattle.machine.proofs.code.Refused.{found}
+use Rattle.machine.proofs.code.Refusals.{found}
 use Rattle.machine.proofs.code.Flushes.{flushes_refused, flush_untouched, calm-not_running}
 use Rattle.machine.proofs.layers.Layers.flush.Goals as goal
 

@@ -3,8 +3,8 @@ use Rattle.machine.proofs.Names.{state_in}
 use Rattle.page_entry.specs.declared.refusal.Refusal.TheVariants as refusals
 use Rattle.machine.specs.declared.act.Reply.TheVariants.{Mapped, Refused}
 use Rattle.machine.proofs.sound.Admitted.{free_below}
-use Rattle.machine.proofs.code.Reserved.{reserved_free}
-use Rattle.machine.proofs.code.Mapping.{maps-no_file, maps-unadded, map_refusal-adding}
+use Rattle.machine.proofs.code.Parts.{reserved_free}
+use Rattle.machine.proofs.code.Refusals.{maps-no_file, maps-unadded, map_refusal-adding}
 use Rattle.machine.proofs.layers.Layers.map.Goals as goal
 
 pub returns-then-file-file_count-clause-rules : goal.returns-then-file-file_count-clause-rules

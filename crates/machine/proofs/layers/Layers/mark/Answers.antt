@@ -1,7 +1,7 @@
 use Rattle.machine.proofs.Names.{◌<◌, ◌≤◌, ◌+◌, not, List, length, map, refl, sym, ap, ◌∙◌, subst, All, FilePage}
 use Rattle.machine.proofs.Names.{Checkpoint, finished, CheckpointState, Gathers, Layers, home_of, MarkMade, state_in}
 use Rattle.machine.proofs.Names.{IsPageOf, MayBegin}
-use Rattle.machine.proofs.code.Holders.{may_change}
+use Rattle.machine.proofs.code.Parts.{may_change}
 use Rattle.machine.proofs.code.Marks.{few_frozen, frozen_there, may_begin, with_homes-batch}
 use Rattle.machine.proofs.layers.Layers.mark.Goals as goal
 

@@ -1,5 +1,5 @@
 use Rattle.machine.proofs.Names.{refl, ap, ShootdownState}
-use Rattle.machine.proofs.code.Reserved.{quiet_begun}
+use Rattle.machine.proofs.code.Parts.{quiet_begun}
 use Rattle.machine.proofs.layers.Layers.msync.Goals as goal
 
 pub returns-clause-quiet : goal.returns-clause-quiet

@@ -1,7 +1,6 @@
 use Rattle.machine.proofs.Names.{refl, ap, ◌∙◌, arith, ShootdownState, with_shootdown, state_in}
-use Rattle.machine.proofs.code.Reserved.{quiet_begun}
-use Rattle.machine.proofs.code.Reclaims.{reclaim-past, reclaim-allowed}
-use Rattle.machine.proofs.code.InMemory.{in_memory-found}
+use Rattle.machine.proofs.code.Refusals.{reclaim-past, reclaim-allowed}
+use Rattle.machine.proofs.code.Parts.{in_memory-found, quiet_begun}
 use Rattle.machine.proofs.layers.Layers.reclaim.Goals as goal
 
 pub returns-then-page-pages_in_file-clause-rules :

@@ -3,7 +3,7 @@ use Rattle.std.proofs.lemmas.List.{length-map}
 use Rattle.volume_codec.specs.Files.{TableFile}
 use Rattle.shootdown.specs.Shootdown.{ShootdownState}
 use Rattle.machine.proofs.sound.AtBoot.{fresh_sound}
-use Rattle.machine.proofs.code.Reserved.{reserved_free}
+use Rattle.machine.proofs.code.Parts.{reserved_free}
 use Rattle.machine.proofs.machine.Machine.over.Goals as goal
 
 pub invariant_of-result : goal.invariant_of-result

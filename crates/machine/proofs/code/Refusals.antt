@@ -1,11 +1,40 @@
--- Why a mapping is refused.
-use Rattle.machine.proofs.Names.{ℕ, ◌≡◌, ◌<◌, ◌≤◌, nat_le, Bool, true, false, cond, [], ◌∷◌, length, Option, Some, None}
-use Rattle.machine.proofs.Names.{not, unwrap_or, Ok, refl, sym, ap, ◌∙◌, subst, Refusal, Place, Rights, PageRange}
-use Rattle.machine.proofs.Names.{Places, allows, any_mapped, is_mappable, add_refusal, space_at, judged_mapping}
-use Rattle.machine.proofs.Names.{not_free, State, refuse_if, mapping_refusal, map_refusal, Maps}
+-- Why an act is refused: the first of several reasons.
+use Rattle.machine.proofs.Names.{ℕ, ◌≡◌, ◌<◌, ◌≤◌, Bool, true, false, nat_le, List, [], ◌∷◌, Option, Some, None, refl}
+use Rattle.machine.proofs.Names.{ap, ◌∙◌, arith, le-leb, nat_tests, option_or, Refusal, refuse_if, first_of, cond}
+use Rattle.machine.proofs.Names.{length, not, unwrap_or, Ok, sym, subst, Place, Rights, PageRange, Places, allows}
+use Rattle.machine.proofs.Names.{any_mapped, is_mappable, add_refusal, space_at, judged_mapping, not_free, State}
+use Rattle.machine.proofs.Names.{mapping_refusal, map_refusal, Maps, FilePage, pages_in_file, reclaim_refusal}
 use Rattle.page_entry.specs.declared.refusal.Refusal.TheVariants as refusals
 use Rattle.machine.specs.declared.act.Reply.TheVariants as replies
-use Rattle.machine.proofs.code.Refused.{passed, found, alone, fails, holds, above, at_most}
+
+-- ---- the first of several reasons
+
+-- a reason that doesn't hold is passed over
+pub passed : (reason : Option Refusal) (reasons : List (Option Refusal)) (first : Option Refusal) → reason ≡ None → first_of reasons ≡ first → first_of (reason ∷ reasons) ≡ first
+passed reason reasons first none rest = ap (λ r. option_or r (first_of reasons)) none ∙ rest
+
+-- one that holds is the first
+pub found : (reason : Option Refusal) (reasons : List (Option Refusal)) (why : Refusal) → reason ≡ Some why → first_of (reason ∷ reasons) ≡ Some why
+found reason reasons why some = ap (λ r. option_or r (first_of reasons)) some
+
+-- a reason alone
+pub alone : (reason : Option Refusal) → first_of (reason ∷ []) ≡ reason
+alone None = refl
+alone (Some why) = refl
+
+pub holds : (test : Bool) (why : Refusal) → test ≡ true → refuse_if test why ≡ Some why
+holds test why is = ap (λ b. refuse_if b why) is
+
+pub fails : (test : Bool) (why : Refusal) → test ≡ false → refuse_if test why ≡ None
+fails test why is = ap (λ b. refuse_if b why) is
+
+pub at_most : (a b : ℕ) → a ≤ b → nat_le a b ≡ true
+at_most a b is = le-leb a b is
+
+pub above : (a b : ℕ) → b < a → nat_le a b ≡ false
+above a b is = grind (arith, nat_tests)
+
+-- ---- why a mapping is refused
 
 -- any refusal but that memory was refused
 abbrev IsJudged : Refusal → Type 0
@@ -72,3 +101,24 @@ maps-unadded s p pcid va len file offset prot access pages why free judged below
         maps-judged s p pcid va len file offset prot access x
         (judged-add (space_at s.hardware.spaces pcid).places pages.0 (record { file = file; page = pages.1; rights = prot; access = access }) x e)
         (map_refusal-adding s p pcid va len file offset prot access pages (Some x) free judged below e)
+
+-- ---- why a reclaim is refused
+
+-- of a file that is there
+of_file : (s : State) (p : ℕ) (owner : FilePage) (reason : Option Refusal) → not_free s.hardware.shootdown p ≡ None → owner.file < length s.table.files
+    → refuse_if (nat_le (pages_in_file s.table.files owner.file) owner.page) refusals.Einval ≡ reason → reclaim_refusal s p owner ≡ reason
+of_file s p owner reason free file is =
+    let missing = refuse_if (nat_le (length s.table.files) owner.file) refusals.NoFile in
+    let past = refuse_if (nat_le (pages_in_file s.table.files owner.file) owner.page) refusals.Einval in
+    passed (not_free s.hardware.shootdown p) (missing ∷ past ∷ []) reason free
+    (passed missing (past ∷ []) reason (fails (nat_le (length s.table.files) owner.file) refusals.NoFile (above (length s.table.files) owner.file file)) (alone past ∙ is))
+
+pub reclaim-past : (s : State) (p : ℕ) (owner : FilePage) → not_free s.hardware.shootdown p ≡ None → owner.file < length s.table.files
+    → pages_in_file s.table.files owner.file ≤ owner.page → reclaim_refusal s p owner ≡ Some refusals.Einval
+reclaim-past s p owner free file past =
+    of_file s p owner (Some refusals.Einval) free file (holds (nat_le (pages_in_file s.table.files owner.file) owner.page) refusals.Einval (at_most (pages_in_file s.table.files owner.file) owner.page past))
+
+pub reclaim-allowed : (s : State) (p : ℕ) (owner : FilePage) → not_free s.hardware.shootdown p ≡ None → owner.file < length s.table.files
+    → owner.page < pages_in_file s.table.files owner.file → reclaim_refusal s p owner ≡ None
+reclaim-allowed s p owner free file within =
+    of_file s p owner None free file (fails (nat_le (pages_in_file s.table.files owner.file) owner.page) refusals.Einval (above (pages_in_file s.table.files owner.file) owner.page within))
