@@ -364,13 +364,10 @@ records_as s x leaves new are =
 abbrev pub AreCalm : List File → List Event → List Event → Type 0
 AreCalm files history events = (file page : ℕ) → is_touched (history ++ events) file page ≡ false → IsUntouched (memory_of files) history events file page
 
-pub calm_none : (files : List File) (history : List Event) → AreCalm files history []
-calm_none files history file page is = quiet_untouched (memory_of files) history [] file page (inl refl) is
-
-pub calm_acknowledge : (files : List File) (history : List Event) (number : ℕ) → AreCalm files history (Acknowledge number ∷ [])
-calm_acknowledge files history number file page is = record {
-  before = sym (touched_after-append file page false history (Acknowledge number ∷ [])) ∙ is;
-  same = ap (λ (m : ℕ → ℕ → List ℕ). m file page) (after-append (memory_of files) history (Acknowledge number ∷ []));
+pub calm_of : (files : List File) (history events : List Event) → AreQuiet history events → AreCalm files history events
+calm_of files history events quiet file page is = record {
+  before = sym (quiet.touched file page) ∙ is;
+  same = ap (λ (m : Memory). m file page) (quiet.memory (memory_of files));
 }
 
 -- the batches that aren't committed aren't in this prefix
