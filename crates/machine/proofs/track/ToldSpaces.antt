@@ -1,7 +1,6 @@
 -- Processors and spaces as they are told: the current space of each processor and whether it goes on, which spaces there are, and what each maps.
-use Rattle.std.proofs.lemmas.List.{set-get_or}
-use Rattle.machine.proofs.Names.{ℕ, ◌≡◌, ◌<◌, Bool, true, false, cond, eqb, List, length, get_or, set, refl, sym, ap}
-use Rattle.machine.proofs.Names.{◌∙◌, inl, inr, arith, ◌≢◌, ◌+◌, not, ◌&&◌, ◌||◌, Option, Some, None, is_some}
+use Rattle.machine.proofs.Names.{set-get_or, ℕ, ◌≡◌, ◌<◌, Bool, true, false, cond, eqb, List, length, get_or, set, refl}
+use Rattle.machine.proofs.Names.{sym, ap, ◌∙◌, inl, inr, arith, ◌≢◌, ◌+◌, not, ◌&&◌, ◌||◌, Option, Some, None, is_some}
 use Rattle.machine.proofs.Names.{unwrap_or, subst, cases_eq, cond-true, cond-false, eq-eqb, ne_eqb, length-set}
 use Rattle.machine.proofs.Names.{get_or-set_same, get_or-set_other, Invpcid, SingleContext, Change, Spaces}
 use Rattle.machine.proofs.Names.{AddressSpace, empty_space, has_space, space_at, with_space, with_entry, with_mapping}
