@@ -24,9 +24,10 @@ use Rattle.journal.specs.WriteOuts.{current}
 use Rattle.machine.specs.Rules.{next_record as record_asked}
 use Rattle.journal.specs.declared.flushed.Flushed.TheVariants as flushed
 use Rattle.page_entry.specs.declared.refusal.Refusal.TheVariants as refusals
+use Rattle.machine.proofs.sound.Waiting.{waiting-none}
 use Rattle.machine.proofs.durable.Lists.{only_one, some_same, none_some, flat_map-append}
 use Rattle.machine.proofs.durable.Pages.{bytes_with-at, bytes_with-none, bytes_with-freed}
-use Rattle.machine.proofs.durable.Uncommitted.{all_committed, whole_frozen, none_uncommitted, uncommitted_before, waits_after}
+use Rattle.machine.proofs.durable.Uncommitted.{whole_frozen, none_uncommitted, uncommitted_before, waits_after}
 use Rattle.machine.proofs.durable.Histories.{calm_of, quiet_nothing, quiet_acknowledge, IsFresh, written_same, written_new, AreFrozenRecords, SameFiles, in_file_as, part_as, contents_more, record_as, IsUntouched, quiet_untouched, touched_after-append, after-append, acknowledge_same, acknowledge_no_mark, acknowledged_more, marks_more, marks_settled}
 use Rattle.machine.proofs.durable.Marks.{IsDurable}
 use Rattle.machine.proofs.sound.Admitted.{second_not_refused}
@@ -112,7 +113,7 @@ first_waiting batches i ordered r = elim (cases_Bool (has_uncommitted batches)) 
         rest = drop (r.w.steps + 1) r.w.batch.homes;
         first = ap (flat_map (λ (x : WriteOut). drop x.steps x.batch.homes)) n.are
             ∙ flat_map-append (λ (x : WriteOut). drop x.steps x.batch.homes) n.others (n.newest ∷ [])
-            ∙ ap (λ (l : List ℕ). l ++ flat_map (λ (x : WriteOut). drop x.steps x.batch.homes) (n.newest ∷ [])) (all_committed n.others (older_committed n.others n.newest n.older))
+            ∙ ap (λ (l : List ℕ). l ++ flat_map (λ (x : WriteOut). drop x.steps x.batch.homes) (n.newest ∷ [])) (waiting-none n.others (older_committed n.others n.newest n.older))
             ∙ append-nil (drop n.newest.steps n.newest.batch.homes)
             ∙ ap (λ (x : WriteOut). drop x.steps x.batch.homes) (sym same) ∙ behind;
       } in found)
@@ -168,19 +169,11 @@ record_is_new s new sound ordered whole frozen home e =
 
 -- the stage whose step commits a batch
 committing : (w : WriteOut) (o : Option Stage) (number : ℕ) → option_map_or (answer_at w.batch.mark) o Broken ≡ Committed number → (o ≡ Some Committing) × (w.batch.mark ≡ number)
-committing w None number e = cc
-committing w (Some (Recording i)) number e = cc
-committing w (Some Describing) number e = cc
-committing w (Some SyncingRecords) number e = cc
-committing w (Some Opening) number e = cc
 committing w (Some Committing) number e = (refl, committed_same w.batch.mark number e)
   where
     committed_same : (m n : ℕ) → Committed m ≡ Committed n → m ≡ n
     committed_same m n e = cc
-committing w (Some (Applying i)) number e = cc
-committing w (Some SyncingHomes) number e = cc
-committing w (Some Closing) number e = cc
-committing w (Some Finishing) number e = cc
+committing w o number e = cc
 
 pub record IsCommitting (batches : List WriteOut) (number : ℕ) : Type 0 where
   pub w : WriteOut
