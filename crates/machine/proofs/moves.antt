@@ -1,4 +1,3 @@
 pub mod Silent
-pub mod Dirty
 pub mod Entries
 pub mod Kept

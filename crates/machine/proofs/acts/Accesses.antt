@@ -1,6 +1,6 @@
 -- The moves of loads, stores, fills and evictions.
-use Rattle.machine.proofs.Names.{ℕ, ◌≡◌, ◌/◌, ◌<◌, ◌||◌, Bool, true, false, List, [], ◌∷◌, length, Option, Some, None}
-use Rattle.machine.proofs.Names.{refl, sym, ap, ◌∙◌, inl, inr, Mapped, evicted, without_page, processor_at, current}
+use Rattle.machine.proofs.Names.{ℕ, ◌≡◌, ◌/◌, ◌||◌, Bool, true, false, List}
+use Rattle.machine.proofs.Names.{refl, ap, ◌∙◌, inl, inr, evicted, without_page, processor_at, current}
 use Rattle.machine.proofs.Names.{is_there, tlb_of, with_tlb, is_there_below, IsShootdown-without_page}
 use Rattle.machine.proofs.Names.{IsShootdown-evicted, Coheres-without_page, Coheres-evicted, entry_at, Hardware}
 use Rattle.machine.proofs.Names.{filled_by, LoadMade, Faults, State, with_hardware, IsSound, Replace}

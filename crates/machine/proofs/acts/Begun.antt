@@ -4,7 +4,7 @@ use Rattle.machine.proofs.Names.{None, Ok, refl, arith, or_parts, leb-false, Rig
 use Rattle.machine.proofs.Names.{Change, maps_each, judged_range, judged_protection, judged_range-ok}
 use Rattle.machine.proofs.Names.{judged_protection-ok, not_free, current, is_in_memory, State, refuse_if, why_not}
 use Rattle.machine.proofs.Names.{pages_in_file, is_msync, unmap_refusal, protect_refusal_of, reclaim_refusal}
-use Rattle.machine.proofs.Names.{msync_refusal, begin_change, IsPrepared, IsSound, pending_in, Beginning, Move, Begin}
+use Rattle.machine.proofs.Names.{msync_refusal, begin_change, IsPrepared, pending_in, Beginning, Move, Begin}
 use Rattle.page_entry.specs.declared.refusal.Refusal.TheVariants as refusals
 use Rattle.spaces.specs.declared.change.Change.TheVariants as changes
 use Rattle.machine.proofs.sound.Admitted.{first_none, refuse_none}

@@ -1,15 +1,15 @@
 -- The moves of changes that are made, but for a mark.
 use Rattle.machine.proofs.Names.{ℕ, ◌≡◌, ◌≢◌, ◌<◌, ◌&&◌, ◌||◌, Bool, true, false, cond, eqb, List, [], ◌∷◌, length}
-use Rattle.machine.proofs.Names.{Option, Some, None, IsSome, is_some, refl, sym, ap, ◌∙◌, subst, inl, inr, ⊎_elim}
+use Rattle.machine.proofs.Names.{Option, Some, None, is_some, refl, sym, ap, ◌∙◌, subst, inl, inr}
 use Rattle.machine.proofs.Names.{option_map, cases_Bool, cases_eq, cond-false, and_from, eq-eqb, ne_eqb, false≢true}
-use Rattle.machine.proofs.Names.{Mapped, FilePage, Place, Places, is_among, without_range, FramesState, frame_at}
-use Rattle.machine.proofs.Names.{without_frame, page_of, AddressSpace, Spaces, has_space, space_at, entry_at, place_at}
+use Rattle.machine.proofs.Names.{Mapped, FilePage, Place, Places, is_among, without_range, frame_at}
+use Rattle.machine.proofs.Names.{page_of, AddressSpace, Spaces, has_space, space_at, entry_at, place_at}
 use Rattle.machine.proofs.Names.{without_mapping, is_place_of, without_entries_of, has_space-without_mapping}
 use Rattle.machine.proofs.Names.{space_at-with_space_same, space_at-with_space_other, place_at-without_mapping}
 use Rattle.machine.proofs.Names.{place_at-SetsRights, place_at-EditsEntries, with_rights_of, AreSpaces-without_mapping}
 use Rattle.machine.proofs.Names.{AreSpaces-SetsRights, AreSpaces-EditsEntries, user_space}
 use Rattle.machine.proofs.Names.{ChangesOnlyAffected-without_mapping, ChangesOnlyAffected-SetsRights}
-use Rattle.machine.proofs.Names.{ChangesOnlyAffected-reclaim, IsNoWider-same_places, Holds, IsDirty, IsInRange, page_at}
+use Rattle.machine.proofs.Names.{ChangesOnlyAffected-reclaim, IsNoWider-same_places, IsDirty, IsInRange, page_at}
 use Rattle.machine.proofs.Names.{AreBacked-without_mapping, AreBacked-rights_set, AreBacked-cleared, AreBacked-frozen}
 use Rattle.machine.proofs.Names.{same_page-true, State, UnmapMade, ProtectMade, ReclaimMade, ReclaimKept, end_change}
 use Rattle.machine.proofs.Names.{IsSound, Ending, Changing, Silent, ChangesPlaces, SameDirty, Move, Moves, End, Drop}

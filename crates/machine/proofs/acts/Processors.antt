@@ -1,8 +1,8 @@
 -- The moves of processors that switch, stall, go on, idle and wake.
 use Rattle.machine.proofs.Names.{ℕ, ◌≡◌, ◌<◌, Bool, true, false, List, length, None, refl, ap, ◌∙◌, has_space}
 use Rattle.machine.proofs.Names.{Interrupted, Stalled, Idle, Processor, is_running, woken, switched, IsShootdown}
-use Rattle.machine.proofs.Names.{processor_at, current, state_of, with_processor, not_free, switched_to, stalled, idled}
-use Rattle.machine.proofs.Names.{resumed, not_there, is_stalled, is_idle, wait_refusal, idle_refusal, switch_refusal}
+use Rattle.machine.proofs.Names.{processor_at, current, state_of, with_processor, switched_to, stalled, idled}
+use Rattle.machine.proofs.Names.{resumed, not_there, idle_refusal, switch_refusal}
 use Rattle.machine.proofs.Names.{Coheres, IsShootdown-stalled, IsShootdown-idled, IsShootdown-resumed}
 use Rattle.machine.proofs.Names.{IsShootdown-switched_to, Coheres-stalled, Coheres-idled, Coheres-resumed}
 use Rattle.machine.proofs.Names.{Coheres-switched_to, State, with_shootdown, IsSound, Running, Entering, Move, Replace}

@@ -1,9 +1,9 @@
 -- The moves of spaces that are made, and of pages that are mapped.
-use Rattle.machine.proofs.Names.{ℕ, ◌≡◌, ◌≢◌, ◌<◌, ◌-◌, ◌||◌, ◌&&◌, not, Bool, true, false, cond, eqb, leb, List, []}
-use Rattle.machine.proofs.Names.{◌∷◌, length, Option, Some, None, Ok, is_some, refl, sym, ap, ◌∙◌, subst, arith}
-use Rattle.machine.proofs.Names.{cases_eq, and_parts, leb-false, leb-true, ltb-true, false≢true, eq-eqb, Place, Rights}
+use Rattle.machine.proofs.Names.{ℕ, ◌≡◌, ◌<◌, ◌-◌, ◌&&◌, not, Bool, true, false, cond, eqb, leb, List, []}
+use Rattle.machine.proofs.Names.{◌∷◌, length, Option, Some, None, Ok, is_some, refl, sym, ap, ◌∙◌, subst}
+use Rattle.machine.proofs.Names.{and_parts, leb-false, leb-true, ltb-true, false≢true, Place, Rights}
 use Rattle.machine.proofs.Names.{PageRange, Places, allows, is_among, any_mapped, with_range, is_mappable, add_refusal}
-use Rattle.machine.proofs.Names.{AddressSpace, Spaces, empty_space, has_space, space_at, place_at, with_space}
+use Rattle.machine.proofs.Names.{AddressSpace, Spaces, empty_space, space_at, place_at, with_space}
 use Rattle.machine.proofs.Names.{with_mapping, IsLowestFree, judged_mapping, has_space-with_space}
 use Rattle.machine.proofs.Names.{space_at-with_space_same, space_at-with_space_other, place_at-create}
 use Rattle.machine.proofs.Names.{place_at-with_mapping, entry_at-create, entry_at-with_mapping, AreSpaces-create}

@@ -22,46 +22,25 @@ record Rise (made : ℕ → ℕ → ℕ → ℕ → Type 0) (calls calls' faults
   few : first ≤ 2
   one : its ≤ 1
 
+rises : {made : ℕ → ℕ → ℕ → ℕ → Type 0} {calls calls' faults faults' : ℕ} (first its : ℕ) → made 0 first 0 its → calls' ≡ calls + first → faults' ≡ faults + its → first ≤ 2 → its ≤ 1
+    → Rise made calls calls' faults faults'
+rises first its from_0 risen failed few one = record { first = first; its = its; from_0 = from_0; risen = risen; failed = failed; few = few; one = one }
+
 -- a read, of which the reply says whether it failed
-fix_fault : (b : Bool) (faults faults' : ℕ) → faults < 2 ^ 64 - 1 → faults' ≡ cond b (raised faults) faults → faults' ≡ faults + cond b 1 0
-fix_fault true faults faults' below is = is ∙ one_more faults below
-fix_fault false faults faults' below is = omega (arith, is)
-
-few_fault : (b : Bool) → cond b 1 0 ≤ 1
-few_fault true = omega arith
-few_fault false = omega arith
-
 fix_rise : (reads : Bool) (reply : Reply) (calls calls' faults faults' : ℕ) → calls < 2 ^ 64 - 2 → faults < 2 ^ 64 - 1
     → FixCalls reads reply calls calls' faults faults' → Rise (FixCalls reads reply) calls calls' faults faults'
-fix_rise true reply calls calls' faults faults' below under made = record {
-  first = 1;
-  its = cond (has_failed reply) 1 0;
-  from_0 = record { one_read = refl; its_fault = refl };
-  risen = made.one_read ∙ one_more calls (omega (arith, below));
-  failed = fix_fault (has_failed reply) faults faults' under made.its_fault;
-  few = omega arith;
-  one = few_fault (has_failed reply);
-}
-fix_rise false reply calls calls' faults faults' below under made = record {
-  first = 0;
-  its = 0;
-  from_0 = record { one_read = refl; its_fault = refl };
-  risen = omega (arith, made.one_read);
-  failed = omega (arith, made.its_fault);
-  few = omega arith;
-  one = omega arith;
-}
+fix_rise true reply calls calls' faults faults' below under made =
+    rises 1 (cond (has_failed reply) 1 0) (record { one_read = refl; its_fault = refl }) (made.one_read ∙ one_more calls (omega (arith, below)))
+    (by (has_failed reply) made.its_fault).0 (omega arith) (by (has_failed reply) made.its_fault).1
+  where
+    by : (b : Bool) → faults' ≡ cond b (raised faults) faults → (faults' ≡ faults + cond b 1 0) × (cond b 1 0 ≤ 1)
+    by true is = (is ∙ one_more faults under, omega arith)
+    by false is = (omega (arith, is), omega arith)
+fix_rise false reply calls calls' faults faults' below under made =
+    rises 0 0 (record { one_read = refl; its_fault = refl }) (omega (arith, made.one_read)) (omega (arith, made.its_fault)) (omega arith) (omega arith)
 
 none_rise : (calls calls' faults faults' : ℕ) → (calls' ≡ calls) × (faults' ≡ faults) → Rise (λ c c' f f'. (c' ≡ c) × (f' ≡ f)) calls calls' faults faults'
-none_rise calls calls' faults faults' same = record {
-  first = 0;
-  its = 0;
-  from_0 = (refl, refl);
-  risen = omega (arith, same.0);
-  failed = omega (arith, same.1);
-  few = omega arith;
-  one = omega arith;
-}
+none_rise calls calls' faults faults' same = rises 0 0 (refl, refl) (omega (arith, same.0)) (omega (arith, same.1)) (omega arith) (omega arith)
 
 -- the work of a step of a write-out
 few_calls : (work : Work) → calls_of work ≤ 2
@@ -74,15 +53,8 @@ abbrev Worked : Work → ℕ → ℕ → ℕ → ℕ → Type 0
 Worked work calls calls' faults faults' = (calls < 2 ^ 64 - 2 → calls' ≡ calls + calls_of work) × (faults' ≡ faults)
 
 work_rise : (work : Work) (calls calls' faults faults' : ℕ) → calls < 2 ^ 64 - 2 → Worked work calls calls' faults faults' → Rise (Worked work) calls calls' faults faults'
-work_rise work calls calls' faults faults' below made = record {
-  first = calls_of work;
-  its = 0;
-  from_0 = ((λ low. omega arith), refl);
-  risen = made.0 below;
-  failed = omega (arith, made.1);
-  few = few_calls work;
-  one = omega arith;
-}
+work_rise work calls calls' faults faults' below made =
+    rises (calls_of work) 0 ((λ low. omega arith), refl) (made.0 below) (omega (arith, made.1)) (few_calls work) (omega arith)
 
 -- or what was made of it
 abbrev Failed : Work → ℕ → ℕ → ℕ → ℕ → Type 0
@@ -98,15 +70,7 @@ failed_first Nothing calls calls' failed = absurd failed
 fail_rise : (work : Work) (calls calls' faults faults' : ℕ) → calls < 2 ^ 64 - 2 → faults < 2 ^ 64 - 1 → Failed work calls calls' faults faults' → Rise (Failed work) calls calls' faults faults'
 fail_rise work calls calls' faults faults' below under made =
     let found = failed_first work calls calls' (made.0 below) in
-    record {
-      first = found.0;
-      its = 1;
-      from_0 = ((λ low. found.1), refl);
-      risen = found.2;
-      failed = made.1 ∙ one_more faults under;
-      few = found.3;
-      one = omega arith;
-    }
+    rises found.0 1 ((λ low. found.1), refl) found.2 (made.1 ∙ one_more faults under) found.3 (omega arith)
 
 flush_rise : (s : State) (reply : Reply) (calls calls' faults faults' : ℕ) → calls < 2 ^ 64 - 2 → faults < 2 ^ 64 - 1
     → FlushCalls s reply calls calls' faults faults' → Rise (FlushCalls s reply) calls calls' faults faults'

@@ -1,19 +1,19 @@
 -- Processors, spaces and entries that are replaced: the conditions of these moves, and that a machine stays sound by them.
-use Rattle.machine.proofs.Names.{ℕ, ◌≡◌, ◌<◌, ◌||◌, Bool, true, false, cond, ◌&&◌, eqb, List, [], ◌∷◌, length, Some}
+use Rattle.machine.proofs.Names.{ℕ, ◌≡◌, ◌<◌, Bool, true, false, cond, ◌&&◌, eqb, List, [], ◌∷◌, length, Some}
 use Rattle.machine.proofs.Names.{is_some, IsSome, refl, sym, ap, ◌∙◌, subst, and_parts, and_from, or_right, eqb-true}
 use Rattle.machine.proofs.Names.{eq-eqb, cond-true, Mapped, TlbState, filled, Place, Spaces, has_space, space_at}
-use Rattle.machine.proofs.Names.{entry_at, place_at, with_entry, Keeps, is_user_space, has_space-place_at}
+use Rattle.machine.proofs.Names.{entry_at, place_at, with_entry, Keeps, has_space-place_at}
 use Rattle.machine.proofs.Names.{entry_at-with_entry, place_at-with_entry, places-with_entry, has_space-with_entry}
 use Rattle.machine.proofs.Names.{AreSpaces-with_entry, is_some_from, Grows-with_entry, Lock, IsShootdown, processor_at}
 use Rattle.machine.proofs.Names.{current, with_processor, with_tlb, Coheres, Agrees, at-with_processor}
 use Rattle.machine.proofs.Names.{IsNoWider-same_places, Coheres-grown, IsShootdown-filled, Coheres-filled, Holds}
 use Rattle.machine.proofs.Names.{page_at, MayBe, AreBacked-with_entry, cached_of, walked, State, with_hardware}
-use Rattle.machine.proofs.Names.{with_shootdown, with_spaces, IsPrepared, IsSound, Saying, Silent, Mapping}
-use Rattle.machine.proofs.Names.{AreSpacesTold, ReplacesProcessor, ReplacesSpaces, Moves, Replace, Remap}
+use Rattle.machine.proofs.Names.{with_shootdown, with_spaces, IsSound, Saying, Silent, Mapping}
+use Rattle.machine.proofs.Names.{AreSpacesTold, ReplacesProcessor, ReplacesSpaces, Replace, Remap}
 use Rattle.machine.proofs.sound.Lists.{same_some}
 use Rattle.machine.proofs.moves.Silent.{SilentMoves}
-use Rattle.machine.proofs.moves.Dirty.{dirty_alike}
-use Rattle.machine.proofs.sound.Groups.{unchanged_sound, shootdown_sound, prepared_moved, memory_beside, write_outs_moved}
+use Rattle.machine.proofs.track.DirtyFrames.{dirty_alike}
+use Rattle.machine.proofs.sound.Groups.{still_sound, unchanged_sound, shootdown_sound, prepared_moved, memory_beside, write_outs_moved}
 
 -- ---- a machine stays sound
 
@@ -33,21 +33,17 @@ space_stays (Mapping space change) old new told q is = told.there q ∙ or_right
 space_stays says old new told q is = absurd told
 
 pub spaces_sound : (s : State) (spaces : Spaces) (says : Saying) (new : State) → ReplacesSpaces s spaces says new → IsSound s → IsSound new
-spaces_sound s spaces says new is sound = unchanged_sound _ new is.done (record {
-  fits = sound.fits;
-  lengths = sound.lengths;
-  within = sound.within;
-  spaces = record {
+spaces_sound s spaces says new is sound = unchanged_sound _ new is.done (still_sound sound refl refl
+  (record {
     spaces = is.are_spaces;
     shootdown = sound.spaces.shootdown;
     coheres = is.coheres;
     current = λ p below. space_stays says s.hardware.spaces spaces is.told _ (sound.spaces.current p below);
     in_table = is.in_table;
     prepared = is.prepared;
-  };
-  memory = memory_beside s s.hardware.shootdown spaces s.checkpoint s.write_outs s.marks refl refl sound.memory.noted is.backed sound.memory;
-  write_outs = write_outs_moved s (record s.hardware { spaces = spaces }) s.checkpoint refl (λ owner there. there) sound.write_outs;
-})
+  })
+  (memory_beside s s.hardware.shootdown spaces s.checkpoint s.write_outs s.marks refl refl sound.memory.noted is.backed sound.memory)
+  (write_outs_moved s (record s.hardware { spaces = spaces }) s.checkpoint refl (λ owner there. there) sound.write_outs))
 
 -- ---- another TLB
 
@@ -163,5 +159,5 @@ module _ (s : State) (p page : ℕ) (was now : Mapped) (sound : IsSound s) (ther
   walk_moves disk new same is = record {
     says = Silent ∷ Silent ∷ [];
     silent = tt;
-    moves = (mid, Remap spaces walk_noted (λ frame. dirty_alike s.hardware.spaces pcid page was now present noted.same_frame same s.checkpoint frame), (_, Replace walk_cached, is));
+    moves = (mid, Remap spaces walk_noted (λ frame. dirty_alike s.hardware.spaces pcid page now s.checkpoint frame was present noted.same_frame same), (_, Replace walk_cached, is));
   }

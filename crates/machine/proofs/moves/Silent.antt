@@ -1,5 +1,5 @@
 -- Moves that tell nothing, and acts of moves.
-use Rattle.machine.proofs.Names.{ℕ, ◌≡◌, List, [], ◌∷◌, ◌++◌, refl, sym, ap, ◌∙◌, subst, append-nil, Nothing, Act}
+use Rattle.machine.proofs.Names.{ℕ, ◌≡◌, List, [], ◌∷◌, ◌++◌, refl, sym, ◌∙◌, subst, append-nil, Nothing, Act}
 use Rattle.machine.proofs.Names.{Reply, State, Event, step_work, Told, tell, Saying, Silent, said, said_all, Move}
 use Rattle.machine.proofs.Names.{Moves, Performed, Moved}
 

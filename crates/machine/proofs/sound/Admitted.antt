@@ -21,10 +21,6 @@ pub refuse_none : (b : Bool) (why : Refusal) → refuse_if b why ≡ None → b 
 refuse_none true why e = absurd (cc)
 refuse_none false why e = refl
 
-pub refuse_not_none : (b : Bool) (why : Refusal) → refuse_if (not b) why ≡ None → b ≡ true
-refuse_not_none true why e = refl
-refuse_not_none false why e = absurd (cc)
-
 unless_none : (b : Bool) (why : Refusal) → cond b None (Some why) ≡ None → b ≡ true
 unless_none true why e = refl
 unless_none false why e = absurd (cc)
@@ -33,12 +29,9 @@ where_none : (b : Bool) (why : Refusal) → cond b (Some why) None ≡ None → 
 where_none true why e = absurd (cc)
 where_none false why e = refl
 
--- the second and the fourth of some reasons
+-- the second of some reasons
 pub second_not_refused : (a : Option Refusal) (b : Bool) (why : Refusal) (reasons : List (Option Refusal)) → first_of (a ∷ refuse_if b why ∷ reasons) ≡ None → b ≡ false
 second_not_refused a b why reasons e = refuse_none b why (first_none (refuse_if b why) reasons (first_none a (refuse_if b why ∷ reasons) e).1).0
-
-pub fourth_not_refused : (a b c : Option Refusal) (d : Bool) (why : Refusal) (reasons : List (Option Refusal)) → first_of (a ∷ b ∷ c ∷ refuse_if d why ∷ reasons) ≡ None → d ≡ false
-fourth_not_refused a b c d why reasons e = second_not_refused c d why reasons (first_none b (c ∷ refuse_if d why ∷ reasons) (first_none a (b ∷ c ∷ refuse_if d why ∷ reasons) e).1).1
 
 -- ---- processors and the lock
 
@@ -88,9 +81,6 @@ active_from Interrupted runs not = absurd (cc)
 active_from Stalled runs not = absurd (cc)
 active_from Initiating runs not = absurd (cc)
 active_from Idle runs not = absurd (cc)
-
-pub runs_at_idle : (s : ShootdownState) (p : ℕ) → idle_refusal s p ≡ None → not_running s p ≡ None
-runs_at_idle s p none = (both_none (not_running s p) (cond (is_interrupted (state_of s p)) (Some refusals.Locked) None) none).0
 
 pub idle_admitted : (s : ShootdownState) (p : ℕ) → idle_refusal s p ≡ None → (p < length s.processors) × (state_of s p ≡ Active)
 idle_admitted s p none =

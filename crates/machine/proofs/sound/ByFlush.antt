@@ -7,13 +7,13 @@ use Rattle.machine.proofs.Names.{answer_of, has_uncommitted, advanced, batches_a
 use Rattle.machine.proofs.Names.{next_answer, is_busy, committed_parts, not_running, without_copy_of, released, thawed}
 use Rattle.machine.proofs.Names.{AreRising-drop, AreBacked-thawed, AreBacked-released, AreCopiesOfFrozen-release}
 use Rattle.machine.proofs.Names.{is_in_memory, Reply, State, home_of, refuse_if, flush_refusal, next_page, reply_to}
-use Rattle.machine.proofs.Names.{after_record, after_failure, FlushMade, Flushes, AreOlderCommitted, IsSound}
+use Rattle.machine.proofs.Names.{after_record, after_failure, FlushMade, AreOlderCommitted, IsSound}
 use Rattle.page_entry.specs.declared.refusal.Refusal.TheVariants as refusals
 use Rattle.journal.specs.declared.flushed.Flushed.TheVariants as flushed
 use Rattle.journal.specs.WriteOuts.{current}
 use Rattle.machine.specs.declared.act.Reply.TheVariants as replies
 use Rattle.machine.proofs.sound.Admitted.{first_none, refuse_none}
-use Rattle.machine.proofs.sound.Groups.{unchanged_sound, refused_sound, memory_same}
+use Rattle.machine.proofs.sound.Groups.{still_sound, unchanged_sound, memory_same}
 use Rattle.machine.proofs.sound.Waiting.{waits_of, waiting, waiting-none, length-advanced, older-rest, older-advanced, recorded, unrecorded}
 use Rattle.machine.proofs.sound.Steps.{stepped_write_outs, stepped_spaces, done_none, none_recorded, free-advanced, free-done, IsMemory-without_copy_of, IsMemory-without_copies, none_left}
 
@@ -39,12 +39,9 @@ module _ (s : State) (sound : IsSound s) (whole : s.write_outs.broken ≡ false)
       omega (arith, length-map s.checkpoint.frozen (home_of s.table), ap length waited, length-drop made.w.steps made.w.batch.homes, made.steps, made.within) in
       let rest : map (home_of s.table) (drop 1 s.checkpoint.frozen) ≡ waiting (batches_after answer batches) =
       sym (drop-map (home_of s.table) 1 s.checkpoint.frozen) ∙ ap (drop 1) waited ∙ sym made.after ∙ ap waiting (sym same) in
-      record {
-        fits = sound.fits;
-        lengths = sound.lengths;
-        within = sound.within;
-        spaces = stepped_spaces s sound memory (released s.checkpoint) outs refl (λ free broken. ap (λ (l : List WriteOut). is_busy (record s.write_outs { batches = l })) same ∙ free-advanced s.write_outs (free whole));
-        memory = record {
+      still_sound sound refl refl
+        (stepped_spaces s sound memory (released s.checkpoint) outs refl (λ free broken. ap (λ (l : List WriteOut). is_busy (record s.write_outs { batches = l })) same ∙ free-advanced s.write_outs (free whole)))
+        (record {
           memory = IsMemory-without_copy_of s.hardware.memory page sound.memory.memory;
           few_frames = sound.memory.few_frames;
           in_files = λ frame owner holds. let file = sound.memory.in_files frame owner holds in record { there = file.there; inside = file.inside };
@@ -54,11 +51,10 @@ module _ (s : State) (sound : IsSound s) (whole : s.write_outs.broken ≡ false)
           frozen = All-drop (λ owner. is_in_memory s.hardware.memory owner ≡ true) 1 s.checkpoint.frozen sound.memory.frozen;
           rising = AreRising-drop 1 s.checkpoint.frozen sound.memory.rising;
           copied = AreCopiesOfFrozen-release s.hardware.memory memory s.checkpoint (released s.checkpoint) page some (get_or_default s.checkpoint.frozen 0 (record { file = 0; page = 0 }) page some) refl refl sound.memory.copied;
-        };
-        write_outs = stepped_write_outs s sound answer s.write_outs.broken (record s.hardware { memory = memory }) (released s.checkpoint) refl
+        })
+        (stepped_write_outs s sound answer s.write_outs.broken (record s.hardware { memory = memory }) (released s.checkpoint) refl
             (subst AreOlderCommitted (sym same) (older-advanced batches older)) (omega (arith, ap (λ (l : List WriteOut). length l) same, length-advanced batches))
-            (rest ∙ sym (cond-false s.write_outs.broken [] (waiting (batches_after answer batches)) whole));
-      }
+            (rest ∙ sym (cond-false s.write_outs.broken [] (waiting (batches_after answer batches)) whole)))
 
   -- a step that writes no record
   step_sound : (answer : Flushed) → AreOlderCommitted (batches_after answer s.write_outs.batches) → length (batches_after answer s.write_outs.batches) ≤ length s.write_outs.batches
@@ -67,15 +63,11 @@ module _ (s : State) (sound : IsSound s) (whole : s.write_outs.broken ≡ false)
       → IsSound (record s { write_outs = record s.write_outs { batches = batches_after answer s.write_outs.batches } })
   step_sound answer older few waits free =
       let outs = record s.write_outs { batches = batches_after answer s.write_outs.batches } in
-      record {
-        fits = sound.fits;
-        lengths = sound.lengths;
-        within = sound.within;
-        spaces = stepped_spaces s sound s.hardware.memory s.checkpoint outs refl (λ was broken. free (was whole));
-        memory = memory_same s s.hardware.shootdown outs s.marks sound.memory;
-        write_outs = stepped_write_outs s sound answer s.write_outs.broken s.hardware s.checkpoint refl older few
-            (frozen_waits ∙ sym waits ∙ sym (cond-false s.write_outs.broken [] (waiting (batches_after answer s.write_outs.batches)) whole));
-      }
+      still_sound sound refl refl
+        (stepped_spaces s sound s.hardware.memory s.checkpoint outs refl (λ was broken. free (was whole)))
+        (memory_same s s.hardware.shootdown outs s.marks sound.memory)
+        (stepped_write_outs s sound answer s.write_outs.broken s.hardware s.checkpoint refl older few
+            (frozen_waits ∙ sym waits ∙ sym (cond-false s.write_outs.broken [] (waiting (batches_after answer s.write_outs.batches)) whole)))
 
   -- a write-out goes on
   pub going_sound : (answer : Flushed) → option_and_then next_record (current s.write_outs.batches) ≡ None → batches_after answer s.write_outs.batches ≡ advanced s.write_outs.batches
@@ -106,12 +98,9 @@ module _ (s : State) (sound : IsSound s) (whole : s.write_outs.broken ≡ false)
 pub failed_sound : (s : State) → IsSound s → IsSound (after_failure s)
 failed_sound s sound =
     let memory = without_copies s.hardware.memory in
-    record {
-      fits = sound.fits;
-      lengths = sound.lengths;
-      within = sound.within;
-      spaces = stepped_spaces s sound memory (thawed s.checkpoint) (outs_after s.write_outs flushed.Device) refl (λ free whole. absurd (false≢true (sym whole)));
-      memory = record {
+    still_sound sound refl refl
+      (stepped_spaces s sound memory (thawed s.checkpoint) (outs_after s.write_outs flushed.Device) refl (λ free whole. absurd (false≢true (sym whole))))
+      (record {
         memory = IsMemory-without_copies s.hardware.memory sound.memory.memory;
         few_frames = sound.memory.few_frames;
         in_files = λ frame owner holds. let file = sound.memory.in_files frame owner holds in record { there = file.there; inside = file.inside };
@@ -121,9 +110,8 @@ failed_sound s sound =
         frozen = λ k d within. absurd (omega arith);
         rising = tt;
         copied = λ copy kept there. absurd (let none = none_left s.hardware.memory.copies copy in cc);
-      };
-      write_outs = stepped_write_outs s sound flushed.Device true (record s.hardware { memory = memory }) (thawed s.checkpoint) refl sound.write_outs.older (omega arith) refl;
-    }
+      })
+      (stepped_write_outs s sound flushed.Device true (record s.hardware { memory = memory }) (thawed s.checkpoint) refl sound.write_outs.older (omega arith) refl)
 
 -- ---- the act
 

@@ -1,18 +1,18 @@
 -- Other frames keep a machine sound.
 use Rattle.machine.proofs.Names.{ℕ, ◌≡◌, ◌≢◌, ◌+◌, ◌-◌, ◌*◌, ◌≤◌, not, true, false, List, ◌++◌, length, take, drop}
 use Rattle.machine.proofs.Names.{get_or, Option, Some, None, IsSome, slice_get, refl, sym, ap, ◌∙◌, subst, inl, ⊎_elim}
-use Rattle.machine.proofs.Names.{arith, list_any, cases_eq, and_parts, not-true, false≢true, length-append, length-take}
+use Rattle.machine.proofs.Names.{arith, cases_eq, and_parts, not-true, false≢true, length-append, length-take}
 use Rattle.machine.proofs.Names.{length-take-le, length-drop, length-set, get_or-set_other, Contains-get_or, Mapped}
 use Rattle.machine.proofs.Names.{FilePage, block_at, length-padded, FramesState, Frame, frame_at, overwrite}
 use Rattle.machine.proofs.Names.{overwrite_frame, with_bytes, with_page, with_copy, without_frame, page_of, after_set}
 use Rattle.machine.proofs.Names.{HasBlock, entry_at, CheckpointState, NotesTaken, Holds, is_noted, is_frozen}
-use Rattle.machine.proofs.Names.{is_of_page, is_held, is_copied, AreBacked, has_page-list_any, list_any-has_page}
+use Rattle.machine.proofs.Names.{is_held, is_copied, AreBacked, has_page-list_any, list_any-has_page}
 use Rattle.machine.proofs.Names.{Holds-with_page, AreBacked-with_bytes, AreBacked-with_page, AreBacked-with_copy}
 use Rattle.machine.proofs.Names.{AreBacked-without_frame, is_in_memory, State, length_of, home_of, cut_at_end}
 use Rattle.machine.proofs.Names.{page_from, with_hardware, MayLeave, IsInFile, IsMemory, IsMemorySound, IsSound}
 use Rattle.machine.proofs.sound.Lists.{held_frame, same_some, once_frames, once_copies, memory_from, AreOnce-set}
 use Rattle.machine.proofs.sound.Admitted.{unlocked}
-use Rattle.machine.proofs.sound.Groups.{write_outs_moved, write_outs_kept, prepared_moved}
+use Rattle.machine.proofs.sound.Groups.{still_sound, write_outs_moved, write_outs_kept, prepared_moved}
 use Rattle.machine.proofs.sound.Ended.{frozen_has_block}
 
 -- ---- pages in memory
@@ -51,11 +51,8 @@ pub frames_sound : (s : State) (memory : FramesState) → IsMemory memory → le
     → ((frame : ℕ) (owner : FilePage) → Holds memory frame owner → IsInFile s owner) → AreBacked memory s.checkpoint s.hardware.spaces
     → ((copy : ℕ) (kept : Frame) → get_or memory.copies copy None ≡ Some kept → is_frozen s.checkpoint kept.page ≡ true)
     → IsSound s → IsSound (with_memory s memory)
-frames_sound s memory is same stays in_files backed copied sound = record {
-  fits = sound.fits;
-  lengths = sound.lengths;
-  within = sound.within;
-  spaces = record {
+frames_sound s memory is same stays in_files backed copied sound = still_sound sound refl refl
+  (record {
     spaces = sound.spaces.spaces;
     shootdown = sound.spaces.shootdown;
     coheres = sound.spaces.coheres;
@@ -64,8 +61,8 @@ frames_sound s memory is same stays in_files backed copied sound = record {
     prepared = λ lock held. prepared_moved s (with_memory s memory) lock.change
         (record { users = λ q user. user; places = λ q. refl; table = refl; in_memory = in_memory_stays s.hardware.memory memory stays; marks = refl; free = λ free. free })
         (sound.spaces.prepared lock held);
-  };
-  memory = record {
+  })
+  (record {
     memory = is;
     few_frames = omega (arith, same, sound.memory.few_frames);
     in_files = λ frame owner holds. let file = in_files frame owner holds in record { there = file.there; inside = file.inside };
@@ -75,9 +72,8 @@ frames_sound s memory is same stays in_files backed copied sound = record {
     frozen = λ k d within. in_memory_stays s.hardware.memory memory stays _ (sound.memory.frozen k d within);
     rising = sound.memory.rising;
     copied = copied;
-  };
-  write_outs = write_outs_moved s (record s.hardware { memory = memory }) s.checkpoint refl (in_memory_stays s.hardware.memory memory stays) sound.write_outs;
-}
+  })
+  (write_outs_moved s (record s.hardware { memory = memory }) s.checkpoint refl (in_memory_stays s.hardware.memory memory stays) sound.write_outs)
 
 -- ---- bytes that are written
 
@@ -199,19 +195,16 @@ pub dropped_sound : (s : State) (owner : FilePage) (frame : ℕ) → MayLeave s 
 dropped_sound s owner frame leaves unmapped free sound =
     let memory = s.hardware.memory in
     let is = sound.memory in
-    record {
-      fits = sound.fits;
-      lengths = sound.lengths;
-      within = sound.within;
-      spaces = record {
+    still_sound sound refl refl
+      (record {
         spaces = sound.spaces.spaces;
         shootdown = sound.spaces.shootdown;
         coheres = sound.spaces.coheres;
         current = sound.spaces.current;
         in_table = sound.spaces.in_table;
         prepared = λ lock held. unlocked s.hardware.shootdown.lock lock free held;
-      };
-      memory = record {
+      })
+      (record {
         memory = IsMemory-without_frame memory frame is.memory;
         few_frames = omega (arith, is.few_frames, length-set memory.frames frame (let none : Option Frame = None in none));
         in_files = λ k page holds. let file = is.in_files k page (holds_before memory frame k page holds) in record { there = file.there; inside = file.inside };
@@ -227,10 +220,9 @@ dropped_sound s owner frame leaves unmapped free sound =
             (apart page (frozen_has_block s page sound.write_outs leaves.whole (Contains-get_or s.checkpoint.frozen k d within))) (is.frozen k d within);
         rising = is.rising;
         copied = is.copied;
-      };
-      write_outs = write_outs_kept s (record s.hardware { memory = without_frame memory frame }) s.checkpoint refl
-          (λ other has there. other_in_memory memory frame owner other leaves.held (apart other has) there) sound.write_outs;
-    }
+      })
+      (write_outs_kept s (record s.hardware { memory = without_frame memory frame }) s.checkpoint refl
+          (λ other has there. other_in_memory memory frame owner other leaves.held (apart other has) there) sound.write_outs)
   where
     -- its home block is in no batch
     apart : (other : FilePage) → HasBlock s.write_outs (home_of s.table other) → owner ≢ other

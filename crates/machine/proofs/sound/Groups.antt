@@ -1,19 +1,27 @@
 -- The groups of facts of a sound machine by what they depend on, so that an act that leaves a group alone keeps it.
-use Rattle.machine.proofs.Names.{ℕ, ◌≡◌, ◌+◌, ◌^◌, ◌<◌, true, false, length, map, get_or, Option, Some, IsSome, refl}
-use Rattle.machine.proofs.Names.{sym, ap, ◌∙◌, subst, All, list_any, Contains-get_or, FilePage, Refusal}
+use Rattle.machine.proofs.Names.{arith, List, Fits, AreSpacesSound}
+use Rattle.machine.proofs.Names.{ℕ, ◌≡◌, ◌+◌, ◌^◌, ◌<◌, true, false, length, map, get_or, Some, IsSome, refl}
+use Rattle.machine.proofs.Names.{sym, ap, ◌∙◌, subst, All, list_any, Contains-get_or, FilePage}
 use Rattle.machine.proofs.Names.{protect_refusal, Places, SuperValue, WriteOutsValue, is_busy, HasBlock, Change, Unmap}
 use Rattle.machine.proofs.Names.{Protect, Reclaim, Checkpoint, Spaces, has_space, space_at, is_user_space, Lock}
 use Rattle.machine.proofs.Names.{ShootdownState, IsShootdown, current, Coheres, CheckpointState, is_noted, same_page}
 use Rattle.machine.proofs.Names.{AreRising, AreBacked, frame_at, is_in_memory, Hardware, State, home_of, pages_in_file}
-use Rattle.machine.proofs.Names.{IsRefused, with_shootdown, IsPrepared, IsMemorySound, AreWriteOutsSound, IsSound}
+use Rattle.machine.proofs.Names.{with_shootdown, IsPrepared, IsMemorySound, AreWriteOutsSound, IsSound}
 use Rattle.std.proofs.Common.{Contains}
 
 pub unchanged_sound : (s new : State) → new ≡ s → IsSound s → IsSound new
 unchanged_sound s new same sound = subst IsSound (sym same) sound
 
--- what was refused leaves the machine as it was
-pub refused_sound : (reason : Option Refusal) (why : Refusal) (s new : State) → IsRefused reason why s new → IsSound s → IsSound new
-refused_sound reason why s new rule sound = unchanged_sound s new rule.unchanged sound
+-- the facts of each group, of a machine with the same table and lengths
+pub still_sound : {s new : State} → IsSound s → new.table ≡ s.table → new.lengths ≡ s.lengths → AreSpacesSound new → IsMemorySound new → AreWriteOutsSound new → IsSound new
+still_sound {s} {new} sound table lengths spaces memory write_outs = record {
+  fits = subst Fits (sym table) sound.fits;
+  lengths = ap length lengths ∙ sound.lengths ∙ ap (λ (x : SuperValue). length x.files) (sym table);
+  within = λ file. omega (arith, sound.within file, ap (λ (l : List ℕ). get_or l file 0) lengths, ap (λ (x : SuperValue). get_or (map (λ f. f.capacity) x.files) file 0) table);
+  spaces = spaces;
+  memory = memory;
+  write_outs = write_outs;
+}
 
 -- ---- frames
 
@@ -101,18 +109,14 @@ prepared_same s shootdown change =
 pub shootdown_sound : (s : State) (shootdown : ShootdownState) → IsShootdown shootdown → Coheres s.hardware.spaces shootdown
     → ((p : ℕ) → p < length shootdown.processors → has_space s.hardware.spaces (current shootdown p) ≡ true)
     → ((lock : Lock) → shootdown.lock ≡ Some lock → IsPrepared s lock.change) → IsSound s → IsSound (with_shootdown s shootdown)
-shootdown_sound s shootdown is coheres current prepared sound = record {
-  fits = sound.fits;
-  lengths = sound.lengths;
-  within = sound.within;
-  spaces = record {
+shootdown_sound s shootdown is coheres current prepared sound = still_sound sound refl refl
+  (record {
     spaces = sound.spaces.spaces;
     shootdown = is;
     coheres = coheres;
     current = current;
     in_table = sound.spaces.in_table;
     prepared = λ lock held. prepared_same s shootdown lock.change (prepared lock held);
-  };
-  memory = memory_same s shootdown s.write_outs s.marks sound.memory;
-  write_outs = write_outs_moved s (record s.hardware { shootdown = shootdown }) s.checkpoint refl (λ owner there. there) sound.write_outs;
-}
+  })
+  (memory_same s shootdown s.write_outs s.marks sound.memory)
+  (write_outs_moved s (record s.hardware { shootdown = shootdown }) s.checkpoint refl (λ owner there. there) sound.write_outs)

@@ -12,7 +12,6 @@ use Rattle.machine.specs.declared.act.Reply.{Reply}
 use Rattle.machine.specs.declared.act.Reply.TheVariants as replies
 use Rattle.machine.specs.declared.flushing.Source.{Source}
 use Rattle.machine.specs.declared.flushing.Source.TheVariants as sources
-use Rattle.machine.specs.State.{State}
 use Rattle.machine.specs.Rules.{bytes_at_mark}
 
 -- the mark of an answer has 32 bits

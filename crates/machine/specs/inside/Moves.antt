@@ -14,7 +14,7 @@ use Rattle.spaces.specs.Changes.{ChangesOnlyAffected}
 use Rattle.spaces.specs.Spaces.{Spaces, AreSpaces, has_space, space_at, place_at, entry_at}
 use Rattle.shootdown.specs.declared.lock.Lock.{Lock}
 use Rattle.shootdown.specs.Processors.{Processor, is_running}
-use Rattle.shootdown.specs.Shootdown.{ShootdownState, IsShootdown, processor_at, current, state_of, with_processor, not_free}
+use Rattle.shootdown.specs.Shootdown.{ShootdownState, IsShootdown, current, state_of, with_processor, not_free}
 use Rattle.shootdown.specs.Coherence.{Coheres, IsNoWider}
 use Rattle.cpu.specs.Access.{Hardware, StoreMade}
 use Rattle.checkpoint.specs.Checkpoint.{CheckpointState, Holds, IsDirty, is_noted, is_held}
