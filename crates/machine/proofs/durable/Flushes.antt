@@ -1,10 +1,10 @@
 -- A step of the write-outs: the record that it writes is what New has; Old and New stay until the batch that wasn't committed is, and then what was New is Old, too.
 use Rattle.machine.proofs.Names.{◌≡◌, ◌<◌, ◌≤◌, ◌+◌, ◌-◌, ◌*◌, ℕ, true, false, not, List, [], ◌∷◌, ◌++◌, length, map}
 use Rattle.machine.proofs.Names.{take, drop, get_or, Option, Some, None, IsSome, inl, inr, refl, sym, ap, ◌∙◌, subst}
-use Rattle.machine.proofs.Names.{arith, ◌==◌, ◌⊎◌, suc, cond, Bool, Contains, flat_map, list_any, All, option_map}
+use Rattle.machine.proofs.Names.{arith, ◌==◌, ◌⊎◌, zero, suc, cond, Bool, Contains, flat_map, list_any, All, option_map}
 use Rattle.machine.proofs.Names.{option_map_or, option_and_then, cond-false, cases_Bool, both_ways, or_from}
 use Rattle.machine.proofs.Names.{not_from_true, or_parts, append-nil, drop_more, length-take, list_any-append}
-use Rattle.machine.proofs.Names.{Contains-push, Contains-get_or}
+use Rattle.machine.proofs.Names.{Contains-push, Contains-get_or, Contains-push_cases, Contains-append_cases}
 use Rattle.machine.proofs.Names.{All-contains, FilePage, length-padded, Frame, bytes_of, frame_at, page_of, IsBefore}
 use Rattle.machine.proofs.Names.{before_each, is_of_page, AreRising, Stage, Recording, Describing, SyncingRecords}
 use Rattle.machine.proofs.Names.{Opening, Committing, Applying, SyncingHomes, Closing, Finishing, Committed, Broken}
@@ -17,8 +17,9 @@ use Rattle.machine.proofs.Names.{stands_after, stands_failed, stands_other, Stat
 use Rattle.machine.proofs.Names.{IsSound, IsPrepared, next_page, bytes_with, bytes_at_mark, work_asked, after_record}
 use Rattle.machine.proofs.Names.{after_failure, File, journals_of, AreHomes, Batch, SuperValue, geometry_of, Flushed}
 use Rattle.machine.proofs.Names.{Sync, worked, TornFromWork, LeftWithin, IsStanding, Checkpoint, Lock, not_running}
-use Rattle.machine.proofs.Names.{Event, Mark, Acknowledge, flush_refusal, Told, change_in}
-use Rattle.machine.proofs.Names.{IsLost, IsWaiting, IsWritten}
+use Rattle.machine.proofs.Names.{Event, Mark, Acknowledge, memory_of, after, is_touched, flush_refusal, Told, change_in}
+use Rattle.machine.proofs.Names.{AreContentsOf, HasAcknowledged, IsLost, IsWaiting, AreMarks, IsWritten, IsInFile}
+use Rattle.machine.proofs.Names.{within_file}
 use Rattle.journal.specs.WriteOuts.{current}
 use Rattle.machine.specs.Rules.{next_record as record_asked}
 use Rattle.journal.specs.declared.flushed.Flushed.TheVariants as flushed
@@ -26,7 +27,7 @@ use Rattle.page_entry.specs.declared.refusal.Refusal.TheVariants as refusals
 use Rattle.machine.proofs.durable.Lists.{only_one, some_same, none_some, flat_map-append}
 use Rattle.machine.proofs.durable.Pages.{bytes_with-at, bytes_with-none, bytes_with-freed}
 use Rattle.machine.proofs.durable.Uncommitted.{all_committed, whole_frozen, none_uncommitted, uncommitted_before, waits_after}
-use Rattle.machine.proofs.durable.Histories.{calm_none, calm_acknowledge, IsFresh, written_same, written_new, AreFrozenRecords, SameFiles, record_as, acknowledge_same, acknowledge_no_mark, marks_more}
+use Rattle.machine.proofs.durable.Histories.{calm_of, quiet_nothing, quiet_acknowledge, IsFresh, written_same, written_new, AreFrozenRecords, SameFiles, in_file_as, part_as, contents_more, record_as, IsUntouched, quiet_untouched, touched_after-append, after-append, acknowledge_same, acknowledge_no_mark, acknowledged_more, marks_more, marks_settled}
 use Rattle.machine.proofs.durable.Marks.{IsDurable}
 use Rattle.machine.proofs.sound.Admitted.{second_not_refused}
 
@@ -254,10 +255,6 @@ module _ (s : State) (outs : WriteOutsValue) where
   same_number true = refl
   same_number false = refl
 
-  same_outs : (records : Bool) → (stepped s records outs).write_outs ≡ outs
-  same_outs true = refl
-  same_outs false = refl
-
   stepped_records : (records : Bool) (new : ℕ → List ℕ) → IsSound s → AreFrozenRecords s new → AreFrozenRecords (stepped s records outs) new
   stepped_records true new sound are = released_records s new sound are
   stepped_records false new sound are = are
@@ -302,7 +299,7 @@ module _ (files : List File) (told : Told) (s : State) (seen : List ℕ) (may : 
     old = old;
     new = new;
     stands = stands_failed s.table old new s.write_outs seen may (record_asked s) (size_of_record s sound) stands flush_whole some is_new seen' may' left;
-    written = written_same files told s (after_failure s) old new w [] (calm_none files told.history) (record { table = refl; lengths = refl }) (λ n has. absurd (omega (arith, has.1))) w.marks (λ broken held. not_busy held) never_lost (λ k d lt. absurd (omega arith))
+    written = written_same files told s (after_failure s) old new w [] (calm_of files told.history [] (quiet_nothing told.history)) (record { table = refl; lengths = refl }) (λ n has. absurd (omega (arith, has.1))) w.marks (λ broken held. not_busy held) never_lost (λ k d lt. absurd (omega arith))
         (λ n has. absurd (omega (arith, has.1))) refl (marks_more w.before w.marked told.history [] s (after_failure s) (λ n has. absurd (omega (arith, has.1))) (λ n wait. inr wait) never_lost w.only) (λ n has. absurd (omega (arith, has.1))) w.fresh;
   })
 
@@ -317,35 +314,27 @@ module _ (files : List File) (told : Told) (s : State) (seen : List ℕ) (may : 
     stands_now : IsStanding s.table outs old new (worked seen (work_asked s)) may'
     stands_now = stands_after s.table old new s.write_outs seen may (record_asked s) (size_of_record s sound) stands flush_whole some is_new may' left sure
 
-    stands_as : (other : ℕ → List ℕ) → IsStanding s.table outs other new (worked seen (work_asked s)) may' → IsStanding after_it.table after_it.write_outs other new (worked seen (work_asked s)) may'
-    stands_as other is =
-        subst (λ (o : WriteOutsValue). IsStanding after_it.table o other new (worked seen (work_asked s)) may') (sym (same_outs s outs records))
-        (subst (λ (t : SuperValue). IsStanding t outs other new (worked seen (work_asked s)) may') (sym (same_files s outs records).table) is)
+    stands_as : (other : ℕ → List ℕ) → IsStanding s.table outs other new (worked seen (work_asked s)) may' → IsStanding after_it.table outs other new (worked seen (work_asked s)) may'
+    stands_as other is = subst (λ (t : SuperValue). IsStanding t outs other new (worked seen (work_asked s)) may') (sym (same_files s outs records).table) is
 
-    marks_now : All (λ (y : WriteOut). Contains w.marked (Mark y.batch.mark)) after_it.write_outs.batches
-    marks_now = subst (λ (o : WriteOutsValue). All (λ (y : WriteOut). Contains w.marked (Mark y.batch.mark)) o.batches) (sym (same_outs s outs records)) (marks_after (next_answer s.write_outs) s.write_outs.batches w.marked w.marks)
+    marks_now : All (λ (y : WriteOut). Contains w.marked (Mark y.batch.mark)) outs.batches
+    marks_now = marks_after (next_answer s.write_outs) s.write_outs.batches w.marked w.marks
 
     still_whole : (answer : Flushed) → (answer ≡ flushed.Device → ⊥) → broken_after answer s.write_outs.broken ≡ false
     still_whole flushed.Device other = absurd (other refl)
     still_whole answer other = flush_whole
 
-    ready_now : (next_answer s.write_outs ≡ flushed.Device → ⊥) → after_it.write_outs.broken ≡ true → change_in after_it.hardware.shootdown.lock ≡ Some Checkpoint → has_uncommitted after_it.write_outs.batches ≡ false
-    ready_now other broken held = absurd (both_ways after_it.write_outs.broken (ap (λ (o : WriteOutsValue). o.broken) (same_outs s outs records) ∙ still_whole (next_answer s.write_outs) other) broken)
-
-    batches_now : (y : WriteOut) → Contains after_it.write_outs.batches y → Contains (batches_after (next_answer s.write_outs) s.write_outs.batches) y
-    batches_now y there = subst (λ (o : WriteOutsValue). Contains o.batches y) (same_outs s outs records) there
+    ready_now : (next_answer s.write_outs ≡ flushed.Device → ⊥) → outs.broken ≡ true → change_in after_it.hardware.shootdown.lock ≡ Some Checkpoint → has_uncommitted outs.batches ≡ false
+    ready_now other broken held = absurd (both_ways outs.broken (still_whole (next_answer s.write_outs) other) broken)
 
     fresh_still : IsFresh after_it w.before
     fresh_still y there early has =
-        let was = uncommitted_before (next_answer s.write_outs) s.write_outs.batches y (batches_now y there) early in
+        let was = uncommitted_before (next_answer s.write_outs) s.write_outs.batches y there early in
         w.fresh was.before was.there was.early (subst (λ (b : Batch). Contains w.before (Mark b.mark)) (sym was.batch) has)
 
     -- what waited still does, or is committed now
-    waits_now : (n : ℕ) → IsWaiting s.write_outs.batches n → IsWaiting after_it.write_outs.batches n ⊎ (next_answer s.write_outs ≡ flushed.Committed n)
-    waits_now n wait = elim (waits_after s.write_outs.batches (next_answer s.write_outs) (sym (cond-false s.write_outs.broken flushed.Broken (option_map_or answer_of (current s.write_outs.batches) flushed.Broken) flush_whole)) n wait) [
-      | inl still ↦ inl (subst (λ (o : WriteOutsValue). IsWaiting o.batches n) (sym (same_outs s outs records)) still)
-      | inr e ↦ inr e
-    ]
+    waits_now : (n : ℕ) → IsWaiting s.write_outs.batches n → IsWaiting outs.batches n ⊎ (next_answer s.write_outs ≡ flushed.Committed n)
+    waits_now n wait = waits_after s.write_outs.batches (next_answer s.write_outs) (sym (cond-false s.write_outs.broken flushed.Broken (option_map_or answer_of (current s.write_outs.batches) flushed.Broken) flush_whole)) n wait
 
     -- the batch isn't committed by it, or was before
     pub flush_goes_on : (next_answer s.write_outs ≡ flushed.Device → ⊥) → ((n : ℕ) → next_answer s.write_outs ≡ flushed.Committed n → ⊥) → IsDurable files (record told { history = told.history ++ [] }) after_it (worked seen (work_asked s)) may'
@@ -353,7 +342,7 @@ module _ (files : List File) (told : Told) (s : State) (seen : List ℕ) (may : 
       old = old;
       new = new;
       stands = stands_as old stands_now;
-      written = written_same files told s after_it old new w [] (calm_none files told.history) (same_files s outs records) (λ n has. absurd (omega (arith, has.1))) marks_now (ready_now other) never_lost (stepped_records s outs records new sound w.frozen)
+      written = written_same files told s after_it old new w [] (calm_of files told.history [] (quiet_nothing told.history)) (same_files s outs records) (λ n has. absurd (omega (arith, has.1))) marks_now (ready_now other) never_lost (stepped_records s outs records new sound w.frozen)
           (λ n has. absurd (omega (arith, has.1))) (same_number s outs records)
           (marks_more w.before w.marked told.history [] s after_it (λ n has. absurd (omega (arith, has.1))) (λ n wait. elim (waits_now n wait) [ inl still ↦ inr still | inr e ↦ absurd (uncommitting n e) ]) never_lost w.only) (λ n has. absurd (omega (arith, has.1))) fresh_still;
     }
@@ -369,10 +358,10 @@ module _ (files : List File) (told : Told) (s : State) (seen : List ℕ) (may : 
           old = new;
           new = new;
           stands = stands_as new (stands_other s.table old new new outs (worked seen (work_asked s)) may' none stands_now);
-          written = written_new files told s after_it old new w (Acknowledge number ∷ []) (calm_acknowledge files told.history number) (same_files s outs records) (acknowledges in_new) marks_now (ready_now (λ e. never number (sym is ∙ e))) never_lost (stepped_records s outs records new sound w.frozen)
+          written = written_new files told s after_it old new w (Acknowledge number ∷ []) (calm_of files told.history (Acknowledge number ∷ []) (quiet_acknowledge told.history number)) (same_files s outs records) (acknowledges in_new) marks_now (ready_now (λ e. never number (sym is ∙ e))) never_lost (stepped_records s outs records new sound w.frozen)
               (acknowledge_no_mark number) (same_number s outs records)
               (marks_more w.before w.marked told.history (Acknowledge number ∷ []) s after_it (acknowledge_no_mark number) (λ n wait. elim (waits_now n wait) [ inl still ↦ inr still | inr e ↦ inl (this_acked n (sym is ∙ e)) ]) never_lost w.only)
-              (λ y there early has. none_uncommitted outs.batches y none (batches_now y there) early) (λ n wait. none_uncommitted outs.batches wait.w none (batches_now wait.w wait.there) wait.early);
+              (λ y there early has. none_uncommitted outs.batches y none there early) (λ n wait. none_uncommitted outs.batches wait.w none wait.there wait.early);
         }
       where
         never : (n : ℕ) → flushed.Committed n ≡ flushed.Device → ⊥

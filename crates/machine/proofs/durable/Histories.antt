@@ -6,7 +6,7 @@ use Rattle.machine.proofs.Names.{and_from, and_left, and_right, eq-eqb, ne_eqb, 
 use Rattle.machine.proofs.Names.{and_parts, false_from_ne_true, length-take, append-nil, File, length-padded, overwrite}
 use Rattle.machine.proofs.Names.{length-overwrite, Memory, Event, Mark, Acknowledge, memory_of, file_bytes, stored}
 use Rattle.machine.proofs.Names.{after, touched_after, is_touched, unmarked_after, has_unmarked, Contains, All}
-use Rattle.machine.proofs.Names.{Contains-append_left, Contains-append_cases, Contains-get_or}
+use Rattle.machine.proofs.Names.{Contains-append_left, Contains-append_cases, Contains-push_cases, Contains-get_or}
 use Rattle.machine.proofs.Names.{HasAcknowledged, IsLost, IsWaiting, AreMarks, AreTouched, change_in, HasParts}
 use Rattle.machine.proofs.Names.{AreContentsOf, IsWritten, State, home_of, cut_at_end, FilePage, MarkMade}
 use Rattle.machine.proofs.Names.{bytes_at_mark, Told, SuperValue, WriteOut, has_committed, WriteOutsValue}
@@ -364,13 +364,10 @@ records_as s x leaves new are =
 abbrev pub AreCalm : List File → List Event → List Event → Type 0
 AreCalm files history events = (file page : ℕ) → is_touched (history ++ events) file page ≡ false → IsUntouched (memory_of files) history events file page
 
-pub calm_none : (files : List File) (history : List Event) → AreCalm files history []
-calm_none files history file page is = quiet_untouched (memory_of files) history [] file page (inl refl) is
-
-pub calm_acknowledge : (files : List File) (history : List Event) (number : ℕ) → AreCalm files history (Acknowledge number ∷ [])
-calm_acknowledge files history number file page is = record {
-  before = sym (touched_after-append file page false history (Acknowledge number ∷ [])) ∙ is;
-  same = ap (λ (m : ℕ → ℕ → List ℕ). m file page) (after-append (memory_of files) history (Acknowledge number ∷ []));
+pub calm_of : (files : List File) (history events : List Event) → AreQuiet history events → AreCalm files history events
+calm_of files history events quiet file page is = record {
+  before = sym (quiet.touched file page) ∙ is;
+  same = ap (λ (m : Memory). m file page) (quiet.memory (memory_of files));
 }
 
 -- the batches that aren't committed aren't in this prefix
