@@ -6,7 +6,6 @@ use Rattle.machine.proofs.Names.{block_at, length-FramesState, has_free, Spaces,
 use Rattle.machine.proofs.Names.{FaultServed, is_in_memory, copies_out, place_of_fault, fault_refusal, FixRefused}
 use Rattle.machine.proofs.Names.{FixDone, refusal_of, reads_home, block_from, State, length_of, home_of, page_from}
 use Rattle.machine.proofs.Names.{served_refusal, fix_refusal, is_absent, reads_page, Fixes, with_hardware, AnswersBy}
-use Rattle.machine.proofs.Names.{zeros}
 use Rattle.page_entry.specs.declared.refusal.Refusal.TheVariants as refusals
 use Rattle.fault.specs.declared.page_fault.PageFault.{PageFault}
 use Rattle.fault.specs.Fixing.{cut_to_length as cut_by}
