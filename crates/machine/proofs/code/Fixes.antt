@@ -2,7 +2,7 @@
 use Rattle.machine.proofs.Names.{ℕ, ◌≡◌, inl, inr, ◌*◌, ◌/◌, ◌≤◌, ◌&&◌, ◌||◌, not, Bool, true, false, cond, List, []}
 use Rattle.machine.proofs.Names.{◌∷◌, ◌++◌, length, take, Option, Some, None, is_none, Result, Ok, refl, sym, ap, ◌∙◌}
 use Rattle.machine.proofs.Names.{subst, ⊎_elim, arith, drop_at, take_all, Refusal, Place, may_write, cond-false}
-use Rattle.machine.proofs.Names.{block_at, length-FramesState, has_free, Spaces, current, not_free, page_at}
+use Rattle.machine.proofs.Names.{block_at, length-zeros, FramesState, has_free, Spaces, current, not_free, page_at}
 use Rattle.machine.proofs.Names.{FaultServed, is_in_memory, copies_out, place_of_fault, fault_refusal, FixRefused}
 use Rattle.machine.proofs.Names.{FixDone, refusal_of, reads_home, block_from, State, length_of, home_of, page_from}
 use Rattle.machine.proofs.Names.{served_refusal, fix_refusal, is_absent, reads_page, Fixes, with_hardware, AnswersBy}
