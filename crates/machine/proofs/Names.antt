@@ -206,8 +206,8 @@ pub use Rattle.std.specs.Option.{IfNone, IfSome, option_and_then, option_map, op
 pub use Rattle.std.specs.Ordering.{nat_cmp}
 pub use Rattle.std.specs.Prelude.{MatchBool, nat_lt, IfErr, IfOk, IsTrue}
 pub use Rattle.volume_codec.proofs.Public.{blocks_from-device, fits_geometry, length-block_at, length-file}
-pub use Rattle.volume_codec.proofs.Public.{length-lengths_in, length-padded, take-past, total_pages-take_le}
-pub use Rattle.volume_codec.proofs.Public.{total_pages-take_more, zeros-nil}
+pub use Rattle.volume_codec.proofs.Public.{length-lengths_in, length-padded, length-zeros, take-past}
+pub use Rattle.volume_codec.proofs.Public.{total_pages-take_le, total_pages-take_more, zeros-nil}
 pub use Rattle.volume_codec.specs.Descriptor.{AreHomes, RiseWithin}
 pub use Rattle.volume_codec.specs.Files.{File, TableFile}
 pub use Rattle.volume_codec.specs.Layout.{GeometryValue, IsHome, block_at, first_file_home, first_home, journals_of}
