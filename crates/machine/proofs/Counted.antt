@@ -255,14 +255,11 @@ module _ (n : ℕ) (batch : Batch) (its : batch.mark ≡ n) (g : GeometryValue) 
     -- a step of the write-outs that answers so
     stepped : (a : Flushed) → GoesOn a → option_map_or answer_of (current s.write_outs.batches) flushed.Broken ≡ a → Stands s.write_outs works
         → Stands (outs_after s.write_outs a) (works ++ asked s.write_outs.batches (option_map_or (work_of s.write_outs.geometry (next_record s)) (current s.write_outs.batches) Nothing))
-    stepped flushed.Going goes e (inr tells) = inr (advances s.write_outs.batches works s.write_outs.geometry (next_record s) (subst GoesOn (sym e) goes) tells)
-    stepped (flushed.Committed mark) goes e (inr tells) = inr (advances s.write_outs.batches works s.write_outs.geometry (next_record s) (subst GoesOn (sym e) goes) tells)
-    stepped (flushed.Done mark) goes e (inr tells) = inr (finishes s.write_outs.batches works _ mark e tells)
     stepped flushed.Device goes e st = absurd goes
     stepped flushed.Broken goes e st = absurd goes
-    stepped flushed.Going goes e (inl broken) = inl broken
-    stepped (flushed.Committed mark) goes e (inl broken) = inl broken
-    stepped (flushed.Done mark) goes e (inl broken) = inl broken
+    stepped (flushed.Done mark) goes e (inr tells) = inr (finishes s.write_outs.batches works _ mark e tells)
+    stepped answer goes e (inl broken) = inl broken
+    stepped answer goes e (inr tells) = inr (advances s.write_outs.batches works s.write_outs.geometry (next_record s) (subst GoesOn (sym e) goes) tells)
 
   module _ (s : State) (disk : List ℕ) (p : ℕ) (act : Act) (reply : Reply) (new : State) (disk' : List ℕ) (sound : IsSound s) where
     -- marks are counted on
@@ -322,8 +319,7 @@ module _ (n : ℕ) (batch : Batch) (its : batch.mark ≡ n) (g : GeometryValue) 
           asks = (mid, later.works ++ asked_for n last.state step.act reply, taken, later.asks, append_assoc its later.works (asked_for n last.state step.act reply));
           stands = subst (Stands last.state.write_outs) (append_assoc before its later.works) later.stands;
         }
-    run [] (answer ∷ answers) old before sound le taken st = absurd taken
-    run (first ∷ steps) [] old before sound le taken st = absurd taken
+    run steps answers old before sound le taken st = absurd taken
 
     -- a last step that answers so, with the mark, is of its write-out
     module _ (answer : Flushed) (goes : GoesOn answer) (tells : (w : WriteOut) → answer_of w ≡ answer → w.batch.mark ≡ n) (works : List Work) where
@@ -379,20 +375,14 @@ committed_is number (flushed.Committed mark) e = ap flushed.Committed (same numb
   where
     same : (a b : ℕ) → replies.Committed a ≡ replies.Committed b → b ≡ a
     same a b e = cc
-committed_is number flushed.Going e = cc
-committed_is number (flushed.Done mark) e = cc
-committed_is number flushed.Device e = cc
-committed_is number flushed.Broken e = cc
+committed_is number answer e = cc
 
 done_is : (number : ℕ) (a : Flushed) → replies.Done number ≡ reply_to a → a ≡ flushed.Done number
 done_is number (flushed.Done mark) e = ap flushed.Done (same number mark e)
   where
     same : (a b : ℕ) → replies.Done a ≡ replies.Done b → b ≡ a
     same a b e = cc
-done_is number flushed.Going e = cc
-done_is number (flushed.Committed mark) e = cc
-done_is number flushed.Device e = cc
-done_is number flushed.Broken e = cc
+done_is number answer e = cc
 
 -- ---- from the mark on
 

@@ -20,6 +20,7 @@ use Rattle.machine.proofs.durable.Histories.{length-memory_of}
 use Rattle.machine.proofs.track.ToldSpaces.{AreProcessorsTold, AreSpacesTold, spaces_made}
 use Rattle.machine.proofs.track.Arranged.{arranged_from}
 use Rattle.machine.proofs.track.Pages.{HasPages}
+use Rattle.machine.proofs.sound.Lists.{get_or-replicate-same}
 use Rattle.machine.proofs.durable.Lists.{contains_none}
 use Rattle.machine.proofs.durable.Homes.{capacity_at, pages_within, page_in_capacity, home_is, within_cut}
 use Rattle.machine.proofs.durable.Marks.{IsDurable}
@@ -56,12 +57,7 @@ first_processors cpus tlb =
 -- ---- what is told of pages
 
 none_held : (frames copies frame : ℕ) (owner : FilePage) → Holds (all_free frames copies) frame owner → ⊥
-none_held frames copies frame owner holds = let none = ap page_held (free frames frame) in cc
-  where
-    free : (n k : ℕ) → ◌≡◌ {A = Option Frame} (get_or (replicate n None) k None) None
-    free zero k = refl
-    free (suc n) zero = refl
-    free (suc n) (suc k) = free n k
+none_held frames copies frame owner holds = let none = ap page_held (get_or-replicate-same frames frame None) in cc
 
 length-file_bytes : (files : List File) (file : ℕ) → get_or (map (λ (f : File). length f.bytes) files) file 0 ≡ length (file_bytes files file)
 length-file_bytes [] file = refl

@@ -1,10 +1,10 @@
 -- A step of the write-outs: the record that it writes is what New has; Old and New stay until the batch that wasn't committed is, and then what was New is Old, too.
 use Rattle.machine.proofs.Names.{◌≡◌, ◌<◌, ◌≤◌, ◌+◌, ◌-◌, ◌*◌, ℕ, true, false, not, List, [], ◌∷◌, ◌++◌, length, map}
 use Rattle.machine.proofs.Names.{take, drop, get_or, Option, Some, None, IsSome, inl, inr, refl, sym, ap, ◌∙◌, subst}
-use Rattle.machine.proofs.Names.{arith, ◌==◌, ◌⊎◌, zero, suc, cond, Bool, Contains, flat_map, list_any, All, option_map}
+use Rattle.machine.proofs.Names.{arith, ◌==◌, ◌⊎◌, suc, cond, Bool, Contains, flat_map, list_any, All, option_map}
 use Rattle.machine.proofs.Names.{option_map_or, option_and_then, cond-false, cases_Bool, both_ways, or_from}
 use Rattle.machine.proofs.Names.{not_from_true, or_parts, append-nil, drop_more, length-take, list_any-append}
-use Rattle.machine.proofs.Names.{Contains-push, Contains-get_or, Contains-push_cases, Contains-append_cases}
+use Rattle.machine.proofs.Names.{Contains-push, Contains-get_or}
 use Rattle.machine.proofs.Names.{All-contains, FilePage, length-padded, Frame, bytes_of, frame_at, page_of, IsBefore}
 use Rattle.machine.proofs.Names.{before_each, is_of_page, AreRising, Stage, Recording, Describing, SyncingRecords}
 use Rattle.machine.proofs.Names.{Opening, Committing, Applying, SyncingHomes, Closing, Finishing, Committed, Broken}
@@ -17,17 +17,17 @@ use Rattle.machine.proofs.Names.{stands_after, stands_failed, stands_other, Stat
 use Rattle.machine.proofs.Names.{IsSound, IsPrepared, next_page, bytes_with, bytes_at_mark, work_asked, after_record}
 use Rattle.machine.proofs.Names.{after_failure, File, journals_of, AreHomes, Batch, SuperValue, geometry_of, Flushed}
 use Rattle.machine.proofs.Names.{Sync, worked, TornFromWork, LeftWithin, IsStanding, Checkpoint, Lock, not_running}
-use Rattle.machine.proofs.Names.{Event, Mark, Acknowledge, memory_of, after, is_touched, flush_refusal, Told, change_in}
-use Rattle.machine.proofs.Names.{AreContentsOf, HasAcknowledged, IsLost, IsWaiting, AreMarks, IsWritten, IsInFile}
-use Rattle.machine.proofs.Names.{within_file}
+use Rattle.machine.proofs.Names.{Event, Mark, Acknowledge, flush_refusal, Told, change_in}
+use Rattle.machine.proofs.Names.{IsLost, IsWaiting, IsWritten}
 use Rattle.journal.specs.WriteOuts.{current}
 use Rattle.machine.specs.Rules.{next_record as record_asked}
 use Rattle.journal.specs.declared.flushed.Flushed.TheVariants as flushed
 use Rattle.page_entry.specs.declared.refusal.Refusal.TheVariants as refusals
+use Rattle.machine.proofs.sound.Waiting.{waiting-none}
 use Rattle.machine.proofs.durable.Lists.{only_one, some_same, none_some, flat_map-append}
 use Rattle.machine.proofs.durable.Pages.{bytes_with-at, bytes_with-none, bytes_with-freed}
-use Rattle.machine.proofs.durable.Uncommitted.{all_committed, whole_frozen, none_uncommitted, uncommitted_before, waits_after}
-use Rattle.machine.proofs.durable.Histories.{calm_of, quiet_nothing, quiet_acknowledge, IsFresh, written_same, written_new, AreFrozenRecords, SameFiles, in_file_as, part_as, contents_more, record_as, IsUntouched, quiet_untouched, touched_after-append, after-append, acknowledge_same, acknowledge_no_mark, acknowledged_more, marks_more, marks_settled}
+use Rattle.machine.proofs.durable.Uncommitted.{whole_frozen, none_uncommitted, uncommitted_before, waits_after}
+use Rattle.machine.proofs.durable.Histories.{calm_of, quiet_nothing, quiet_acknowledge, IsFresh, written_same, written_new, AreFrozenRecords, SameFiles, record_as, acknowledge_same, acknowledge_no_mark, marks_more}
 use Rattle.machine.proofs.durable.Marks.{IsDurable}
 use Rattle.machine.proofs.sound.Admitted.{second_not_refused}
 
@@ -112,7 +112,7 @@ first_waiting batches i ordered r = elim (cases_Bool (has_uncommitted batches)) 
         rest = drop (r.w.steps + 1) r.w.batch.homes;
         first = ap (flat_map (λ (x : WriteOut). drop x.steps x.batch.homes)) n.are
             ∙ flat_map-append (λ (x : WriteOut). drop x.steps x.batch.homes) n.others (n.newest ∷ [])
-            ∙ ap (λ (l : List ℕ). l ++ flat_map (λ (x : WriteOut). drop x.steps x.batch.homes) (n.newest ∷ [])) (all_committed n.others (older_committed n.others n.newest n.older))
+            ∙ ap (λ (l : List ℕ). l ++ flat_map (λ (x : WriteOut). drop x.steps x.batch.homes) (n.newest ∷ [])) (waiting-none n.others (older_committed n.others n.newest n.older))
             ∙ append-nil (drop n.newest.steps n.newest.batch.homes)
             ∙ ap (λ (x : WriteOut). drop x.steps x.batch.homes) (sym same) ∙ behind;
       } in found)
@@ -168,19 +168,11 @@ record_is_new s new sound ordered whole frozen home e =
 
 -- the stage whose step commits a batch
 committing : (w : WriteOut) (o : Option Stage) (number : ℕ) → option_map_or (answer_at w.batch.mark) o Broken ≡ Committed number → (o ≡ Some Committing) × (w.batch.mark ≡ number)
-committing w None number e = cc
-committing w (Some (Recording i)) number e = cc
-committing w (Some Describing) number e = cc
-committing w (Some SyncingRecords) number e = cc
-committing w (Some Opening) number e = cc
 committing w (Some Committing) number e = (refl, committed_same w.batch.mark number e)
   where
     committed_same : (m n : ℕ) → Committed m ≡ Committed n → m ≡ n
     committed_same m n e = cc
-committing w (Some (Applying i)) number e = cc
-committing w (Some SyncingHomes) number e = cc
-committing w (Some Closing) number e = cc
-committing w (Some Finishing) number e = cc
+committing w o number e = cc
 
 pub record IsCommitting (batches : List WriteOut) (number : ℕ) : Type 0 where
   pub w : WriteOut

@@ -10,7 +10,7 @@ use Rattle.machine.proofs.Names.{has_uncommitted, advanced, batches_after, HasBl
 use Rattle.machine.proofs.Names.{stage_is, committed_parts, done_committed, IsWaiting, drop_all, FilePage, State}
 use Rattle.machine.proofs.Names.{home_of, IsSound, waiting_homes}
 use Rattle.journal.specs.WriteOuts.{current}
-use Rattle.machine.proofs.sound.Waiting.{blocks, committed_steps, committed_still}
+use Rattle.machine.proofs.sound.Waiting.{waiting-none, blocks, committed_steps, committed_still}
 use Rattle.machine.proofs.durable.Lists.{first_or, some_same, none_some, contains_map, contains_drop, contains_flat_map, nothing_mapped}
 
 -- one that isn't committed after a step wasn't before it
@@ -195,33 +195,9 @@ module _ (s : State) (sound : IsSound s) where
         (at.0, at.1, contains_drop at.0.steps at.0.batch.homes (home_of s.table owner) at.2))
   ]
 
--- ---- records that wait
-
-late_steps : (k n : ℕ) (o : Option Stage) → IsAt k n o → option_map_or is_committed o true ≡ true → k ≤ n
-late_steps k n (Some (Recording i)) at e = absurd (both_ways false refl e)
-late_steps k n (Some Describing) at e = absurd (both_ways false refl e)
-late_steps k n (Some SyncingRecords) at e = absurd (both_ways false refl e)
-late_steps k n (Some Opening) at e = absurd (both_ways false refl e)
-late_steps k n (Some Committing) at e = absurd (both_ways false refl e)
-late_steps k n (Some (Applying i)) at e = omega (arith, at.0)
-late_steps k n (Some SyncingHomes) at e = omega (arith, at)
-late_steps k n (Some Closing) at e = omega (arith, at)
-late_steps k n (Some Finishing) at e = omega (arith, at)
-late_steps k n None at e = omega (arith, at)
-
--- of a committed batch no record waits
-pub none_waits : (w : WriteOut) → has_committed w ≡ true → drop w.steps w.batch.homes ≡ []
-none_waits w committed = drop_all w.steps w.batch.homes (late_steps (length w.batch.homes) w.steps (next_stage w) (stage_is (length w.batch.homes) w.steps) committed)
-
-pub all_committed : (batches : List WriteOut) → has_uncommitted batches ≡ false → flat_map (λ (w : WriteOut). drop w.steps w.batch.homes) batches ≡ []
-all_committed [] none = refl
-all_committed (w ∷ newer) none =
-    let parts = committed_parts w newer none in
-    ap (λ (l : List ℕ). l ++ flat_map (λ (w : WriteOut). drop w.steps w.batch.homes) newer) (none_waits w parts.0) ∙ all_committed newer parts.1
-
 -- where each batch is committed, no page is frozen
 pub committed_frozen : (s : State) → IsSound s → has_uncommitted s.write_outs.batches ≡ false → s.checkpoint.frozen ≡ []
 committed_frozen s sound none = elim (cases_Bool s.write_outs.broken) [
   | inl broken ↦ broken_frozen s sound broken
-  | inr whole ↦ nothing_mapped (home_of s.table) s.checkpoint.frozen (whole_frozen s sound whole ∙ all_committed s.write_outs.batches none)
+  | inr whole ↦ nothing_mapped (home_of s.table) s.checkpoint.frozen (whole_frozen s sound whole ∙ waiting-none s.write_outs.batches none)
 ]

@@ -9,6 +9,7 @@ use Rattle.machine.proofs.Names.{entry_at-without_mapping, entry_at-remove, Chec
 use Rattle.machine.proofs.Names.{NotesTaken, IsInRange, IsInSpace, Gathers, ProtectsNoted, without_notes, AreBacked}
 use Rattle.machine.proofs.Names.{page_at, fixed_entry}
 use Rattle.std.specs.FinMap as maps
+use Rattle.machine.proofs.sound.Lists.{get_or-replicate-same}
 use Rattle.machine.proofs.durable.Lists.{some_same, none_some}
 
 -- a frame is dirty by an entry
@@ -181,15 +182,10 @@ dirty_fixed spaces pcid page frame can write (Some entry) present c f =
 
 -- ---- a mark: no frame is dirty any more
 
-get_or-cleared : (n k : ℕ) → get_or (replicate n false) k false ≡ false
-get_or-cleared zero k = refl
-get_or-cleared (suc n) zero = refl
-get_or-cleared (suc n) (suc k) = get_or-cleared n k
-
 pub clean_after_mark : (old new : Spaces) (memory : FramesState) (c d : CheckpointState) (freezes : Bool)
     (pages : List FilePage) (frame : ℕ) → Gathers old memory c d freezes pages → ProtectsNoted d old new
     → IsDirty new (without_notes d) frame → ⊥
-clean_after_mark old new memory c d freezes pages frame gathers protects (inl noted) = false≢true (sym (get_or-cleared (length d.notes) frame) ∙ noted)
+clean_after_mark old new memory c d freezes pages frame gathers protects (inl noted) = false≢true (sym (get_or-replicate-same (length d.notes) frame false) ∙ noted)
 clean_after_mark old new memory c d freezes pages frame gathers protects (inr x) =
     go (entry_at old x.pcid x.page) refl (sym (protects.entries x.pcid x.page) ∙ x.present)
   where
