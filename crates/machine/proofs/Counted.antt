@@ -4,8 +4,8 @@ use Rattle.machine.proofs.Names.{List, [], ◌∷◌, ◌++◌, length, map, dro
 use Rattle.machine.proofs.Names.{ap, ◌∙◌, subst, arith, append_assoc, append-nil, length-append, AllByRecursion}
 use Rattle.machine.proofs.Names.{option_map_or, cond-true, cond-false, cases_Bool, both_ways, eq-eqb, ne_eqb}
 use Rattle.machine.proofs.Names.{length-map, sum_by-append, All-weaker, recursion_from_All, FilePage, Ghosts, File}
-use Rattle.machine.proofs.Names.{GeometryValue, Batch, Stage}
-use Rattle.machine.proofs.Names.{Committing, Finishing, Flushed, answer_at, Work}
+use Rattle.machine.proofs.Names.{GeometryValue, Batch, Stage, Recording, Describing, SyncingRecords, Opening}
+use Rattle.machine.proofs.Names.{Committing, Applying, SyncingHomes, Closing, Finishing, Flushed, answer_at, Work}
 use Rattle.machine.proofs.Names.{Nothing, work_at, calls_of, WriteOut, next_stage, begun_of, advanced_of, work_of}
 use Rattle.machine.proofs.Names.{answer_of, calls_in_steps, WriteOutsValue, has_uncommitted, advanced, outs_after}
 use Rattle.machine.proofs.Names.{outs_record, next_answer, next_batch, begun, IsAt, stage_is, early_calls, all_calls}

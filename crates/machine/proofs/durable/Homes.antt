@@ -1,9 +1,9 @@
 -- Home blocks: they lie in the volume, and no two pages of files share one.
 use Rattle.machine.proofs.Names.{◌≡◌, ℕ, zero, suc, ◌+◌, ◌*◌, ◌<◌, ◌≤◌, List, [], ◌∷◌, length, map, take, get_or, ap}
 use Rattle.machine.proofs.Names.{inl, inr, arith, ◌-◌, eqb, cond, false, ◌++◌, Option, Some, None, refl, sym, ◌∙◌}
-use Rattle.machine.proofs.Names.{subst, true, cond-true, cond-false, cases_Bool, cases_lt, both_ways}
+use Rattle.machine.proofs.Names.{subst, true, cases_order, cond-true, cond-false, cases_Bool, cases_lt, both_ways}
 use Rattle.machine.proofs.Names.{ne_eqb, eqb-true, eqb-false, false_from_ne_true, FilePage, TableFile, File, IsHome}
-use Rattle.machine.proofs.Names.{block_at, pages_of, total_pages, geometry_of, State, home_of, length_of}
+use Rattle.machine.proofs.Names.{first_home, block_at, pages_of, total_pages, geometry_of, State, home_of, length_of}
 use Rattle.machine.proofs.Names.{cut_at_end, page_from, IsInFile, within_file, IsSound, Contains, list_any, All}
 use Rattle.machine.proofs.Names.{take_at, take_all, length-take, append-nil, zeros, padded, zeros-nil, Frame, frame_at}
 use Rattle.machine.proofs.Names.{bytes_of, page_of, Holds, is_of_page, is_frozen, same_page, bytes_with, bytes_at_mark}

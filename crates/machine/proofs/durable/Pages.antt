@@ -1,8 +1,8 @@
 -- Which pages frames and copies have, and with what bytes, after each change of them; and what frozen pages had at their mark.
 use Rattle.machine.proofs.Names.{ℕ, ◌≡◌, ◌≢◌, true, false, List, slice_get, Option, Some, None, refl, sym, ap, ◌∙◌, inl}
-use Rattle.machine.proofs.Names.{inr, ◌⊎◌, ◌<◌, ◌||◌, zero, suc, cond, [], ◌∷◌, length, map, get_or, set, arith}
+use Rattle.machine.proofs.Names.{inr, ◌⊎◌, ◌<◌, ◌||◌, zero, suc, eqb, cond, [], ◌∷◌, length, map, get_or, set, arith}
 use Rattle.machine.proofs.Names.{not, subst, cases_eq, false_from_ne_true, false≢true, cond-true, cond-false, both_ways}
-use Rattle.machine.proofs.Names.{and_parts, and_from, or_parts, or_left, or_right, cases_Bool}
+use Rattle.machine.proofs.Names.{and_parts, and_from, eqb-true, eq-eqb, or_parts, or_left, or_right, cases_Bool}
 use Rattle.machine.proofs.Names.{not-true, not_from_false, FilePage, FramesState, Frame, frame_at, bytes_of, overwrite}
 use Rattle.machine.proofs.Names.{overwrite_frame, with_page, with_bytes, without_frame, page_of, with_copy}
 use Rattle.machine.proofs.Names.{frame_at-free, frame_at-with_page_same, frame_at-with_page_other}

@@ -1,8 +1,8 @@
 -- What a crash may leave reads back as the files after a durable prefix of the history; no store reaches a frozen page whose bytes aren't copied.
 use Rattle.machine.proofs.Names.{ℕ, ◌⊎◌, inl, inr, List, Option, Some, None, ◌≡◌, Bool, true, false, MatchBool, refl}
 use Rattle.machine.proofs.Names.{sym, ap, ◌∙◌, ◌<◌, length, subst, File, SuperValue, Recovers, RecoversTo, Stage}
-use Rattle.machine.proofs.Names.{Recording, Describing, SyncingRecords, Opening, Committing}
-use Rattle.machine.proofs.Names.{current_stage, LeftWithin, LeftBefore, stands_left, committed-at}
+use Rattle.machine.proofs.Names.{Recording, Describing, SyncingRecords, Opening, Committing, Applying, SyncingHomes}
+use Rattle.machine.proofs.Names.{Closing, Finishing, current_stage, LeftWithin, LeftBefore, stands_left, committed-at}
 use Rattle.machine.proofs.Names.{stage_committed, Event, memory_of, after, Mark, files_after, is_touched, State}
 use Rattle.machine.proofs.Names.{ReadsBack, IsSound, Told, AreContentsOf, HasAcknowledged, HasFiles, IsWritten}
 use Rattle.machine.proofs.Names.{IsWaiting, IsTracked, Contains, All, option_map_or, option_and_then, both_ways}

@@ -158,9 +158,9 @@ marked_sound s p number new rule sound =
     let outs = with_batch s (s.marks + 1) rule.pages in
     unchanged_sound (record s { hardware = hardware; checkpoint = checkpoint; write_outs = outs; marks = s.marks + 1 }) new
     (rule.done ∙ (λ i. record s { hardware = hardware; checkpoint = checkpoint; write_outs = with_batch s (rule.next i) rule.pages; marks = rule.next i })) (still_sound sound refl refl
-      (ended_spaces s p changes.Checkpoint rule.spaces s.hardware.memory checkpoint outs (s.marks + 1) rule.may (ChangesOnlyAffected-checkpoint old rule.spaces)
-          (record { affected = λ pcid page now. now; touched = λ pcid now. now })
-          (AreSpaces-EditsEntries (λ pcid page entry. protected_where (is_noted rule.noted) entry) old rule.spaces sound.spaces.spaces rule.protected (λ q at. refl)) rule.protected.same_spaces
-          (λ q page place is. sound.spaces.in_table q page place (sym (place_at-EditsEntries (λ pcid at entry. protected_where (is_noted rule.noted) entry) old rule.spaces rule.protected q page) ∙ is)) sound)
-      (memory_marked s p rule.noted (not s.write_outs.broken) rule.pages rule.spaces outs (s.marks + 1) gathers rule.protected none sound.memory)
-      (write_outs_marked s hardware checkpoint rule.pages refl prepared gathers.frozen gathers.gathered.rising there.0 there.1 sound))
+    (ended_spaces s p changes.Checkpoint rule.spaces s.hardware.memory checkpoint outs (s.marks + 1) rule.may (ChangesOnlyAffected-checkpoint old rule.spaces)
+    (record { affected = λ pcid page now. now; touched = λ pcid now. now })
+    (AreSpaces-EditsEntries (λ pcid page entry. protected_where (is_noted rule.noted) entry) old rule.spaces sound.spaces.spaces rule.protected (λ q at. refl)) rule.protected.same_spaces
+    (λ q page place is. sound.spaces.in_table q page place (sym (place_at-EditsEntries (λ pcid at entry. protected_where (is_noted rule.noted) entry) old rule.spaces rule.protected q page) ∙ is)) sound)
+    (memory_marked s p rule.noted (not s.write_outs.broken) rule.pages rule.spaces outs (s.marks + 1) gathers rule.protected none sound.memory)
+    (write_outs_marked s hardware checkpoint rule.pages refl prepared gathers.frozen gathers.gathered.rising there.0 there.1 sound))
