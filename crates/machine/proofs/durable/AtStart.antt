@@ -3,7 +3,7 @@ use Rattle.machine.proofs.Names.{ℕ, zero, suc, ◌≡◌, ◌-◌, ◌*◌, �
 use Rattle.machine.proofs.Names.{drop, map, replicate, get_or, Option, None, is_some, unwrap_or, refl, sym, ap, ◌∙◌}
 use Rattle.machine.proofs.Names.{subst, inl, inr, arith, ◌+◌, ◌≤◌, nat_cmp, cases_lt, cond-false, ne_eqb, false≢true}
 use Rattle.machine.proofs.Names.{length-replicate, get_or-replicate, length-take, length-drop, take_all, append-nil}
-use Rattle.machine.proofs.Names.{take_at, drop_at, drop-drop, drop-take, take-take, take-append_seam, FilePage, Frame}
+use Rattle.machine.proofs.Names.{take_at, drop_at, drop-drop, drop-take, take-take, take-append_seam, FilePage}
 use Rattle.machine.proofs.Names.{all_free, File, TableFile, SuperValue, pages_of, total_pages, geometry_of, block_count}
 use Rattle.machine.proofs.Names.{zeros, padded, zeros-nil, length-padded, length-block_at, length-file, fits_geometry}
 use Rattle.machine.proofs.Names.{Places, AddressSpace, first_spaces, empty_space, Processor, fresh_processor}

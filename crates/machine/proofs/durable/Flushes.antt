@@ -4,21 +4,19 @@ use Rattle.machine.proofs.Names.{take, drop, get_or, Option, Some, None, IsSome,
 use Rattle.machine.proofs.Names.{arith, ◌==◌, ◌⊎◌, suc, cond, Bool, Contains, flat_map, list_any, All, option_map}
 use Rattle.machine.proofs.Names.{option_map_or, option_and_then, cond-false, cases_Bool, both_ways, or_from}
 use Rattle.machine.proofs.Names.{not_from_true, or_parts, append-nil, drop_more, length-take, list_any-append}
-use Rattle.machine.proofs.Names.{Contains-push, Contains-get_or}
-use Rattle.machine.proofs.Names.{All-contains, FilePage, length-padded, Frame, bytes_of, frame_at, page_of, IsBefore}
-use Rattle.machine.proofs.Names.{before_each, is_of_page, AreRising, Stage, Recording, Describing, SyncingRecords}
-use Rattle.machine.proofs.Names.{Opening, Committing, Applying, SyncingHomes, Closing, Finishing, Committed, Broken}
-use Rattle.machine.proofs.Names.{answer_at, WriteOut, next_stage, has_committed, advanced_of, record_at, next_record}
-use Rattle.machine.proofs.Names.{next_home, answer_of, broken_after, WriteOutsValue, has_uncommitted, advanced}
-use Rattle.machine.proofs.Names.{outs_record, outs_home, next_answer, outs_after, current_stage, batches_after}
-use Rattle.machine.proofs.Names.{AreInOrder, stage_at-is, after_committing, newest_of, current-newest, advanced-newest}
-use Rattle.machine.proofs.Names.{committed-at, current_committed, older_committed, batch_before, stands_within}
-use Rattle.machine.proofs.Names.{stands_after, stands_failed, stands_other, State, length_of, home_of, cut_at_end}
-use Rattle.machine.proofs.Names.{IsSound, IsPrepared, next_page, bytes_with, bytes_at_mark, work_asked, after_record}
-use Rattle.machine.proofs.Names.{after_failure, File, journals_of, AreHomes, Batch, SuperValue, geometry_of, Flushed}
-use Rattle.machine.proofs.Names.{Sync, worked, TornFromWork, LeftWithin, IsStanding, Checkpoint, Lock, not_running}
-use Rattle.machine.proofs.Names.{Event, Mark, Acknowledge, flush_refusal, Told, change_in}
-use Rattle.machine.proofs.Names.{IsLost, IsWaiting, IsWritten}
+use Rattle.machine.proofs.Names.{Contains-push, Contains-get_or, All-contains, FilePage, length-padded, Frame, bytes_of}
+use Rattle.machine.proofs.Names.{frame_at, page_of, IsBefore, before_each, is_of_page, AreRising, Stage, Recording}
+use Rattle.machine.proofs.Names.{Committing, Applying, Committed, Broken, answer_at, WriteOut, next_stage}
+use Rattle.machine.proofs.Names.{has_committed, advanced_of, record_at, next_record, next_home, answer_of, broken_after}
+use Rattle.machine.proofs.Names.{WriteOutsValue, has_uncommitted, advanced, outs_record, outs_home, next_answer}
+use Rattle.machine.proofs.Names.{outs_after, current_stage, batches_after, AreInOrder, stage_at-is, after_committing}
+use Rattle.machine.proofs.Names.{newest_of, current-newest, advanced-newest, committed-at, current_committed}
+use Rattle.machine.proofs.Names.{older_committed, batch_before, stands_within, stands_after, stands_failed}
+use Rattle.machine.proofs.Names.{stands_other, State, length_of, home_of, cut_at_end, IsSound, IsPrepared, next_page}
+use Rattle.machine.proofs.Names.{bytes_with, bytes_at_mark, work_asked, after_record, after_failure, File, journals_of}
+use Rattle.machine.proofs.Names.{AreHomes, Batch, SuperValue, geometry_of, Flushed, Sync, worked, TornFromWork}
+use Rattle.machine.proofs.Names.{LeftWithin, IsStanding, Checkpoint, Lock, not_running, Event, Mark, Acknowledge}
+use Rattle.machine.proofs.Names.{flush_refusal, Told, change_in, IsLost, IsWaiting, IsWritten}
 use Rattle.journal.specs.WriteOuts.{current}
 use Rattle.machine.specs.Rules.{next_record as record_asked}
 use Rattle.journal.specs.declared.flushed.Flushed.TheVariants as flushed
