@@ -4,63 +4,39 @@ use Rattle.machine.proofs.Names.{take, drop, get_or, Option, Some, None, IsSome,
 use Rattle.machine.proofs.Names.{arith, ◌==◌, ◌⊎◌, suc, cond, Bool, Contains, flat_map, list_any, All, option_map}
 use Rattle.machine.proofs.Names.{option_map_or, option_and_then, cond-false, cases_Bool, both_ways, or_from}
 use Rattle.machine.proofs.Names.{not_from_true, or_parts, append-nil, drop_more, length-take, list_any-append}
-use Rattle.machine.proofs.Names.{Contains-push, Contains-get_or}
-use Rattle.machine.proofs.Names.{All-contains, FilePage, length-padded, Frame, bytes_of, frame_at, page_of, IsBefore}
-use Rattle.machine.proofs.Names.{before_each, is_of_page, AreRising, Stage, Recording, Describing, SyncingRecords}
-use Rattle.machine.proofs.Names.{Opening, Committing, Applying, SyncingHomes, Closing, Finishing, Committed, Broken}
-use Rattle.machine.proofs.Names.{answer_at, WriteOut, next_stage, has_committed, advanced_of, record_at, next_record}
-use Rattle.machine.proofs.Names.{next_home, answer_of, broken_after, WriteOutsValue, has_uncommitted, advanced}
-use Rattle.machine.proofs.Names.{outs_record, outs_home, next_answer, outs_after, current_stage, batches_after}
-use Rattle.machine.proofs.Names.{AreInOrder, stage_at-is, after_committing, newest_of, current-newest, advanced-newest}
-use Rattle.machine.proofs.Names.{committed-at, current_committed, older_committed, batch_before, stands_within}
-use Rattle.machine.proofs.Names.{stands_after, stands_failed, stands_other, State, length_of, home_of, cut_at_end}
-use Rattle.machine.proofs.Names.{IsSound, IsPrepared, next_page, bytes_with, bytes_at_mark, work_asked, after_record}
-use Rattle.machine.proofs.Names.{after_failure, File, journals_of, AreHomes, Batch, SuperValue, geometry_of, Flushed}
-use Rattle.machine.proofs.Names.{Sync, worked, TornFromWork, LeftWithin, IsStanding, Checkpoint, Lock, not_running}
-use Rattle.machine.proofs.Names.{Event, Mark, Acknowledge, flush_refusal, Told, change_in}
-use Rattle.machine.proofs.Names.{IsLost, IsWaiting, IsWritten}
+use Rattle.machine.proofs.Names.{Contains-push, Contains-get_or, All-contains, FilePage, length-padded, Frame, bytes_of}
+use Rattle.machine.proofs.Names.{frame_at, page_of, IsBefore, before_each, is_of_page, AreRising, Stage, Recording}
+use Rattle.machine.proofs.Names.{Describing, SyncingRecords, Opening, Committing, Applying, SyncingHomes, Closing}
+use Rattle.machine.proofs.Names.{Finishing, Committed, Broken, answer_at, WriteOut, next_stage, has_committed}
+use Rattle.machine.proofs.Names.{advanced_of, record_at, next_record, next_home, answer_of, broken_after}
+use Rattle.machine.proofs.Names.{WriteOutsValue, has_uncommitted, advanced, outs_record, outs_home, next_answer}
+use Rattle.machine.proofs.Names.{outs_after, current_stage, batches_after, AreInOrder, stage_at-is, after_committing}
+use Rattle.machine.proofs.Names.{newest_of, current-newest, advanced-newest, committed-at, current_committed}
+use Rattle.machine.proofs.Names.{older_committed, batch_before, stands_within, stands_after, stands_failed}
+use Rattle.machine.proofs.Names.{stands_other, State, length_of, home_of, cut_at_end, IsSound, IsPrepared, next_page}
+use Rattle.machine.proofs.Names.{bytes_with, bytes_at_mark, work_asked, after_record, after_failure, File, journals_of}
+use Rattle.machine.proofs.Names.{AreHomes, Batch, SuperValue, geometry_of, Flushed, Sync, worked, TornFromWork}
+use Rattle.machine.proofs.Names.{LeftWithin, IsStanding, Checkpoint, Lock, not_running, Event, Mark, Acknowledge}
+use Rattle.machine.proofs.Names.{flush_refusal, Told, change_in, IsLost, IsWaiting, IsWritten}
 use Rattle.journal.specs.WriteOuts.{current}
 use Rattle.machine.specs.Rules.{next_record as record_asked}
 use Rattle.journal.specs.declared.flushed.Flushed.TheVariants as flushed
 use Rattle.page_entry.specs.declared.refusal.Refusal.TheVariants as refusals
 use Rattle.machine.proofs.sound.Waiting.{waiting-none}
 use Rattle.machine.proofs.durable.Lists.{only_one, some_same, none_some, flat_map-append}
-use Rattle.machine.proofs.durable.Pages.{bytes_with-at, bytes_with-none, bytes_with-freed}
+use Rattle.machine.proofs.durable.Pages.{bytes_with-at, bytes_with-freed}
 use Rattle.machine.proofs.durable.Uncommitted.{whole_frozen, none_uncommitted, uncommitted_before, waits_after}
 use Rattle.machine.proofs.durable.Histories.{calm_of, quiet_nothing, quiet_acknowledge, IsFresh, written_same, written_new, AreFrozenRecords, SameFiles, record_as, acknowledge_same, acknowledge_no_mark, marks_more}
 use Rattle.machine.proofs.durable.Marks.{IsDurable}
 use Rattle.machine.proofs.sound.Admitted.{second_not_refused}
+use Rattle.machine.proofs.sound.Records.{few_at_mark}
 
 -- ---- the record that a step of the write-outs writes is what New has, and the step that commits a batch leaves none
 
 -- ---- the size of a record
 
-some_frame : (o : Option Frame) (owner : FilePage) → page_of o ≡ Some owner → IsSome o
-some_frame None owner e = absurd (none_some owner e)
-some_frame (Some f) owner e = refl
-
-kept_size : (s : State) → IsSound s → (copy : ℕ) (owner : FilePage) → page_of (get_or s.hardware.memory.copies copy None) ≡ Some owner → length (bytes_of (get_or s.hardware.memory.copies copy None)) ≡ 4096
-kept_size s sound copy owner is = by (get_or s.hardware.memory.copies copy None) refl is
-  where
-    by : (o : Option Frame) → get_or s.hardware.memory.copies copy None ≡ o → page_of o ≡ Some owner → length (bytes_of o) ≡ 4096
-    by None e is = absurd (none_some owner is)
-    by (Some kept) e is = sound.memory.memory.copies_whole copy kept e
-
 pub size_at_mark : (s : State) → IsSound s → (owner : FilePage) → length (bytes_at_mark s.hardware.memory owner) ≤ 4096
-size_at_mark s sound owner = elim (cases_Bool (list_any (is_of_page owner) s.hardware.memory.copies)) [
-  | inl copied ↦
-      (let at = bytes_with-at owner s.hardware.memory.copies (bytes_with owner s.hardware.memory.frames []) copied in
-      omega (arith, ap length at.2, kept_size s sound at.0 owner at.1))
-  | inr none ↦
-      (let same = ap length (bytes_with-none owner s.hardware.memory.copies (bytes_with owner s.hardware.memory.frames []) none) in
-      elim (cases_Bool (list_any (is_of_page owner) s.hardware.memory.frames)) [
-        | inl there ↦
-            (let at = bytes_with-at owner s.hardware.memory.frames [] there in
-            let whole = sound.memory.memory.frames_whole at.0 (some_frame (frame_at s.hardware.memory at.0) owner at.1) in
-            omega (arith, same, ap length at.2, whole))
-        | inr absent ↦ omega (arith, same, ap length (bytes_with-none owner s.hardware.memory.frames [] absent))
-      ])
-]
+size_at_mark s sound owner = few_at_mark s.hardware.memory owner sound.memory.memory
 
 pub size_of_record : (s : State) → IsSound s → length (record_asked s) ≡ 4096
 size_of_record s sound =
