@@ -23,42 +23,19 @@ use Rattle.journal.specs.declared.flushed.Flushed.TheVariants as flushed
 use Rattle.page_entry.specs.declared.refusal.Refusal.TheVariants as refusals
 use Rattle.machine.proofs.sound.Waiting.{waiting-none}
 use Rattle.machine.proofs.durable.Lists.{only_one, some_same, none_some, flat_map-append}
-use Rattle.machine.proofs.durable.Pages.{bytes_with-at, bytes_with-none, bytes_with-freed}
+use Rattle.machine.proofs.durable.Pages.{bytes_with-at, bytes_with-freed}
 use Rattle.machine.proofs.durable.Uncommitted.{whole_frozen, none_uncommitted, uncommitted_before, waits_after}
 use Rattle.machine.proofs.durable.Histories.{calm_of, quiet_nothing, quiet_acknowledge, IsFresh, written_same, written_new, AreFrozenRecords, SameFiles, record_as, acknowledge_same, acknowledge_no_mark, marks_more}
 use Rattle.machine.proofs.durable.Marks.{IsDurable}
 use Rattle.machine.proofs.sound.Admitted.{second_not_refused}
+use Rattle.machine.proofs.sound.Records.{few_at_mark}
 
 -- ---- the record that a step of the write-outs writes is what New has, and the step that commits a batch leaves none
 
 -- ---- the size of a record
 
-some_frame : (o : Option Frame) (owner : FilePage) → page_of o ≡ Some owner → IsSome o
-some_frame None owner e = absurd (none_some owner e)
-some_frame (Some f) owner e = refl
-
-kept_size : (s : State) → IsSound s → (copy : ℕ) (owner : FilePage) → page_of (get_or s.hardware.memory.copies copy None) ≡ Some owner → length (bytes_of (get_or s.hardware.memory.copies copy None)) ≡ 4096
-kept_size s sound copy owner is = by (get_or s.hardware.memory.copies copy None) refl is
-  where
-    by : (o : Option Frame) → get_or s.hardware.memory.copies copy None ≡ o → page_of o ≡ Some owner → length (bytes_of o) ≡ 4096
-    by None e is = absurd (none_some owner is)
-    by (Some kept) e is = sound.memory.memory.copies_whole copy kept e
-
 pub size_at_mark : (s : State) → IsSound s → (owner : FilePage) → length (bytes_at_mark s.hardware.memory owner) ≤ 4096
-size_at_mark s sound owner = elim (cases_Bool (list_any (is_of_page owner) s.hardware.memory.copies)) [
-  | inl copied ↦
-      (let at = bytes_with-at owner s.hardware.memory.copies (bytes_with owner s.hardware.memory.frames []) copied in
-      omega (arith, ap length at.2, kept_size s sound at.0 owner at.1))
-  | inr none ↦
-      (let same = ap length (bytes_with-none owner s.hardware.memory.copies (bytes_with owner s.hardware.memory.frames []) none) in
-      elim (cases_Bool (list_any (is_of_page owner) s.hardware.memory.frames)) [
-        | inl there ↦
-            (let at = bytes_with-at owner s.hardware.memory.frames [] there in
-            let whole = sound.memory.memory.frames_whole at.0 (some_frame (frame_at s.hardware.memory at.0) owner at.1) in
-            omega (arith, same, ap length at.2, whole))
-        | inr absent ↦ omega (arith, same, ap length (bytes_with-none owner s.hardware.memory.frames [] absent))
-      ])
-]
+size_at_mark s sound owner = few_at_mark s.hardware.memory owner sound.memory.memory
 
 pub size_of_record : (s : State) → IsSound s → length (record_asked s) ≡ 4096
 size_of_record s sound =

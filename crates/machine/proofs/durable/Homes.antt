@@ -11,7 +11,9 @@ use Rattle.machine.proofs.Names.{total_pages-take_le, All-contains, is_in_memory
 use Rattle.machine.proofs.Names.{is_touched, Told, IsTracked}
 use Rattle.machine.proofs.sound.Homes.{home-below, same_home}
 use Rattle.machine.proofs.durable.Lists.{none_some, contains_head, contains_cons, contains_unmapped}
-use Rattle.machine.proofs.durable.Pages.{holder, holder_of, bytes_with-none, bytes_with-held, in_memory}
+use Rattle.machine.proofs.durable.Pages.{holder, bytes_with-held}
+use Rattle.machine.proofs.sound.Frames.{in_memory_held, held_in_memory}
+use Rattle.machine.proofs.sound.Records.{bytes_with-none}
 
 -- the capacity of a file of a table
 abbrev pub capacity_at : List TableFile → ℕ → ℕ
@@ -112,7 +114,7 @@ no_batch s sound owner is absent has =
     let w = has.0 in
     let homes = All-contains (λ (x : WriteOut). All (λ home. (o : FilePage) × (home ≡ home_of s.table o) × (is_in_memory s.hardware.memory o ≡ true)) x.batch.homes) s.write_outs.batches w sound.write_outs.in_memory has.1 in
     let page = All-contains (λ home. (o : FilePage) × (home ≡ home_of s.table o) × (is_in_memory s.hardware.memory o ≡ true)) w.batch.homes (home_of s.table owner) homes has.2 in
-    let at = holder_of s.hardware.memory page.0 page.2 in
+    let at = held_in_memory s.hardware.memory page.0 page.2 in
     let same : owner ≡ page.0 = same_home s sound.within owner page.0 is (sound.memory.in_files at.0 page.0 at.1) page.1 in
     both_ways (is_in_memory s.hardware.memory owner) absent (ap (is_in_memory s.hardware.memory) same ∙ page.2)
 
@@ -121,7 +123,7 @@ module _ (files : List File) (told : Told) (s : State) (seen : List ℕ) (may : 
   pub absent_untouched : (owner : FilePage) → is_in_memory s.hardware.memory owner ≡ false → is_touched told.history owner.file owner.page ≡ false
   absent_untouched owner absent = false_from_ne_true (is_touched told.history owner.file owner.page) (λ is.
       let at = (t.touched owner).0 is in
-      both_ways (is_in_memory s.hardware.memory owner) absent (in_memory s.hardware.memory at.0 owner at.1))
+      both_ways (is_in_memory s.hardware.memory owner) absent (in_memory_held s.hardware.memory at.0 owner at.1))
 
   pub page_read : (owner : FilePage) → IsInFile s owner → is_in_memory s.hardware.memory owner ≡ false → s.write_outs.broken ≡ false → page_from s seen owner ≡ after (memory_of files) told.history owner.file owner.page
   page_read owner is absent whole =

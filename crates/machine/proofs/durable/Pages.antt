@@ -12,6 +12,8 @@ use Rattle.machine.proofs.Names.{freed_copy, is_copied, is_frozen, is_held, is_i
 use Rattle.machine.proofs.Names.{bytes_with, MayLeave, bytes_at_mark, All-contains, slice_get_within}
 use Rattle.machine.proofs.Names.{get_or_from_slice_get, HasBlock, State, home_of, IsSound}
 use Rattle.machine.proofs.durable.Lists.{some_same, none_some}
+use Rattle.machine.proofs.sound.Frames.{in_memory_held, held_in_memory, page_of-overwrite}
+use Rattle.machine.proofs.sound.Records.{bytes_with-none}
 use Rattle.machine.proofs.durable.Uncommitted.{frozen_block}
 
 -- ---- which pages frames hold, and with what bytes, after each change of the frames
@@ -31,22 +33,15 @@ differ a b other file page = other (λ i. record { file = file i; page = page i 
 
 -- ---- whether a page is in memory
 
--- a page that a frame holds is in memory
-pub in_memory : (memory : FramesState) (frame : ℕ) (owner : FilePage) → Holds memory frame owner → is_in_memory memory owner ≡ true
-in_memory memory frame owner holds = list_any-has_page memory.frames owner frame holds
-
--- and a page in memory is in a frame
+-- a page in memory is in a frame
 pub holder : (owner : FilePage) (frames : List (Option Frame)) → list_any (is_of_page owner) frames ≡ true → (k : ℕ) × (page_of (get_or frames k None) ≡ Some owner)
 holder owner frames is = let h = has_page-list_any frames owner is in (h.number, h.holds)
 
-pub holder_of : (memory : FramesState) (owner : FilePage) → is_in_memory memory owner ≡ true → (frame : ℕ) × Holds memory frame owner
-holder_of memory owner is = holder owner memory.frames is
-
 pub held_by_none : (memory : FramesState) (owner : FilePage) → is_in_memory memory owner ≡ false → (frame : ℕ) → Holds memory frame owner → ⊥
-held_by_none memory owner absent frame holds = false≢true (sym absent ∙ in_memory memory frame owner holds)
+held_by_none memory owner absent frame holds = false≢true (sym absent ∙ in_memory_held memory frame owner holds)
 
 pub not_in_memory : (memory : FramesState) (owner : FilePage) → ((frame : ℕ) → Holds memory frame owner → ⊥) → is_in_memory memory owner ≡ false
-not_in_memory memory owner none = false_from_ne_true (is_in_memory memory owner) (λ is. let h = holder_of memory owner is in none h.0 h.1)
+not_in_memory memory owner none = false_from_ne_true (is_in_memory memory owner) (λ is. let h = held_in_memory memory owner is in none h.0 h.1)
 
 -- where frames hold what they held, what isn't in memory wasn't
 pub absent_before : (old new : FramesState) → ((frame : ℕ) (owner : FilePage) → Holds old frame owner → Holds new frame owner) → (owner : FilePage) → is_in_memory new owner ≡ false → is_in_memory old owner ≡ false
@@ -129,13 +124,6 @@ pub bytes_with-skip : (owner : FilePage) (x : Option Frame) (rest : List (Option
 bytes_with-skip owner None rest other e = refl
 bytes_with-skip owner (Some f) rest other e = some_of_page owner f rest other e
 
--- where none has the page
-pub bytes_with-none : (owner : FilePage) (frames : List (Option Frame)) (other : List ℕ) → list_any (is_of_page owner) frames ≡ false → bytes_with owner frames other ≡ other
-bytes_with-none owner [] other e = refl
-bytes_with-none owner (x ∷ xs) other e =
-    let parts = or_parts (is_of_page owner x) (list_any (is_of_page owner) xs) e in
-    bytes_with-skip owner x xs other parts.0 ∙ bytes_with-none owner xs other parts.1
-
 -- where one has it, nothing else counts
 pub bytes_with-one : (owner : FilePage) (frames : List (Option Frame)) (a b : List ℕ) → list_any (is_of_page owner) frames ≡ true → bytes_with owner frames a ≡ bytes_with owner frames b
 bytes_with-one owner [] a b e = absurd (both_ways false refl e)
@@ -186,7 +174,7 @@ bytes_with-freed owner first (Some f ∷ copies) other differs = elim (cases_Boo
 -- the bytes of a frame that alone has the page
 pub bytes_with-held : (memory : FramesState) (frame : ℕ) (owner : FilePage) → ((a b : ℕ) (o : FilePage) → Holds memory a o → Holds memory b o → a ≡ b) → Holds memory frame owner → bytes_with owner memory.frames [] ≡ bytes_of (frame_at memory frame)
 bytes_with-held memory frame owner alone held =
-    let at = bytes_with-at owner memory.frames [] (in_memory memory frame owner held) in
+    let at = bytes_with-at owner memory.frames [] (in_memory_held memory frame owner held) in
     at.2 ∙ ap (λ k. bytes_of (get_or memory.frames k None)) (alone at.0 frame owner at.1 held)
 
 -- ---- frozen pages
@@ -204,10 +192,6 @@ contains_frozen owner (x ∷ xs) (zero, lt, is) = or_left (same_page owner x) (l
 contains_frozen owner (x ∷ xs) (suc k, lt, is) = or_right (same_page owner x) (list_any (same_page owner) xs) (contains_frozen owner xs (k, omega arith, is))
 
 -- ---- what frozen pages had at their mark stays: a store reaches none whose bytes aren't copied, a copy has the byte
-
-overwritten_page : (f : Option Frame) (at : ℕ) (bytes : List ℕ) → page_of (overwrite_frame f at bytes) ≡ page_of f
-overwritten_page None at bytes = refl
-overwritten_page (Some f) at bytes = refl
 
 other_page : (owner page : FilePage) → same_page owner page ≡ false → owner ≡ page → ⊥
 other_page owner page other e = both_ways (same_page owner page) other (ap (same_page owner) (sym e) ∙ same_page-refl owner)
@@ -242,7 +226,7 @@ module _ (s : State) (sound : IsSound s) where
             (let differs = other_page owner page other in
             ap (bytes_with owner memory.copies)
             (bytes_with-set owner memory.frames frame written [] (of_page-other owner page (frame_at memory frame) held differs)
-            (of_page-other owner page written (overwritten_page (frame_at memory frame) at bytes ∙ held) differs)))
+            (of_page-other owner page written (page_of-overwrite (frame_at memory frame) at bytes ∙ held) differs)))
       ]
 
   -- a page is brought into a frame

@@ -13,6 +13,7 @@ use Rattle.machine.proofs.Names.{waiting_homes, frozen_homes}
 use Rattle.journal.specs.WriteOuts.{begun as outs_begun}
 use Rattle.spaces.specs.declared.change.Change.TheVariants as changes
 use Rattle.machine.proofs.sound.Lists.{get_or-replicate-same}
+use Rattle.machine.proofs.durable.Lists.{nothing_mapped}
 use Rattle.machine.proofs.sound.Groups.{still_sound, unchanged_sound}
 use Rattle.machine.proofs.sound.Frames.{in_memory_held}
 use Rattle.machine.proofs.sound.Ended.{prepared_change, ended_spaces}
@@ -32,12 +33,8 @@ not_busy s is free =
     smaller : (a b c : ℕ) → a ≤ c → b ≡ c → (a ≡ b → ⊥) → a < c
     smaller a b c le same other = omega arith
 
-nil_from_map : {X Y : Type 0} (f : X → Y) (xs : List X) → map f xs ≡ [] → xs ≡ []
-nil_from_map f [] e = refl
-nil_from_map f (x ∷ xs) e = absurd (cc)
-
 pub nothing_frozen : (s : State) → AreWriteOutsSound s → (s.write_outs.broken ≡ false → is_busy s.write_outs ≡ false) → s.checkpoint.frozen ≡ []
-nothing_frozen s is free = nil_from_map (home_of s.table) s.checkpoint.frozen (is.frozen ∙ by s.write_outs.broken refl)
+nothing_frozen s is free = nothing_mapped (home_of s.table) s.checkpoint.frozen (is.frozen ∙ by s.write_outs.broken refl)
   where
     by : (b : Bool) → s.write_outs.broken ≡ b → cond b [] (waiting_homes s.write_outs) ≡ []
     by true broken = refl

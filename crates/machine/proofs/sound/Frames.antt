@@ -81,7 +81,7 @@ length-overwrite : (page : List ℕ) (at : ℕ) (bytes : List ℕ) → length pa
 length-overwrite page at bytes whole within =
     omega (arith, whole, length-append (take at page ++ bytes) (drop (at + length bytes) page), length-append (take at page) bytes, length-take-le at page (omega (arith, whole)), length-drop (at + length bytes) page)
 
-page_of-overwrite : (f : Option Frame) (at : ℕ) (bytes : List ℕ) → page_of (overwrite_frame f at bytes) ≡ page_of f
+pub page_of-overwrite : (f : Option Frame) (at : ℕ) (bytes : List ℕ) → page_of (overwrite_frame f at bytes) ≡ page_of f
 page_of-overwrite None at bytes = refl
 page_of-overwrite (Some f) at bytes = refl
 

@@ -1,11 +1,11 @@
 -- The page whose record comes next: it is frozen and in memory, and its record is a whole page.
-use Rattle.machine.proofs.Names.{ℕ, zero, suc, ◌≡◌, ◌<◌, Bool, true, false, cond, List, [], ◌∷◌, length, map, get_or}
-use Rattle.machine.proofs.Names.{slice_index, Option, Some, None, refl, sym, ap, ◌∙◌, arith, list_any, option_map}
-use Rattle.machine.proofs.Names.{option_and_then, cond-false, or_parts, length-map, length-drop, get_or-drop}
-use Rattle.machine.proofs.Names.{get_or-map, FilePage, FramesState, Frame, frame_at, copy_at, page_of, bytes_of}
-use Rattle.machine.proofs.Names.{HasNoCopy, next_home, outs_record, outs_home, is_of_page, same_page, same_page-true}
-use Rattle.machine.proofs.Names.{same_page-refl, list_any-no_page, is_in_memory, State, home_of, next_page, bytes_with}
-use Rattle.machine.proofs.Names.{bytes_at_mark, IsMemory, IsSound}
+use Rattle.machine.proofs.Names.{◌≤◌, ℕ, zero, suc, ◌≡◌, ◌<◌, Bool, true, false, cond, List, [], ◌∷◌, length, map}
+use Rattle.machine.proofs.Names.{get_or, slice_index, Option, Some, None, refl, sym, ap, ◌∙◌, arith, list_any}
+use Rattle.machine.proofs.Names.{option_map, option_and_then, cond-false, or_parts, length-map, length-drop}
+use Rattle.machine.proofs.Names.{get_or-drop, get_or-map, FilePage, FramesState, Frame, frame_at, copy_at, page_of}
+use Rattle.machine.proofs.Names.{bytes_of, HasNoCopy, next_home, outs_record, outs_home, is_of_page, same_page}
+use Rattle.machine.proofs.Names.{same_page-true, same_page-refl, list_any-no_page, is_in_memory, State, home_of}
+use Rattle.machine.proofs.Names.{next_page, bytes_with, bytes_at_mark, IsMemory, IsSound}
 use Rattle.journal.specs.WriteOut.{next_record as record_of}
 use Rattle.journal.specs.WriteOuts.{current}
 use Rattle.machine.proofs.sound.Lists.{AreOnce, same_some, held_frame, once_frames, once_copies}
@@ -113,3 +113,16 @@ size_at_mark memory owner is there =
     let once = once_frames memory is in
     let framed = bytes_with-found owner memory.frames [] held.0 f.0 once f.1 f.2 in
     size_with owner memory.copies (bytes_with owner memory.frames []) (once_copies memory is) (ap length framed ∙ once.whole held.0 f.0 f.1)
+
+-- those of any page are no more than a page has
+few_with : (owner : FilePage) (xs : List (Option Frame)) (other : List ℕ) → AreOnce xs → length other ≤ 4096 → length (bytes_with owner xs other) ≤ 4096
+few_with owner [] other once few = few
+few_with owner (None ∷ xs) other once few = few_with owner xs other (rest_once None xs once) few
+few_with owner (Some g ∷ xs) other once few = by (same_page owner g.page) (few_with owner xs other (rest_once (Some g) xs once) few)
+  where
+    by : (b : Bool) → length (bytes_with owner xs other) ≤ 4096 → length (cond b g.bytes (bytes_with owner xs other)) ≤ 4096
+    by true rest = omega (arith, once.whole 0 g refl)
+    by false rest = rest
+
+pub few_at_mark : (memory : FramesState) (owner : FilePage) → IsMemory memory → length (bytes_at_mark memory owner) ≤ 4096
+few_at_mark memory owner is = few_with owner memory.copies (bytes_with owner memory.frames []) (once_copies memory is) (few_with owner memory.frames [] (once_frames memory is) (omega arith))

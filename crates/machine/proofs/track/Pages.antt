@@ -9,7 +9,8 @@ use Rattle.machine.proofs.Names.{ArePlain, page_at, Hardware, page_of-with_bytes
 use Rattle.machine.specs.History.{Store}
 use Rattle.machine.proofs.durable.Lists.{some_same}
 use Rattle.machine.proofs.durable.Histories.{SameFiles, in_file_as, AreQuiet, after_store, stored_there, stored_elsewhere, length-stored, touched_there, touched_elsewhere}
-use Rattle.machine.proofs.durable.Pages.{IsBrought, holder_of, held_by_none, absent_before, held_without, held_still, cases_page, differ, bytes_of-with_bytes}
+use Rattle.machine.proofs.sound.Frames.{held_in_memory}
+use Rattle.machine.proofs.durable.Pages.{IsBrought, held_by_none, absent_before, held_without, held_still, cases_page, differ, bytes_of-with_bytes}
 use Rattle.machine.proofs.track.DirtyFrames.{clean_where_free}
 use Rattle.machine.proofs.track.Translations.{HasStored}
 
@@ -152,7 +153,7 @@ module _ (files : List File) (told now : Told) (s new : State) (events : List Ev
         ))
         (λ o is gone. elim (cases_Bool (is_in_memory s.hardware.memory o)) [
           | inr absent ↦ has.plain o is absent
-          | inl there ↦ at_home o gone (holder_of s.hardware.memory o there)
+          | inl there ↦ at_home o gone (held_in_memory s.hardware.memory o there)
         ])
 
 -- ---- astore changes the page to which its address leads, and touches it
