@@ -53,11 +53,6 @@ length-stored memory file page at bytes f p whole fits small =
     (λ e. length-overwrite (memory f p) ((4096 * page + at) % 4096) bytes (omega (arith, inner, whole f p)) ∙ whole f p)
     (λ e. whole f p)
 
-pub length-memory_of : (files : List File) (file page : ℕ) → length (memory_of files file page) ≡ 4096
-length-memory_of files file page =
-    let bytes = drop (4096 * page) (file_bytes files file) in
-    length-padded 4096 (take 4096 bytes) (omega (arith, length-take 4096 bytes))
-
 -- ---- touched pages
 
 pub touched_after-append : (file page : ℕ) (before : Bool) (history events : List Event) → touched_after file page before (history ++ events) ≡ touched_after file page (touched_after file page before history) events

@@ -35,7 +35,7 @@ module _ (s : State) (sound : IsSound s) where
 
 -- ---- a page up to its file's end
 
-nothing_padded : (n : ℕ) (t : List ℕ) → length t ≡ n → padded n t ≡ t
+pub nothing_padded : (n : ℕ) (t : List ℕ) → length t ≡ n → padded n t ≡ t
 nothing_padded n t size = let none : n - length t ≡ 0 = omega arith in ap (λ k. t ++ zeros k) none ∙ ap (λ (z : List ℕ). t ++ z) zeros-nil ∙ append-nil t
 
 -- what is padded keeps its first bytes
