@@ -92,9 +92,6 @@ held_without memory frame k owner holds =
     absurd (let none : page_of (frame_at (without_frame memory frame) k) ≡ None = ap (λ n. page_of (frame_at (without_frame memory frame) n)) same ∙ ap page_of (frame_at-without_frame_same memory frame) in cc) in
     (other, frame_at-without_frame_other memory frame k other)
 
-pub held_still : (memory : FramesState) (frame k : ℕ) (owner : FilePage) → k ≢ frame → Holds memory k owner → Holds (without_frame memory frame) k owner
-held_still memory frame k owner other holds = ap page_of (frame_at-without_frame_other memory frame k other) ∙ holds
-
 -- ---- the bytes of a page as they were at its mark: what a change of frames and copies leaves of them
 
 pub same_page-other : (a b : FilePage) → (a ≡ b → ⊥) → same_page a b ≡ false
