@@ -23,7 +23,7 @@ use Rattle.journal.specs.declared.flushed.Flushed.TheVariants as flushed
 use Rattle.page_entry.specs.declared.refusal.Refusal.TheVariants as refusals
 use Rattle.machine.proofs.sound.Waiting.{waiting-none}
 use Rattle.machine.proofs.durable.Lists.{only_one, some_same, none_some, flat_map-append}
-use Rattle.machine.proofs.durable.Pages.{bytes_with-at, bytes_with-freed}
+use Rattle.machine.proofs.durable.Pages.{bytes_with-freed}
 use Rattle.machine.proofs.durable.Uncommitted.{whole_frozen, none_uncommitted, uncommitted_before, waits_after}
 use Rattle.machine.proofs.durable.Histories.{calm_of, quiet_nothing, quiet_acknowledge, IsFresh, written_same, written_new, AreFrozenRecords, SameFiles, record_as, acknowledge_same, acknowledge_no_mark, marks_more}
 use Rattle.machine.proofs.durable.Marks.{IsDurable}

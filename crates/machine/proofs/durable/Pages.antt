@@ -13,7 +13,7 @@ use Rattle.machine.proofs.Names.{bytes_with, MayLeave, bytes_at_mark, All-contai
 use Rattle.machine.proofs.Names.{get_or_from_slice_get, HasBlock, State, home_of, IsSound}
 use Rattle.machine.proofs.durable.Lists.{some_same, none_some}
 use Rattle.machine.proofs.sound.Frames.{in_memory_held, held_in_memory, page_of-overwrite}
-use Rattle.machine.proofs.sound.Records.{bytes_with-none}
+use Rattle.machine.proofs.sound.Records.{bytes_with-at, bytes_with-none}
 use Rattle.machine.proofs.durable.Uncommitted.{frozen_block}
 
 -- ---- which pages frames hold, and with what bytes, after each change of the frames
@@ -92,9 +92,6 @@ held_without memory frame k owner holds =
     absurd (let none : page_of (frame_at (without_frame memory frame) k) ≡ None = ap (λ n. page_of (frame_at (without_frame memory frame) n)) same ∙ ap page_of (frame_at-without_frame_same memory frame) in cc) in
     (other, frame_at-without_frame_other memory frame k other)
 
-pub held_still : (memory : FramesState) (frame k : ℕ) (owner : FilePage) → k ≢ frame → Holds memory k owner → Holds (without_frame memory frame) k owner
-held_still memory frame k owner other holds = ap page_of (frame_at-without_frame_other memory frame k other) ∙ holds
-
 -- ---- the bytes of a page as they were at its mark: what a change of frames and copies leaves of them
 
 pub same_page-other : (a b : FilePage) → (a ≡ b → ⊥) → same_page a b ≡ false
@@ -109,10 +106,6 @@ of_page-held owner (Some f) e = ap (same_page owner) (some_same f.page owner e) 
 pub of_page-other : (owner other : FilePage) (f : Option Frame) → page_of f ≡ Some other → (owner ≡ other → ⊥) → is_of_page owner f ≡ false
 of_page-other owner other None e differs = refl
 of_page-other owner other (Some f) e differs = ap (same_page owner) (some_same f.page other e) ∙ same_page-other owner other differs
-
-pub held-of_page : (owner : FilePage) (f : Option Frame) → is_of_page owner f ≡ true → page_of f ≡ Some owner
-held-of_page owner None e = absurd (both_ways false refl e)
-held-of_page owner (Some f) e = ap (λ (page : FilePage). Some page) (sym (same_page-true owner f.page e))
 
 -- ---- the bytes of a page in a list of frames
 
@@ -131,16 +124,6 @@ bytes_with-one owner (None ∷ xs) a b e = bytes_with-one owner xs a b e
 bytes_with-one owner (Some f ∷ xs) a b e = elim (cases_Bool (same_page owner f.page)) [
   | inl is ↦ cond-true (same_page owner f.page) f.bytes (bytes_with owner xs a) is ∙ sym (cond-true (same_page owner f.page) f.bytes (bytes_with owner xs b) is)
   | inr other ↦ some_of_page owner f xs a other ∙ bytes_with-one owner xs a b (ap (λ t. t || list_any (is_of_page owner) xs) (sym other) ∙ e) ∙ sym (some_of_page owner f xs b other)
-]
-
--- the first that has it is at some place
-pub bytes_with-at : (owner : FilePage) (frames : List (Option Frame)) (other : List ℕ) → list_any (is_of_page owner) frames ≡ true
-    → (k : ℕ) × (page_of (get_or frames k None) ≡ Some owner) × (bytes_with owner frames other ≡ bytes_of (get_or frames k None))
-bytes_with-at owner [] other e = absurd (both_ways false refl e)
-bytes_with-at owner (None ∷ xs) other e = let later = bytes_with-at owner xs other e in (suc later.0, later.1, later.2)
-bytes_with-at owner (Some f ∷ xs) other e = elim (cases_Bool (same_page owner f.page)) [
-  | inl is ↦ (0, held-of_page owner (Some f) is, cond-true (same_page owner f.page) f.bytes (bytes_with owner xs other) is)
-  | inr differs ↦ (let later = bytes_with-at owner xs other (ap (λ t. t || list_any (is_of_page owner) xs) (sym differs) ∙ e) in (suc later.0, later.1, some_of_page owner f xs other differs ∙ later.2))
 ]
 
 -- a change at a place that neither had the page nor has it

@@ -10,7 +10,8 @@ use Rattle.machine.proofs.Names.{IsAt, stage_is, committed_parts, done_committed
 use Rattle.machine.proofs.Names.{IsSound, waiting_homes}
 use Rattle.journal.specs.WriteOuts.{current}
 use Rattle.machine.proofs.sound.Waiting.{waiting-none, blocks, committed_steps, committed_still}
-use Rattle.machine.proofs.durable.Lists.{first_or, some_same, none_some, contains_map, contains_drop, contains_flat_map, nothing_mapped}
+use Rattle.machine.proofs.durable.Lists.{first_or, some_same, none_some, nothing_mapped}
+use Rattle.machine.proofs.sound.Ended.{frozen_has_block}
 
 -- one that isn't committed after a step wasn't before it
 still_uncommitted : (w : WriteOut) → has_committed (advanced_of w) ≡ false → has_committed w ≡ false
@@ -188,10 +189,7 @@ module _ (s : State) (sound : IsSound s) where
   pub frozen_block : (owner : FilePage) → Contains s.checkpoint.frozen owner → HasBlock s.write_outs (home_of s.table owner)
   frozen_block owner has = elim (cases_Bool s.write_outs.broken) [
     | inl broken ↦ (let none : Contains [] owner = subst (λ (l : List FilePage). Contains l owner) (broken_frozen broken) has in absurd (omega (arith, none.1)))
-    | inr whole ↦
-        (let there = subst (λ (l : List ℕ). Contains l (home_of s.table owner)) (whole_frozen whole) (contains_map (home_of s.table) s.checkpoint.frozen owner has) in
-        let at = contains_flat_map (λ (w : WriteOut). drop w.steps w.batch.homes) s.write_outs.batches (home_of s.table owner) there in
-        (at.0, at.1, contains_drop at.0.steps at.0.batch.homes (home_of s.table owner) at.2))
+    | inr whole ↦ frozen_has_block s owner sound.write_outs whole has
   ]
 
 -- where each batch is committed, no page is frozen

@@ -173,7 +173,7 @@ module _ (memory : FramesState) (frame : ℕ) where
   holds_before : (k : ℕ) (owner : FilePage) → Holds (without_frame memory frame) k owner → Holds memory k owner
   holds_before k owner holds = ⊎_elim (λ old. sym (ap page_of old) ∙ holds) (λ new. absurd (let none = ap page_of new.1 in cc)) (after_set memory.frames frame None k)
 
-  holds_still : (k : ℕ) (owner : FilePage) → k ≢ frame → Holds memory k owner → Holds (without_frame memory frame) k owner
+  pub holds_still : (k : ℕ) (owner : FilePage) → k ≢ frame → Holds memory k owner → Holds (without_frame memory frame) k owner
   holds_still k owner other holds = ap page_of (get_or-set_other memory.frames frame k None None other) ∙ holds
 
   pub IsMemory-without_frame : IsMemory memory → IsMemory (without_frame memory frame)

@@ -9,8 +9,8 @@ use Rattle.machine.proofs.Names.{ArePlain, page_at, Hardware, page_of-with_bytes
 use Rattle.machine.specs.History.{Store}
 use Rattle.machine.proofs.durable.Lists.{some_same}
 use Rattle.machine.proofs.durable.Histories.{SameFiles, in_file_as, AreQuiet, after_store, stored_there, stored_elsewhere, length-stored, touched_there, touched_elsewhere}
-use Rattle.machine.proofs.sound.Frames.{held_in_memory}
-use Rattle.machine.proofs.durable.Pages.{IsBrought, held_by_none, absent_before, held_without, held_still, cases_page, differ, bytes_of-with_bytes}
+use Rattle.machine.proofs.sound.Frames.{held_in_memory, holds_still}
+use Rattle.machine.proofs.durable.Pages.{IsBrought, held_by_none, absent_before, held_without, cases_page, differ, bytes_of-with_bytes}
 use Rattle.machine.proofs.track.DirtyFrames.{clean_where_free}
 use Rattle.machine.proofs.track.Translations.{HasStored}
 
@@ -131,7 +131,7 @@ module _ (files : List File) (told now : Told) (s new : State) (events : List Ev
         (there.0, ap (λ (m : FramesState). frame_at m k) memory_is ∙ there.1)
 
     held_now : (k : ℕ) (o : FilePage) → k ≢ frame → Holds s.hardware.memory k o → Holds new.hardware.memory k o
-    held_now k o other holds = subst (λ (m : FramesState). Holds m k o) (sym memory_is) (held_still s.hardware.memory frame k o other holds)
+    held_now k o other holds = subst (λ (m : FramesState). Holds m k o) (sym memory_is) (holds_still s.hardware.memory frame k o other holds)
 
     -- the page that left has its bytes at home
     at_home : (o : FilePage) → is_in_memory new.hardware.memory o ≡ false → (holder : (k : ℕ) × Holds s.hardware.memory k o) → latest_then o ≡ cut_at_end s o (latest_then o)
