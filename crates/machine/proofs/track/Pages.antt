@@ -67,7 +67,7 @@ module _ (files : List File) (told now : Told) (s new : State) (events : List Ev
   abbrev latest_then : FilePage → List ℕ
   latest_then owner = after (memory_of files) told.history owner.file owner.page
 
-  -- it suffices that frames have the latest bytes, that the same pages are dirty, and that what isn't in memory is plain
+  -- it suffices that frames have the latest bytes, the same pages are dirty, and what isn't in memory is plain
   pages_by : ((frame : ℕ) (owner : FilePage) → Holds new.hardware.memory frame owner → bytes_of (frame_at new.hardware.memory frame) ≡ latest_then owner)
       → ((owner : FilePage) → HasDirty s owner ↔ HasDirty new owner)
       → ((owner : FilePage) → IsInFile s owner → is_in_memory new.hardware.memory owner ≡ false → latest_then owner ≡ cut_at_end s owner (latest_then owner))

@@ -14,7 +14,8 @@ use Rattle.machine.proofs.track.ToldSpaces.{AreProcessorsTold, told_still, ToldS
 
 -- ---- the entry that a translation goes through, also where a cached entry served it
 
--- A translation that reached a frame: through the table's entry, which stays as it was and was dirty before a store, or is noted and cached.
+-- A translation that reached a frame: through the table's entry, which stays and was dirty before a store, or is noted
+-- and cached.
 pub record IsTranslated (h : Hardware) (p page : ℕ) (write : Bool) (frame : ℕ) (new : Hardware) : Type 0 where
   pub entry : Mapped
   pub present : entry_at h.spaces (current h.shootdown p) page ≡ Some entry
