@@ -1,5 +1,5 @@
 -- What the write-out of one mark asks of the device in a run, until it is committed and until it is done.
-use Rattle.machine.proofs.Names.{ℕ, suc, ◌≡◌, ◌≢◌, ◌+◌, ◌*◌, ◌<◌, ◌≤◌, ◌⊎◌, inl, inr, Bool, true, false, cond, eqb}
+use Rattle.machine.proofs.Names.{committed_parts, ℕ, suc, ◌≡◌, ◌≢◌, ◌+◌, ◌*◌, ◌<◌, ◌≤◌, ◌⊎◌, inl, inr, Bool, true, false, cond, eqb}
 use Rattle.machine.proofs.Names.{List, [], ◌∷◌, ◌++◌, length, map, drop, sum_by, Option, Some, None, is_some, refl, sym}
 use Rattle.machine.proofs.Names.{ap, ◌∙◌, subst, arith, append_assoc, append-nil, length-append, AllByRecursion}
 use Rattle.machine.proofs.Names.{option_map_or, cond-true, cond-false, cases_Bool, both_ways, eq-eqb, ne_eqb}
@@ -19,7 +19,8 @@ use Rattle.machine.specs.declared.act.Reply.TheVariants as replies
 use Rattle.machine.specs.Rules.{next_record}
 use Rattle.machine.specs.inside.Moves.{Flushed as Stepped}
 use Rattle.machine.proofs.sound.ByMark.{marked_sound}
-use Rattle.machine.proofs.sound.Waiting.{blocks, steps_committed, current_uncommitted}
+use Rattle.machine.proofs.sound.Waiting.{blocks}
+use Rattle.machine.proofs.durable.Uncommitted.{none_when_done}
 use Rattle.machine.proofs.acts.All.{performed}
 use Rattle.machine.proofs.sound.Kept.{performed_sound}
 use Rattle.machine.proofs.durable.Steps.{GoesOn, step_goes, step_asks}
@@ -89,17 +90,8 @@ module _ (n : ℕ) where
   none_push (x ∷ newer) w none other = (none.0, none_push newer w none.1 other)
 
 -- the oldest is done
-done_oldest : (g : GeometryValue) (w : WriteOut) (newer : List WriteOut) (mark : ℕ) → option_map_or answer_of (current (w ∷ newer)) flushed.Broken ≡ flushed.Done mark → has_uncommitted newer ≡ false
-done_oldest g w newer mark e = elim (cases_Bool (has_uncommitted newer)) [
-  | inl later ↦ absurd (by (current newer) refl later (ap (λ (o : Option WriteOut). option_map_or answer_of o flushed.Broken) (sym (cond-true (has_uncommitted newer) (current newer) (Some w) later)) ∙ e))
-  | inr none ↦ none
-]
-  where
-    by : (o : Option WriteOut) → current newer ≡ o → has_uncommitted newer ≡ true → option_map_or answer_of o flushed.Broken ≡ flushed.Done mark → ⊥
-    by None is later e = cc
-    by (Some x) is later e =
-        let at = answered_at x g (flushed.Done mark) e in
-        both_ways _ (current_uncommitted newer x later is) (steps_committed x (omega (arith, at.1)))
+done_oldest : (w : WriteOut) (newer : List WriteOut) (mark : ℕ) → option_map_or answer_of (current (w ∷ newer)) flushed.Broken ≡ flushed.Done mark → has_uncommitted newer ≡ false
+done_oldest w newer mark e = (committed_parts w newer (none_when_done (w ∷ newer) mark e)).1
 
 module _ (n : ℕ) (batch : Batch) (its : batch.mark ≡ n) where
   -- its write-out after so many steps
@@ -141,11 +133,11 @@ module _ (n : ℕ) (batch : Batch) (its : batch.mark ≡ n) where
   abbrev Ends : ℕ → Option WriteOut → List WriteOut → Type 0
   Ends m next after = HasNone n after ⊎ ((option_map_or (is_of n) next false ≡ false) × HasOne m after)
 
-  one_done : (g : GeometryValue) (m : ℕ) (batches : List WriteOut) (mark : ℕ) → HasOne m batches → option_map_or answer_of (current batches) flushed.Broken ≡ flushed.Done mark → Ends m (current batches) (drop 1 batches)
-  one_done g m [] mark one e = absurd one
-  one_done g m (w ∷ newer) mark (inl one) e = inl one.1
-  one_done g m (w ∷ newer) mark (inr one) e =
-      inr (ap (λ (o : Option WriteOut). option_map_or (is_of n) o false) (current-oldest w newer (done_oldest g w newer mark e)) ∙ ne_eqb w.batch.mark n one.0, one.1)
+  one_done : (m : ℕ) (batches : List WriteOut) (mark : ℕ) → HasOne m batches → option_map_or answer_of (current batches) flushed.Broken ≡ flushed.Done mark → Ends m (current batches) (drop 1 batches)
+  one_done m [] mark one e = absurd one
+  one_done m (w ∷ newer) mark (inl one) e = inl one.1
+  one_done m (w ∷ newer) mark (inr one) e =
+      inr (ap (λ (o : Option WriteOut). option_map_or (is_of n) o false) (current-oldest w newer (done_oldest w newer mark e)) ∙ ne_eqb w.batch.mark n one.0, one.1)
 
 -- ---- what was asked for so far
 
@@ -225,7 +217,7 @@ module _ (n : ℕ) (batch : Batch) (its : batch.mark ≡ n) (g : GeometryValue) 
       → Tells (drop 1 batches) (works ++ asked batches work)
   finishes [] works work mark e (inl none) = inl tt
   finishes (w ∷ newer) works work mark e (inl none) = inl none.1
-  finishes batches works work mark e (inr u) = elim (one_done n batch its g u.m batches mark u.one e) [
+  finishes batches works work mark e (inr u) = elim (one_done n batch its u.m batches mark u.one e) [
     | inl none ↦ inl none
     | inr other ↦ passed batches (drop 1 batches) works work u.m other.0 other.1 u.count u.calls
   ]

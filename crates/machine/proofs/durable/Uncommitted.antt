@@ -110,7 +110,7 @@ waits_on (x ∷ newer) n wait = elim (cases_Bool (has_uncommitted newer)) [
     first_waits e = record { w = x; there = (0, omega arith, refl); early = ap has_committed e ∙ wait.early; mark = ap (λ (y : WriteOut). y.batch.mark) e ∙ wait.mark }
 
 -- a step that ends a write-out comes where none waits
-none_when_done : (batches : List WriteOut) (mark : ℕ) → option_map_or answer_of (current batches) Broken ≡ Done mark → has_uncommitted batches ≡ false
+pub none_when_done : (batches : List WriteOut) (mark : ℕ) → option_map_or answer_of (current batches) Broken ≡ Done mark → has_uncommitted batches ≡ false
 none_when_done [] mark e = refl
 none_when_done (x ∷ newer) mark e = elim (cases_Bool (has_uncommitted newer)) [
   | inl some ↦
