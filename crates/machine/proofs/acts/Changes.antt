@@ -1,4 +1,6 @@
 -- The moves of changes that are made, but for a mark.
+use Rattle.machine.proofs.Names.{⊎_elim}
+use Rattle.checkpoint.specs.Checkpoint.{HasDirtyEntry}
 use Rattle.machine.proofs.Names.{ℕ, ◌≡◌, ◌≢◌, ◌<◌, ◌&&◌, ◌||◌, Bool, true, false, cond, eqb, List, [], ◌∷◌, length}
 use Rattle.machine.proofs.Names.{Option, Some, None, is_some, refl, sym, ap, ◌∙◌, subst, inl, inr, option_map}
 use Rattle.machine.proofs.Names.{cases_Bool, cases_eq, cond-false, and_from, eq-eqb, ne_eqb, false≢true, Mapped}
@@ -147,29 +149,17 @@ module _ (disk : List ℕ) (s : State) (p : ℕ) (new : State) (sound : IsSound 
         ∙ and_from (eqb backed.place.file made.owner.file) (eqb backed.place.page made.owner.page)
         (eq-eqb backed.place.file made.owner.file (ap (λ (o : FilePage). o.file) page_is)) (eq-eqb backed.place.page made.owner.page (ap (λ (o : FilePage). o.page) page_is)))
 
-    -- its frame is clean, so the same frames are dirty
-    same_dirty : SameDirty s made.spaces s.checkpoint
-    same_dirty frame = (there, back)
-      where
-        there : IsDirty old s.checkpoint frame → IsDirty made.spaces s.checkpoint frame
-        there (inl noted) = inl noted
-        there (inr d) = elim (cases_Bool (maps_it d.pcid d.page)) [
-          | inl maps ↦ absurd (made.leaves.clean (subst (λ k. IsDirty old s.checkpoint k) (sym d.same_frame ∙ its_frame d.pcid d.page d.entry d.present maps) (inr d)))
-          | inr elsewhere ↦ inr (record {
-            pcid = d.pcid;
-            page = d.page;
-            there = tt;
-            entry = d.entry;
-            present = made.cleared.entries d.pcid d.page ∙ cond-false (maps_it d.pcid d.page) None (entry_at old d.pcid d.page) elsewhere ∙ d.present;
-            same_frame = d.same_frame;
-            dirty = d.dirty;
-          })
-        ]
+    -- its frame is clean, so none of these entries is dirty, and the same frames are
+    taken_clean : (frame : ℕ) → HasDirtyEntry old (λ pcid page. maps_it pcid page ≡ true) frame → ⊥
+    taken_clean frame d =
+        let own = its_frame d.pcid d.page d.entry d.present d.there in
+        made.leaves.clean (inr (record { pcid = d.pcid; page = d.page; there = tt; entry = d.entry; present = d.present; same_frame = own; dirty = d.dirty }))
 
-        back : IsDirty made.spaces s.checkpoint frame → IsDirty old s.checkpoint frame
-        back (inl noted) = inl noted
-        back (inr d) =
-            inr (record { pcid = d.pcid; page = d.page; there = tt; entry = d.entry; present = (was d.pcid d.page d.entry d.present).1; same_frame = d.same_frame; dirty = d.dirty })
+    same_dirty : SameDirty s made.spaces s.checkpoint
+    same_dirty frame =
+        dirty_taken (λ pcid page. maps_it pcid page ≡ true) old made.spaces s.checkpoint s.checkpoint frame
+        (record { test = maps_it; entries = made.cleared.entries; passes = λ pcid page is. is })
+        (record { same_length = refl; noted = λ k. (λ noted. inl noted, ⊎_elim (λ noted. noted) (λ has. absurd (taken_clean k has))); frozen = refl })
 
     abbrev mid : State
     mid = end_change s p made.spaces s.hardware.memory s.checkpoint

@@ -10,6 +10,7 @@ use Rattle.machine.proofs.Names.{IsInSpace, Gathers, ProtectsNoted, without_note
 use Rattle.std.specs.FinMap as maps
 use Rattle.machine.proofs.sound.Lists.{get_or-replicate-same}
 use Rattle.machine.proofs.durable.Lists.{some_same, none_some}
+use Rattle.machine.proofs.sound.Lists.{kept_some}
 
 -- a frame is dirty by an entry
 pub dirty_at : (spaces : Spaces) (c : CheckpointState) (pcid page frame : ℕ) (entry : Mapped)
@@ -67,10 +68,6 @@ dirty_rights pcid range rights old new c frame sets =
 
 -- ---- entries are taken away where a test passes, and frames of dirty ones noted
 
-kept_where : (b : Bool) (old : Option Mapped) (entry : Mapped) → cond b None old ≡ Some entry → old ≡ Some entry
-kept_where true old entry e = absurd (cc)
-kept_where false old entry e = e
-
 -- what is taken of one table, where a test passes, leaves the other
 pub record Takes (taken : ℕ → ℕ → Type 0) (old new : Spaces) : Type 0 where
   pub test : ℕ → ℕ → Bool
@@ -104,7 +101,7 @@ dirty_taken taken old new c d frame takes notes = (
         | inl was ↦ inl was
         | inr x ↦ dirty_at old c x.pcid x.page frame x.entry x.present x.same_frame x.dirty
       ])
-      (λ q at e is. dirty_at old c q at frame e (kept_where (takes.test q at) (entry_at old q at) e (sym (takes.entries q at) ∙ is))),
+      (λ q at e is. dirty_at old c q at frame e (kept_some (takes.test q at) (entry_at old q at) e (sym (takes.entries q at) ∙ is))),
 )
 
 -- ---- one page gets an entry
