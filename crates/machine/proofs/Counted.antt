@@ -1,11 +1,10 @@
 -- What the write-out of one mark asks of the device in a run, until it is committed and until it is done.
-use Rattle.machine.proofs.Names.{ℕ, suc, ◌≡◌, ◌≢◌, ◌+◌, ◌*◌, ◌<◌, ◌≤◌, ◌⊎◌, inl, inr, Bool, true, false, cond, eqb}
-use Rattle.machine.proofs.Names.{List, [], ◌∷◌, ◌++◌, length, map, drop, sum_by, Option, Some, None, is_some, refl, sym}
-use Rattle.machine.proofs.Names.{ap, ◌∙◌, subst, arith, append_assoc, append-nil, length-append, AllByRecursion}
-use Rattle.machine.proofs.Names.{option_map_or, cond-true, cond-false, cases_Bool, both_ways, eq-eqb, ne_eqb}
-use Rattle.machine.proofs.Names.{length-map, sum_by-append, All-weaker, recursion_from_All, FilePage, Ghosts, File}
-use Rattle.machine.proofs.Names.{GeometryValue, Batch, Stage}
-use Rattle.machine.proofs.Names.{Committing, Finishing, Flushed, answer_at, Work}
+use Rattle.machine.proofs.Names.{committed_parts, ℕ, suc, ◌≡◌, ◌≢◌, ◌+◌, ◌*◌, ◌<◌, ◌≤◌, ◌⊎◌, inl, inr, Bool, true}
+use Rattle.machine.proofs.Names.{false, cond, eqb, List, [], ◌∷◌, ◌++◌, length, map, drop, sum_by, Option, Some, None}
+use Rattle.machine.proofs.Names.{is_some, refl, sym, ap, ◌∙◌, subst, arith, append_assoc, append-nil, length-append}
+use Rattle.machine.proofs.Names.{AllByRecursion, option_map_or, cond-true, cond-false, cases_Bool, both_ways, eq-eqb}
+use Rattle.machine.proofs.Names.{ne_eqb, length-map, sum_by-append, All-weaker, recursion_from_All, FilePage, Ghosts}
+use Rattle.machine.proofs.Names.{File, GeometryValue, Batch, Stage, Committing, Finishing, Flushed, answer_at, Work}
 use Rattle.machine.proofs.Names.{Nothing, work_at, calls_of, WriteOut, next_stage, begun_of, advanced_of, work_of}
 use Rattle.machine.proofs.Names.{answer_of, calls_in_steps, WriteOutsValue, has_uncommitted, advanced, outs_after}
 use Rattle.machine.proofs.Names.{outs_record, next_answer, next_batch, begun, IsAt, stage_is, early_calls, all_calls}
@@ -19,7 +18,8 @@ use Rattle.machine.specs.declared.act.Reply.TheVariants as replies
 use Rattle.machine.specs.Rules.{next_record}
 use Rattle.machine.specs.inside.Moves.{Flushed as Stepped}
 use Rattle.machine.proofs.sound.ByMark.{marked_sound}
-use Rattle.machine.proofs.sound.Waiting.{blocks, steps_committed, current_uncommitted}
+use Rattle.machine.proofs.sound.Waiting.{blocks}
+use Rattle.machine.proofs.durable.Uncommitted.{none_when_done}
 use Rattle.machine.proofs.acts.All.{performed}
 use Rattle.machine.proofs.sound.Kept.{performed_sound}
 use Rattle.machine.proofs.durable.Steps.{GoesOn, step_goes, step_asks}
@@ -89,17 +89,8 @@ module _ (n : ℕ) where
   none_push (x ∷ newer) w none other = (none.0, none_push newer w none.1 other)
 
 -- the oldest is done
-done_oldest : (g : GeometryValue) (w : WriteOut) (newer : List WriteOut) (mark : ℕ) → option_map_or answer_of (current (w ∷ newer)) flushed.Broken ≡ flushed.Done mark → has_uncommitted newer ≡ false
-done_oldest g w newer mark e = elim (cases_Bool (has_uncommitted newer)) [
-  | inl later ↦ absurd (by (current newer) refl later (ap (λ (o : Option WriteOut). option_map_or answer_of o flushed.Broken) (sym (cond-true (has_uncommitted newer) (current newer) (Some w) later)) ∙ e))
-  | inr none ↦ none
-]
-  where
-    by : (o : Option WriteOut) → current newer ≡ o → has_uncommitted newer ≡ true → option_map_or answer_of o flushed.Broken ≡ flushed.Done mark → ⊥
-    by None is later e = cc
-    by (Some x) is later e =
-        let at = answered_at x g (flushed.Done mark) e in
-        both_ways _ (current_uncommitted newer x later is) (steps_committed x (omega (arith, at.1)))
+done_oldest : (w : WriteOut) (newer : List WriteOut) (mark : ℕ) → option_map_or answer_of (current (w ∷ newer)) flushed.Broken ≡ flushed.Done mark → has_uncommitted newer ≡ false
+done_oldest w newer mark e = (committed_parts w newer (none_when_done (w ∷ newer) mark e)).1
 
 module _ (n : ℕ) (batch : Batch) (its : batch.mark ≡ n) where
   -- its write-out after so many steps
@@ -141,11 +132,11 @@ module _ (n : ℕ) (batch : Batch) (its : batch.mark ≡ n) where
   abbrev Ends : ℕ → Option WriteOut → List WriteOut → Type 0
   Ends m next after = HasNone n after ⊎ ((option_map_or (is_of n) next false ≡ false) × HasOne m after)
 
-  one_done : (g : GeometryValue) (m : ℕ) (batches : List WriteOut) (mark : ℕ) → HasOne m batches → option_map_or answer_of (current batches) flushed.Broken ≡ flushed.Done mark → Ends m (current batches) (drop 1 batches)
-  one_done g m [] mark one e = absurd one
-  one_done g m (w ∷ newer) mark (inl one) e = inl one.1
-  one_done g m (w ∷ newer) mark (inr one) e =
-      inr (ap (λ (o : Option WriteOut). option_map_or (is_of n) o false) (current-oldest w newer (done_oldest g w newer mark e)) ∙ ne_eqb w.batch.mark n one.0, one.1)
+  one_done : (m : ℕ) (batches : List WriteOut) (mark : ℕ) → HasOne m batches → option_map_or answer_of (current batches) flushed.Broken ≡ flushed.Done mark → Ends m (current batches) (drop 1 batches)
+  one_done m [] mark one e = absurd one
+  one_done m (w ∷ newer) mark (inl one) e = inl one.1
+  one_done m (w ∷ newer) mark (inr one) e =
+      inr (ap (λ (o : Option WriteOut). option_map_or (is_of n) o false) (current-oldest w newer (done_oldest w newer mark e)) ∙ ne_eqb w.batch.mark n one.0, one.1)
 
 -- ---- what was asked for so far
 
@@ -225,7 +216,7 @@ module _ (n : ℕ) (batch : Batch) (its : batch.mark ≡ n) (g : GeometryValue) 
       → Tells (drop 1 batches) (works ++ asked batches work)
   finishes [] works work mark e (inl none) = inl tt
   finishes (w ∷ newer) works work mark e (inl none) = inl none.1
-  finishes batches works work mark e (inr u) = elim (one_done n batch its g u.m batches mark u.one e) [
+  finishes batches works work mark e (inr u) = elim (one_done n batch its u.m batches mark u.one e) [
     | inl none ↦ inl none
     | inr other ↦ passed batches (drop 1 batches) works work u.m other.0 other.1 u.count u.calls
   ]
@@ -255,14 +246,11 @@ module _ (n : ℕ) (batch : Batch) (its : batch.mark ≡ n) (g : GeometryValue) 
     -- a step of the write-outs that answers so
     stepped : (a : Flushed) → GoesOn a → option_map_or answer_of (current s.write_outs.batches) flushed.Broken ≡ a → Stands s.write_outs works
         → Stands (outs_after s.write_outs a) (works ++ asked s.write_outs.batches (option_map_or (work_of s.write_outs.geometry (next_record s)) (current s.write_outs.batches) Nothing))
-    stepped flushed.Going goes e (inr tells) = inr (advances s.write_outs.batches works s.write_outs.geometry (next_record s) (subst GoesOn (sym e) goes) tells)
-    stepped (flushed.Committed mark) goes e (inr tells) = inr (advances s.write_outs.batches works s.write_outs.geometry (next_record s) (subst GoesOn (sym e) goes) tells)
-    stepped (flushed.Done mark) goes e (inr tells) = inr (finishes s.write_outs.batches works _ mark e tells)
     stepped flushed.Device goes e st = absurd goes
     stepped flushed.Broken goes e st = absurd goes
-    stepped flushed.Going goes e (inl broken) = inl broken
-    stepped (flushed.Committed mark) goes e (inl broken) = inl broken
-    stepped (flushed.Done mark) goes e (inl broken) = inl broken
+    stepped (flushed.Done mark) goes e (inr tells) = inr (finishes s.write_outs.batches works _ mark e tells)
+    stepped answer goes e (inl broken) = inl broken
+    stepped answer goes e (inr tells) = inr (advances s.write_outs.batches works s.write_outs.geometry (next_record s) (subst GoesOn (sym e) goes) tells)
 
   module _ (s : State) (disk : List ℕ) (p : ℕ) (act : Act) (reply : Reply) (new : State) (disk' : List ℕ) (sound : IsSound s) where
     -- marks are counted on
@@ -322,8 +310,7 @@ module _ (n : ℕ) (batch : Batch) (its : batch.mark ≡ n) (g : GeometryValue) 
           asks = (mid, later.works ++ asked_for n last.state step.act reply, taken, later.asks, append_assoc its later.works (asked_for n last.state step.act reply));
           stands = subst (Stands last.state.write_outs) (append_assoc before its later.works) later.stands;
         }
-    run [] (answer ∷ answers) old before sound le taken st = absurd taken
-    run (first ∷ steps) [] old before sound le taken st = absurd taken
+    run steps answers old before sound le taken st = absurd taken
 
     -- a last step that answers so, with the mark, is of its write-out
     module _ (answer : Flushed) (goes : GoesOn answer) (tells : (w : WriteOut) → answer_of w ≡ answer → w.batch.mark ≡ n) (works : List Work) where
@@ -379,20 +366,14 @@ committed_is number (flushed.Committed mark) e = ap flushed.Committed (same numb
   where
     same : (a b : ℕ) → replies.Committed a ≡ replies.Committed b → b ≡ a
     same a b e = cc
-committed_is number flushed.Going e = cc
-committed_is number (flushed.Done mark) e = cc
-committed_is number flushed.Device e = cc
-committed_is number flushed.Broken e = cc
+committed_is number answer e = cc
 
 done_is : (number : ℕ) (a : Flushed) → replies.Done number ≡ reply_to a → a ≡ flushed.Done number
 done_is number (flushed.Done mark) e = ap flushed.Done (same number mark e)
   where
     same : (a b : ℕ) → replies.Done a ≡ replies.Done b → b ≡ a
     same a b e = cc
-done_is number flushed.Going e = cc
-done_is number (flushed.Committed mark) e = cc
-done_is number flushed.Device e = cc
-done_is number flushed.Broken e = cc
+done_is number answer e = cc
 
 -- ---- from the mark on
 

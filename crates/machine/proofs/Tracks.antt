@@ -9,8 +9,6 @@ use Rattle.machine.proofs.durable.Steps.{tracked_kept, step_safe}
 use Rattle.machine.proofs.durable.AtStart.{durable_at_start, arranged_at_start, pages_at_start, files_at_start}
 use Rattle.machine.proofs.track.Lawful.{lawful}
 
--- ---- each step of a tracked machine keeps it tracked, so the laws hold of a run that began on a volume at rest
-
 -- ---- lists of steps and replies, one longer
 
 module _ {D : Type 0} (Safe : Told → Whole D → Step → Reply → Whole D → Type 0) where
@@ -22,22 +20,19 @@ module _ {D : Type 0} (Safe : Told → Whole D → Step → Reply → Whole D �
       → tell_all told (steps ++ step ∷ []) (replies ++ reply ∷ []) ≡ tell (tell_all told steps replies) step reply
   tell_more told old [] [] now step reply run = refl
   tell_more told old (first ∷ steps) (answer ∷ replies) now step reply run = tell_more (tell told first answer) run.0 steps replies now step reply run.2
-  tell_more told old [] (answer ∷ replies) now step reply run = absurd run
-  tell_more told old (first ∷ steps) [] now step reply run = absurd run
+  tell_more told old steps replies now step reply run = absurd run
 
   pub through_more : (told : Told) (old : Whole D) (steps : List Step) (replies : List Reply) (now : Whole D) (step : Step) (reply : Reply) (new : Whole D) → Through told old steps replies now
       → Safe (tell_all told steps replies) now step reply new → Through told old (steps ++ step ∷ []) (replies ++ reply ∷ []) new
   through_more told old [] [] now step reply new run safe = (new, subst (λ (x : Whole D). Safe told x step reply new) run safe, refl)
   through_more told old (first ∷ steps) (answer ∷ replies) now step reply new run safe = (run.0, run.1, through_more (tell told first answer) run.0 steps replies now step reply new run.2 safe)
-  through_more told old [] (answer ∷ replies) now step reply new run safe = absurd run
-  through_more told old (first ∷ steps) [] now step reply new run safe = absurd run
+  through_more told old steps replies now step reply new run safe = absurd run
 
   pub each_more : (P : Told → ℕ → Act → Reply → Type 0) (told : Told) (old : Whole D) (steps : List Step) (replies : List Reply) (now : Whole D) (step : Step) (reply : Reply) → Through told old steps replies now → EachStep P told steps replies
       → P (tell_all told steps replies) step.p step.act reply → EachStep P told (steps ++ step ∷ []) (replies ++ reply ∷ [])
   each_more P told old [] [] now step reply run each here = (here, tt)
   each_more P told old (first ∷ steps) (answer ∷ replies) now step reply run each here = (each.0, each_more P (tell told first answer) run.0 steps replies now step reply run.2 each.1 here)
-  each_more P told old [] (answer ∷ replies) now step reply run each here = absurd run
-  each_more P told old (first ∷ steps) [] now step reply run each here = absurd run
+  each_more P told old steps replies now step reply run each here = absurd run
 
 -- ---- runs
 
@@ -97,8 +92,7 @@ follows_all {D} disk files start earlier told old [] [] new on taken = rw (appen
 follows_all disk files start earlier told old (step ∷ steps) (reply ∷ replies) new on (mid, here, rest) =
     let next = follows_more disk files start earlier told old step reply mid on here in
     rw (sym (append_assoc earlier (step ∷ []) steps), sym (append_assoc told (reply ∷ []) replies)) (follows_all disk files start (earlier ++ step ∷ []) (told ++ reply ∷ []) mid steps replies new next rest)
-follows_all disk files start earlier told old [] (reply ∷ replies) new on taken = absurd taken
-follows_all disk files start earlier told old (step ∷ steps) [] new on taken = absurd taken
+follows_all disk files start earlier told old steps replies new on taken = absurd taken
 
 -- what is on the track of a run follows from its start
 pub follows : {D : Type 0} (disk : Ghosts D) (files : List File) (start : Whole D) (steps : List Step) (replies : List Reply) (now : Whole D) → IsOnTrack disk files start steps replies now → On disk files start steps replies now
@@ -110,5 +104,4 @@ pub taken_then : {D : Type 0} (disk : Ghosts D) (old mid new : Whole D) (steps :
     → StepsTaken disk old (steps ++ later) (replies ++ told) new
 taken_then {D} disk old mid new [] [] later told first rest = let P : Whole D → Type 0 = λ m. StepsTaken disk m later told new in subst P first rest
 taken_then disk old mid new (step ∷ steps) (reply ∷ replies) later told (next, here, first) rest = (next, here, taken_then disk next mid new steps replies later told first rest)
-taken_then disk old mid new [] (reply ∷ replies) later told first rest = absurd first
-taken_then disk old mid new (step ∷ steps) [] later told first rest = absurd first
+taken_then disk old mid new steps replies later told first rest = absurd first

@@ -1,9 +1,9 @@
 -- The moves of loads, stores, fills and evictions.
-use Rattle.machine.proofs.Names.{ℕ, ◌≡◌, ◌/◌, ◌||◌, Bool, true, false, List}
-use Rattle.machine.proofs.Names.{refl, ap, ◌∙◌, inl, inr, evicted, without_page, processor_at, current}
-use Rattle.machine.proofs.Names.{is_there, tlb_of, with_tlb, is_there_below, IsShootdown-without_page}
-use Rattle.machine.proofs.Names.{IsShootdown-evicted, Coheres-without_page, Coheres-evicted, entry_at, Hardware}
-use Rattle.machine.proofs.Names.{filled_by, LoadMade, Faults, State, with_hardware, IsSound, Replace}
+use Rattle.machine.proofs.Names.{ℕ, ◌≡◌, ◌/◌, ◌||◌, Bool, true, false, List, refl, ap, ◌∙◌, inl, inr, evicted}
+use Rattle.machine.proofs.Names.{without_page, processor_at, current, is_there, tlb_of, with_tlb, is_there_below}
+use Rattle.machine.proofs.Names.{IsShootdown-without_page, IsShootdown-evicted, Coheres-without_page, Coheres-evicted}
+use Rattle.machine.proofs.Names.{entry_at, Hardware, filled_by, LoadMade, Faults, State, with_hardware, IsSound}
+use Rattle.machine.proofs.Names.{Replace}
 use Rattle.machine.proofs.sound.Admitted.{running_below}
 use Rattle.machine.proofs.track.Translations.{is_translated, filled_cases}
 use Rattle.machine.proofs.moves.Silent.{SilentMoves, no_moves, one_move}

@@ -1,18 +1,20 @@
 -- The moves of changes that are made, but for a mark.
+use Rattle.machine.proofs.Names.{⊎_elim}
+use Rattle.checkpoint.specs.Checkpoint.{HasDirtyEntry}
 use Rattle.machine.proofs.Names.{ℕ, ◌≡◌, ◌≢◌, ◌<◌, ◌&&◌, ◌||◌, Bool, true, false, cond, eqb, List, [], ◌∷◌, length}
-use Rattle.machine.proofs.Names.{Option, Some, None, is_some, refl, sym, ap, ◌∙◌, subst, inl, inr}
-use Rattle.machine.proofs.Names.{option_map, cases_Bool, cases_eq, cond-false, and_from, eq-eqb, ne_eqb, false≢true}
-use Rattle.machine.proofs.Names.{Mapped, FilePage, Place, Places, is_among, without_range, frame_at}
-use Rattle.machine.proofs.Names.{page_of, AddressSpace, Spaces, has_space, space_at, entry_at, place_at}
-use Rattle.machine.proofs.Names.{without_mapping, is_place_of, without_entries_of, has_space-without_mapping}
-use Rattle.machine.proofs.Names.{space_at-with_space_same, space_at-with_space_other, place_at-without_mapping}
-use Rattle.machine.proofs.Names.{place_at-SetsRights, place_at-EditsEntries, with_rights_of, AreSpaces-without_mapping}
-use Rattle.machine.proofs.Names.{AreSpaces-SetsRights, AreSpaces-EditsEntries, user_space}
-use Rattle.machine.proofs.Names.{ChangesOnlyAffected-without_mapping, ChangesOnlyAffected-SetsRights}
-use Rattle.machine.proofs.Names.{ChangesOnlyAffected-reclaim, IsNoWider-same_places, IsDirty, IsInRange, page_at}
-use Rattle.machine.proofs.Names.{AreBacked-without_mapping, AreBacked-rights_set, AreBacked-cleared, AreBacked-frozen}
-use Rattle.machine.proofs.Names.{same_page-true, State, UnmapMade, ProtectMade, ReclaimMade, ReclaimKept, end_change}
-use Rattle.machine.proofs.Names.{IsSound, Ending, Changing, Silent, ChangesPlaces, SameDirty, Move, Moves, End, Drop}
+use Rattle.machine.proofs.Names.{Option, Some, None, is_some, refl, sym, ap, ◌∙◌, subst, inl, inr, option_map}
+use Rattle.machine.proofs.Names.{cases_Bool, cases_eq, cond-false, and_from, eq-eqb, ne_eqb, false≢true, Mapped}
+use Rattle.machine.proofs.Names.{FilePage, Place, Places, is_among, without_range, frame_at, page_of, AddressSpace}
+use Rattle.machine.proofs.Names.{Spaces, has_space, space_at, entry_at, place_at, without_mapping, is_place_of}
+use Rattle.machine.proofs.Names.{without_entries_of, has_space-without_mapping, space_at-with_space_same}
+use Rattle.machine.proofs.Names.{space_at-with_space_other, place_at-without_mapping, place_at-SetsRights}
+use Rattle.machine.proofs.Names.{place_at-EditsEntries, with_rights_of, AreSpaces-without_mapping, AreSpaces-SetsRights}
+use Rattle.machine.proofs.Names.{AreSpaces-EditsEntries, user_space, ChangesOnlyAffected-without_mapping}
+use Rattle.machine.proofs.Names.{ChangesOnlyAffected-SetsRights, ChangesOnlyAffected-reclaim, IsNoWider-same_places}
+use Rattle.machine.proofs.Names.{IsDirty, IsInRange, page_at, AreBacked-without_mapping, AreBacked-rights_set}
+use Rattle.machine.proofs.Names.{AreBacked-cleared, AreBacked-frozen, same_page-true, State, UnmapMade, ProtectMade}
+use Rattle.machine.proofs.Names.{ReclaimMade, ReclaimKept, end_change, IsSound, Ending, Changing, Silent, ChangesPlaces}
+use Rattle.machine.proofs.Names.{SameDirty, Move, Moves, End, Drop}
 use Rattle.spaces.specs.declared.change.Change.TheVariants as changes
 use Rattle.machine.proofs.sound.Lists.{same_some, kept_some}
 use Rattle.machine.proofs.sound.Ended.{prepared_change}
@@ -147,29 +149,17 @@ module _ (disk : List ℕ) (s : State) (p : ℕ) (new : State) (sound : IsSound 
         ∙ and_from (eqb backed.place.file made.owner.file) (eqb backed.place.page made.owner.page)
         (eq-eqb backed.place.file made.owner.file (ap (λ (o : FilePage). o.file) page_is)) (eq-eqb backed.place.page made.owner.page (ap (λ (o : FilePage). o.page) page_is)))
 
-    -- its frame is clean, so the same frames are dirty
-    same_dirty : SameDirty s made.spaces s.checkpoint
-    same_dirty frame = (there, back)
-      where
-        there : IsDirty old s.checkpoint frame → IsDirty made.spaces s.checkpoint frame
-        there (inl noted) = inl noted
-        there (inr d) = elim (cases_Bool (maps_it d.pcid d.page)) [
-          | inl maps ↦ absurd (made.leaves.clean (subst (λ k. IsDirty old s.checkpoint k) (sym d.same_frame ∙ its_frame d.pcid d.page d.entry d.present maps) (inr d)))
-          | inr elsewhere ↦ inr (record {
-            pcid = d.pcid;
-            page = d.page;
-            there = tt;
-            entry = d.entry;
-            present = made.cleared.entries d.pcid d.page ∙ cond-false (maps_it d.pcid d.page) None (entry_at old d.pcid d.page) elsewhere ∙ d.present;
-            same_frame = d.same_frame;
-            dirty = d.dirty;
-          })
-        ]
+    -- its frame is clean, so none of these entries is dirty, and the same frames are
+    taken_clean : (frame : ℕ) → HasDirtyEntry old (λ pcid page. maps_it pcid page ≡ true) frame → ⊥
+    taken_clean frame d =
+        let own = its_frame d.pcid d.page d.entry d.present d.there in
+        made.leaves.clean (inr (record { pcid = d.pcid; page = d.page; there = tt; entry = d.entry; present = d.present; same_frame = own; dirty = d.dirty }))
 
-        back : IsDirty made.spaces s.checkpoint frame → IsDirty old s.checkpoint frame
-        back (inl noted) = inl noted
-        back (inr d) =
-            inr (record { pcid = d.pcid; page = d.page; there = tt; entry = d.entry; present = (was d.pcid d.page d.entry d.present).1; same_frame = d.same_frame; dirty = d.dirty })
+    same_dirty : SameDirty s made.spaces s.checkpoint
+    same_dirty frame =
+        dirty_taken (λ pcid page. maps_it pcid page ≡ true) old made.spaces s.checkpoint s.checkpoint frame
+        (record { test = maps_it; entries = made.cleared.entries; passes = λ pcid page is. is })
+        (record { same_length = refl; noted = λ k. (λ noted. inl noted, ⊎_elim (λ noted. noted) (λ has. absurd (taken_clean k has))); frozen = refl })
 
     abbrev mid : State
     mid = end_change s p made.spaces s.hardware.memory s.checkpoint

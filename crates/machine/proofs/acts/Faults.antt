@@ -1,25 +1,11 @@
 -- The moves of a fault that is served: its page is read in, or is there; it is copied where it is held; its entry is made.
-use Rattle.std.proofs.Common.{ℕ, ◌≡◌, ◌/◌, ◌&&◌, not, Bool, true, false, List, Option, Some, None, refl, sym, ap, ◌∙◌, subst, inl, inr}
-use Rattle.std.specs.List.{list_any}
-use Rattle.std.proofs.lemmas.Bool.{and_parts}
-use Rattle.std.proofs.lemmas.List.{get_or-set_same}
-use Rattle.std.proofs.lemmas.Option.{slice_get_within}
-use Rattle.page_entry.specs.Entry.{Mapped}
-use Rattle.page_entry.specs.declared.numbers.FilePage.{FilePage}
-use Rattle.mappings.specs.Places.{may_write}
-use Rattle.frames.specs.Frames.{FramesState, Frame, page_of}
-use Rattle.spaces.specs.Spaces.{entry_at, with_entry}
-use Rattle.spaces.specs.Changes.{Keeps}
-use Rattle.shootdown.specs.Shootdown.{current}
-use Rattle.checkpoint.specs.Checkpoint.{Holds, is_of_page, is_held, is_frozen}
-use Rattle.checkpoint.specs.Backing.{page_at}
-use Rattle.fault.specs.Fault.{is_in_memory, copies_out, Brings, CopiesOut, fixed_entry}
+use Rattle.machine.proofs.Names.{ℕ, ◌≡◌, ◌/◌, ◌&&◌, not, Bool, true, false, List, Option, Some, None, refl, sym, ap}
+use Rattle.machine.proofs.Names.{◌∙◌, subst, inl, inr, list_any, and_parts, get_or-set_same, slice_get_within, Mapped}
+use Rattle.machine.proofs.Names.{FilePage, may_write, FramesState, Frame, page_of, entry_at, with_entry, Keeps, current}
+use Rattle.machine.proofs.Names.{Holds, is_of_page, is_held, is_frozen, page_at, is_in_memory, copies_out, Brings}
+use Rattle.machine.proofs.Names.{CopiesOut, fixed_entry, State, length_of, page_from, FixMade, IsInFile, IsSound, Bring}
+use Rattle.machine.proofs.Names.{Copy, Remap}
 use Rattle.fault.proofs.Public.{MayBe-fixed, Keeps-fixed}
-use Rattle.machine.specs.State.{State, length_of, page_from}
-use Rattle.machine.specs.Rules.{FixMade}
-use Rattle.machine.specs.Durability.{IsInFile}
-use Rattle.machine.specs.inside.Sound.{IsSound}
-use Rattle.machine.specs.inside.Moves.{Bring, Copy, Remap}
 use Rattle.machine.proofs.sound.Admitted.{free_of, free_below, served_at_fix, unlocked}
 use Rattle.machine.proofs.sound.Frames.{with_memory}
 use Rattle.machine.proofs.track.DirtyFrames.{dirty_fixed}

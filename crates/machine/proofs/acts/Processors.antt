@@ -1,11 +1,11 @@
 -- The moves of processors that switch, stall, go on, idle and wake.
 use Rattle.machine.proofs.Names.{ℕ, ◌≡◌, ◌<◌, Bool, true, false, List, length, None, refl, ap, ◌∙◌, has_space}
 use Rattle.machine.proofs.Names.{Interrupted, Stalled, Idle, Processor, is_running, woken, switched, IsShootdown}
-use Rattle.machine.proofs.Names.{processor_at, current, state_of, with_processor, switched_to, stalled, idled}
-use Rattle.machine.proofs.Names.{resumed, not_there, idle_refusal, switch_refusal}
-use Rattle.machine.proofs.Names.{Coheres, IsShootdown-stalled, IsShootdown-idled, IsShootdown-resumed}
-use Rattle.machine.proofs.Names.{IsShootdown-switched_to, Coheres-stalled, Coheres-idled, Coheres-resumed}
-use Rattle.machine.proofs.Names.{Coheres-switched_to, State, with_shootdown, IsSound, Running, Entering, Move, Replace}
+use Rattle.machine.proofs.Names.{processor_at, current, state_of, with_processor, switched_to, stalled, idled, resumed}
+use Rattle.machine.proofs.Names.{not_there, idle_refusal, switch_refusal, Coheres, IsShootdown-stalled}
+use Rattle.machine.proofs.Names.{IsShootdown-idled, IsShootdown-resumed, IsShootdown-switched_to, Coheres-stalled}
+use Rattle.machine.proofs.Names.{Coheres-idled, Coheres-resumed, Coheres-switched_to, State, with_shootdown, IsSound}
+use Rattle.machine.proofs.Names.{Running, Entering, Move, Replace}
 use Rattle.machine.proofs.sound.Admitted.{free_below, there_below, switch_admitted, idle_admitted}
 
 module _ {disk : List ℕ} (s : State) (p : ℕ) {new : State} (sound : IsSound s) where

@@ -1,16 +1,15 @@
 -- The moves of spaces that are made, and of pages that are mapped.
-use Rattle.machine.proofs.Names.{ℕ, ◌≡◌, ◌<◌, ◌-◌, ◌&&◌, not, Bool, true, false, cond, eqb, leb, List, []}
-use Rattle.machine.proofs.Names.{◌∷◌, length, Option, Some, None, Ok, is_some, refl, sym, ap, ◌∙◌, subst}
-use Rattle.machine.proofs.Names.{and_parts, leb-false, leb-true, ltb-true, false≢true, Place, Rights}
-use Rattle.machine.proofs.Names.{PageRange, Places, allows, is_among, any_mapped, with_range, is_mappable, add_refusal}
-use Rattle.machine.proofs.Names.{AddressSpace, Spaces, empty_space, space_at, place_at, with_space}
-use Rattle.machine.proofs.Names.{with_mapping, IsLowestFree, judged_mapping, has_space-with_space}
-use Rattle.machine.proofs.Names.{space_at-with_space_same, space_at-with_space_other, place_at-create}
-use Rattle.machine.proofs.Names.{place_at-with_mapping, entry_at-create, entry_at-with_mapping, AreSpaces-create}
-use Rattle.machine.proofs.Names.{AreSpaces-with_mapping, mappable_ends, judged_mapping-ok, Grows-create}
-use Rattle.machine.proofs.Names.{Grows-with_mapping, not_free, Coheres-grown, AreBacked-created, AreBacked-with_mapping}
-use Rattle.machine.proofs.Names.{State, refuse_if, first_of, mapping_refusal, map_refusal, with_spaces, MapMade}
-use Rattle.machine.proofs.Names.{IsSound, Mapping, ChangesPlaces, Move, Remap}
+use Rattle.machine.proofs.Names.{ℕ, ◌≡◌, ◌<◌, ◌-◌, ◌&&◌, not, Bool, true, false, cond, eqb, leb, List, [], ◌∷◌, length}
+use Rattle.machine.proofs.Names.{Option, Some, None, Ok, is_some, refl, sym, ap, ◌∙◌, subst, and_parts, leb-false}
+use Rattle.machine.proofs.Names.{leb-true, ltb-true, false≢true, Place, Rights, PageRange, Places, allows, is_among}
+use Rattle.machine.proofs.Names.{any_mapped, with_range, is_mappable, add_refusal, AddressSpace, Spaces, empty_space}
+use Rattle.machine.proofs.Names.{space_at, place_at, with_space, with_mapping, IsLowestFree, judged_mapping}
+use Rattle.machine.proofs.Names.{has_space-with_space, space_at-with_space_same, space_at-with_space_other}
+use Rattle.machine.proofs.Names.{place_at-create, place_at-with_mapping, entry_at-create, entry_at-with_mapping}
+use Rattle.machine.proofs.Names.{AreSpaces-create, AreSpaces-with_mapping, mappable_ends, judged_mapping-ok}
+use Rattle.machine.proofs.Names.{Grows-create, Grows-with_mapping, not_free, Coheres-grown, AreBacked-created}
+use Rattle.machine.proofs.Names.{AreBacked-with_mapping, State, refuse_if, first_of, mapping_refusal, map_refusal}
+use Rattle.machine.proofs.Names.{with_spaces, MapMade, IsSound, Mapping, ChangesPlaces, Move, Remap}
 use Rattle.std.specs.FinMap as maps
 use Rattle.page_entry.specs.declared.refusal.Refusal.TheVariants as refusals
 use Rattle.mappings.specs.Places.{advanced}

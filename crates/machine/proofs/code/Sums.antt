@@ -3,10 +3,10 @@ use Rattle.machine.proofs.Names.{ℕ, ◌≡◌, ◌+◌, ◌-◌, ◌*◌, ◌^
 use Rattle.machine.proofs.Names.{length, refl, ap, ◌∙◌, arith, nat_lt, lt-ltb, cond-true, Ghosts, raised, Work, WriteAt}
 use Rattle.machine.proofs.Names.{CopyBlock, Sync, Nothing, calls_of, HasFailed, Act, Reply, Step, State, Whole}
 use Rattle.machine.proofs.Names.{work_asked, CallsOf, FixCalls, FlushCalls, reads_page, has_failed, StepsTaken}
+use Rattle.machine.proofs.Names.{CallsAddUp}
 use Rattle.page_entry.specs.declared.refusal.Refusal.TheVariants as refusals
 use Rattle.machine.specs.declared.act.Act.TheVariants as acts
 use Rattle.machine.specs.declared.act.Reply.TheVariants as replies
-use Rattle.machine.specs.Sums.{CallsAddUp}
 
 -- a count that isn't at its end rises by one
 one_more : (n : ℕ) → n < 2 ^ 64 - 1 → raised n ≡ n + 1

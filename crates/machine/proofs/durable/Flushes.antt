@@ -1,65 +1,39 @@
--- A step of the write-outs: the record that it writes is what New has; Old and New stay until the batch that wasn't committed is, and then what was New is Old, too.
+-- A step of the write-outs: it writes a record that New has, and once it commits a batch, what was New is Old, too.
 use Rattle.machine.proofs.Names.{◌≡◌, ◌<◌, ◌≤◌, ◌+◌, ◌-◌, ◌*◌, ℕ, true, false, not, List, [], ◌∷◌, ◌++◌, length, map}
 use Rattle.machine.proofs.Names.{take, drop, get_or, Option, Some, None, IsSome, inl, inr, refl, sym, ap, ◌∙◌, subst}
 use Rattle.machine.proofs.Names.{arith, ◌==◌, ◌⊎◌, suc, cond, Bool, Contains, flat_map, list_any, All, option_map}
 use Rattle.machine.proofs.Names.{option_map_or, option_and_then, cond-false, cases_Bool, both_ways, or_from}
 use Rattle.machine.proofs.Names.{not_from_true, or_parts, append-nil, drop_more, length-take, list_any-append}
-use Rattle.machine.proofs.Names.{Contains-push, Contains-get_or}
-use Rattle.machine.proofs.Names.{All-contains, FilePage, length-padded, Frame, bytes_of, frame_at, page_of, IsBefore}
-use Rattle.machine.proofs.Names.{before_each, is_of_page, AreRising, Stage, Recording, Describing, SyncingRecords}
-use Rattle.machine.proofs.Names.{Opening, Committing, Applying, SyncingHomes, Closing, Finishing, Committed, Broken}
-use Rattle.machine.proofs.Names.{answer_at, WriteOut, next_stage, has_committed, advanced_of, record_at, next_record}
-use Rattle.machine.proofs.Names.{next_home, answer_of, broken_after, WriteOutsValue, has_uncommitted, advanced}
-use Rattle.machine.proofs.Names.{outs_record, outs_home, next_answer, outs_after, current_stage, batches_after}
-use Rattle.machine.proofs.Names.{AreInOrder, stage_at-is, after_committing, newest_of, current-newest, advanced-newest}
-use Rattle.machine.proofs.Names.{committed-at, current_committed, older_committed, batch_before, stands_within}
-use Rattle.machine.proofs.Names.{stands_after, stands_failed, stands_other, State, length_of, home_of, cut_at_end}
-use Rattle.machine.proofs.Names.{IsSound, IsPrepared, next_page, bytes_with, bytes_at_mark, work_asked, after_record}
-use Rattle.machine.proofs.Names.{after_failure, File, journals_of, AreHomes, Batch, SuperValue, geometry_of, Flushed}
-use Rattle.machine.proofs.Names.{Sync, worked, TornFromWork, LeftWithin, IsStanding, Checkpoint, Lock, not_running}
-use Rattle.machine.proofs.Names.{Event, Mark, Acknowledge, flush_refusal, Told, change_in}
-use Rattle.machine.proofs.Names.{IsLost, IsWaiting, IsWritten}
+use Rattle.machine.proofs.Names.{Contains-push, Contains-get_or, All-contains, FilePage, length-padded, Frame, bytes_of}
+use Rattle.machine.proofs.Names.{frame_at, page_of, IsBefore, before_each, is_of_page, AreRising, Stage, Recording}
+use Rattle.machine.proofs.Names.{Committing, Applying, Committed, Broken, answer_at, WriteOut, next_stage}
+use Rattle.machine.proofs.Names.{has_committed, advanced_of, record_at, next_record, next_home, answer_of, broken_after}
+use Rattle.machine.proofs.Names.{WriteOutsValue, has_uncommitted, advanced, outs_record, outs_home, next_answer}
+use Rattle.machine.proofs.Names.{outs_after, current_stage, batches_after, AreInOrder, stage_at-is, after_committing}
+use Rattle.machine.proofs.Names.{newest_of, current-newest, advanced-newest, committed-at, current_committed}
+use Rattle.machine.proofs.Names.{older_committed, batch_before, stands_within, stands_after, stands_failed}
+use Rattle.machine.proofs.Names.{stands_other, State, length_of, home_of, cut_at_end, IsSound, IsPrepared, next_page}
+use Rattle.machine.proofs.Names.{bytes_with, bytes_at_mark, work_asked, after_record, after_failure, File, journals_of}
+use Rattle.machine.proofs.Names.{AreHomes, Batch, SuperValue, geometry_of, Flushed, Sync, worked, TornFromWork}
+use Rattle.machine.proofs.Names.{LeftWithin, IsStanding, Checkpoint, Lock, not_running, Event, Mark, Acknowledge}
+use Rattle.machine.proofs.Names.{flush_refusal, Told, change_in, IsLost, IsWaiting, IsWritten}
 use Rattle.journal.specs.WriteOuts.{current}
 use Rattle.machine.specs.Rules.{next_record as record_asked}
 use Rattle.journal.specs.declared.flushed.Flushed.TheVariants as flushed
 use Rattle.page_entry.specs.declared.refusal.Refusal.TheVariants as refusals
+use Rattle.machine.proofs.sound.Waiting.{waiting-none}
 use Rattle.machine.proofs.durable.Lists.{only_one, some_same, none_some, flat_map-append}
-use Rattle.machine.proofs.durable.Pages.{bytes_with-at, bytes_with-none, bytes_with-freed}
-use Rattle.machine.proofs.durable.Uncommitted.{all_committed, whole_frozen, none_uncommitted, uncommitted_before, waits_after}
-use Rattle.machine.proofs.durable.Histories.{calm_none, calm_acknowledge, IsFresh, written_same, written_new, AreFrozenRecords, SameFiles, record_as, acknowledge_same, acknowledge_no_mark, marks_more}
+use Rattle.machine.proofs.durable.Pages.{bytes_with-freed}
+use Rattle.machine.proofs.durable.Uncommitted.{whole_frozen, none_uncommitted, uncommitted_before, waits_after}
+use Rattle.machine.proofs.durable.Histories.{calm_of, quiet_nothing, quiet_acknowledge, IsFresh, written_same, written_new, AreFrozenRecords, SameFiles, record_as, acknowledge_same, acknowledge_no_mark, marks_more}
 use Rattle.machine.proofs.durable.Marks.{IsDurable}
 use Rattle.machine.proofs.sound.Admitted.{second_not_refused}
-
--- ---- the record that a step of the write-outs writes is what New has, and the step that commits a batch leaves none
+use Rattle.machine.proofs.sound.Records.{few_at_mark}
 
 -- ---- the size of a record
 
-some_frame : (o : Option Frame) (owner : FilePage) → page_of o ≡ Some owner → IsSome o
-some_frame None owner e = absurd (none_some owner e)
-some_frame (Some f) owner e = refl
-
-kept_size : (s : State) → IsSound s → (copy : ℕ) (owner : FilePage) → page_of (get_or s.hardware.memory.copies copy None) ≡ Some owner → length (bytes_of (get_or s.hardware.memory.copies copy None)) ≡ 4096
-kept_size s sound copy owner is = by (get_or s.hardware.memory.copies copy None) refl is
-  where
-    by : (o : Option Frame) → get_or s.hardware.memory.copies copy None ≡ o → page_of o ≡ Some owner → length (bytes_of o) ≡ 4096
-    by None e is = absurd (none_some owner is)
-    by (Some kept) e is = sound.memory.memory.copies_whole copy kept e
-
 pub size_at_mark : (s : State) → IsSound s → (owner : FilePage) → length (bytes_at_mark s.hardware.memory owner) ≤ 4096
-size_at_mark s sound owner = elim (cases_Bool (list_any (is_of_page owner) s.hardware.memory.copies)) [
-  | inl copied ↦
-      (let at = bytes_with-at owner s.hardware.memory.copies (bytes_with owner s.hardware.memory.frames []) copied in
-      omega (arith, ap length at.2, kept_size s sound at.0 owner at.1))
-  | inr none ↦
-      (let same = ap length (bytes_with-none owner s.hardware.memory.copies (bytes_with owner s.hardware.memory.frames []) none) in
-      elim (cases_Bool (list_any (is_of_page owner) s.hardware.memory.frames)) [
-        | inl there ↦
-            (let at = bytes_with-at owner s.hardware.memory.frames [] there in
-            let whole = sound.memory.memory.frames_whole at.0 (some_frame (frame_at s.hardware.memory at.0) owner at.1) in
-            omega (arith, same, ap length at.2, whole))
-        | inr absent ↦ omega (arith, same, ap length (bytes_with-none owner s.hardware.memory.frames [] absent))
-      ])
-]
+size_at_mark s sound owner = few_at_mark s.hardware.memory owner sound.memory.memory
 
 pub size_of_record : (s : State) → IsSound s → length (record_asked s) ≡ 4096
 size_of_record s sound =
@@ -111,7 +85,7 @@ first_waiting batches i ordered r = elim (cases_Bool (has_uncommitted batches)) 
         rest = drop (r.w.steps + 1) r.w.batch.homes;
         first = ap (flat_map (λ (x : WriteOut). drop x.steps x.batch.homes)) n.are
             ∙ flat_map-append (λ (x : WriteOut). drop x.steps x.batch.homes) n.others (n.newest ∷ [])
-            ∙ ap (λ (l : List ℕ). l ++ flat_map (λ (x : WriteOut). drop x.steps x.batch.homes) (n.newest ∷ [])) (all_committed n.others (older_committed n.others n.newest n.older))
+            ∙ ap (λ (l : List ℕ). l ++ flat_map (λ (x : WriteOut). drop x.steps x.batch.homes) (n.newest ∷ [])) (waiting-none n.others (older_committed n.others n.newest n.older))
             ∙ append-nil (drop n.newest.steps n.newest.batch.homes)
             ∙ ap (λ (x : WriteOut). drop x.steps x.batch.homes) (sym same) ∙ behind;
       } in found)
@@ -167,19 +141,11 @@ record_is_new s new sound ordered whole frozen home e =
 
 -- the stage whose step commits a batch
 committing : (w : WriteOut) (o : Option Stage) (number : ℕ) → option_map_or (answer_at w.batch.mark) o Broken ≡ Committed number → (o ≡ Some Committing) × (w.batch.mark ≡ number)
-committing w None number e = cc
-committing w (Some (Recording i)) number e = cc
-committing w (Some Describing) number e = cc
-committing w (Some SyncingRecords) number e = cc
-committing w (Some Opening) number e = cc
 committing w (Some Committing) number e = (refl, committed_same w.batch.mark number e)
   where
     committed_same : (m n : ℕ) → Committed m ≡ Committed n → m ≡ n
     committed_same m n e = cc
-committing w (Some (Applying i)) number e = cc
-committing w (Some SyncingHomes) number e = cc
-committing w (Some Closing) number e = cc
-committing w (Some Finishing) number e = cc
+committing w o number e = cc
 
 pub record IsCommitting (batches : List WriteOut) (number : ℕ) : Type 0 where
   pub w : WriteOut
@@ -211,8 +177,6 @@ commits batches number ordered some e = by (current batches) refl e
                     (or_from (not (has_committed (advanced_of n.newest))) false (not_from_true (has_committed (advanced_of n.newest)) (subst (λ (x : WriteOut). has_committed (advanced_of x) ≡ true) same late)) refl);
               } in found)
         ]
-
--- ---- astep of the write-outs: Old and New stay, until the batch that wasn't committed is; then what was New is Old
 
 -- ---- what the state is after a step
 
@@ -253,10 +217,6 @@ module _ (s : State) (outs : WriteOutsValue) where
   same_number : (records : Bool) → (stepped s records outs).marks ≡ s.marks
   same_number true = refl
   same_number false = refl
-
-  same_outs : (records : Bool) → (stepped s records outs).write_outs ≡ outs
-  same_outs true = refl
-  same_outs false = refl
 
   stepped_records : (records : Bool) (new : ℕ → List ℕ) → IsSound s → AreFrozenRecords s new → AreFrozenRecords (stepped s records outs) new
   stepped_records true new sound are = released_records s new sound are
@@ -302,7 +262,7 @@ module _ (files : List File) (told : Told) (s : State) (seen : List ℕ) (may : 
     old = old;
     new = new;
     stands = stands_failed s.table old new s.write_outs seen may (record_asked s) (size_of_record s sound) stands flush_whole some is_new seen' may' left;
-    written = written_same files told s (after_failure s) old new w [] (calm_none files told.history) (record { table = refl; lengths = refl }) (λ n has. absurd (omega (arith, has.1))) w.marks (λ broken held. not_busy held) never_lost (λ k d lt. absurd (omega arith))
+    written = written_same files told s (after_failure s) old new w [] (calm_of files told.history [] (quiet_nothing told.history)) (record { table = refl; lengths = refl }) (λ n has. absurd (omega (arith, has.1))) w.marks (λ broken held. not_busy held) never_lost (λ k d lt. absurd (omega arith))
         (λ n has. absurd (omega (arith, has.1))) refl (marks_more w.before w.marked told.history [] s (after_failure s) (λ n has. absurd (omega (arith, has.1))) (λ n wait. inr wait) never_lost w.only) (λ n has. absurd (omega (arith, has.1))) w.fresh;
   })
 
@@ -317,35 +277,27 @@ module _ (files : List File) (told : Told) (s : State) (seen : List ℕ) (may : 
     stands_now : IsStanding s.table outs old new (worked seen (work_asked s)) may'
     stands_now = stands_after s.table old new s.write_outs seen may (record_asked s) (size_of_record s sound) stands flush_whole some is_new may' left sure
 
-    stands_as : (other : ℕ → List ℕ) → IsStanding s.table outs other new (worked seen (work_asked s)) may' → IsStanding after_it.table after_it.write_outs other new (worked seen (work_asked s)) may'
-    stands_as other is =
-        subst (λ (o : WriteOutsValue). IsStanding after_it.table o other new (worked seen (work_asked s)) may') (sym (same_outs s outs records))
-        (subst (λ (t : SuperValue). IsStanding t outs other new (worked seen (work_asked s)) may') (sym (same_files s outs records).table) is)
+    stands_as : (other : ℕ → List ℕ) → IsStanding s.table outs other new (worked seen (work_asked s)) may' → IsStanding after_it.table outs other new (worked seen (work_asked s)) may'
+    stands_as other is = subst (λ (t : SuperValue). IsStanding t outs other new (worked seen (work_asked s)) may') (sym (same_files s outs records).table) is
 
-    marks_now : All (λ (y : WriteOut). Contains w.marked (Mark y.batch.mark)) after_it.write_outs.batches
-    marks_now = subst (λ (o : WriteOutsValue). All (λ (y : WriteOut). Contains w.marked (Mark y.batch.mark)) o.batches) (sym (same_outs s outs records)) (marks_after (next_answer s.write_outs) s.write_outs.batches w.marked w.marks)
+    marks_now : All (λ (y : WriteOut). Contains w.marked (Mark y.batch.mark)) outs.batches
+    marks_now = marks_after (next_answer s.write_outs) s.write_outs.batches w.marked w.marks
 
     still_whole : (answer : Flushed) → (answer ≡ flushed.Device → ⊥) → broken_after answer s.write_outs.broken ≡ false
     still_whole flushed.Device other = absurd (other refl)
     still_whole answer other = flush_whole
 
-    ready_now : (next_answer s.write_outs ≡ flushed.Device → ⊥) → after_it.write_outs.broken ≡ true → change_in after_it.hardware.shootdown.lock ≡ Some Checkpoint → has_uncommitted after_it.write_outs.batches ≡ false
-    ready_now other broken held = absurd (both_ways after_it.write_outs.broken (ap (λ (o : WriteOutsValue). o.broken) (same_outs s outs records) ∙ still_whole (next_answer s.write_outs) other) broken)
-
-    batches_now : (y : WriteOut) → Contains after_it.write_outs.batches y → Contains (batches_after (next_answer s.write_outs) s.write_outs.batches) y
-    batches_now y there = subst (λ (o : WriteOutsValue). Contains o.batches y) (same_outs s outs records) there
+    ready_now : (next_answer s.write_outs ≡ flushed.Device → ⊥) → outs.broken ≡ true → change_in after_it.hardware.shootdown.lock ≡ Some Checkpoint → has_uncommitted outs.batches ≡ false
+    ready_now other broken held = absurd (both_ways outs.broken (still_whole (next_answer s.write_outs) other) broken)
 
     fresh_still : IsFresh after_it w.before
     fresh_still y there early has =
-        let was = uncommitted_before (next_answer s.write_outs) s.write_outs.batches y (batches_now y there) early in
+        let was = uncommitted_before (next_answer s.write_outs) s.write_outs.batches y there early in
         w.fresh was.before was.there was.early (subst (λ (b : Batch). Contains w.before (Mark b.mark)) (sym was.batch) has)
 
     -- what waited still does, or is committed now
-    waits_now : (n : ℕ) → IsWaiting s.write_outs.batches n → IsWaiting after_it.write_outs.batches n ⊎ (next_answer s.write_outs ≡ flushed.Committed n)
-    waits_now n wait = elim (waits_after s.write_outs.batches (next_answer s.write_outs) (sym (cond-false s.write_outs.broken flushed.Broken (option_map_or answer_of (current s.write_outs.batches) flushed.Broken) flush_whole)) n wait) [
-      | inl still ↦ inl (subst (λ (o : WriteOutsValue). IsWaiting o.batches n) (sym (same_outs s outs records)) still)
-      | inr e ↦ inr e
-    ]
+    waits_now : (n : ℕ) → IsWaiting s.write_outs.batches n → IsWaiting outs.batches n ⊎ (next_answer s.write_outs ≡ flushed.Committed n)
+    waits_now n wait = waits_after s.write_outs.batches (next_answer s.write_outs) (sym (cond-false s.write_outs.broken flushed.Broken (option_map_or answer_of (current s.write_outs.batches) flushed.Broken) flush_whole)) n wait
 
     -- the batch isn't committed by it, or was before
     pub flush_goes_on : (next_answer s.write_outs ≡ flushed.Device → ⊥) → ((n : ℕ) → next_answer s.write_outs ≡ flushed.Committed n → ⊥) → IsDurable files (record told { history = told.history ++ [] }) after_it (worked seen (work_asked s)) may'
@@ -353,7 +305,7 @@ module _ (files : List File) (told : Told) (s : State) (seen : List ℕ) (may : 
       old = old;
       new = new;
       stands = stands_as old stands_now;
-      written = written_same files told s after_it old new w [] (calm_none files told.history) (same_files s outs records) (λ n has. absurd (omega (arith, has.1))) marks_now (ready_now other) never_lost (stepped_records s outs records new sound w.frozen)
+      written = written_same files told s after_it old new w [] (calm_of files told.history [] (quiet_nothing told.history)) (same_files s outs records) (λ n has. absurd (omega (arith, has.1))) marks_now (ready_now other) never_lost (stepped_records s outs records new sound w.frozen)
           (λ n has. absurd (omega (arith, has.1))) (same_number s outs records)
           (marks_more w.before w.marked told.history [] s after_it (λ n has. absurd (omega (arith, has.1))) (λ n wait. elim (waits_now n wait) [ inl still ↦ inr still | inr e ↦ absurd (uncommitting n e) ]) never_lost w.only) (λ n has. absurd (omega (arith, has.1))) fresh_still;
     }
@@ -369,10 +321,10 @@ module _ (files : List File) (told : Told) (s : State) (seen : List ℕ) (may : 
           old = new;
           new = new;
           stands = stands_as new (stands_other s.table old new new outs (worked seen (work_asked s)) may' none stands_now);
-          written = written_new files told s after_it old new w (Acknowledge number ∷ []) (calm_acknowledge files told.history number) (same_files s outs records) (acknowledges in_new) marks_now (ready_now (λ e. never number (sym is ∙ e))) never_lost (stepped_records s outs records new sound w.frozen)
+          written = written_new files told s after_it old new w (Acknowledge number ∷ []) (calm_of files told.history (Acknowledge number ∷ []) (quiet_acknowledge told.history number)) (same_files s outs records) (acknowledges in_new) marks_now (ready_now (λ e. never number (sym is ∙ e))) never_lost (stepped_records s outs records new sound w.frozen)
               (acknowledge_no_mark number) (same_number s outs records)
               (marks_more w.before w.marked told.history (Acknowledge number ∷ []) s after_it (acknowledge_no_mark number) (λ n wait. elim (waits_now n wait) [ inl still ↦ inr still | inr e ↦ inl (this_acked n (sym is ∙ e)) ]) never_lost w.only)
-              (λ y there early has. none_uncommitted outs.batches y none (batches_now y there) early) (λ n wait. none_uncommitted outs.batches wait.w none (batches_now wait.w wait.there) wait.early);
+              (λ y there early has. none_uncommitted outs.batches y none there early) (λ n wait. none_uncommitted outs.batches wait.w none wait.there wait.early);
         }
       where
         never : (n : ℕ) → flushed.Committed n ≡ flushed.Device → ⊥

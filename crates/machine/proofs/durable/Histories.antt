@@ -1,4 +1,4 @@
--- Histories that grow: the memory after them, the pages that they touch, their prefixes, and which marks are acknowledged, wait or are lost.
+-- Histories that grow: the memory after them, the pages that they touch, their prefixes and their marks.
 use Rattle.machine.proofs.Names.{◌≡◌, ℕ, ◌+◌, ◌*◌, ◌/◌, ◌%◌, ◌<◌, ◌≤◌, Bool, true, false, ◌&&◌, eqb, if◌then◌else◌}
 use Rattle.machine.proofs.Names.{List, [], ◌∷◌, ◌++◌, length, take, drop, refl, sym, ap, ◌∙◌, inl, inr, arith, ◌⊎◌}
 use Rattle.machine.proofs.Names.{cond, subst, append_assoc, ◌↔◌, ◌-◌, get_or, Some, cond-true, cond-false, cond_both}
@@ -6,15 +6,12 @@ use Rattle.machine.proofs.Names.{and_from, and_left, and_right, eq-eqb, ne_eqb, 
 use Rattle.machine.proofs.Names.{and_parts, false_from_ne_true, length-take, append-nil, File, length-padded, overwrite}
 use Rattle.machine.proofs.Names.{length-overwrite, Memory, Event, Mark, Acknowledge, memory_of, file_bytes, stored}
 use Rattle.machine.proofs.Names.{after, touched_after, is_touched, unmarked_after, has_unmarked, Contains, All}
-use Rattle.machine.proofs.Names.{Contains-append_left, Contains-append_cases, Contains-get_or}
-use Rattle.machine.proofs.Names.{HasAcknowledged, IsLost, IsWaiting, AreMarks, AreTouched, change_in, HasParts}
-use Rattle.machine.proofs.Names.{AreContentsOf, IsWritten, State, home_of, cut_at_end, FilePage, MarkMade}
-use Rattle.machine.proofs.Names.{bytes_at_mark, Told, SuperValue, WriteOut, has_committed, WriteOutsValue}
-use Rattle.machine.proofs.Names.{has_uncommitted, Checkpoint, IsInFile, within_file}
+use Rattle.machine.proofs.Names.{Contains-append_left, Contains-append_cases, Contains-get_or, HasAcknowledged, IsLost}
+use Rattle.machine.proofs.Names.{IsWaiting, AreMarks, AreTouched, change_in, HasParts, AreContentsOf, IsWritten, State}
+use Rattle.machine.proofs.Names.{home_of, cut_at_end, FilePage, MarkMade, bytes_at_mark, Told, SuperValue, WriteOut}
+use Rattle.machine.proofs.Names.{has_committed, WriteOutsValue, has_uncommitted, Checkpoint, IsInFile, within_file}
 use Rattle.machine.specs.History.{Store}
 use Rattle.machine.proofs.durable.Lists.{contains_none, first_or, only_one}
-
--- ---- the memory after a history and the pages that it touches, one event at a time
 
 -- ---- memory
 
@@ -53,11 +50,6 @@ length-stored memory file page at bytes f p whole fits small =
     cond_both (eqb f file && eqb p ((4096 * page + at) / 4096)) (overwrite (memory f p) ((4096 * page + at) % 4096) bytes) (memory f p) (λ (l : List ℕ). length l ≡ 4096)
     (λ e. length-overwrite (memory f p) ((4096 * page + at) % 4096) bytes (omega (arith, inner, whole f p)) ∙ whole f p)
     (λ e. whole f p)
-
-pub length-memory_of : (files : List File) (file page : ℕ) → length (memory_of files file page) ≡ 4096
-length-memory_of files file page =
-    let bytes = drop (4096 * page) (file_bytes files file) in
-    length-padded 4096 (take 4096 bytes) (omega (arith, length-take 4096 bytes))
 
 -- ---- touched pages
 
@@ -109,7 +101,7 @@ quiet_acknowledge history number = record {
   touched = λ file page. touched_after-append file page false history (Acknowledge number ∷ []);
 }
 
--- ---- histories that grow: the memory after them, which pages they touch, and their prefixes
+-- ---- histories that grow
 
 -- a page that got a store after the last mark is a store after it
 pub unmarked_by_touched : (file page : ℕ) (before waits : Bool) (events : List Event) → (before ≡ true → waits ≡ true) → touched_after file page before events ≡ true → unmarked_after waits events ≡ true
@@ -226,7 +218,7 @@ in_history prefix rest history e begins has = subst (λ (l : List Event). Contai
 pub acknowledged_more : (prefix history events : List Event) → ((n : ℕ) → Contains events (Acknowledge n) → Contains prefix (Mark n)) → HasAcknowledged prefix history → HasAcknowledged prefix (history ++ events)
 acknowledged_more prefix history events more has n there = elim (Contains-append_cases history events (Acknowledge n) there) [ inl before ↦ has n before | inr now ↦ more n now ]
 
--- ---- which marks are acknowledged, wait or are lost, where the history grows by events that mark nothing
+-- ---- which marks are acknowledged, wait or are lost
 
 -- what waited is acknowledged by these events, or still waits
 pub marks_more : (before marked history events : List Event) (s x : State) → ((n : ℕ) → Contains events (Mark n) → ⊥)
@@ -295,8 +287,6 @@ module _ (told : Told) (s : State) (p number : ℕ) (new : State) (mark : MarkMa
       empty [] none = refl
       empty (owner ∷ pages) none = absurd (none owner (0, omega arith, refl))
 
--- ---- acts that leave the write-outs and what their records are: what the device recovers to goes with what is told
-
 -- ---- the files stay
 
 pub record SameFiles (s x : State) : Type 0 where
@@ -364,13 +354,10 @@ records_as s x leaves new are =
 abbrev pub AreCalm : List File → List Event → List Event → Type 0
 AreCalm files history events = (file page : ℕ) → is_touched (history ++ events) file page ≡ false → IsUntouched (memory_of files) history events file page
 
-pub calm_none : (files : List File) (history : List Event) → AreCalm files history []
-calm_none files history file page is = quiet_untouched (memory_of files) history [] file page (inl refl) is
-
-pub calm_acknowledge : (files : List File) (history : List Event) (number : ℕ) → AreCalm files history (Acknowledge number ∷ [])
-calm_acknowledge files history number file page is = record {
-  before = sym (touched_after-append file page false history (Acknowledge number ∷ [])) ∙ is;
-  same = ap (λ (m : ℕ → ℕ → List ℕ). m file page) (after-append (memory_of files) history (Acknowledge number ∷ []));
+pub calm_of : (files : List File) (history events : List Event) → AreQuiet history events → AreCalm files history events
+calm_of files history events quiet file page is = record {
+  before = sym (quiet.touched file page) ∙ is;
+  same = ap (λ (m : Memory). m file page) (quiet.memory (memory_of files));
 }
 
 -- the batches that aren't committed aren't in this prefix

@@ -1,17 +1,19 @@
 -- Home blocks: they lie in the volume, and no two pages of files share one.
 use Rattle.machine.proofs.Names.{◌≡◌, ℕ, zero, suc, ◌+◌, ◌*◌, ◌<◌, ◌≤◌, List, [], ◌∷◌, length, map, take, get_or, ap}
 use Rattle.machine.proofs.Names.{inl, inr, arith, ◌-◌, eqb, cond, false, ◌++◌, Option, Some, None, refl, sym, ◌∙◌}
-use Rattle.machine.proofs.Names.{subst, true, cond-true, cond-false, cases_Bool, cases_lt, both_ways}
-use Rattle.machine.proofs.Names.{ne_eqb, eqb-true, eqb-false, false_from_ne_true, FilePage, TableFile, File, IsHome}
-use Rattle.machine.proofs.Names.{block_at, pages_of, total_pages, geometry_of, State, home_of, length_of}
-use Rattle.machine.proofs.Names.{cut_at_end, page_from, IsInFile, within_file, IsSound, Contains, list_any, All}
-use Rattle.machine.proofs.Names.{take_at, take_all, length-take, append-nil, zeros, padded, zeros-nil, Frame, frame_at}
-use Rattle.machine.proofs.Names.{bytes_of, page_of, Holds, is_of_page, is_frozen, same_page, bytes_with, bytes_at_mark}
-use Rattle.machine.proofs.Names.{total_pages-take_more, total_pages-take_le, All-contains, is_in_memory, WriteOut}
-use Rattle.machine.proofs.Names.{HasBlock, memory_of, after, is_touched, Told, IsTracked}
+use Rattle.machine.proofs.Names.{subst, true, cond-true, cond-false, cases_Bool, cases_lt, both_ways, ne_eqb, eqb-true}
+use Rattle.machine.proofs.Names.{eqb-false, false_from_ne_true, FilePage, TableFile, File, IsHome, block_at, pages_of}
+use Rattle.machine.proofs.Names.{total_pages, geometry_of, State, home_of, length_of, cut_at_end, page_from, IsInFile}
+use Rattle.machine.proofs.Names.{within_file, IsSound, Contains, list_any, All, take_at, take_all, length-take}
+use Rattle.machine.proofs.Names.{append-nil, zeros, padded, zeros-nil, Frame, frame_at, bytes_of, page_of, Holds}
+use Rattle.machine.proofs.Names.{is_of_page, is_frozen, same_page, bytes_with, bytes_at_mark, total_pages-take_more}
+use Rattle.machine.proofs.Names.{total_pages-take_le, All-contains, is_in_memory, WriteOut, HasBlock, memory_of, after}
+use Rattle.machine.proofs.Names.{is_touched, Told, IsTracked}
 use Rattle.machine.proofs.sound.Homes.{home-below, same_home}
 use Rattle.machine.proofs.durable.Lists.{none_some, contains_head, contains_cons, contains_unmapped}
-use Rattle.machine.proofs.durable.Pages.{holder, holder_of, bytes_with-none, bytes_with-held, in_memory}
+use Rattle.machine.proofs.durable.Pages.{holder, bytes_with-held}
+use Rattle.machine.proofs.sound.Frames.{in_memory_held, held_in_memory}
+use Rattle.machine.proofs.sound.Records.{bytes_with-none}
 
 -- the capacity of a file of a table
 abbrev pub capacity_at : List TableFile → ℕ → ℕ
@@ -29,11 +31,9 @@ module _ (s : State) (sound : IsSound s) where
   pub home_is : (owner : FilePage) → IsInFile s owner → IsHome (geometry_of s.table) (home_of s.table owner)
   home_is owner is = record { low = omega arith; high = home-below s sound.within owner is }
 
--- ---- the contents of a volume with the pages that a mark gathers
-
 -- ---- a page up to its file's end
 
-nothing_padded : (n : ℕ) (t : List ℕ) → length t ≡ n → padded n t ≡ t
+pub nothing_padded : (n : ℕ) (t : List ℕ) → length t ≡ n → padded n t ≡ t
 nothing_padded n t size = let none : n - length t ≡ 0 = omega arith in ap (λ k. t ++ zeros k) none ∙ ap (λ (z : List ℕ). t ++ z) zeros-nil ∙ append-nil t
 
 -- what is padded keeps its first bytes
@@ -112,7 +112,7 @@ no_batch s sound owner is absent has =
     let w = has.0 in
     let homes = All-contains (λ (x : WriteOut). All (λ home. (o : FilePage) × (home ≡ home_of s.table o) × (is_in_memory s.hardware.memory o ≡ true)) x.batch.homes) s.write_outs.batches w sound.write_outs.in_memory has.1 in
     let page = All-contains (λ home. (o : FilePage) × (home ≡ home_of s.table o) × (is_in_memory s.hardware.memory o ≡ true)) w.batch.homes (home_of s.table owner) homes has.2 in
-    let at = holder_of s.hardware.memory page.0 page.2 in
+    let at = held_in_memory s.hardware.memory page.0 page.2 in
     let same : owner ≡ page.0 = same_home s sound.within owner page.0 is (sound.memory.in_files at.0 page.0 at.1) page.1 in
     both_ways (is_in_memory s.hardware.memory owner) absent (ap (is_in_memory s.hardware.memory) same ∙ page.2)
 
@@ -121,7 +121,7 @@ module _ (files : List File) (told : Told) (s : State) (seen : List ℕ) (may : 
   pub absent_untouched : (owner : FilePage) → is_in_memory s.hardware.memory owner ≡ false → is_touched told.history owner.file owner.page ≡ false
   absent_untouched owner absent = false_from_ne_true (is_touched told.history owner.file owner.page) (λ is.
       let at = (t.touched owner).0 is in
-      both_ways (is_in_memory s.hardware.memory owner) absent (in_memory s.hardware.memory at.0 owner at.1))
+      both_ways (is_in_memory s.hardware.memory owner) absent (in_memory_held s.hardware.memory at.0 owner at.1))
 
   pub page_read : (owner : FilePage) → IsInFile s owner → is_in_memory s.hardware.memory owner ≡ false → s.write_outs.broken ≡ false → page_from s seen owner ≡ after (memory_of files) told.history owner.file owner.page
   page_read owner is absent whole =

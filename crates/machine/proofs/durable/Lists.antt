@@ -1,7 +1,6 @@
 -- Lists and options: what is in them, and what isn't.
-use Rattle.machine.proofs.Names.{◌≡◌, ◌⊎◌, ℕ, zero, suc, List, [], ◌∷◌, ◌++◌, map, drop, Some, None, inl}
-use Rattle.machine.proofs.Names.{inr, refl, sym, ap, ◌∙◌, arith, append_assoc, Contains, flat_map}
-use Rattle.machine.proofs.Names.{Contains-append_cases}
+use Rattle.machine.proofs.Names.{◌≡◌, ◌⊎◌, ℕ, zero, suc, List, [], ◌∷◌, ◌++◌, map, drop, Some, None, inl, inr, refl}
+use Rattle.machine.proofs.Names.{sym, ap, ◌∙◌, arith, append_assoc, Contains, flat_map, Contains-append_cases}
 
 -- ---- options
 
@@ -30,11 +29,6 @@ contains_head x xs = (0, omega arith, refl)
 pub contains_cons : {X : Type 0} (y : X) (xs : List X) (x : X) → Contains xs x → Contains (y ∷ xs) x
 contains_cons y xs x has = (suc has.0, omega (arith, has.1), has.2)
 
-pub contains_map : {X Y : Type 0} (f : X → Y) (xs : List X) (x : X) → Contains xs x → Contains (map f xs) (f x)
-contains_map f [] x has = absurd (omega (arith, has.1))
-contains_map f (y ∷ ys) x (zero, lt, is) = (0, omega arith, ap f is)
-contains_map f (y ∷ ys) x (suc k, lt, is) = contains_cons (f y) (map f ys) (f x) (contains_map f ys x (k, omega arith, is))
-
 pub contains_unmapped : {X Y : Type 0} (f : X → Y) (xs : List X) (y : Y) → Contains (map f xs) y → (x : X) × Contains xs x × (f x ≡ y)
 contains_unmapped f [] y has = absurd (omega (arith, has.1))
 contains_unmapped f (x ∷ xs) y (zero, lt, is) = (x, contains_head x xs, is)
@@ -44,13 +38,6 @@ pub contains_drop : {X : Type 0} (n : ℕ) (xs : List X) (x : X) → Contains (d
 contains_drop zero xs x has = has
 contains_drop (suc n) [] x has = has
 contains_drop (suc n) (y ∷ ys) x has = contains_cons y ys x (contains_drop n ys x has)
-
-pub contains_flat_map : {X Y : Type 0} (f : X → List Y) (xs : List X) (y : Y) → Contains (flat_map f xs) y → (x : X) × Contains xs x × Contains (f x) y
-contains_flat_map f [] y has = absurd (omega (arith, has.1))
-contains_flat_map f (x ∷ xs) y has = elim (Contains-append_cases (f x) (flat_map f xs) y has) [
-  | inl here ↦ (x, contains_head x xs, here)
-  | inr later ↦ (let r = contains_flat_map f xs y later in (r.0, contains_cons x xs r.0 r.1, r.2))
-]
 
 -- ---- lists made of others
 

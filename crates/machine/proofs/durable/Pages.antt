@@ -1,20 +1,20 @@
--- Which pages frames and copies have, and with what bytes, after each change of them; and what frozen pages had at their mark.
+-- Which pages frames and copies have, with what bytes, and what frozen pages had at their mark, after each change.
 use Rattle.machine.proofs.Names.{ℕ, ◌≡◌, ◌≢◌, true, false, List, slice_get, Option, Some, None, refl, sym, ap, ◌∙◌, inl}
-use Rattle.machine.proofs.Names.{inr, ◌⊎◌, ◌<◌, ◌||◌, zero, suc, cond, [], ◌∷◌, length, map, get_or, set, arith}
-use Rattle.machine.proofs.Names.{not, subst, cases_eq, false_from_ne_true, false≢true, cond-true, cond-false, both_ways}
-use Rattle.machine.proofs.Names.{and_parts, and_from, or_parts, or_left, or_right, cases_Bool}
-use Rattle.machine.proofs.Names.{not-true, not_from_false, FilePage, FramesState, Frame, frame_at, bytes_of, overwrite}
-use Rattle.machine.proofs.Names.{overwrite_frame, with_page, with_bytes, without_frame, page_of, with_copy}
-use Rattle.machine.proofs.Names.{frame_at-free, frame_at-with_page_same, frame_at-with_page_other}
-use Rattle.machine.proofs.Names.{frame_at-with_bytes_same, frame_at-without_frame_same, frame_at-without_frame_other}
-use Rattle.machine.proofs.Names.{same_page-true, same_page-refl, list_any-has_page, has_page-list_any, Holds, same_page}
-use Rattle.machine.proofs.Names.{is_of_page, freed_copy, is_copied, is_frozen, is_held, is_in_memory, Contains}
-use Rattle.machine.proofs.Names.{list_any, bytes_with, MayLeave, bytes_at_mark, All-contains, slice_get_within}
+use Rattle.machine.proofs.Names.{inr, ◌⊎◌, ◌<◌, ◌||◌, zero, suc, cond, [], ◌∷◌, length, map, get_or, set, arith, not}
+use Rattle.machine.proofs.Names.{subst, cases_eq, false_from_ne_true, false≢true, cond-true, cond-false, both_ways}
+use Rattle.machine.proofs.Names.{and_parts, and_from, or_parts, or_left, or_right, cases_Bool, not-true, not_from_false}
+use Rattle.machine.proofs.Names.{FilePage, FramesState, Frame, frame_at, bytes_of, overwrite, overwrite_frame}
+use Rattle.machine.proofs.Names.{with_page, with_bytes, without_frame, page_of, with_copy, frame_at-free}
+use Rattle.machine.proofs.Names.{frame_at-with_page_same, frame_at-with_page_other, frame_at-with_bytes_same}
+use Rattle.machine.proofs.Names.{frame_at-without_frame_same, frame_at-without_frame_other, same_page-true}
+use Rattle.machine.proofs.Names.{same_page-refl, list_any-has_page, has_page-list_any, Holds, same_page, is_of_page}
+use Rattle.machine.proofs.Names.{freed_copy, is_copied, is_frozen, is_held, is_in_memory, Contains, list_any}
+use Rattle.machine.proofs.Names.{bytes_with, MayLeave, bytes_at_mark, All-contains, slice_get_within}
 use Rattle.machine.proofs.Names.{get_or_from_slice_get, HasBlock, State, home_of, IsSound}
 use Rattle.machine.proofs.durable.Lists.{some_same, none_some}
+use Rattle.machine.proofs.sound.Frames.{in_memory_held, held_in_memory, page_of-overwrite}
+use Rattle.machine.proofs.sound.Records.{bytes_with-at, bytes_with-none}
 use Rattle.machine.proofs.durable.Uncommitted.{frozen_block}
-
--- ---- which pages frames hold, and with what bytes, after each change of the frames
 
 -- ---- the same page
 
@@ -31,22 +31,15 @@ differ a b other file page = other (λ i. record { file = file i; page = page i 
 
 -- ---- whether a page is in memory
 
--- a page that a frame holds is in memory
-pub in_memory : (memory : FramesState) (frame : ℕ) (owner : FilePage) → Holds memory frame owner → is_in_memory memory owner ≡ true
-in_memory memory frame owner holds = list_any-has_page memory.frames owner frame holds
-
--- and a page in memory is in a frame
+-- a page in memory is in a frame
 pub holder : (owner : FilePage) (frames : List (Option Frame)) → list_any (is_of_page owner) frames ≡ true → (k : ℕ) × (page_of (get_or frames k None) ≡ Some owner)
 holder owner frames is = let h = has_page-list_any frames owner is in (h.number, h.holds)
 
-pub holder_of : (memory : FramesState) (owner : FilePage) → is_in_memory memory owner ≡ true → (frame : ℕ) × Holds memory frame owner
-holder_of memory owner is = holder owner memory.frames is
-
 pub held_by_none : (memory : FramesState) (owner : FilePage) → is_in_memory memory owner ≡ false → (frame : ℕ) → Holds memory frame owner → ⊥
-held_by_none memory owner absent frame holds = false≢true (sym absent ∙ in_memory memory frame owner holds)
+held_by_none memory owner absent frame holds = false≢true (sym absent ∙ in_memory_held memory frame owner holds)
 
 pub not_in_memory : (memory : FramesState) (owner : FilePage) → ((frame : ℕ) → Holds memory frame owner → ⊥) → is_in_memory memory owner ≡ false
-not_in_memory memory owner none = false_from_ne_true (is_in_memory memory owner) (λ is. let h = holder_of memory owner is in none h.0 h.1)
+not_in_memory memory owner none = false_from_ne_true (is_in_memory memory owner) (λ is. let h = held_in_memory memory owner is in none h.0 h.1)
 
 -- where frames hold what they held, what isn't in memory wasn't
 pub absent_before : (old new : FramesState) → ((frame : ℕ) (owner : FilePage) → Holds old frame owner → Holds new frame owner) → (owner : FilePage) → is_in_memory new owner ≡ false → is_in_memory old owner ≡ false
@@ -97,10 +90,7 @@ held_without memory frame k owner holds =
     absurd (let none : page_of (frame_at (without_frame memory frame) k) ≡ None = ap (λ n. page_of (frame_at (without_frame memory frame) n)) same ∙ ap page_of (frame_at-without_frame_same memory frame) in cc) in
     (other, frame_at-without_frame_other memory frame k other)
 
-pub held_still : (memory : FramesState) (frame k : ℕ) (owner : FilePage) → k ≢ frame → Holds memory k owner → Holds (without_frame memory frame) k owner
-held_still memory frame k owner other holds = ap page_of (frame_at-without_frame_other memory frame k other) ∙ holds
-
--- ---- the bytes of a page as they were at its mark: what a change of frames and copies leaves of them
+-- ---- the bytes of a page as they were at its mark
 
 pub same_page-other : (a b : FilePage) → (a ≡ b → ⊥) → same_page a b ≡ false
 same_page-other a b other = false_from_ne_true (same_page a b) (λ e. other (same_page-true a b e))
@@ -115,10 +105,6 @@ pub of_page-other : (owner other : FilePage) (f : Option Frame) → page_of f �
 of_page-other owner other None e differs = refl
 of_page-other owner other (Some f) e differs = ap (same_page owner) (some_same f.page other e) ∙ same_page-other owner other differs
 
-pub held-of_page : (owner : FilePage) (f : Option Frame) → is_of_page owner f ≡ true → page_of f ≡ Some owner
-held-of_page owner None e = absurd (both_ways false refl e)
-held-of_page owner (Some f) e = ap (λ (page : FilePage). Some page) (sym (same_page-true owner f.page e))
-
 -- ---- the bytes of a page in a list of frames
 
 some_of_page : (owner : FilePage) (f : Frame) (rest : List (Option Frame)) (other : List ℕ) → same_page owner f.page ≡ false → bytes_with owner (Some f ∷ rest) other ≡ bytes_with owner rest other
@@ -129,13 +115,6 @@ pub bytes_with-skip : (owner : FilePage) (x : Option Frame) (rest : List (Option
 bytes_with-skip owner None rest other e = refl
 bytes_with-skip owner (Some f) rest other e = some_of_page owner f rest other e
 
--- where none has the page
-pub bytes_with-none : (owner : FilePage) (frames : List (Option Frame)) (other : List ℕ) → list_any (is_of_page owner) frames ≡ false → bytes_with owner frames other ≡ other
-bytes_with-none owner [] other e = refl
-bytes_with-none owner (x ∷ xs) other e =
-    let parts = or_parts (is_of_page owner x) (list_any (is_of_page owner) xs) e in
-    bytes_with-skip owner x xs other parts.0 ∙ bytes_with-none owner xs other parts.1
-
 -- where one has it, nothing else counts
 pub bytes_with-one : (owner : FilePage) (frames : List (Option Frame)) (a b : List ℕ) → list_any (is_of_page owner) frames ≡ true → bytes_with owner frames a ≡ bytes_with owner frames b
 bytes_with-one owner [] a b e = absurd (both_ways false refl e)
@@ -143,16 +122,6 @@ bytes_with-one owner (None ∷ xs) a b e = bytes_with-one owner xs a b e
 bytes_with-one owner (Some f ∷ xs) a b e = elim (cases_Bool (same_page owner f.page)) [
   | inl is ↦ cond-true (same_page owner f.page) f.bytes (bytes_with owner xs a) is ∙ sym (cond-true (same_page owner f.page) f.bytes (bytes_with owner xs b) is)
   | inr other ↦ some_of_page owner f xs a other ∙ bytes_with-one owner xs a b (ap (λ t. t || list_any (is_of_page owner) xs) (sym other) ∙ e) ∙ sym (some_of_page owner f xs b other)
-]
-
--- the first that has it is at some place
-pub bytes_with-at : (owner : FilePage) (frames : List (Option Frame)) (other : List ℕ) → list_any (is_of_page owner) frames ≡ true
-    → (k : ℕ) × (page_of (get_or frames k None) ≡ Some owner) × (bytes_with owner frames other ≡ bytes_of (get_or frames k None))
-bytes_with-at owner [] other e = absurd (both_ways false refl e)
-bytes_with-at owner (None ∷ xs) other e = let later = bytes_with-at owner xs other e in (suc later.0, later.1, later.2)
-bytes_with-at owner (Some f ∷ xs) other e = elim (cases_Bool (same_page owner f.page)) [
-  | inl is ↦ (0, held-of_page owner (Some f) is, cond-true (same_page owner f.page) f.bytes (bytes_with owner xs other) is)
-  | inr differs ↦ (let later = bytes_with-at owner xs other (ap (λ t. t || list_any (is_of_page owner) xs) (sym differs) ∙ e) in (suc later.0, later.1, some_of_page owner f xs other differs ∙ later.2))
 ]
 
 -- a change at a place that neither had the page nor has it
@@ -186,7 +155,7 @@ bytes_with-freed owner first (Some f ∷ copies) other differs = elim (cases_Boo
 -- the bytes of a frame that alone has the page
 pub bytes_with-held : (memory : FramesState) (frame : ℕ) (owner : FilePage) → ((a b : ℕ) (o : FilePage) → Holds memory a o → Holds memory b o → a ≡ b) → Holds memory frame owner → bytes_with owner memory.frames [] ≡ bytes_of (frame_at memory frame)
 bytes_with-held memory frame owner alone held =
-    let at = bytes_with-at owner memory.frames [] (in_memory memory frame owner held) in
+    let at = bytes_with-at owner memory.frames [] (in_memory_held memory frame owner held) in
     at.2 ∙ ap (λ k. bytes_of (get_or memory.frames k None)) (alone at.0 frame owner at.1 held)
 
 -- ---- frozen pages
@@ -203,11 +172,7 @@ contains_frozen owner [] has = absurd (omega (arith, has.1))
 contains_frozen owner (x ∷ xs) (zero, lt, is) = or_left (same_page owner x) (list_any (same_page owner) xs) (ap (same_page owner) is ∙ same_page-refl owner)
 contains_frozen owner (x ∷ xs) (suc k, lt, is) = or_right (same_page owner x) (list_any (same_page owner) xs) (contains_frozen owner xs (k, omega arith, is))
 
--- ---- what frozen pages had at their mark stays: a store reaches none whose bytes aren't copied, a copy has the byte
-
-overwritten_page : (f : Option Frame) (at : ℕ) (bytes : List ℕ) → page_of (overwrite_frame f at bytes) ≡ page_of f
-overwritten_page None at bytes = refl
-overwritten_page (Some f) at bytes = refl
+-- ---- what frozen pages had at their mark stays
 
 other_page : (owner page : FilePage) → same_page owner page ≡ false → owner ≡ page → ⊥
 other_page owner page other e = both_ways (same_page owner page) other (ap (same_page owner) (sym e) ∙ same_page-refl owner)
@@ -242,7 +207,7 @@ module _ (s : State) (sound : IsSound s) where
             (let differs = other_page owner page other in
             ap (bytes_with owner memory.copies)
             (bytes_with-set owner memory.frames frame written [] (of_page-other owner page (frame_at memory frame) held differs)
-            (of_page-other owner page written (overwritten_page (frame_at memory frame) at bytes ∙ held) differs)))
+            (of_page-other owner page written (page_of-overwrite (frame_at memory frame) at bytes ∙ held) differs)))
       ]
 
   -- a page is brought into a frame

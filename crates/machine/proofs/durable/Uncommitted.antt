@@ -1,17 +1,17 @@
 -- Batches that aren't committed: a step makes none of one that is.
-use Rattle.machine.proofs.Names.{◌≡◌, ◌≤◌, ◌+◌, ◌⊎◌, ℕ, zero, suc, true, false, not, List, [], ◌∷◌, length, Option}
-use Rattle.machine.proofs.Names.{Some, None, inl, inr, refl, sym, ap, ◌∙◌, subst, arith, ◌++◌, map, drop, Contains}
-use Rattle.machine.proofs.Names.{AllByRecursion, flat_map, option_map_or, cond-true, cond-false, cases_Bool, both_ways}
-use Rattle.machine.proofs.Names.{or_from, not_from_true, false_from_ne_true, Contains-append_right, Batch, Flushed}
-use Rattle.machine.proofs.Names.{Going, Committed, Done, Device, Broken, Stage, Recording, Describing, SyncingRecords}
-use Rattle.machine.proofs.Names.{Opening, Committing, Applying, SyncingHomes, Closing, Finishing, is_committed}
-use Rattle.machine.proofs.Names.{answer_at, WriteOut, begun_of, next_stage, has_committed, advanced_of, answer_of}
-use Rattle.machine.proofs.Names.{has_uncommitted, advanced, batches_after, HasBlock, IsOlder, AreInOrder, IsAt}
-use Rattle.machine.proofs.Names.{stage_is, committed_parts, done_committed, IsWaiting, drop_all, FilePage, State}
-use Rattle.machine.proofs.Names.{home_of, IsSound, waiting_homes}
+use Rattle.machine.proofs.Names.{◌≡◌, ◌≤◌, ◌+◌, ◌⊎◌, ℕ, zero, suc, true, false, not, List, [], ◌∷◌, Option, Some, None}
+use Rattle.machine.proofs.Names.{inl, inr, refl, sym, ap, ◌∙◌, subst, arith, map, drop, Contains, AllByRecursion}
+use Rattle.machine.proofs.Names.{option_map_or, cond-true, cond-false, cases_Bool, both_ways, or_from, not_from_true}
+use Rattle.machine.proofs.Names.{false_from_ne_true, Contains-append_right, Batch, Flushed, Going, Committed, Done}
+use Rattle.machine.proofs.Names.{Device, Broken, Stage, Recording, Describing, SyncingRecords, Opening, Committing}
+use Rattle.machine.proofs.Names.{is_committed, answer_at, WriteOut, begun_of, next_stage, has_committed, advanced_of}
+use Rattle.machine.proofs.Names.{answer_of, has_uncommitted, advanced, batches_after, HasBlock, IsOlder, AreInOrder}
+use Rattle.machine.proofs.Names.{IsAt, stage_is, committed_parts, done_committed, IsWaiting, FilePage, State, home_of}
+use Rattle.machine.proofs.Names.{IsSound, waiting_homes}
 use Rattle.journal.specs.WriteOuts.{current}
-use Rattle.machine.proofs.sound.Waiting.{blocks, committed_steps, committed_still}
-use Rattle.machine.proofs.durable.Lists.{first_or, some_same, none_some, contains_map, contains_drop, contains_flat_map, nothing_mapped}
+use Rattle.machine.proofs.sound.Waiting.{waiting-none, blocks, committed_steps, committed_still}
+use Rattle.machine.proofs.durable.Lists.{first_or, some_same, none_some, nothing_mapped}
+use Rattle.machine.proofs.sound.Ended.{frozen_has_block}
 
 -- one that isn't committed after a step wasn't before it
 still_uncommitted : (w : WriteOut) → has_committed (advanced_of w) ≡ false → has_committed w ≡ false
@@ -109,7 +109,7 @@ waits_on (x ∷ newer) n wait = elim (cases_Bool (has_uncommitted newer)) [
     first_waits e = record { w = x; there = (0, omega arith, refl); early = ap has_committed e ∙ wait.early; mark = ap (λ (y : WriteOut). y.batch.mark) e ∙ wait.mark }
 
 -- a step that ends a write-out comes where none waits
-none_when_done : (batches : List WriteOut) (mark : ℕ) → option_map_or answer_of (current batches) Broken ≡ Done mark → has_uncommitted batches ≡ false
+pub none_when_done : (batches : List WriteOut) (mark : ℕ) → option_map_or answer_of (current batches) Broken ≡ Done mark → has_uncommitted batches ≡ false
 none_when_done [] mark e = refl
 none_when_done (x ∷ newer) mark e = elim (cases_Bool (has_uncommitted newer)) [
   | inl some ↦
@@ -174,8 +174,6 @@ none_current (x ∷ newer) is w there = elim (cases_Bool (has_uncommitted newer)
     found [] some = absurd (both_ways false refl some)
     found (y ∷ l) some = (y, (0, omega arith, refl))
 
--- ---- the frozen pages are those whose records aren't written yet
-
 -- ---- which pages are frozen
 
 module _ (s : State) (sound : IsSound s) where
@@ -189,39 +187,12 @@ module _ (s : State) (sound : IsSound s) where
   pub frozen_block : (owner : FilePage) → Contains s.checkpoint.frozen owner → HasBlock s.write_outs (home_of s.table owner)
   frozen_block owner has = elim (cases_Bool s.write_outs.broken) [
     | inl broken ↦ (let none : Contains [] owner = subst (λ (l : List FilePage). Contains l owner) (broken_frozen broken) has in absurd (omega (arith, none.1)))
-    | inr whole ↦
-        (let there = subst (λ (l : List ℕ). Contains l (home_of s.table owner)) (whole_frozen whole) (contains_map (home_of s.table) s.checkpoint.frozen owner has) in
-        let at = contains_flat_map (λ (w : WriteOut). drop w.steps w.batch.homes) s.write_outs.batches (home_of s.table owner) there in
-        (at.0, at.1, contains_drop at.0.steps at.0.batch.homes (home_of s.table owner) at.2))
+    | inr whole ↦ frozen_has_block s owner sound.write_outs whole has
   ]
-
--- ---- records that wait
-
-late_steps : (k n : ℕ) (o : Option Stage) → IsAt k n o → option_map_or is_committed o true ≡ true → k ≤ n
-late_steps k n (Some (Recording i)) at e = absurd (both_ways false refl e)
-late_steps k n (Some Describing) at e = absurd (both_ways false refl e)
-late_steps k n (Some SyncingRecords) at e = absurd (both_ways false refl e)
-late_steps k n (Some Opening) at e = absurd (both_ways false refl e)
-late_steps k n (Some Committing) at e = absurd (both_ways false refl e)
-late_steps k n (Some (Applying i)) at e = omega (arith, at.0)
-late_steps k n (Some SyncingHomes) at e = omega (arith, at)
-late_steps k n (Some Closing) at e = omega (arith, at)
-late_steps k n (Some Finishing) at e = omega (arith, at)
-late_steps k n None at e = omega (arith, at)
-
--- of a committed batch no record waits
-pub none_waits : (w : WriteOut) → has_committed w ≡ true → drop w.steps w.batch.homes ≡ []
-none_waits w committed = drop_all w.steps w.batch.homes (late_steps (length w.batch.homes) w.steps (next_stage w) (stage_is (length w.batch.homes) w.steps) committed)
-
-pub all_committed : (batches : List WriteOut) → has_uncommitted batches ≡ false → flat_map (λ (w : WriteOut). drop w.steps w.batch.homes) batches ≡ []
-all_committed [] none = refl
-all_committed (w ∷ newer) none =
-    let parts = committed_parts w newer none in
-    ap (λ (l : List ℕ). l ++ flat_map (λ (w : WriteOut). drop w.steps w.batch.homes) newer) (none_waits w parts.0) ∙ all_committed newer parts.1
 
 -- where each batch is committed, no page is frozen
 pub committed_frozen : (s : State) → IsSound s → has_uncommitted s.write_outs.batches ≡ false → s.checkpoint.frozen ≡ []
 committed_frozen s sound none = elim (cases_Bool s.write_outs.broken) [
   | inl broken ↦ broken_frozen s sound broken
-  | inr whole ↦ nothing_mapped (home_of s.table) s.checkpoint.frozen (whole_frozen s sound whole ∙ all_committed s.write_outs.batches none)
+  | inr whole ↦ nothing_mapped (home_of s.table) s.checkpoint.frozen (whole_frozen s sound whole ∙ waiting-none s.write_outs.batches none)
 ]

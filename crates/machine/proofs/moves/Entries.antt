@@ -1,15 +1,15 @@
 -- Processors, spaces and entries that are replaced: the conditions of these moves, and that a machine stays sound by them.
-use Rattle.machine.proofs.Names.{ℕ, ◌≡◌, ◌<◌, Bool, true, false, cond, ◌&&◌, eqb, List, [], ◌∷◌, length, Some}
-use Rattle.machine.proofs.Names.{is_some, IsSome, refl, sym, ap, ◌∙◌, subst, and_parts, and_from, or_right, eqb-true}
-use Rattle.machine.proofs.Names.{eq-eqb, cond-true, Mapped, TlbState, filled, Place, Spaces, has_space, space_at}
-use Rattle.machine.proofs.Names.{entry_at, place_at, with_entry, Keeps, has_space-place_at}
-use Rattle.machine.proofs.Names.{entry_at-with_entry, place_at-with_entry, places-with_entry, has_space-with_entry}
-use Rattle.machine.proofs.Names.{AreSpaces-with_entry, is_some_from, Grows-with_entry, Lock, IsShootdown, processor_at}
-use Rattle.machine.proofs.Names.{current, with_processor, with_tlb, Coheres, Agrees, at-with_processor}
-use Rattle.machine.proofs.Names.{IsNoWider-same_places, Coheres-grown, IsShootdown-filled, Coheres-filled, Holds}
-use Rattle.machine.proofs.Names.{page_at, MayBe, AreBacked-with_entry, cached_of, walked, State, with_hardware}
-use Rattle.machine.proofs.Names.{with_shootdown, with_spaces, IsSound, Saying, Silent, Mapping}
-use Rattle.machine.proofs.Names.{AreSpacesTold, ReplacesProcessor, ReplacesSpaces, Replace, Remap}
+use Rattle.machine.proofs.Names.{ℕ, ◌≡◌, ◌<◌, Bool, true, false, cond, ◌&&◌, eqb, List, [], ◌∷◌, length, Some, is_some}
+use Rattle.machine.proofs.Names.{IsSome, refl, sym, ap, ◌∙◌, subst, and_parts, and_from, or_right, eqb-true, eq-eqb}
+use Rattle.machine.proofs.Names.{cond-true, Mapped, TlbState, filled, Place, Spaces, has_space, space_at, entry_at}
+use Rattle.machine.proofs.Names.{place_at, with_entry, Keeps, has_space-place_at, entry_at-with_entry}
+use Rattle.machine.proofs.Names.{place_at-with_entry, places-with_entry, has_space-with_entry, AreSpaces-with_entry}
+use Rattle.machine.proofs.Names.{is_some_from, Grows-with_entry, Lock, IsShootdown, processor_at, current}
+use Rattle.machine.proofs.Names.{with_processor, with_tlb, Coheres, Agrees, at-with_processor, IsNoWider-same_places}
+use Rattle.machine.proofs.Names.{Coheres-grown, IsShootdown-filled, Coheres-filled, Holds, page_at, MayBe}
+use Rattle.machine.proofs.Names.{AreBacked-with_entry, cached_of, walked, State, with_hardware, with_shootdown}
+use Rattle.machine.proofs.Names.{with_spaces, IsSound, Saying, Silent, Mapping, AreSpacesTold, ReplacesProcessor}
+use Rattle.machine.proofs.Names.{ReplacesSpaces, Replace, Remap}
 use Rattle.machine.proofs.sound.Lists.{same_some}
 use Rattle.machine.proofs.moves.Silent.{SilentMoves}
 use Rattle.machine.proofs.track.DirtyFrames.{dirty_alike}
@@ -34,16 +34,16 @@ space_stays says old new told q is = absurd told
 
 pub spaces_sound : (s : State) (spaces : Spaces) (says : Saying) (new : State) → ReplacesSpaces s spaces says new → IsSound s → IsSound new
 spaces_sound s spaces says new is sound = unchanged_sound _ new is.done (still_sound sound refl refl
-  (record {
-    spaces = is.are_spaces;
-    shootdown = sound.spaces.shootdown;
-    coheres = is.coheres;
-    current = λ p below. space_stays says s.hardware.spaces spaces is.told _ (sound.spaces.current p below);
-    in_table = is.in_table;
-    prepared = is.prepared;
-  })
-  (memory_beside s s.hardware.shootdown spaces s.checkpoint s.write_outs s.marks refl refl sound.memory.noted is.backed sound.memory)
-  (write_outs_moved s (record s.hardware { spaces = spaces }) s.checkpoint refl (λ owner there. there) sound.write_outs))
+    (record {
+      spaces = is.are_spaces;
+      shootdown = sound.spaces.shootdown;
+      coheres = is.coheres;
+      current = λ p below. space_stays says s.hardware.spaces spaces is.told _ (sound.spaces.current p below);
+      in_table = is.in_table;
+      prepared = is.prepared;
+    })
+    (memory_beside s s.hardware.shootdown spaces s.checkpoint s.write_outs s.marks refl refl sound.memory.noted is.backed sound.memory)
+    (write_outs_moved s (record s.hardware { spaces = spaces }) s.checkpoint refl (λ owner there. there) sound.write_outs))
 
 -- ---- another TLB
 

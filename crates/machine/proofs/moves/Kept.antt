@@ -1,6 +1,6 @@
 -- A machine stays sound by each move.
-use Rattle.machine.proofs.Names.{ℕ, ◌≡◌, ◌≢◌, ◌<◌, ◌/◌, ◌%◌, ◌||◌, not, Bool, true, false, cond, eqb, List, []}
-use Rattle.machine.proofs.Names.{◌∷◌, length, Some, None, refl, sym, ap, ◌∙◌, subst, inl, inr, arith, and_from}
+use Rattle.machine.proofs.Names.{ℕ, ◌≡◌, ◌≢◌, ◌<◌, ◌/◌, ◌%◌, ◌||◌, not, Bool, true, false, cond, eqb, List, [], ◌∷◌}
+use Rattle.machine.proofs.Names.{length, Some, None, refl, sym, ap, ◌∙◌, subst, inl, inr, arith, and_from}
 use Rattle.machine.proofs.Names.{not_from_false, ne_eqb, or_left, has_space, place_at, is_user_space, has_space-remove}
 use Rattle.machine.proofs.Names.{place_at-remove, AreSpaces-remove, user_space, Lock, not_free, is_current, current}
 use Rattle.machine.proofs.Names.{finished, destroyed, destroy_refusal, IsShootdown-begun, length-begun, current-begun}
@@ -42,10 +42,10 @@ ended_sound : (s : State) (says : Saying) (new : State) → EndsChange s says ne
 ended_sound s says new is sound =
     let memory = s.hardware.memory in
     unchanged_sound _ new is.done (still_sound sound refl refl
-      (ended_spaces s is.p is.change is.spaces memory is.checkpoint s.write_outs s.marks is.may is.only is.wider is.are_spaces is.same_spaces is.in_table sound)
-      (memory_beside s (finished s.hardware.shootdown is.p) is.spaces is.checkpoint s.write_outs s.marks is.same_frozen is.same_notes is.noted is.backed sound.memory)
-      (write_outs_moved s (record { shootdown = finished s.hardware.shootdown is.p; spaces = is.spaces; memory = memory }) is.checkpoint is.same_frozen
-          (λ owner there. there) sound.write_outs))
+    (ended_spaces s is.p is.change is.spaces memory is.checkpoint s.write_outs s.marks is.may is.only is.wider is.are_spaces is.same_spaces is.in_table sound)
+    (memory_beside s (finished s.hardware.shootdown is.p) is.spaces is.checkpoint s.write_outs s.marks is.same_frozen is.same_notes is.noted is.backed sound.memory)
+    (write_outs_moved s (record { shootdown = finished s.hardware.shootdown is.p; spaces = is.spaces; memory = memory }) is.checkpoint is.same_frozen
+    (λ owner there. there) sound.write_outs))
 
 -- ---- a space is destroyed
 
@@ -76,21 +76,21 @@ destroyed_sound s p pcid new rule sound =
     let user = user_space old pcid may.user in
     let apart : (q : ℕ) → q < length sd.processors → current sd q ≢ pcid = λ q within. elsewhere sd.processors pcid may.unused q _ within in
     unchanged_sound _ new rule.done (still_sound sound refl refl
-      (record {
-        spaces = AreSpaces-remove old pcid sound.spaces.spaces (λ zero. absurd (omega (arith, user.0, zero)));
-        shootdown = IsShootdown-destroyed sd pcid sound.spaces.shootdown;
-        coheres = Coheres-destroyed old remaining sd pcid sound.spaces.shootdown apart (λ q page other. entry_at-remove_other old pcid q page other) (λ lock held. IsNoWider-remove lock.change old pcid) sound.spaces.coheres;
-        current = λ q within.
-            let below : q < length sd.processors = omega (arith, within, length-destroyed sd pcid) in
-            let same = current-destroyed sd pcid q below in
-            ap (has_space remaining) same ∙ has_space-remove old pcid (current sd q)
-            ∙ and_from (not (eqb (current sd q) pcid)) (has_space old (current sd q)) (not_from_false _ (ne_eqb (current sd q) pcid (apart q below))) (sound.spaces.current q below);
-        in_table = λ q page place is. sound.spaces.in_table q page place (kept_some (eqb q pcid) (place_at old q page) place (sym (place_at-remove old pcid q page) ∙ is));
-        prepared = λ held is. unlocked sd.lock held free is;
-      })
-      (memory_beside s (destroyed sd pcid) remaining rule.checkpoint s.write_outs s.marks rule.noted.frozen rule.noted.same_length (notes_in_use s rule.checkpoint (IsInSpace pcid) rule.noted sound.memory)
-          (AreBacked-frozen s.hardware.memory s.checkpoint rule.checkpoint remaining rule.noted.frozen (AreBacked-remove s.hardware.memory s.checkpoint old pcid sound.memory.backed)) sound.memory)
-      (write_outs_moved s (record s.hardware { shootdown = destroyed sd pcid; spaces = remaining }) rule.checkpoint rule.noted.frozen (λ owner there. there) sound.write_outs))
+    (record {
+      spaces = AreSpaces-remove old pcid sound.spaces.spaces (λ zero. absurd (omega (arith, user.0, zero)));
+      shootdown = IsShootdown-destroyed sd pcid sound.spaces.shootdown;
+      coheres = Coheres-destroyed old remaining sd pcid sound.spaces.shootdown apart (λ q page other. entry_at-remove_other old pcid q page other) (λ lock held. IsNoWider-remove lock.change old pcid) sound.spaces.coheres;
+      current = λ q within.
+          let below : q < length sd.processors = omega (arith, within, length-destroyed sd pcid) in
+          let same = current-destroyed sd pcid q below in
+          ap (has_space remaining) same ∙ has_space-remove old pcid (current sd q)
+          ∙ and_from (not (eqb (current sd q) pcid)) (has_space old (current sd q)) (not_from_false _ (ne_eqb (current sd q) pcid (apart q below))) (sound.spaces.current q below);
+      in_table = λ q page place is. sound.spaces.in_table q page place (kept_some (eqb q pcid) (place_at old q page) place (sym (place_at-remove old pcid q page) ∙ is));
+      prepared = λ held is. unlocked sd.lock held free is;
+    })
+    (memory_beside s (destroyed sd pcid) remaining rule.checkpoint s.write_outs s.marks rule.noted.frozen rule.noted.same_length (notes_in_use s rule.checkpoint (IsInSpace pcid) rule.noted sound.memory)
+    (AreBacked-frozen s.hardware.memory s.checkpoint rule.checkpoint remaining rule.noted.frozen (AreBacked-remove s.hardware.memory s.checkpoint old pcid sound.memory.backed)) sound.memory)
+    (write_outs_moved s (record s.hardware { shootdown = destroyed sd pcid; spaces = remaining }) rule.checkpoint rule.noted.frozen (λ owner there. there) sound.write_outs))
 
 -- ---- bytes are stored
 

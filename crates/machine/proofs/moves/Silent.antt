@@ -1,7 +1,7 @@
 -- Moves that tell nothing, and acts of moves.
-use Rattle.machine.proofs.Names.{ℕ, ◌≡◌, List, [], ◌∷◌, ◌++◌, refl, sym, ◌∙◌, subst, append-nil, Nothing, Act}
-use Rattle.machine.proofs.Names.{Reply, State, Event, step_work, Told, tell, Saying, Silent, said, said_all, Move}
-use Rattle.machine.proofs.Names.{Moves, Performed, Moved}
+use Rattle.machine.proofs.Names.{ℕ, ◌≡◌, List, [], ◌∷◌, ◌++◌, refl, sym, ◌∙◌, subst, append-nil, Nothing, Act, Reply}
+use Rattle.machine.proofs.Names.{State, Event, step_work, Told, tell, Saying, Silent, said, said_all, Move, Moves}
+use Rattle.machine.proofs.Names.{Performed, Moved}
 
 abbrev pub AreSilent : List Saying → Type 0
 AreSilent [] = Unit {0}

@@ -40,21 +40,21 @@ module _ (s : State) (sound : IsSound s) (whole : s.write_outs.broken ≡ false)
       let rest : map (home_of s.table) (drop 1 s.checkpoint.frozen) ≡ waiting (batches_after answer batches) =
       sym (drop-map (home_of s.table) 1 s.checkpoint.frozen) ∙ ap (drop 1) waited ∙ sym made.after ∙ ap waiting (sym same) in
       still_sound sound refl refl
-        (stepped_spaces s sound memory (released s.checkpoint) outs refl (λ free broken. ap (λ (l : List WriteOut). is_busy (record s.write_outs { batches = l })) same ∙ free-advanced s.write_outs (free whole)))
-        (record {
-          memory = IsMemory-without_copy_of s.hardware.memory page sound.memory.memory;
-          few_frames = sound.memory.few_frames;
-          in_files = λ frame owner holds. let file = sound.memory.in_files frame owner holds in record { there = file.there; inside = file.inside };
-          backed = AreBacked-released s.hardware.memory s.checkpoint s.hardware.spaces (record { file = 0; page = 0 }) some sound.memory.rising sound.memory.backed;
-          notes = sound.memory.notes;
-          noted = sound.memory.noted;
-          frozen = All-drop (λ owner. is_in_memory s.hardware.memory owner ≡ true) 1 s.checkpoint.frozen sound.memory.frozen;
-          rising = AreRising-drop 1 s.checkpoint.frozen sound.memory.rising;
-          copied = AreCopiesOfFrozen-release s.hardware.memory memory s.checkpoint (released s.checkpoint) page some (get_or_default s.checkpoint.frozen 0 (record { file = 0; page = 0 }) page some) refl refl sound.memory.copied;
-        })
-        (stepped_write_outs s sound answer s.write_outs.broken (record s.hardware { memory = memory }) (released s.checkpoint) refl
-            (subst AreOlderCommitted (sym same) (older-advanced batches older)) (omega (arith, ap (λ (l : List WriteOut). length l) same, length-advanced batches))
-            (rest ∙ sym (cond-false s.write_outs.broken [] (waiting (batches_after answer batches)) whole)))
+      (stepped_spaces s sound memory (released s.checkpoint) outs refl (λ free broken. ap (λ (l : List WriteOut). is_busy (record s.write_outs { batches = l })) same ∙ free-advanced s.write_outs (free whole)))
+      (record {
+        memory = IsMemory-without_copy_of s.hardware.memory page sound.memory.memory;
+        few_frames = sound.memory.few_frames;
+        in_files = λ frame owner holds. let file = sound.memory.in_files frame owner holds in record { there = file.there; inside = file.inside };
+        backed = AreBacked-released s.hardware.memory s.checkpoint s.hardware.spaces (record { file = 0; page = 0 }) some sound.memory.rising sound.memory.backed;
+        notes = sound.memory.notes;
+        noted = sound.memory.noted;
+        frozen = All-drop (λ owner. is_in_memory s.hardware.memory owner ≡ true) 1 s.checkpoint.frozen sound.memory.frozen;
+        rising = AreRising-drop 1 s.checkpoint.frozen sound.memory.rising;
+        copied = AreCopiesOfFrozen-release s.hardware.memory memory s.checkpoint (released s.checkpoint) page some (get_or_default s.checkpoint.frozen 0 (record { file = 0; page = 0 }) page some) refl refl sound.memory.copied;
+      })
+      (stepped_write_outs s sound answer s.write_outs.broken (record s.hardware { memory = memory }) (released s.checkpoint) refl
+      (subst AreOlderCommitted (sym same) (older-advanced batches older)) (omega (arith, ap (λ (l : List WriteOut). length l) same, length-advanced batches))
+      (rest ∙ sym (cond-false s.write_outs.broken [] (waiting (batches_after answer batches)) whole)))
 
   -- a step that writes no record
   step_sound : (answer : Flushed) → AreOlderCommitted (batches_after answer s.write_outs.batches) → length (batches_after answer s.write_outs.batches) ≤ length s.write_outs.batches
@@ -64,10 +64,10 @@ module _ (s : State) (sound : IsSound s) (whole : s.write_outs.broken ≡ false)
   step_sound answer older few waits free =
       let outs = record s.write_outs { batches = batches_after answer s.write_outs.batches } in
       still_sound sound refl refl
-        (stepped_spaces s sound s.hardware.memory s.checkpoint outs refl (λ was broken. free (was whole)))
-        (memory_same s s.hardware.shootdown outs s.marks sound.memory)
-        (stepped_write_outs s sound answer s.write_outs.broken s.hardware s.checkpoint refl older few
-            (frozen_waits ∙ sym waits ∙ sym (cond-false s.write_outs.broken [] (waiting (batches_after answer s.write_outs.batches)) whole)))
+      (stepped_spaces s sound s.hardware.memory s.checkpoint outs refl (λ was broken. free (was whole)))
+      (memory_same s s.hardware.shootdown outs s.marks sound.memory)
+      (stepped_write_outs s sound answer s.write_outs.broken s.hardware s.checkpoint refl older few
+      (frozen_waits ∙ sym waits ∙ sym (cond-false s.write_outs.broken [] (waiting (batches_after answer s.write_outs.batches)) whole)))
 
   -- a write-out goes on
   pub going_sound : (answer : Flushed) → option_and_then next_record (current s.write_outs.batches) ≡ None → batches_after answer s.write_outs.batches ≡ advanced s.write_outs.batches
@@ -99,19 +99,19 @@ pub failed_sound : (s : State) → IsSound s → IsSound (after_failure s)
 failed_sound s sound =
     let memory = without_copies s.hardware.memory in
     still_sound sound refl refl
-      (stepped_spaces s sound memory (thawed s.checkpoint) (outs_after s.write_outs flushed.Device) refl (λ free whole. absurd (false≢true (sym whole))))
-      (record {
-        memory = IsMemory-without_copies s.hardware.memory sound.memory.memory;
-        few_frames = sound.memory.few_frames;
-        in_files = λ frame owner holds. let file = sound.memory.in_files frame owner holds in record { there = file.there; inside = file.inside };
-        backed = AreBacked-thawed s.hardware.memory memory s.checkpoint s.hardware.spaces refl sound.memory.backed;
-        notes = sound.memory.notes;
-        noted = sound.memory.noted;
-        frozen = λ k d within. absurd (omega arith);
-        rising = tt;
-        copied = λ copy kept there. absurd (let none = none_left s.hardware.memory.copies copy in cc);
-      })
-      (stepped_write_outs s sound flushed.Device true (record s.hardware { memory = memory }) (thawed s.checkpoint) refl sound.write_outs.older (omega arith) refl)
+    (stepped_spaces s sound memory (thawed s.checkpoint) (outs_after s.write_outs flushed.Device) refl (λ free whole. absurd (false≢true (sym whole))))
+    (record {
+      memory = IsMemory-without_copies s.hardware.memory sound.memory.memory;
+      few_frames = sound.memory.few_frames;
+      in_files = λ frame owner holds. let file = sound.memory.in_files frame owner holds in record { there = file.there; inside = file.inside };
+      backed = AreBacked-thawed s.hardware.memory memory s.checkpoint s.hardware.spaces refl sound.memory.backed;
+      notes = sound.memory.notes;
+      noted = sound.memory.noted;
+      frozen = λ k d within. absurd (omega arith);
+      rising = tt;
+      copied = λ copy kept there. absurd (let none = none_left s.hardware.memory.copies copy in cc);
+    })
+    (stepped_write_outs s sound flushed.Device true (record s.hardware { memory = memory }) (thawed s.checkpoint) refl sound.write_outs.older (omega arith) refl)
 
 -- ---- the act
 

@@ -13,6 +13,7 @@ use Rattle.machine.proofs.Names.{waiting_homes, frozen_homes}
 use Rattle.journal.specs.WriteOuts.{begun as outs_begun}
 use Rattle.spaces.specs.declared.change.Change.TheVariants as changes
 use Rattle.machine.proofs.sound.Lists.{get_or-replicate-same}
+use Rattle.machine.proofs.durable.Lists.{nothing_mapped}
 use Rattle.machine.proofs.sound.Groups.{still_sound, unchanged_sound}
 use Rattle.machine.proofs.sound.Frames.{in_memory_held}
 use Rattle.machine.proofs.sound.Ended.{prepared_change, ended_spaces}
@@ -32,12 +33,8 @@ not_busy s is free =
     smaller : (a b c : ℕ) → a ≤ c → b ≡ c → (a ≡ b → ⊥) → a < c
     smaller a b c le same other = omega arith
 
-nil_from_map : {X Y : Type 0} (f : X → Y) (xs : List X) → map f xs ≡ [] → xs ≡ []
-nil_from_map f [] e = refl
-nil_from_map f (x ∷ xs) e = absurd (cc)
-
 pub nothing_frozen : (s : State) → AreWriteOutsSound s → (s.write_outs.broken ≡ false → is_busy s.write_outs ≡ false) → s.checkpoint.frozen ≡ []
-nothing_frozen s is free = nil_from_map (home_of s.table) s.checkpoint.frozen (is.frozen ∙ by s.write_outs.broken refl)
+nothing_frozen s is free = nothing_mapped (home_of s.table) s.checkpoint.frozen (is.frozen ∙ by s.write_outs.broken refl)
   where
     by : (b : Bool) → s.write_outs.broken ≡ b → cond b [] (waiting_homes s.write_outs) ≡ []
     by true broken = refl
@@ -158,9 +155,9 @@ marked_sound s p number new rule sound =
     let outs = with_batch s (s.marks + 1) rule.pages in
     unchanged_sound (record s { hardware = hardware; checkpoint = checkpoint; write_outs = outs; marks = s.marks + 1 }) new
     (rule.done ∙ (λ i. record s { hardware = hardware; checkpoint = checkpoint; write_outs = with_batch s (rule.next i) rule.pages; marks = rule.next i })) (still_sound sound refl refl
-      (ended_spaces s p changes.Checkpoint rule.spaces s.hardware.memory checkpoint outs (s.marks + 1) rule.may (ChangesOnlyAffected-checkpoint old rule.spaces)
-          (record { affected = λ pcid page now. now; touched = λ pcid now. now })
-          (AreSpaces-EditsEntries (λ pcid page entry. protected_where (is_noted rule.noted) entry) old rule.spaces sound.spaces.spaces rule.protected (λ q at. refl)) rule.protected.same_spaces
-          (λ q page place is. sound.spaces.in_table q page place (sym (place_at-EditsEntries (λ pcid at entry. protected_where (is_noted rule.noted) entry) old rule.spaces rule.protected q page) ∙ is)) sound)
-      (memory_marked s p rule.noted (not s.write_outs.broken) rule.pages rule.spaces outs (s.marks + 1) gathers rule.protected none sound.memory)
-      (write_outs_marked s hardware checkpoint rule.pages refl prepared gathers.frozen gathers.gathered.rising there.0 there.1 sound))
+    (ended_spaces s p changes.Checkpoint rule.spaces s.hardware.memory checkpoint outs (s.marks + 1) rule.may (ChangesOnlyAffected-checkpoint old rule.spaces)
+    (record { affected = λ pcid page now. now; touched = λ pcid now. now })
+    (AreSpaces-EditsEntries (λ pcid page entry. protected_where (is_noted rule.noted) entry) old rule.spaces sound.spaces.spaces rule.protected (λ q at. refl)) rule.protected.same_spaces
+    (λ q page place is. sound.spaces.in_table q page place (sym (place_at-EditsEntries (λ pcid at entry. protected_where (is_noted rule.noted) entry) old rule.spaces rule.protected q page) ∙ is)) sound)
+    (memory_marked s p rule.noted (not s.write_outs.broken) rule.pages rule.spaces outs (s.marks + 1) gathers rule.protected none sound.memory)
+    (write_outs_marked s hardware checkpoint rule.pages refl prepared gathers.frozen gathers.gathered.rising there.0 there.1 sound))

@@ -9,6 +9,7 @@ use Rattle.machine.proofs.Names.{CheckpointState, State, home_of, not_there, loc
 use Rattle.machine.proofs.Names.{IsPrepared, AreSpacesSound, AreWriteOutsSound, IsSound, waiting_homes}
 use Rattle.std.proofs.Common.{Contains}
 use Rattle.page_entry.specs.declared.refusal.Refusal.TheVariants as refusals
+use Rattle.machine.proofs.durable.Lists.{contains_drop}
 use Rattle.machine.proofs.sound.Admitted.{both_none, there_below}
 
 -- ---- who changes
@@ -71,16 +72,11 @@ ended_spaces s p change spaces memory checkpoint outs marks may only wider are s
 
 -- ---- frozen pages
 
-Contains-drop : {X : Type 0} (n : ℕ) (xs : List X) (x : X) → Contains (drop n xs) x → Contains xs x
-Contains-drop n xs x (k, within, is) =
-    let low : k < length xs - n = omega (arith, within, length-drop n xs) in
-    (n + k, omega arith, sym (get_or-drop n xs k x) ∙ is)
-
 -- a home block that waits for its record is one of a batch
 pub waiting_has_block : (outs : WriteOutsValue) (home : ℕ) → Contains (waiting_homes outs) home → HasBlock outs home
 waiting_has_block outs home there =
     let found = in_flat_map (λ (w : WriteOut). drop w.steps w.batch.homes) outs.batches home there in
-    (found.0, found.1, Contains-drop found.0.steps found.0.batch.homes home found.2)
+    (found.0, found.1, contains_drop found.0.steps found.0.batch.homes home found.2)
 
 -- the home block of a frozen page is one of a batch
 pub frozen_has_block : (s : State) (owner : FilePage) → AreWriteOutsSound s → s.write_outs.broken ≡ false → Contains s.checkpoint.frozen owner → HasBlock s.write_outs (home_of s.table owner)

@@ -5,9 +5,9 @@ use Rattle.machine.proofs.Names.{arith, cases_eq, and_parts, not-true, false≢t
 use Rattle.machine.proofs.Names.{length-take-le, length-drop, length-set, get_or-set_other, Contains-get_or, Mapped}
 use Rattle.machine.proofs.Names.{FilePage, block_at, length-padded, FramesState, Frame, frame_at, overwrite}
 use Rattle.machine.proofs.Names.{overwrite_frame, with_bytes, with_page, with_copy, without_frame, page_of, after_set}
-use Rattle.machine.proofs.Names.{HasBlock, entry_at, CheckpointState, NotesTaken, Holds, is_noted, is_frozen}
-use Rattle.machine.proofs.Names.{is_held, is_copied, AreBacked, has_page-list_any, list_any-has_page}
-use Rattle.machine.proofs.Names.{Holds-with_page, AreBacked-with_bytes, AreBacked-with_page, AreBacked-with_copy}
+use Rattle.machine.proofs.Names.{HasBlock, entry_at, CheckpointState, NotesTaken, Holds, is_noted, is_frozen, is_held}
+use Rattle.machine.proofs.Names.{is_copied, AreBacked, has_page-list_any, list_any-has_page, Holds-with_page}
+use Rattle.machine.proofs.Names.{AreBacked-with_bytes, AreBacked-with_page, AreBacked-with_copy}
 use Rattle.machine.proofs.Names.{AreBacked-without_frame, is_in_memory, State, length_of, home_of, cut_at_end}
 use Rattle.machine.proofs.Names.{page_from, with_hardware, MayLeave, IsInFile, IsMemory, IsMemorySound, IsSound}
 use Rattle.machine.proofs.sound.Lists.{held_frame, same_some, once_frames, once_copies, memory_from, AreOnce-set}
@@ -52,28 +52,28 @@ pub frames_sound : (s : State) (memory : FramesState) → IsMemory memory → le
     → ((copy : ℕ) (kept : Frame) → get_or memory.copies copy None ≡ Some kept → is_frozen s.checkpoint kept.page ≡ true)
     → IsSound s → IsSound (with_memory s memory)
 frames_sound s memory is same stays in_files backed copied sound = still_sound sound refl refl
-  (record {
-    spaces = sound.spaces.spaces;
-    shootdown = sound.spaces.shootdown;
-    coheres = sound.spaces.coheres;
-    current = sound.spaces.current;
-    in_table = sound.spaces.in_table;
-    prepared = λ lock held. prepared_moved s (with_memory s memory) lock.change
-        (record { users = λ q user. user; places = λ q. refl; table = refl; in_memory = in_memory_stays s.hardware.memory memory stays; marks = refl; free = λ free. free })
-        (sound.spaces.prepared lock held);
-  })
-  (record {
-    memory = is;
-    few_frames = omega (arith, same, sound.memory.few_frames);
-    in_files = λ frame owner holds. let file = in_files frame owner holds in record { there = file.there; inside = file.inside };
-    backed = backed;
-    notes = sound.memory.notes ∙ sym same;
-    noted = λ frame noted. in_use_stays s.hardware.memory memory stays frame (sound.memory.noted frame noted);
-    frozen = λ k d within. in_memory_stays s.hardware.memory memory stays _ (sound.memory.frozen k d within);
-    rising = sound.memory.rising;
-    copied = copied;
-  })
-  (write_outs_moved s (record s.hardware { memory = memory }) s.checkpoint refl (in_memory_stays s.hardware.memory memory stays) sound.write_outs)
+    (record {
+      spaces = sound.spaces.spaces;
+      shootdown = sound.spaces.shootdown;
+      coheres = sound.spaces.coheres;
+      current = sound.spaces.current;
+      in_table = sound.spaces.in_table;
+      prepared = λ lock held. prepared_moved s (with_memory s memory) lock.change
+          (record { users = λ q user. user; places = λ q. refl; table = refl; in_memory = in_memory_stays s.hardware.memory memory stays; marks = refl; free = λ free. free })
+          (sound.spaces.prepared lock held);
+    })
+    (record {
+      memory = is;
+      few_frames = omega (arith, same, sound.memory.few_frames);
+      in_files = λ frame owner holds. let file = in_files frame owner holds in record { there = file.there; inside = file.inside };
+      backed = backed;
+      notes = sound.memory.notes ∙ sym same;
+      noted = λ frame noted. in_use_stays s.hardware.memory memory stays frame (sound.memory.noted frame noted);
+      frozen = λ k d within. in_memory_stays s.hardware.memory memory stays _ (sound.memory.frozen k d within);
+      rising = sound.memory.rising;
+      copied = copied;
+    })
+    (write_outs_moved s (record s.hardware { memory = memory }) s.checkpoint refl (in_memory_stays s.hardware.memory memory stays) sound.write_outs)
 
 -- ---- bytes that are written
 
@@ -81,7 +81,7 @@ length-overwrite : (page : List ℕ) (at : ℕ) (bytes : List ℕ) → length pa
 length-overwrite page at bytes whole within =
     omega (arith, whole, length-append (take at page ++ bytes) (drop (at + length bytes) page), length-append (take at page) bytes, length-take-le at page (omega (arith, whole)), length-drop (at + length bytes) page)
 
-page_of-overwrite : (f : Option Frame) (at : ℕ) (bytes : List ℕ) → page_of (overwrite_frame f at bytes) ≡ page_of f
+pub page_of-overwrite : (f : Option Frame) (at : ℕ) (bytes : List ℕ) → page_of (overwrite_frame f at bytes) ≡ page_of f
 page_of-overwrite None at bytes = refl
 page_of-overwrite (Some f) at bytes = refl
 
@@ -173,7 +173,7 @@ module _ (memory : FramesState) (frame : ℕ) where
   holds_before : (k : ℕ) (owner : FilePage) → Holds (without_frame memory frame) k owner → Holds memory k owner
   holds_before k owner holds = ⊎_elim (λ old. sym (ap page_of old) ∙ holds) (λ new. absurd (let none = ap page_of new.1 in cc)) (after_set memory.frames frame None k)
 
-  holds_still : (k : ℕ) (owner : FilePage) → k ≢ frame → Holds memory k owner → Holds (without_frame memory frame) k owner
+  pub holds_still : (k : ℕ) (owner : FilePage) → k ≢ frame → Holds memory k owner → Holds (without_frame memory frame) k owner
   holds_still k owner other holds = ap page_of (get_or-set_other memory.frames frame k None None other) ∙ holds
 
   pub IsMemory-without_frame : IsMemory memory → IsMemory (without_frame memory frame)
@@ -196,33 +196,33 @@ dropped_sound s owner frame leaves unmapped free sound =
     let memory = s.hardware.memory in
     let is = sound.memory in
     still_sound sound refl refl
-      (record {
-        spaces = sound.spaces.spaces;
-        shootdown = sound.spaces.shootdown;
-        coheres = sound.spaces.coheres;
-        current = sound.spaces.current;
-        in_table = sound.spaces.in_table;
-        prepared = λ lock held. unlocked s.hardware.shootdown.lock lock free held;
-      })
-      (record {
-        memory = IsMemory-without_frame memory frame is.memory;
-        few_frames = omega (arith, is.few_frames, length-set memory.frames frame (let none : Option Frame = None in none));
-        in_files = λ k page holds. let file = is.in_files k page (holds_before memory frame k page holds) in record { there = file.there; inside = file.inside };
-        backed = AreBacked-without_frame memory s.checkpoint s.hardware.spaces frame unmapped is.backed;
-        notes = is.notes ∙ sym (length-set memory.frames frame None);
-        noted = λ k noted.
-            let page = its_page (frame_at memory k) (is.noted k noted) in
-            ⊎_elim (λ same. absurd (leaves.clean (inl (ap (λ n. get_or s.checkpoint.notes n false) (sym same) ∙ noted))))
-            (λ other. in_use (frame_at (without_frame memory frame) k) page.0 (holds_still memory frame k page.0 other page.1)) (cases_eq k frame);
-        frozen = λ k d within.
-            let page = get_or s.checkpoint.frozen k d in
-            other_in_memory memory frame owner page leaves.held
-            (apart page (frozen_has_block s page sound.write_outs leaves.whole (Contains-get_or s.checkpoint.frozen k d within))) (is.frozen k d within);
-        rising = is.rising;
-        copied = is.copied;
-      })
-      (write_outs_kept s (record s.hardware { memory = without_frame memory frame }) s.checkpoint refl
-          (λ other has there. other_in_memory memory frame owner other leaves.held (apart other has) there) sound.write_outs)
+    (record {
+      spaces = sound.spaces.spaces;
+      shootdown = sound.spaces.shootdown;
+      coheres = sound.spaces.coheres;
+      current = sound.spaces.current;
+      in_table = sound.spaces.in_table;
+      prepared = λ lock held. unlocked s.hardware.shootdown.lock lock free held;
+    })
+    (record {
+      memory = IsMemory-without_frame memory frame is.memory;
+      few_frames = omega (arith, is.few_frames, length-set memory.frames frame (let none : Option Frame = None in none));
+      in_files = λ k page holds. let file = is.in_files k page (holds_before memory frame k page holds) in record { there = file.there; inside = file.inside };
+      backed = AreBacked-without_frame memory s.checkpoint s.hardware.spaces frame unmapped is.backed;
+      notes = is.notes ∙ sym (length-set memory.frames frame None);
+      noted = λ k noted.
+          let page = its_page (frame_at memory k) (is.noted k noted) in
+          ⊎_elim (λ same. absurd (leaves.clean (inl (ap (λ n. get_or s.checkpoint.notes n false) (sym same) ∙ noted))))
+          (λ other. in_use (frame_at (without_frame memory frame) k) page.0 (holds_still memory frame k page.0 other page.1)) (cases_eq k frame);
+      frozen = λ k d within.
+          let page = get_or s.checkpoint.frozen k d in
+          other_in_memory memory frame owner page leaves.held
+          (apart page (frozen_has_block s page sound.write_outs leaves.whole (Contains-get_or s.checkpoint.frozen k d within))) (is.frozen k d within);
+      rising = is.rising;
+      copied = is.copied;
+    })
+    (write_outs_kept s (record s.hardware { memory = without_frame memory frame }) s.checkpoint refl
+    (λ other has there. other_in_memory memory frame owner other leaves.held (apart other has) there) sound.write_outs)
   where
     -- its home block is in no batch
     apart : (other : FilePage) → HasBlock s.write_outs (home_of s.table other) → owner ≢ other

@@ -1,12 +1,12 @@
 -- The groups of facts of a sound machine by what they depend on, so that an act that leaves a group alone keeps it.
-use Rattle.machine.proofs.Names.{arith, List, Fits, AreSpacesSound}
-use Rattle.machine.proofs.Names.{ℕ, ◌≡◌, ◌+◌, ◌^◌, ◌<◌, true, false, length, map, get_or, Some, IsSome, refl}
-use Rattle.machine.proofs.Names.{sym, ap, ◌∙◌, subst, All, list_any, Contains-get_or, FilePage}
-use Rattle.machine.proofs.Names.{protect_refusal, Places, SuperValue, WriteOutsValue, is_busy, HasBlock, Change, Unmap}
-use Rattle.machine.proofs.Names.{Protect, Reclaim, Checkpoint, Spaces, has_space, space_at, is_user_space, Lock}
-use Rattle.machine.proofs.Names.{ShootdownState, IsShootdown, current, Coheres, CheckpointState, is_noted, same_page}
-use Rattle.machine.proofs.Names.{AreRising, AreBacked, frame_at, is_in_memory, Hardware, State, home_of, pages_in_file}
-use Rattle.machine.proofs.Names.{with_shootdown, IsPrepared, IsMemorySound, AreWriteOutsSound, IsSound}
+use Rattle.machine.proofs.Names.{arith, List, Fits, AreSpacesSound, ℕ, ◌≡◌, ◌+◌, ◌^◌, ◌<◌, true, false, length, map}
+use Rattle.machine.proofs.Names.{get_or, Some, IsSome, refl, sym, ap, ◌∙◌, subst, All, list_any, Contains-get_or}
+use Rattle.machine.proofs.Names.{FilePage, protect_refusal, Places, SuperValue, WriteOutsValue, is_busy, HasBlock}
+use Rattle.machine.proofs.Names.{Change, Unmap, Protect, Reclaim, Checkpoint, Spaces, has_space, space_at}
+use Rattle.machine.proofs.Names.{is_user_space, Lock, ShootdownState, IsShootdown, current, Coheres, CheckpointState}
+use Rattle.machine.proofs.Names.{is_noted, same_page, AreRising, AreBacked, frame_at, is_in_memory, Hardware, State}
+use Rattle.machine.proofs.Names.{home_of, pages_in_file, with_shootdown, IsPrepared, IsMemorySound, AreWriteOutsSound}
+use Rattle.machine.proofs.Names.{IsSound}
 use Rattle.std.proofs.Common.{Contains}
 
 pub unchanged_sound : (s new : State) → new ≡ s → IsSound s → IsSound new
@@ -110,13 +110,13 @@ pub shootdown_sound : (s : State) (shootdown : ShootdownState) → IsShootdown s
     → ((p : ℕ) → p < length shootdown.processors → has_space s.hardware.spaces (current shootdown p) ≡ true)
     → ((lock : Lock) → shootdown.lock ≡ Some lock → IsPrepared s lock.change) → IsSound s → IsSound (with_shootdown s shootdown)
 shootdown_sound s shootdown is coheres current prepared sound = still_sound sound refl refl
-  (record {
-    spaces = sound.spaces.spaces;
-    shootdown = is;
-    coheres = coheres;
-    current = current;
-    in_table = sound.spaces.in_table;
-    prepared = λ lock held. prepared_same s shootdown lock.change (prepared lock held);
-  })
-  (memory_same s shootdown s.write_outs s.marks sound.memory)
-  (write_outs_moved s (record s.hardware { shootdown = shootdown }) s.checkpoint refl (λ owner there. there) sound.write_outs)
+    (record {
+      spaces = sound.spaces.spaces;
+      shootdown = is;
+      coheres = coheres;
+      current = current;
+      in_table = sound.spaces.in_table;
+      prepared = λ lock held. prepared_same s shootdown lock.change (prepared lock held);
+    })
+    (memory_same s shootdown s.write_outs s.marks sound.memory)
+    (write_outs_moved s (record s.hardware { shootdown = shootdown }) s.checkpoint refl (λ owner there. there) sound.write_outs)

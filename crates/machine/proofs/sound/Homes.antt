@@ -6,8 +6,7 @@ use Rattle.machine.proofs.Names.{length-map, All-head, All-tail, FilePage, Table
 use Rattle.machine.proofs.Names.{block_count, geometry_of, RiseWithin, AreHomes, total_pages-take_more}
 use Rattle.machine.proofs.Names.{total_pages-take_le, Frame, IsBefore, page_of, is_of_page, AreRising}
 use Rattle.machine.proofs.Names.{has_page-list_any, list_any-has_page, AreRising-tail, before_each, is_in_memory, State}
-use Rattle.machine.proofs.Names.{home_of, length_of, IsInFile, capacity_of, IsSound}
-use Rattle.std.proofs.lemmas.List.Sums.{sum_by-set, count_by-le-length}
+use Rattle.machine.proofs.Names.{home_of, length_of, IsInFile, capacity_of, IsSound, sum_by-set, count_by-le-length}
 use Rattle.machine.proofs.sound.Lists.{held_frame, same_some}
 
 -- ---- where files lie

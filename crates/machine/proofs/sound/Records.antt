@@ -1,11 +1,12 @@
 -- The page whose record comes next: it is frozen and in memory, and its record is a whole page.
-use Rattle.machine.proofs.Names.{ℕ, zero, suc, ◌≡◌, ◌<◌, Bool, true, false, cond, List, [], ◌∷◌, length, map, get_or}
-use Rattle.machine.proofs.Names.{slice_index, Option, Some, None, refl, sym, ap, ◌∙◌, arith, list_any, option_map}
-use Rattle.machine.proofs.Names.{option_and_then, cond-false, or_parts, length-map, length-drop, get_or-drop}
-use Rattle.machine.proofs.Names.{get_or-map, FilePage, FramesState, Frame, frame_at, copy_at, page_of, bytes_of}
-use Rattle.machine.proofs.Names.{HasNoCopy, next_home, outs_record, outs_home, is_of_page, same_page, same_page-true}
-use Rattle.machine.proofs.Names.{same_page-refl, list_any-no_page, is_in_memory, State, home_of, next_page, bytes_with}
-use Rattle.machine.proofs.Names.{bytes_at_mark, IsMemory, IsSound}
+use Rattle.machine.proofs.Names.{inl, inr, ◌||◌, cases_Bool, cond-true, list_any-has_page}
+use Rattle.machine.proofs.Names.{◌≤◌, ℕ, zero, suc, ◌≡◌, ◌<◌, Bool, true, false, cond, List, [], ◌∷◌, length, map}
+use Rattle.machine.proofs.Names.{get_or, slice_index, Option, Some, None, refl, sym, ap, ◌∙◌, arith, list_any}
+use Rattle.machine.proofs.Names.{option_map, option_and_then, cond-false, or_parts, length-map, length-drop}
+use Rattle.machine.proofs.Names.{get_or-drop, get_or-map, FilePage, FramesState, Frame, frame_at, copy_at, page_of}
+use Rattle.machine.proofs.Names.{bytes_of, HasNoCopy, next_home, outs_record, outs_home, is_of_page, same_page}
+use Rattle.machine.proofs.Names.{same_page-true, list_any-no_page, is_in_memory, State, home_of}
+use Rattle.machine.proofs.Names.{next_page, bytes_with, bytes_at_mark, IsMemory, IsSound}
 use Rattle.journal.specs.WriteOut.{next_record as record_of}
 use Rattle.journal.specs.WriteOuts.{current}
 use Rattle.machine.proofs.sound.Lists.{AreOnce, same_some, held_frame, once_frames, once_copies}
@@ -48,28 +49,22 @@ next_recorded s i sound is =
 
 -- ---- its bytes
 
--- all but the first
-rest_once : (x : Option Frame) (xs : List (Option Frame)) → AreOnce (x ∷ xs) → AreOnce xs
-rest_once x xs once = record {
-  whole = λ n f at. once.whole (suc n) f at;
-  one = λ a b f g ha hb same. let next = once.one (suc a) (suc b) f g ha hb same in omega arith;
-}
+-- the first that has it is at some place
+pub bytes_with-at : (owner : FilePage) (frames : List (Option Frame)) (other : List ℕ) → list_any (is_of_page owner) frames ≡ true
+    → (k : ℕ) × (page_of (get_or frames k None) ≡ Some owner) × (bytes_with owner frames other ≡ bytes_of (get_or frames k None))
+bytes_with-at owner [] other e = absurd (cc)
+bytes_with-at owner (None ∷ xs) other e = let later = bytes_with-at owner xs other e in (suc later.0, later.1, later.2)
+bytes_with-at owner (Some f ∷ xs) other e = elim (cases_Bool (same_page owner f.page)) [
+  | inl is ↦ (0, ap (λ (page : FilePage). Some page) (sym (same_page-true owner f.page is)), cond-true (same_page owner f.page) f.bytes (bytes_with owner xs other) is)
+  | inr differs ↦ (let later = bytes_with-at owner xs other (ap (λ t. t || list_any (is_of_page owner) xs) (sym differs) ∙ e) in (suc later.0, later.1, cond-false (same_page owner f.page) f.bytes (bytes_with owner xs other) differs ∙ later.2))
+]
 
 -- those of the one that has the page
-pub bytes_with-found : (owner : FilePage) (xs : List (Option Frame)) (other : List ℕ) (k : ℕ) (f : Frame) → AreOnce xs → get_or xs k None ≡ Some f → f.page ≡ owner → bytes_with owner xs other ≡ f.bytes
-bytes_with-found owner [] other k f once at page = absurd (cc)
-bytes_with-found owner (None ∷ xs) other zero f once at page = absurd (cc)
-bytes_with-found owner (None ∷ xs) other (suc k) f once at page = bytes_with-found owner xs other k f (rest_once None xs once) at page
-bytes_with-found owner (Some g ∷ xs) other zero f once at page =
-    let same : g ≡ f = same_some at in
-    let here : same_page owner g.page ≡ true = ap (same_page owner) (ap (λ (x : Frame). x.page) same ∙ page) ∙ same_page-refl owner in
-    ap (λ b. cond b g.bytes (bytes_with owner xs other)) here ∙ ap (λ (x : Frame). x.bytes) same
-bytes_with-found owner (Some g ∷ xs) other (suc k) f once at page =
-    by (same_page owner g.page) refl (bytes_with-found owner xs other k f (rest_once (Some g) xs once) at page)
-  where
-    by : (b : Bool) → same_page owner g.page ≡ b → bytes_with owner xs other ≡ f.bytes → cond b g.bytes (bytes_with owner xs other) ≡ f.bytes
-    by true here rest = absurd (let first = once.one 0 (suc k) g f refl at (sym (same_page-true owner g.page here) ∙ sym page) in omega arith)
-    by false elsewhere rest = rest
+bytes_with-found : (owner : FilePage) (xs : List (Option Frame)) (other : List ℕ) (k : ℕ) (f : Frame) → AreOnce xs → get_or xs k None ≡ Some f → f.page ≡ owner → bytes_with owner xs other ≡ f.bytes
+bytes_with-found owner xs other k f once at page =
+    let first = bytes_with-at owner xs other (list_any-has_page xs owner k (ap page_of at ∙ ap (λ (x : FilePage). Some x) page)) in
+    let g = held_frame (get_or xs first.0 None) owner first.1 in
+    first.2 ∙ ap (λ n. bytes_of (get_or xs n None)) (once.one first.0 k g.0 f g.1 at (g.2 ∙ sym page)) ∙ ap bytes_of at
 
 -- where none has it, the other ones
 pub bytes_with-none : (owner : FilePage) (xs : List (Option Frame)) (other : List ℕ) → list_any (is_of_page owner) xs ≡ false → bytes_with owner xs other ≡ other
@@ -96,14 +91,14 @@ mark_bytes-framed memory owner frame is uncopied has =
 
 -- ---- how many they are
 
-size_with : (owner : FilePage) (xs : List (Option Frame)) (other : List ℕ) → AreOnce xs → length other ≡ 4096 → length (bytes_with owner xs other) ≡ 4096
-size_with owner [] other once size = size
-size_with owner (None ∷ xs) other once size = size_with owner xs other (rest_once None xs once) size
-size_with owner (Some g ∷ xs) other once size =
-    by (same_page owner g.page) (size_with owner xs other (rest_once (Some g) xs once) size)
+-- what holds of the bytes of each of them, and of the other ones, holds of these
+bytes_with-either : (P : List ℕ → Type 0) (owner : FilePage) (xs : List (Option Frame)) (other : List ℕ) → ((k : ℕ) (f : Frame) → get_or xs k None ≡ Some f → P f.bytes) → P other → P (bytes_with owner xs other)
+bytes_with-either P owner [] other each is = is
+bytes_with-either P owner (None ∷ xs) other each is = bytes_with-either P owner xs other (λ k f at. each (suc k) f at) is
+bytes_with-either P owner (Some g ∷ xs) other each is = by (same_page owner g.page) (bytes_with-either P owner xs other (λ k f at. each (suc k) f at) is)
   where
-    by : (b : Bool) → length (bytes_with owner xs other) ≡ 4096 → length (cond b g.bytes (bytes_with owner xs other)) ≡ 4096
-    by true rest = once.whole 0 g refl
+    by : (b : Bool) → P (bytes_with owner xs other) → P (cond b g.bytes (bytes_with owner xs other))
+    by true rest = each 0 g refl
     by false rest = rest
 
 pub size_at_mark : (memory : FramesState) (owner : FilePage) → IsMemory memory → is_in_memory memory owner ≡ true → length (bytes_at_mark memory owner) ≡ 4096
@@ -112,4 +107,11 @@ size_at_mark memory owner is there =
     let f = held_frame (frame_at memory held.0) owner held.1 in
     let once = once_frames memory is in
     let framed = bytes_with-found owner memory.frames [] held.0 f.0 once f.1 f.2 in
-    size_with owner memory.copies (bytes_with owner memory.frames []) (once_copies memory is) (ap length framed ∙ once.whole held.0 f.0 f.1)
+    bytes_with-either (λ bytes. length bytes ≡ 4096) owner memory.copies (bytes_with owner memory.frames []) (once_copies memory is).whole (ap length framed ∙ once.whole held.0 f.0 f.1)
+
+-- those of any page are no more than a page has
+pub few_at_mark : (memory : FramesState) (owner : FilePage) → IsMemory memory → length (bytes_at_mark memory owner) ≤ 4096
+few_at_mark memory owner is =
+    let few : List ℕ → Type 0 = λ bytes. length bytes ≤ 4096 in
+    bytes_with-either few owner memory.copies (bytes_with owner memory.frames []) (λ k f at. omega (arith, (once_copies memory is).whole k f at))
+    (bytes_with-either few owner memory.frames [] (λ k f at. omega (arith, (once_frames memory is).whole k f at)) (omega arith))

@@ -1,15 +1,16 @@
 -- Which frames are dirty after entries and notes change.
-use Rattle.machine.proofs.Names.{ℕ, zero, suc, ◌≡◌, ◌⊎◌, ◌↔◌, Bool, true, false, not, ◌&&◌, ◌||◌, cond, eqb, List}
-use Rattle.machine.proofs.Names.{length, replicate, get_or, Option, Some, None, IsSome, refl, sym, ap, ◌∙◌, subst, inl}
-use Rattle.machine.proofs.Names.{inr, cases_Bool, cond-true, cond-false, and_parts, and_from, eqb-true, eq-eqb}
-use Rattle.machine.proofs.Names.{false≢true, Mapped, with_writable_of, protected_of, FilePage, Rights, PageRange}
-use Rattle.machine.proofs.Names.{is_among, may_write, FramesState, Frame, frame_at, page_of, Spaces, entry_at}
-use Rattle.machine.proofs.Names.{with_entry, without_mapping, SetsRights, protected_where, entry_at-with_entry}
-use Rattle.machine.proofs.Names.{entry_at-without_mapping, entry_at-remove, CheckpointState, Holds, is_noted, IsDirty}
-use Rattle.machine.proofs.Names.{NotesTaken, IsInRange, IsInSpace, Gathers, ProtectsNoted, without_notes, AreBacked}
-use Rattle.machine.proofs.Names.{page_at, fixed_entry}
+use Rattle.machine.proofs.Names.{ℕ, ◌≡◌, ◌⊎◌, ◌↔◌, Bool, true, false, not, ◌&&◌, ◌||◌, cond, eqb, List, length, Option}
+use Rattle.machine.proofs.Names.{Some, None, IsSome, refl, sym, ap, ◌∙◌, subst, inl, inr, cases_Bool, cond-true}
+use Rattle.machine.proofs.Names.{cond-false, and_parts, and_from, eqb-true, eq-eqb, false≢true, Mapped}
+use Rattle.machine.proofs.Names.{with_writable_of, protected_of, FilePage, Rights, PageRange, is_among, may_write}
+use Rattle.machine.proofs.Names.{FramesState, Frame, frame_at, page_of, Spaces, entry_at, with_entry, without_mapping}
+use Rattle.machine.proofs.Names.{SetsRights, protected_where, entry_at-with_entry, entry_at-without_mapping}
+use Rattle.machine.proofs.Names.{entry_at-remove, CheckpointState, Holds, is_noted, IsDirty, NotesTaken, IsInRange}
+use Rattle.machine.proofs.Names.{IsInSpace, Gathers, ProtectsNoted, without_notes, AreBacked, page_at, fixed_entry}
 use Rattle.std.specs.FinMap as maps
+use Rattle.machine.proofs.sound.Lists.{get_or-replicate-same}
 use Rattle.machine.proofs.durable.Lists.{some_same, none_some}
+use Rattle.machine.proofs.sound.Lists.{kept_some}
 
 -- a frame is dirty by an entry
 pub dirty_at : (spaces : Spaces) (c : CheckpointState) (pcid page frame : ℕ) (entry : Mapped)
@@ -67,10 +68,6 @@ dirty_rights pcid range rights old new c frame sets =
 
 -- ---- entries are taken away where a test passes, and frames of dirty ones noted
 
-kept_where : (b : Bool) (old : Option Mapped) (entry : Mapped) → cond b None old ≡ Some entry → old ≡ Some entry
-kept_where true old entry e = absurd (cc)
-kept_where false old entry e = e
-
 -- what is taken of one table, where a test passes, leaves the other
 pub record Takes (taken : ℕ → ℕ → Type 0) (old new : Spaces) : Type 0 where
   pub test : ℕ → ℕ → Bool
@@ -104,7 +101,7 @@ dirty_taken taken old new c d frame takes notes = (
         | inl was ↦ inl was
         | inr x ↦ dirty_at old c x.pcid x.page frame x.entry x.present x.same_frame x.dirty
       ])
-      (λ q at e is. dirty_at old c q at frame e (kept_where (takes.test q at) (entry_at old q at) e (sym (takes.entries q at) ∙ is))),
+      (λ q at e is. dirty_at old c q at frame e (kept_some (takes.test q at) (entry_at old q at) e (sym (takes.entries q at) ∙ is))),
 )
 
 -- ---- one page gets an entry
@@ -181,15 +178,10 @@ dirty_fixed spaces pcid page frame can write (Some entry) present c f =
 
 -- ---- a mark: no frame is dirty any more
 
-get_or-cleared : (n k : ℕ) → get_or (replicate n false) k false ≡ false
-get_or-cleared zero k = refl
-get_or-cleared (suc n) zero = refl
-get_or-cleared (suc n) (suc k) = get_or-cleared n k
-
 pub clean_after_mark : (old new : Spaces) (memory : FramesState) (c d : CheckpointState) (freezes : Bool)
     (pages : List FilePage) (frame : ℕ) → Gathers old memory c d freezes pages → ProtectsNoted d old new
     → IsDirty new (without_notes d) frame → ⊥
-clean_after_mark old new memory c d freezes pages frame gathers protects (inl noted) = false≢true (sym (get_or-cleared (length d.notes) frame) ∙ noted)
+clean_after_mark old new memory c d freezes pages frame gathers protects (inl noted) = false≢true (sym (get_or-replicate-same (length d.notes) frame false) ∙ noted)
 clean_after_mark old new memory c d freezes pages frame gathers protects (inr x) =
     go (entry_at old x.pcid x.page) refl (sym (protects.entries x.pcid x.page) ∙ x.present)
   where

@@ -20,8 +20,8 @@ use Rattle.std.specs.FinMap as maps
 use Rattle.page_entry.specs.declared.refusal.Refusal.TheVariants as refusals
 use Rattle.machine.specs.declared.act.Act.TheVariants as acts
 use Rattle.machine.specs.declared.act.Reply.TheVariants as replies
-use Rattle.machine.proofs.durable.Lists.{some_same}
-use Rattle.machine.proofs.track.Faults.{or_of_and, led_to, servable}
+use Rattle.machine.proofs.durable.Lists.{some_same, none_some}
+use Rattle.machine.proofs.track.Faults.{by_test, or_of_and, led_to, servable}
 use Rattle.machine.proofs.sound.Admitted.{free_of, served_at_fix, both_none}
 use Rattle.machine.proofs.track.Translations.{has_loaded, has_stored}
 
@@ -69,27 +69,14 @@ module _ (told : Told) (s : State) (p va : ℕ) (write : Bool) (a : IsArranged t
   -- ---- reasons of a fault at a place
 
   module _ (place : Place) (led : LeadsTo told p va write place) where
-    by_frames : (free broken : Bool) (why : Refusal) → Led → cond (not free) (Some refusals.NoFrame) (cond broken (Some refusals.Device) None) ≡ Some why → Law why
-    by_frames false broken why all e = because why refusals.NoFrame all e
-    by_frames true true why all e = because why refusals.Device all e
-    by_frames true false why all e = absurd (cc)
-
-    by_memory : (there : Bool) (why : Refusal) → Led → cond there None (cond (not (has_free s.hardware.memory.frames)) (Some refusals.NoFrame) (cond s.write_outs.broken (Some refusals.Device) None)) ≡ Some why → Law why
-    by_memory true why all e = absurd (cc)
-    by_memory false why all e = by_frames (has_free s.hardware.memory.frames) s.write_outs.broken why all e
-
-    by_copy : (held : Bool) (why : Refusal) → Led
-        → cond held (Some refusals.Held) (cond (is_in_memory s.hardware.memory (page_at place)) None (cond (not (has_free s.hardware.memory.frames)) (Some refusals.NoFrame) (cond s.write_outs.broken (Some refusals.Device) None))) ≡ Some why → Law why
-    by_copy true why all e = because why refusals.Held all e
-    by_copy false why all e = by_memory (is_in_memory s.hardware.memory (page_at place)) why all e
-
-    by_end : (past : Bool) → leb (length_of s place.file) (4096 * place.page) ≡ past → (why : Refusal)
-        → cond past (Some refusals.BusAdrErr) (cond (copies_out s.hardware.memory s.checkpoint (page_at place) write && not (has_free s.hardware.memory.copies)) (Some refusals.Held)
-        (cond (is_in_memory s.hardware.memory (page_at place)) None (cond (not (has_free s.hardware.memory.frames)) (Some refusals.NoFrame) (cond s.write_outs.broken (Some refusals.Device) None)))) ≡ Some why → Law why
-    by_end true past why e = because why refusals.BusAdrErr (place, led, past_told place (leb-true (length_of s place.file) (4096 * place.page) past)) e
-    by_end false within why e =
-        by_copy (copies_out s.hardware.memory s.checkpoint (page_at place) write && not (has_free s.hardware.memory.copies)) why
-        (place, led, inside_told place (leb-false (length_of s place.file) (4096 * place.page) within)) e
+    by_end : (why : Refusal) → served_refusal s write (Ok place) ≡ Some why → Law why
+    by_end why e =
+        by_test (leb (length_of s place.file) (4096 * place.page)) e (λ past is. because why refusals.BusAdrErr (place, led, past_told place (leb-true (length_of s place.file) (4096 * place.page) past)) is) (λ within later.
+        let all : Led = (place, led, inside_told place (leb-false (length_of s place.file) (4096 * place.page) within)) in
+        by_test (copies_out s.hardware.memory s.checkpoint (page_at place) write && not (has_free s.hardware.memory.copies)) later (λ held is. because why refusals.Held all is) (λ thawed later.
+        by_test (is_in_memory s.hardware.memory (page_at place)) later (λ there is. absurd (none_some why is)) (λ gone later.
+        by_test (not (has_free s.hardware.memory.frames)) later (λ full is. because why refusals.NoFrame all is) (λ free later.
+        by_test s.write_outs.broken later (λ broken is. because why refusals.Device all is) (λ whole is. absurd (none_some why is))))))
 
   -- ---- reasons of the address
 
@@ -111,8 +98,7 @@ module _ (told : Told) (s : State) (p va : ℕ) (write : Bool) (a : IsArranged t
         let parts = and_parts write (not (may_write place.rights)) forbidden in
         because why refusals.SegvAccErr (place, place_is a p va below ∙ mapped, parts.0, not-true (may_write place.rights) parts.1) e
     by_rights place mapped false allowed why e =
-        by_end place (leads place below mapped (or_of_and write (may_write place.rights) allowed)) (leb (length_of s place.file) (4096 * place.page)) refl why
-        (none_more (served_refusal s write (Ok place)) why e)
+        by_end place (leads place below mapped (or_of_and write (may_write place.rights) allowed)) why (none_more (served_refusal s write (Ok place)) why e)
 
     by_place : va < 2 ^ 47 → (o : Option Place) → place_at s.hardware.spaces (current s.hardware.shootdown p) (va / 4096) ≡ o → (why : Refusal) → reason_of (allowed_place write o) ≡ Some why → Law why
     by_place small None none why e = because why refusals.SegvMapErr (small, place_is a p va below ∙ none) e
@@ -225,8 +211,6 @@ lawful files told s disk p act reply new disk' sound a latest rule = record {
   store = store_law files told s disk p new disk' sound a latest act reply rule;
   address = address_law told s disk p new disk' a act reply rule;
 }
-
--- ---- aserved fault is served: the access that follows at once answers. From the rules alone
 
 -- ---- a page that has an entry which allows the access is reached
 
@@ -361,7 +345,7 @@ pub access_answers : (s : State) (disk : List ℕ) (p va : ℕ) (write : Bool) (
     → FixMade s disk p va write mid → IsAccessOf va write act → Acts mid between p act reply new disk' → IsAnswered act reply
 access_answers s disk p va write mid between act reply new disk' made access rule = answers mid between p va write new disk' (ready_after_fix s disk p va write mid made) act reply access rule
 
--- ---- of every run, each served fault is served: the same processor's access of its page that follows at once answer
+-- ---- of every run: the access of its page that follows a served fault at once answers
 
 module _ {D : Type 0} (disk : Ghosts D) (files : List File) where
   -- over an honest device the rules hold of its own bytes

@@ -1,4 +1,4 @@
--- Files, frames and dirty pages as they are told, and how they stay so where nothing is stored: where no page comes or goes, where one comes into memory, and where one leaves it.
+-- Files, frames and dirty pages as they are told: how they stay so where a page is stored to, comes or goes.
 use Rattle.machine.proofs.Names.{ℕ, ◌≡◌, ◌≢◌, ◌↔◌, ◌*◌, ◌-◌, false, List, ◌++◌, length, take, get_or, None, sym, ap}
 use Rattle.machine.proofs.Names.{◌∙◌, subst, inl, inr, ◌+◌, ◌%◌, ◌<◌, ◌≤◌, true, [], ◌∷◌, Some, refl, arith, cases_Bool}
 use Rattle.machine.proofs.Names.{cases_eq, FilePage, FramesState, bytes_of, frame_at, page_of, without_frame, overwrite}
@@ -9,7 +9,8 @@ use Rattle.machine.proofs.Names.{ArePlain, page_at, Hardware, page_of-with_bytes
 use Rattle.machine.specs.History.{Store}
 use Rattle.machine.proofs.durable.Lists.{some_same}
 use Rattle.machine.proofs.durable.Histories.{SameFiles, in_file_as, AreQuiet, after_store, stored_there, stored_elsewhere, length-stored, touched_there, touched_elsewhere}
-use Rattle.machine.proofs.durable.Pages.{IsBrought, holder_of, held_by_none, absent_before, held_without, held_still, cases_page, differ, bytes_of-with_bytes}
+use Rattle.machine.proofs.sound.Frames.{held_in_memory, holds_still}
+use Rattle.machine.proofs.durable.Pages.{IsBrought, held_by_none, absent_before, held_without, cases_page, differ, bytes_of-with_bytes}
 use Rattle.machine.proofs.track.DirtyFrames.{clean_where_free}
 use Rattle.machine.proofs.track.Translations.{HasStored}
 
@@ -66,7 +67,7 @@ module _ (files : List File) (told now : Told) (s new : State) (events : List Ev
   abbrev latest_then : FilePage → List ℕ
   latest_then owner = after (memory_of files) told.history owner.file owner.page
 
-  -- it suffices that frames have the latest bytes, that the same pages are dirty, and that what isn't in memory is plain
+  -- it suffices that frames have the latest bytes, the same pages are dirty, and what isn't in memory is plain
   pages_by : ((frame : ℕ) (owner : FilePage) → Holds new.hardware.memory frame owner → bytes_of (frame_at new.hardware.memory frame) ≡ latest_then owner)
       → ((owner : FilePage) → HasDirty s owner ↔ HasDirty new owner)
       → ((owner : FilePage) → IsInFile s owner → is_in_memory new.hardware.memory owner ≡ false → latest_then owner ≡ cut_at_end s owner (latest_then owner))
@@ -130,7 +131,7 @@ module _ (files : List File) (told now : Told) (s new : State) (events : List Ev
         (there.0, ap (λ (m : FramesState). frame_at m k) memory_is ∙ there.1)
 
     held_now : (k : ℕ) (o : FilePage) → k ≢ frame → Holds s.hardware.memory k o → Holds new.hardware.memory k o
-    held_now k o other holds = subst (λ (m : FramesState). Holds m k o) (sym memory_is) (held_still s.hardware.memory frame k o other holds)
+    held_now k o other holds = subst (λ (m : FramesState). Holds m k o) (sym memory_is) (holds_still s.hardware.memory frame k o other holds)
 
     -- the page that left has its bytes at home
     at_home : (o : FilePage) → is_in_memory new.hardware.memory o ≡ false → (holder : (k : ℕ) × Holds s.hardware.memory k o) → latest_then o ≡ cut_at_end s o (latest_then o)
@@ -152,10 +153,10 @@ module _ (files : List File) (told now : Told) (s new : State) (events : List Ev
         ))
         (λ o is gone. elim (cases_Bool (is_in_memory s.hardware.memory o)) [
           | inr absent ↦ has.plain o is absent
-          | inl there ↦ at_home o gone (holder_of s.hardware.memory o there)
+          | inl there ↦ at_home o gone (held_in_memory s.hardware.memory o there)
         ])
 
--- ---- astore changes the page to which its address leads, and touches it
+-- ---- a store changes the page to which its address leads, and touches it
 
 small : (va : ℕ) → va % 4096 < 4096
 small va = omega arith

@@ -1,17 +1,15 @@
--- Processors and spaces as they are told: the current space of each processor and whether it goes on, which spaces there are, and what each maps.
-use Rattle.machine.proofs.Names.{ℕ, ◌≡◌, ◌<◌, Bool, true, false, cond, eqb, List, length, get_or, set, refl, sym, ap}
-use Rattle.machine.proofs.Names.{◌∙◌, inl, inr, arith, ◌≢◌, not, ◌&&◌, ◌||◌, Option, Some, None, is_some}
-use Rattle.machine.proofs.Names.{unwrap_or, cases_eq, cond-true, cond-false, eq-eqb, ne_eqb, length-set}
+-- Processors and spaces as they are told: where each processor is, whether it goes on, and what each space maps.
+use Rattle.machine.proofs.Names.{set-get_or, ℕ, ◌≡◌, ◌<◌, Bool, true, false, cond, eqb, List, length, get_or, set, refl}
+use Rattle.machine.proofs.Names.{sym, ap, ◌∙◌, inl, inr, arith, ◌≢◌, not, ◌&&◌, ◌||◌, Option, Some, None, is_some}
+use Rattle.machine.proofs.Names.{unwrap_or, subst, cases_eq, cond-true, cond-false, eq-eqb, ne_eqb, length-set}
 use Rattle.machine.proofs.Names.{get_or-set_same, get_or-set_other, Invpcid, SingleContext, Change, Spaces}
-use Rattle.machine.proofs.Names.{AddressSpace, empty_space, has_space, space_at, with_space}
-use Rattle.machine.proofs.Names.{touches, ProcState, Active, Interrupted, Stalled}
-use Rattle.machine.proofs.Names.{Initiating, Idle, Processor, is_running, is_concerned, queued, told, ShootdownState}
+use Rattle.machine.proofs.Names.{AddressSpace, empty_space, has_space, space_at, with_space, touches, ProcState, Active}
+use Rattle.machine.proofs.Names.{Initiating, Processor, is_running, is_concerned, queued, told, ShootdownState}
 use Rattle.machine.proofs.Names.{processor_at, state_of, current, with_processor, state_when_begun, destroyed}
 use Rattle.machine.proofs.Names.{processor_at-with_same, processor_at-with_other, length-with_processor}
 use Rattle.machine.proofs.Names.{processor_at-begun, state-begun_one, current-begun, length-begun}
 use Rattle.machine.proofs.Names.{processor_at-destroyed, length-destroyed, current-destroyed, nat_cmp, nat_cmp_total}
-use Rattle.machine.proofs.Names.{unsigned_tied, Places}
-use Rattle.machine.proofs.Names.{has_space-with_space, space_at-with_space_same}
+use Rattle.machine.proofs.Names.{unsigned_tied, Places, has_space-with_space, space_at-with_space_same}
 use Rattle.machine.proofs.Names.{space_at-with_space_other, has_space-remove, space_at-remove}
 use Rattle.shootdown.specs.Shootdown.{begun}
 use Rattle.std.specs.FinMap as maps
@@ -51,60 +49,38 @@ module _ (spaces : List ℕ) (runs : List Bool) (s : ShootdownState) (p : ℕ) (
             ∙ sym (ap part (processor_at-with_other s p x q other))
       ]
 
-  -- as it was: only what isn't told of it changes
-  pub told_still : x.space ≡ current s p → is_running x.state ≡ is_running (state_of s p) → AreProcessorsTold spaces runs (with_processor s p x)
-  told_still space state =
-      told_same spaces runs s (with_processor s p x) (length-with_processor s p x)
-      (λ q within. at (λ (y : Processor). y.space) space q) (λ q within. at (λ (y : Processor). is_running y.state) state q) t
-    where
-      at : {X : Type 0} (part : Processor → X) → part x ≡ part (processor_at s p) → (q : ℕ) → part (processor_at (with_processor s p x) q) ≡ part (processor_at s q)
-      at part is q =
-          elim (cases_eq q p) [
-            | inl here ↦ ap part (ap (processor_at (with_processor s p x)) here ∙ processor_at-with_same s p x there) ∙ is ∙ sym (ap part (ap (processor_at s) here))
-            | inr other ↦ ap part (processor_at-with_other s p x q other)
-          ]
+  -- it is in this space, and goes on or doesn't
+  told_replaced : (space : ℕ) (b : Bool) → x.space ≡ space → is_running x.state ≡ b → AreProcessorsTold (set spaces p space) (set runs p b) (with_processor s p x)
+  told_replaced space b in_it goes = record {
+    processors = length-set spaces p space ∙ t.processors ∙ sym (length-with_processor s p x);
+    same_current = each (λ (y : Processor). y.space) spaces 0 space t.processors t.same_current in_it;
+    as_many = length-set runs p b ∙ t.as_many ∙ sym (length-with_processor s p x);
+    same_running = each (λ (y : Processor). is_running y.state) runs false b t.as_many t.same_running goes;
+  }
+
+  -- what was told of it may be told again
+  same_space : set spaces p (current s p) ≡ spaces
+  same_space = ap (set spaces p) (sym (t.same_current p (omega (arith, t.processors)))) ∙ set-get_or spaces p 0
+
+  same_run : set runs p (is_running (state_of s p)) ≡ runs
+  same_run = ap (set runs p) (sym (t.same_running p (omega (arith, t.as_many)))) ∙ set-get_or runs p false
 
   -- it goes on from now on, or doesn't
   pub told_running : (b : Bool) → x.space ≡ current s p → is_running x.state ≡ b → AreProcessorsTold spaces (set runs p b) (with_processor s p x)
-  told_running b space state =
-      let still = told_still_space space in
-      record {
-        processors = t.processors ∙ sym (length-with_processor s p x);
-        same_current = λ q within. t.same_current q within ∙ sym (still q);
-        as_many = length-set runs p b ∙ t.as_many ∙ sym (length-with_processor s p x);
-        same_running = each (λ (y : Processor). is_running y.state) runs false b t.as_many t.same_running state;
-      }
-    where
-      told_still_space : x.space ≡ current s p → (q : ℕ) → current (with_processor s p x) q ≡ current s q
-      told_still_space is q =
-          elim (cases_eq q p) [
-            | inl here ↦ ap (λ (y : Processor). y.space) (ap (processor_at (with_processor s p x)) here ∙ processor_at-with_same s p x there) ∙ is ∙ sym (ap (current s) here)
-            | inr other ↦ ap (λ (y : Processor). y.space) (processor_at-with_other s p x q other)
-          ]
+  told_running b space state = subst (λ l. AreProcessorsTold l (set runs p b) (with_processor s p x)) same_space (told_replaced (current s p) b space state)
 
   -- it is in another space
   pub told_switched : (pcid : ℕ) → x.space ≡ pcid → is_running x.state ≡ is_running (state_of s p) → AreProcessorsTold (set spaces p pcid) runs (with_processor s p x)
-  told_switched pcid space state = record {
-    processors = length-set spaces p pcid ∙ t.processors ∙ sym (length-with_processor s p x);
-    same_current = each (λ (y : Processor). y.space) spaces 0 pcid t.processors t.same_current space;
-    as_many = t.as_many ∙ sym (length-with_processor s p x);
-    same_running = λ q within. t.same_running q within ∙ sym (still q);
-  }
-    where
-      still : (q : ℕ) → is_running (state_of (with_processor s p x) q) ≡ is_running (state_of s q)
-      still q =
-          elim (cases_eq q p) [
-            | inl here ↦ ap (λ (y : Processor). is_running y.state) (ap (processor_at (with_processor s p x)) here ∙ processor_at-with_same s p x there) ∙ state ∙ sym (ap (λ n. is_running (state_of s n)) here)
-            | inr other ↦ ap (λ (y : Processor). is_running y.state) (processor_at-with_other s p x q other)
-          ]
+  told_switched pcid space state = subst (λ l. AreProcessorsTold (set spaces p pcid) l (with_processor s p x)) same_run (told_replaced pcid (is_running (state_of s p)) space state)
+
+  -- only what isn't told of it changes
+  pub told_still : x.space ≡ current s p → is_running x.state ≡ is_running (state_of s p) → AreProcessorsTold spaces runs (with_processor s p x)
+  told_still space state = subst (λ l. AreProcessorsTold spaces l (with_processor s p x)) same_run (told_running (is_running (state_of s p)) space state)
 
 -- who goes on still does when a change begins: an interrupted one until it stalls
 running_when_begun : (touched : Bool) (state : ProcState) → is_running (state_when_begun touched state) ≡ is_running state
 running_when_begun true Active = refl
-running_when_begun true Interrupted = refl
-running_when_begun true Stalled = refl
-running_when_begun true Initiating = refl
-running_when_begun true Idle = refl
+running_when_begun true state = refl
 running_when_begun false state = refl
 
 -- a change begins: its initiator stops

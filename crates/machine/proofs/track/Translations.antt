@@ -1,4 +1,5 @@
 -- What a translation that is made goes through, where a load that is made reads, and where a store that is made writes.
+use Rattle.std.proofs.lemmas.Bool.{or_right}
 use Rattle.machine.proofs.Names.{ℕ, ◌≡◌, ◌⊎◌, Bool, true, false, not, ◌&&◌, ◌||◌, cond, Option, Some, None, Result, Ok}
 use Rattle.machine.proofs.Names.{Err, refl, sym, ap, ◌∙◌, subst, inl, inr, ◌≢◌, ◌/◌, ◌%◌, List, take, drop, and_parts}
 use Rattle.machine.proofs.Names.{not-false, Mapped, CachedEntry, cached, cached-All, entry_at, place_at, with_entry}
@@ -11,9 +12,10 @@ use Rattle.machine.proofs.durable.Lists.{some_same}
 use Rattle.machine.proofs.track.DirtyFrames.{dirty_at, dirty_kept, dirty_back, dirty_there}
 use Rattle.machine.proofs.track.ToldSpaces.{AreProcessorsTold, told_still, ToldSpaces, AreSpacesTold, spaces_still}
 
--- ---- what a translation that is made goes through: the entry of the page table, also where a cached entry served it
+-- ---- the entry that a translation goes through, also where a cached entry served it
 
--- A translation that reached a frame: through the table's entry, which stays as it was and was dirty before a store, or is noted and cached.
+-- A translation that reached a frame: through the table's entry, which stays and was dirty before a store, or is noted
+-- and cached.
 pub record IsTranslated (h : Hardware) (p page : ℕ) (write : Bool) (frame : ℕ) (new : Hardware) : Type 0 where
   pub entry : Mapped
   pub present : entry_at h.spaces (current h.shootdown p) page ≡ Some entry
@@ -86,7 +88,7 @@ pub filled_cases : (h : Hardware) (p page : ℕ) (there : Bool) (new : Hardware)
 filled_cases h p page there new None present made = inl (ap (λ (x : Bool × Hardware). x.1) made)
 filled_cases h p page there new (Some entry) present made = inr (entry, present, ap (λ (x : Bool × Hardware). x.1) made)
 
--- ---- where a load that is made reads, and a store that is made writes: the frame that holds the page to which the a
+-- ---- where a load that is made reads, and a store that is made writes
 
 -- what a load that was made read
 pub record HasLoaded (h : Hardware) (p va count : ℕ) (bytes : List ℕ) : Type 0 where
@@ -134,10 +136,6 @@ pub record HasStored (h : Hardware) (c : CheckpointState) (p va : ℕ) (bytes : 
   pub dirty_still : (f : ℕ) → IsDirty h.spaces c f → IsDirty new.spaces c f
   pub dirty_before : (f : ℕ) → f ≢ frame → IsDirty new.spaces c f → IsDirty h.spaces c f
 
-true_or : (b : Bool) → (b || true) ≡ true
-true_or true = refl
-true_or false = refl
-
 pub has_stored : (h : Hardware) (c : CheckpointState) (p va : ℕ) (bytes : List ℕ) (new : Hardware) → Coheres h.spaces h.shootdown → AreBacked h.memory c h.spaces → StoreMade h p va bytes new → HasStored h c p va bytes new
 has_stored h c p va bytes new coheres backed made =
     let t = is_translated h p (va / 4096) true made.frame made.mid coheres made.running made.translation in
@@ -160,12 +158,12 @@ has_stored h c p va bytes new coheres backed made =
       told = record { lock = told.lock; processors = told.processors; spaces = told.spaces };
       dirty_now = elim t.reached [
         | inl kept ↦ dirty_at made.mid.spaces c pcid page t.entry.frame t.entry (ap (λ (x : Hardware). entry_at x.spaces pcid page) kept.0 ∙ t.present) refl (kept.1 refl)
-        | inr noted ↦ subst (λ (x : Hardware). IsDirty x.spaces c t.entry.frame) (sym noted) (dirty_there h.spaces pcid page now c (true_or t.entry.dirty))
+        | inr noted ↦ subst (λ (x : Hardware). IsDirty x.spaces c t.entry.frame) (sym noted) (dirty_there h.spaces pcid page now c (or_right t.entry.dirty true refl))
       ];
       dirty_still = λ f is. elim t.reached [
         | inl kept ↦ subst (λ (x : Hardware). IsDirty x.spaces c f) (sym kept.0) is
         | inr noted ↦ subst (λ (x : Hardware). IsDirty x.spaces c f) (sym noted) (dirty_kept h.spaces pcid page now c f
-            (λ old at _. (ap (λ (m : Mapped). m.frame) (some_same t.entry old (sym t.present ∙ at)), true_or t.entry.dirty)) is)
+            (λ old at _. (ap (λ (m : Mapped). m.frame) (some_same t.entry old (sym t.present ∙ at)), or_right t.entry.dirty true refl)) is)
       ];
       dirty_before = λ f other is. elim t.reached [
         | inl kept ↦ subst (λ (x : Hardware). IsDirty x.spaces c f) kept.0 is

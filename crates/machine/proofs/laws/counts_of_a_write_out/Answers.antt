@@ -1,5 +1,5 @@
-use Rattle.machine.proofs.Counted.{committed_count, done_count}
 use Rattle.machine.proofs.laws.counts_of_a_write_out.Goals as goal
+use Rattle.machine.proofs.Counted.{committed_count, done_count}
 
 pub returns-clause-committed : goal.returns-clause-committed
 returns-clause-committed g c = λ files start old marked last new earlier steps told replies p number mark step on taken here.

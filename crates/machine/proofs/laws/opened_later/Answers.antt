@@ -1,5 +1,5 @@
-use Rattle.machine.proofs.durable.Later.{found_settled, found_durable}
 use Rattle.machine.proofs.laws.opened_later.Goals as goal
+use Rattle.machine.proofs.durable.Later.{found_settled, found_durable}
 
 pub returns-clause-settled : goal.returns-clause-settled
 returns-clause-settled g c = λ files n first later honest only recovers is.

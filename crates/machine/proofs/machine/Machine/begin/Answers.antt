@@ -1,4 +1,4 @@
-use Rattle.std.proofs.Common.{refl}
+use Rattle.machine.proofs.Names.{refl}
 use Rattle.machine.proofs.machine.Machine.begin.Goals as goal
 
 pub returns : goal.returns

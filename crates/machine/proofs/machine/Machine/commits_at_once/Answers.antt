@@ -1,8 +1,7 @@
-use Rattle.machine.specs.Steps.{told_first}
-use Rattle.machine.specs.Told.{tell_all}
+use Rattle.machine.proofs.Names.{told_first, tell_all}
+use Rattle.machine.proofs.machine.Machine.commits_at_once.Goals as goal
 use Rattle.machine.proofs.Tracks.{follows}
 use Rattle.machine.proofs.durable.ReadsBack.{tracked_stops}
-use Rattle.machine.proofs.machine.Machine.commits_at_once.Goals as goal
 
 pub returns : goal.returns
 returns g c = λ files start steps replies list on may.

@@ -1,10 +1,8 @@
-use Rattle.machine.specs.Runs.{StepTaken}
-use Rattle.machine.specs.Steps.{told_first}
-use Rattle.machine.specs.Told.{tell_all}
+use Rattle.machine.proofs.Names.{StepTaken, told_first, tell_all}
+use Rattle.machine.proofs.machine.Machine.enter.Goals as goal
 use Rattle.machine.proofs.durable.Steps.{step_safe, step_stopped}
 use Rattle.machine.proofs.Tracks.{follows}
 use Rattle.machine.proofs.code.Runs.{steps_more}
-use Rattle.machine.proofs.machine.Machine.enter.Goals as goal
 
 module _ (g : _) (c : goal.After-step g) where
   -- the step was taken

@@ -1,8 +1,7 @@
-use Rattle.machine.specs.Steps.{told_first}
-use Rattle.machine.specs.Told.{tell_all}
+use Rattle.machine.proofs.Names.{told_first, tell_all}
+use Rattle.machine.proofs.machine.Machine.gathers_what_was_stored.Goals as goal
 use Rattle.machine.proofs.Tracks.{follows}
 use Rattle.machine.proofs.durable.Histories.{gathers_touched, gathers_nothing}
-use Rattle.machine.proofs.machine.Machine.gathers_what_was_stored.Goals as goal
 
 pub returns-clause-pages : goal.returns-clause-pages
 returns-clause-pages g c = λ files start steps replies p number new mark owner on.

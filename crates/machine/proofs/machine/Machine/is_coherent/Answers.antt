@@ -1,7 +1,4 @@
-use Rattle.std.proofs.Common.{subst}
-use Rattle.shootdown.specs.Coherence.{Coheres}
-use Rattle.checkpoint.specs.Backing.{AreBacked}
-use Rattle.machine.specs.State.{Whole}
+use Rattle.machine.proofs.Names.{subst, Coheres, AreBacked, Whole}
 use Rattle.machine.proofs.machine.Machine.is_coherent.Goals as goal
 
 pub returns-clause-coheres : goal.returns-clause-coheres

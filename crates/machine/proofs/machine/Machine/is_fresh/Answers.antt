@@ -1,9 +1,6 @@
-use Rattle.std.proofs.Common.{sym, ap, ◌∙◌}
-use Rattle.std.proofs.lemmas.Bool.{false≢true}
-use Rattle.machine.specs.State.{Whole}
-use Rattle.machine.specs.inside.Layers.{state_in}
-use Rattle.machine.proofs.code.Freshness.{to_fresh, from_fresh}
+use Rattle.machine.proofs.Names.{sym, ap, ◌∙◌, false≢true, Whole, state_in}
 use Rattle.machine.proofs.machine.Machine.is_fresh.Goals as goal
+use Rattle.machine.proofs.code.Freshness.{to_fresh, from_fresh}
 
 pub returns-then-fits : goal.returns-then-fits
 returns-then-fits g c =

@@ -1,8 +1,7 @@
-use Rattle.machine.specs.Steps.{told_first}
-use Rattle.machine.specs.Told.{tell_all}
+use Rattle.machine.proofs.Names.{told_first, tell_all}
+use Rattle.machine.proofs.machine.Machine.keeps_other_pages.Goals as goal
 use Rattle.machine.proofs.Tracks.{follows}
 use Rattle.machine.proofs.durable.ReadsBack.{kept_page}
-use Rattle.machine.proofs.machine.Machine.keeps_other_pages.Goals as goal
 
 pub returns-clause-kept : goal.returns-clause-kept
 returns-clause-kept g c = λ files start steps replies p number new mark owner left on in_file other may.

@@ -1,9 +1,8 @@
-use Rattle.machine.specs.Steps.{told_first}
-use Rattle.machine.specs.Told.{tell_all}
+use Rattle.machine.proofs.Names.{told_first, tell_all}
+use Rattle.machine.proofs.machine.Machine.keeps_the_laws.Goals as goal
 use Rattle.machine.proofs.Tracks.{follows}
 use Rattle.machine.proofs.durable.ReadsBack.{reads_now}
 use Rattle.machine.proofs.track.Lawful.{served_throughout}
-use Rattle.machine.proofs.machine.Machine.keeps_the_laws.Goals as goal
 
 pub returns-clause-headline : goal.returns-clause-headline
 returns-clause-headline g c = λ files start steps replies on. (follows g.D.Device files start steps replies c.args.self.now on).through

@@ -1,11 +1,7 @@
-use Rattle.std.proofs.Common.{◌≡◌, ◌<◌, ◌+◌, ◌++◌, ◌∷◌, [], List, length, take, set, refl, subst, arith}
-use Rattle.std.proofs.lemmas.Grind.{common_steps}
-use Rattle.std.proofs.lemmas.List.{take_all}
-use Rattle.machine.specs.declared.act.Reply.{Reply}
-use Rattle.machine.specs.declared.act.Step.{Step}
-use Rattle.machine.specs.Runs.{StepsTaken}
-use Rattle.machine.proofs.code.Runs.{steps_more, honest_taken, len_taken}
+use Rattle.machine.proofs.Names.{◌≡◌, ◌<◌, ◌+◌, ◌++◌, ◌∷◌, [], List, length, take, set, refl, subst, arith}
+use Rattle.machine.proofs.Names.{common_steps, take_all, Reply, Step, StepsTaken}
 use Rattle.machine.proofs.machine.Machine.make_all.Goals as goal
+use Rattle.machine.proofs.code.Runs.{steps_more, honest_taken, len_taken}
 
 pub loop-i-init : goal.loop-i-init
 loop-i-init g c = record { taken = refl; within = omega arith }

@@ -1,5 +1,4 @@
-use Rattle.std.proofs.Common.{◌≤◌, length, take}
-use Rattle.machine.specs.Runs.{StepsTaken}
+use Rattle.machine.proofs.Names.{◌≤◌, length, take, StepsTaken}
 use Rattle.machine.proofs.machine.Machine.make_all.Given as goal
 
 abbrev pub invariant-loop-i : goal.invariant-loop-i

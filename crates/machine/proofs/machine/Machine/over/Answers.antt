@@ -1,10 +1,7 @@
-use Rattle.std.proofs.Common.{ap, arith}
-use Rattle.std.proofs.lemmas.List.{length-map}
-use Rattle.volume_codec.specs.Files.{TableFile}
-use Rattle.shootdown.specs.Shootdown.{ShootdownState}
+use Rattle.machine.proofs.Names.{ap, arith, length-map, TableFile, ShootdownState}
+use Rattle.machine.proofs.machine.Machine.over.Goals as goal
 use Rattle.machine.proofs.sound.AtBoot.{fresh_sound}
 use Rattle.machine.proofs.code.Parts.{reserved_free}
-use Rattle.machine.proofs.machine.Machine.over.Goals as goal
 
 pub invariant_of-result : goal.invariant_of-result
 invariant_of-result g c =

@@ -1,8 +1,4 @@
-use Rattle.std.proofs.Common.{◌≡◌, false, subst}
-use Rattle.std.specs.Prelude.{IsTrue, IfOk, IfErr}
-use Rattle.page_entry.specs.declared.refusal.Refusal.TheVariants.{Einval}
-use Rattle.shootdown.specs.Shootdown.{is_there, state_of}
-use Rattle.machine.specs.State.{Whole}
+use Rattle.machine.proofs.Names.{◌≡◌, false, subst, IsTrue, IfOk, IfErr, Einval, is_there, state_of, Whole}
 use Rattle.machine.proofs.machine.Machine.state.Goals as goal
 
 pub returns-clause-ok : goal.returns-clause-ok

@@ -1,14 +1,9 @@
-use Rattle.std.proofs.Common.{ℕ, ◌≡◌, List, sym, subst}
-use Rattle.machine.specs.declared.act.Reply.{Reply}
-use Rattle.machine.specs.State.{Whole}
+use Rattle.machine.proofs.Names.{ℕ, ◌≡◌, List, sym, subst, Reply, Whole, Rules, WantsMemory, StepMade, state_in}
+use Rattle.machine.proofs.Names.{whole_in, ActDone}
 use Rattle.page_entry.specs.declared.refusal.Refusal.TheVariants as refusals
 use Rattle.machine.specs.declared.act.Reply.TheVariants as replies
-use Rattle.machine.specs.Rules.{Rules, WantsMemory}
-use Rattle.machine.specs.Steps.{StepMade}
-use Rattle.machine.specs.inside.Layers.{state_in, whole_in}
-use Rattle.machine.specs.inside.Acting.{ActDone}
-use Rattle.machine.proofs.code.Stepping.{layers_kept, step_made, not_full, wants_memory}
 use Rattle.machine.proofs.machine.Machine.step.Goals as goal
+use Rattle.machine.proofs.code.Stepping.{layers_kept, step_made, not_full, wants_memory}
 
 pub invariant_of-self : goal.invariant_of-self
 invariant_of-self g c = layers_kept g.D.Device c.self.inside.layers c.act.new.self c.args.step.now _ c.act.ensures c.self.invariant
