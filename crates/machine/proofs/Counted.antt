@@ -1,11 +1,10 @@
 -- What the write-out of one mark asks of the device in a run, until it is committed and until it is done.
-use Rattle.machine.proofs.Names.{committed_parts, ℕ, suc, ◌≡◌, ◌≢◌, ◌+◌, ◌*◌, ◌<◌, ◌≤◌, ◌⊎◌, inl, inr, Bool, true, false, cond, eqb}
-use Rattle.machine.proofs.Names.{List, [], ◌∷◌, ◌++◌, length, map, drop, sum_by, Option, Some, None, is_some, refl, sym}
-use Rattle.machine.proofs.Names.{ap, ◌∙◌, subst, arith, append_assoc, append-nil, length-append, AllByRecursion}
-use Rattle.machine.proofs.Names.{option_map_or, cond-true, cond-false, cases_Bool, both_ways, eq-eqb, ne_eqb}
-use Rattle.machine.proofs.Names.{length-map, sum_by-append, All-weaker, recursion_from_All, FilePage, Ghosts, File}
-use Rattle.machine.proofs.Names.{GeometryValue, Batch, Stage, Recording, Describing, SyncingRecords, Opening}
-use Rattle.machine.proofs.Names.{Committing, Applying, SyncingHomes, Closing, Finishing, Flushed, answer_at, Work}
+use Rattle.machine.proofs.Names.{committed_parts, ℕ, suc, ◌≡◌, ◌≢◌, ◌+◌, ◌*◌, ◌<◌, ◌≤◌, ◌⊎◌, inl, inr, Bool, true}
+use Rattle.machine.proofs.Names.{false, cond, eqb, List, [], ◌∷◌, ◌++◌, length, map, drop, sum_by, Option, Some, None}
+use Rattle.machine.proofs.Names.{is_some, refl, sym, ap, ◌∙◌, subst, arith, append_assoc, append-nil, length-append}
+use Rattle.machine.proofs.Names.{AllByRecursion, option_map_or, cond-true, cond-false, cases_Bool, both_ways, eq-eqb}
+use Rattle.machine.proofs.Names.{ne_eqb, length-map, sum_by-append, All-weaker, recursion_from_All, FilePage, Ghosts}
+use Rattle.machine.proofs.Names.{File, GeometryValue, Batch, Stage, Committing, Finishing, Flushed, answer_at, Work}
 use Rattle.machine.proofs.Names.{Nothing, work_at, calls_of, WriteOut, next_stage, begun_of, advanced_of, work_of}
 use Rattle.machine.proofs.Names.{answer_of, calls_in_steps, WriteOutsValue, has_uncommitted, advanced, outs_after}
 use Rattle.machine.proofs.Names.{outs_record, next_answer, next_batch, begun, IsAt, stage_is, early_calls, all_calls}

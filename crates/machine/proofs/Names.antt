@@ -77,7 +77,7 @@ pub use Rattle.machine.specs.Runs.{StepTaken, StepsTaken}
 pub use Rattle.machine.specs.State.{State, Whole, cut_at_end, home_of, length_of, page_from}
 pub use Rattle.machine.specs.Steps.{IsLawful, StepMade, step_work, told_first}
 pub use Rattle.machine.specs.Stops.{IsAcknowledged, IsNew, IsOld, Stops, StopsBefore, StopsInStep, StopsWithin}
-pub use Rattle.machine.specs.Sums.{AskFor, asked_for, listed_work, CallsAddUp}
+pub use Rattle.machine.specs.Sums.{AskFor, CallsAddUp, asked_for, listed_work}
 pub use Rattle.machine.specs.Told.{Pending, Protecting, Told, Unmapping, begun_by, begun_protect, begun_unmap, changed}
 pub use Rattle.machine.specs.Told.{ended_by, length_told, mapped_in, offset_at, place_told, places_in, store_at, tell}
 pub use Rattle.machine.specs.Told.{tell_all}
@@ -106,15 +106,14 @@ pub use Rattle.machine.specs.inside.Tracking.{change_in, pending_in}
 pub use Rattle.mappings.specs.Judgement.{add_refusal, is_mappable, is_user_range, mapped_pages_of, pages_holding}
 pub use Rattle.mappings.specs.Judgement.{protect_refusal, range_of_bytes}
 pub use Rattle.mappings.specs.Places.{Places, all_mapped, allows, any_forbids, any_mapped, is_among, may_write}
-pub use Rattle.mappings.specs.Places.{with_range, without_range, with_rights}
+pub use Rattle.mappings.specs.Places.{with_range, without_range}
 pub use Rattle.mappings.specs.declared.page_range.PageRange.{PageRange}
 pub use Rattle.mappings.specs.declared.place.Place.{Place}
 pub use Rattle.mappings.specs.declared.place.Rights.{Rights}
 pub use Rattle.page_entry.specs.Entry.{Mapped, protected_of, with_writable_of}
 pub use Rattle.page_entry.specs.declared.numbers.FilePage.{FilePage}
 pub use Rattle.page_entry.specs.declared.refusal.Refusal.{Refusal}
-pub use Rattle.page_entry.specs.declared.refusal.Refusal.TheVariants.{Damaged, NotAVolume, OutOfMemory, Einval}
-pub use Rattle.page_table.specs.Table.{outside_range}
+pub use Rattle.page_entry.specs.declared.refusal.Refusal.TheVariants.{Damaged, Einval, NotAVolume, OutOfMemory}
 pub use Rattle.pcid_tlb.proofs.Public.{cached-All}
 pub use Rattle.pcid_tlb.specs.Tlb.{TlbState, cached, evicted, filled, without_page}
 pub use Rattle.pcid_tlb.specs.declared.CachedEntry.{CachedEntry}
@@ -184,27 +183,27 @@ pub use Rattle.std.proofs.lemmas.Bool.{and_from, and_left, and_parts, and_right,
 pub use Rattle.std.proofs.lemmas.Bool.{cases_lt, cond-false, cond-true, cond_both, eq-eqb, eqb-false, eqb-true}
 pub use Rattle.std.proofs.lemmas.Bool.{false_from_ne_true, false≢true, le-leb, leb-false, leb-true, lt-ltb, ltb-false}
 pub use Rattle.std.proofs.lemmas.Bool.{ltb-true, ne_eqb, not-false, not-true, not_from_false, not_from_true, or_from}
-pub use Rattle.std.proofs.lemmas.Bool.{or_left, or_parts, or_right, cases_order}
+pub use Rattle.std.proofs.lemmas.Bool.{or_left, or_parts, or_right}
 pub use Rattle.std.proofs.lemmas.Bool.Decides.{nat_tests}
 pub use Rattle.std.proofs.lemmas.Grind.{common_steps}
 pub use Rattle.std.proofs.lemmas.List.{append-nil, drop-drop, drop-map, drop-take, drop_all, drop_at, drop_more}
 pub use Rattle.std.proofs.lemmas.List.{flat_map_more, get_or-drop, get_or-map, get_or-replicate, get_or-set_other}
 pub use Rattle.std.proofs.lemmas.List.{get_or-set_same, get_or_default, get_or_past, length-append, length-drop}
 pub use Rattle.std.proofs.lemmas.List.{length-map, length-replicate, length-set, length-take, length-take-le}
-pub use Rattle.std.proofs.lemmas.List.{take-append-le, take-take, take_all, take_at, set-get_or}
+pub use Rattle.std.proofs.lemmas.List.{set-get_or, take-append-le, take-take, take_all, take_at}
 pub use Rattle.std.proofs.lemmas.List.Elements.{All-contains, All-drop, All-head, All-map, All-push, All-tail}
 pub use Rattle.std.proofs.lemmas.List.Elements.{All-weaker, Contains-append_cases, Contains-append_left}
 pub use Rattle.std.proofs.lemmas.List.Elements.{Contains-append_right, Contains-get_or, Contains-push}
 pub use Rattle.std.proofs.lemmas.List.Elements.{Contains-push_cases, recursion_from_All}
 pub use Rattle.std.proofs.lemmas.List.Folds.{list_any-append}
-pub use Rattle.std.proofs.lemmas.List.Sums.{sum_by-append, count_by-le-length, sum_by-set}
+pub use Rattle.std.proofs.lemmas.List.Sums.{count_by-le-length, sum_by-append, sum_by-set}
 pub use Rattle.std.proofs.lemmas.Option.{get_or_from_slice_get, slice_get_within}
 pub use Rattle.std.proofs.lemmas.Result.{err_from_is_err_and}
 pub use Rattle.std.specs.Cmp.{nat_cmp_total, unsigned_tied}
-pub use Rattle.std.specs.List.{All, AllByRecursion, Contains, count_by, flat_map, list_any, find}
+pub use Rattle.std.specs.List.{All, AllByRecursion, Contains, count_by, flat_map, list_any}
 pub use Rattle.std.specs.Option.{IfNone, IfSome, option_and_then, option_map, option_map_or, option_or}
 pub use Rattle.std.specs.Ordering.{nat_cmp}
-pub use Rattle.std.specs.Prelude.{MatchBool, nat_lt, IfErr, IfOk, IsTrue}
+pub use Rattle.std.specs.Prelude.{IfErr, IfOk, IsTrue, MatchBool, nat_lt}
 pub use Rattle.volume_codec.proofs.Public.{blocks_from-device, fits_geometry, length-block_at, length-file}
 pub use Rattle.volume_codec.proofs.Public.{length-lengths_in, length-padded, length-zeros, take-past}
 pub use Rattle.volume_codec.proofs.Public.{total_pages-take_le, total_pages-take_more, zeros-nil}

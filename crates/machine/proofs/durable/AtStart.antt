@@ -3,7 +3,7 @@ use Rattle.machine.proofs.Names.{ℕ, zero, suc, ◌≡◌, ◌-◌, ◌*◌, �
 use Rattle.machine.proofs.Names.{drop, map, replicate, get_or, Option, None, is_some, unwrap_or, refl, sym, ap, ◌∙◌}
 use Rattle.machine.proofs.Names.{subst, inl, inr, arith, ◌+◌, ◌≤◌, nat_cmp, cases_lt, cond-false, ne_eqb, false≢true}
 use Rattle.machine.proofs.Names.{length-replicate, get_or-replicate, length-take, length-drop, take_all, append-nil}
-use Rattle.machine.proofs.Names.{take_at, drop_at, drop-drop, drop-take, take-take, take-append_seam, FilePage, Frame}
+use Rattle.machine.proofs.Names.{take_at, drop_at, drop-drop, drop-take, take-take, take-append_seam, FilePage}
 use Rattle.machine.proofs.Names.{all_free, File, TableFile, SuperValue, pages_of, total_pages, geometry_of, block_count}
 use Rattle.machine.proofs.Names.{zeros, padded, zeros-nil, length-padded, length-block_at, length-file, fits_geometry}
 use Rattle.machine.proofs.Names.{Places, AddressSpace, first_spaces, empty_space, Processor, fresh_processor}
@@ -16,13 +16,12 @@ use Rattle.machine.proofs.Names.{stands_first, bytes_at_mark, IsSound, Ghosts, B
 use Rattle.std.specs.FinMap as maps
 use Rattle.frames.specs.Frames.{page_of as page_held}
 use Rattle.machine.specs.History.{page_of}
-use Rattle.machine.proofs.durable.Histories.{length-memory_of}
 use Rattle.machine.proofs.track.ToldSpaces.{AreProcessorsTold, AreSpacesTold, spaces_made}
 use Rattle.machine.proofs.track.Arranged.{arranged_from}
 use Rattle.machine.proofs.track.Pages.{HasPages}
 use Rattle.machine.proofs.sound.Lists.{get_or-replicate-same}
 use Rattle.machine.proofs.durable.Lists.{contains_none}
-use Rattle.machine.proofs.durable.Homes.{capacity_at, pages_within, page_in_capacity, home_is, within_cut}
+use Rattle.machine.proofs.durable.Homes.{nothing_padded, capacity_at, pages_within, page_in_capacity, home_is, within_cut}
 use Rattle.machine.proofs.durable.Marks.{IsDurable}
 
 -- ---- afresh machine is as is told at the start of a run: nothing is mapped, no page is in memory, and memory is th
@@ -67,15 +66,15 @@ length-file_bytes (f ∷ fs) (suc file) =
     length-file_bytes fs file ∙ ap (λ k. length (file_bytes fs k)) (sym less)
     ∙ sym (ap length (cond-false (eqb (suc file) 0) f.bytes (file_bytes fs (suc file - 1)) (ne_eqb (suc file) 0 (λ e. absurd (omega arith)))))
 
-padded_whole : (page : List ℕ) → length page ≡ 4096 → padded 4096 page ≡ page
-padded_whole page whole = ap (λ n. page ++ zeros n) (let none : 4096 - length page ≡ 0 = omega arith in none) ∙ ap (λ z. page ++ z) zeros-nil ∙ append-nil page
+pub length-page_of : (bytes : List ℕ) (page : ℕ) → length (page_of bytes page) ≡ 4096
+length-page_of bytes page = length-padded 4096 (take 4096 (drop (4096 * page) bytes)) (omega (arith, length-take 4096 (drop (4096 * page) bytes)))
 
 -- a page has zeros past the end of its bytes
 plain_page : (bytes : List ℕ) (page n : ℕ) → n ≡ length bytes → page_of bytes page ≡ padded 4096 (take (n - 4096 * page) (page_of bytes page))
 plain_page bytes page n is =
     let rest = drop (4096 * page) bytes in
     let many : length rest ≡ n - 4096 * page = omega (arith, length-drop (4096 * page) bytes) in
-    let whole : length (page_of bytes page) ≡ 4096 = length-padded 4096 (take 4096 rest) (omega (arith, length-take 4096 rest)) in
+    let whole : length (page_of bytes page) ≡ 4096 = length-page_of bytes page in
     elim (cases_lt (n - 4096 * page) 4096) [
       | inl short ↦
           let all : take 4096 rest ≡ rest = take_all 4096 rest (omega (arith, many, short)) in
@@ -83,7 +82,7 @@ plain_page bytes page n is =
           ap (padded 4096) all ∙ ap (padded 4096) (sym seam) ∙ ap (λ r. padded 4096 (take (n - 4096 * page) (padded 4096 r))) (sym all)
       | inr long ↦
           let all : take (n - 4096 * page) (page_of bytes page) ≡ page_of bytes page = take_all (n - 4096 * page) (page_of bytes page) (omega (arith, whole, long)) in
-          sym (padded_whole (page_of bytes page) whole) ∙ ap (padded 4096) (sym all)
+          sym (nothing_padded 4096 (page_of bytes page) whole) ∙ ap (padded 4096) (sym all)
     ]
 
 module _ (files : List File) (table : SuperValue) (lengths : List ℕ) (shape : Shape) (has : HasFiles files (fresh table lengths shape)) where
@@ -100,7 +99,7 @@ module _ (files : List File) (table : SuperValue) (lengths : List ℕ) (shape : 
   pages_fresh = record {
     files_are = has;
     latest = record {
-      whole = λ file page. length-memory_of files file page;
+      whole = λ file page. length-page_of (file_bytes files file) page;
       latest = λ frame owner holds. absurd (none_held shape.frames shape.copies frame owner holds);
     };
     touched = λ owner. (λ is. absurd (false≢true is), λ d. absurd (none_held shape.frames shape.copies d.0 owner d.1));
@@ -207,14 +206,6 @@ page_in_blocks block b n len page are lt le =
     ∙ ap (λ (l : List ℕ). take (len - 4096 * page) (take 4096 l)) there
     ∙ ap (take (len - 4096 * page)) (take_at (block (b + page)) (blocks_from block (b + page + 1) (n - page - 1)) 4096 size)
 
--- ---- blocks of a volume
-
-block_size : (bytes : List ℕ) (count b : ℕ) → 4096 * count ≤ length bytes → b < count → length (block_at bytes b) ≡ 4096
-block_size bytes count b long lt = omega (arith, length-take 4096 (drop (4096 * b) bytes), length-drop (4096 * b) bytes)
-
-pub length-page_of : (bytes : List ℕ) (page : ℕ) → length (page_of bytes page) ≡ 4096
-length-page_of bytes page = length-padded 4096 (take 4096 (drop (4096 * page) bytes)) (omega (arith, length-take 4096 (drop (4096 * page) bytes)))
-
 -- the memory of the files that a volume has
 module _ (s : State) (sound : IsSound s) (seen : List ℕ) (files : List File) (volume : IsVolume s.table [] seen) (files_are : files ≡ files_in s.table (block_at seen)) (lengths_are : s.lengths ≡ lengths_in s.table (block_at seen)) where
   page_first : (owner : FilePage) → IsInFile s owner → memory_of files owner.file owner.page ≡ cut_at_end s owner (block_at seen (home_of s.table owner))
@@ -227,12 +218,12 @@ module _ (s : State) (sound : IsSound s) (seen : List ℕ) (files : List File) (
       let before = pages_within s.table.files owner.file is.there in
       let inside = is.inside in
       ap (λ (l : List ℕ). padded 4096 (take 4096 (drop (4096 * owner.page) l))) bytes
-      ∙ ap (padded 4096) (page_in_blocks (block_at seen) b n (length_of s owner.file) owner.page (λ i low high. block_size seen (block_count s.table) i volume.long (omega (arith, before, high))) (page_in_capacity s sound owner is) (omega (arith, inside)))
+      ∙ ap (padded 4096) (page_in_blocks (block_at seen) b n (length_of s owner.file) owner.page (λ i low high. length-block_at seen i (let long = volume.long in omega (arith, long, before, high))) (page_in_capacity s sound owner is) (omega (arith, inside)))
 
   first_parts : HasParts s (block_at seen) (memory_of files)
   first_parts owner is =
       sym (ap (within_file s owner) (page_first owner is)
-      ∙ within_cut s owner (block_at seen (home_of s.table owner)) (block_size seen (block_count s.table) (home_of s.table owner) volume.long (home_is s sound owner is).high))
+      ∙ within_cut s owner (block_at seen (home_of s.table owner)) (length-block_at seen (home_of s.table owner) (let long = volume.long in let below = (home_is s sound owner is).high in omega (arith, long, below))))
 
 pub durable_at_start : {D : Type 0} (ghosts : Ghosts D) (files : List File) (start : Whole D) → IsSound start.state → Begins ghosts files start
     → IsDurable files (told_first files start.state) start.state (ghosts.seen start.device) (ghosts.may_leave start.device)

@@ -7,7 +7,7 @@ use Rattle.machine.proofs.Names.{files_in, take-past, length-padded, zeros-nil, 
 use Rattle.machine.proofs.Names.{bytes_of_pages, files_from_memory, Event, file_bytes, memory_of, files_after, State}
 use Rattle.machine.proofs.Names.{home_of, length_of, IsInFile, IsSound, HasParts, HasFiles, zeros, AreDurable}
 use Rattle.machine.specs.History.{files_in as files_of, page_of}
-use Rattle.machine.proofs.durable.AtStart.{file_bytes-next}
+use Rattle.machine.proofs.durable.AtStart.{file_bytes-next, length-page_of}
 
 -- ---- the bytes of one file
 
@@ -151,8 +151,7 @@ block_padded bytes page inside =
 bytes_as_pages : (bytes : List ℕ) → bytes_of_pages (page_of bytes) (length bytes) ≡ bytes
 bytes_as_pages bytes =
     let n = pages_of (length bytes) in
-    let whole : (page : ℕ) → length (page_of bytes page) ≡ 4096 =
-    λ page. length-padded 4096 (take 4096 (drop (4096 * page) bytes)) (omega (arith, length-take 4096 (drop (4096 * page) bytes))) in
+    let whole : (page : ℕ) → length (page_of bytes page) ≡ 4096 = λ page. length-page_of bytes page in
     let parts : (page : ℕ) → 4096 * page < length bytes → take (length bytes - 4096 * page) (block_at bytes (0 + page)) ≡ take (length bytes - 4096 * page) (page_of bytes (0 + page)) =
     λ page inside. (let place : page ≡ 0 + page = omega arith in
     ap (λ (k : ℕ). take (length bytes - 4096 * page) (block_at bytes k)) (sym place) ∙ block_padded bytes page inside ∙ ap (λ (k : ℕ). take (length bytes - 4096 * page) (page_of bytes k)) place) in

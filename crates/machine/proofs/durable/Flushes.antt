@@ -6,9 +6,8 @@ use Rattle.machine.proofs.Names.{option_map_or, option_and_then, cond-false, cas
 use Rattle.machine.proofs.Names.{not_from_true, or_parts, append-nil, drop_more, length-take, list_any-append}
 use Rattle.machine.proofs.Names.{Contains-push, Contains-get_or, All-contains, FilePage, length-padded, Frame, bytes_of}
 use Rattle.machine.proofs.Names.{frame_at, page_of, IsBefore, before_each, is_of_page, AreRising, Stage, Recording}
-use Rattle.machine.proofs.Names.{Describing, SyncingRecords, Opening, Committing, Applying, SyncingHomes, Closing}
-use Rattle.machine.proofs.Names.{Finishing, Committed, Broken, answer_at, WriteOut, next_stage, has_committed}
-use Rattle.machine.proofs.Names.{advanced_of, record_at, next_record, next_home, answer_of, broken_after}
+use Rattle.machine.proofs.Names.{Committing, Applying, Committed, Broken, answer_at, WriteOut, next_stage}
+use Rattle.machine.proofs.Names.{has_committed, advanced_of, record_at, next_record, next_home, answer_of, broken_after}
 use Rattle.machine.proofs.Names.{WriteOutsValue, has_uncommitted, advanced, outs_record, outs_home, next_answer}
 use Rattle.machine.proofs.Names.{outs_after, current_stage, batches_after, AreInOrder, stage_at-is, after_committing}
 use Rattle.machine.proofs.Names.{newest_of, current-newest, advanced-newest, committed-at, current_committed}

@@ -6,11 +6,10 @@ use Rattle.machine.proofs.Names.{and_from, and_left, and_right, eq-eqb, ne_eqb, 
 use Rattle.machine.proofs.Names.{and_parts, false_from_ne_true, length-take, append-nil, File, length-padded, overwrite}
 use Rattle.machine.proofs.Names.{length-overwrite, Memory, Event, Mark, Acknowledge, memory_of, file_bytes, stored}
 use Rattle.machine.proofs.Names.{after, touched_after, is_touched, unmarked_after, has_unmarked, Contains, All}
-use Rattle.machine.proofs.Names.{Contains-append_left, Contains-append_cases, Contains-push_cases, Contains-get_or}
-use Rattle.machine.proofs.Names.{HasAcknowledged, IsLost, IsWaiting, AreMarks, AreTouched, change_in, HasParts}
-use Rattle.machine.proofs.Names.{AreContentsOf, IsWritten, State, home_of, cut_at_end, FilePage, MarkMade}
-use Rattle.machine.proofs.Names.{bytes_at_mark, Told, SuperValue, WriteOut, has_committed, WriteOutsValue}
-use Rattle.machine.proofs.Names.{has_uncommitted, Checkpoint, IsInFile, within_file}
+use Rattle.machine.proofs.Names.{Contains-append_left, Contains-append_cases, Contains-get_or, HasAcknowledged, IsLost}
+use Rattle.machine.proofs.Names.{IsWaiting, AreMarks, AreTouched, change_in, HasParts, AreContentsOf, IsWritten, State}
+use Rattle.machine.proofs.Names.{home_of, cut_at_end, FilePage, MarkMade, bytes_at_mark, Told, SuperValue, WriteOut}
+use Rattle.machine.proofs.Names.{has_committed, WriteOutsValue, has_uncommitted, Checkpoint, IsInFile, within_file}
 use Rattle.machine.specs.History.{Store}
 use Rattle.machine.proofs.durable.Lists.{contains_none, first_or, only_one}
 
@@ -53,11 +52,6 @@ length-stored memory file page at bytes f p whole fits small =
     cond_both (eqb f file && eqb p ((4096 * page + at) / 4096)) (overwrite (memory f p) ((4096 * page + at) % 4096) bytes) (memory f p) (λ (l : List ℕ). length l ≡ 4096)
     (λ e. length-overwrite (memory f p) ((4096 * page + at) % 4096) bytes (omega (arith, inner, whole f p)) ∙ whole f p)
     (λ e. whole f p)
-
-pub length-memory_of : (files : List File) (file page : ℕ) → length (memory_of files file page) ≡ 4096
-length-memory_of files file page =
-    let bytes = drop (4096 * page) (file_bytes files file) in
-    length-padded 4096 (take 4096 bytes) (omega (arith, length-take 4096 bytes))
 
 -- ---- touched pages
 

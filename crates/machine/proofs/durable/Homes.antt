@@ -1,14 +1,14 @@
 -- Home blocks: they lie in the volume, and no two pages of files share one.
 use Rattle.machine.proofs.Names.{◌≡◌, ℕ, zero, suc, ◌+◌, ◌*◌, ◌<◌, ◌≤◌, List, [], ◌∷◌, length, map, take, get_or, ap}
 use Rattle.machine.proofs.Names.{inl, inr, arith, ◌-◌, eqb, cond, false, ◌++◌, Option, Some, None, refl, sym, ◌∙◌}
-use Rattle.machine.proofs.Names.{subst, true, cases_order, cond-true, cond-false, cases_Bool, cases_lt, both_ways}
-use Rattle.machine.proofs.Names.{ne_eqb, eqb-true, eqb-false, false_from_ne_true, FilePage, TableFile, File, IsHome}
-use Rattle.machine.proofs.Names.{first_home, block_at, pages_of, total_pages, geometry_of, State, home_of, length_of}
-use Rattle.machine.proofs.Names.{cut_at_end, page_from, IsInFile, within_file, IsSound, Contains, list_any, All}
-use Rattle.machine.proofs.Names.{take_at, take_all, length-take, append-nil, zeros, padded, zeros-nil, Frame, frame_at}
-use Rattle.machine.proofs.Names.{bytes_of, page_of, Holds, is_of_page, is_frozen, same_page, bytes_with, bytes_at_mark}
-use Rattle.machine.proofs.Names.{total_pages-take_more, total_pages-take_le, All-contains, is_in_memory, WriteOut}
-use Rattle.machine.proofs.Names.{HasBlock, memory_of, after, is_touched, Told, IsTracked}
+use Rattle.machine.proofs.Names.{subst, true, cond-true, cond-false, cases_Bool, cases_lt, both_ways, ne_eqb, eqb-true}
+use Rattle.machine.proofs.Names.{eqb-false, false_from_ne_true, FilePage, TableFile, File, IsHome, block_at, pages_of}
+use Rattle.machine.proofs.Names.{total_pages, geometry_of, State, home_of, length_of, cut_at_end, page_from, IsInFile}
+use Rattle.machine.proofs.Names.{within_file, IsSound, Contains, list_any, All, take_at, take_all, length-take}
+use Rattle.machine.proofs.Names.{append-nil, zeros, padded, zeros-nil, Frame, frame_at, bytes_of, page_of, Holds}
+use Rattle.machine.proofs.Names.{is_of_page, is_frozen, same_page, bytes_with, bytes_at_mark, total_pages-take_more}
+use Rattle.machine.proofs.Names.{total_pages-take_le, All-contains, is_in_memory, WriteOut, HasBlock, memory_of, after}
+use Rattle.machine.proofs.Names.{is_touched, Told, IsTracked}
 use Rattle.machine.proofs.sound.Homes.{home-below, same_home}
 use Rattle.machine.proofs.durable.Lists.{none_some, contains_head, contains_cons, contains_unmapped}
 use Rattle.machine.proofs.durable.Pages.{holder, bytes_with-held}
@@ -35,7 +35,7 @@ module _ (s : State) (sound : IsSound s) where
 
 -- ---- a page up to its file's end
 
-nothing_padded : (n : ℕ) (t : List ℕ) → length t ≡ n → padded n t ≡ t
+pub nothing_padded : (n : ℕ) (t : List ℕ) → length t ≡ n → padded n t ≡ t
 nothing_padded n t size = let none : n - length t ≡ 0 = omega arith in ap (λ k. t ++ zeros k) none ∙ ap (λ (z : List ℕ). t ++ z) zeros-nil ∙ append-nil t
 
 -- what is padded keeps its first bytes

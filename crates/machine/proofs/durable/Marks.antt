@@ -1,6 +1,6 @@
 -- A mark: what was New becomes Old, and New gets the gathered pages; where nothing was stored both stay and Old plays no part; of a broken machine both stay and the mark is lost.
-use Rattle.machine.proofs.Names.{◌≡◌, ◌<◌, ◌≤◌, ◌+◌, ◌^◌, ◌==◌, ◌⊎◌, ℕ, cond, Bool, true, false, not, List, [], ◌∷◌}
-use Rattle.machine.proofs.Names.{◌++◌, length, map, get_or, Some, None, inl, inr, refl, sym, ap, ◌∙◌, subst, arith}
+use Rattle.machine.proofs.Names.{◌≡◌, ◌<◌, ◌≤◌, ◌+◌, ◌^◌, ◌==◌, ℕ, cond, Bool, true, false, not, List, [], ◌∷◌, ◌++◌}
+use Rattle.machine.proofs.Names.{length, map, get_or, Some, None, inl, inr, refl, sym, ap, ◌∙◌, subst, arith}
 use Rattle.machine.proofs.Names.{append_assoc, Contains, All, AllByRecursion, cond-true, cond-false, cases_Bool}
 use Rattle.machine.proofs.Names.{both_ways, or_parts, not_from_true, not_from_false, false_from_ne_true}
 use Rattle.machine.proofs.Names.{Contains-append_left, Contains-append_right, Contains-append_cases, Contains-push}
@@ -11,7 +11,7 @@ use Rattle.machine.proofs.Names.{stands_begun, stands_other, Checkpoint, Spaces,
 use Rattle.machine.proofs.Names.{without_notes, Event, Memory, Mark, Acknowledge, memory_of, after, has_unmarked}
 use Rattle.machine.proofs.Names.{is_touched, State, home_of, cut_at_end, MarkMade, end_change, with_batch}
 use Rattle.machine.proofs.Names.{bytes_at_mark, IsSound, Told, change_in, HasParts, AreContentsOf, HasAcknowledged}
-use Rattle.machine.proofs.Names.{IsLost, IsWaiting, AreMarks, IsWritten, IsLatest, AreTouched, IsInFile, within_file}
+use Rattle.machine.proofs.Names.{IsWaiting, IsWritten, IsLatest, AreTouched, IsInFile, within_file}
 use Rattle.machine.proofs.durable.Histories.{marked_by, after_mark, after_marked, only_itself, only_marked, unmarked_by_touched, in_history, acknowledged_more, some_touched, contents_more}
 use Rattle.machine.proofs.durable.Uncommitted.{committed_frozen, none_uncommitted, begun_early}
 use Rattle.machine.proofs.durable.Homes.{within_cut, overlaid, overlaid-other, overlaid-at, overlaid-elsewhere, bytes_at_mark-held}

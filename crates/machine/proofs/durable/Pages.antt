@@ -1,15 +1,15 @@
 -- Which pages frames and copies have, and with what bytes, after each change of them; and what frozen pages had at their mark.
 use Rattle.machine.proofs.Names.{ℕ, ◌≡◌, ◌≢◌, true, false, List, slice_get, Option, Some, None, refl, sym, ap, ◌∙◌, inl}
-use Rattle.machine.proofs.Names.{inr, ◌⊎◌, ◌<◌, ◌||◌, zero, suc, eqb, cond, [], ◌∷◌, length, map, get_or, set, arith}
-use Rattle.machine.proofs.Names.{not, subst, cases_eq, false_from_ne_true, false≢true, cond-true, cond-false, both_ways}
-use Rattle.machine.proofs.Names.{and_parts, and_from, eqb-true, eq-eqb, or_parts, or_left, or_right, cases_Bool}
-use Rattle.machine.proofs.Names.{not-true, not_from_false, FilePage, FramesState, Frame, frame_at, bytes_of, overwrite}
-use Rattle.machine.proofs.Names.{overwrite_frame, with_page, with_bytes, without_frame, page_of, with_copy}
-use Rattle.machine.proofs.Names.{frame_at-free, frame_at-with_page_same, frame_at-with_page_other}
-use Rattle.machine.proofs.Names.{frame_at-with_bytes_same, frame_at-without_frame_same, frame_at-without_frame_other}
-use Rattle.machine.proofs.Names.{same_page-true, same_page-refl, list_any-has_page, has_page-list_any, Holds, same_page}
-use Rattle.machine.proofs.Names.{is_of_page, freed_copy, is_copied, is_frozen, is_held, is_in_memory, Contains}
-use Rattle.machine.proofs.Names.{list_any, bytes_with, MayLeave, bytes_at_mark, All-contains, slice_get_within}
+use Rattle.machine.proofs.Names.{inr, ◌⊎◌, ◌<◌, ◌||◌, zero, suc, cond, [], ◌∷◌, length, map, get_or, set, arith, not}
+use Rattle.machine.proofs.Names.{subst, cases_eq, false_from_ne_true, false≢true, cond-true, cond-false, both_ways}
+use Rattle.machine.proofs.Names.{and_parts, and_from, or_parts, or_left, or_right, cases_Bool, not-true, not_from_false}
+use Rattle.machine.proofs.Names.{FilePage, FramesState, Frame, frame_at, bytes_of, overwrite, overwrite_frame}
+use Rattle.machine.proofs.Names.{with_page, with_bytes, without_frame, page_of, with_copy, frame_at-free}
+use Rattle.machine.proofs.Names.{frame_at-with_page_same, frame_at-with_page_other, frame_at-with_bytes_same}
+use Rattle.machine.proofs.Names.{frame_at-without_frame_same, frame_at-without_frame_other, same_page-true}
+use Rattle.machine.proofs.Names.{same_page-refl, list_any-has_page, has_page-list_any, Holds, same_page, is_of_page}
+use Rattle.machine.proofs.Names.{freed_copy, is_copied, is_frozen, is_held, is_in_memory, Contains, list_any}
+use Rattle.machine.proofs.Names.{bytes_with, MayLeave, bytes_at_mark, All-contains, slice_get_within}
 use Rattle.machine.proofs.Names.{get_or_from_slice_get, HasBlock, State, home_of, IsSound}
 use Rattle.machine.proofs.durable.Lists.{some_same, none_some}
 use Rattle.machine.proofs.sound.Frames.{in_memory_held, held_in_memory, page_of-overwrite}

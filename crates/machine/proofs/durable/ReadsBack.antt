@@ -1,15 +1,15 @@
 -- What a crash may leave reads back as the files after a durable prefix of the history; no store reaches a frozen page whose bytes aren't copied.
 use Rattle.machine.proofs.Names.{ℕ, ◌⊎◌, inl, inr, List, Option, Some, None, ◌≡◌, Bool, true, false, MatchBool, refl}
 use Rattle.machine.proofs.Names.{sym, ap, ◌∙◌, ◌<◌, length, subst, File, SuperValue, Recovers, RecoversTo, Stage}
-use Rattle.machine.proofs.Names.{Recording, Describing, SyncingRecords, Opening, Committing, Applying, SyncingHomes}
-use Rattle.machine.proofs.Names.{Closing, Finishing, current_stage, LeftWithin, LeftBefore, stands_left, committed-at}
-use Rattle.machine.proofs.Names.{stage_committed, Event, memory_of, after, Mark, files_after, is_touched, State}
-use Rattle.machine.proofs.Names.{ReadsBack, IsSound, Told, AreContentsOf, HasAcknowledged, HasFiles, IsWritten}
-use Rattle.machine.proofs.Names.{IsWaiting, IsTracked, Contains, All, option_map_or, option_and_then, both_ways}
-use Rattle.machine.proofs.Names.{false_from_ne_true, All-contains, is_committed, WriteOut, next_stage, has_committed}
-use Rattle.machine.proofs.Names.{AreInOrder, IsAcknowledged, IsOld, IsNew, StopsBefore, StopsWithin, StopsInStep, Stops}
-use Rattle.machine.proofs.Names.{Mapped, FilePage, entry_at, processor_at, IsUsable, Holds, is_held, page_at, MarkMade}
-use Rattle.machine.proofs.Names.{IsInFile, HasPart, AreFrozenProtected}
+use Rattle.machine.proofs.Names.{Recording, Describing, SyncingRecords, Opening, Committing, current_stage, LeftWithin}
+use Rattle.machine.proofs.Names.{LeftBefore, stands_left, committed-at, stage_committed, Event, memory_of, after, Mark}
+use Rattle.machine.proofs.Names.{files_after, is_touched, State, ReadsBack, IsSound, Told, AreContentsOf}
+use Rattle.machine.proofs.Names.{HasAcknowledged, HasFiles, IsWritten, IsWaiting, IsTracked, Contains, All}
+use Rattle.machine.proofs.Names.{option_map_or, option_and_then, both_ways, false_from_ne_true, All-contains}
+use Rattle.machine.proofs.Names.{is_committed, WriteOut, next_stage, has_committed, AreInOrder, IsAcknowledged, IsOld}
+use Rattle.machine.proofs.Names.{IsNew, StopsBefore, StopsWithin, StopsInStep, Stops, Mapped, FilePage, entry_at}
+use Rattle.machine.proofs.Names.{processor_at, IsUsable, Holds, is_held, page_at, MarkMade, IsInFile, HasPart}
+use Rattle.machine.proofs.Names.{AreFrozenProtected}
 use Rattle.journal.specs.WriteOuts.{current}
 use Rattle.machine.proofs.durable.FileParts.{files_have}
 use Rattle.machine.proofs.durable.Marks.{IsDurable, committed, clean}

@@ -1,14 +1,13 @@
 -- Batches that aren't committed: a step makes none of one that is.
-use Rattle.machine.proofs.Names.{◌≡◌, ◌≤◌, ◌+◌, ◌⊎◌, ℕ, zero, suc, true, false, not, List, [], ◌∷◌, length, Option}
-use Rattle.machine.proofs.Names.{Some, None, inl, inr, refl, sym, ap, ◌∙◌, subst, arith, ◌++◌, map, drop, Contains}
-use Rattle.machine.proofs.Names.{AllByRecursion, flat_map, option_map_or, cond-true, cond-false, cases_Bool, both_ways}
-use Rattle.machine.proofs.Names.{or_from, not_from_true, false_from_ne_true, Contains-append_right, Batch, Flushed}
-use Rattle.machine.proofs.Names.{Going, Committed, Done, Device, Broken, Stage, Recording, Describing, SyncingRecords}
-use Rattle.machine.proofs.Names.{Opening, Committing, Applying, SyncingHomes, Closing, Finishing, is_committed}
-use Rattle.machine.proofs.Names.{answer_at, WriteOut, begun_of, next_stage, has_committed, advanced_of, answer_of}
-use Rattle.machine.proofs.Names.{has_uncommitted, advanced, batches_after, HasBlock, IsOlder, AreInOrder, IsAt}
-use Rattle.machine.proofs.Names.{stage_is, committed_parts, done_committed, IsWaiting, drop_all, FilePage, State}
-use Rattle.machine.proofs.Names.{home_of, IsSound, waiting_homes}
+use Rattle.machine.proofs.Names.{◌≡◌, ◌≤◌, ◌+◌, ◌⊎◌, ℕ, zero, suc, true, false, not, List, [], ◌∷◌, Option, Some, None}
+use Rattle.machine.proofs.Names.{inl, inr, refl, sym, ap, ◌∙◌, subst, arith, map, drop, Contains, AllByRecursion}
+use Rattle.machine.proofs.Names.{option_map_or, cond-true, cond-false, cases_Bool, both_ways, or_from, not_from_true}
+use Rattle.machine.proofs.Names.{false_from_ne_true, Contains-append_right, Batch, Flushed, Going, Committed, Done}
+use Rattle.machine.proofs.Names.{Device, Broken, Stage, Recording, Describing, SyncingRecords, Opening, Committing}
+use Rattle.machine.proofs.Names.{is_committed, answer_at, WriteOut, begun_of, next_stage, has_committed, advanced_of}
+use Rattle.machine.proofs.Names.{answer_of, has_uncommitted, advanced, batches_after, HasBlock, IsOlder, AreInOrder}
+use Rattle.machine.proofs.Names.{IsAt, stage_is, committed_parts, done_committed, IsWaiting, FilePage, State, home_of}
+use Rattle.machine.proofs.Names.{IsSound, waiting_homes}
 use Rattle.journal.specs.WriteOuts.{current}
 use Rattle.machine.proofs.sound.Waiting.{waiting-none, blocks, committed_steps, committed_still}
 use Rattle.machine.proofs.durable.Lists.{first_or, some_same, none_some, nothing_mapped}

@@ -1,13 +1,12 @@
 -- Which frames are dirty after entries and notes change.
-use Rattle.machine.proofs.Names.{ℕ, zero, suc, ◌≡◌, ◌⊎◌, ◌↔◌, Bool, true, false, not, ◌&&◌, ◌||◌, cond, eqb, List}
-use Rattle.machine.proofs.Names.{length, replicate, get_or, Option, Some, None, IsSome, refl, sym, ap, ◌∙◌, subst, inl}
-use Rattle.machine.proofs.Names.{inr, cases_Bool, cond-true, cond-false, and_parts, and_from, eqb-true, eq-eqb}
-use Rattle.machine.proofs.Names.{false≢true, Mapped, with_writable_of, protected_of, FilePage, Rights, PageRange}
-use Rattle.machine.proofs.Names.{is_among, may_write, FramesState, Frame, frame_at, page_of, Spaces, entry_at}
-use Rattle.machine.proofs.Names.{with_entry, without_mapping, SetsRights, protected_where, entry_at-with_entry}
-use Rattle.machine.proofs.Names.{entry_at-without_mapping, entry_at-remove, CheckpointState, Holds, is_noted, IsDirty}
-use Rattle.machine.proofs.Names.{NotesTaken, IsInRange, IsInSpace, Gathers, ProtectsNoted, without_notes, AreBacked}
-use Rattle.machine.proofs.Names.{page_at, fixed_entry}
+use Rattle.machine.proofs.Names.{ℕ, ◌≡◌, ◌⊎◌, ◌↔◌, Bool, true, false, not, ◌&&◌, ◌||◌, cond, eqb, List, length, Option}
+use Rattle.machine.proofs.Names.{Some, None, IsSome, refl, sym, ap, ◌∙◌, subst, inl, inr, cases_Bool, cond-true}
+use Rattle.machine.proofs.Names.{cond-false, and_parts, and_from, eqb-true, eq-eqb, false≢true, Mapped}
+use Rattle.machine.proofs.Names.{with_writable_of, protected_of, FilePage, Rights, PageRange, is_among, may_write}
+use Rattle.machine.proofs.Names.{FramesState, Frame, frame_at, page_of, Spaces, entry_at, with_entry, without_mapping}
+use Rattle.machine.proofs.Names.{SetsRights, protected_where, entry_at-with_entry, entry_at-without_mapping}
+use Rattle.machine.proofs.Names.{entry_at-remove, CheckpointState, Holds, is_noted, IsDirty, NotesTaken, IsInRange}
+use Rattle.machine.proofs.Names.{IsInSpace, Gathers, ProtectsNoted, without_notes, AreBacked, page_at, fixed_entry}
 use Rattle.std.specs.FinMap as maps
 use Rattle.machine.proofs.sound.Lists.{get_or-replicate-same}
 use Rattle.machine.proofs.durable.Lists.{some_same, none_some}

@@ -1,9 +1,8 @@
 -- What is known of a fault that leads to a place, and against whose service nothing is.
 use Rattle.machine.proofs.Names.{ℕ, ◌≡◌, ◌*◌, ◌/◌, ◌^◌, ◌<◌, Bool, true, false, not, ◌&&◌, ◌||◌, cond, leb, length}
-use Rattle.machine.proofs.Names.{Option, Some, None, Ok, Err, refl, sym, ap, ◌∙◌, subst, not-false, leb-false}
-use Rattle.machine.proofs.Names.{false≢true, Place, may_write, FramesState, has_free, Spaces, place_at, CheckpointState}
-use Rattle.machine.proofs.Names.{page_at, allowed_place, place_of_fault, is_in_memory, copies_out, fault_refusal}
-use Rattle.page_entry.specs.declared.refusal.Refusal.TheVariants as refusals
+use Rattle.machine.proofs.Names.{Option, Some, None, Ok, refl, sym, ap, ◌∙◌, subst, not-false, leb-false, false≢true}
+use Rattle.machine.proofs.Names.{Place, may_write, FramesState, has_free, Spaces, place_at, CheckpointState, page_at}
+use Rattle.machine.proofs.Names.{allowed_place, place_of_fault, is_in_memory, copies_out, fault_refusal}
 
 -- by a test, and the reason or the result of each outcome
 pub by_test : {X P : Type 0} {a rest o : X} (test : Bool) → cond test a rest ≡ o → (test ≡ true → a ≡ o → P) → (test ≡ false → rest ≡ o → P) → P

@@ -1,13 +1,12 @@
 -- Each move of a tracked machine keeps it tracked.
 use Rattle.machine.proofs.Names.{ℕ, ◌≡◌, ◌↔◌, ◌%◌, true, List, [], ◌∷◌, ◌++◌, Option, Some, None, refl, sym, ap, ◌∙◌}
 use Rattle.machine.proofs.Names.{subst, inl, inr, append-nil, Contains, both_ways, FilePage, Place, FramesState, File}
-use Rattle.machine.proofs.Names.{SuperValue, Change, Unmap, Protect, Reclaim, Checkpoint, running, is_there_below}
-use Rattle.machine.proofs.Names.{CheckpointState, IsDirty, IsInSpace, page_at, Hardware, WriteOutsValue, IsStanding}
-use Rattle.machine.proofs.Names.{Event, State, page_from, bytes_at_mark, Told, Pending, Unmapping, Protecting, changed}
-use Rattle.machine.proofs.Names.{place_told, store_at, offset_at, IsSound, IsTracked, change_in, Saying, Silent}
-use Rattle.machine.proofs.Names.{Running, Entering, Mapping, Leaving, Beginning, Ending, Changing, Storing, said}
-use Rattle.machine.proofs.Names.{said_all, IsProcessorTold, AreSpacesTold, ending_of, StoresBytes, Move, Moves, Replace}
-use Rattle.machine.proofs.Names.{Remap, Destroy, Begin, End, Store, Bring, Copy, Drop}
+use Rattle.machine.proofs.Names.{SuperValue, Change, Checkpoint, running, is_there_below, CheckpointState, IsDirty}
+use Rattle.machine.proofs.Names.{IsInSpace, page_at, Hardware, WriteOutsValue, IsStanding, Event, State, page_from}
+use Rattle.machine.proofs.Names.{bytes_at_mark, Told, Pending, Unmapping, Protecting, changed, place_told, store_at}
+use Rattle.machine.proofs.Names.{offset_at, IsSound, IsTracked, change_in, Saying, Changing, Storing, said, said_all}
+use Rattle.machine.proofs.Names.{IsProcessorTold, AreSpacesTold, ending_of, StoresBytes, Move, Moves, Replace, Remap}
+use Rattle.machine.proofs.Names.{Destroy, Begin, End, Store, Bring, Copy, Drop}
 use Rattle.std.specs.FinMap as maps
 use Rattle.machine.proofs.moves.Kept.{move_sound}
 use Rattle.machine.proofs.durable.Lists.{some_same, none_some}

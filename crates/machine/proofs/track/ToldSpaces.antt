@@ -1,19 +1,16 @@
 -- Processors and spaces as they are told: the current space of each processor and whether it goes on, which spaces there are, and what each maps.
 use Rattle.machine.proofs.Names.{set-get_or, ℕ, ◌≡◌, ◌<◌, Bool, true, false, cond, eqb, List, length, get_or, set, refl}
-use Rattle.machine.proofs.Names.{sym, ap, ◌∙◌, inl, inr, arith, ◌≢◌, ◌+◌, not, ◌&&◌, ◌||◌, Option, Some, None, is_some}
+use Rattle.machine.proofs.Names.{sym, ap, ◌∙◌, inl, inr, arith, ◌≢◌, not, ◌&&◌, ◌||◌, Option, Some, None, is_some}
 use Rattle.machine.proofs.Names.{unwrap_or, subst, cases_eq, cond-true, cond-false, eq-eqb, ne_eqb, length-set}
 use Rattle.machine.proofs.Names.{get_or-set_same, get_or-set_other, Invpcid, SingleContext, Change, Spaces}
-use Rattle.machine.proofs.Names.{AddressSpace, empty_space, has_space, space_at, with_space, with_entry, with_mapping}
-use Rattle.machine.proofs.Names.{without_mapping, SetsRights, touches, ProcState, Active, Interrupted, Stalled}
-use Rattle.machine.proofs.Names.{Initiating, Idle, Processor, is_running, is_concerned, queued, told, ShootdownState}
+use Rattle.machine.proofs.Names.{AddressSpace, empty_space, has_space, space_at, with_space, touches, ProcState, Active}
+use Rattle.machine.proofs.Names.{Initiating, Processor, is_running, is_concerned, queued, told, ShootdownState}
 use Rattle.machine.proofs.Names.{processor_at, state_of, current, with_processor, state_when_begun, destroyed}
 use Rattle.machine.proofs.Names.{processor_at-with_same, processor_at-with_other, length-with_processor}
 use Rattle.machine.proofs.Names.{processor_at-begun, state-begun_one, current-begun, length-begun}
 use Rattle.machine.proofs.Names.{processor_at-destroyed, length-destroyed, current-destroyed, nat_cmp, nat_cmp_total}
-use Rattle.machine.proofs.Names.{unsigned_tied, Place, Rights, PageRange, Places, with_range, without_range}
-use Rattle.machine.proofs.Names.{with_rights, Mapped, outside_range, has_space-with_space, space_at-with_space_same}
-use Rattle.machine.proofs.Names.{space_at-with_space_other, has_space-remove, space_at-remove, has_space-with_entry}
-use Rattle.machine.proofs.Names.{places-with_entry}
+use Rattle.machine.proofs.Names.{unsigned_tied, Places, has_space-with_space, space_at-with_space_same}
+use Rattle.machine.proofs.Names.{space_at-with_space_other, has_space-remove, space_at-remove}
 use Rattle.shootdown.specs.Shootdown.{begun}
 use Rattle.std.specs.FinMap as maps
 

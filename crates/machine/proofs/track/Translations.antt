@@ -1,4 +1,5 @@
 -- What a translation that is made goes through, where a load that is made reads, and where a store that is made writes.
+use Rattle.std.proofs.lemmas.Bool.{or_right}
 use Rattle.machine.proofs.Names.{ℕ, ◌≡◌, ◌⊎◌, Bool, true, false, not, ◌&&◌, ◌||◌, cond, Option, Some, None, Result, Ok}
 use Rattle.machine.proofs.Names.{Err, refl, sym, ap, ◌∙◌, subst, inl, inr, ◌≢◌, ◌/◌, ◌%◌, List, take, drop, and_parts}
 use Rattle.machine.proofs.Names.{not-false, Mapped, CachedEntry, cached, cached-All, entry_at, place_at, with_entry}
@@ -134,10 +135,6 @@ pub record HasStored (h : Hardware) (c : CheckpointState) (p va : ℕ) (bytes : 
   pub dirty_still : (f : ℕ) → IsDirty h.spaces c f → IsDirty new.spaces c f
   pub dirty_before : (f : ℕ) → f ≢ frame → IsDirty new.spaces c f → IsDirty h.spaces c f
 
-true_or : (b : Bool) → (b || true) ≡ true
-true_or true = refl
-true_or false = refl
-
 pub has_stored : (h : Hardware) (c : CheckpointState) (p va : ℕ) (bytes : List ℕ) (new : Hardware) → Coheres h.spaces h.shootdown → AreBacked h.memory c h.spaces → StoreMade h p va bytes new → HasStored h c p va bytes new
 has_stored h c p va bytes new coheres backed made =
     let t = is_translated h p (va / 4096) true made.frame made.mid coheres made.running made.translation in
@@ -160,12 +157,12 @@ has_stored h c p va bytes new coheres backed made =
       told = record { lock = told.lock; processors = told.processors; spaces = told.spaces };
       dirty_now = elim t.reached [
         | inl kept ↦ dirty_at made.mid.spaces c pcid page t.entry.frame t.entry (ap (λ (x : Hardware). entry_at x.spaces pcid page) kept.0 ∙ t.present) refl (kept.1 refl)
-        | inr noted ↦ subst (λ (x : Hardware). IsDirty x.spaces c t.entry.frame) (sym noted) (dirty_there h.spaces pcid page now c (true_or t.entry.dirty))
+        | inr noted ↦ subst (λ (x : Hardware). IsDirty x.spaces c t.entry.frame) (sym noted) (dirty_there h.spaces pcid page now c (or_right t.entry.dirty true refl))
       ];
       dirty_still = λ f is. elim t.reached [
         | inl kept ↦ subst (λ (x : Hardware). IsDirty x.spaces c f) (sym kept.0) is
         | inr noted ↦ subst (λ (x : Hardware). IsDirty x.spaces c f) (sym noted) (dirty_kept h.spaces pcid page now c f
-            (λ old at _. (ap (λ (m : Mapped). m.frame) (some_same t.entry old (sym t.present ∙ at)), true_or t.entry.dirty)) is)
+            (λ old at _. (ap (λ (m : Mapped). m.frame) (some_same t.entry old (sym t.present ∙ at)), or_right t.entry.dirty true refl)) is)
       ];
       dirty_before = λ f other is. elim t.reached [
         | inl kept ↦ subst (λ (x : Hardware). IsDirty x.spaces c f) kept.0 is
