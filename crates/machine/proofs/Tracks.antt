@@ -9,8 +9,6 @@ use Rattle.machine.proofs.durable.Steps.{tracked_kept, step_safe}
 use Rattle.machine.proofs.durable.AtStart.{durable_at_start, arranged_at_start, pages_at_start, files_at_start}
 use Rattle.machine.proofs.track.Lawful.{lawful}
 
--- ---- each step of a tracked machine keeps it tracked, so the laws hold of a run that began on a volume at rest
-
 -- ---- lists of steps and replies, one longer
 
 module _ {D : Type 0} (Safe : Told → Whole D → Step → Reply → Whole D → Type 0) where

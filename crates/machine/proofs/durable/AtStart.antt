@@ -25,8 +25,6 @@ use Rattle.machine.proofs.sound.Homes.{capacity_at, total_pages-within, page_bel
 use Rattle.machine.proofs.durable.Homes.{nothing_padded, home_is, within_cut}
 use Rattle.machine.proofs.durable.Marks.{IsDurable}
 
--- ---- afresh machine is as is told at the start of a run: nothing is mapped, no page is in memory, and memory is th
-
 -- ---- what is told of processors and spaces
 
 no_spaces : AreSpacesTold maps.empty maps.empty
@@ -146,8 +144,6 @@ files_at_start files s disk volume files_are lengths_are =
       lengths = ap (map (λ (f : File). length f.bytes)) files_are ∙ lengths_from (block_at disk) b s.table.files whole ∙ sym lengths_are;
       fixed = λ contents. sym lengths_are;
     }
-
--- ---- at the start the device recovers to the files with which the run begins: Old and New are what its home blocks
 
 -- ---- the bytes of a file in the blocks of a volume
 

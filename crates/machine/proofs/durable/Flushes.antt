@@ -1,4 +1,4 @@
--- A step of the write-outs: the record that it writes is what New has; Old and New stay until the batch that wasn't committed is, and then what was New is Old, too.
+-- A step of the write-outs: it writes a record that New has, and once it commits a batch, what was New is Old, too.
 use Rattle.machine.proofs.Names.{◌≡◌, ◌<◌, ◌≤◌, ◌+◌, ◌-◌, ◌*◌, ℕ, true, false, not, List, [], ◌∷◌, ◌++◌, length, map}
 use Rattle.machine.proofs.Names.{take, drop, get_or, Option, Some, None, IsSome, inl, inr, refl, sym, ap, ◌∙◌, subst}
 use Rattle.machine.proofs.Names.{arith, ◌==◌, ◌⊎◌, suc, cond, Bool, Contains, flat_map, list_any, All, option_map}
@@ -29,8 +29,6 @@ use Rattle.machine.proofs.durable.Histories.{calm_of, quiet_nothing, quiet_ackno
 use Rattle.machine.proofs.durable.Marks.{IsDurable}
 use Rattle.machine.proofs.sound.Admitted.{second_not_refused}
 use Rattle.machine.proofs.sound.Records.{few_at_mark}
-
--- ---- the record that a step of the write-outs writes is what New has, and the step that commits a batch leaves none
 
 -- ---- the size of a record
 
@@ -179,8 +177,6 @@ commits batches number ordered some e = by (current batches) refl e
                     (or_from (not (has_committed (advanced_of n.newest))) false (not_from_true (has_committed (advanced_of n.newest)) (subst (λ (x : WriteOut). has_committed (advanced_of x) ≡ true) same late)) refl);
               } in found)
         ]
-
--- ---- astep of the write-outs: Old and New stay, until the batch that wasn't committed is; then what was New is Old
 
 -- ---- what the state is after a step
 

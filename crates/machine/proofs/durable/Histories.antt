@@ -1,4 +1,4 @@
--- Histories that grow: the memory after them, the pages that they touch, their prefixes, and which marks are acknowledged, wait or are lost.
+-- Histories that grow: the memory after them, the pages that they touch, their prefixes and their marks.
 use Rattle.machine.proofs.Names.{◌≡◌, ℕ, ◌+◌, ◌*◌, ◌/◌, ◌%◌, ◌<◌, ◌≤◌, Bool, true, false, ◌&&◌, eqb, if◌then◌else◌}
 use Rattle.machine.proofs.Names.{List, [], ◌∷◌, ◌++◌, length, take, drop, refl, sym, ap, ◌∙◌, inl, inr, arith, ◌⊎◌}
 use Rattle.machine.proofs.Names.{cond, subst, append_assoc, ◌↔◌, ◌-◌, get_or, Some, cond-true, cond-false, cond_both}
@@ -12,8 +12,6 @@ use Rattle.machine.proofs.Names.{home_of, cut_at_end, FilePage, MarkMade, bytes_
 use Rattle.machine.proofs.Names.{has_committed, WriteOutsValue, has_uncommitted, Checkpoint, IsInFile, within_file}
 use Rattle.machine.specs.History.{Store}
 use Rattle.machine.proofs.durable.Lists.{contains_none, first_or, only_one}
-
--- ---- the memory after a history and the pages that it touches, one event at a time
 
 -- ---- memory
 
@@ -103,7 +101,7 @@ quiet_acknowledge history number = record {
   touched = λ file page. touched_after-append file page false history (Acknowledge number ∷ []);
 }
 
--- ---- histories that grow: the memory after them, which pages they touch, and their prefixes
+-- ---- histories that grow
 
 -- a page that got a store after the last mark is a store after it
 pub unmarked_by_touched : (file page : ℕ) (before waits : Bool) (events : List Event) → (before ≡ true → waits ≡ true) → touched_after file page before events ≡ true → unmarked_after waits events ≡ true
@@ -220,7 +218,7 @@ in_history prefix rest history e begins has = subst (λ (l : List Event). Contai
 pub acknowledged_more : (prefix history events : List Event) → ((n : ℕ) → Contains events (Acknowledge n) → Contains prefix (Mark n)) → HasAcknowledged prefix history → HasAcknowledged prefix (history ++ events)
 acknowledged_more prefix history events more has n there = elim (Contains-append_cases history events (Acknowledge n) there) [ inl before ↦ has n before | inr now ↦ more n now ]
 
--- ---- which marks are acknowledged, wait or are lost, where the history grows by events that mark nothing
+-- ---- which marks are acknowledged, wait or are lost
 
 -- what waited is acknowledged by these events, or still waits
 pub marks_more : (before marked history events : List Event) (s x : State) → ((n : ℕ) → Contains events (Mark n) → ⊥)
@@ -288,8 +286,6 @@ module _ (told : Told) (s : State) (p number : ℕ) (new : State) (mark : MarkMa
       empty : (pages : List FilePage) → ((owner : FilePage) → Contains pages owner → ⊥) → pages ≡ []
       empty [] none = refl
       empty (owner ∷ pages) none = absurd (none owner (0, omega arith, refl))
-
--- ---- acts that leave the write-outs and what their records are: what the device recovers to goes with what is told
 
 -- ---- the files stay
 

@@ -19,8 +19,6 @@ module _ (s : State) (sound : IsSound s) where
   pub home_is : (owner : FilePage) → IsInFile s owner → IsHome (geometry_of s.table) (home_of s.table owner)
   home_is owner is = record { low = omega arith; high = home-below s sound.within owner is }
 
--- ---- the contents of a volume with the pages that a mark gathers
-
 -- ---- a page up to its file's end
 
 pub nothing_padded : (n : ℕ) (t : List ℕ) → length t ≡ n → padded n t ≡ t

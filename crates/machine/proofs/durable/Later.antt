@@ -9,7 +9,8 @@ use Rattle.page_entry.specs.declared.refusal.Refusal.TheVariants.{Device}
 recovers_as : (lists : List ℕ → Type 0) (c : List ℕ) (alike : RecoversAs lists c) (files : List File) → RecoversTo alike.0 files → RecoversTo c files
 recovers_as lists c alike files r = record { table = r.table; contents = r.contents; recovers = alike.2 r.table r.contents r.recovers; files_are = r.files_are }
 
--- By the laws of openings: what they leave recovers as what might be left before them, they give what was recovered to, and bytes that recover to files are refused for no reason of theirs.
+-- By the laws of openings: what they leave recovers as what might be left before them, they give what was recovered to,
+-- and bytes that recover to files are refused for no reason of theirs.
 module _ {D : Type 0} (disk : Ghosts D) (seen_is_left : (device : D) → disk.is_honest device → disk.may_leave device (disk.seen device))
     (stays_honest : (n : ℕ) (first later : D) → disk.is_honest first → IsLater disk n first later → disk.is_honest later)
     (left_as : (n : ℕ) (first later : D) (c : List ℕ) → disk.is_honest first → IsLater disk n first later → disk.may_leave later c → RecoversAs (disk.may_leave first) c)

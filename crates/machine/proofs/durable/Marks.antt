@@ -1,4 +1,5 @@
--- A mark: what was New becomes Old, and New gets the gathered pages; where nothing was stored both stay and Old plays no part; of a broken machine both stay and the mark is lost.
+-- A mark: what was New becomes Old, and New gets the gathered pages. Where nothing was stored both stay, and Old plays
+-- no part; of a broken machine both stay and the mark is lost.
 use Rattle.machine.proofs.Names.{◌≡◌, ◌<◌, ◌≤◌, ◌+◌, ◌^◌, ◌==◌, ℕ, cond, Bool, true, false, not, List, [], ◌∷◌, ◌++◌}
 use Rattle.machine.proofs.Names.{length, map, get_or, Some, None, inl, inr, refl, sym, ap, ◌∙◌, subst, arith}
 use Rattle.machine.proofs.Names.{append_assoc, Contains, All, AllByRecursion, cond-true, cond-false, cases_Bool}

@@ -1,4 +1,4 @@
--- Which pages frames and copies have, and with what bytes, after each change of them; and what frozen pages had at their mark.
+-- Which pages frames and copies have, with what bytes, and what frozen pages had at their mark, after each change.
 use Rattle.machine.proofs.Names.{ℕ, ◌≡◌, ◌≢◌, true, false, List, slice_get, Option, Some, None, refl, sym, ap, ◌∙◌, inl}
 use Rattle.machine.proofs.Names.{inr, ◌⊎◌, ◌<◌, ◌||◌, zero, suc, cond, [], ◌∷◌, length, map, get_or, set, arith, not}
 use Rattle.machine.proofs.Names.{subst, cases_eq, false_from_ne_true, false≢true, cond-true, cond-false, both_ways}
@@ -15,8 +15,6 @@ use Rattle.machine.proofs.durable.Lists.{some_same, none_some}
 use Rattle.machine.proofs.sound.Frames.{in_memory_held, held_in_memory, page_of-overwrite}
 use Rattle.machine.proofs.sound.Records.{bytes_with-at, bytes_with-none}
 use Rattle.machine.proofs.durable.Uncommitted.{frozen_block}
-
--- ---- which pages frames hold, and with what bytes, after each change of the frames
 
 -- ---- the same page
 
@@ -92,7 +90,7 @@ held_without memory frame k owner holds =
     absurd (let none : page_of (frame_at (without_frame memory frame) k) ≡ None = ap (λ n. page_of (frame_at (without_frame memory frame) n)) same ∙ ap page_of (frame_at-without_frame_same memory frame) in cc) in
     (other, frame_at-without_frame_other memory frame k other)
 
--- ---- the bytes of a page as they were at its mark: what a change of frames and copies leaves of them
+-- ---- the bytes of a page as they were at its mark
 
 pub same_page-other : (a b : FilePage) → (a ≡ b → ⊥) → same_page a b ≡ false
 same_page-other a b other = false_from_ne_true (same_page a b) (λ e. other (same_page-true a b e))
@@ -174,7 +172,7 @@ contains_frozen owner [] has = absurd (omega (arith, has.1))
 contains_frozen owner (x ∷ xs) (zero, lt, is) = or_left (same_page owner x) (list_any (same_page owner) xs) (ap (same_page owner) is ∙ same_page-refl owner)
 contains_frozen owner (x ∷ xs) (suc k, lt, is) = or_right (same_page owner x) (list_any (same_page owner) xs) (contains_frozen owner xs (k, omega arith, is))
 
--- ---- what frozen pages had at their mark stays: a store reaches none whose bytes aren't copied, a copy has the byte
+-- ---- what frozen pages had at their mark stays
 
 other_page : (owner page : FilePage) → same_page owner page ≡ false → owner ≡ page → ⊥
 other_page owner page other e = both_ways (same_page owner page) other (ap (same_page owner) (sym e) ∙ same_page-refl owner)

@@ -1,4 +1,4 @@
--- What a crash may leave reads back as the files after a durable prefix of the history; no store reaches a frozen page whose bytes aren't copied.
+-- What a crash may leave reads back as the files after a durable prefix of the history; frozen pages are protected.
 use Rattle.machine.proofs.Names.{ℕ, ◌⊎◌, inl, inr, List, Option, Some, None, ◌≡◌, Bool, true, false, MatchBool, refl}
 use Rattle.machine.proofs.Names.{sym, ap, ◌∙◌, ◌<◌, length, subst, File, SuperValue, Recovers, RecoversTo, Stage}
 use Rattle.machine.proofs.Names.{Recording, Describing, SyncingRecords, Opening, Committing, current_stage, LeftWithin}
@@ -16,7 +16,7 @@ use Rattle.machine.proofs.durable.Marks.{IsDurable, committed, clean}
 use Rattle.machine.proofs.durable.Uncommitted.{current_there, waiting_is_current, none_current}
 use Rattle.machine.proofs.durable.Lists.{some_same}
 
--- ---- what a crash may leave reads back as the files after a durable prefix of the history
+-- ---- what a crash may leave reads back
 
 -- what may be left within a step recovers to Old or to New
 pub left_either : (v : SuperValue) (old new : ℕ → List ℕ) (o : Option Stage) (c : List ℕ) → LeftWithin v old new o c → Recovers v old c ⊎ Recovers v new c
@@ -138,8 +138,6 @@ module _ (files : List File) (told : Told) (s : State) (sound : IsSound s) (has 
 -- what a crash now leaves of a tracked machine
 pub tracked_stops : (files : List File) (told : Told) (s : State) (seen : List ℕ) (may : List ℕ → Type 0) → IsTracked files told s seen may → (c : List ℕ) → may c → Stops files told.history s.write_outs c
 tracked_stops files told s seen may t c left = stops_now files told s t.sound t.files_are t.old t.new t.written t.stands.sound.ordered c (t.stands.left c left)
-
--- ---- no store reaches a frozen page whose bytes aren't copied; and at a mark each page that isn't gathered has, up
 
 -- ---- frozen pages
 

@@ -174,8 +174,6 @@ none_current (x ∷ newer) is w there = elim (cases_Bool (has_uncommitted newer)
     found [] some = absurd (both_ways false refl some)
     found (y ∷ l) some = (y, (0, omega arith, refl))
 
--- ---- the frozen pages are those whose records aren't written yet
-
 -- ---- which pages are frozen
 
 module _ (s : State) (sound : IsSound s) where

@@ -212,8 +212,6 @@ lawful files told s disk p act reply new disk' sound a latest rule = record {
   address = address_law told s disk p new disk' a act reply rule;
 }
 
--- ---- aserved fault is served: the access that follows at once answers. From the rules alone
-
 -- ---- a page that has an entry which allows the access is reached
 
 none_err : {X E : Type 0} (x : X) (e : E) → ◌≡◌ {A = Result X E} (Ok x) (Err e) → ⊥
@@ -347,7 +345,7 @@ pub access_answers : (s : State) (disk : List ℕ) (p va : ℕ) (write : Bool) (
     → FixMade s disk p va write mid → IsAccessOf va write act → Acts mid between p act reply new disk' → IsAnswered act reply
 access_answers s disk p va write mid between act reply new disk' made access rule = answers mid between p va write new disk' (ready_after_fix s disk p va write mid made) act reply access rule
 
--- ---- of every run, each served fault is served: the same processor's access of its page that follows at once answer
+-- ---- of every run: the access of its page that follows a served fault at once answers
 
 module _ {D : Type 0} (disk : Ghosts D) (files : List File) where
   -- over an honest device the rules hold of its own bytes

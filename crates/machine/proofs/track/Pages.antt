@@ -1,4 +1,4 @@
--- Files, frames and dirty pages as they are told, and how they stay so where nothing is stored: where no page comes or goes, where one comes into memory, and where one leaves it.
+-- Files, frames and dirty pages as they are told: how they stay so where a page is stored to, comes or goes.
 use Rattle.machine.proofs.Names.{ℕ, ◌≡◌, ◌≢◌, ◌↔◌, ◌*◌, ◌-◌, false, List, ◌++◌, length, take, get_or, None, sym, ap}
 use Rattle.machine.proofs.Names.{◌∙◌, subst, inl, inr, ◌+◌, ◌%◌, ◌<◌, ◌≤◌, true, [], ◌∷◌, Some, refl, arith, cases_Bool}
 use Rattle.machine.proofs.Names.{cases_eq, FilePage, FramesState, bytes_of, frame_at, page_of, without_frame, overwrite}
@@ -67,7 +67,7 @@ module _ (files : List File) (told now : Told) (s new : State) (events : List Ev
   abbrev latest_then : FilePage → List ℕ
   latest_then owner = after (memory_of files) told.history owner.file owner.page
 
-  -- it suffices that frames have the latest bytes, that the same pages are dirty, and that what isn't in memory is plain
+  -- it suffices that frames have the latest bytes, the same pages are dirty, and what isn't in memory is plain
   pages_by : ((frame : ℕ) (owner : FilePage) → Holds new.hardware.memory frame owner → bytes_of (frame_at new.hardware.memory frame) ≡ latest_then owner)
       → ((owner : FilePage) → HasDirty s owner ↔ HasDirty new owner)
       → ((owner : FilePage) → IsInFile s owner → is_in_memory new.hardware.memory owner ≡ false → latest_then owner ≡ cut_at_end s owner (latest_then owner))
@@ -156,7 +156,7 @@ module _ (files : List File) (told now : Told) (s new : State) (events : List Ev
           | inl there ↦ at_home o gone (held_in_memory s.hardware.memory o there)
         ])
 
--- ---- astore changes the page to which its address leads, and touches it
+-- ---- a store changes the page to which its address leads, and touches it
 
 small : (va : ℕ) → va % 4096 < 4096
 small va = omega arith

@@ -1,4 +1,4 @@
--- Processors and spaces as they are told: the current space of each processor and whether it goes on, which spaces there are, and what each maps.
+-- Processors and spaces as they are told: where each processor is, whether it goes on, and what each space maps.
 use Rattle.machine.proofs.Names.{set-get_or, ℕ, ◌≡◌, ◌<◌, Bool, true, false, cond, eqb, List, length, get_or, set, refl}
 use Rattle.machine.proofs.Names.{sym, ap, ◌∙◌, inl, inr, arith, ◌≢◌, not, ◌&&◌, ◌||◌, Option, Some, None, is_some}
 use Rattle.machine.proofs.Names.{unwrap_or, subst, cases_eq, cond-true, cond-false, eq-eqb, ne_eqb, length-set}

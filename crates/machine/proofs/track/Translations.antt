@@ -12,9 +12,10 @@ use Rattle.machine.proofs.durable.Lists.{some_same}
 use Rattle.machine.proofs.track.DirtyFrames.{dirty_at, dirty_kept, dirty_back, dirty_there}
 use Rattle.machine.proofs.track.ToldSpaces.{AreProcessorsTold, told_still, ToldSpaces, AreSpacesTold, spaces_still}
 
--- ---- what a translation that is made goes through: the entry of the page table, also where a cached entry served it
+-- ---- the entry that a translation goes through, also where a cached entry served it
 
--- A translation that reached a frame: through the table's entry, which stays as it was and was dirty before a store, or is noted and cached.
+-- A translation that reached a frame: through the table's entry, which stays and was dirty before a store, or is noted
+-- and cached.
 pub record IsTranslated (h : Hardware) (p page : ℕ) (write : Bool) (frame : ℕ) (new : Hardware) : Type 0 where
   pub entry : Mapped
   pub present : entry_at h.spaces (current h.shootdown p) page ≡ Some entry
@@ -87,7 +88,7 @@ pub filled_cases : (h : Hardware) (p page : ℕ) (there : Bool) (new : Hardware)
 filled_cases h p page there new None present made = inl (ap (λ (x : Bool × Hardware). x.1) made)
 filled_cases h p page there new (Some entry) present made = inr (entry, present, ap (λ (x : Bool × Hardware). x.1) made)
 
--- ---- where a load that is made reads, and a store that is made writes: the frame that holds the page to which the a
+-- ---- where a load that is made reads, and a store that is made writes
 
 -- what a load that was made read
 pub record HasLoaded (h : Hardware) (p va count : ℕ) (bytes : List ℕ) : Type 0 where
