@@ -11,7 +11,7 @@ pub use Rattle.checkpoint.specs.Backing.{AreBacked, HasNotes, page_at}
 pub use Rattle.checkpoint.specs.Checkpoint.{AreRising, CheckpointState, Gathers, Holds, IsDirty, IsInRange, IsInSpace}
 pub use Rattle.checkpoint.specs.Checkpoint.{NotesTaken, ProtectsNoted, freed_copy, fresh_checkpoint, is_copied}
 pub use Rattle.checkpoint.specs.Checkpoint.{is_frozen, is_held, is_noted, is_of_page, released, same_page, thawed}
-pub use Rattle.checkpoint.specs.Checkpoint.{without_copy_of, without_notes}
+pub use Rattle.checkpoint.specs.Checkpoint.{without_copy_of, without_notes, HasDirtyEntry}
 pub use Rattle.cpu.specs.Access.{AccessRefused, Evicts, Faults, Fills, Hardware, IsAccess, IsReachable, LoadMade}
 pub use Rattle.cpu.specs.Access.{StoreMade, Stores, cached_of, filled_by, hardware, serves, translated, translated_by}
 pub use Rattle.cpu.specs.Access.{walk, walked, walked_to}

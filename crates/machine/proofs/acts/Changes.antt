@@ -1,20 +1,18 @@
 -- The moves of changes that are made, but for a mark.
-use Rattle.machine.proofs.Names.{⊎_elim}
-use Rattle.checkpoint.specs.Checkpoint.{HasDirtyEntry}
-use Rattle.machine.proofs.Names.{ℕ, ◌≡◌, ◌≢◌, ◌<◌, ◌&&◌, ◌||◌, Bool, true, false, cond, eqb, List, [], ◌∷◌, length}
-use Rattle.machine.proofs.Names.{Option, Some, None, is_some, refl, sym, ap, ◌∙◌, subst, inl, inr, option_map}
-use Rattle.machine.proofs.Names.{cases_Bool, cases_eq, cond-false, and_from, eq-eqb, ne_eqb, false≢true, Mapped}
-use Rattle.machine.proofs.Names.{FilePage, Place, Places, is_among, without_range, frame_at, page_of, AddressSpace}
-use Rattle.machine.proofs.Names.{Spaces, has_space, space_at, entry_at, place_at, without_mapping, is_place_of}
+use Rattle.machine.proofs.Names.{⊎_elim, HasDirtyEntry, ℕ, ◌≡◌, ◌≢◌, ◌<◌, ◌&&◌, ◌||◌, Bool, true, false, cond, eqb}
+use Rattle.machine.proofs.Names.{List, [], ◌∷◌, length, Option, Some, None, is_some, refl, sym, ap, ◌∙◌, subst, inl}
+use Rattle.machine.proofs.Names.{inr, option_map, cases_eq, and_from, eq-eqb, ne_eqb, false≢true, Mapped, FilePage}
+use Rattle.machine.proofs.Names.{Place, Places, is_among, without_range, frame_at, page_of, AddressSpace, Spaces}
+use Rattle.machine.proofs.Names.{has_space, space_at, entry_at, place_at, without_mapping, is_place_of}
 use Rattle.machine.proofs.Names.{without_entries_of, has_space-without_mapping, space_at-with_space_same}
 use Rattle.machine.proofs.Names.{space_at-with_space_other, place_at-without_mapping, place_at-SetsRights}
 use Rattle.machine.proofs.Names.{place_at-EditsEntries, with_rights_of, AreSpaces-without_mapping, AreSpaces-SetsRights}
 use Rattle.machine.proofs.Names.{AreSpaces-EditsEntries, user_space, ChangesOnlyAffected-without_mapping}
 use Rattle.machine.proofs.Names.{ChangesOnlyAffected-SetsRights, ChangesOnlyAffected-reclaim, IsNoWider-same_places}
-use Rattle.machine.proofs.Names.{IsDirty, IsInRange, page_at, AreBacked-without_mapping, AreBacked-rights_set}
-use Rattle.machine.proofs.Names.{AreBacked-cleared, AreBacked-frozen, same_page-true, State, UnmapMade, ProtectMade}
-use Rattle.machine.proofs.Names.{ReclaimMade, ReclaimKept, end_change, IsSound, Ending, Changing, Silent, ChangesPlaces}
-use Rattle.machine.proofs.Names.{SameDirty, Move, Moves, End, Drop}
+use Rattle.machine.proofs.Names.{IsInRange, page_at, AreBacked-without_mapping, AreBacked-rights_set, AreBacked-cleared}
+use Rattle.machine.proofs.Names.{AreBacked-frozen, same_page-true, State, UnmapMade, ProtectMade, ReclaimMade}
+use Rattle.machine.proofs.Names.{ReclaimKept, end_change, IsSound, Ending, Changing, Silent, ChangesPlaces, SameDirty}
+use Rattle.machine.proofs.Names.{Move, Moves, End, Drop}
 use Rattle.spaces.specs.declared.change.Change.TheVariants as changes
 use Rattle.machine.proofs.sound.Lists.{same_some, kept_some}
 use Rattle.machine.proofs.sound.Ended.{prepared_change}

@@ -21,7 +21,8 @@ use Rattle.machine.proofs.track.Arranged.{arranged_from}
 use Rattle.machine.proofs.track.Pages.{HasPages}
 use Rattle.machine.proofs.sound.Lists.{get_or-replicate-same}
 use Rattle.machine.proofs.durable.Lists.{contains_none}
-use Rattle.machine.proofs.durable.Homes.{nothing_padded, capacity_at, pages_within, page_in_capacity, home_is, within_cut}
+use Rattle.machine.proofs.sound.Homes.{capacity_at, total_pages-within, page_below}
+use Rattle.machine.proofs.durable.Homes.{nothing_padded, home_is, within_cut}
 use Rattle.machine.proofs.durable.Marks.{IsDurable}
 
 -- ---- what is told of processors and spaces
@@ -211,10 +212,10 @@ module _ (s : State) (sound : IsSound s) (seen : List ℕ) (files : List File) (
       let bytes : file_bytes files owner.file ≡ take (length_of s owner.file) (blocks_from (block_at seen) b n) =
       ap (λ (l : List File). file_bytes l owner.file) (files_are ∙ ap (files_from (block_at seen) (first_file_home s.table.layout s.table.slots) s.table.files) (sym lengths_are))
       ∙ file_bytes-from (block_at seen) (first_file_home s.table.layout s.table.slots) s.table.files s.lengths owner.file is.there sound.lengths in
-      let before = pages_within s.table.files owner.file is.there in
+      let before = total_pages-within s.table.files owner.file is.there in
       let inside = is.inside in
       ap (λ (l : List ℕ). padded 4096 (take 4096 (drop (4096 * owner.page) l))) bytes
-      ∙ ap (padded 4096) (page_in_blocks (block_at seen) b n (length_of s owner.file) owner.page (λ i low high. length-block_at seen i (let long = volume.long in omega (arith, long, before, high))) (page_in_capacity s sound owner is) (omega (arith, inside)))
+      ∙ ap (padded 4096) (page_in_blocks (block_at seen) b n (length_of s owner.file) owner.page (λ i low high. length-block_at seen i (let long = volume.long in omega (arith, long, before, high))) (page_below s sound.within owner is) (omega (arith, inside)))
 
   first_parts : HasParts s (block_at seen) (memory_of files)
   first_parts owner is =

@@ -15,19 +15,7 @@ use Rattle.machine.proofs.durable.Pages.{holder, bytes_with-held}
 use Rattle.machine.proofs.sound.Frames.{in_memory_held, held_in_memory}
 use Rattle.machine.proofs.sound.Records.{bytes_with-none}
 
--- the capacity of a file of a table
-abbrev pub capacity_at : List TableFile → ℕ → ℕ
-capacity_at fs i = get_or (map (λ f. f.capacity) fs) i 0
-
--- the blocks of a file lie among those of all
-pub pages_within : (fs : List TableFile) (i : ℕ) → i < length fs → total_pages (take i fs) + pages_of (capacity_at fs i) ≤ total_pages fs
-pages_within fs i there = omega (arith, total_pages-take_more fs i there, total_pages-take_le fs (i + 1))
-
 module _ (s : State) (sound : IsSound s) where
-  -- a page in a file is one of those that the file's capacity has
-  pub page_in_capacity : (owner : FilePage) → IsInFile s owner → owner.page < pages_of (capacity_at s.table.files owner.file)
-  page_in_capacity owner is = let low = sound.within owner.file in omega (arith, is.inside, low)
-
   pub home_is : (owner : FilePage) → IsInFile s owner → IsHome (geometry_of s.table) (home_of s.table owner)
   home_is owner is = record { low = omega arith; high = home-below s sound.within owner is }
 

@@ -1,12 +1,12 @@
 -- What the end of a change leaves of the processors and the page tables.
-use Rattle.machine.proofs.Names.{ℕ, ◌≡◌, ◌+◌, ◌-◌, ◌<◌, eqb, Bool, true, false, cond, List, [], length, drop, map, Some}
-use Rattle.machine.proofs.Names.{None, refl, sym, ap, ◌∙◌, subst, arith, eqb-true, eq-eqb, get_or-drop, length-drop}
-use Rattle.machine.proofs.Names.{FilePage, Place, FramesState, WriteOut, WriteOutsValue, HasBlock, Change, Spaces}
-use Rattle.machine.proofs.Names.{AreSpaces, has_space, place_at, ChangesOnlyAffected, Contains-map, in_flat_map, Lock}
-use Rattle.machine.proofs.Names.{woken, processor_at, interrupted, IsUnused, IsNoWider, at-with_processor}
-use Rattle.machine.proofs.Names.{IsShootdown-finished, IsUnused-from_Coheres, Coheres-finished, Coheres-changed}
-use Rattle.machine.proofs.Names.{CheckpointState, State, home_of, not_there, lock_refusal, MayChange, end_change}
-use Rattle.machine.proofs.Names.{IsPrepared, AreSpacesSound, AreWriteOutsSound, IsSound, waiting_homes}
+use Rattle.machine.proofs.Names.{ℕ, ◌≡◌, ◌<◌, eqb, Bool, true, false, cond, List, [], length, drop, map, Some, None}
+use Rattle.machine.proofs.Names.{refl, sym, ap, ◌∙◌, subst, eqb-true, eq-eqb, FilePage, Place, FramesState, WriteOut}
+use Rattle.machine.proofs.Names.{WriteOutsValue, HasBlock, Change, Spaces, AreSpaces, has_space, place_at}
+use Rattle.machine.proofs.Names.{ChangesOnlyAffected, Contains-map, in_flat_map, Lock, woken, processor_at, interrupted}
+use Rattle.machine.proofs.Names.{IsUnused, IsNoWider, at-with_processor, IsShootdown-finished, IsUnused-from_Coheres}
+use Rattle.machine.proofs.Names.{Coheres-finished, Coheres-changed, CheckpointState, State, home_of, not_there}
+use Rattle.machine.proofs.Names.{lock_refusal, MayChange, end_change, IsPrepared, AreSpacesSound, AreWriteOutsSound}
+use Rattle.machine.proofs.Names.{IsSound, waiting_homes}
 use Rattle.std.proofs.Common.{Contains}
 use Rattle.page_entry.specs.declared.refusal.Refusal.TheVariants as refusals
 use Rattle.machine.proofs.durable.Lists.{contains_drop}

@@ -1,15 +1,14 @@
 -- The page whose record comes next: it is frozen and in memory, and its record is a whole page.
-use Rattle.machine.proofs.Names.{inl, inr, ◌||◌, cases_Bool, cond-true, list_any-has_page}
-use Rattle.machine.proofs.Names.{◌≤◌, ℕ, zero, suc, ◌≡◌, ◌<◌, Bool, true, false, cond, List, [], ◌∷◌, length, map}
-use Rattle.machine.proofs.Names.{get_or, slice_index, Option, Some, None, refl, sym, ap, ◌∙◌, arith, list_any}
-use Rattle.machine.proofs.Names.{option_map, option_and_then, cond-false, or_parts, length-map, length-drop}
-use Rattle.machine.proofs.Names.{get_or-drop, get_or-map, FilePage, FramesState, Frame, frame_at, copy_at, page_of}
-use Rattle.machine.proofs.Names.{bytes_of, HasNoCopy, next_home, outs_record, outs_home, is_of_page, same_page}
-use Rattle.machine.proofs.Names.{same_page-true, list_any-no_page, is_in_memory, State, home_of}
+use Rattle.machine.proofs.Names.{inl, inr, ◌||◌, cases_Bool, cond-true, list_any-has_page, ◌≤◌, ℕ, suc, ◌≡◌, ◌<◌, Bool}
+use Rattle.machine.proofs.Names.{true, false, cond, List, [], ◌∷◌, length, map, get_or, slice_index, Option, Some, None}
+use Rattle.machine.proofs.Names.{refl, sym, ap, ◌∙◌, arith, list_any, option_map, option_and_then, cond-false, or_parts}
+use Rattle.machine.proofs.Names.{length-map, length-drop, get_or-drop, get_or-map, FilePage, FramesState, Frame}
+use Rattle.machine.proofs.Names.{frame_at, copy_at, page_of, bytes_of, HasNoCopy, next_home, outs_record, outs_home}
+use Rattle.machine.proofs.Names.{is_of_page, same_page, same_page-true, list_any-no_page, is_in_memory, State, home_of}
 use Rattle.machine.proofs.Names.{next_page, bytes_with, bytes_at_mark, IsMemory, IsSound}
 use Rattle.journal.specs.WriteOut.{next_record as record_of}
 use Rattle.journal.specs.WriteOuts.{current}
-use Rattle.machine.proofs.sound.Lists.{AreOnce, same_some, held_frame, once_frames, once_copies}
+use Rattle.machine.proofs.sound.Lists.{AreOnce, held_frame, once_frames, once_copies}
 use Rattle.machine.proofs.sound.Waiting.{waits_of, waiting, recorded}
 use Rattle.machine.proofs.sound.Frames.{held_in_memory}
 
