@@ -4,7 +4,7 @@ ghost use Rattle.console.specs.inside.Failure.{IsFailedStep};
 
 use crate::failure::Failure;
 use crate::printer::Printer;
-use crate::session::run_script;
+use crate::scripted::run_script;
 use crate::shape::refused_to_run;
 use scripts::{Script, ScriptFault};
 use std::alloc::Allocator;

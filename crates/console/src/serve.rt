@@ -6,12 +6,12 @@ use crate::shape::refused_to_run;
 use device::Device;
 use machine::Shape;
 use scripts::ScriptFault;
-use session::{Files, Line, Session, SessionFault, read_line, read_shape, serve_on, start};
-use std::alloc::Allocator;
+use session::{FileLine, Line, Session, SessionFault, read_line, read_shape, serve_on, start};
+use std::alloc::{Allocator, Global};
 use std::fs::File;
 use std::io;
 use std::io::{BufRead, BufReader};
-use std::rt::Files as FilesHandle;
+use std::rt::Files;
 use volume_files::{SyncNote, place};
 
 /// The name of the input in what is said of its first line.
@@ -29,21 +29,23 @@ pub fn serve<'a, R, A, W>(
     note: &mut SyncNote,
 ) -> Result<(), Failure<'a>>
 where
-    R: FilesHandle<File = File> + Input + AllocGlobal,
+    R: Files<File = File> + Input + AllocGlobal,
     A: Allocator + Copy,
     W: io::Write,
 {
-    let mut input = BufReader::new(alloc, rt.reader()).map_err(Failure::Input)?;
+    let mut input = match BufReader::new(alloc, rt.reader()) {
+        Ok(input) => input,
+        Err(cause) => return Err(Failure::Input(cause)),
+    };
     let shape = first_line(rt, alloc, &mut input)?;
     let place = place(rt, path)?;
     let disk = open_to_write(rt, path, &place, trust, note)?;
     match start(alloc, disk, shape) {
         Ok(mut session) => {
-            let served = greeted_and_served(rt, alloc, &mut session, &mut input, out);
+            let served = serve_session(rt.alloc(), alloc, &mut session, &mut input, out);
             let failed = session.notes.has_failed;
             *note = session.into_device().into_file().into_note();
-            served?;
-            outcome(path, failed)
+            outcome(path, served, failed)
         }
         Err((refusal, mut disk)) => {
             let cause = refused_to_run(alloc, refusal, &mut disk, shape);
@@ -61,7 +63,10 @@ where
     I: BufRead,
 {
     let mut line = Vec::new(alloc);
-    let found = read_line(input, &mut line).map_err(Failure::Input)?;
+    let found = match read_line(input, &mut line) {
+        Ok(found) => found,
+        Err(cause) => return Err(Failure::Input(cause)),
+    };
     if found == Line::Long {
         return Err(Failure::Script {
             path: INPUT,
@@ -76,43 +81,45 @@ where
 }
 
 // Says which files there are, and answers the requests.
-fn greeted_and_served<'a, R, D, A, I, W>(
-    rt: &R,
+fn serve_session<D, A, I, W>(
+    global: Global,
     alloc: A,
     session: &mut Session<D, A>,
     input: &mut I,
     out: &mut W,
-) -> Result<(), Failure<'a>>
+) -> Result<(), SessionFault>
 where
-    R: AllocGlobal,
     D: Device,
     A: Allocator + Copy,
     I: BufRead,
     W: io::Write,
 {
-    greet(&session.files, out)?;
-    match serve_on(rt.alloc(), alloc, session, input, out) {
-        Ok(()) => Ok(()),
-        Err(SessionFault::Input(cause)) => Err(Failure::Input(cause)),
-        Err(SessionFault::Output(cause)) => Err(Failure::Output(cause)),
-        Err(SessionFault::Memory(cause)) => Err(Failure::Memory(cause)),
+    match greet(&session.files.lines, out) {
+        Ok(()) => serve_on(global, alloc, session, input, out),
+        Err(cause) => Err(SessionFault::Output(cause)),
     }
 }
 
 // Prints a line with the number of files, and a line with the name and the length of each.
-fn greet<A: Allocator + Copy, W: io::Write>(files: &Files<A>, out: &mut W) -> io::Result<()> {
-    writeln!(out, "ready {}", files.lines.len())?;
-    for line in &files.lines {
+fn greet<A: Allocator + Copy, W: io::Write>(files: &[FileLine<A>], out: &mut W) -> io::Result<()> {
+    writeln!(out, "ready {}", files.len())?;
+    for line in files {
         writeln!(out, "{} {}", line.name, line.length)?;
     }
     out.flush()
 }
 
-// How a session ended whose requests were answered: a step was answered that the device failed, or none was.
-fn outcome<'a>(path: &'a str, failed: bool) -> Result<(), Failure<'a>> {
-    if failed {
-        Err(Failure::Session { path })
-    } else {
-        Ok(())
+// How a session ended: before its input did, or with a step that was answered that the device failed, or neither.
+fn outcome<'a>(
+    path: &'a str,
+    served: Result<(), SessionFault>,
+    failed: bool,
+) -> Result<(), Failure<'a>> {
+    match served {
+        Ok(()) if failed => Err(Failure::Session { path }),
+        Ok(()) => Ok(()),
+        Err(SessionFault::Input(cause)) => Err(Failure::Input(cause)),
+        Err(SessionFault::Output(cause)) => Err(Failure::Output(cause)),
+        Err(SessionFault::Memory(cause)) => Err(Failure::Memory(cause)),
     }
 }

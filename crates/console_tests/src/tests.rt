@@ -9,9 +9,9 @@ use std::thread::Threads;
 use std::{fs, io, str};
 
 /// What the program asks of the runtime.
-pub trait Host: Files<File = File> + AllocGlobal + Threads + Wait + Sync {}
+pub trait Host: Files<File = File> + Input + AllocGlobal + Threads + Wait + Sync {}
 
-impl<R: Files<File = File> + AllocGlobal + Threads + Wait + Sync> Host for R {}
+impl<R: Files<File = File> + Input + AllocGlobal + Threads + Wait + Sync> Host for R {}
 
 // What a run of the program gave: its status, and what it printed.
 #[derive(Drop)]
@@ -769,6 +769,7 @@ fn help_is_printed(rt: HostRuntime) {
     for (line, text) in [
         ("--help", "Usage: famsync <COMMAND>"),
         ("help|run", "Usage: famsync run [OPTIONS] <DISK> <SCRIPT>"),
+        ("help|serve", "Usage: famsync serve [OPTIONS] <DISK>"),
         (
             "format|--help",
             "Usage: famsync format [OPTIONS] <DISK> <SLOTS> <FILE>...",

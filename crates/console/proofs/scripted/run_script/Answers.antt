@@ -6,7 +6,7 @@ use Rattle.engine.specs.Listening.{HasListened}
 use Rattle.engine.specs.Engine.{HasRun}
 use Rattle.console.specs.Replies.{Prints, ArePrintedOf}
 use Rattle.console.proofs.Printing.{printed_of_run}
-use Rattle.console.proofs.session.run_script.Goals as goal
+use Rattle.console.proofs.scripted.run_script.Goals as goal
 
 pub returns-clause-ran : goal.returns-clause-ran
 returns-clause-ran g c =
