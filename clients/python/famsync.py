@@ -99,7 +99,8 @@ REFUSALS = {
     "noframe": NoFrame,
     "device": Device,
     "broken": Broken,
-    **dict.fromkeys("stalled locked held einval enomem eacces overlap nofile busy outofmemory".split(), Refusal),
+    **dict.fromkeys("stalled locked notyet fault held einval enomem eacces overlap nofile busy".split(), Refusal),
+    "outofmemory": Refusal,
 }
 
 
@@ -273,7 +274,7 @@ class Volume:
 
     def _partly(self, reply, count):
         """The refusal of a range: its cause, and how many bytes were loaded or stored before."""
-        found = re.fullmatch(r"([a-z]+) after (0|[1-9][0-9]*)(?: ((?:[0-9a-f]{2})+))?", reply)
+        found = re.fullmatch(r"([a-z]+)(?: [0-9]+)? after (0|[1-9][0-9]*)(?: ((?:[0-9a-f]{2})+))?", reply)
         if not found or found[1] not in REFUSALS or int(found[2]) >= count:
             raise self._end(Nonsense(f"{reply[:60]!r}"))
         return refusal(found[1], int(found[2]), bytes.fromhex(found[3] or ""))
@@ -281,7 +282,6 @@ class Volume:
     def load(self, address, count):
         """Loads bytes from an address of the session on."""
         loaded = b""
-        finished = False
         with self._turn:
             while len(loaded) < count:
                 some = min(RANGE, count - len(loaded))
@@ -293,16 +293,13 @@ class Volume:
                 if len(refused.loaded) != refused.done:
                     raise self._end(Nonsense(f"{reply[:60]!r}"))
                 loaded += refused.loaded
-                if refused.cause != "noframe" or finished:
-                    raise refusal(refused.cause, len(loaded), loaded)
-                finished = self._finish_commits()
+                raise refusal(refused.cause, len(loaded), loaded)
         return loaded
 
     def store(self, address, value):
         """Stores bytes from an address of the session on."""
         value = memoryview(value).cast("B")
         done = 0
-        finished = False
         with self._turn:
             while done < len(value):
                 some = value[done : done + RANGE]
@@ -312,19 +309,7 @@ class Volume:
                     continue
                 refused = self._partly(reply, len(some))
                 done += refused.done
-                if refused.cause != "noframe" or finished:
-                    raise refusal(refused.cause, done)
-                finished = self._finish_commits()
-
-    def _finish_commits(self):
-        """Makes what steps are left of commits, after which their pages are clean."""
-        for _ in range(8 * MOST_FRAMES):
-            reply = self.ask('[0,"flush"]')
-            if reply == "nothing":
-                return True
-            if reply != "going" and not re.fullmatch(r"(committed|done) [0-9]+", reply):
-                self._expect(reply, "going")
-        raise self._end(Nonsense("a commit doesn't end"))
+                raise refusal(refused.cause, done)
 
     def commit(self):
         """Makes all stores durable, all of them or none, and returns the commit's number when they are."""
