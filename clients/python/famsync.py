@@ -168,9 +168,9 @@ class Volume:
         self.frames = frames or slots_of(path)
         self.files = {}
         try:
-            # A process group of its own: an interrupt from the terminal ends it only when this process has ended.
+            # A session of its own: an interrupt from the terminal doesn't end it before this process has ended.
             self._service = subprocess.Popen(
-                words, stdin=subprocess.PIPE, stdout=subprocess.PIPE, stderr=subprocess.PIPE, process_group=0
+                words, stdin=subprocess.PIPE, stdout=subprocess.PIPE, stderr=subprocess.PIPE, start_new_session=True
             )
         except OSError as error:
             raise NoProgram(f"{words[0]}: {error.strerror}") from None
@@ -241,8 +241,15 @@ class Volume:
         with self._turn:
             if self._ended is not None:
                 raise self._ended
-            self._write(request + "\n")
-            return self._line()
+            try:
+                self._write(request + "\n")
+                return self._line()
+            except BaseException:
+                # One that was interrupted has a reply to come, which the next one must not take for its own.
+                if self._ended is None:
+                    self._service.kill()
+                    self._end(Gone("a request of this session was interrupted"))
+                raise
 
     def map(self, name, offset=0, length=None, rights="rw"):
         """Maps pages of a file, or all of it, at an address that is free. `rights` are "r" or "rw"."""
@@ -292,8 +299,7 @@ class Volume:
                 refused = self._partly(reply, some)
                 if len(refused.loaded) != refused.done:
                     raise self._end(Nonsense(f"{reply[:60]!r}"))
-                loaded += refused.loaded
-                raise refusal(refused.cause, len(loaded), loaded)
+                raise refusal(refused.cause, len(loaded) + refused.done, loaded + refused.loaded)
         return loaded
 
     def store(self, address, value):
