@@ -184,7 +184,7 @@ class Model:
         if processor >= len(self.current) and (len(what) if write else what) > 0:
             return "einval after 0"
         if processor >= len(self.current):
-            return "stored 0" if write else "loaded "
+            return "stored 0" if write else "loaded"
         places, cause = self.access(processor, at, len(what) if write else what, write)
         done, loaded = 0, b""
         for file, begin, some in places:
@@ -195,7 +195,7 @@ class Model:
                 loaded += self.memory[file][begin : begin + some]
             done += some
         if cause is None:
-            return f"stored {done}" if write else f"loaded {loaded.hex()}"
+            return f"stored {done}" if write else "loaded" + f" {loaded.hex()}" * bool(loaded)
         return f"{cause} after {done}" + (f" {loaded.hex()}" if loaded else "")
 
     def saved(self):
@@ -203,6 +203,11 @@ class Model:
 
     def restore(self, saved):
         self.memory, self.stored = [bytearray(memory) for memory in saved[0]], saved[1]
+
+    def past_the_end(self):
+        """The pages that have a byte past their file's end: it is memory alone, and so they stay there."""
+        ends = [length for _, length in self.files]
+        return {(file, end // PAGE) for file, end in enumerate(ends) if any(self.memory[file][end:])}
 
     def stopped(self, request, reply, frames):
         """The reply to a range that stops for want of a frame where `reply` says, or that it can't stop there."""
@@ -214,8 +219,9 @@ class Model:
             return "noframe after a whole page, or after 0"
         cut = (act, processor, at, done if act == "loads" else bytes.fromhex(what[: 2 * done]))
         whole = self.range(cut)
-        if len(self.stored | self.last) < frames:
-            return f"a page more, as {len(self.stored | self.last)} were stored to and there are {frames} frames"
+        stay = self.stored | self.last | self.past_the_end()
+        if len(stay) < frames:
+            return f"a page more, as {len(stay)} have to stay in memory and there are {frames} frames"
         return f"noframe after {done}" + (" " + whole[7:] if act == "loads" and done > 0 else "")
 
     def commit(self):

@@ -700,26 +700,6 @@ int famsync_map(famsync *handle, const char *file, uint64_t offset, uint64_t len
     return code != FAMSYNC_OK ? code : leave(handle, map_whole(handle, file, offset, length, protection, address));
 }
 
-/* Makes what steps are left of commits, after which their pages are clean. */
-static int finish_commits(famsync *handle)
-{
-    for (unsigned tries = 0; tries < 8 * MOST_FRAMES; tries++) {
-        char *reply;
-        const char *rest;
-        size_t count = line_of(handle, "[0,\"flush\"]\n");
-        int code = ask(handle, count, &reply, &count);
-        if (code != FAMSYNC_OK)
-            return code;
-        if (strcmp(reply, "nothing") == 0)
-            return FAMSYNC_OK;
-        if (strcmp(reply, "going") != 0 && !begins(reply, "committed ", &rest) && !begins(reply, "done ", &rest)) {
-            code = code_of(reply, count);
-            return code == FAMSYNC_NONSENSE ? end(handle, code) : code;
-        }
-    }
-    return end(handle, FAMSYNC_NONSENSE);
-}
-
 /* Loads or stores up to RANGE bytes, and counts them. */
 static int range(famsync *handle, uint64_t address, unsigned char *loaded, const unsigned char *stored, size_t count,
                  size_t *done)
@@ -768,7 +748,6 @@ static int range(famsync *handle, uint64_t address, unsigned char *loaded, const
 static int ranges(famsync *handle, uint64_t address, unsigned char *loaded, const unsigned char *stored, size_t count,
                   size_t *done)
 {
-    bool finished = false;
     *done = 0;
     while (*done < count) {
         size_t some = count - *done < RANGE ? count - *done : RANGE, got;
@@ -776,11 +755,6 @@ static int ranges(famsync *handle, uint64_t address, unsigned char *loaded, cons
         const unsigned char *from = stored ? stored + *done : NULL;
         int code = range(handle, address + *done, to, from, some, &got);
         *done += got;
-        if (code == FAMSYNC_NOFRAME && !finished) {
-            /* Pages of a commit that is acknowledged aren't clean before its last step. */
-            code = finish_commits(handle);
-            finished = true;
-        }
         if (code != FAMSYNC_OK)
             return code;
     }

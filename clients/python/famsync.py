@@ -99,7 +99,8 @@ REFUSALS = {
     "noframe": NoFrame,
     "device": Device,
     "broken": Broken,
-    **dict.fromkeys("stalled locked held einval enomem eacces overlap nofile busy outofmemory".split(), Refusal),
+    **dict.fromkeys("stalled locked notyet fault held einval enomem eacces overlap nofile busy".split(), Refusal),
+    "outofmemory": Refusal,
 }
 
 
@@ -167,9 +168,9 @@ class Volume:
         self.frames = frames or slots_of(path)
         self.files = {}
         try:
-            # A process group of its own: an interrupt from the terminal ends it only when this process has ended.
+            # A session of its own: an interrupt from the terminal doesn't end it before this process has ended.
             self._service = subprocess.Popen(
-                words, stdin=subprocess.PIPE, stdout=subprocess.PIPE, stderr=subprocess.PIPE, process_group=0
+                words, stdin=subprocess.PIPE, stdout=subprocess.PIPE, stderr=subprocess.PIPE, start_new_session=True
             )
         except OSError as error:
             raise NoProgram(f"{words[0]}: {error.strerror}") from None
@@ -240,8 +241,15 @@ class Volume:
         with self._turn:
             if self._ended is not None:
                 raise self._ended
-            self._write(request + "\n")
-            return self._line()
+            try:
+                self._write(request + "\n")
+                return self._line()
+            except BaseException:
+                # One that was interrupted has a reply to come, which the next one must not take for its own.
+                if self._ended is None:
+                    self._service.kill()
+                    self._end(Gone("a request of this session was interrupted"))
+                raise
 
     def map(self, name, offset=0, length=None, rights="rw"):
         """Maps pages of a file, or all of it, at an address that is free. `rights` are "r" or "rw"."""
@@ -273,7 +281,7 @@ class Volume:
 
     def _partly(self, reply, count):
         """The refusal of a range: its cause, and how many bytes were loaded or stored before."""
-        found = re.fullmatch(r"([a-z]+) after (0|[1-9][0-9]*)(?: ((?:[0-9a-f]{2})+))?", reply)
+        found = re.fullmatch(r"([a-z]+)(?: [0-9]+)? after (0|[1-9][0-9]*)(?: ((?:[0-9a-f]{2})+))?", reply)
         if not found or found[1] not in REFUSALS or int(found[2]) >= count:
             raise self._end(Nonsense(f"{reply[:60]!r}"))
         return refusal(found[1], int(found[2]), bytes.fromhex(found[3] or ""))
@@ -281,7 +289,6 @@ class Volume:
     def load(self, address, count):
         """Loads bytes from an address of the session on."""
         loaded = b""
-        finished = False
         with self._turn:
             while len(loaded) < count:
                 some = min(RANGE, count - len(loaded))
@@ -292,17 +299,13 @@ class Volume:
                 refused = self._partly(reply, some)
                 if len(refused.loaded) != refused.done:
                     raise self._end(Nonsense(f"{reply[:60]!r}"))
-                loaded += refused.loaded
-                if refused.cause != "noframe" or finished:
-                    raise refusal(refused.cause, len(loaded), loaded)
-                finished = self._finish_commits()
+                raise refusal(refused.cause, len(loaded) + refused.done, loaded + refused.loaded)
         return loaded
 
     def store(self, address, value):
         """Stores bytes from an address of the session on."""
         value = memoryview(value).cast("B")
         done = 0
-        finished = False
         with self._turn:
             while done < len(value):
                 some = value[done : done + RANGE]
@@ -312,19 +315,7 @@ class Volume:
                     continue
                 refused = self._partly(reply, len(some))
                 done += refused.done
-                if refused.cause != "noframe" or finished:
-                    raise refusal(refused.cause, done)
-                finished = self._finish_commits()
-
-    def _finish_commits(self):
-        """Makes what steps are left of commits, after which their pages are clean."""
-        for _ in range(8 * MOST_FRAMES):
-            reply = self.ask('[0,"flush"]')
-            if reply == "nothing":
-                return True
-            if reply != "going" and not re.fullmatch(r"(committed|done) [0-9]+", reply):
-                self._expect(reply, "going")
-        raise self._end(Nonsense("a commit doesn't end"))
+                raise refusal(refused.cause, done)
 
     def commit(self):
         """Makes all stores durable, all of them or none, and returns the commit's number when they are."""
