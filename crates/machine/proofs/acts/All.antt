@@ -30,7 +30,8 @@ changed_history told (Some (Unmapping space range)) = refl
 changed_history told (Some (Protecting space range rights)) = refl
 
 module _ (s : State) (disk : List ℕ) (p : ℕ) (new : State) (disk' : List ℕ) (sound : IsSound s) where
-  pub performed_act : (act : Act) (reply : Reply) → Acts s disk p act reply new disk' → Performed s disk p act reply new disk'
+  pub performed_act : (act : Act) (reply : Reply) → Acts s disk p act reply new disk'
+      → Performed s disk p act reply new disk'
   performed_act (acts.Load va count) (replies.Bytes bytes) rule = silently (load_moves s p sound va count bytes rule.0.0 rule.0.1 rule.0.2) (λ told. refl) refl rule.1
   performed_act (acts.Load va count) (replies.Refused (refusals.Fault code)) rule = silently (fault_moves s p sound va count false code rule.0.0 rule.0.1 rule.0.2) (λ told. refl) refl rule.1
   performed_act (acts.Load va count) (replies.Refused why) rule = silently (same_moves s p sound rule.0.0 rule.0.1.1 rule.0.2) (λ told. refl) refl rule.1
@@ -133,5 +134,6 @@ module _ (s : State) (disk : List ℕ) (p : ℕ) (new : State) (disk' : List ℕ
   performed_act acts.Flush (replies.Refused why) rule = silently (no_moves rule.0.unchanged) (λ told. refl) refl rule.1
   performed_act acts.Flush reply rule = absurd rule
 
-pub performed : (s : State) (disk : List ℕ) (step : Step) (reply : Reply) (new : State) (disk' : List ℕ) → IsSound s → Rules s disk step reply new disk' → Performed s disk step.p step.act reply new disk'
+pub performed : (s : State) (disk : List ℕ) (step : Step) (reply : Reply) (new : State) (disk' : List ℕ) → IsSound s
+    → Rules s disk step reply new disk' → Performed s disk step.p step.act reply new disk'
 performed s disk step reply new disk' sound rule = performed_act s disk step.p new disk' sound step.act reply rule
