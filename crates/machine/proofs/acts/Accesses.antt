@@ -19,7 +19,8 @@ module _ {disk : List ℕ} (s : State) (p : ℕ) {new : State} (sound : IsSound 
   same_moves h same is = no_moves (is ∙ ap (with_hardware s) same)
 
   -- a fault drops the page's cached entry
-  pub fault_moves : (va count : ℕ) (write : Bool) (code : ℕ) (h : Hardware) → Faults s.hardware p va count write code h → new ≡ with_hardware s h → SilentMoves disk s new
+  pub fault_moves : (va count : ℕ) (write : Bool) (code : ℕ) (h : Hardware) → Faults s.hardware p va count write code h
+      → new ≡ with_hardware s h → SilentMoves disk s new
   fault_moves va count write code h fault is =
       let x = processor_at s.hardware.shootdown p in
       let there = (running_below s.hardware.shootdown p fault.running).0 in
@@ -28,7 +29,8 @@ module _ {disk : List ℕ} (s : State) (p : ℕ) {new : State} (sound : IsSound 
       (Coheres-without_page s.hardware.shootdown p x.space (va / 4096) there s.hardware.spaces sound.spaces.coheres)
       (is ∙ ap (with_hardware s) fault.dropped)))
 
-  pub load_moves : (va count : ℕ) (bytes : List ℕ) (h : Hardware) → LoadMade s.hardware p va count bytes h → new ≡ with_hardware s h → SilentMoves disk s new
+  pub load_moves : (va count : ℕ) (bytes : List ℕ) (h : Hardware) → LoadMade s.hardware p va count bytes h
+      → new ≡ with_hardware s h → SilentMoves disk s new
   load_moves va count bytes h made is =
       let t = is_translated s.hardware p (va / 4096) false made.frame h sound.spaces.coheres made.running made.translation in
       elim t.reached [
@@ -38,7 +40,8 @@ module _ {disk : List ℕ} (s : State) (p : ℕ) {new : State} (sound : IsSound 
       ]
 
   pub fill_moves : (page : ℕ) (answer : Bool) (h : Hardware) → is_there s.hardware.shootdown p ≡ true
-      → (answer, h) ≡ filled_by s.hardware p page (entry_at s.hardware.spaces (current s.hardware.shootdown p) page) → new ≡ with_hardware s h → SilentMoves disk s new
+      → (answer, h) ≡ filled_by s.hardware p page (entry_at s.hardware.spaces (current s.hardware.shootdown p) page)
+      → new ≡ with_hardware s h → SilentMoves disk s new
   fill_moves page answer h there made is =
       elim (filled_cases s.hardware p page answer h (entry_at s.hardware.spaces (current s.hardware.shootdown p) page) refl made) [
         | inl same ↦ same_moves h same is

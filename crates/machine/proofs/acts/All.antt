@@ -30,10 +30,14 @@ changed_history told (Some (Unmapping space range)) = refl
 changed_history told (Some (Protecting space range rights)) = refl
 
 module _ (s : State) (disk : List ℕ) (p : ℕ) (new : State) (disk' : List ℕ) (sound : IsSound s) where
-  pub performed_act : (act : Act) (reply : Reply) → Acts s disk p act reply new disk' → Performed s disk p act reply new disk'
-  performed_act (acts.Load va count) (replies.Bytes bytes) rule = silently (load_moves s p sound va count bytes rule.0.0 rule.0.1 rule.0.2) (λ told. refl) refl rule.1
-  performed_act (acts.Load va count) (replies.Refused (refusals.Fault code)) rule = silently (fault_moves s p sound va count false code rule.0.0 rule.0.1 rule.0.2) (λ told. refl) refl rule.1
-  performed_act (acts.Load va count) (replies.Refused why) rule = silently (same_moves s p sound rule.0.0 rule.0.1.1 rule.0.2) (λ told. refl) refl rule.1
+  pub performed_act : (act : Act) (reply : Reply) → Acts s disk p act reply new disk'
+      → Performed s disk p act reply new disk'
+  performed_act (acts.Load va count) (replies.Bytes bytes) rule =
+      silently (load_moves s p sound va count bytes rule.0.0 rule.0.1 rule.0.2) (λ told. refl) refl rule.1
+  performed_act (acts.Load va count) (replies.Refused (refusals.Fault code)) rule =
+      silently (fault_moves s p sound va count false code rule.0.0 rule.0.1 rule.0.2) (λ told. refl) refl rule.1
+  performed_act (acts.Load va count) (replies.Refused why) rule =
+      silently (same_moves s p sound rule.0.0 rule.0.1.1 rule.0.2) (λ told. refl) refl rule.1
   performed_act (acts.Load va count) reply rule = absurd rule.0.1
   performed_act (acts.Store va bytes) replies.Stored rule = Moved (record {
     says = Storing p va bytes ∷ [];
@@ -42,21 +46,32 @@ module _ (s : State) (disk : List ℕ) (p : ℕ) (new : State) (disk' : List ℕ
     no_work = refl;
     same_disk = rule.1;
   })
-  performed_act (acts.Store va bytes) (replies.Refused (refusals.Fault code)) rule = silently (fault_moves s p sound va (length bytes) true code rule.0.0 rule.0.1 rule.0.2) (λ told. refl) refl rule.1
-  performed_act (acts.Store va bytes) (replies.Refused why) rule = silently (same_moves s p sound rule.0.0 rule.0.1.1 rule.0.2) (λ told. refl) refl rule.1
+  performed_act (acts.Store va bytes) (replies.Refused (refusals.Fault code)) rule =
+      silently (fault_moves s p sound va (length bytes) true code rule.0.0 rule.0.1 rule.0.2) (λ told. refl) refl rule.1
+  performed_act (acts.Store va bytes) (replies.Refused why) rule =
+      silently (same_moves s p sound rule.0.0 rule.0.1.1 rule.0.2) (λ told. refl) refl rule.1
   performed_act (acts.Store va bytes) reply rule = absurd rule.0.1
-  performed_act (acts.Fill page) replies.Filled rule = silently (fill_moves s p sound page true rule.0.0 rule.0.1.0 rule.0.1.1 rule.0.2) (λ told. refl) refl rule.1
-  performed_act (acts.Fill page) replies.Nothing rule = silently (fill_moves s p sound page false rule.0.0 rule.0.1.0 rule.0.1.1 rule.0.2) (λ told. refl) refl rule.1
-  performed_act (acts.Fill page) (replies.Refused why) rule = silently (same_moves s p sound rule.0.0 rule.0.1.2 rule.0.2) (λ told. refl) refl rule.1
+  performed_act (acts.Fill page) replies.Filled rule =
+      silently (fill_moves s p sound page true rule.0.0 rule.0.1.0 rule.0.1.1 rule.0.2) (λ told. refl) refl rule.1
+  performed_act (acts.Fill page) replies.Nothing rule =
+      silently (fill_moves s p sound page false rule.0.0 rule.0.1.0 rule.0.1.1 rule.0.2) (λ told. refl) refl rule.1
+  performed_act (acts.Fill page) (replies.Refused why) rule =
+      silently (same_moves s p sound rule.0.0 rule.0.1.2 rule.0.2) (λ told. refl) refl rule.1
   performed_act (acts.Fill page) reply rule = absurd rule.0.1
-  performed_act (acts.Evict slot) replies.Evicted rule = silently (evict_moves s p sound slot rule.0.0 rule.0.1.0 rule.0.1.2 rule.0.2) (λ told. refl) refl rule.1
-  performed_act (acts.Evict slot) replies.Nothing rule = silently (evict_moves s p sound slot rule.0.0 rule.0.1.0 rule.0.1.2 rule.0.2) (λ told. refl) refl rule.1
-  performed_act (acts.Evict slot) (replies.Refused why) rule = silently (same_moves s p sound rule.0.0 rule.0.1.2 rule.0.2) (λ told. refl) refl rule.1
+  performed_act (acts.Evict slot) replies.Evicted rule =
+      silently (evict_moves s p sound slot rule.0.0 rule.0.1.0 rule.0.1.2 rule.0.2) (λ told. refl) refl rule.1
+  performed_act (acts.Evict slot) replies.Nothing rule =
+      silently (evict_moves s p sound slot rule.0.0 rule.0.1.0 rule.0.1.2 rule.0.2) (λ told. refl) refl rule.1
+  performed_act (acts.Evict slot) (replies.Refused why) rule =
+      silently (same_moves s p sound rule.0.0 rule.0.1.2 rule.0.2) (λ told. refl) refl rule.1
   performed_act (acts.Evict slot) reply rule = absurd rule.0.1
-  performed_act (acts.Switch space keep) replies.Switched rule = moved (switch_moves s p sound space keep rule.0.0 rule.0.1) (λ told. refl) (λ told. refl) refl rule.1
-  performed_act (acts.Switch space keep) (replies.Refused why) rule = silently (no_moves rule.0.unchanged) (λ told. refl) refl rule.1
+  performed_act (acts.Switch space keep) replies.Switched rule =
+      moved (switch_moves s p sound space keep rule.0.0 rule.0.1) (λ told. refl) (λ told. refl) refl rule.1
+  performed_act (acts.Switch space keep) (replies.Refused why) rule =
+      silently (no_moves rule.0.unchanged) (λ told. refl) refl rule.1
   performed_act (acts.Switch space keep) reply rule = absurd rule.0
-  performed_act acts.Idle replies.Idled rule = moved (idle_moves s p sound rule.0.0 rule.0.1) (λ told. refl) (λ told. refl) refl rule.1
+  performed_act acts.Idle replies.Idled rule =
+      moved (idle_moves s p sound rule.0.0 rule.0.1) (λ told. refl) (λ told. refl) refl rule.1
   performed_act acts.Idle (replies.Refused why) rule = silently (no_moves rule.0.unchanged) (λ told. refl) refl rule.1
   performed_act acts.Idle reply rule = absurd rule.0
   performed_act acts.Wake replies.Woken rule =
@@ -64,58 +79,78 @@ module _ (s : State) (disk : List ℕ) (p : ℕ) (new : State) (disk' : List ℕ
   performed_act acts.Wake replies.Nothing rule = silently (no_moves rule.0.2) (λ told. refl) refl rule.1
   performed_act acts.Wake (replies.Refused why) rule = silently (no_moves rule.0.unchanged) (λ told. refl) refl rule.1
   performed_act acts.Wake reply rule = absurd rule.0
-  performed_act (acts.Fix va write) replies.Fixed rule = silently (fix_moves s disk sound p va write new rule.0) (λ told. refl) refl rule.1
+  performed_act (acts.Fix va write) replies.Fixed rule =
+      silently (fix_moves s disk sound p va write new rule.0) (λ told. refl) refl rule.1
   performed_act (acts.Fix va write) (replies.Refused refusals.Device) rule =
       silently (no_moves (elim rule.0 [ inl refused ↦ refused.unchanged | inr failed ↦ failed.unchanged ])) (λ told. refl) refl rule.1
-  performed_act (acts.Fix va write) (replies.Refused why) rule = silently (no_moves rule.0.unchanged) (λ told. refl) refl rule.1
+  performed_act (acts.Fix va write) (replies.Refused why) rule =
+      silently (no_moves rule.0.unchanged) (λ told. refl) refl rule.1
   performed_act (acts.Fix va write) reply rule = absurd rule.0
-  performed_act acts.Create (replies.Space pcid) rule = moved (create_moves s p pcid rule.0.0 rule.0.1 sound rule.0.2) (λ told. refl) (λ told. refl) refl rule.1
-  performed_act acts.Create (replies.Refused refusals.Enomem) rule = silently (no_moves rule.0.2) (λ told. refl) refl rule.1
-  performed_act acts.Create (replies.Refused refusals.OutOfMemory) rule = silently (no_moves rule.0.1) (λ told. refl) refl rule.1
+  performed_act acts.Create (replies.Space pcid) rule =
+      moved (create_moves s p pcid rule.0.0 rule.0.1 sound rule.0.2) (λ told. refl) (λ told. refl) refl rule.1
+  performed_act acts.Create (replies.Refused refusals.Enomem) rule =
+      silently (no_moves rule.0.2) (λ told. refl) refl rule.1
+  performed_act acts.Create (replies.Refused refusals.OutOfMemory) rule =
+      silently (no_moves rule.0.1) (λ told. refl) refl rule.1
   performed_act acts.Create (replies.Refused why) rule = silently (no_moves rule.0.unchanged) (λ told. refl) refl rule.1
   performed_act acts.Create reply rule = absurd rule.0
   performed_act (acts.Destroy space) replies.Destroyed rule =
       moved {says = Leaving space} (Destroy (record { p = p; pcid = space; made = rule.0; says_is = refl })) (λ told. refl) (λ told. refl) refl rule.1
-  performed_act (acts.Destroy space) (replies.Refused why) rule = silently (no_moves rule.0.unchanged) (λ told. refl) refl rule.1
+  performed_act (acts.Destroy space) (replies.Refused why) rule =
+      silently (no_moves rule.0.unchanged) (λ told. refl) refl rule.1
   performed_act (acts.Destroy space) reply rule = absurd rule.0
   performed_act (acts.Map space va len file offset prot access) replies.Mapped rule =
       moved (map_moves s p space va len file offset prot access rule.0 sound)
       (λ told. ap (λ r. record (mapped_in told space file prot access r) { history = told.history ++ [] })
       (judged_so (is_user_space s.hardware.spaces space) (mapped_pages_of va len offset) rule.0.pages rule.0.judged)) (λ told. refl) refl rule.1
-  performed_act (acts.Map space va len file offset prot access) (replies.Refused refusals.OutOfMemory) rule = silently (no_moves rule.0.1) (λ told. refl) refl rule.1
-  performed_act (acts.Map space va len file offset prot access) (replies.Refused why) rule = silently (no_moves rule.0.unchanged) (λ told. refl) refl rule.1
+  performed_act (acts.Map space va len file offset prot access) (replies.Refused refusals.OutOfMemory) rule =
+      silently (no_moves rule.0.1) (λ told. refl) refl rule.1
+  performed_act (acts.Map space va len file offset prot access) (replies.Refused why) rule =
+      silently (no_moves rule.0.unchanged) (λ told. refl) refl rule.1
   performed_act (acts.Map space va len file offset prot access) reply rule = absurd rule.0
   performed_act (acts.Unmap space va len) replies.Begun rule =
       moved (unmap_moves s p space va len rule.0.1 rule.0.0 rule.0.2 rule.0.4)
       (λ told. ap (λ r. record (begun_by told p (begun_unmap space r)) { history = told.history ++ [] })
       (judged_so (is_user_space s.hardware.spaces space) (range_of_bytes va len) rule.0.1 rule.0.2)) (λ told. refl) refl rule.1
   performed_act (acts.Unmap space va len) replies.Fine rule = silently (no_moves rule.0.4) (λ told. refl) refl rule.1
-  performed_act (acts.Unmap space va len) (replies.Refused refusals.OutOfMemory) rule = silently (no_moves rule.0.1) (λ told. refl) refl rule.1
-  performed_act (acts.Unmap space va len) (replies.Refused why) rule = silently (no_moves rule.0.unchanged) (λ told. refl) refl rule.1
+  performed_act (acts.Unmap space va len) (replies.Refused refusals.OutOfMemory) rule =
+      silently (no_moves rule.0.1) (λ told. refl) refl rule.1
+  performed_act (acts.Unmap space va len) (replies.Refused why) rule =
+      silently (no_moves rule.0.unchanged) (λ told. refl) refl rule.1
   performed_act (acts.Unmap space va len) reply rule = absurd rule.0
   performed_act (acts.Protect space va len prot) replies.Begun rule =
       moved (protect_moves s p space va len prot rule.0.1 rule.0.0 rule.0.2 rule.0.3)
       (λ told. ap (λ r. record (begun_by told p (begun_protect space prot r)) { history = told.history ++ [] })
       (judged_so (is_user_space s.hardware.spaces space) (range_of_bytes va len) rule.0.1 (judged_protection-ok s.hardware.spaces space va len prot rule.0.1 rule.0.2).0)) (λ told. refl) refl rule.1
-  performed_act (acts.Protect space va len prot) (replies.Refused refusals.OutOfMemory) rule = silently (no_moves rule.0.1) (λ told. refl) refl rule.1
-  performed_act (acts.Protect space va len prot) (replies.Refused why) rule = silently (no_moves rule.0.unchanged) (λ told. refl) refl rule.1
+  performed_act (acts.Protect space va len prot) (replies.Refused refusals.OutOfMemory) rule =
+      silently (no_moves rule.0.1) (λ told. refl) refl rule.1
+  performed_act (acts.Protect space va len prot) (replies.Refused why) rule =
+      silently (no_moves rule.0.unchanged) (λ told. refl) refl rule.1
   performed_act (acts.Protect space va len prot) reply rule = absurd rule.0
   performed_act (acts.Reclaim file page) replies.Begun rule =
       moved (reclaim_moves s p (record { file = file; page = page }) rule.0.0 rule.0.1 rule.0.2) (λ told. refl) (λ told. refl) refl rule.1
   performed_act (acts.Reclaim file page) replies.Nothing rule = silently (no_moves rule.0.2) (λ told. refl) refl rule.1
-  performed_act (acts.Reclaim file page) (replies.Refused why) rule = silently (no_moves rule.0.unchanged) (λ told. refl) refl rule.1
+  performed_act (acts.Reclaim file page) (replies.Refused why) rule =
+      silently (no_moves rule.0.unchanged) (λ told. refl) refl rule.1
   performed_act (acts.Reclaim file page) reply rule = absurd rule.0
-  performed_act (acts.Msync va len flags) replies.Begun rule = moved (msync_moves s p va len flags rule.0.0 rule.0.1) (λ told. refl) (λ told. refl) refl rule.1
-  performed_act (acts.Msync va len flags) (replies.Refused why) rule = silently (no_moves rule.0.unchanged) (λ told. refl) refl rule.1
+  performed_act (acts.Msync va len flags) replies.Begun rule =
+      moved (msync_moves s p va len flags rule.0.0 rule.0.1) (λ told. refl) (λ told. refl) refl rule.1
+  performed_act (acts.Msync va len flags) (replies.Refused why) rule =
+      silently (no_moves rule.0.unchanged) (λ told. refl) refl rule.1
   performed_act (acts.Msync va len flags) reply rule = absurd rule.0
-  performed_act acts.Ack replies.Acked rule = moved (ack_moves s p sound rule.0.0 rule.0.1 rule.0.2) (λ told. refl) (λ told. refl) refl rule.1
+  performed_act acts.Ack replies.Acked rule =
+      moved (ack_moves s p sound rule.0.0 rule.0.1 rule.0.2) (λ told. refl) (λ told. refl) refl rule.1
   performed_act acts.Ack replies.Nothing rule = silently (no_moves rule.0.2) (λ told. refl) refl rule.1
   performed_act acts.Ack (replies.Refused why) rule = silently (no_moves rule.0.unchanged) (λ told. refl) refl rule.1
   performed_act acts.Ack reply rule = absurd rule.0
-  performed_act acts.Change replies.Unmapped rule = moved (unmapped_moves disk s p new sound rule.0) (λ told. refl) (λ told. changed_history told told.pending) refl rule.1
-  performed_act acts.Change replies.Protected rule = moved (protected_moves disk s p new sound rule.0) (λ told. refl) (λ told. changed_history told told.pending) refl rule.1
-  performed_act acts.Change replies.Reclaimed rule = moved_all (Ending p ∷ Silent ∷ []) (reclaimed_moves disk s p new sound rule.0) (λ told. refl) (λ told. refl) refl rule.1
-  performed_act acts.Change replies.Kept rule = moved (kept_moves disk s p new sound rule.0) (λ told. refl) (λ told. refl) refl rule.1
+  performed_act acts.Change replies.Unmapped rule =
+      moved (unmapped_moves disk s p new sound rule.0) (λ told. refl) (λ told. changed_history told told.pending) refl rule.1
+  performed_act acts.Change replies.Protected rule =
+      moved (protected_moves disk s p new sound rule.0) (λ told. refl) (λ told. changed_history told told.pending) refl rule.1
+  performed_act acts.Change replies.Reclaimed rule =
+      moved_all (Ending p ∷ Silent ∷ []) (reclaimed_moves disk s p new sound rule.0) (λ told. refl) (λ told. refl) refl rule.1
+  performed_act acts.Change replies.Kept rule =
+      moved (kept_moves disk s p new sound rule.0) (λ told. refl) (λ told. refl) refl rule.1
   performed_act acts.Change (replies.Marked number) rule = Marked number refl refl rule.0 rule.1
   performed_act acts.Change replies.Nothing rule = silently (no_moves rule.0.2) (λ told. refl) refl rule.1
   performed_act acts.Change (replies.Refused why) rule = silently (no_moves rule.0.unchanged) (λ told. refl) refl rule.1
@@ -133,5 +168,6 @@ module _ (s : State) (disk : List ℕ) (p : ℕ) (new : State) (disk' : List ℕ
   performed_act acts.Flush (replies.Refused why) rule = silently (no_moves rule.0.unchanged) (λ told. refl) refl rule.1
   performed_act acts.Flush reply rule = absurd rule
 
-pub performed : (s : State) (disk : List ℕ) (step : Step) (reply : Reply) (new : State) (disk' : List ℕ) → IsSound s → Rules s disk step reply new disk' → Performed s disk step.p step.act reply new disk'
+pub performed : (s : State) (disk : List ℕ) (step : Step) (reply : Reply) (new : State) (disk' : List ℕ) → IsSound s
+    → Rules s disk step reply new disk' → Performed s disk step.p step.act reply new disk'
 performed s disk step reply new disk' sound rule = performed_act s disk step.p new disk' sound step.act reply rule

@@ -10,26 +10,32 @@ use Rattle.spaces.specs.declared.change.Change.TheVariants as changes
 use Rattle.machine.proofs.sound.Admitted.{first_none, refuse_none}
 
 module _ {disk : List ℕ} (s : State) (p : ℕ) {new : State} where
-  begins : (change : Change) → not_free s.hardware.shootdown p ≡ None → IsPrepared s change → (change ≡ changes.Checkpoint → s.write_outs.broken ≡ false)
+  begins : (change : Change) → not_free s.hardware.shootdown p ≡ None → IsPrepared s change
+      → (change ≡ changes.Checkpoint → s.write_outs.broken ≡ false)
       → new ≡ begin_change s p change → Move disk s (Beginning p (pending_in (Some change))) new
   begins change free prepared whole is =
       Begin (record { p = p; change = change; free = free; prepared = prepared; whole = whole; says_is = refl; done = is })
 
-  pub unmap_moves : (pcid va len : ℕ) (range : PageRange) → unmap_refusal s p pcid va len ≡ None → judged_range s.hardware.spaces pcid va len ≡ Ok range
-      → new ≡ begin_change s p (changes.Unmap pcid range) → Move disk s (Beginning p (pending_in (Some (changes.Unmap pcid range)))) new
+  pub unmap_moves : (pcid va len : ℕ) (range : PageRange) → unmap_refusal s p pcid va len ≡ None
+      → judged_range s.hardware.spaces pcid va len ≡ Ok range
+      → new ≡ begin_change s p (changes.Unmap pcid range)
+      → Move disk s (Beginning p (pending_in (Some (changes.Unmap pcid range)))) new
   unmap_moves pcid va len range none judged is =
       begins (changes.Unmap pcid range) (first_none (not_free s.hardware.shootdown p) (why_not (judged_range s.hardware.spaces pcid va len) ∷ []) none).0
       (judged_range-ok s.hardware.spaces pcid va len range judged) (λ e. cc) is
 
-  pub protect_moves : (pcid va len : ℕ) (prot : Rights) (range : PageRange) → protect_refusal_of s p pcid va len prot ≡ None → judged_protection s.hardware.spaces pcid va len prot ≡ Ok range
-      → new ≡ begin_change s p (changes.Protect pcid range prot) → Move disk s (Beginning p (pending_in (Some (changes.Protect pcid range prot)))) new
+  pub protect_moves : (pcid va len : ℕ) (prot : Rights) (range : PageRange)
+      → protect_refusal_of s p pcid va len prot ≡ None → judged_protection s.hardware.spaces pcid va len prot ≡ Ok range
+      → new ≡ begin_change s p (changes.Protect pcid range prot)
+      → Move disk s (Beginning p (pending_in (Some (changes.Protect pcid range prot)))) new
   protect_moves pcid va len prot range none judged is =
       let fit = judged_protection-ok s.hardware.spaces pcid va len prot range judged in
       let user = judged_range-ok s.hardware.spaces pcid va len range fit.0 in
       begins (changes.Protect pcid range prot) (first_none (not_free s.hardware.shootdown p) (why_not (judged_protection s.hardware.spaces pcid va len prot) ∷ []) none).0
       (user.0, user.1, fit.1) (λ e. cc) is
 
-  pub reclaim_moves : (owner : FilePage) → reclaim_refusal s p owner ≡ None → is_in_memory s.hardware.memory owner ≡ true
+  pub reclaim_moves : (owner : FilePage) → reclaim_refusal s p owner ≡ None
+      → is_in_memory s.hardware.memory owner ≡ true
       → new ≡ begin_change s p (changes.Reclaim owner) → Move disk s (Beginning p None) new
   reclaim_moves owner none there is =
       let no_file = refuse_if (leb (length s.table.files) owner.file) refusals.NoFile in
@@ -40,7 +46,8 @@ module _ {disk : List ℕ} (s : State) (p : ℕ) {new : State} where
       let page = leb-false (pages_in_file s.table.files owner.file) owner.page (refuse_none (leb (pages_in_file s.table.files owner.file) owner.page) refusals.Einval (first_none no_page [] two.1).0) in
       begins (changes.Reclaim owner) parts.0 (file, page, there) (λ e. cc) is
 
-  pub msync_moves : (va len flags : ℕ) → msync_refusal s p va len flags ≡ None → new ≡ begin_change s p changes.Checkpoint → Move disk s (Beginning p None) new
+  pub msync_moves : (va len flags : ℕ) → msync_refusal s p va len flags ≡ None
+      → new ≡ begin_change s p changes.Checkpoint → Move disk s (Beginning p None) new
   msync_moves va len flags none is =
       let invalid = refuse_if (not (is_msync va len flags)) refusals.Einval in
       let unmapped = refuse_if (not (maps_each s.hardware.spaces (current s.hardware.shootdown p) va len)) refusals.Enomem in

@@ -20,8 +20,10 @@ use Rattle.machine.proofs.sound.Frames.{notes_in_use}
 use Rattle.machine.proofs.track.DirtyFrames.{dirty_rights, dirty_taken, takes_range}
 
 -- the places of a space that is there change so
-places_changed : (pcid : ℕ) (change : Places → Places) (old new : Spaces) → has_space old pcid ≡ true → ((q : ℕ) → has_space new q ≡ has_space old q)
-    → (space_at new pcid).places ≡ change (space_at old pcid).places → ((q : ℕ) → q ≢ pcid → (space_at new q).places ≡ (space_at old q).places) → ChangesPlaces pcid change old new
+places_changed : (pcid : ℕ) (change : Places → Places) (old new : Spaces) → has_space old pcid ≡ true
+    → ((q : ℕ) → has_space new q ≡ has_space old q)
+    → (space_at new pcid).places ≡ change (space_at old pcid).places
+    → ((q : ℕ) → q ≢ pcid → (space_at new q).places ≡ (space_at old q).places) → ChangesPlaces pcid change old new
 places_changed pcid change old new there same here others = record { there = λ q. same q ∙ sym (as_before q); here = here; others = others }
   where
     as_before : (q : ℕ) → (eqb q pcid || has_space old q) ≡ has_space old q
@@ -94,7 +96,8 @@ module _ (disk : List ℕ) (s : State) (p : ℕ) (new : State) (sound : IsSound 
         done = made.done;
       })
     where
-      in_files : (q page : ℕ) (place : Place) (b : Bool) (o : Option Place) → place_at s.hardware.spaces q page ≡ o → cond b (option_map (with_rights_of made.rights) o) o ≡ Some place → place.file < length s.table.files
+      in_files : (q page : ℕ) (place : Place) (b : Bool) (o : Option Place) → place_at s.hardware.spaces q page ≡ o
+          → cond b (option_map (with_rights_of made.rights) o) o ≡ Some place → place.file < length s.table.files
       in_files q page place true None at e = absurd (cc)
       in_files q page place true (Some was) at e = subst (λ (x : Place). x.file < length s.table.files) (same_some e) (sound.spaces.in_table q page was at)
       in_files q page place false o at e = sound.spaces.in_table q page place (at ∙ e)
@@ -128,13 +131,15 @@ module _ (disk : List ℕ) (s : State) (p : ℕ) (new : State) (sound : IsSound 
     maps_it pcid page = is_place_of made.owner (place_at old pcid page)
 
     -- an entry that maps the page maps its frame
-    its_frame : (pcid page : ℕ) (entry : Mapped) → entry_at old pcid page ≡ Some entry → maps_it pcid page ≡ true → entry.frame ≡ made.frame
+    its_frame : (pcid page : ℕ) (entry : Mapped) → entry_at old pcid page ≡ Some entry → maps_it pcid page ≡ true
+        → entry.frame ≡ made.frame
     its_frame pcid page entry present maps =
         let is = sound.memory.backed pcid page entry present in
         let same : page_at is.place ≡ made.owner = same_page-true (page_at is.place) made.owner (sym (ap (is_place_of made.owner) is.mapped) ∙ maps) in
         sound.memory.memory.one_frame entry.frame made.frame made.owner (is.held ∙ ap (λ x. Some x) same) made.leaves.held
 
-    was : (pcid page : ℕ) (entry : Mapped) → entry_at made.spaces pcid page ≡ Some entry → (maps_it pcid page ≡ false) × (entry_at old pcid page ≡ Some entry)
+    was : (pcid page : ℕ) (entry : Mapped) → entry_at made.spaces pcid page ≡ Some entry
+        → (maps_it pcid page ≡ false) × (entry_at old pcid page ≡ Some entry)
     was pcid page entry present = stays (maps_it pcid page) (entry_at old pcid page) entry (sym (made.cleared.entries pcid page) ∙ present)
 
     -- no entry maps the frame any more

@@ -1,4 +1,4 @@
--- The moves of a fault that is served: its page is read in, or is there; it is copied where it is held; its entry is made.
+-- The moves of a fault that is served: its page is read in, or is there; it is copied if it is held; its entry is made.
 use Rattle.machine.proofs.Names.{ℕ, ◌≡◌, ◌/◌, ◌&&◌, not, Bool, true, false, List, Option, Some, None, refl, sym, ap}
 use Rattle.machine.proofs.Names.{◌∙◌, subst, inl, inr, list_any, and_parts, get_or-set_same, slice_get_within, Mapped}
 use Rattle.machine.proofs.Names.{FilePage, may_write, FramesState, Frame, page_of, entry_at, with_entry, Keeps, current}
@@ -20,7 +20,9 @@ module _ (s : State) (disk : List ℕ) (sound : IsSound s) where
     moves : SilentMoves disk s (with_memory s memory)
     holds : Holds memory frame owner
 
-  brought : (owner : FilePage) (frame : ℕ) (mid : FramesState) → IsInFile s owner → (is_in_memory s.hardware.memory owner ≡ false → s.write_outs.broken ≡ false) → Brings s.hardware.memory owner (page_from s disk owner) frame mid
+  brought : (owner : FilePage) (frame : ℕ) (mid : FramesState) → IsInFile s owner
+      → (is_in_memory s.hardware.memory owner ≡ false → s.write_outs.broken ≡ false)
+      → Brings s.hardware.memory owner (page_from s disk owner) frame mid
       → IsThere owner frame mid × (mid.copies ≡ s.hardware.memory.copies)
   brought owner frame mid in_file whole (inl there) =
       subst (λ (m : FramesState). IsThere owner frame m × (m.copies ≡ s.hardware.memory.copies)) (sym there.1) (record { moves = no_moves refl; holds = there.0 }, refl)
@@ -35,7 +37,8 @@ module _ (s : State) (disk : List ℕ) (sound : IsSound s) where
       )
 
   -- its bytes are copied, or aren't
-  copied : (b : Bool) (owner : FilePage) (frame : ℕ) (mid memory : FramesState) → IsThere owner frame mid → (b ≡ true → is_held mid s.checkpoint owner ≡ true)
+  copied : (b : Bool) (owner : FilePage) (frame : ℕ) (mid memory : FramesState) → IsThere owner frame mid
+      → (b ≡ true → is_held mid s.checkpoint owner ≡ true)
       → CopiesOut b mid frame memory → IsThere owner frame memory
   copied false owner frame mid memory there held same = subst (IsThere owner frame) (sym same) there
   copied true owner frame mid memory there held copies =

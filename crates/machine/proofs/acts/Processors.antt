@@ -10,8 +10,10 @@ use Rattle.machine.proofs.sound.Admitted.{free_below, there_below, switch_admitt
 
 module _ {disk : List ℕ} (s : State) (p : ℕ) {new : State} (sound : IsSound s) where
   -- it goes on from now on, or doesn't
-  goes : (x : Processor) (b : Bool) → p < length s.hardware.shootdown.processors → x.space ≡ current s.hardware.shootdown p → is_running x.state ≡ b
-      → IsShootdown (with_processor s.hardware.shootdown p x) → Coheres s.hardware.spaces (with_processor s.hardware.shootdown p x)
+  goes : (x : Processor) (b : Bool) → p < length s.hardware.shootdown.processors
+      → x.space ≡ current s.hardware.shootdown p → is_running x.state ≡ b
+      → IsShootdown (with_processor s.hardware.shootdown p x)
+      → Coheres s.hardware.spaces (with_processor s.hardware.shootdown p x)
       → new ≡ with_shootdown s (with_processor s.hardware.shootdown p x) → Move disk s (Running p b) new
   goes x b there space state is_shootdown coheres is = Replace (record {
     p = p;
@@ -40,20 +42,23 @@ module _ {disk : List ℕ} (s : State) (p : ℕ) {new : State} (sound : IsSound 
         done = is;
       })
 
-  pub ack_moves : not_there s.hardware.shootdown p ≡ None → state_of s.hardware.shootdown p ≡ Interrupted → new ≡ with_shootdown s (stalled s.hardware.shootdown p) → Move disk s (Running p false) new
+  pub ack_moves : not_there s.hardware.shootdown p ≡ None → state_of s.hardware.shootdown p ≡ Interrupted
+      → new ≡ with_shootdown s (stalled s.hardware.shootdown p) → Move disk s (Running p false) new
   ack_moves none state is =
       let there = there_below s.hardware.shootdown p none in
       goes (record (processor_at s.hardware.shootdown p) { state = Stalled }) false there refl refl
       (IsShootdown-stalled s.hardware.shootdown p sound.spaces.shootdown there state) (Coheres-stalled s.hardware.shootdown p there s.hardware.spaces sound.spaces.coheres) is
 
-  pub idle_moves : idle_refusal s.hardware.shootdown p ≡ None → new ≡ with_shootdown s (idled s.hardware.shootdown p) → Move disk s (Running p false) new
+  pub idle_moves : idle_refusal s.hardware.shootdown p ≡ None → new ≡ with_shootdown s (idled s.hardware.shootdown p)
+      → Move disk s (Running p false) new
   idle_moves none is =
       let may = idle_admitted s.hardware.shootdown p none in
       goes (record (processor_at s.hardware.shootdown p) { state = Idle }) false may.0 refl refl
       (IsShootdown-idled s.hardware.shootdown p sound.spaces.shootdown may.0 may.1) (Coheres-idled s.hardware.shootdown p may.0 s.hardware.spaces sound.spaces.coheres) is
 
   -- one that waited goes on, once the lock is free
-  pub resume_moves : (p < length s.hardware.shootdown.processors) × (s.hardware.shootdown.lock ≡ None) → new ≡ with_shootdown s (resumed s.hardware.shootdown p) → Move disk s (Running p true) new
+  pub resume_moves : (p < length s.hardware.shootdown.processors) × (s.hardware.shootdown.lock ≡ None)
+      → new ≡ with_shootdown s (resumed s.hardware.shootdown p) → Move disk s (Running p true) new
   resume_moves may is =
       goes (woken (processor_at s.hardware.shootdown p)) true may.0 refl refl
       (IsShootdown-resumed s.hardware.shootdown p sound.spaces.shootdown may.0 may.1) (Coheres-resumed s.hardware.shootdown p may.0 may.1 s.hardware.spaces sound.spaces.coheres) is

@@ -19,7 +19,8 @@ use Rattle.machine.proofs.sound.Admitted.{first_none, refuse_none, free_below, u
 use Rattle.machine.proofs.track.DirtyFrames.{dirty_equal}
 
 -- a space is made, or replaced by one that maps other pages
-places_made : (old : Spaces) (pcid : ℕ) (space : AddressSpace) (change : Places → Places) → space.places ≡ change (space_at old pcid).places → ChangesPlaces pcid change old (with_space old pcid space)
+places_made : (old : Spaces) (pcid : ℕ) (space : AddressSpace) (change : Places → Places)
+    → space.places ≡ change (space_at old pcid).places → ChangesPlaces pcid change old (with_space old pcid space)
 places_made old pcid space change is = record {
   there = has_space-with_space old pcid space;
   here = ap (λ (x : AddressSpace). x.places) (space_at-with_space_same old pcid space) ∙ is;
@@ -28,8 +29,10 @@ places_made old pcid space change is = record {
 
 -- ---- a space is made
 
-pub create_moves : {disk : List ℕ} (s : State) (p pcid : ℕ) {new : State} → not_free s.hardware.shootdown p ≡ None → IsLowestFree s.hardware.spaces pcid → IsSound s
-    → new ≡ with_spaces s (with_space s.hardware.spaces pcid empty_space) → Move disk s (Mapping pcid (λ places. maps.empty)) new
+pub create_moves : {disk : List ℕ} (s : State) (p pcid : ℕ) {new : State} → not_free s.hardware.shootdown p ≡ None
+    → IsLowestFree s.hardware.spaces pcid → IsSound s
+    → new ≡ with_spaces s (with_space s.hardware.spaces pcid empty_space)
+    → Move disk s (Mapping pcid (λ places. maps.empty)) new
 create_moves s p pcid {new} may lowest sound is =
     let old = s.hardware.spaces in
     let spaces = with_space old pcid empty_space in
@@ -52,7 +55,8 @@ pub record MayMap (s : State) (p pcid file : ℕ) (prot access : Rights) (pages 
   pub file_there : file < length s.table.files
   pub added : add_refusal (space_at s.hardware.spaces pcid).places pages.0 (record { file = file; page = pages.1; rights = prot; access = access }) ≡ None
 
-pub map_admitted : (s : State) (p pcid va len file offset : ℕ) (prot access : Rights) (pages : PageRange × ℕ) → map_refusal s p pcid va len file offset prot access ≡ None
+pub map_admitted : (s : State) (p pcid va len file offset : ℕ) (prot access : Rights) (pages : PageRange × ℕ)
+    → map_refusal s p pcid va len file offset prot access ≡ None
     → judged_mapping s.hardware.spaces pcid va len offset ≡ Ok pages → MayMap s p pcid file prot access pages
 map_admitted s p pcid va len file offset prot access pages none judged =
     let past = refuse_if (leb (length s.table.files) file) refusals.NoFile in
@@ -68,25 +72,31 @@ map_admitted s p pcid va len file offset prot access pages none judged =
     }
 
 -- no page of it was mapped
-none_mapped : (places : Places) (range : PageRange) (place : Place) → add_refusal places range place ≡ None → any_mapped places range.first range.count ≡ false
+none_mapped : (places : Places) (range : PageRange) (place : Place) → add_refusal places range place ≡ None
+    → any_mapped places range.first range.count ≡ false
 none_mapped places range place none = by (is_mappable range place.page) (allows place.access place.rights) (any_mapped places range.first range.count) none
   where
-    by : (a b c : Bool) → cond (not a) (Some refusals.Einval) (cond (not b) (Some refusals.Eacces) (cond c (Some refusals.Overlap) None)) ≡ None → c ≡ false
+    by : (a b c : Bool)
+        → cond (not a) (Some refusals.Einval) (cond (not b) (Some refusals.Eacces) (cond c (Some refusals.Overlap) None)) ≡ None
+        → c ≡ false
     by true true false e = refl
     by true true true e = absurd (cc)
     by true false c e = absurd (cc)
     by false b c e = absurd (cc)
 
-unmapped_at : (places : Places) (range : PageRange) (page : ℕ) → any_mapped places range.first range.count ≡ false → is_among range.first range.count page ≡ true → maps.get places page ≡ None
+unmapped_at : (places : Places) (range : PageRange) (page : ℕ) → any_mapped places range.first range.count ≡ false
+    → is_among range.first range.count page ≡ true → maps.get places page ≡ None
 unmapped_at places range page none among =
     let parts = and_parts _ _ among in
     by (maps.get places page) refl (leb-true range.first page parts.0) (ltb-true page _ parts.1)
   where
-    by : (o : Option Place) → maps.get places page ≡ o → Rattle.std.specs.Prelude.◌≤◌ range.first page → page < Rattle.std.specs.Prelude.◌+◌ range.first range.count → o ≡ None
+    by : (o : Option Place) → maps.get places page ≡ o → Rattle.std.specs.Prelude.◌≤◌ range.first page
+        → page < Rattle.std.specs.Prelude.◌+◌ range.first range.count → o ≡ None
     by None at low high = refl
     by (Some place) at low high = absurd (false≢true (sym none ∙ (Decides-any_in_range (maps.contains_key places) range.first range.count).1 (page, low, high, ap is_some at)))
 
-pub map_moves : {disk : List ℕ} (s : State) (p pcid va len file offset : ℕ) (prot access : Rights) {new : State} (made : MapMade s p pcid va len file offset prot access new) → IsSound s
+pub map_moves : {disk : List ℕ} (s : State) (p pcid va len file offset : ℕ) (prot access : Rights) {new : State} (made : MapMade s p pcid va len file offset prot access new)
+    → IsSound s
     → Move disk s (Mapping pcid (λ places. with_range places made.pages.0.first made.pages.0.count (record { file = file; page = made.pages.1; rights = prot; access = access }))) new
 map_moves s p pcid va len file offset prot access {new} made sound =
     let old = s.hardware.spaces in

@@ -15,7 +15,8 @@ abbrev pub SinceNow : {D : Type 0} → Ghosts D → Type 0
 SinceNow {D} disk = (device : D) (c : List ℕ) → disk.left_since device (disk.moment device) c → disk.may_leave device c
 
 -- the step's act may be written in another way
-act_as : {D Z : Type 0} (disk : Ghosts D) (old new : Layers D Z) (step : Step) (act : Act) (reply : Reply) → step.act ≡ act
+act_as : {D Z : Type 0} (disk : Ghosts D) (old new : Layers D Z) (step : Step) (act : Act) (reply : Reply)
+    → step.act ≡ act
     → ActDone disk old (record { p = step.p; act = act }) reply new → ActDone disk old step reply new
 act_as disk old new step act reply is done = subst (λ (a : Act). ActDone disk old (record { p = step.p; act = a }) reply new) (sym is) done
 
@@ -39,8 +40,11 @@ module _ {D Z : Type 0} (disk : Ghosts D) (since_now : SinceNow disk) (old new :
     kept = kept;
   }
 
-  pub quiet_done : (step : Step) (act : Act) → step.act ≡ act → (reply : Reply) → IsQuiet old new → ((d : List ℕ) → Acts (state_in old) d step.p act reply (state_in new) d)
-      → step_work (state_in old) act reply ≡ Nothing → ((calls faults : ℕ) → CallsOf (state_in old) step.p act reply calls calls faults faults) → ActDone disk old step reply new
+  pub quiet_done : (step : Step) (act : Act) → step.act ≡ act → (reply : Reply) → IsQuiet old new
+      → ((d : List ℕ) → Acts (state_in old) d step.p act reply (state_in new) d)
+      → step_work (state_in old) act reply ≡ Nothing
+      → ((calls faults : ℕ) → CallsOf (state_in old) step.p act reply calls calls faults faults)
+      → ActDone disk old step reply new
   quiet_done step act is reply quiet rules work counts =
       act_as disk old new step act reply is (still_done step.p act reply (record {
         some_disk = ([], [], rules []);
@@ -61,7 +65,8 @@ few_calls Sync calls few = omega (arith, few)
 few_calls Nothing calls few = omega (arith, few)
 
 module _ {D : Type 0} (disk : Ghosts D) (s : State) (old new : D) where
-  flush_calls : (reply : Reply) → Did disk old (step_work s acts.Flush reply) (not (has_failed reply)) new → FlushCalls s reply (disk.calls_made old) (disk.calls_made new) (disk.faults_met old) (disk.faults_met new)
+  flush_calls : (reply : Reply) → Did disk old (step_work s acts.Flush reply) (not (has_failed reply)) new
+      → FlushCalls s reply (disk.calls_made old) (disk.calls_made new) (disk.faults_met old) (disk.faults_met new)
   flush_calls replies.Going did = (λ few. did.calls (few_calls (work_asked s) _ few), did.faults)
   flush_calls (replies.Committed number) did = (λ few. did.calls (few_calls (work_asked s) _ few), did.faults)
   flush_calls (replies.Done number) did = (λ few. did.calls (few_calls (work_asked s) _ few), did.faults)
@@ -69,9 +74,11 @@ module _ {D : Type 0} (disk : Ghosts D) (s : State) (old new : D) where
   flush_calls (replies.Refused why) did = let same = did.still refl in (ap disk.calls_made same, ap disk.faults_met same)
   flush_calls reply did = let same = did.still refl in (ap disk.calls_made same, ap disk.faults_met same)
 
-pub flush_done : {D Z : Type 0} (disk : Ghosts D) (old new : Layers D Z) (step : Step) (reply : Reply) → step.act ≡ acts.Flush
+pub flush_done : {D Z : Type 0} (disk : Ghosts D) (old new : Layers D Z) (step : Step) (reply : Reply)
+    → step.act ≡ acts.Flush
     → AnswersBy (disk.is_honest old.device) (λ d d'. Flushes (state_in old) d step.p reply (state_in new) d') (disk.seen old.device) (disk.seen new.device)
-    → Did disk old.device (step_work (state_in old) acts.Flush reply) (not (has_failed reply)) new.device → KeepsReserved old new → ActDone disk old step reply new
+    → Did disk old.device (step_work (state_in old) acts.Flush reply) (not (has_failed reply)) new.device
+    → KeepsReserved old new → ActDone disk old step reply new
 flush_done {D} disk old new step reply is rules did kept =
     act_as disk old new step acts.Flush reply is (record {
       rules = rules;
@@ -88,17 +95,22 @@ flush_done {D} disk old new step reply is rules did kept =
 -- ---- a fault that is served
 
 -- a read that was made failed exactly where the reply says so
-failed_if : (s : State) (d : List ℕ) (p va : ℕ) (write : Bool) (result : Result Reply Refusal) (new : State) → Rattle.std.specs.Result.IfOk result (λ reply. reply ≡ replies.Fixed)
-    → reads_page s p va write ≡ true → Fixes s d p va write (reply_to result) new → is_err result ≡ has_failed (reply_to result)
+failed_if : (s : State) (d : List ℕ) (p va : ℕ) (write : Bool) (result : Result Reply Refusal) (new : State)
+    → Rattle.std.specs.Result.IfOk result (λ reply. reply ≡ replies.Fixed)
+    → reads_page s p va write ≡ true → Fixes s d p va write (reply_to result) new
+    → is_err result ≡ has_failed (reply_to result)
 failed_if s d p va write (Ok reply) new fixed reads rule = ap has_failed (sym fixed)
 failed_if s d p va write (Err refusals.Device) new fixed reads rule = refl
 failed_if s d p va write (Err why) new fixed reads rule = absurd (unread (is_none (fix_refusal s p va write)) reads (ap is_none rule.reason_is))
   where
-    unread : (b : Bool) → (b && Rattle.machine.specs.Calls.is_absent s (Rattle.fault.specs.Fault.place_of_fault s.hardware.spaces (Rattle.shootdown.specs.Shootdown.current s.hardware.shootdown p) va write)) ≡ true → b ≡ false → ⊥
+    unread : (b : Bool)
+        → (b && Rattle.machine.specs.Calls.is_absent s (Rattle.fault.specs.Fault.place_of_fault s.hardware.spaces (Rattle.shootdown.specs.Shootdown.current s.hardware.shootdown p) va write)) ≡ true
+        → b ≡ false → ⊥
     unread true e f = absurd (cc)
     unread false e f = absurd (cc)
 
-pub fix_done : {D Z : Type 0} (disk : Ghosts D) (since_now : SinceNow disk) (old new : Layers D Z) (step : Step) (va : ℕ) (write : Bool) (result : Result Reply Refusal) → step.act ≡ acts.Fix va write
+pub fix_done : {D Z : Type 0} (disk : Ghosts D) (since_now : SinceNow disk) (old new : Layers D Z) (step : Step) (va : ℕ) (write : Bool) (result : Result Reply Refusal)
+    → step.act ≡ acts.Fix va write
     → AnswersBy (disk.is_honest old.device) (λ d d'. Fixes (state_in old) d step.p va write (reply_to result) (state_in new) × (d' ≡ d)) (disk.seen old.device) (disk.seen new.device)
     → Rattle.std.specs.Result.IfOk result (λ reply. reply ≡ replies.Fixed)
     → (reads_page (state_in old) step.p va write ≡ false → new.device ≡ old.device)
@@ -108,7 +120,8 @@ pub fix_done : {D Z : Type 0} (disk : Ghosts D) (since_now : SinceNow disk) (old
 fix_done {D} disk since_now old new step va write result is rules fixed untouched read kept =
     act_as disk old new step (acts.Fix va write) (reply_to result) is (by (reads_page (state_in old) step.p va write) refl)
   where
-    by : (b : Bool) → reads_page (state_in old) step.p va write ≡ b → ActDone disk old (record { p = step.p; act = acts.Fix va write }) (reply_to result) new
+    by : (b : Bool) → reads_page (state_in old) step.p va write ≡ b
+        → ActDone disk old (record { p = step.p; act = acts.Fix va write }) (reply_to result) new
     by false e =
         still_done disk since_now old new step.p (acts.Fix va write) (reply_to result) rules (untouched e) refl
         (subst (λ b. FixCalls b (reply_to result) (disk.calls_made old.device) (disk.calls_made old.device) (disk.faults_met old.device) (disk.faults_met old.device)) (sym e)

@@ -1,4 +1,4 @@
--- Processors, spaces and entries that are replaced: the conditions of these moves, and that a machine stays sound by them.
+-- Processors, spaces and entries that are replaced: the conditions of these moves, by which a machine stays sound.
 use Rattle.machine.proofs.Names.{ℕ, ◌≡◌, ◌<◌, Bool, true, false, cond, ◌&&◌, eqb, List, [], ◌∷◌, length, Some, is_some}
 use Rattle.machine.proofs.Names.{IsSome, refl, sym, ap, ◌∙◌, subst, and_parts, and_from, or_right, eqb-true, eq-eqb}
 use Rattle.machine.proofs.Names.{cond-true, Mapped, TlbState, filled, Place, Spaces, has_space, space_at, entry_at}
@@ -27,12 +27,14 @@ processor_sound s says new is sound =
     sound.spaces.prepared sound)
 
 -- a space that was there is
-space_stays : (says : Saying) (old new : Spaces) → AreSpacesTold says old new → (q : ℕ) → has_space old q ≡ true → has_space new q ≡ true
+space_stays : (says : Saying) (old new : Spaces) → AreSpacesTold says old new → (q : ℕ) → has_space old q ≡ true
+    → has_space new q ≡ true
 space_stays Silent old new told q is = told.there q ∙ is
 space_stays (Mapping space change) old new told q is = told.there q ∙ or_right (eqb q space) (has_space old q) is
 space_stays says old new told q is = absurd told
 
-pub spaces_sound : (s : State) (spaces : Spaces) (says : Saying) (new : State) → ReplacesSpaces s spaces says new → IsSound s → IsSound new
+pub spaces_sound : (s : State) (spaces : Spaces) (says : Saying) (new : State) → ReplacesSpaces s spaces says new
+    → IsSound s → IsSound new
 spaces_sound s spaces says new is sound = unchanged_sound _ new is.done (still_sound sound refl refl
     (record {
       spaces = is.are_spaces;
@@ -47,8 +49,10 @@ spaces_sound s spaces says new is sound = unchanged_sound _ new is.done (still_s
 
 -- ---- another TLB
 
-pub tlb_replaced : (s : State) (p : ℕ) (tlb : TlbState) (new : State) → IsSound s → p < length s.hardware.shootdown.processors
-    → IsShootdown (with_tlb s.hardware.shootdown p tlb) → Coheres s.hardware.spaces (with_tlb s.hardware.shootdown p tlb)
+pub tlb_replaced : (s : State) (p : ℕ) (tlb : TlbState) (new : State) → IsSound s
+    → p < length s.hardware.shootdown.processors
+    → IsShootdown (with_tlb s.hardware.shootdown p tlb)
+    → Coheres s.hardware.spaces (with_tlb s.hardware.shootdown p tlb)
     → new ≡ with_shootdown s (with_tlb s.hardware.shootdown p tlb) → ReplacesProcessor s Silent new
 tlb_replaced s p tlb new sound there is_shootdown coheres is = record {
   p = p;
@@ -64,11 +68,13 @@ tlb_replaced s p tlb new sound there is_shootdown coheres is = record {
 -- ---- another entry of a page
 
 -- a page that was mapped gets an entry; while the lock is held, it has one
-pub entry_replaced : (s : State) (pcid page : ℕ) (place : Place) (entry : Mapped) → place_at s.hardware.spaces pcid page ≡ Some place
+pub entry_replaced : (s : State) (pcid page : ℕ) (place : Place) (entry : Mapped)
+    → place_at s.hardware.spaces pcid page ≡ Some place
     → MayBe s.hardware.memory s.checkpoint place entry
     → ((was : Mapped) → entry_at s.hardware.spaces pcid page ≡ Some was → Keeps was entry)
     → ((lock : Lock) → s.hardware.shootdown.lock ≡ Some lock → IsSome (entry_at s.hardware.spaces pcid page))
-    → IsSound s → ReplacesSpaces s (with_entry s.hardware.spaces pcid page (Some entry)) Silent (with_spaces s (with_entry s.hardware.spaces pcid page (Some entry)))
+    → IsSound s
+    → ReplacesSpaces s (with_entry s.hardware.spaces pcid page (Some entry)) Silent (with_spaces s (with_entry s.hardware.spaces pcid page (Some entry)))
 entry_replaced s pcid page place entry mapped may keeps had sound =
     let old = s.hardware.spaces in
     let new = with_entry old pcid page (Some entry) in
@@ -96,7 +102,8 @@ entry_replaced s pcid page place entry mapped may keeps had sound =
     }
   where
     stays : IsSome (entry_at s.hardware.spaces pcid page) → (q at : ℕ) (b : Bool) → (eqb q pcid && eqb at page) ≡ b
-        → is_some (cond b (Some entry) (entry_at s.hardware.spaces q at)) ≡ true → is_some (entry_at s.hardware.spaces q at) ≡ true
+        → is_some (cond b (Some entry) (entry_at s.hardware.spaces q at)) ≡ true
+        → is_some (entry_at s.hardware.spaces q at) ≡ true
     stays some q at true here is =
         let parts = and_parts (eqb q pcid) (eqb at page) here in
         (λ i. is_some (entry_at s.hardware.spaces (eqb-true q pcid parts.0 i) (eqb-true at page parts.1 i))) ∙ some
@@ -111,7 +118,8 @@ pub record IsNoted (was now : Mapped) : Type 0 where
   pub still_dirty : was.dirty ≡ true → now.dirty ≡ true
 
 -- the entry that a page was given
-given_entry : (m : Spaces) (pcid page : ℕ) (entry : Mapped) → entry_at (with_entry m pcid page (Some entry)) pcid page ≡ Some entry
+given_entry : (m : Spaces) (pcid page : ℕ) (entry : Mapped)
+    → entry_at (with_entry m pcid page (Some entry)) pcid page ≡ Some entry
 given_entry m pcid page entry =
     entry_at-with_entry m pcid page (Some entry) pcid page
     ∙ cond-true (eqb pcid pcid && eqb page page) (Some entry) (entry_at m pcid page) (and_from (eqb pcid pcid) (eqb page page) (eq-eqb pcid pcid refl) (eq-eqb page page refl))
@@ -155,7 +163,8 @@ module _ (s : State) (p page : ℕ) (was now : Mapped) (sound : IsSound s) (ther
   walk_sound = processor_sound mid Silent _ walk_cached (spaces_sound s spaces Silent mid walk_noted sound)
 
   -- where the walk leaves the dirty bit, these are two moves
-  pub walk_moves : (disk : List ℕ) (new : State) → now.dirty ≡ was.dirty → new ≡ with_hardware s (walked s.hardware p page now) → SilentMoves disk s new
+  pub walk_moves : (disk : List ℕ) (new : State) → now.dirty ≡ was.dirty
+      → new ≡ with_hardware s (walked s.hardware p page now) → SilentMoves disk s new
   walk_moves disk new same is = record {
     says = Silent ∷ Silent ∷ [];
     silent = tt;

@@ -35,7 +35,8 @@ begun_sound s says new is sound =
     ap (has_space s.hardware.spaces) (current-begun sd is.p s.hardware.spaces is.change q below) ∙ sound.spaces.current q below)
     (λ lock held. subst (IsPrepared s) (its_change lock held) is.prepared) sound)
   where
-    its_change : (lock : Lock) → Some (record { holder = is.p; change = is.change }) ≡ Some lock → is.change ≡ lock.change
+    its_change : (lock : Lock) → Some (record { holder = is.p; change = is.change }) ≡ Some lock
+        → is.change ≡ lock.change
     its_change lock held = cc
 
 ended_sound : (s : State) (says : Saying) (new : State) → EndsChange s says new → IsSound s → IsSound new
@@ -61,7 +62,8 @@ destroy_admitted s p pcid none =
     let two = by (is_user_space s.hardware.spaces pcid) (is_current s.hardware.shootdown pcid) (first_none space [] parts.1).0 in
     record { free = parts.0; user = two.0; unused = two.1 }
   where
-    by : (user current : Bool) → cond (not user) (Some refusals.Einval) (cond current (Some refusals.Busy) None) ≡ None → (user ≡ true) × (current ≡ false)
+    by : (user current : Bool) → cond (not user) (Some refusals.Einval) (cond current (Some refusals.Busy) None) ≡ None
+        → (user ≡ true) × (current ≡ false)
     by true false e = (refl, refl)
     by true true e = absurd (cc)
     by false current e = absurd (cc)
@@ -111,7 +113,8 @@ stored_sound s says new is sound =
 
 -- ---- moves
 
-pub move_sound : (disk : List ℕ) (s : State) (says : Saying) (new : State) → Move disk s says new → IsSound s → IsSound new
+pub move_sound : (disk : List ℕ) (s : State) (says : Saying) (new : State) → Move disk s says new → IsSound s
+    → IsSound new
 move_sound disk s says new (Replace is) sound = processor_sound s says new is sound
 move_sound disk s says new (Remap spaces is dirty) sound = spaces_sound s spaces says new is sound
 move_sound disk s says new (Destroy is) sound = destroyed_sound s is.p is.pcid new is.made sound
@@ -123,7 +126,8 @@ move_sound disk s says new (Bring is) sound =
 move_sound disk s says new (Copy is) sound = unchanged_sound _ new is.done (copy_sound s is.frame is.owner is.copy is.holds is.held is.free sound)
 move_sound disk s says new (Drop is) sound = unchanged_sound _ new is.done (dropped_sound s is.owner is.frame is.leaves is.unmapped is.free sound)
 
-pub moves_sound : (disk : List ℕ) (s : State) (says : List Saying) (new : State) → Moves disk s says new → IsSound s → IsSound new
+pub moves_sound : (disk : List ℕ) (s : State) (says : List Saying) (new : State) → Moves disk s says new → IsSound s
+    → IsSound new
 moves_sound disk s [] new same sound = unchanged_sound s new same sound
 moves_sound disk s (first ∷ more) new moves sound =
     moves_sound disk moves.0 more new moves.2 (move_sound disk s first moves.0 moves.1 sound)

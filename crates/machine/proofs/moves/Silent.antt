@@ -21,7 +21,8 @@ pub one_move : {disk : List ℕ} {s new : State} → Move disk s Silent new → 
 one_move {new = new} move = record { says = Silent ∷ []; silent = tt; moves = (new, move, refl) }
 
 -- moves, and then others
-pub joined : (disk : List ℕ) (s mid new : State) (says more : List Saying) → Moves disk s says mid → Moves disk mid more new → Moves disk s (says ++ more) new
+pub joined : (disk : List ℕ) (s mid new : State) (says more : List Saying) → Moves disk s says mid
+    → Moves disk mid more new → Moves disk s (says ++ more) new
 joined disk s mid new [] more same rest = subst (λ x. Moves disk x more new) same rest
 joined disk s mid new (first ∷ says) more moves rest = (moves.0, moves.1, joined disk moves.0 mid new says more moves.2 rest)
 
@@ -30,7 +31,8 @@ silent_both [] more silent rest = rest
 silent_both (Silent ∷ says) more silent rest = silent_both says more silent rest
 silent_both (first ∷ says) more silent rest = absurd silent
 
-pub then_silent : {disk : List ℕ} {s mid new : State} → SilentMoves disk s mid → SilentMoves disk mid new → SilentMoves disk s new
+pub then_silent : {disk : List ℕ} {s mid new : State} → SilentMoves disk s mid → SilentMoves disk mid new
+    → SilentMoves disk s new
 then_silent {disk} {s} {mid} {new} first rest = record {
   says = first.says ++ rest.says;
   silent = silent_both first.says rest.says first.silent rest.silent;
@@ -44,13 +46,16 @@ silent_said told (first ∷ says) silent = absurd silent
 
 -- ---- acts of moves
 
-same_history : (told : Told) (history : List Event) → told.history ≡ history → record told { history = history ++ [] } ≡ told
+same_history : (told : Told) (history : List Event) → told.history ≡ history
+    → record told { history = history ++ [] } ≡ told
 same_history told history same = λ i. record told { history = (append-nil history ∙ sym same) i }
 
 -- an act of moves by which nothing is stored or marked
-pub moved_all : {s : State} {disk : List ℕ} {p : ℕ} {act : Act} {reply : Reply} {new : State} {disk' : List ℕ} (says : List Saying) → Moves disk s says new
+pub moved_all : {s : State} {disk : List ℕ} {p : ℕ} {act : Act} {reply : Reply} {new : State} {disk' : List ℕ} (says : List Saying)
+    → Moves disk s says new
     → ((told : Told) → tell told (record { p = p; act = act }) reply ≡ record (said_all told says) { history = told.history ++ [] })
-    → ((told : Told) → (said_all told says).history ≡ told.history) → step_work s act reply ≡ Nothing → disk' ≡ disk → Performed s disk p act reply new disk'
+    → ((told : Told) → (said_all told says).history ≡ told.history) → step_work s act reply ≡ Nothing → disk' ≡ disk
+    → Performed s disk p act reply new disk'
 moved_all says moves tells still work same = Moved (record {
   says = says;
   moves = moves;
@@ -60,13 +65,16 @@ moved_all says moves tells still work same = Moved (record {
 })
 
 -- of one move
-pub moved : {s : State} {disk : List ℕ} {p : ℕ} {act : Act} {reply : Reply} {new : State} {disk' : List ℕ} {says : Saying} → Move disk s says new
+pub moved : {s : State} {disk : List ℕ} {p : ℕ} {act : Act} {reply : Reply} {new : State} {disk' : List ℕ} {says : Saying}
+    → Move disk s says new
     → ((told : Told) → tell told (record { p = p; act = act }) reply ≡ record (said told says) { history = told.history ++ [] })
-    → ((told : Told) → (said told says).history ≡ told.history) → step_work s act reply ≡ Nothing → disk' ≡ disk → Performed s disk p act reply new disk'
+    → ((told : Told) → (said told says).history ≡ told.history) → step_work s act reply ≡ Nothing → disk' ≡ disk
+    → Performed s disk p act reply new disk'
 moved {new = new} {says = says} move tells still work same = moved_all (says ∷ []) (new, move, refl) tells still work same
 
 -- of moves that tell nothing
-pub silently : {s : State} {disk : List ℕ} {p : ℕ} {act : Act} {reply : Reply} {new : State} {disk' : List ℕ} → SilentMoves disk s new
+pub silently : {s : State} {disk : List ℕ} {p : ℕ} {act : Act} {reply : Reply} {new : State} {disk' : List ℕ}
+    → SilentMoves disk s new
     → ((told : Told) → tell told (record { p = p; act = act }) reply ≡ record told { history = told.history ++ [] })
     → step_work s act reply ≡ Nothing → disk' ≡ disk → Performed s disk p act reply new disk'
 silently silent tells work same = Moved (record {

@@ -13,7 +13,8 @@ pub unchanged_sound : (s new : State) → new ≡ s → IsSound s → IsSound ne
 unchanged_sound s new same sound = subst IsSound (sym same) sound
 
 -- the facts of each group, of a machine with the same table and lengths
-pub still_sound : {s new : State} → IsSound s → new.table ≡ s.table → new.lengths ≡ s.lengths → AreSpacesSound new → IsMemorySound new → AreWriteOutsSound new → IsSound new
+pub still_sound : {s new : State} → IsSound s → new.table ≡ s.table → new.lengths ≡ s.lengths → AreSpacesSound new
+    → IsMemorySound new → AreWriteOutsSound new → IsSound new
 still_sound {s} {new} sound table lengths spaces memory write_outs = record {
   fits = subst Fits (sym table) sound.fits;
   lengths = ap length lengths ∙ sound.lengths ∙ ap (λ (x : SuperValue). length x.files) (sym table);
@@ -25,7 +26,7 @@ still_sound {s} {new} sound table lengths spaces memory write_outs = record {
 
 -- ---- frames
 
--- their facts depend on spaces and notes only by what entries and notes are of, and not on processors, write-outs, marks
+-- their facts depend on spaces and notes only by what entries and notes are of, and on no processors, write-outs, marks
 pub memory_beside : (s : State) (shootdown : ShootdownState) (spaces : Spaces) (checkpoint : CheckpointState) (outs : WriteOutsValue) (marks : ℕ)
     → checkpoint.frozen ≡ s.checkpoint.frozen → length checkpoint.notes ≡ length s.checkpoint.notes
     → ((frame : ℕ) → is_noted checkpoint frame ≡ true → IsSome (frame_at s.hardware.memory frame))
@@ -50,7 +51,8 @@ memory_same s shootdown outs marks is = memory_beside s shootdown s.hardware.spa
 -- ---- write-outs
 
 -- their facts don't depend on processors, spaces and notes, and need only that pages of their batches stay in memory
-pub write_outs_kept : (s : State) (hardware : Hardware) (checkpoint : CheckpointState) → checkpoint.frozen ≡ s.checkpoint.frozen
+pub write_outs_kept : (s : State) (hardware : Hardware) (checkpoint : CheckpointState)
+    → checkpoint.frozen ≡ s.checkpoint.frozen
     → ((owner : FilePage) → HasBlock s.write_outs (home_of s.table owner) → is_in_memory s.hardware.memory owner ≡ true → is_in_memory hardware.memory owner ≡ true)
     → AreWriteOutsSound s → AreWriteOutsSound (record s { hardware = hardware; checkpoint = checkpoint })
 write_outs_kept s hardware checkpoint same stays is = record {
@@ -70,7 +72,8 @@ write_outs_kept s hardware checkpoint same stays is = record {
 }
 
 -- where each page stays in memory
-pub write_outs_moved : (s : State) (hardware : Hardware) (checkpoint : CheckpointState) → checkpoint.frozen ≡ s.checkpoint.frozen
+pub write_outs_moved : (s : State) (hardware : Hardware) (checkpoint : CheckpointState)
+    → checkpoint.frozen ≡ s.checkpoint.frozen
     → ((owner : FilePage) → is_in_memory s.hardware.memory owner ≡ true → is_in_memory hardware.memory owner ≡ true)
     → AreWriteOutsSound s → AreWriteOutsSound (record s { hardware = hardware; checkpoint = checkpoint })
 write_outs_moved s hardware checkpoint same stays = write_outs_kept s hardware checkpoint same (λ owner has. stays owner)
@@ -82,11 +85,14 @@ pub record StaysPrepared (s new : State) : Type 0 where
   pub users : (pcid : ℕ) → is_user_space s.hardware.spaces pcid ≡ true → is_user_space new.hardware.spaces pcid ≡ true
   pub places : (pcid : ℕ) → (space_at new.hardware.spaces pcid).places ≡ (space_at s.hardware.spaces pcid).places
   pub table : new.table ≡ s.table
-  pub in_memory : (owner : FilePage) → is_in_memory s.hardware.memory owner ≡ true → is_in_memory new.hardware.memory owner ≡ true
+  pub in_memory : (owner : FilePage) → is_in_memory s.hardware.memory owner ≡ true
+      → is_in_memory new.hardware.memory owner ≡ true
   pub marks : new.marks ≡ s.marks
-  pub free : (s.write_outs.broken ≡ false → is_busy s.write_outs ≡ false) → new.write_outs.broken ≡ false → is_busy new.write_outs ≡ false
+  pub free : (s.write_outs.broken ≡ false → is_busy s.write_outs ≡ false) → new.write_outs.broken ≡ false
+      → is_busy new.write_outs ≡ false
 
-pub prepared_moved : (s new : State) (change : Change) → StaysPrepared s new → IsPrepared s change → IsPrepared new change
+pub prepared_moved : (s new : State) (change : Change) → StaysPrepared s new → IsPrepared s change
+    → IsPrepared new change
 prepared_moved s new (Unmap pcid range) stays is = (stays.users pcid is.0, is.1)
 prepared_moved s new (Protect pcid range rights) stays is =
     (stays.users pcid is.0, is.1, ap (λ (places : Places). protect_refusal places range rights) (stays.places pcid) ∙ is.2)
@@ -100,15 +106,18 @@ prepared_moved s new Checkpoint stays is = (subst (λ n. n + 1 < 2 ^ 32) (sym st
 -- ---- processors
 
 -- it depends on no processor
-pub prepared_same : (s : State) (shootdown : ShootdownState) (change : Change) → IsPrepared s change → IsPrepared (with_shootdown s shootdown) change
+pub prepared_same : (s : State) (shootdown : ShootdownState) (change : Change) → IsPrepared s change
+    → IsPrepared (with_shootdown s shootdown) change
 prepared_same s shootdown change =
     prepared_moved s (with_shootdown s shootdown) change
     (record { users = λ pcid user. user; places = λ pcid. refl; table = refl; in_memory = λ owner there. there; marks = refl; free = λ free. free })
 
 -- other processors that cohere with the page tables, each in a space that is there
-pub shootdown_sound : (s : State) (shootdown : ShootdownState) → IsShootdown shootdown → Coheres s.hardware.spaces shootdown
+pub shootdown_sound : (s : State) (shootdown : ShootdownState) → IsShootdown shootdown
+    → Coheres s.hardware.spaces shootdown
     → ((p : ℕ) → p < length shootdown.processors → has_space s.hardware.spaces (current shootdown p) ≡ true)
-    → ((lock : Lock) → shootdown.lock ≡ Some lock → IsPrepared s lock.change) → IsSound s → IsSound (with_shootdown s shootdown)
+    → ((lock : Lock) → shootdown.lock ≡ Some lock → IsPrepared s lock.change) → IsSound s
+    → IsSound (with_shootdown s shootdown)
 shootdown_sound s shootdown is coheres current prepared sound = still_sound sound refl refl
     (record {
       spaces = sound.spaces.spaces;

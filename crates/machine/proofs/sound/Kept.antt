@@ -15,5 +15,6 @@ module _ {s : State} {disk : List ℕ} {p : ℕ} {act : Act} {reply : Reply} {ne
   performed_sound (Flushed act_is made fine) = flushed_sound s sound disk p reply new disk' made fine
   performed_sound (Failed act_is reply_is made) = unchanged_sound (after_failure s) new made.done (failed_sound s sound)
 
-pub sound_kept : (s : State) (disk : List ℕ) (step : Step) (reply : Reply) (new : State) (disk' : List ℕ) → IsSound s → Rules s disk step reply new disk' → IsSound new
+pub sound_kept : (s : State) (disk : List ℕ) (step : Step) (reply : Reply) (new : State) (disk' : List ℕ) → IsSound s
+    → Rules s disk step reply new disk' → IsSound new
 sound_kept s disk step reply new disk' sound rule = performed_sound sound (performed s disk step reply new disk' sound rule)

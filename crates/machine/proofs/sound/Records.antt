@@ -14,7 +14,7 @@ use Rattle.machine.proofs.sound.Frames.{held_in_memory}
 
 -- ---- the page whose record comes next
 
--- where a record is to be written: a page is frozen, the first of them is in memory, and the record is for its home block
+-- where a record is to be written: the first frozen page is in memory, and the record is for its home block
 pub record IsRecorded (s : State) : Type 0 where
   pub some : 0 < length s.checkpoint.frozen
   pub there : is_in_memory s.hardware.memory (next_page s) ≡ true

@@ -31,12 +31,14 @@ no_reason : IsFine None
 no_reason = record { is = refl }
 
 -- this reason where a test passes, or else another
-if_fine : (b : Bool) (why : Refusal) (other : Option Refusal) → is_odd (Some why) ≡ false → IsFine other → IsFine (cond b (Some why) other)
+if_fine : (b : Bool) (why : Refusal) (other : Option Refusal) → is_odd (Some why) ≡ false → IsFine other
+    → IsFine (cond b (Some why) other)
 if_fine true why other is fine = record { is = is }
 if_fine false why other is fine = fine
 
 -- this reason unless a test passes
-unless_fine : (b : Bool) (why : Refusal) (other : Option Refusal) → is_odd (Some why) ≡ false → IsFine other → IsFine (cond b other (Some why))
+unless_fine : (b : Bool) (why : Refusal) (other : Option Refusal) → is_odd (Some why) ≡ false → IsFine other
+    → IsFine (cond b other (Some why))
 unless_fine true why other is fine = fine
 unless_fine false why other is fine = record { is = is }
 
@@ -45,16 +47,19 @@ or_fine None y fx fy = fy
 or_fine (Some why) y fx fy = fx
 
 -- a reason that a test gives, or else another
-refuse_fine : (b : Bool) (why : Refusal) (other : Option Refusal) → is_odd (Some why) ≡ false → IsFine other → IsFine (option_or (refuse_if b why) other)
+refuse_fine : (b : Bool) (why : Refusal) (other : Option Refusal) → is_odd (Some why) ≡ false → IsFine other
+    → IsFine (option_or (refuse_if b why) other)
 refuse_fine true why other is fine = record { is = is }
 refuse_fine false why other is fine = fine
 
 -- what was judged, unless a test fails, or another passes
-why_unless : {X : Type 0} (b : Bool) (r : Result X Refusal) (why : Refusal) → IsFine (why_not r) → is_odd (Some why) ≡ false → IsFine (why_not (cond b r (Err why)))
+why_unless : {X : Type 0} (b : Bool) (r : Result X Refusal) (why : Refusal) → IsFine (why_not r)
+    → is_odd (Some why) ≡ false → IsFine (why_not (cond b r (Err why)))
 why_unless true r why fine is = fine
 why_unless false r why fine is = record { is = is }
 
-why_if : {X : Type 0} (b : Bool) (r : Result X Refusal) (why : Refusal) → is_odd (Some why) ≡ false → IsFine (why_not r) → IsFine (why_not (cond b (Err why) r))
+why_if : {X : Type 0} (b : Bool) (r : Result X Refusal) (why : Refusal) → is_odd (Some why) ≡ false → IsFine (why_not r)
+    → IsFine (why_not (cond b (Err why) r))
 why_if true r why is fine = record { is = is }
 why_if false r why is fine = fine
 
@@ -95,7 +100,8 @@ protect_fine places range rights =
 destroy_fine : (s : ShootdownState) (spaces : Spaces) (pcid : ℕ) → IsFine (destroy_refusal s spaces pcid)
 destroy_fine s spaces pcid = if_fine (not (is_user_space spaces pcid)) refusals.Einval _ refl (if_fine (is_current s pcid) refusals.Busy None refl no_reason)
 
-mapping_fine : (s : State) (pcid file : ℕ) (prot access : Rights) (r : Result (PageRange × ℕ) Refusal) → IsFine (why_not r) → IsFine (mapping_refusal s pcid file prot access r)
+mapping_fine : (s : State) (pcid file : ℕ) (prot access : Rights) (r : Result (PageRange × ℕ) Refusal)
+    → IsFine (why_not r) → IsFine (mapping_refusal s pcid file prot access r)
 mapping_fine s pcid file prot access (Err why) fine = fine
 mapping_fine s pcid file prot access (Ok pages) fine =
     let place : Place = record { file = file; page = pages.1; rights = prot; access = access } in
@@ -105,7 +111,8 @@ judged_fine : (spaces : Spaces) (pcid va len offset : ℕ) → IsFine (why_not (
 judged_fine spaces pcid va len offset = why_unless (is_user_space spaces pcid) (mapped_pages_of va len offset) refusals.Einval
     (why_unless (va % 4096 == 0 && offset % 4096 == 0 && is_mappable (pages_holding va len) (offset / 4096)) (Ok (pages_holding va len, offset / 4096)) refusals.Einval no_reason refl) refl
 
-protection_fine : (spaces : Spaces) (pcid : ℕ) (rights : Rights) (r : Result PageRange Refusal) → IsFine (why_not r) → IsFine (why_not (allowed spaces pcid rights r))
+protection_fine : (spaces : Spaces) (pcid : ℕ) (rights : Rights) (r : Result PageRange Refusal) → IsFine (why_not r)
+    → IsFine (why_not (allowed spaces pcid rights r))
 protection_fine spaces pcid rights (Err why) fine = fine
 protection_fine spaces pcid rights (Ok range) fine =
     by (protect_refusal (space_at spaces pcid).places range rights) (protect_fine (space_at spaces pcid).places range rights)
@@ -121,7 +128,8 @@ place_fine spaces pcid va write = why_if (nat_le (2 ^ 47) va) (allowed_place wri
     by None = record { is = refl }
     by (Some place) = why_if (write && not (may_write place.rights)) (Ok place) refusals.SegvAccErr refl no_reason
 
-served_fine : (s : State) (write : Bool) (r : Result Place Refusal) → IsFine (why_not r) → IsFine (served_refusal s write r)
+served_fine : (s : State) (write : Bool) (r : Result Place Refusal) → IsFine (why_not r)
+    → IsFine (served_refusal s write r)
 served_fine s write (Err why) fine = fine
 served_fine s write (Ok place) fine =
     let memory = s.hardware.memory in
@@ -140,7 +148,8 @@ abbrev IsSparing : State → List ℕ → ℕ → Act → State → List ℕ →
 IsSparing s disk p act new disk' =
     (Acts s disk p act (replies.Refused refusals.TraceFull) new disk' → ⊥) × (Acts s disk p act (replies.Refused refusals.OutOfMemory) new disk' → WantsMemory s p act)
 
-never : {reason : Option Refusal} {why : Refusal} {s new : State} → is_odd (Some why) ≡ true → IsFine reason → IsRefused reason why s new → ⊥
+never : {reason : Option Refusal} {why : Refusal} {s new : State} → is_odd (Some why) ≡ true → IsFine reason
+    → IsRefused reason why s new → ⊥
 never odd fine refused = false≢true (sym fine.is ∙ ap is_odd refused.reason_is ∙ odd)
 
 module _ (s : State) (disk : List ℕ) (p : ℕ) (new : State) (disk' : List ℕ) where
@@ -192,8 +201,10 @@ module _ (s : State) (disk : List ℕ) (p : ℕ) (new : State) (disk' : List ℕ
   sparing acts.Flush = refused_for (or_fine _ _ (running_fine s.hardware.shootdown p) (refuse_fine s.write_outs.broken refusals.Broken None refl no_reason))
 
 -- whatever state a machine is in
-pub reply_not_full : (s : State) (disk : List ℕ) (step : Step) (reply : Reply) (new : State) (disk' : List ℕ) → Rules s disk step reply new disk' → reply ≢ replies.Refused refusals.TraceFull
+pub reply_not_full : (s : State) (disk : List ℕ) (step : Step) (reply : Reply) (new : State) (disk' : List ℕ)
+    → Rules s disk step reply new disk' → reply ≢ replies.Refused refusals.TraceFull
 reply_not_full s disk step reply new disk' rule is = (sparing s disk step.p new disk' step.act).0 (subst (λ (r : Reply). Rules s disk step r new disk') is rule)
 
-pub reply_wants : (s : State) (disk : List ℕ) (step : Step) (reply : Reply) (new : State) (disk' : List ℕ) → Rules s disk step reply new disk' → reply ≡ replies.Refused refusals.OutOfMemory → WantsMemory s step.p step.act
+pub reply_wants : (s : State) (disk : List ℕ) (step : Step) (reply : Reply) (new : State) (disk' : List ℕ)
+    → Rules s disk step reply new disk' → reply ≡ replies.Refused refusals.OutOfMemory → WantsMemory s step.p step.act
 reply_wants s disk step reply new disk' rule is = (sparing s disk step.p new disk' step.act).1 (subst (λ (r : Reply). Rules s disk step r new disk') is rule)
