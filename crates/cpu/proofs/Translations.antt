@@ -36,10 +36,10 @@ both_results a b x y is =
     (ap (λ (r : ℕ × Hardware). r.0) same, ap (λ (r : ℕ × Hardware). r.1) same)
 
 serving : (write writable dirty : Bool) → (not write || (writable && dirty)) ≡ true → write ≡ true → (writable ≡ true) × (dirty ≡ true)
-serving true true true served stores = (refl, refl)
-serving true true false served stores = absurd (cc)
-serving true false dirty served stores = absurd (cc)
-serving false writable dirty served stores = absurd (cc)
+serving true true true frame_served stores = (refl, refl)
+serving true true false frame_served stores = absurd (cc)
+serving true false dirty frame_served stores = absurd (cc)
+serving false writable dirty frame_served stores = absurd (cc)
 
 module _ (h : Hardware) (p page : ℕ) (write : Bool) (frame : ℕ) (new : Hardware) where
   by_walk : (r : Result Mapped ℕ) → walk (entry_at h.spaces (current h.shootdown p) page) write ≡ r → walked_to h p page r ≡ Ok (frame, new) → Reaches h p page write frame new

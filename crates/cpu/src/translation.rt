@@ -6,7 +6,7 @@ ghost use Rattle.shootdown.specs.Shootdown.{is_there, current};
 ghost use Rattle.shootdown.specs.Coherence.{Coheres};
 ghost use Rattle.cpu.specs.Access.{walk};
 ghost use Rattle.cpu.specs.Keeping.{OnlyUses};
-ghost use Rattle.cpu.specs.inside.Walks.{served, HasWalked, Translates, HasFaulted};
+ghost use Rattle.cpu.specs.inside.Walks.{frame_served, HasWalked, Translates, HasFaulted};
 
 use page_entry::{Entry, FrameNumber, PageNumber, ProcessorNumber, Refusal};
 use pcid_tlb::CachedEntry;
@@ -24,7 +24,7 @@ const STORE_TO_READ_ONLY: u8 = 0b111;
 
 // The frame of what is cached, where that serves the access without a look at the page table.
 fn served(cached: Option<CachedEntry>, write: bool) -> Option<FrameNumber>
-    ensures { result ≡ served write cached }
+    ensures { result ≡ frame_served write cached }
 {
     match cached {
         Some(entry) if !write || entry.writable && entry.dirty => Some(entry.frame),

@@ -4,8 +4,8 @@ use Rattle.std.proofs.lemmas.List.{ext_get_or}
 use Rattle.std.specs.Prelude.{slice_range}
 use Rattle.device.specs.Device.{LeavesOnly, Only}
 use Rattle.device.specs.Failing.{IsPassedOn}
-use Rattle.device.specs.Memory.{Change, Recorded, content_after, MayBeLeft, seen_of, may_leave_of, moment_of, left_since_of}
-use Rattle.device.specs.Memory.Change.{write, sync}
+use Rattle.device.specs.Memory.{DiskChange, Recorded, content_after, MayBeLeft, seen_of, may_leave_of, moment_of, left_since_of}
+use Rattle.device.specs.Memory.DiskChange.{write, sync}
 use Rattle.device.specs.Memory as memory
 use Rattle.device.specs.Overlay.{Overlaid, as_recorded, after_change, after_refusal}
 use Rattle.device.specs.inside.Replay.{AreWithin}
@@ -13,7 +13,7 @@ use Rattle.device.proofs.Outcomes.{ok_map}
 use Rattle.device.proofs.Patches.{length-content_after}
 use Rattle.device.proofs.Ranges.{length-written}
 
-pub as_changed : {D T E : Type 0} (seen : D → List ℕ) (result : Result T E) (old new : Overlaid D) (change : Change) → OnOk result (new ≡ after_change old change) → OnOk result (as_recorded seen new ≡ memory.after_change (as_recorded seen old) change)
+pub as_changed : {D T E : Type 0} (seen : D → List ℕ) (result : Result T E) (old new : Overlaid D) (change : DiskChange) → OnOk result (new ≡ after_change old change) → OnOk result (as_recorded seen new ≡ memory.after_change (as_recorded seen old) change)
 as_changed seen (Ok x) old new change is = ap (as_recorded seen) is
 as_changed seen (Err e) old new change is = tt
 
@@ -22,7 +22,7 @@ pub as_refused : {D T E : Type 0} (seen : D → List ℕ) (result : Result T E) 
 as_refused seen (Ok x) old new is = tt
 as_refused seen (Err e) old new is = ap (as_recorded seen) is
 
-pub same_inner : {D T E : Type 0} (result : Result T E) (old new : Overlaid D) (change : Change) → OnOk result (new ≡ after_change old change) → OnErr result (new ≡ after_refusal old) → new.inner ≡ old.inner
+pub same_inner : {D T E : Type 0} (result : Result T E) (old new : Overlaid D) (change : DiskChange) → OnOk result (new ≡ after_change old change) → OnErr result (new ≡ after_refusal old) → new.inner ≡ old.inner
 same_inner (Ok x) old new change done refused = ap (λ (d : Overlaid _). d.inner) done
 same_inner (Err e) old new change done refused = ap (λ (d : Overlaid _). d.inner) refused
 
@@ -39,16 +39,16 @@ sure_after_sync (Ok x) old new done = rw done (λ c left. ext_get_or 0 c (seen_o
 sure_after_sync (Err e) old new done = tt
 
 -- It is as long as the disk under it, as its fields say: its writes are within that.
-pub length_of_overlay : {D : Type 0} (seen : D → List ℕ) (disk : Overlaid D) (inner : D) (changes : List Change) (refused : Bool) (calls faults : ℕ) → record { inner = inner; changes = changes; refused = refused; calls = calls; faults = faults } ≡ disk → AreWithin (length (seen inner)) changes → length (seen_of (as_recorded seen disk)) ≡ length (seen inner)
+pub length_of_overlay : {D : Type 0} (seen : D → List ℕ) (disk : Overlaid D) (inner : D) (changes : List DiskChange) (refused : Bool) (calls faults : ℕ) → record { inner = inner; changes = changes; refused = refused; calls = calls; faults = faults } ≡ disk → AreWithin (length (seen inner)) changes → length (seen_of (as_recorded seen disk)) ≡ length (seen inner)
 length_of_overlay seen disk inner changes refused calls faults is within =
     ap (λ (d : Overlaid _). length (seen_of (as_recorded seen d))) (sym is) ∙ length-content_after (seen inner) changes within
 
 -- These changes make new of old, wherever old is the m places from at on of some content.
-abbrev pub Patches : List ℕ → List ℕ → ℕ → ℕ → List Change → Type 0
+abbrev pub Patches : List ℕ → List ℕ → ℕ → ℕ → List DiskChange → Type 0
 Patches old new at m changes = (first : List ℕ) → at + m ≤ length first → AreWithin (length first) changes → old ≡ slice_range first at (at + m) → new ≡ slice_range (content_after first changes) at (at + m)
 
 -- a part of what it gives: what was read of the disk under it, patched by its writes
-pub read_and_patched : {D T E : Type 0} (seen : D → List ℕ) (result outcome : Result T E) (disk : Overlaid D) (inner : D) (changes : List Change) (refused : Bool) (calls faults : ℕ) (at n m : ℕ) (old new : List ℕ)
+pub read_and_patched : {D T E : Type 0} (seen : D → List ℕ) (result outcome : Result T E) (disk : Overlaid D) (inner : D) (changes : List DiskChange) (refused : Bool) (calls faults : ℕ) (at n m : ℕ) (old new : List ℕ)
     → record { inner = inner; changes = changes; refused = refused; calls = calls; faults = faults } ≡ disk → AreWithin (length (seen inner)) changes → at + n ≤ length (seen_of (as_recorded seen disk)) → m ≡ n → result ≡ outcome
     → Patches old new at m changes → OnOk outcome (old ≡ slice_range (seen inner) at (at + n)) → OnOk result (new ≡ slice_range (seen_of (as_recorded seen disk)) at (at + n))
 read_and_patched seen result outcome disk inner changes refused calls faults at n m old new is within fits same_length same patches read =

@@ -4,15 +4,15 @@ use Rattle.std.proofs.lemmas.Bool.{cases_lt}
 use Rattle.std.proofs.lemmas.List.{ext_get_or, get_or-take, get_or-drop}
 use Rattle.std.specs.Prelude.{slice_range}
 use Rattle.device.specs.Device.{written}
-use Rattle.device.specs.Memory.{Change, content_after}
-use Rattle.device.specs.Memory.Change.{write, sync}
+use Rattle.device.specs.Memory.{DiskChange, content_after}
+use Rattle.device.specs.Memory.DiskChange.{write, sync}
 use Rattle.device.specs.declared.log.Logged.{Logged}
 use Rattle.device.specs.inside.Logged.{change_of, changes_of}
 use Rattle.device.specs.inside.Replay.{AreWithin}
 use Rattle.device.proofs.Replay.{changes_of-split, changes_of-more, within_older, within_at}
 use Rattle.device.proofs.Ranges.{length-written, written_before, written_within, written_after}
 
-pub length-content_after : (first : List ℕ) (changes : List Change) → AreWithin (length first) changes → length (content_after first changes) ≡ length first
+pub length-content_after : (first : List ℕ) (changes : List DiskChange) → AreWithin (length first) changes → length (content_after first changes) ≡ length first
 length-content_after first [] within = refl
 length-content_after first (write at bytes ∷ older) within =
     let before = length-content_after first older within.1 in
@@ -80,7 +80,7 @@ content_after-more first log k entry lt is = ap (content_after first) (changes_o
 -- a part after the entries before this one, which is a sync
 pub part_after_sync : {A : Type 0} (first buffer : List ℕ) (log : List (Logged A)) (k at n : ℕ) (entry : Logged A) → k < length log → entry ≡ get_or log k entry → change_of entry ≡ sync → buffer ≡ slice_range (content_after first (changes_of (take k log))) at (at + n) → buffer ≡ slice_range (content_after first (changes_of (take (k + 1) log))) at (at + n)
 part_after_sync first buffer log k at n entry lt is kind before =
-    before ∙ ap (λ (l : List ℕ). slice_range l at (at + n)) (sym (content_after-more first log k entry lt is ∙ ap (λ (change : Change). content_after first (change ∷ changes_of (take k log))) kind))
+    before ∙ ap (λ (l : List ℕ). slice_range l at (at + n)) (sym (content_after-more first log k entry lt is ∙ ap (λ (change : DiskChange). content_after first (change ∷ changes_of (take k log))) kind))
 
 -- a part after the entries before this one, which is a write, and then patched by it
 pub part_after_write : {A : Type 0} (first old new : List ℕ) (log : List (Logged A)) (k at n from : ℕ) (bytes : List ℕ) (entry : Logged A) → k < length log → entry ≡ get_or log k entry → change_of entry ≡ write from bytes → at + n ≤ length first → AreWithin (length first) (changes_of log) → length old ≡ n
@@ -88,15 +88,15 @@ pub part_after_write : {A : Type 0} (first old new : List ℕ) (log : List (Logg
     → old ≡ slice_range (content_after first (changes_of (take k log))) at (at + n) → new ≡ slice_range (content_after first (changes_of (take (k + 1) log))) at (at + n)
 part_after_write first old new log k at n from bytes entry lt is kind fits within long patches before =
     let upto = content_after first (changes_of (take k log)) in
-    let split = subst (λ (l : List Change). AreWithin (length first) l) (changes_of-split log k) within in
+    let split = subst (λ (l : List DiskChange). AreWithin (length first) l) (changes_of-split log k) within in
     let same = length-content_after first (changes_of (take k log)) (within_older (length first) (changes_of (drop k log)) (changes_of (take k log)) split) in
-    let here = subst (λ (change : Change). AreWithin (length first) (change ∷ [])) kind (within_at log k (length first) entry lt is within) in
+    let here = subst (λ (change : DiskChange). AreWithin (length first) (change ∷ [])) kind (within_at log k (length first) entry lt is within) in
     let P : ℕ → Type 0 = λ m. old ≡ slice_range upto at (at + m) → new ≡ slice_range (written upto from bytes) at (at + m) in
     let patched_here = patches upto (omega (arith, fits, same, long)) (omega (arith, here.0, same)) in
     subst P long patched_here before
-    ∙ ap (λ (l : List ℕ). slice_range l at (at + n)) (sym (content_after-more first log k entry lt is ∙ ap (λ (change : Change). content_after first (change ∷ changes_of (take k log))) kind))
+    ∙ ap (λ (l : List ℕ). slice_range l at (at + n)) (sym (content_after-more first log k entry lt is ∙ ap (λ (change : DiskChange). content_after first (change ∷ changes_of (take k log))) kind))
 
-pub within_wider : (n m : ℕ) (changes : List Change) → n ≤ m → AreWithin n changes → AreWithin m changes
+pub within_wider : (n m : ℕ) (changes : List DiskChange) → n ≤ m → AreWithin n changes → AreWithin m changes
 within_wider n m [] le within = tt
 within_wider n m (write at bytes ∷ older) le within = (omega (arith, within.0, le), within_wider n m older le within.1)
 within_wider n m (sync ∷ older) le within = within_wider n m older le within

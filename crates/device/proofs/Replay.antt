@@ -6,10 +6,10 @@ use Rattle.std.proofs.lemmas.List.{ext_get_or, get_or_past, get_or-take, get_or-
 use Rattle.std.specs.Prelude.{slice_range, ◌&&◌, ◌||◌, nat_le, nat_lt}
 use Rattle.device.specs.Device.{written, TornFrom, Only, LeavesOnly}
 use Rattle.device.specs.Count.{raised}
-use Rattle.device.specs.Memory.{Change, Recorded, content_after, is_unsynced, MayBeLeft, seen_of, may_leave_of, moment_of, left_since_of, after_change, chosen_from, after_stop, after_refusal}
+use Rattle.device.specs.Memory.{DiskChange, Recorded, content_after, is_unsynced, MayBeLeft, seen_of, may_leave_of, moment_of, left_since_of, after_change, chosen_from, after_stop, after_refusal}
 use Rattle.device.specs.inside.Laws.{since_now_of}
 use Rattle.device.specs.inside.Replay.{since_sync, with_choice, AreWithin, IsReplay}
-use Rattle.device.specs.Memory.Change.{write, sync}
+use Rattle.device.specs.Memory.DiskChange.{write, sync}
 use Rattle.device.specs.inside.Logged.{change_of, changes_of}
 use Rattle.device.specs.declared.log.Logged.{Logged}
 use Rattle.device.proofs.Outcomes.{either}
@@ -17,12 +17,12 @@ use Rattle.device.proofs.Ranges.{length-written, written_before, written_within,
 
 pub changes_of-push : {A : Type 0} (log : List (Logged A)) (entry : Logged A) → changes_of (log ++ entry ∷ []) ≡ change_of entry ∷ changes_of log
 changes_of-push [] entry = refl
-changes_of-push (e ∷ log) entry = ap (λ (l : List Change). l ++ change_of e ∷ []) (changes_of-push log entry)
+changes_of-push (e ∷ log) entry = ap (λ (l : List DiskChange). l ++ change_of e ∷ []) (changes_of-push log entry)
 
 changes_of-append : {A : Type 0} (old new : List (Logged A)) → changes_of (old ++ new) ≡ changes_of new ++ changes_of old
 changes_of-append [] new = sym (append-nil (changes_of new))
 changes_of-append (e ∷ old) new =
-    ap (λ (l : List Change). l ++ change_of e ∷ []) (changes_of-append old new) ∙ append_assoc (changes_of new) (changes_of old) (change_of e ∷ [])
+    ap (λ (l : List DiskChange). l ++ change_of e ∷ []) (changes_of-append old new) ∙ append_assoc (changes_of new) (changes_of old) (change_of e ∷ [])
 
 -- the log from an entry on, and the log up to there
 pub changes_of-split : {A : Type 0} (log : List (Logged A)) (n : ℕ) → changes_of log ≡ changes_of (drop n log) ++ changes_of (take n log)
@@ -33,18 +33,18 @@ length-changes_of [] = refl
 length-changes_of (e ∷ log) = omega (arith, length-append (changes_of log) (change_of e ∷ []), length-changes_of log)
 
 -- whether one of these changes wrote the place
-abbrev is_written : List Change → ℕ → Bool
+abbrev is_written : List DiskChange → ℕ → Bool
 is_written [] i = false
 is_written (write at bytes ∷ older) i = (nat_le at i && nat_lt i (at + length bytes)) || is_written older i
 is_written (sync ∷ older) i = is_written older i
 
 -- where as many changes came since the last sync as these are, they are writes, and the unsynced places are theirs
-unsynced_none : (older : List Change) (i : ℕ) → since_sync older ≡ 0 → is_unsynced older i ≡ false
+unsynced_none : (older : List DiskChange) (i : ℕ) → since_sync older ≡ 0 → is_unsynced older i ≡ false
 unsynced_none [] i none = refl
 unsynced_none (write at bytes ∷ older) i none = absurd (omega (arith, none))
 unsynced_none (sync ∷ older) i none = refl
 
-unsynced_newer : (newer older : List Change) (i : ℕ) → since_sync (newer ++ older) ≡ length newer → is_unsynced (newer ++ older) i ≡ is_written newer i
+unsynced_newer : (newer older : List DiskChange) (i : ℕ) → since_sync (newer ++ older) ≡ length newer → is_unsynced (newer ++ older) i ≡ is_written newer i
 unsynced_newer [] older i all = unsynced_none older i all
 unsynced_newer (write at bytes ∷ newer) older i all =
     ap (λ b. (nat_le at i && nat_lt i (at + length bytes)) || b) (unsynced_newer newer older i (omega (arith, all)))
@@ -55,9 +55,9 @@ unsynced_is_written log synced i since =
     let split = changes_of-split log synced in
     let count : since_sync (changes_of (drop synced log) ++ changes_of (take synced log)) ≡ length (changes_of (drop synced log)) =
     sym (ap since_sync split) ∙ omega (arith, since, length-changes_of (drop synced log), length-drop synced log) in
-    ap (λ (l : List Change). is_unsynced l i) split ∙ unsynced_newer (changes_of (drop synced log)) (changes_of (take synced log)) i count
+    ap (λ (l : List DiskChange). is_unsynced l i) split ∙ unsynced_newer (changes_of (drop synced log)) (changes_of (take synced log)) i count
 
-within_newer : (n : ℕ) (newer older : List Change) → AreWithin n (newer ++ older) → AreWithin n newer
+within_newer : (n : ℕ) (newer older : List DiskChange) → AreWithin n (newer ++ older) → AreWithin n newer
 within_newer n [] older within = tt
 within_newer n (write at bytes ∷ newer) older within = (within.0, within_newer n newer older within.1)
 within_newer n (sync ∷ newer) older within = within_newer n newer older within
@@ -65,7 +65,7 @@ within_newer n (sync ∷ newer) older within = within_newer n newer older within
 -- the writes from an entry on are within the disk where all are
 pub AreWithin-drop : {A : Type 0} (log : List (Logged A)) (k n : ℕ) → AreWithin n (changes_of log) → AreWithin n (changes_of (drop k log))
 AreWithin-drop log k n within =
-    within_newer n (changes_of (drop k log)) (changes_of (take k log)) (subst (λ (l : List Change). AreWithin n l) (changes_of-split log k) within)
+    within_newer n (changes_of (drop k log)) (changes_of (take k log)) (subst (λ (l : List DiskChange). AreWithin n l) (changes_of-split log k) within)
 
 -- the writes up to an entry, and that entry
 pub changes_of-more : {A : Type 0} (log : List (Logged A)) (k : ℕ) (entry : Logged A) → k < length log → entry ≡ get_or log k entry → changes_of (take (k + 1) log) ≡ change_of entry ∷ changes_of (take k log)
@@ -74,17 +74,17 @@ changes_of-more log k entry lt is =
     ∙ ap (λ e. change_of e ∷ changes_of (take k log)) (sym is)
 
 -- a place before or past the range that was written was written since the last sync only if it was before
-outside_before : (older : List Change) (at : ℕ) (bytes : List ℕ) (i : ℕ) → i < at → is_unsynced (write at bytes ∷ older) i ≡ is_unsynced older i
+outside_before : (older : List DiskChange) (at : ℕ) (bytes : List ℕ) (i : ℕ) → i < at → is_unsynced (write at bytes ∷ older) i ≡ is_unsynced older i
 outside_before older at bytes i lt = grind (arith, nat_tests)
 
-outside_after : (older : List Change) (at : ℕ) (bytes : List ℕ) (i : ℕ) → at + length bytes ≤ i → is_unsynced (write at bytes ∷ older) i ≡ is_unsynced older i
+outside_after : (older : List DiskChange) (at : ℕ) (bytes : List ℕ) (i : ℕ) → at + length bytes ≤ i → is_unsynced (write at bytes ∷ older) i ≡ is_unsynced older i
 outside_after older at bytes i le = grind (arith, nat_tests)
 
-inside : (older : List Change) (at : ℕ) (bytes : List ℕ) (i : ℕ) → at ≤ i → i < at + length bytes → is_unsynced (write at bytes ∷ older) i ≡ true
+inside : (older : List DiskChange) (at : ℕ) (bytes : List ℕ) (i : ℕ) → at ≤ i → i < at + length bytes → is_unsynced (write at bytes ∷ older) i ≡ true
 inside older at bytes i le lt = grind (arith, nat_tests)
 
 -- a torn range can have any bytes
-pub any_torn : (first : List ℕ) (older : List Change) (at : ℕ) (bytes : List ℕ) → at + length bytes ≤ length (content_after first older) → (c : List ℕ) → TornFrom at (length bytes) (MayBeLeft first older) c → MayBeLeft first (write at bytes ∷ older) c
+pub any_torn : (first : List ℕ) (older : List DiskChange) (at : ℕ) (bytes : List ℕ) → at + length bytes ≤ length (content_after first older) → (c : List ℕ) → TornFrom at (length bytes) (MayBeLeft first older) c → MayBeLeft first (write at bytes ∷ older) c
 any_torn first older at bytes fits c from =
     let seen = content_after first older in
     let torn = from.2 in
@@ -100,7 +100,7 @@ any_torn first older at bytes fits c from =
     }
 
 -- what may be left after a write is what might be left before it, torn in the range
-pub left_by_write : (first : List ℕ) (older : List Change) (at : ℕ) (bytes : List ℕ) → at + length bytes ≤ length (content_after first older) → (c : List ℕ) → MayBeLeft first (write at bytes ∷ older) c → TornFrom at (length bytes) (MayBeLeft first older) c
+pub left_by_write : (first : List ℕ) (older : List DiskChange) (at : ℕ) (bytes : List ℕ) → at + length bytes ≤ length (content_after first older) → (c : List ℕ) → MayBeLeft first (write at bytes ∷ older) c → TornFrom at (length bytes) (MayBeLeft first older) c
 left_by_write first older at bytes fits c left =
     let seen = content_after first older in
     let n = length bytes in
@@ -118,11 +118,11 @@ left_by_write first older at bytes fits c left =
     (restored seen c at n, before, torn_restored seen c at n fits same)
 
 -- which might be left before it
-pub left_by_sync : (first : List ℕ) (older : List Change) (c : List ℕ) → MayBeLeft first (sync ∷ older) c → MayBeLeft first older c
+pub left_by_sync : (first : List ℕ) (older : List DiskChange) (c : List ℕ) → MayBeLeft first (sync ∷ older) c → MayBeLeft first older c
 left_by_sync first older c left = record { same_length = left.same_length; synced = λ i same. left.synced i refl }
 
 -- A call that changes the content or syncs it leaves what P says of what may be left before and after it.
-pub time_of_change : (disk : Recorded) (change : Change) (P : List ℕ → Type 0) → ((c : List ℕ) → may_leave_of disk c → P c) → ((c : List ℕ) → may_leave_of (after_change disk change) c → P c) → LeavesOnly moment_of left_since_of disk (after_change disk change) P
+pub time_of_change : (disk : Recorded) (change : DiskChange) (P : List ℕ → Type 0) → ((c : List ℕ) → may_leave_of disk c → P c) → ((c : List ℕ) → may_leave_of (after_change disk change) c → P c) → LeavesOnly moment_of left_since_of disk (after_change disk change) P
 time_of_change disk change P was is = record {
   later = omega arith;
   each = λ c left. ⊎_elim (λ since. was c (since_now_of disk c since)) (λ now. is c now) (newest (moment_of disk) c left);
@@ -159,7 +159,7 @@ chosen_at marked i (c ∷ choice) (b ∷ bytes) zero j same lt at =
 chosen_at marked i (c ∷ choice) (b ∷ bytes) (suc k) j same lt at = chosen_at marked (i + 1) choice bytes k j (omega (arith, same)) (omega (arith, lt)) (omega (arith, at))
 
 -- A crash leaves what may be left.
-pub chosen_is_left : (first : List ℕ) (changes : List Change) (choice : List ℕ) → length choice ≡ length (content_after first changes) → MayBeLeft first changes (chosen_from (is_unsynced changes) 0 choice (content_after first changes))
+pub chosen_is_left : (first : List ℕ) (changes : List DiskChange) (choice : List ℕ) → length choice ≡ length (content_after first changes) → MayBeLeft first changes (chosen_from (is_unsynced changes) 0 choice (content_after first changes))
 chosen_is_left first changes choice same =
     let seen = content_after first changes in
     record {
@@ -179,7 +179,7 @@ same_either true x y is = refl
 same_either false x y is = sym (is refl)
 
 -- Each list that may be left can be chosen.
-pub left_is_chosen : (first : List ℕ) (changes : List Change) (choice : List ℕ) → MayBeLeft first changes choice → chosen_from (is_unsynced changes) 0 choice (content_after first changes) ≡ choice
+pub left_is_chosen : (first : List ℕ) (changes : List DiskChange) (choice : List ℕ) → MayBeLeft first changes choice → chosen_from (is_unsynced changes) 0 choice (content_after first changes) ≡ choice
 left_is_chosen first changes choice left =
     let seen = content_after first changes in
     let long = length-chosen_from (is_unsynced changes) 0 choice seen left.same_length in
@@ -192,10 +192,10 @@ pub only_first : (first : List ℕ) → Only (MayBeLeft first []) first
 only_first first c left = ext_get_or 0 c first left.same_length (λ i lt. left.synced i refl)
 
 -- what a crash makes of a record, from its parts
-pub stopped_of : (disk : Recorded) (choice first : List ℕ) (changes : List Change) (start : ℕ) → first ≡ chosen_from (is_unsynced disk.changes) 0 choice (seen_of disk) → changes ≡ [] → start ≡ min (moment_of disk) (2 ^ 64 - 1) → record disk { first = first; changes = changes; start = start } ≡ after_stop disk choice
+pub stopped_of : (disk : Recorded) (choice first : List ℕ) (changes : List DiskChange) (start : ℕ) → first ≡ chosen_from (is_unsynced disk.changes) 0 choice (seen_of disk) → changes ≡ [] → start ≡ min (moment_of disk) (2 ^ 64 - 1) → record disk { first = first; changes = changes; start = start } ≡ after_stop disk choice
 stopped_of disk choice first changes start first_is none start_is =
     ap (λ (l : List ℕ). record disk { first = l; changes = changes; start = start }) first_is
-    ∙ ap (λ (l : List Change). record disk { first = chosen_from (is_unsynced disk.changes) 0 choice (seen_of disk); changes = l; start = start }) none
+    ∙ ap (λ (l : List DiskChange). record disk { first = chosen_from (is_unsynced disk.changes) 0 choice (seen_of disk); changes = l; start = start }) none
     ∙ ap (λ n. record disk { first = chosen_from (is_unsynced disk.changes) 0 choice (seen_of disk); changes = []; start = n }) start_is
 
 -- what may be left after a write, done or refused
@@ -244,7 +244,7 @@ written_below at n i before lt = grind (arith, nat_tests)
 written_above : (at n i : ℕ) (before : Bool) → at + n ≤ i → ((nat_le at i && nat_lt i (at + n)) || before) ≡ before
 written_above at n i before le = grind (arith, nat_tests)
 
-pub length-with_choice : (changes : List Change) (choice content : List ℕ) → length choice ≡ length content → AreWithin (length content) changes → length (with_choice changes choice content) ≡ length content
+pub length-with_choice : (changes : List DiskChange) (choice content : List ℕ) → length choice ≡ length content → AreWithin (length content) changes → length (with_choice changes choice content) ≡ length content
 length-with_choice [] choice content same within = refl
 length-with_choice (write at bytes ∷ older) choice content same within =
     let before = length-with_choice older choice content same within.1 in
@@ -252,7 +252,7 @@ length-with_choice (write at bytes ∷ older) choice content same within =
 length-with_choice (sync ∷ older) choice content same within = length-with_choice older choice content same within
 
 -- At each place is what is chosen if one of the changes wrote it, and else what was there.
-with_choice_at : (changes : List Change) (choice content : List ℕ) (i : ℕ) → length choice ≡ length content → AreWithin (length content) changes → get_or (with_choice changes choice content) i 0 ≡ cond (is_written changes i) (get_or choice i 0) (get_or content i 0)
+with_choice_at : (changes : List DiskChange) (choice content : List ℕ) (i : ℕ) → length choice ≡ length content → AreWithin (length content) changes → get_or (with_choice changes choice content) i 0 ≡ cond (is_written changes i) (get_or choice i 0) (get_or content i 0)
 with_choice_at [] choice content i same within = refl
 with_choice_at (sync ∷ older) choice content i same within = with_choice_at older choice content i same within
 with_choice_at (write at bytes ∷ older) choice content i same within =
@@ -278,26 +278,26 @@ with_choice_at (write at bytes ∷ older) choice content i same within =
     (cases_lt i (at + length bytes)))
     (cases_lt i at)
 
-pub within_older : (n : ℕ) (newer older : List Change) → AreWithin n (newer ++ older) → AreWithin n older
+pub within_older : (n : ℕ) (newer older : List DiskChange) → AreWithin n (newer ++ older) → AreWithin n older
 within_older n [] older within = within
 within_older n (write at bytes ∷ newer) older within = within_older n newer older within.1
 within_older n (sync ∷ newer) older within = within_older n newer older within
 
-with_choice-one : (change : Change) (older : List Change) (choice content : List ℕ) → with_choice (change ∷ older) choice content ≡ with_choice (change ∷ []) choice (with_choice older choice content)
+with_choice-one : (change : DiskChange) (older : List DiskChange) (choice content : List ℕ) → with_choice (change ∷ older) choice content ≡ with_choice (change ∷ []) choice (with_choice older choice content)
 with_choice-one (write at bytes) older choice content = refl
 with_choice-one sync older choice content = refl
 
 -- the write of an entry is within the disk where all are
 pub within_at : {A : Type 0} (log : List (Logged A)) (k n : ℕ) (entry : Logged A) → k < length log → entry ≡ get_or log k entry → AreWithin n (changes_of log) → AreWithin n (change_of entry ∷ [])
 within_at log k n entry lt is within =
-    let upto = within_older n (changes_of (drop (k + 1) log)) (changes_of (take (k + 1) log)) (subst (λ (l : List Change). AreWithin n l) (changes_of-split log (k + 1)) within) in
-    let more = subst (λ (l : List Change). AreWithin n l) (changes_of-more log k entry lt is) upto in
+    let upto = within_older n (changes_of (drop (k + 1) log)) (changes_of (take (k + 1) log)) (subst (λ (l : List DiskChange). AreWithin n l) (changes_of-split log (k + 1)) within) in
+    let more = subst (λ (l : List DiskChange). AreWithin n l) (changes_of-more log k entry lt is) upto in
     within_newer n (change_of entry ∷ []) (changes_of (take k log)) more
 
 -- what is chosen after one more entry of the log
 pub with_choice-more : {A : Type 0} (log : List (Logged A)) (k : ℕ) (entry : Logged A) (choice content : List ℕ) → k < length log → entry ≡ get_or log k entry → with_choice (changes_of (take (k + 1) log)) choice content ≡ with_choice (change_of entry ∷ []) choice (with_choice (changes_of (take k log)) choice content)
 with_choice-more log k entry choice content lt is =
-    ap (λ (l : List Change). with_choice l choice content) (changes_of-more log k entry lt is)
+    ap (λ (l : List DiskChange). with_choice l choice content) (changes_of-more log k entry lt is)
     ∙ with_choice-one (change_of entry) (changes_of (take k log)) choice content
 
 -- What is chosen in the writes since the last sync is chosen in the unsynced places.
@@ -313,7 +313,7 @@ with_choice-chosen log synced choice content same since all_within =
     ∙ sym (chosen_at (is_unsynced (changes_of log)) 0 choice content i i same (omega (arith, lt, long)) (omega arith)))
 
 -- A disk's fields stay a replay of its log: after a write,
-pub replay_write : (first content : List ℕ) (changes : List Change) (synced at : ℕ) (bytes : List ℕ) → at + length bytes ≤ length content → IsReplay first changes content synced → IsReplay first (write at bytes ∷ changes) (written content at bytes) synced
+pub replay_write : (first content : List ℕ) (changes : List DiskChange) (synced at : ℕ) (bytes : List ℕ) → at + length bytes ≤ length content → IsReplay first changes content synced → IsReplay first (write at bytes ∷ changes) (written content at bytes) synced
 replay_write first content changes synced at bytes fits replay =
     let same = length-written content at bytes fits in
     record {
@@ -324,7 +324,7 @@ replay_write first content changes synced at bytes fits replay =
     }
 
 -- after a sync, with all of the log before it,
-pub replay_sync : (first content : List ℕ) (changes : List Change) (synced : ℕ) → IsReplay first changes content synced → (all : ℕ) → all ≡ length changes + 1 → IsReplay first (sync ∷ changes) content all
+pub replay_sync : (first content : List ℕ) (changes : List DiskChange) (synced : ℕ) → IsReplay first changes content synced → (all : ℕ) → all ≡ length changes + 1 → IsReplay first (sync ∷ changes) content all
 replay_sync first content changes synced replay all is = record {
   replayed = replay.replayed;
   first_length = replay.first_length;

@@ -22,8 +22,8 @@ pub record Opened (F : Type 0) : Type 0 where
   pub faults : ℕ
 
 -- none of the disk's calls made yet
-abbrev pub opened : {F : Type 0} → F → ℕ → Opened F
-opened file size = record { file = file; size = size; calls = 0; faults = 0 }
+abbrev pub disk_over : {F : Type 0} → F → ℕ → Opened F
+disk_over file size = record { file = file; size = size; calls = 0; faults = 0 }
 
 -- after a call that succeeded or failed, and left the file so
 abbrev pub after_call : {F : Type 0} → Opened F → F → Bool → Opened F

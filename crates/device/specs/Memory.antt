@@ -4,36 +4,36 @@ use Rattle.device.specs.Count.{raised}
 use Rattle.device.specs.Device.{written}
 
 -- a write at an offset, or a sync
-pub data Change : Type 0 where
-  write : ℕ → List ℕ → Change
-  sync : Change
+pub data DiskChange : Type 0 where
+  write : ℕ → List ℕ → DiskChange
+  sync : DiskChange
 
 -- The record starts at a moment, with a content that is wholly on the disk. The last change stands first.
 pub record Recorded : Type 0 where
   pub first : List ℕ
-  pub changes : List Change
+  pub changes : List DiskChange
   pub start : ℕ
   pub calls : ℕ
   pub faults : ℕ
 
 -- a disk with these bytes, none of its calls made yet
-abbrev pub fresh : List ℕ → Recorded
-fresh bytes = record { first = bytes; changes = []; start = 0; calls = 0; faults = 0 }
+abbrev pub new_disk : List ℕ → Recorded
+new_disk bytes = record { first = bytes; changes = []; start = 0; calls = 0; faults = 0 }
 
 -- what a read gives after these changes
-abbrev pub content_after : List ℕ → List Change → List ℕ
+abbrev pub content_after : List ℕ → List DiskChange → List ℕ
 content_after first [] = first
 content_after first (write at bytes ∷ older) = written (content_after first older) at bytes
 content_after first (sync ∷ older) = content_after first older
 
 -- whether the place was written since the last sync
-abbrev pub is_unsynced : List Change → ℕ → Bool
+abbrev pub is_unsynced : List DiskChange → ℕ → Bool
 is_unsynced [] i = false
 is_unsynced (write at bytes ∷ older) i = (nat_le at i && nat_lt i (at + length bytes)) || is_unsynced older i
 is_unsynced (sync ∷ older) i = false
 
 -- a crash may leave any byte where one was written since the last sync, and what a read gives elsewhere
-pub record MayBeLeft (first : List ℕ) (changes : List Change) (c : List ℕ) : Type 0 where
+pub record MayBeLeft (first : List ℕ) (changes : List DiskChange) (c : List ℕ) : Type 0 where
   pub same_length : length c ≡ length (content_after first changes)
   pub synced : (i : ℕ) → is_unsynced changes i ≡ false → slice_index c i ≡ slice_index (content_after first changes) i
 
@@ -60,7 +60,7 @@ after_read disk = record disk { calls = raised disk.calls }
 abbrev pub after_refusal : Recorded → Recorded
 after_refusal disk = record disk { calls = raised disk.calls; faults = raised disk.faults }
 
-abbrev pub after_change : Recorded → Change → Recorded
+abbrev pub after_change : Recorded → DiskChange → Recorded
 after_change disk change = record disk { changes = change ∷ disk.changes; calls = raised disk.calls }
 
 -- of each place from i on, the byte chosen if it is marked, else the byte that is there

@@ -1,13 +1,13 @@
 -- A disk over another that keeps its writes to itself.
 use Rattle.std.specs.Prelude.{ℕ, Bool, true, false, if◌then◌else◌, List, [], ◌∷◌}
 use Rattle.device.specs.Count.{raised}
-use Rattle.device.specs.Memory.{Change, Recorded}
+use Rattle.device.specs.Memory.{DiskChange, Recorded}
 
 -- the disk under it, its own writes and syncs with the last change first, whether memory was refused for one, and its
 -- own counts
 pub record Overlaid (D : Type 0) : Type 0 where
   pub inner : D
-  pub changes : List Change
+  pub changes : List DiskChange
   pub refused : Bool
   pub calls : ℕ
   pub faults : ℕ
@@ -35,7 +35,7 @@ after_read disk inner done = record disk {
 }
 
 -- after a write or a sync
-abbrev pub after_change : {D : Type 0} → Overlaid D → Change → Overlaid D
+abbrev pub after_change : {D : Type 0} → Overlaid D → DiskChange → Overlaid D
 after_change disk change = record disk { changes = change ∷ disk.changes; calls = raised disk.calls }
 
 -- after a write or a sync whose record was refused memory

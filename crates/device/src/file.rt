@@ -1,7 +1,7 @@
 // A disk over a file.
 ghost use Rattle.std.specs.Prelude.{◌≡◌, ◌↔◌, ℕ, ◌+◌, ◌≤◌, true, List, length, slice_range, IfOk, OnOk, IsErr, is_ok};
 ghost use Rattle.device.specs.Device.{written, Torn, TornFrom, Only, LeavesOnly};
-ghost use Rattle.device.specs.File.{IsCalledOnce, IsOverHonest, opened, after_call};
+ghost use Rattle.device.specs.File.{IsCalledOnce, IsOverHonest, disk_over, after_call};
 ghost use Rattle.device.specs.File.FileCall.{read, write, sync};
 
 use crate::count::raise;
@@ -44,7 +44,7 @@ impl<F: BlockFile> FileDisk<F> {
     /// once, so that what an earlier user of it left in the system's memory is on the disk, or an error says that it
     /// isn't; this is no call of the disk's. With an error the file is handed back.
     pub fn over(mut file: F) -> Result<FileDisk<F>, (io::Error, F)>
-        ensures fresh { IfOk result (λ disk. disk ≡ opened disk.file disk.size) }
+        ensures fresh { IfOk result (λ disk. disk ≡ disk_over disk.file disk.size) }
         ensures synced { IfOk result (λ disk. IsCalledOnce (F.calls_made file) (F.calls_made disk.file) (sync true)) }
 
         // Over an honest file.

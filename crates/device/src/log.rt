@@ -1,7 +1,7 @@
 // The record of the writes and syncs of a disk that keeps them in memory.
 ghost use Rattle.std.specs.Prelude.{◌≡◌, ◌+◌, ◌≤◌, ◌∷◌, length, OnOk, OnErr};
 ghost use Rattle.device.specs.Device.{written};
-ghost use Rattle.device.specs.Memory.Change.{write, sync};
+ghost use Rattle.device.specs.Memory.DiskChange.{write, sync};
 ghost use Rattle.device.specs.inside.Logged.{changes_of};
 
 use std::alloc::{AllocError, Allocator};

@@ -2,8 +2,8 @@
 // leave.
 ghost use Rattle.std.specs.Prelude.{⊤, ◌≡◌, ℕ, ◌+◌, ◌≤◌, List, [], ◌∷◌, length, replicate, slice_range, IfOk, OnOk, OnErr, IsOk};
 ghost use Rattle.device.specs.Device.{written, TornFrom, Only, LeavesOnly};
-ghost use Rattle.device.specs.Memory.{is_unsynced, seen_of, may_leave_of, moment_of, left_since_of, fresh, after_read, after_refusal, after_change, chosen_from, after_stop};
-ghost use Rattle.device.specs.Memory.Change.{write, sync};
+ghost use Rattle.device.specs.Memory.{is_unsynced, seen_of, may_leave_of, moment_of, left_since_of, new_disk, after_read, after_refusal, after_change, chosen_from, after_stop};
+ghost use Rattle.device.specs.Memory.DiskChange.{write, sync};
 ghost use Rattle.device.specs.inside.Logged.{change_of, changes_of};
 ghost use Rattle.device.specs.inside.Replay.{since_sync, with_choice, AreWithin};
 
@@ -50,14 +50,14 @@ impl<A: Allocator + Copy> Model for MemDisk<A> {
 impl<A: Allocator + Copy> MemDisk<A> {
     /// A disk of zeros, as long as asked, all of it on the disk.
     pub fn new(alloc: A, len: u64) -> Result<Self, AllocError>
-        ensures { IfOk result (λ disk. disk ≡ fresh (replicate len 0)) }
+        ensures { IfOk result (λ disk. disk ≡ new_disk (replicate len 0)) }
     {
         MemDisk::from_bytes(alloc, vec![in alloc; 0; len as usize]?)
     }
 
     /// A disk with these bytes, all of them on the disk.
     pub fn from_bytes(alloc: A, bytes: Vec<u8, A>) -> Result<Self, AllocError>
-        ensures { IfOk result (λ disk. disk ≡ fresh bytes.items) }
+        ensures { IfOk result (λ disk. disk ≡ new_disk bytes.items) }
     {
         Ok(MemDisk {
             alloc,

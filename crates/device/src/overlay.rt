@@ -3,7 +3,7 @@ ghost use Rattle.std.specs.Prelude.{◌≡◌, ◌↔◌, ℕ, ◌+◌, ◌-◌,
 ghost use Rattle.device.specs.Device.{written, Torn, TornFrom, Only, LeavesOnly};
 ghost use Rattle.device.specs.Failing.{IsPassedOn};
 ghost use Rattle.device.specs.Memory.{content_after, seen_of, may_leave_of, moment_of, left_since_of};
-ghost use Rattle.device.specs.Memory.Change.{write, sync};
+ghost use Rattle.device.specs.Memory.DiskChange.{write, sync};
 ghost use Rattle.device.specs.Overlay.{overlaid, as_recorded, after_read, after_change, after_refusal};
 ghost use Rattle.device.specs.inside.Logged.{change_of, changes_of};
 ghost use Rattle.device.specs.inside.Replay.{AreWithin};

@@ -2,10 +2,10 @@
 use Rattle.std.proofs.Common.{◌≡◌, ◌+◌, ◌<◌, ◌≤◌, ℕ, List, ◌++◌, length, get_or, take, drop, lit<, refl, ◌∙◌, arith, All}
 use Rattle.std.proofs.lemmas.List.{length-append, length-take-le, length-drop, length-replicate, get_or-replicate}
 use Rattle.std.proofs.lemmas.List.Elements.{All-from_get_or, All-append, All-take, All-drop, All-replicate}
-use Rattle.frames.specs.Frames.{zeros, zero_page, overwrite, IsPage}
+use Rattle.frames.specs.Frames.{blank_bytes, zero_page, overwrite, IsPage}
 
-IsPage-zeros : (n : ℕ) → n ≡ 4096 → IsPage (zeros n)
-unfolding zeros
+IsPage-zeros : (n : ℕ) → n ≡ 4096 → IsPage (blank_bytes n)
+unfolding blank_bytes
 IsPage-zeros n size = record {
   size = length-replicate n 0 ∙ size;
   small = All-replicate (λ byte. byte < 256) n 0 (lit< tt);
@@ -16,8 +16,8 @@ pub IsPage-zero_page : IsPage zero_page
 unfolding zero_page
 IsPage-zero_page = IsPage-zeros 4096 refl
 
-get_or-zeros : (n k d : ℕ) → k < n → get_or (zeros n) k d ≡ 0
-unfolding zeros
+get_or-zeros : (n k d : ℕ) → k < n → get_or (blank_bytes n) k d ≡ 0
+unfolding blank_bytes
 get_or-zeros n k d within = get_or-replicate n k 0 d within
 
 -- each of its bytes is 0

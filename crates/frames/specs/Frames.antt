@@ -41,12 +41,12 @@ abbrev pub has_used : {X : Type 0} → List (Option X) → Bool
 has_used xs = list_any is_some xs
 
 -- this many zeros
-unfoldable pub zeros : ℕ → List ℕ
-zeros n = replicate n 0
+unfoldable pub blank_bytes : ℕ → List ℕ
+blank_bytes n = replicate n 0
 
 -- a page of zeros, under a name of its own so that nobody computes all 4,096
 unfoldable pub zero_page : List ℕ
-zero_page = zeros 4096
+zero_page = blank_bytes 4096
 
 -- a page with these bytes written from a place on
 abbrev pub overwrite : List ℕ → ℕ → List ℕ → List ℕ

@@ -11,8 +11,8 @@ use Rattle.journal.specs.WriteOut.{WriteOut, next_stage, has_committed}
 use Rattle.journal.specs.WriteOuts.{has_uncommitted}
 use Rattle.journal.specs.Recovered.{RecoversBy}
 use Rattle.journal.specs.inside.Sound.{IsWriteOut, IsOlder, AreInOrder}
-use Rattle.journal.specs.inside.Tied.{open_in, stage_in, IsSeen, IsLeft, IsTied}
-use Rattle.journal.specs.inside.Finishing.{made, found_in}
+use Rattle.journal.specs.inside.Tied.{open_in, stage_in, IsSeen, CrashLeaves, IsTied}
+use Rattle.journal.specs.inside.Finishing.{after_steps, found_in}
 use Rattle.journal.proofs.Alls.{all-append}
 use Rattle.journal.proofs.Batches.{open_of-at, open_in-newest, committed-at}
 use Rattle.journal.proofs.Stages.{stage_from}
@@ -22,7 +22,7 @@ use Rattle.journal.proofs.Tying.{contents_committed}
 
 -- the write-out of a batch that was found
 abbrev found : Batch → WriteOut
-found batch = made batch (length batch.homes + 4)
+found batch = after_steps batch (length batch.homes + 4)
 
 pub applying_first : (batch : Batch) → 0 < length batch.homes → next_stage (found batch) ≡ Some (Applying 0)
 applying_first batch some = stage_from (length batch.homes) (length batch.homes + 4) (Some (Applying 0)) (omega arith, some)
@@ -92,7 +92,7 @@ module _ (v : SuperValue) (seen : List ℕ) where
       } in
       record {
         seen_is = is;
-        left_are = λ c left. subst (IsLeft v (found_in batches) contents contents seen) (sym (only c left))
+        left_are = λ c left. subst (CrashLeaves v (found_in batches) contents contents seen) (sym (only c left))
             (committed_left v contents contents (found_in batches) seen (found_each batches each) (found_order batches r.volume.journals (fits_geometry v r.volume.super_block.fits)) none is);
       }
 

@@ -28,7 +28,7 @@ use Rattle.journal.specs.Crash.{LeftBefore, LeftWithin}
 use Rattle.journal.specs.Standing.{IsStep, Stands, AtFirst, Begun, AnyOld, Stepped}
 use Rattle.journal.specs.inside.Standing.{IsStanding}
 use Rattle.journal.specs.inside.Sound.{IsWriteOut, IsSound}
-use Rattle.journal.specs.inside.Tied.{open_in, contents_at, stage_in, IsWritten, IsSeen, IsLeftAt, IsLeft, IsTied}
+use Rattle.journal.specs.inside.Tied.{open_in, contents_at, stage_in, IsWritten, IsSeen, IsLeftAt, CrashLeaves, IsTied}
 use Rattle.journal.proofs.Standing.{lacking, record_or-cases}
 use Rattle.journal.proofs.Batches.{committed_parts, committed-at, all_open}
 use Rattle.journal.proofs.Recovering.{shut_lacking}
@@ -67,7 +67,7 @@ module _ (v : SuperValue) (old new : ℕ → List ℕ) where
   left_at_before batches seen c j Closing is left = subst (Recovers v new) (sym left) is
   left_at_before batches seen c j Finishing is left = left.0
 
-  left_before : (batches : List WriteOut) (seen c : List ℕ) → IsSeen v batches old new seen → IsLeft v batches old new seen c → LeftBefore v old new (stage_in batches) c
+  left_before : (batches : List WriteOut) (seen c : List ℕ) → IsSeen v batches old new seen → CrashLeaves v batches old new seen c → LeftBefore v old new (stage_in batches) c
   left_before batches seen c is left = by (current batches) (seen_before (stage_in batches) (open_in batches) seen is.recovers) left
     where
       at_stage : (j : ℕ) (o : Option Stage) → LeftBefore v old new o seen → MatchOption o (c ≡ seen) (IsLeftAt v batches old new seen c j) → LeftBefore v old new o c
@@ -272,7 +272,7 @@ module _ (v : SuperValue) (old new next : ℕ → List ℕ) (batches : List Writ
   closed_in : (c : List ℕ) → IsVolume v (open_in batches) c → IsOpen c v.slots batch.journal → ⊥
   closed_in c volume = shut_lacking v (open_in batches) c batch.journal volume is_batch.there (lacking (open_in batches) batch.journal (all_open (λ (b : Batch). b.journal ≢ batch.journal) batches free))
 
-  left_shut : (l : List WriteOut) → l ≡ batches → AllByRecursion (IsWriteOut (geometry_of v)) l → has_uncommitted l ≡ false → (c : List ℕ) → IsLeft v l old new seen c → Recovers v new c × (IsOpen c v.slots batch.journal → ⊥)
+  left_shut : (l : List WriteOut) → l ≡ batches → AllByRecursion (IsWriteOut (geometry_of v)) l → has_uncommitted l ≡ false → (c : List ℕ) → CrashLeaves v l old new seen c → Recovers v new c × (IsOpen c v.slots batch.journal → ⊥)
   left_shut [] same all committed c left = subst (λ (d : List ℕ). Recovers v new d × (IsOpen d v.slots batch.journal → ⊥)) (sym left) (recovers_of v (open_in batches) new seen found, closed_in seen found.volume)
   left_shut (w ∷ newer) same all committed c left =
       let parts = committed_parts w newer committed in
@@ -333,7 +333,7 @@ module _ (v : SuperValue) (old other new : ℕ → List ℕ) where
   left_at_other batches seen c j Closing late left = left
   left_at_other batches seen c j Finishing late left = left
 
-  left_other : (batches : List WriteOut) (seen c : List ℕ) → has_uncommitted batches ≡ false → IsLeft v batches old new seen c → IsLeft v batches other new seen c
+  left_other : (batches : List WriteOut) (seen c : List ℕ) → has_uncommitted batches ≡ false → CrashLeaves v batches old new seen c → CrashLeaves v batches other new seen c
   left_other batches seen c none left = by (current batches) (λ w e. current_committed batches w none e) left
     where
       at_stage : (j : ℕ) (o : Option Stage) → option_map_or is_committed o true ≡ true → MatchOption o (c ≡ seen) (IsLeftAt v batches old new seen c j) → MatchOption o (c ≡ seen) (IsLeftAt v batches other new seen c j)

@@ -20,7 +20,7 @@ use Rattle.journal.specs.WriteOut.{IsBatch}
 use Rattle.journal.specs.Recovered.{RecoversBy}
 use Rattle.journal.specs.Crash.{LeftWithin}
 use Rattle.journal.specs.inside.Sound.{IsOlder, IsWriteOut, AreInOrder}
-use Rattle.journal.specs.inside.Tied.{is_open, open_in, stage_in, IsWritten, IsSeen, IsLeftAt, IsLeft, IsTied}
+use Rattle.journal.specs.inside.Tied.{is_open, open_in, stage_in, IsWritten, IsSeen, IsLeftAt, CrashLeaves, IsTied}
 use Rattle.journal.proofs.Alls.{all_map, all_both, all-append}
 use Rattle.journal.proofs.Places.{gate-below, descriptor-below, record-below}
 use Rattle.journal.proofs.Changes.{same_but_torn, torn-written}
@@ -76,7 +76,7 @@ module _ (v : SuperValue) (old new : ℕ → List ℕ) where
       (subst (λ (o : Option Stage). IfSome o (IsWritten v new x.batch seen)) (sym wait.0) (none_written x.batch seen), waiting_written seen newer wait.1)
 
   -- where all are committed, what a read gives may be left
-  pub committed_left : (batches : List WriteOut) (seen : List ℕ) → AllByRecursion (IsWriteOut (geometry_of v)) batches → AreInOrder batches → has_uncommitted batches ≡ false → IsSeen v batches old new seen → IsLeft v batches old new seen seen
+  pub committed_left : (batches : List WriteOut) (seen : List ℕ) → AllByRecursion (IsWriteOut (geometry_of v)) batches → AreInOrder batches → has_uncommitted batches ≡ false → IsSeen v batches old new seen → CrashLeaves v batches old new seen seen
   committed_left [] seen each ordered none is = refl
   committed_left (w ∷ newer) seen each ordered none is =
       let parts = committed_parts w newer none in
@@ -208,7 +208,7 @@ module _ (v : SuperValue) (old new : ℕ → List ℕ) where
         let is = committed_seen (seen_recording v old new others w Committing at early seen tied.seen_is) all_committed in
         record {
           seen_is = is;
-          left_are = λ c may_c. subst (IsLeft v (others ++ advanced_of w ∷ []) old new seen) (sym (sure refl c may_c)) (committed_left (others ++ advanced_of w ∷ []) seen each ordered all_committed is);
+          left_are = λ c may_c. subst (CrashLeaves v (others ++ advanced_of w ∷ []) old new seen) (sym (sure refl c may_c)) (committed_left (others ++ advanced_of w ∷ []) seen each ordered all_committed is);
         }
       where
         applying : next_stage (advanced_of w) ≡ Some (Applying 0)
@@ -323,7 +323,7 @@ module _ (v : SuperValue) (old new : ℕ → List ℕ) where
         let is = done_seen was in
         record {
           seen_is = is;
-          left_are = λ c may_c. subst (IsLeft v newer old new seen) (sym (sure refl c may_c)) (committed_left newer seen each ordered none is);
+          left_are = λ c may_c. subst (CrashLeaves v newer old new seen) (sym (sure refl c may_c)) (committed_left newer seen each ordered none is);
         }
       where
         done_seen : Applied seen Finishing → IsSeen v newer old new seen

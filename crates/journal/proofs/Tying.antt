@@ -12,7 +12,7 @@ use Rattle.journal.specs.Stage.{is_committed}
 use Rattle.journal.specs.WriteOut.{WriteOut, next_stage, has_committed}
 use Rattle.journal.specs.WriteOuts.{has_uncommitted}
 use Rattle.journal.specs.Recovered.{RecoversBy}
-use Rattle.journal.specs.inside.Tied.{is_open, open_in, contents_at, stage_in, IsWritten, IsSeen, IsLeftAt, IsLeft}
+use Rattle.journal.specs.inside.Tied.{is_open, open_in, contents_at, stage_in, IsWritten, IsSeen, IsLeftAt, CrashLeaves}
 use Rattle.journal.proofs.Alls.{all-append, all_front, all_back}
 use Rattle.journal.proofs.Batches.{current-newest, current-oldest, open_of-at, open_in-newest, committed-at}
 use Rattle.journal.proofs.Written.{AreWritten}
@@ -79,12 +79,12 @@ module _ (v : SuperValue) (old new : ℕ → List ℕ) where
         some_same : {x y : WriteOut} → Some x ≡ Some y → x ≡ y
         some_same e = cc
 
-    pub newest_left : (seen c : List ℕ) → IsLeftAt v (others ++ w ∷ []) old new seen c w.batch.journal stage → IsLeft v (others ++ w ∷ []) old new seen c
+    pub newest_left : (seen c : List ℕ) → IsLeftAt v (others ++ w ∷ []) old new seen c w.batch.journal stage → CrashLeaves v (others ++ w ∷ []) old new seen c
     newest_left seen c is =
         subst (λ (o : Option WriteOut). MatchOption o (c ≡ seen) (λ (x : WriteOut). MatchOption (next_stage x) (c ≡ seen) (IsLeftAt v (others ++ w ∷ []) old new seen c x.batch.journal))) (sym (current-newest others w uncommitted))
         (subst (λ (o : Option Stage). MatchOption o (c ≡ seen) (IsLeftAt v (others ++ w ∷ []) old new seen c w.batch.journal)) (sym at) is)
 
-    pub left_newest : (seen c : List ℕ) → IsLeft v (others ++ w ∷ []) old new seen c → IsLeftAt v (others ++ w ∷ []) old new seen c w.batch.journal stage
+    pub left_newest : (seen c : List ℕ) → CrashLeaves v (others ++ w ∷ []) old new seen c → IsLeftAt v (others ++ w ∷ []) old new seen c w.batch.journal stage
     left_newest seen c is =
         subst (λ (o : Option Stage). MatchOption o (c ≡ seen) (IsLeftAt v (others ++ w ∷ []) old new seen c w.batch.journal)) at
         (subst (λ (o : Option WriteOut). MatchOption o (c ≡ seen) (λ (x : WriteOut). MatchOption (next_stage x) (c ≡ seen) (IsLeftAt v (others ++ w ∷ []) old new seen c x.batch.journal))) (current-newest others w uncommitted) is)
@@ -118,12 +118,12 @@ module _ (v : SuperValue) (old new : ℕ → List ℕ) where
         some_same : {x y : WriteOut} → Some x ≡ Some y → x ≡ y
         some_same e = cc
 
-    pub oldest_left : (seen c : List ℕ) → IsLeftAt v (w ∷ newer) old new seen c w.batch.journal stage → IsLeft v (w ∷ newer) old new seen c
+    pub oldest_left : (seen c : List ℕ) → IsLeftAt v (w ∷ newer) old new seen c w.batch.journal stage → CrashLeaves v (w ∷ newer) old new seen c
     oldest_left seen c is =
         subst (λ (o : Option WriteOut). MatchOption o (c ≡ seen) (λ (x : WriteOut). MatchOption (next_stage x) (c ≡ seen) (IsLeftAt v (w ∷ newer) old new seen c x.batch.journal))) (sym (current-oldest w newer none))
         (subst (λ (o : Option Stage). MatchOption o (c ≡ seen) (IsLeftAt v (w ∷ newer) old new seen c w.batch.journal)) (sym at) is)
 
-    pub left_oldest : (seen c : List ℕ) → IsLeft v (w ∷ newer) old new seen c → IsLeftAt v (w ∷ newer) old new seen c w.batch.journal stage
+    pub left_oldest : (seen c : List ℕ) → CrashLeaves v (w ∷ newer) old new seen c → IsLeftAt v (w ∷ newer) old new seen c w.batch.journal stage
     left_oldest seen c is =
         subst (λ (o : Option Stage). MatchOption o (c ≡ seen) (IsLeftAt v (w ∷ newer) old new seen c w.batch.journal)) at
         (subst (λ (o : Option WriteOut). MatchOption o (c ≡ seen) (λ (x : WriteOut). MatchOption (next_stage x) (c ≡ seen) (IsLeftAt v (w ∷ newer) old new seen c x.batch.journal))) (current-oldest w newer none) is)

@@ -23,10 +23,10 @@ use Rattle.journal.specs.Work.{Work, WriteAt, CopyBlock, Nothing, Sync, work_at,
 use Rattle.journal.specs.WriteOut.{WriteOut, FlushValue, IsBatch, next_stage, has_committed, advanced_of, work_of, answer_of, flush_after, calls_in_steps}
 use Rattle.journal.specs.WriteOuts.{has_uncommitted}
 use Rattle.journal.specs.Crash.{LeftWithin}
-use Rattle.journal.specs.Finished.{IsOutside, gate_byte, Holds, RecoversSame, finishing_calls, Finishes}
+use Rattle.journal.specs.Finished.{IsOutside, gate_byte, HoldsVolume, RecoversSame, finishing_calls, Finishes}
 use Rattle.journal.specs.inside.Sound.{IsWriteOut, IsOlder, AreInOrder}
 use Rattle.journal.specs.inside.Tied.{IsTied}
-use Rattle.journal.specs.inside.Finishing.{made, found_in, left_of, IsOnWay, IsUnderWay}
+use Rattle.journal.specs.inside.Finishing.{after_steps, found_in, left_of, IsOnWay, IsUnderWay}
 use Rattle.journal.proofs.Alls.{all_map, all_front}
 use Rattle.journal.proofs.Batches.{committed-at}
 use Rattle.journal.proofs.Changes.{torn-written, first-written, length-block_at}
@@ -79,7 +79,7 @@ module _ (g : GeometryValue) (batch : Batch) (is_batch : IsBatch g batch) (steps
     | inr after ↦ torn_after torn k (let other = apart in omega (arith, after, other))
   ]
 
-  pub others_step : (stage : Stage) → next_stage (made batch steps) ≡ Some stage → is_committed stage ≡ true → (old : List ℕ) → 4096 * g.blocks ≤ length old
+  pub others_step : (stage : Stage) → next_stage (after_steps batch steps) ≡ Some stage → is_committed stage ≡ true → (old : List ℕ) → 4096 * g.blocks ≤ length old
       → (k : ℕ) → IsOutside g k → k ≢ gate_byte g.slots batch → get_or (worked old (work_at g batch bytes stage)) k 0 ≡ get_or old k 0
   others_step (Recording i) at late old long k out apart = false_true late
   others_step Describing at late old long k out apart = false_true late
@@ -91,7 +91,7 @@ module _ (g : GeometryValue) (batch : Batch) (is_batch : IsBatch g batch) (steps
   others_step Closing at late old long k out apart = outside_gate k (gate_torn old long) apart
   others_step Finishing at late old long k out apart = refl
 
-  pub closed_step : (stage : Stage) → next_stage (made batch steps) ≡ Some stage → is_committed stage ≡ true → (old : List ℕ) → 4096 * g.blocks ≤ length old
+  pub closed_step : (stage : Stage) → next_stage (after_steps batch steps) ≡ Some stage → is_committed stage ≡ true → (old : List ℕ) → 4096 * g.blocks ≤ length old
       → (2 * length batch.homes + 6 ≤ steps → get_or old (gate_byte g.slots batch) 0 ≡ 0) → 2 * length batch.homes + 6 ≤ steps + 1
       → get_or (worked old (work_at g batch bytes stage)) (gate_byte g.slots batch) 0 ≡ 0
   closed_step (Recording i) at late old long before from = false_true late
@@ -105,7 +105,7 @@ module _ (g : GeometryValue) (batch : Batch) (is_batch : IsBatch g batch) (steps
   closed_step Finishing at late old long before from = let is = stage_at-is (length batch.homes) steps at in before (omega (arith, is))
 
   -- what may be left of it
-  pub torn_step : (stage : Stage) → next_stage (made batch steps) ≡ Some stage → is_committed stage ≡ true → (may : List ℕ → Type 0) (c : List ℕ) → TornFromWork (work_at g batch bytes stage) may c
+  pub torn_step : (stage : Stage) → next_stage (after_steps batch steps) ≡ Some stage → is_committed stage ≡ true → (may : List ℕ → Type 0) (c : List ℕ) → TornFromWork (work_at g batch bytes stage) may c
       → (d : List ℕ) × may d × (length c ≡ length d) × ((k : ℕ) → 4096 * g.blocks ≤ k → get_or c k 0 ≡ get_or d k 0)
   torn_step (Recording i) at late may c torn = false_true late
   torn_step Describing at late may c torn = false_true late
@@ -139,7 +139,7 @@ module _ (g : GeometryValue) (batch : Batch) (is_batch : IsBatch g batch) (steps
   calls_same Closing = refl
   calls_same Finishing = refl
 
-  pub calls_step : (stage : Stage) → next_stage (made batch steps) ≡ Some stage → calls_in_steps g batch (steps + 1) ≡ calls_in_steps g batch steps + calls_of (work_at g batch bytes stage)
+  pub calls_step : (stage : Stage) → next_stage (after_steps batch steps) ≡ Some stage → calls_in_steps g batch (steps + 1) ≡ calls_in_steps g batch steps + calls_of (work_at g batch bytes stage)
   calls_step stage at =
       let one = ap (λ (o : Option Stage). calls_of (option_map_or (work_at g batch []) o Nothing)) at ∙ calls_same stage in
       let next : steps + 1 ≡ suc steps = omega arith in
@@ -166,24 +166,24 @@ left_new v contents c Closing late left = left
 left_new v contents c Finishing late left = left
 
 -- before the first step
-module _ {D : Type 0} (disk : Ghosts D) (v : SuperValue) (newer : List Batch) (contents : ℕ → List ℕ) (batch : Batch) (start : D) (found : Holds disk v (newer ++ batch ∷ []) contents start) where
+module _ {D : Type 0} (disk : Ghosts D) (v : SuperValue) (newer : List Batch) (contents : ℕ → List ℕ) (batch : Batch) (start : D) (found : HoldsVolume disk v (newer ++ batch ∷ []) contents start) where
   opened : AreOpen (geometry_of v) (newer ++ batch ∷ []) (disk.seen start)
   opened = found.recovers.volume.journals
 
   pub newer_open : AllByRecursion (IsOpenBatch (geometry_of v) (disk.seen start)) newer
   newer_open = all_front (IsOpenBatch (geometry_of v) (disk.seen start)) newer (batch ∷ []) opened.each
 
-  order : AreInOrder (made batch (length batch.homes + 4) ∷ found_in newer)
+  order : AreInOrder (after_steps batch (length batch.homes + 4) ∷ found_in newer)
   order = subst AreInOrder (found_last newer batch) (found_order v (disk.seen start) (newer ++ batch ∷ []) opened (fits_geometry v found.recovers.volume.super_block.fits))
 
-  each : AllByRecursion (IsWriteOut (geometry_of v)) (made batch (length batch.homes + 4) ∷ found_in newer)
+  each : AllByRecursion (IsWriteOut (geometry_of v)) (after_steps batch (length batch.homes + 4) ∷ found_in newer)
   each = subst (AllByRecursion (IsWriteOut (geometry_of v))) (found_last newer batch) (found_each v (disk.seen start) (newer ++ batch ∷ []) opened.each)
 
   pub none : has_uncommitted (found_in newer) ≡ false
   none = found_none v (disk.seen start) newer newer_open
 
-  pub older_at : (steps : ℕ) → has_committed (made batch steps) ≡ true → AllByRecursion (IsOlder (made batch steps)) (found_in newer)
-  older_at steps committed = all_map {P = IsOlder (made batch (length batch.homes + 4))} {Q = IsOlder (made batch steps)} (λ x is. record { marks = is.marks; journals = is.journals; committed = committed; waits = is.waits }) (found_in newer) order.0
+  pub older_at : (steps : ℕ) → has_committed (after_steps batch steps) ≡ true → AllByRecursion (IsOlder (after_steps batch steps)) (found_in newer)
+  older_at steps committed = all_map {P = IsOlder (after_steps batch (length batch.homes + 4))} {Q = IsOlder (after_steps batch steps)} (λ x is. record { marks = is.marks; journals = is.journals; committed = committed; waits = is.waits }) (found_in newer) order.0
 
   pub first_way : ((c : List ℕ) → disk.left_since start (disk.moment start) c → disk.may_leave start c) → IsOnWay disk v newer contents batch (length batch.homes + 4) start start
   first_way now =
@@ -191,7 +191,7 @@ module _ {D : Type 0} (disk : Ghosts D) (v : SuperValue) (newer : List Batch) (c
       let tied = found_tied v (disk.seen start) contents (newer ++ batch ∷ []) (disk.may_leave start) found.recovers found.synced in
       record {
         tied = subst (λ (l : List WriteOut). IsTied v l contents contents (disk.seen start) (disk.may_leave start))
-            (found_last newer batch ∙ sym (ap (λ (o : Option Stage). option_map_or (λ (s : Stage). made batch (length batch.homes + 4) ∷ found_in newer) o (found_in newer)) at)) tied;
+            (found_last newer batch ∙ sym (ap (λ (o : Option Stage). option_map_or (λ (s : Stage). after_steps batch (length batch.homes + 4) ∷ found_in newer) o (found_in newer)) at)) tied;
         length_left = λ c left. ap length (found.synced c left);
         past = λ c left i from. ap (λ (l : List ℕ). get_or l i 0) (found.synced c left);
         synced = λ last. absurd (omega (arith, last, each.0.batch.described.homes.some));
@@ -203,20 +203,20 @@ module _ {D : Type 0} (disk : Ghosts D) (v : SuperValue) (newer : List Batch) (c
       }
 
   -- a step
-  module _ (steps : ℕ) (now : D) (stage : Stage) (bytes : List ℕ) (at : next_stage (made batch steps) ≡ Some stage) (late : is_committed stage ≡ true)
+  module _ (steps : ℕ) (now : D) (stage : Stage) (bytes : List ℕ) (at : next_stage (after_steps batch steps) ≡ Some stage) (late : is_committed stage ≡ true)
       (way : IsOnWay disk v newer contents batch steps start now) where
     w : WriteOut
-    w = made batch steps
+    w = after_steps batch steps
 
     own : IsBatch (geometry_of v) batch
     own = each.0.batch
 
-    older : AllByRecursion (IsOlder (made batch steps)) (found_in newer)
-    older = older_at steps (committed-at (made batch steps) stage at ∙ late)
+    older : AllByRecursion (IsOlder (after_steps batch steps)) (found_in newer)
+    older = older_at steps (committed-at (after_steps batch steps) stage at ∙ late)
 
-    tied : IsTied v (made batch steps ∷ found_in newer) contents contents (disk.seen now) (disk.may_leave now)
+    tied : IsTied v (after_steps batch steps ∷ found_in newer) contents contents (disk.seen now) (disk.may_leave now)
     tied = subst (λ (l : List WriteOut). IsTied v l contents contents (disk.seen now) (disk.may_leave now))
-        (ap (λ (o : Option Stage). option_map_or (λ (s : Stage). made batch steps ∷ found_in newer) o (found_in newer)) at) way.tied
+        (ap (λ (o : Option Stage). option_map_or (λ (s : Stage). after_steps batch steps ∷ found_in newer) o (found_in newer)) at) way.tied
 
     -- what a crash leaves within it
     within : (c : List ℕ) → TornFromWork (work_at (geometry_of v) batch bytes stage) (disk.may_leave now) c → RecoversSame v contents (disk.seen start) c
@@ -224,7 +224,7 @@ module _ {D : Type 0} (disk : Ghosts D) (v : SuperValue) (newer : List Batch) (c
         let d = torn_step (geometry_of v) batch own steps bytes stage at late (disk.may_leave now) c torn in
         record {
           recovers = left_new v contents c stage late
-              (oldest_within v contents contents (made batch steps) (found_in newer) own older none (disk.seen now) (disk.may_leave now) stage bytes at late tied c torn);
+              (oldest_within v contents contents (after_steps batch steps) (found_in newer) own older none (disk.seen now) (disk.may_leave now) stage bytes at late tied c torn);
           same_length = d.2 ∙ way.length_left d.0 d.1;
           past = λ i from. d.3 i from ∙ way.past d.0 d.1 i from;
         }
@@ -233,27 +233,27 @@ module _ {D : Type 0} (disk : Ghosts D) (v : SuperValue) (newer : List Batch) (c
     time_step next done did = leaves_on way.time did.time within
 
     module _ (next : D) (honest : disk.is_honest now) (did : Did disk now (work_at (geometry_of v) batch bytes stage) true next) where
-      goes : (stage ≡ Finishing → ⊥) → IsTied v (made batch (steps + 1) ∷ found_in newer) contents contents (disk.seen next) (disk.may_leave next)
-      goes not_last = subst (λ (l : List ℕ). IsTied v (made batch (steps + 1) ∷ found_in newer) contents contents l (disk.may_leave next)) (sym (done_seen did honest refl))
-          (oldest_after v contents contents (made batch steps) (found_in newer) own older none (disk.seen now) (disk.may_leave now) stage bytes at late not_last tied (disk.may_leave next) did.left (did.sure honest refl))
+      goes : (stage ≡ Finishing → ⊥) → IsTied v (after_steps batch (steps + 1) ∷ found_in newer) contents contents (disk.seen next) (disk.may_leave next)
+      goes not_last = subst (λ (l : List ℕ). IsTied v (after_steps batch (steps + 1) ∷ found_in newer) contents contents l (disk.may_leave next)) (sym (done_seen did honest refl))
+          (oldest_after v contents contents (after_steps batch steps) (found_in newer) own older none (disk.seen now) (disk.may_leave now) stage bytes at late not_last tied (disk.may_leave next) did.left (did.sure honest refl))
 
       ends : stage ≡ Finishing → IsTied v (found_in newer) contents contents (disk.seen next) (disk.may_leave next)
       ends last =
           let sync : work_at (geometry_of v) batch bytes stage ≡ Sync = ap (work_at (geometry_of v) batch bytes) last in
           subst (λ (l : List ℕ). IsTied v (found_in newer) contents contents l (disk.may_leave next)) (sym (done_seen did honest refl ∙ ap (worked (disk.seen now)) sync))
-          (oldest_done v contents contents (made batch steps) (found_in newer) own older none (disk.seen now) (disk.may_leave now) bytes (at ∙ ap Some last) each.1 order.1 tied (disk.may_leave next) (λ e. did.sure honest refl sync))
+          (oldest_done v contents contents (after_steps batch steps) (found_in newer) own older none (disk.seen now) (disk.may_leave now) bytes (at ∙ ap Some last) each.1 order.1 tied (disk.may_leave next) (λ e. did.sure honest refl sync))
 
-      still_tied : (stage ≡ Finishing) ⊎ (stage ≡ Finishing → ⊥) → IsTied v (left_of (made batch (steps + 1)) (found_in newer)) contents contents (disk.seen next) (disk.may_leave next)
+      still_tied : (stage ≡ Finishing) ⊎ (stage ≡ Finishing → ⊥) → IsTied v (left_of (after_steps batch (steps + 1)) (found_in newer)) contents contents (disk.seen next) (disk.may_leave next)
       still_tied (inl last) =
           let k = length batch.homes in
           let is = stage_at-is k steps (at ∙ ap Some last) in
           let end : stage_at k (steps + 1) ≡ None = stage_from k (steps + 1) None (omega (arith, is)) in
           subst (λ (l : List WriteOut). IsTied v l contents contents (disk.seen next) (disk.may_leave next))
-          (sym (ap (λ (o : Option Stage). option_map_or (λ (s : Stage). made batch (steps + 1) ∷ found_in newer) o (found_in newer)) end)) (ends last)
+          (sym (ap (λ (o : Option Stage). option_map_or (λ (s : Stage). after_steps batch (steps + 1) ∷ found_in newer) o (found_in newer)) end)) (ends last)
       still_tied (inr not_last) =
-          let following = late_next (made batch steps) stage at late not_last in
+          let following = late_next (after_steps batch steps) stage at late not_last in
           subst (λ (l : List WriteOut). IsTied v l contents contents (disk.seen next) (disk.may_leave next))
-          (sym (ap (λ (o : Option Stage). option_map_or (λ (s : Stage). made batch (steps + 1) ∷ found_in newer) o (found_in newer)) following.at)) (goes not_last)
+          (sym (ap (λ (o : Option Stage). option_map_or (λ (s : Stage). after_steps batch (steps + 1) ∷ found_in newer) o (found_in newer)) following.at)) (goes not_last)
 
       last_stage : (s : Stage) → IsAt (length batch.homes) steps (Some s) → 2 * length batch.homes + 7 ≤ steps + 1 → s ≡ Finishing
       last_stage (Recording i) is last = absurd (omega (arith, is.0, is.1, last))
@@ -278,7 +278,7 @@ module _ {D : Type 0} (disk : Ghosts D) (v : SuperValue) (newer : List Batch) (c
       }
 
   -- after the last one
-  pub way_end : (steps : ℕ) (now : D) → steps ≡ 2 * length batch.homes + 7 → disk.is_honest now → IsOnWay disk v newer contents batch steps start now → Holds disk v newer contents now
+  pub way_end : (steps : ℕ) (now : D) → steps ≡ 2 * length batch.homes + 7 → disk.is_honest now → IsOnWay disk v newer contents batch steps start now → HoldsVolume disk v newer contents now
   way_end steps now last honest way =
       let k = length batch.homes in
       let end : stage_at k steps ≡ None = stage_from k steps None (omega (arith, last)) in
@@ -286,17 +286,17 @@ module _ {D : Type 0} (disk : Ghosts D) (v : SuperValue) (newer : List Batch) (c
         honest = honest;
         recovers = tied_recovers v (disk.seen start) contents newer (disk.seen now) (disk.may_leave now) newer_open
             (subst (λ (l : List WriteOut). IsTied v l contents contents (disk.seen now) (disk.may_leave now))
-            (ap (λ (o : Option Stage). option_map_or (λ (s : Stage). made batch steps ∷ found_in newer) o (found_in newer)) end) way.tied);
+            (ap (λ (o : Option Stage). option_map_or (λ (s : Stage). after_steps batch steps ∷ found_in newer) o (found_in newer)) end) way.tied);
         synced = way.synced (omega (arith, last));
       }
 
 -- ---- whatever the device held
 
 -- the stage of a step after the one that commits
-pub late_stage : (batch : Batch) (n : ℕ) → length batch.homes + 4 ≤ n → n < 2 * length batch.homes + 7 → (stage : Stage) × (next_stage (made batch n) ≡ Some stage) × (is_committed stage ≡ true)
+pub late_stage : (batch : Batch) (n : ℕ) → length batch.homes + 4 ≤ n → n < 2 * length batch.homes + 7 → (stage : Stage) × (next_stage (after_steps batch n) ≡ Some stage) × (is_committed stage ≡ true)
 late_stage batch n from to = by (stage_at (length batch.homes) n) refl (stage_is (length batch.homes) n)
   where
-    by : (o : Option Stage) → stage_at (length batch.homes) n ≡ o → IsAt (length batch.homes) n o → (stage : Stage) × (next_stage (made batch n) ≡ Some stage) × (is_committed stage ≡ true)
+    by : (o : Option Stage) → stage_at (length batch.homes) n ≡ o → IsAt (length batch.homes) n o → (stage : Stage) × (next_stage (after_steps batch n) ≡ Some stage) × (is_committed stage ≡ true)
     by None e at = absurd (omega (arith, at, to))
     by (Some (Recording i)) e at = absurd (omega (arith, at.0, at.1, from))
     by (Some Describing) e at = absurd (omega (arith, at, from))
@@ -309,7 +309,7 @@ late_stage batch n from to = by (stage_at (length batch.homes) n) refl (stage_is
     by (Some Finishing) e at = (Finishing, e, refl)
 
 -- its answer where no call fails
-pub late_answer_of : (batch : Batch) (n : ℕ) → length batch.homes + 4 ≤ n → n < 2 * length batch.homes + 7 → answer_of (made batch n) ≡ Broken → ⊥
+pub late_answer_of : (batch : Batch) (n : ℕ) → length batch.homes + 4 ≤ n → n < 2 * length batch.homes + 7 → answer_of (after_steps batch n) ≡ Broken → ⊥
 late_answer_of batch n from to e =
     let s = late_stage batch n from to in
     by s.0 s.2 (sym (ap (λ (o : Option Stage). option_map_or (answer_at batch.mark) o Broken) s.1) ∙ e)
@@ -349,10 +349,10 @@ module _ {D : Type 0} (disk : Ghosts D) (g : GeometryValue) (batch : Batch) wher
 
   module _ (is_batch : IsBatch g batch) (steps : ℕ) (bytes : List ℕ) (start now next : D) (long : 4096 * g.blocks ≤ length (disk.seen start)) (from : length batch.homes + 4 ≤ steps) (to : steps < 2 * length batch.homes + 7)
       (under : IsUnderWay disk g batch steps start now) where
-    at : (stage : Stage) × (next_stage (made batch steps) ≡ Some stage) × (is_committed stage ≡ true)
+    at : (stage : Stage) × (next_stage (after_steps batch steps) ≡ Some stage) × (is_committed stage ≡ true)
     at = late_stage batch steps from to
 
-    its_work : work_of g bytes (made batch steps) ≡ work_at g batch bytes at.0
+    its_work : work_of g bytes (after_steps batch steps) ≡ work_at g batch bytes at.0
     its_work = ap (λ (o : Option Stage). option_map_or (work_at g batch bytes) o Nothing) at.1
 
     calls_so_far : calls_in_steps g batch steps + calls_of (work_at g batch bytes at.0) ≤ 3 * length batch.homes + 7
@@ -361,7 +361,7 @@ module _ {D : Type 0} (disk : Ghosts D) (g : GeometryValue) (batch : Batch) wher
     few_now : disk.calls_made start + finishing_calls batch < 2 ^ 64 → disk.calls_made now + calls_of (work_at g batch bytes at.0) < 2 ^ 64
     few_now few = let made_so = under.calls few in omega (arith, few, made_so, calls_so_far)
 
-    pub under_step : Did disk now (work_of g bytes (made batch steps)) true next → IsUnderWay disk g batch (steps + 1) start next
+    pub under_step : Did disk now (work_of g bytes (after_steps batch steps)) true next → IsUnderWay disk g batch (steps + 1) start next
     under_step did_it =
         let did = did_as disk its_work refl did_it in
         let whole : 4096 * g.blocks ≤ length (disk.seen now) = omega (arith, long, under.same_length) in
@@ -381,7 +381,7 @@ module _ {D : Type 0} (disk : Ghosts D) (g : GeometryValue) (batch : Batch) wher
           faults = did.faults ∙ under.faults;
         }
 
-    pub under_failed : {T E : Type 0} (e : E) → Did disk now (work_of g bytes (made batch steps)) false next → Finishes {T = T} {E = E} disk g batch start (Err e) next
+    pub under_failed : {T E : Type 0} (e : E) → Did disk now (work_of g bytes (after_steps batch steps)) false next → Finishes {T = T} {E = E} disk g batch start (Err e) next
     under_failed e did_it =
         let did = did_as disk its_work refl did_it in
         record {

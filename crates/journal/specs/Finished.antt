@@ -19,7 +19,7 @@ gate_byte slots batch = 4096 * gate_block slots batch.journal
 
 -- An honest device holds a volume, all of it synced. These are the batches of its open journals, the newest first, and
 -- this is what its bytes recover to.
-pub record Holds {D : Type 0} (disk : Ghosts D) (v : SuperValue) (opened : List Batch) (contents : ℕ → List ℕ)
+pub record HoldsVolume {D : Type 0} (disk : Ghosts D) (v : SuperValue) (opened : List Batch) (contents : ℕ → List ℕ)
     (device : D) : Type 0 where
   pub honest : disk.is_honest device
   pub recovers : RecoversBy v opened contents (disk.seen device)
@@ -45,11 +45,11 @@ finishing_calls batch = 2 * length batch.homes + 3
 pub record Finishes {D T E : Type 0} (disk : Ghosts D) (g : GeometryValue) (batch : Batch) (old : D)
     (result : Result T E) (new : D) : Type 0 where
   pub finished : (v : SuperValue) (newer : List Batch) (contents : ℕ → List ℕ) → geometry_of v ≡ g
-      → Holds disk v (newer ++ batch ∷ []) contents old → OnOk result (Holds disk v newer contents new)
+      → HoldsVolume disk v (newer ++ batch ∷ []) contents old → OnOk result (HoldsVolume disk v newer contents new)
   pub closed : disk.is_honest old → OnOk result (IsClosed g batch (disk.seen old) (disk.seen new))
   -- what a crash leaves at any moment since old
   pub time : (v : SuperValue) (newer : List Batch) (contents : ℕ → List ℕ) → geometry_of v ≡ g
-      → Holds disk v (newer ++ batch ∷ []) contents old
+      → HoldsVolume disk v (newer ++ batch ∷ []) contents old
       → LeavesOnly disk.moment disk.left_since old new (RecoversSame v contents (disk.seen old))
   pub honest : disk.is_honest new ↔ disk.is_honest old
   pub same_length : length (disk.seen new) ≡ length (disk.seen old)

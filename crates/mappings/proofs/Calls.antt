@@ -12,11 +12,11 @@ use Rattle.mappings.specs.declared.place.Rights.{Rights}
 use Rattle.mappings.specs.declared.mapping.Mapping.{Mapping}
 use Rattle.mappings.specs.declared.page_range.PageRange.{PageRange}
 use Rattle.page_entry.specs.declared.refusal.Refusal.TheVariants.{Einval, Enomem, Eacces, Overlap}
-use Rattle.mappings.specs.Judgement.{is_mappable, is_user_range, add_refusal, protect_refusal, answer}
+use Rattle.mappings.specs.Judgement.{is_mappable, is_user_range, add_refusal, protect_refusal, answer_unless}
 use Rattle.mappings.specs.Places.{Places, allows, any_mapped, all_mapped, any_forbids}
 use Rattle.mappings.specs.Places as places
 use Rattle.mappings.specs.inside.Listed.{places_of, IsOrdered, IsMerged, IsKept, IsFirstAfter, IsGap, IsMeeting}
-use Rattle.mappings.specs.inside.Edits.{with_rights, merged, IsSplit}
+use Rattle.mappings.specs.inside.Edits.{given_rights, merged, IsSplit}
 use Rattle.mappings.proofs.Lists.{lookup_overlap, any_mapped_true, IsMapping-from_mappable, IsOrdered-insert, places_of-insert}
 use Rattle.mappings.proofs.Changes.{IsOrdered-with_rights_within, places_of-with_rights_within}
 use Rattle.mappings.proofs.Cuts.{Neighbours-take, Neighbours-drop, IsMerged-before, IsMerged-after, with_rights-meeting, take-put_mid_before, drop-put_mid_after}
@@ -40,16 +40,16 @@ pub places_of-nearly : {list : List Mapping} {from to : ℕ} {mapped : Places} (
 places_of-nearly {list} new is same = ap places_of same ∙ places_of-merged 0 list is.ordered ∙ is.places
 
 -- the mappings that have pages of a range have other rights
-pub IsNearlyMerged-rights : {Z : Type 0} (list : Vec Mapping Z) (old now new : List Mapping) (first count from to : ℕ) (rights : Rights) → 0 < count → IsSplit old list.items first count → IsMeeting list.items first (first + count) from to → now ≡ list.items → new ≡ map (with_rights rights) (take (to - from) (drop from now)) → IsNearlyMerged (with_items list (put_mid from (to - from) now new)).items from to (places.with_rights (places_of old) first count rights)
+pub IsNearlyMerged-rights : {Z : Type 0} (list : Vec Mapping Z) (old now new : List Mapping) (first count from to : ℕ) (rights : Rights) → 0 < count → IsSplit old list.items first count → IsMeeting list.items first (first + count) from to → now ≡ list.items → new ≡ map (given_rights rights) (take (to - from) (drop from now)) → IsNearlyMerged (with_items list (put_mid from (to - from) now new)).items from to (places.with_rights (places_of old) first count rights)
 IsNearlyMerged-rights list old now new first count from to rights some split m is same =
     let end = first + count in
     let ms = list.items in
     let le : first ≤ end = omega arith in
-    let size : length new ≡ to - from = omega (arith, ap length same, length-map (take (to - from) (drop from now)) (with_rights rights), length-take (to - from) (drop from now), length-drop from now, ap length is, m.within) in
+    let size : length new ≡ to - from = omega (arith, ap length same, length-map (take (to - from) (drop from now)) (given_rights rights), length-take (to - from) (drop from now), length-drop from now, ap length is, m.within) in
     let inside : to ≤ length now = omega (arith, ap length is, m.within) in
     let whole = with_items_is list (put_mid from (to - from) now new) (length-written now new from to m.forward inside size ∙ ap length is ∙ sym list.ok.0) in
     let written = whole ∙ ap (λ (l : List Mapping). put_mid from (to - from) l new) is in
-    let changed = written ∙ with_rights-meeting rights ms new first end from to split.ordered split.uncut_first m (same ∙ ap (λ (l : List Mapping). map (with_rights rights) (take (to - from) (drop from l))) is) in
+    let changed = written ∙ with_rights-meeting rights ms new first end from to split.ordered split.uncut_first m (same ∙ ap (λ (l : List Mapping). map (given_rights rights) (take (to - from) (drop from l))) is) in
     record {
       ordered = subst (IsOrdered 0) (sym changed) (IsOrdered-with_rights_within first count rights end 0 ms split.ordered);
       before = subst IsMerged (sym (ap (take from) written ∙ take-put_mid_before ms new from to m.forward m.within)) (IsMerged-before first end 0 from ms le split.ordered split.merged_but m.before);
@@ -89,20 +89,20 @@ pub record IsFree (range : PageRange) (place : Place) (mapped : Places) : Type 0
   pub pages : 0 < range.count
   pub unmapped : any_mapped mapped range.first range.count ≡ false
 
-pub added : (range : PageRange) (place : Place) (mapped : Places) → answer (add_refusal mapped range place) ≡ Ok tt → IsFree range place mapped
+pub added : (range : PageRange) (place : Place) (mapped : Places) → answer_unless (add_refusal mapped range place) ≡ Ok tt → IsFree range place mapped
 added range place mapped ok =
     by_tests (is_mappable range place.page) (allows place.access place.rights) (any_mapped mapped range.first range.count) refl refl ok
   where
-    by_tests : (a b c : Bool) → is_mappable range place.page ≡ a → any_mapped mapped range.first range.count ≡ c → answer (if not a then Some Einval else (if not b then Some Eacces else (if c then Some Overlap else None))) ≡ Ok tt → IsFree range place mapped
+    by_tests : (a b c : Bool) → is_mappable range place.page ≡ a → any_mapped mapped range.first range.count ≡ c → answer_unless (if not a then Some Einval else (if not b then Some Eacces else (if c then Some Overlap else None))) ≡ Ok tt → IsFree range place mapped
     by_tests false b c e f ok = absurd (cc)
     by_tests true false c e f ok = absurd (cc)
     by_tests true true true e f ok = absurd (cc)
     by_tests true true false e f ok = record { mappable = e; pages = grind (arith, nat_tests); unmapped = f }
 
 -- a range whose rights may change has pages
-pub positive : (range : PageRange) (rights : Rights) (mapped : Places) → answer (protect_refusal mapped range rights) ≡ Ok tt → 0 < range.count
+pub positive : (range : PageRange) (rights : Rights) (mapped : Places) → answer_unless (protect_refusal mapped range rights) ≡ Ok tt → 0 < range.count
 positive range rights mapped ok = by_tests (is_user_range range) (all_mapped mapped range.first range.count) (any_forbids mapped range.first range.count rights) refl ok
   where
-    by_tests : (a b c : Bool) → is_user_range range ≡ a → answer (if not a then Some Einval else (if not b then Some Enomem else (if c then Some Eacces else None))) ≡ Ok tt → 0 < range.count
+    by_tests : (a b c : Bool) → is_user_range range ≡ a → answer_unless (if not a then Some Einval else (if not b then Some Enomem else (if c then Some Eacces else None))) ≡ Ok tt → 0 < range.count
     by_tests false b c e ok = absurd (cc)
     by_tests true b c e ok = grind (arith, nat_tests)

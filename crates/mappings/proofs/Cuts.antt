@@ -9,7 +9,7 @@ use Rattle.mappings.specs.declared.mapping.Mapping.{Mapping}
 use Rattle.mappings.specs.inside.Listed.{joins, Beside, Neighbours, IsMerged, IsOrdered, IsMeeting}
 use Rattle.mappings.proofs.Lists.{mapping_at}
 use Rattle.mappings.proofs.Merging.{drop-append-more}
-use Rattle.mappings.specs.inside.Edits.{is_outside, with_rights, with_rights_within, IsUncut, IsMergedBut}
+use Rattle.mappings.specs.inside.Edits.{is_outside, given_rights, with_rights_within, IsUncut, IsMergedBut}
 
 module _ (R : Mapping → Mapping → Type 0) where
   pub Neighbours-take : (n : ℕ) (ms : List Mapping) → Neighbours R ms → Neighbours R (take n ms)
@@ -144,9 +144,9 @@ map_between f g (suc from) n (suc to) (x ∷ xs) same within before inside after
     rw here (ap (λ ys. x ∷ ys) rest)
 
 -- the rights given to the mappings that have pages of a range are those given to the mappings that begin within it
-pub with_rights-meeting : (rights : Rights) (ms new : List Mapping) (first end from to : ℕ) → IsOrdered 0 ms → IsUncut first ms → IsMeeting ms first end from to → new ≡ map (with_rights rights) (take (to - from) (drop from ms)) → put_mid from (to - from) ms new ≡ map (with_rights_within first end rights) ms
+pub with_rights-meeting : (rights : Rights) (ms new : List Mapping) (first end from to : ℕ) → IsOrdered 0 ms → IsUncut first ms → IsMeeting ms first end from to → new ≡ map (given_rights rights) (take (to - from) (drop from ms)) → put_mid from (to - from) ms new ≡ map (with_rights_within first end rights) ms
 with_rights-meeting rights ms new first end from to o uncut m same =
-    rw (same, Post-is from to ms m.forward) (map_between (with_rights rights) (with_rights_within first end rights) from (to - from) to ms (omega (arith, m.forward)) m.within
+    rw (same, Post-is from to ms m.forward) (map_between (given_rights rights) (with_rights_within first end rights) from (to - from) to ms (omega (arith, m.forward)) m.within
     (λ j d h.
     let early = m.before j d h in
     let few = (mapping_at 0 ms o j d (omega (arith, m.forward, m.within))).has_pages in

@@ -51,6 +51,6 @@ protect_refusal places range rights =
     else (if any_forbids places range.first range.count rights then Some Eacces else None))
 
 -- what a call answers that is refused only for this reason
-abbrev pub answer : Option Refusal → Result (Unit {0}) Refusal
-answer None = Ok tt
-answer (Some why) = Err why
+abbrev pub answer_unless : Option Refusal → Result (Unit {0}) Refusal
+answer_unless None = Ok tt
+answer_unless (Some why) = Err why

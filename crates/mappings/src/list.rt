@@ -3,7 +3,7 @@ ghost use Rattle.std.specs.Prelude.{◌≡◌, ◌+◌, ◌-◌, ◌^◌, ◌≤
 ghost use Rattle.std.specs.Vec.{vec_capacity, vec_len};
 ghost use Rattle.std.specs.List.{list_any, remove_range};
 ghost use Rattle.mappings.specs.Places.{all_mapped, allows, goes_on, is_within, splits, without_range};
-ghost use Rattle.mappings.specs.inside.Edits.{split_at, put_at, end_splits, with_rights, merged, IsAround, IsBegin, IsEnd, IsWidened, IsSplit};
+ghost use Rattle.mappings.specs.inside.Edits.{split_at, put_at, end_splits, given_rights, merged, IsAround, IsBegin, IsEnd, IsWidened, IsSplit};
 ghost use Rattle.mappings.specs.inside.Listed.{places_of, IsOrdered, IsMerged, IsKept, IsFirstAfter, IsMeeting};
 
 use crate::mapping::Mapping;
@@ -203,7 +203,7 @@ pub(crate) fn take_out<A: Allocator>(list: &mut Vec<Mapping, A>, range: PageRang
 
 /// Gives the rights to the mappings.
 pub(crate) fn set_rights(list: &mut [Mapping], rights: Rights)
-    ensures { list.new ≡ map (with_rights rights) list.old }
+    ensures { list.new ≡ map (given_rights rights) list.old }
 {
     for mapping in list.iter_mut() {
         *mapping = mapping.with_rights(rights);

@@ -1,6 +1,6 @@
 // One mapping.
 ghost use Rattle.std.specs.Prelude.{◌≡◌, ◌+◌, ◌-◌, ◌^◌, ◌≤◌, ◌<◌, if◌then◌else◌, Some, None, IsTrue, nat_lt};
-ghost use Rattle.mappings.specs.inside.Edits.{from_page, part_below, part_from, with_rights};
+ghost use Rattle.mappings.specs.inside.Edits.{from_page, part_below, part_from, given_rights};
 ghost use Rattle.mappings.specs.inside.Listed.{covers, place_in, page_in, joins, IsMapping};
 
 use crate::{PageRange, Place, Rights};
@@ -93,7 +93,7 @@ impl Mapping {
 
     /// The mapping with these rights.
     pub(crate) fn with_rights(self, rights: Rights) -> Mapping
-        ensures { result ≡ with_rights rights self }
+        ensures { result ≡ given_rights rights self }
     {
         Mapping {
             place: Place {

@@ -3,7 +3,7 @@ ghost use Rattle.std.specs.Prelude.{◌≡◌, ◌<◌, ◌≤◌, Some, None, O
 ghost use Rattle.page_entry.specs.declared.refusal.Refusal.TheVariants.{OutOfMemory};
 ghost use Rattle.std.specs.FinMap as fin_map;
 ghost use Rattle.mappings.specs.Places.{with_range, without_range, with_rights, any_mapped, all_mapped, any_forbids, is_cut, splits, pages_mapping};
-ghost use Rattle.mappings.specs.Judgement.{add_refusal, remove_refusal, protect_refusal, answer};
+ghost use Rattle.mappings.specs.Judgement.{add_refusal, remove_refusal, protect_refusal, answer_unless};
 
 use crate::list::{
     any_forbids, covers_all, first_after, inside, is_within, meeting, merge_around, set_rights,
@@ -65,7 +65,7 @@ impl<A: Allocator + Copy> Mappings<A> {
     /// beyond 2^32 - 1; `Eacces` if writing is asked with read-only access; `Overlap` if a page of the range is mapped
     /// already.
     pub fn may_add(&self, range: PageRange, place: Place) -> Result<(), Refusal>
-        ensures { result ≡ answer (add_refusal self.now.places range place) }
+        ensures { result ≡ answer_unless (add_refusal self.now.places range place) }
     {
         if !range.is_mappable(u64::from(place.page)) {
             return Err(Refusal::Einval);
@@ -190,7 +190,7 @@ impl<A: Allocator + Copy> Mappings<A> {
     /// `Einval` if the range has no pages or isn't within bytes 4,096 to 2^47. After an error nothing has changed.
     pub fn remove(&mut self, range: PageRange) -> Result<(), Refusal>
         requires { splits self.old.places range None ≤ self.old.spare }
-        ensures judged { result ≡ answer (remove_refusal range) }
+        ensures judged { result ≡ answer_unless (remove_refusal range) }
         ensures removed { OnOk result (self.new.places ≡ without_range self.old.places range.first range.count) }
         ensures err { OnErr result (self.new ≡ self.old) }
     {
@@ -206,7 +206,7 @@ impl<A: Allocator + Copy> Mappings<A> {
     /// `Einval` if the range has no pages or isn't within bytes 4,096 to 2^47; `Enomem` if a page of the range isn't
     /// mapped; `Eacces` if writing is asked and a mapping of the range has read-only access.
     pub fn may_protect(&self, range: PageRange, rights: Rights) -> Result<(), Refusal>
-        ensures { result ≡ answer (protect_refusal self.now.places range rights) }
+        ensures { result ≡ answer_unless (protect_refusal self.now.places range rights) }
     {
         if !range.is_user() {
             return Err(Refusal::Einval);
@@ -226,7 +226,7 @@ impl<A: Allocator + Copy> Mappings<A> {
     /// It is refused as `may_protect` says. After an error nothing has changed.
     pub fn protect(&mut self, range: PageRange, rights: Rights) -> Result<(), Refusal>
         requires { splits self.old.places range (Some rights) ≤ self.old.spare }
-        ensures judged { result ≡ answer (protect_refusal self.old.places range rights) }
+        ensures judged { result ≡ answer_unless (protect_refusal self.old.places range rights) }
         ensures protected { OnOk result (self.new.places ≡ with_rights self.old.places range.first range.count rights) }
         ensures err { OnErr result (self.new ≡ self.old) }
     {

@@ -6,7 +6,7 @@ use Rattle.std.proofs.lemmas.Nat.{and-not, and_comm}
 use Rattle.std.proofs.lemmas.Nat.Bits.{and_pow}
 use Rattle.std.proofs.lemmas.Bool.Decides.{nat_tests}
 use Rattle.bitflags.specs.Sets.{without}
-use Rattle.page_entry.specs.Entry.{Mapped, flag, bits_of, has_bit, entry_of, IsEntry, is_writable, is_accessed, is_dirty, with_present_of, with_writable_of, with_accessed_of, with_dirty_of, with_frame_of}
+use Rattle.page_entry.specs.Entry.{Mapped, flag_weight, bits_of, has_bit, entry_of, IsEntry, is_writable, is_accessed, is_dirty, with_present_of, with_writable_of, with_accessed_of, with_dirty_of, with_frame_of}
 
 -- setting bit k adds its weight where it was clear
 or_bit : (n k : ℕ) → bit_or n (2 ^ k) + (n / 2 ^ k % 2) * 2 ^ k ≡ n + 2 ^ k
@@ -19,33 +19,33 @@ clear_bit n k small weight =
     ∙ (ap (λ x. x + bit_and (2 ^ k) n) (and_comm n (2 ^ 64 - 1 - 2 ^ k)) ∙ and-not 64 (2 ^ k) n weight small)
 
 -- a flag is its weight or nothing
-flag_scaled : (b : Bool) (weight : ℕ) → flag b weight ≡ flag b 1 * weight
+flag_scaled : (b : Bool) (weight : ℕ) → flag_weight b weight ≡ flag_weight b 1 * weight
 flag_scaled true weight = omega arith
 flag_scaled false weight = omega arith
 
-flag_small : (b : Bool) → flag b 1 ≤ 1
+flag_small : (b : Bool) → flag_weight b 1 ≤ 1
 flag_small true = omega arith
 flag_small false = omega arith
 
-flag_test : (b : Bool) → (flag b 1 == 1) ≡ b
+flag_test : (b : Bool) → (flag_weight b 1 == 1) ≡ b
 flag_test true = refl
 flag_test false = refl
 
 abbrev bits : ℕ → Bool → Bool → Bool → ℕ
-bits f w a d = 1 + flag w 2 + 4 + flag a 32 + flag d 64 + f * 4096
+bits f w a d = 1 + flag_weight w 2 + 4 + flag_weight a 32 + flag_weight d 64 + f * 4096
 
 -- the bits as multiples of their weights
-scaled : (f : ℕ) (w a d : Bool) → bits f w a d ≡ 5 + flag w 1 * 2 + flag a 1 * 32 + flag d 1 * 64 + f * 4096
+scaled : (f : ℕ) (w a d : Bool) → bits f w a d ≡ 5 + flag_weight w 1 * 2 + flag_weight a 1 * 32 + flag_weight d 1 * 64 + f * 4096
 scaled f w a d = omega (arith, flag_scaled w 2, flag_scaled a 32, flag_scaled d 64)
 
 has_writable : (f : ℕ) (w a d : Bool) → has_bit (bits f w a d) 1 ≡ w
-has_writable f w a d = ap (λ x. x == 1) (let e : bits f w a d / 2 % 2 ≡ flag w 1 = omega (arith, scaled f w a d, flag_small w, flag_small a, flag_small d) in e) ∙ flag_test w
+has_writable f w a d = ap (λ x. x == 1) (let e : bits f w a d / 2 % 2 ≡ flag_weight w 1 = omega (arith, scaled f w a d, flag_small w, flag_small a, flag_small d) in e) ∙ flag_test w
 
 has_accessed : (f : ℕ) (w a d : Bool) → has_bit (bits f w a d) 5 ≡ a
-has_accessed f w a d = ap (λ x. x == 1) (let e : bits f w a d / 32 % 2 ≡ flag a 1 = omega (arith, scaled f w a d, flag_small w, flag_small a, flag_small d) in e) ∙ flag_test a
+has_accessed f w a d = ap (λ x. x == 1) (let e : bits f w a d / 32 % 2 ≡ flag_weight a 1 = omega (arith, scaled f w a d, flag_small w, flag_small a, flag_small d) in e) ∙ flag_test a
 
 has_dirty : (f : ℕ) (w a d : Bool) → has_bit (bits f w a d) 6 ≡ d
-has_dirty f w a d = ap (λ x. x == 1) (let e : bits f w a d / 64 % 2 ≡ flag d 1 = omega (arith, scaled f w a d, flag_small w, flag_small a, flag_small d) in e) ∙ flag_test d
+has_dirty f w a d = ap (λ x. x == 1) (let e : bits f w a d / 64 % 2 ≡ flag_weight d 1 = omega (arith, scaled f w a d, flag_small w, flag_small a, flag_small d) in e) ∙ flag_test d
 
 has_present : (f : ℕ) (w a d : Bool) → has_bit (bits f w a d) 0 ≡ true
 has_present f w a d = ap (λ x. x == 1) (let e : bits f w a d / 1 % 2 ≡ 1 = omega (arith, scaled f w a d, flag_small w, flag_small a, flag_small d) in e)
@@ -84,23 +84,23 @@ pub IsSmall-entry_of : (n : ℕ) → IsEntry n → IsSmall (entry_of n)
 IsSmall-entry_of n is = small_entry (entry_of n) n is.named is.small
 
 -- what a test of one bit says
-one_bit : (n k : ℕ) (b : Bool) → n / 2 ^ k % 2 ≡ flag b 1 → (flag b 1 * 2 ^ k == 2 ^ k) ≡ b → (bit_and n (2 ^ k) == 2 ^ k) ≡ b
+one_bit : (n k : ℕ) (b : Bool) → n / 2 ^ k % 2 ≡ flag_weight b 1 → (flag_weight b 1 * 2 ^ k == 2 ^ k) ≡ b → (bit_and n (2 ^ k) == 2 ^ k) ≡ b
 one_bit n k b at weighed = ap (λ x. x == 2 ^ k) (and_pow n k ∙ ap (λ x. x * 2 ^ k) at) ∙ weighed
 
 pub test_writable : (e : Option Mapped) → (bit_and (bits_of e) 2 == 2) ≡ is_writable e
 test_writable None = refl
 test_writable (Some m) = let f = m.frame in let w = m.writable in let a = m.accessed in let d = m.dirty in
-    one_bit (bits f w a d) 1 w (omega (arith, scaled f w a d, flag_small w, flag_small a, flag_small d)) (elim w as (λ b. (flag b 1 * 2 == 2) ≡ b) [ true ↦ refl | false ↦ refl ])
+    one_bit (bits f w a d) 1 w (omega (arith, scaled f w a d, flag_small w, flag_small a, flag_small d)) (elim w as (λ b. (flag_weight b 1 * 2 == 2) ≡ b) [ true ↦ refl | false ↦ refl ])
 
 pub test_accessed : (e : Option Mapped) → (bit_and (bits_of e) 32 == 32) ≡ is_accessed e
 test_accessed None = refl
 test_accessed (Some m) = let f = m.frame in let w = m.writable in let a = m.accessed in let d = m.dirty in
-    one_bit (bits f w a d) 5 a (omega (arith, scaled f w a d, flag_small w, flag_small a, flag_small d)) (elim a as (λ b. (flag b 1 * 32 == 32) ≡ b) [ true ↦ refl | false ↦ refl ])
+    one_bit (bits f w a d) 5 a (omega (arith, scaled f w a d, flag_small w, flag_small a, flag_small d)) (elim a as (λ b. (flag_weight b 1 * 32 == 32) ≡ b) [ true ↦ refl | false ↦ refl ])
 
 pub test_dirty : (e : Option Mapped) → (bit_and (bits_of e) 64 == 64) ≡ is_dirty e
 test_dirty None = refl
 test_dirty (Some m) = let f = m.frame in let w = m.writable in let a = m.accessed in let d = m.dirty in
-    one_bit (bits f w a d) 6 d (omega (arith, scaled f w a d, flag_small w, flag_small a, flag_small d)) (elim d as (λ b. (flag b 1 * 64 == 64) ≡ b) [ true ↦ refl | false ↦ refl ])
+    one_bit (bits f w a d) 6 d (omega (arith, scaled f w a d, flag_small w, flag_small a, flag_small d)) (elim d as (λ b. (flag_weight b 1 * 64 == 64) ≡ b) [ true ↦ refl | false ↦ refl ])
 
 -- the bits with some of them set or cleared
 abbrev pub after_set : ℕ → ℕ → Bool → ℕ

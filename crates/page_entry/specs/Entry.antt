@@ -10,13 +10,13 @@ pub record Mapped : Type 0 where
   pub dirty : Bool
 
 -- a bit with its weight, where it is set
-abbrev pub flag : Bool → ℕ → ℕ
-flag set weight = if set then weight else 0
+abbrev pub flag_weight : Bool → ℕ → ℕ
+flag_weight set weight = if set then weight else 0
 
 -- Bit 0 present, 1 writable, 2 user, 5 accessed, 6 dirty, 51:12 the frame. The user bit is set in each present entry.
 abbrev pub bits_of : Option Mapped → ℕ
 bits_of None = 0
-bits_of (Some m) = 1 + flag m.writable 2 + 4 + flag m.accessed 32 + flag m.dirty 64 + m.frame * 4096
+bits_of (Some m) = 1 + flag_weight m.writable 2 + 4 + flag_weight m.accessed 32 + flag_weight m.dirty 64 + m.frame * 4096
 
 -- whether bit k is set
 abbrev pub has_bit : ℕ → ℕ → Bool

@@ -9,7 +9,7 @@ use Rattle.std.proofs.lemmas.Nat.Bits.{bit_at_above, bit_at-zero}
 use Rattle.std.proofs.Math.Nat.{div-div-eq-div-mul}
 use Rattle.page_entry.specs.Entry.{Mapped, entry_of, bits_of, has_bit, IsEntry, is_dirty}
 use Rattle.page_table.specs.Table.{in_range, dirty_among}
-use Rattle.page_table.specs.inside.Nodes.{word, walk, lookup, present_from, IsTable, IsLeafMask, IsOfLeaf, IsDirtyPage}
+use Rattle.page_table.specs.inside.Nodes.{word, read_by_walk, lookup, present_from, IsTable, IsLeafMask, IsOfLeaf, IsDirtyPage}
 use Rattle.page_table.specs.Bits.{is_set, IsSet}
 use Rattle.page_table.proofs.Trees.{walk-none, walk-suc, word_of_node}
 use Rattle.page_table.proofs.View.{dirty-none, dirty-first}
@@ -67,19 +67,19 @@ IsOfLeaf-found mask start end place is less =
     }
 
 -- a mask's bit is whether the page's entry is dirty
-pub mask_tells : (ws : List ℕ) (block : ℕ) (mask : List ℕ) → IsLeafMask ws block mask → (q : ℕ) → q / 512 ≡ block → has_bit (walk ws 4 q) 6 ≡ is_set mask (q % 512)
-mask_tells ws block mask is q same = sym (is.bits (q % 512) (omega arith) ∙ ap (λ n. has_bit (walk ws 4 n) 6) {x = block * 512 + q % 512} {y = q} (omega arith))
+pub mask_tells : (ws : List ℕ) (block : ℕ) (mask : List ℕ) → IsLeafMask ws block mask → (q : ℕ) → q / 512 ≡ block → has_bit (read_by_walk ws 4 q) 6 ≡ is_set mask (q % 512)
+mask_tells ws block mask is q same = sym (is.bits (q % 512) (omega arith) ∙ ap (λ n. has_bit (read_by_walk ws 4 n) 6) {x = block * 512 + q % 512} {y = q} (omega arith))
 
 pub zero_bit : has_bit 0 6 ≡ false
 zero_bit = refl
 
-pub no_dirty_leaf : (ws : List ℕ) (q : ℕ) → walk ws 3 (q / 512) ≡ 0 → has_bit (walk ws 4 q) 6 ≡ false
+pub no_dirty_leaf : (ws : List ℕ) (q : ℕ) → read_by_walk ws 3 (q / 512) ≡ 0 → has_bit (read_by_walk ws 4 q) 6 ≡ false
 no_dirty_leaf ws q none = ap (λ n. has_bit n 6) (walk-none ws 3 q none) ∙ zero_bit
 
 -- the mask of a block that has no leaf
-pub blank_mask : (ws : List ℕ) (block : ℕ) → walk ws 3 block ≡ 0 → IsLeafMask ws block (0 ∷ 0 ∷ 0 ∷ 0 ∷ 0 ∷ 0 ∷ 0 ∷ 0 ∷ [])
+pub blank_mask : (ws : List ℕ) (block : ℕ) → read_by_walk ws 3 block ≡ 0 → IsLeafMask ws block (0 ∷ 0 ∷ 0 ∷ 0 ∷ 0 ∷ 0 ∷ 0 ∷ 0 ∷ [])
 blank_mask ws block none = record {
-  bits = λ i less. no_bits (i / 64) (i % 64) ∙ sym (no_dirty_leaf ws (block * 512 + i) (ap (walk ws 3) {x = (block * 512 + i) / 512} {y = block} (omega arith) ∙ none));
+  bits = λ i less. no_bits (i / 64) (i % 64) ∙ sym (no_dirty_leaf ws (block * 512 + i) (ap (read_by_walk ws 3) {x = (block * 512 + i) / 512} {y = block} (omega arith) ∙ none));
 }
   where
     blank_at : (k : ℕ) → ◌≡◌ {A = ℕ} (get_or (0 ∷ 0 ∷ 0 ∷ 0 ∷ 0 ∷ 0 ∷ 0 ∷ 0 ∷ []) k 0) 0
@@ -112,7 +112,7 @@ pub dirty_bit : (n : ℕ) → IsEntry n → is_dirty (entry_of n) ≡ has_bit n 
 dirty_bit n is = dirty_of n (has_bit n 0) refl is
 
 -- the first leaf, and those after it
-pub IsFirstDirty-here : (ws mask : List ℕ) (start next first end page : ℕ) → IsLeafMask ws (first / 512) mask → start ≤ first → ((q : ℕ) → start ≤ q → q < first → has_bit (walk ws 4 q) 6 ≡ false) → IsOfLeaf mask first end page → IsDirtyPage ws start end page
+pub IsFirstDirty-here : (ws mask : List ℕ) (start next first end page : ℕ) → IsLeafMask ws (first / 512) mask → start ≤ first → ((q : ℕ) → start ≤ q → q < first → has_bit (read_by_walk ws 4 q) 6 ≡ false) → IsOfLeaf mask first end page → IsDirtyPage ws start end page
 IsFirstDirty-here ws mask start next first end page is le none found = record {
   low = omega (arith, found.low);
   high = found.high;
@@ -123,21 +123,21 @@ IsFirstDirty-here ws mask start next first end page is le none found = record {
   ];
 }
 
-pub none_in_leaf : (ws mask : List ℕ) (start first end : ℕ) → IsLeafMask ws (first / 512) mask → ((q : ℕ) → start ≤ q → q < first → q < end → has_bit (walk ws 4 q) 6 ≡ false) → ((q : ℕ) → first ≤ q → q < end → q / 512 ≡ first / 512 → is_set mask (q % 512) ≡ false) → (q : ℕ) → start ≤ q → q < (first / 512 + 1) * 512 → q < end → has_bit (walk ws 4 q) 6 ≡ false
+pub none_in_leaf : (ws mask : List ℕ) (start first end : ℕ) → IsLeafMask ws (first / 512) mask → ((q : ℕ) → start ≤ q → q < first → q < end → has_bit (read_by_walk ws 4 q) 6 ≡ false) → ((q : ℕ) → first ≤ q → q < end → q / 512 ≡ first / 512 → is_set mask (q % 512) ≡ false) → (q : ℕ) → start ≤ q → q < (first / 512 + 1) * 512 → q < end → has_bit (read_by_walk ws 4 q) 6 ≡ false
 none_in_leaf ws mask start first end is none missed q low high less = elim (cases_lt q first) [
   | inl earlier ↦ none q low earlier less
   | inr later ↦ (let block : q / 512 ≡ first / 512 = omega arith in mask_tells ws (first / 512) mask is q block ∙ missed q later less block)
 ]
 
 -- up to the first page that has a leaf
-pub none_in_gap : (ws : List ℕ) (start next end first : ℕ) → ((q : ℕ) → start ≤ q → q < next → q < end → has_bit (walk ws 4 q) 6 ≡ false) → ((q : ℕ) → next ≤ q → q < first → walk ws 3 (q / 512) ≡ 0) → (q : ℕ) → start ≤ q → q < first → q < end → has_bit (walk ws 4 q) 6 ≡ false
+pub none_in_gap : (ws : List ℕ) (start next end first : ℕ) → ((q : ℕ) → start ≤ q → q < next → q < end → has_bit (read_by_walk ws 4 q) 6 ≡ false) → ((q : ℕ) → next ≤ q → q < first → read_by_walk ws 3 (q / 512) ≡ 0) → (q : ℕ) → start ≤ q → q < first → q < end → has_bit (read_by_walk ws 4 q) 6 ≡ false
 none_in_gap ws start next end first none gap q low high less = elim (cases_lt q next) [
   | inl earlier ↦ none q low earlier less
   | inr later ↦ no_dirty_leaf ws q (gap q later high)
 ]
 
 -- no page past the four levels is dirty
-pub none_past : (ws : List ℕ) (start end most : ℕ) → end ≡ min most (2 ^ 36) → ((q : ℕ) → start ≤ q → q < end → has_bit (walk ws 4 q) 6 ≡ false) → (q : ℕ) → start ≤ q → q < most → has_bit (walk ws 4 q) 6 ≡ false
+pub none_past : (ws : List ℕ) (start end most : ℕ) → end ≡ min most (2 ^ 36) → ((q : ℕ) → start ≤ q → q < end → has_bit (read_by_walk ws 4 q) 6 ≡ false) → (q : ℕ) → start ≤ q → q < most → has_bit (read_by_walk ws 4 q) 6 ≡ false
 none_past ws start end most whole none q low less = elim (cases_lt q end) [
   | inl within ↦ none q low within
   | inr past ↦ ap (λ n. has_bit n 6) (walk-high ws q (omega arith)) ∙ zero_bit
@@ -148,10 +148,10 @@ pub wider : (ws : List ℕ) (start end most page : ℕ) → end ≤ most → IsD
 wider ws start end most page le is = record { low = is.low; high = omega (arith, is.high); here = is.here; before = is.before }
 
 module _ (ws : List ℕ) (table : IsTable ws) (start end : ℕ) where
-  listed_is : (q : ℕ) → is_dirty (lookup ws q) ≡ has_bit (walk ws 4 q) 6
-  listed_is q = dirty_bit (walk ws 4 q) (table.tree.entries q)
+  listed_is : (q : ℕ) → is_dirty (lookup ws q) ≡ has_bit (read_by_walk ws 4 q) 6
+  listed_is q = dirty_bit (read_by_walk ws 4 q) (table.tree.entries q)
 
-  not_listed : (q : ℕ) → (start ≤ q → q < end → has_bit (walk ws 4 q) 6 ≡ false) → (in_range start end q && is_dirty (lookup ws q)) ≡ false
+  not_listed : (q : ℕ) → (start ≤ q → q < end → has_bit (read_by_walk ws 4 q) 6 ≡ false) → (in_range start end q && is_dirty (lookup ws q)) ≡ false
   not_listed q clean = by_range (in_range start end q) refl
     where
       by_range : (b : Bool) → in_range start end q ≡ b → (b && is_dirty (lookup ws q)) ≡ false
@@ -159,7 +159,7 @@ module _ (ws : List ℕ) (table : IsTable ws) (start end : ℕ) where
       by_range true inside = listed_is q ∙ clean (grind (arith, nat_tests)) (grind (arith, nat_tests))
 
   -- the list of the dirty pages is empty
-  pub list_none : ((q : ℕ) → start ≤ q → q < end → has_bit (walk ws 4 q) 6 ≡ false) → dirty_among (present_from (lookup ws) 0 (2 ^ 36)) start end ≡ []
+  pub list_none : ((q : ℕ) → start ≤ q → q < end → has_bit (read_by_walk ws 4 q) 6 ≡ false) → dirty_among (present_from (lookup ws) 0 (2 ^ 36)) start end ≡ []
   list_none none = dirty-none (lookup ws) start end 0 (2 ^ 36) (λ q low high. not_listed q (none q))
 
   -- or begins with the first of them
@@ -170,10 +170,10 @@ module _ (ws : List ℕ) (table : IsTable ws) (start end : ℕ) where
       dirty-first (lookup ws) start end 0 (2 ^ 36) page (omega arith) is.low (omega arith) (rw (inside, dirty) refl) (λ q low high. not_listed q (λ from upto. is.before q from high))
 
 -- the mask of a leaf
-pub leaf_mask_is : (ws : List ℕ) (block node n : ℕ) (entries mask : List ℕ) → node ≡ walk ws 3 block → 0 < node → n ≡ 512 → entries ≡ take n (drop ((node - 1) * 512) ws) → ((i : ℕ) → i < 512 → is_set mask i ≡ has_bit (get_or entries i 0) 6) → IsLeafMask ws block mask
+pub leaf_mask_is : (ws : List ℕ) (block node n : ℕ) (entries mask : List ℕ) → node ≡ read_by_walk ws 3 block → 0 < node → n ≡ 512 → entries ≡ take n (drop ((node - 1) * 512) ws) → ((i : ℕ) → i < 512 → is_set mask i ≡ has_bit (get_or entries i 0) 6) → IsLeafMask ws block mask
 leaf_mask_is ws block node n entries mask node_is some n_is cut bits = record {
   bits = λ i less.
-      let at : walk ws 3 ((block * 512 + i) / 512) ≡ node = ap (walk ws 3) {x = (block * 512 + i) / 512} {y = block} (omega arith) ∙ sym node_is in
+      let at : read_by_walk ws 3 ((block * 512 + i) / 512) ≡ node = ap (read_by_walk ws 3) {x = (block * 512 + i) / 512} {y = block} (omega arith) ∙ sym node_is in
       bits i less ∙ ap (λ n. has_bit n 6) (ap (λ (l : List ℕ). get_or l i 0) cut ∙ get_or-take n (drop ((node - 1) * 512) ws) i 0 (omega arith) ∙ get_or-drop ((node - 1) * 512) ws i 0
       ∙ ap (λ m. get_or ws m 0) {x = (node - 1) * 512 + i} {y = (node - 1) * 512 + (block * 512 + i) % 512} (omega arith)
       ∙ sym (walk-suc ws 3 (block * 512 + i) ∙ ap (λ k. word ws k ((block * 512 + i) % 512)) at ∙ word_of_node ws node ((block * 512 + i) % 512) some));

@@ -5,7 +5,7 @@ use Rattle.std.proofs.lemmas.Bool.Decides.{nat_tests}
 use Rattle.std.proofs.lemmas.List.{length-set, get_or-set_same, get_or-set_other}
 use Rattle.page_entry.specs.Entry.{IsEntry}
 use Rattle.page_table.specs.Table.{in_range}
-use Rattle.page_table.specs.inside.Nodes.{word, walk, IsTree, IsTable, EditsPages}
+use Rattle.page_table.specs.inside.Nodes.{word, read_by_walk, IsTree, IsTable, EditsPages}
 use Rattle.page_table.specs.Bits.{is_set, IsSet}
 use Rattle.page_table.specs.inside.Marks.{place_of, HasMarks, AreMarked, EditsMarked, Keeps}
 use Rattle.page_table.proofs.Trees.{walk-suc, walk-zero, walk-none, word_of_node, word_of_none}
@@ -125,7 +125,7 @@ module _ (f : ℕ → ℕ) (ws vs present in_use : List ℕ) (end : ℕ) (zeros 
   unmarked_word i none = each i ∙ rw none refl
 
   -- a word of a node that isn't a leaf is unmarked
-  not_marked : (d c p : ℕ) → d < 3 → p < 512 → 0 < walk ws d c → (b : Bool) → is_set present ((walk ws d c - 1) * 512 + p) ≡ b → b ≡ false
+  not_marked : (d c p : ℕ) → d < 3 → p < 512 → 0 < read_by_walk ws d c → (b : Bool) → is_set present ((read_by_walk ws d c - 1) * 512 + p) ≡ b → b ≡ false
   not_marked d c p less small node false is = refl
   not_marked d c p less small node true is =
       let found = marks.marked.pages _ is in
@@ -133,10 +133,10 @@ module _ (f : ℕ → ℕ) (ws vs present in_use : List ℕ) (end : ℕ) (zeros 
       let same = found.1.same in
       absurd (let depth = (table.tree.apart d c 3 (found.0 / 512) (omega arith) (omega arith) node (omega arith)).0 in omega arith)
 
-  pub walk-marked : (d c : ℕ) → d ≤ 3 → walk vs d c ≡ walk ws d c
+  pub walk-marked : (d c : ℕ) → d ≤ 3 → read_by_walk vs d c ≡ read_by_walk ws d c
   walk-marked zero c le = walk-zero vs c ∙ sym (walk-zero ws c)
   walk-marked (suc d) c le =
-      let k = walk ws d (c / 512) in
+      let k = read_by_walk ws d (c / 512) in
       walk-suc vs d c ∙ ap (λ k. word vs k (c % 512)) (walk-marked d (c / 512) (omega arith))
       ∙ elim (cases_eq k 0) [
         | inl none ↦ word_of_none vs k _ none ∙ sym (word_of_none ws k _ none)
@@ -146,12 +146,12 @@ module _ (f : ℕ → ℕ) (ws vs present in_use : List ℕ) (end : ℕ) (zeros 
       ]
       ∙ sym (walk-suc ws d c)
 
-  pub lookup-marked : (q : ℕ) → walk vs 4 q ≡ f (walk ws 4 q)
+  pub lookup-marked : (q : ℕ) → read_by_walk vs 4 q ≡ f (read_by_walk ws 4 q)
   lookup-marked q =
-      let k = walk ws 3 (q / 512) in
+      let k = read_by_walk ws 3 (q / 512) in
       elim (cases_eq k 0) [
         | inl none ↦
-            let old : walk ws 4 q ≡ 0 = walk-none ws 3 q none in
+            let old : read_by_walk ws 4 q ≡ 0 = walk-none ws 3 q none in
             walk-none vs 3 q (walk-marked 3 (q / 512) (omega arith) ∙ none) ∙ sym (ap f old ∙ zeros)
         | inr node ↦
             let some : 0 < k = omega arith in
@@ -160,7 +160,7 @@ module _ (f : ℕ → ℕ) (ws vs present in_use : List ℕ) (end : ℕ) (zeros 
             ∙ by_mark some read (is_set present (place_of ws q)) refl
       ]
     where
-      by_mark : (some : 0 < walk ws 3 (q / 512)) → walk ws 4 q ≡ get_or ws (place_of ws q) 0 → (b : Bool) → is_set present (place_of ws q) ≡ b → get_or vs (place_of ws q) 0 ≡ f (walk ws 4 q)
+      by_mark : (some : 0 < read_by_walk ws 3 (q / 512)) → read_by_walk ws 4 q ≡ get_or ws (place_of ws q) 0 → (b : Bool) → is_set present (place_of ws q) ≡ b → get_or vs (place_of ws q) 0 ≡ f (read_by_walk ws 4 q)
       by_mark some read true is = each _ ∙ ap (λ t. cond t (f (get_or ws (place_of ws q) 0)) (get_or ws (place_of ws q) 0)) is ∙ ap f (sym read)
       by_mark some read false is =
           let none = unmarked ws present marks.marked q some is in
@@ -201,8 +201,8 @@ module _ (f : ℕ → ℕ) (ws vs present in_use : List ℕ) (end : ℕ) (zeros 
 
   pub HasMarks-marked : Keeps f → HasMarks vs present in_use
   HasMarks-marked some = HasMarks-same ws vs present in_use edits.size walk-marked
-      (λ q. ap (λ n. ltb 0 n) (lookup-marked q) ∙ elim (cases_eq (walk ws 4 q) 0) [
-        | inl none ↦ (let same : f (walk ws 4 q) ≡ 0 = ap f none ∙ zeros in rw (same, none) refl)
-        | inr entry ↦ some_true (f (walk ws 4 q)) (some (walk ws 4 q) (table.tree.entries q) (omega arith)) ∙ sym (some_true (walk ws 4 q) (omega arith))
+      (λ q. ap (λ n. ltb 0 n) (lookup-marked q) ∙ elim (cases_eq (read_by_walk ws 4 q) 0) [
+        | inl none ↦ (let same : f (read_by_walk ws 4 q) ≡ 0 = ap f none ∙ zeros in rw (same, none) refl)
+        | inr entry ↦ some_true (f (read_by_walk ws 4 q)) (some (read_by_walk ws 4 q) (table.tree.entries q) (omega arith)) ∙ sym (some_true (read_by_walk ws 4 q) (omega arith))
       ])
       marks

@@ -5,7 +5,7 @@ use Rattle.std.proofs.lemmas.List.{length-set, get_or-set_same, get_or-set_other
 use Rattle.std.specs.FinMap as maps
 use Rattle.page_entry.specs.Entry.{Mapped, entry_of, is_dirty, frame_of}
 use Rattle.page_table.specs.Table.{TableState}
-use Rattle.page_table.specs.inside.Nodes.{walk, IsTable, table_of}
+use Rattle.page_table.specs.inside.Nodes.{read_by_walk, IsTable, table_of}
 use Rattle.page_table.specs.Bits.{is_set, IsSet}
 use Rattle.page_table.specs.inside.Marks.{place_of, HasMarks, IsMarkedDirty, NotesMarked, AreBelow}
 use Rattle.page_table.proofs.Trees.{walk-none}
@@ -155,7 +155,7 @@ NotesMarked-whole ws present in_use table marks node old new done none = record 
 
 -- a table's dirty entries
 module _ (ws present in_use : List ℕ) (t : TableState) (table : IsTable ws) (marks : HasMarks ws present in_use) (is : table_of ws ≡ t) where
-  entry_is : (q : ℕ) → maps.get t.entries q ≡ entry_of (walk ws 4 q)
+  entry_is : (q : ℕ) → maps.get t.entries q ≡ entry_of (read_by_walk ws 4 q)
   entry_is q = ap (λ (s : TableState). maps.get s.entries q) (sym is) ∙ get_entry ws q
 
   -- the page of a marked word
@@ -168,20 +168,20 @@ module _ (ws present in_use : List ℕ) (t : TableState) (table : IsTable ws) (m
   AreBelow-entries count below first end = λ i low high marked entry read. (let found = at_page i entry marked read in below found.0 entry found.1)
 
   -- the word of a page with an entry is marked, and its node in use
-  read_of : (page : ℕ) (entry : Mapped) → maps.get t.entries page ≡ Some entry → entry_of (walk ws 4 page) ≡ Some entry
+  read_of : (page : ℕ) (entry : Mapped) → maps.get t.entries page ≡ Some entry → entry_of (read_by_walk ws 4 page) ≡ Some entry
   read_of page entry there = sym (entry_is page) ∙ there
 
-  some_of : (page : ℕ) (entry : Mapped) → maps.get t.entries page ≡ Some entry → walk ws 4 page ≢ 0
+  some_of : (page : ℕ) (entry : Mapped) → maps.get t.entries page ≡ Some entry → read_by_walk ws 4 page ≢ 0
   some_of page entry there = λ none. nothing (sym (ap entry_of none) ∙ read_of page entry there)
     where
       nothing : entry_of 0 ≡ Some entry → ⊥
       nothing same = (let never : None ≡ Some entry = same in absurd (cc))
 
-  leaf_of : (page : ℕ) (entry : Mapped) → maps.get t.entries page ≡ Some entry → 0 < walk ws 3 (page / 512)
-  leaf_of page entry there = elim (cases_eq (walk ws 3 (page / 512)) 0) [ inl none ↦ absurd (some_of page entry there (walk-none ws 3 page none)) | inr other ↦ omega arith ]
+  leaf_of : (page : ℕ) (entry : Mapped) → maps.get t.entries page ≡ Some entry → 0 < read_by_walk ws 3 (page / 512)
+  leaf_of page entry there = elim (cases_eq (read_by_walk ws 3 (page / 512)) 0) [ inl none ↦ absurd (some_of page entry there (walk-none ws 3 page none)) | inr other ↦ omega arith ]
 
   marked_of : (page : ℕ) (entry : Mapped) → maps.get t.entries page ≡ Some entry → is_set present (place_of ws page) ≡ true
-  marked_of page entry there = test_of (walk ws 4 page) (is_set present (place_of ws page)) (marks.marked.entries page (leaf_of page entry there)) (some_of page entry there)
+  marked_of page entry there = test_of (read_by_walk ws 4 page) (is_set present (place_of ws page)) (marks.marked.entries page (leaf_of page entry there)) (some_of page entry there)
 
   -- where no node is in use, no page has one
   pub none_in_use : (some : Bool) → (some ≡ false → (node : ℕ) → node < length ws / 512 → is_set in_use node ≡ false) → (page : ℕ) (entry : Mapped) → maps.get t.entries page ≡ Some entry → some ≡ true

@@ -12,8 +12,8 @@ use Rattle.page_entry.proofs.Bits.{entry_of-bits_of, IsEntry-bits_of}
 use Rattle.page_table.specs.Table.{TableState, is_grown, in_range, is_marked, put_entry, outside_range, frames_protected, range_read_only, empty_table, HasGrown, GrowsOver}
 use Rattle.page_table.specs.declared.change.Change.{Change}
 use Rattle.page_table.specs.declared.change.Change.TheVariants.{Clear, MakeReadOnly, Protect}
-use Rattle.page_table.specs.inside.Changes.{changed, changed_bits}
-use Rattle.page_table.specs.inside.Nodes.{word, walk, lookup, has_leaf, table_of, IsTree, IsTable, EditsPages, GrowsPages, needed, missing}
+use Rattle.page_table.specs.inside.Changes.{changed_by, changed_bits}
+use Rattle.page_table.specs.inside.Nodes.{word, read_by_walk, lookup, has_leaf, table_of, IsTree, IsTable, EditsPages, GrowsPages, needed, missing}
 use Rattle.page_table.proofs.Entries.{same_table, same_entries, get-put_entry, get-outside_range, get-range_read_only, get-frames_protected, maps_marked, get-empty_table, is_grown-empty_table}
 use Rattle.page_table.proofs.Trees.{walk-zero, walk-suc, walk-none, walk-alike, word_of_node, word_of_none}
 use Rattle.page_table.proofs.Links.{missing-none, missing-alike}
@@ -25,16 +25,16 @@ unfolding table_of
 nodes-table_of ws = refl
 
 -- no change makes an absent entry present
-changed-none : (change : Change) → changed change None ≡ None
+changed-none : (change : Change) → changed_by change None ≡ None
 changed-none Clear = refl
 changed-none MakeReadOnly = refl
 changed-none (Protect marked) = refl
 
 -- an edit of the entries of a range makes the table with the entries that say so page by page
-pub table_of-edited : (f : ℕ → ℕ) (start end : ℕ) (old new : List ℕ) (entries : maps.FinMap nat_cmp Mapped) → EditsPages f start end old new → ((q : ℕ) → maps.get entries q ≡ cond (in_range start end q) (entry_of (f (walk old 4 q))) (maps.get (table_of old).entries q)) → table_of new ≡ record (table_of old) { entries = entries }
+pub table_of-edited : (f : ℕ → ℕ) (start end : ℕ) (old new : List ℕ) (entries : maps.FinMap nat_cmp Mapped) → EditsPages f start end old new → ((q : ℕ) → maps.get entries q ≡ cond (in_range start end q) (entry_of (f (read_by_walk old 4 q))) (maps.get (table_of old).entries q)) → table_of new ≡ record (table_of old) { entries = entries }
 table_of-edited f start end old new entries edits each =
     same_table (table_of new) (record (table_of old) { entries = entries })
-    (λ q. get_entry new q ∙ ap entry_of (edits.pages q) ∙ inner (in_range start end q) (f (walk old 4 q)) (walk old 4 q) ∙ ap (cond (in_range start end q) (entry_of (f (walk old 4 q)))) (sym (get_entry old q)) ∙ sym (each q))
+    (λ q. get_entry new q ∙ ap entry_of (edits.pages q) ∙ inner (in_range start end q) (f (read_by_walk old 4 q)) (read_by_walk old 4 q) ∙ ap (cond (in_range start end q) (entry_of (f (read_by_walk old 4 q)))) (sym (get_entry old q)) ∙ sym (each q))
     (λ q. is_grown-table_of new q ∙ ap (λ n. ltb 0 n) (edits.nodes 3 (q / 512) (omega arith)) ∙ sym (is_grown-table_of old q))
     (nodes-table_of new ∙ ap (λ n. n / 512) edits.size ∙ sym (nodes-table_of old))
   where
@@ -43,10 +43,10 @@ table_of-edited f start end old new entries edits each =
     inner false m n = refl
 
 -- what a change does to the entry that a table has
-changed_entry : (change : Change) (ws : List ℕ) (q : ℕ) → entry_of (changed_bits change (walk ws 4 q)) ≡ changed change (maps.get (table_of ws).entries q)
-changed_entry change ws q = entry_of-bits_of (changed change (lookup ws q)) ∙ ap (changed change) (sym (get_entry ws q))
+changed_entry : (change : Change) (ws : List ℕ) (q : ℕ) → entry_of (changed_bits change (read_by_walk ws 4 q)) ≡ changed_by change (maps.get (table_of ws).entries q)
+changed_entry change ws q = entry_of-bits_of (changed_by change (lookup ws q)) ∙ ap (changed_by change) (sym (get_entry ws q))
 
-table_of-changed : (change : Change) (start end : ℕ) (old new : List ℕ) (entries : maps.FinMap nat_cmp Mapped) → EditsPages (changed_bits change) start end old new → ((q : ℕ) → maps.get entries q ≡ cond (in_range start end q) (changed change (maps.get (table_of old).entries q)) (maps.get (table_of old).entries q)) → table_of new ≡ record (table_of old) { entries = entries }
+table_of-changed : (change : Change) (start end : ℕ) (old new : List ℕ) (entries : maps.FinMap nat_cmp Mapped) → EditsPages (changed_bits change) start end old new → ((q : ℕ) → maps.get entries q ≡ cond (in_range start end q) (changed_by change (maps.get (table_of old).entries q)) (maps.get (table_of old).entries q)) → table_of new ≡ record (table_of old) { entries = entries }
 table_of-changed change start end old new entries edits each =
     table_of-edited (changed_bits change) start end old new entries edits
     (λ q. each q ∙ ap (λ e. cond (in_range start end q) e (maps.get (table_of old).entries q)) (sym (changed_entry change old q)))
@@ -65,11 +65,11 @@ table_of-protected marked old new edits =
     table_of-changed (Protect marked) 0 (2 ^ 36) old new _ edits
     (λ q. get-frames_protected (table_of old).entries marked.now q ∙ everywhere q (maps.get (table_of old).entries q) (λ high. get_entry old q ∙ ap entry_of (walk-high old q high)))
   where
-    by_mark : (e : Option Mapped) → (if maps_marked marked.now e then protected_of e else e) ≡ changed (Protect marked) e
+    by_mark : (e : Option Mapped) → (if maps_marked marked.now e then protected_of e else e) ≡ changed_by (Protect marked) e
     by_mark None = refl
     by_mark (Some entry) = elim (is_marked marked.now entry.frame) as (λ b. cond b (Some (record entry { writable = false; dirty = false })) (Some entry) ≡ Some (cond b (record entry { writable = false; dirty = false }) entry)) [ true ↦ refl | false ↦ refl ]
 
-    everywhere : (q : ℕ) (e : Option Mapped) → (2 ^ 36 ≤ q → e ≡ None) → (if maps_marked marked.now e then protected_of e else e) ≡ cond (in_range 0 (2 ^ 36) q) (changed (Protect marked) e) e
+    everywhere : (q : ℕ) (e : Option Mapped) → (2 ^ 36 ≤ q → e ≡ None) → (if maps_marked marked.now e then protected_of e else e) ≡ cond (in_range 0 (2 ^ 36) q) (changed_by (Protect marked) e) e
     everywhere q e none =
         by_mark e ∙ elim (cases_lt q (2 ^ 36)) [
           | inl low ↦ let inside : in_range 0 (2 ^ 36) q ≡ true = grind (arith, nat_tests) in rw inside refl
@@ -86,13 +86,13 @@ table_of-set page e bits old new is edits =
     here q = grind (arith, nat_tests)
 
 -- what has grown in the table
-grown_is : (ws : List ℕ) (q : ℕ) → is_grown (table_of ws) q ≡ true → 0 < walk ws 3 (q / 512)
+grown_is : (ws : List ℕ) (q : ℕ) → is_grown (table_of ws) q ≡ true → 0 < read_by_walk ws 3 (q / 512)
 grown_is ws q grown = let leaf : has_leaf ws q ≡ true = sym (is_grown-table_of ws q) ∙ grown in grind (arith, nat_tests)
 
-is_grown_from : (ws : List ℕ) (q : ℕ) → 0 < walk ws 3 (q / 512) → is_grown (table_of ws) q ≡ true
+is_grown_from : (ws : List ℕ) (q : ℕ) → 0 < read_by_walk ws 3 (q / 512) → is_grown (table_of ws) q ≡ true
 is_grown_from ws q leaf = is_grown-table_of ws q ∙ grind (arith, nat_tests)
 
-pub leaf_of_grown : (ws : List ℕ) (t : TableState) (q : ℕ) → table_of ws ≡ t → is_grown t q ≡ true → 0 < walk ws 3 (q / 512)
+pub leaf_of_grown : (ws : List ℕ) (t : TableState) (q : ℕ) → table_of ws ≡ t → is_grown t q ≡ true → 0 < read_by_walk ws 3 (q / 512)
 leaf_of_grown ws t q is grown = grown_is ws q (ap (λ (s : TableState). is_grown s q) is ∙ grown)
 
 -- growth of the words is growth of the table
@@ -100,13 +100,13 @@ pub GrowsOver-linked : (start end : ℕ) (ws more new : List ℕ) → start < en
 GrowsOver-linked start end ws more new some alike grows =
     let same = λ (d b : ℕ). walk-alike ws more alike d b in
     let contradiction = λ (q : ℕ) (grown : is_grown (table_of new) q ≡ true) (not_grown : is_grown (table_of ws) q ≡ false) (outside : start / 512 ≤ q / 512 → (end - 1) / 512 < q / 512).
-    let leaf : 0 < walk ws 3 (q / 512) = subst (λ (n : ℕ). 0 < n) (grows.others (q / 512) outside ∙ same 3 (q / 512)) (grown_is new q grown) in
+    let leaf : 0 < read_by_walk ws 3 (q / 512) = subst (λ (n : ℕ). 0 < n) (grows.others (q / 512) outside ∙ same 3 (q / 512)) (grown_is new q grown) in
     let old : is_grown (table_of ws) q ≡ true = is_grown_from ws q leaf in
     let never : ⊥ = cc in never in
     record {
       same_entries = same_entries _ _ (λ q. get_entry new q ∙ ap entry_of (grows.entries q ∙ same 4 q) ∙ sym (get_entry ws q));
       range_grown = λ q low high. is_grown_from new q (grows.grown (q / 512) (omega arith) (omega arith));
-      still_grown = λ q grown. (let before : 0 < walk more 3 (q / 512) = subst (λ (n : ℕ). 0 < n) (sym (same 3 (q / 512))) (grown_is ws q grown) in is_grown_from new q (subst (λ (n : ℕ). 0 < n) (sym (grows.kept (q / 512) before)) before));
+      still_grown = λ q grown. (let before : 0 < read_by_walk more 3 (q / 512) = subst (λ (n : ℕ). 0 < n) (sym (same 3 (q / 512))) (grown_is ws q grown) in is_grown_from new q (subst (λ (n : ℕ). 0 < n) (sym (grows.kept (q / 512) before)) before));
       no_more = λ q grown not_grown. elim (cases_lt (q / 512) (start / 512)) [
         | inl below ↦ absurd (contradiction q grown not_grown (λ low. omega arith))
         | inr low ↦ elim (cases_lt ((end - 1) / 512) (q / 512)) [
@@ -129,15 +129,15 @@ GrowsOver-none start end t all = record {
 pub GrowsOver-empty : (start end : ℕ) (t : TableState) → end ≤ start → GrowsOver start end t t
 GrowsOver-empty start end t le = GrowsOver-none start end t (λ q low high. absurd (omega arith))
 
-missing-zero : (ws : List ℕ) (depth first n : ℕ) → missing ws depth first n ≡ 0 → (b : ℕ) → first ≤ b → b < first + n → 0 < walk ws depth b
+missing-zero : (ws : List ℕ) (depth first n : ℕ) → missing ws depth first n ≡ 0 → (b : ℕ) → first ≤ b → b < first + n → 0 < read_by_walk ws depth b
 missing-zero ws depth first zero none b low high = absurd (omega arith)
 missing-zero ws depth first (suc n) none b low high =
-    by_block (eqb (walk ws depth first) 0) refl none (λ rest other. missing-zero ws depth (first + 1) n rest b (let differs = other in omega arith) (omega arith))
+    by_block (eqb (read_by_walk ws depth first) 0) refl none (λ rest other. missing-zero ws depth (first + 1) n rest b (let differs = other in omega arith) (omega arith))
   where
-    by_block : (t : Bool) → eqb (walk ws depth first) 0 ≡ t → cond t 1 0 + missing ws depth (first + 1) n ≡ 0 → (missing ws depth (first + 1) n ≡ 0 → first ≢ b → 0 < walk ws depth b) → 0 < walk ws depth b
+    by_block : (t : Bool) → eqb (read_by_walk ws depth first) 0 ≡ t → cond t 1 0 + missing ws depth (first + 1) n ≡ 0 → (missing ws depth (first + 1) n ≡ 0 → first ≢ b → 0 < read_by_walk ws depth b) → 0 < read_by_walk ws depth b
     by_block true here sum later = absurd (omega arith)
     by_block false here sum later = elim (cases_eq first b) [
-      | inl same ↦ subst (λ n. 0 < walk ws depth n) same (grind (arith, nat_tests))
+      | inl same ↦ subst (λ n. 0 < read_by_walk ws depth n) same (grind (arith, nat_tests))
       | inr other ↦ later (omega arith) other
     ]
 
@@ -146,8 +146,8 @@ pub HasGrown-needed : (ws : List ℕ) (start end : ℕ) → start < end → need
 HasGrown-needed ws start end some none q low high =
     is_grown_from ws q (missing-zero ws 3 (start / 512) ((end - 1) / 512 + 1 - start / 512) (omega arith) (q / 512) (omega arith) (omega arith))
 
-some_up : (ws : List ℕ) (d b : ℕ) → 0 < walk ws (suc d) b → 0 < walk ws d (b / 512)
-some_up ws d b some = elim (cases_eq (walk ws d (b / 512)) 0) [
+some_up : (ws : List ℕ) (d b : ℕ) → 0 < read_by_walk ws (suc d) b → 0 < read_by_walk ws d (b / 512)
+some_up ws d b some = elim (cases_eq (read_by_walk ws d (b / 512)) 0) [
   | inl none ↦ absurd (let empty = walk-none ws d b none in omega arith)
   | inr other ↦ omega arith
 ]
@@ -159,11 +159,11 @@ needed-none ws start end some all =
     let middle = λ (q : ℕ) (low : start ≤ q) (high : q < end). some_up ws 2 (q / 512) (leaf q low high) in
     let top = λ (q : ℕ) (low : start ≤ q) (high : q < end). some_up ws 1 (q / 512 / 512) (middle q low high) in
     let leaves : missing ws 3 (start / 512) ((end - 1) / 512 + 1 - start / 512) ≡ 0 =
-    missing-none ws 3 _ _ (λ b low high. subst (λ n. 0 < walk ws 3 n) {x = max start (b * 512) / 512} {y = b} (omega arith) (leaf (max start (b * 512)) (omega arith) (omega arith))) in
+    missing-none ws 3 _ _ (λ b low high. subst (λ n. 0 < read_by_walk ws 3 n) {x = max start (b * 512) / 512} {y = b} (omega arith) (leaf (max start (b * 512)) (omega arith) (omega arith))) in
     let middles : missing ws 2 (start / 2 ^ 18) ((end - 1) / 2 ^ 18 + 1 - start / 2 ^ 18) ≡ 0 =
-    missing-none ws 2 _ _ (λ b low high. subst (λ n. 0 < walk ws 2 n) {x = max start (b * 2 ^ 18) / 512 / 512} {y = b} (omega arith) (middle (max start (b * 2 ^ 18)) (omega arith) (omega arith))) in
+    missing-none ws 2 _ _ (λ b low high. subst (λ n. 0 < read_by_walk ws 2 n) {x = max start (b * 2 ^ 18) / 512 / 512} {y = b} (omega arith) (middle (max start (b * 2 ^ 18)) (omega arith) (omega arith))) in
     let tops : missing ws 1 (start / 2 ^ 27) ((end - 1) / 2 ^ 27 + 1 - start / 2 ^ 27) ≡ 0 =
-    missing-none ws 1 _ _ (λ b low high. subst (λ n. 0 < walk ws 1 n) {x = max start (b * 2 ^ 27) / 512 / 512 / 512} {y = b} (omega arith) (top (max start (b * 2 ^ 27)) (omega arith) (omega arith))) in
+    missing-none ws 1 _ _ (λ b low high. subst (λ n. 0 < read_by_walk ws 1 n) {x = max start (b * 2 ^ 27) / 512 / 512 / 512} {y = b} (omega arith) (top (max start (b * 2 ^ 27)) (omega arith) (omega arith))) in
     omega arith
 
 -- words that read alike need alike, and are the same tree
@@ -212,10 +212,10 @@ module _ (ws : List ℕ) (long : length ws ≡ 512) (blank : (i : ℕ) → get_o
     | inr node ↦ word_of_node ws k p (omega arith) ∙ blank ((k - 1) * 512 + p)
   ]
 
-  pub blank_walk : (d b : ℕ) → walk ws (suc d) b ≡ 0
-  blank_walk d b = walk-suc ws d b ∙ blank_word (walk ws d (b / 512)) (b % 512)
+  pub blank_walk : (d b : ℕ) → read_by_walk ws (suc d) b ≡ 0
+  blank_walk d b = walk-suc ws d b ∙ blank_word (read_by_walk ws d (b / 512)) (b % 512)
 
-  root_only : (d b : ℕ) → 0 < walk ws d b → (d ≡ 0) × (b ≡ 0)
+  root_only : (d b : ℕ) → 0 < read_by_walk ws d b → (d ≡ 0) × (b ≡ 0)
   root_only zero b some = (refl, by_block (eqb b 0) refl (subst (λ (n : ℕ). 0 < n) (walk-zero ws b) some))
     where
       by_block : (t : Bool) → eqb b 0 ≡ t → 0 < cond t 1 0 → b ≡ 0
@@ -223,7 +223,7 @@ module _ (ws : List ℕ) (long : length ws ≡ 512) (blank : (i : ℕ) → get_o
       by_block false here some = absurd (omega arith)
   root_only (suc d) b some = absurd (let none = blank_walk d b in omega arith)
 
-  at_most_one : (d b : ℕ) → walk ws d b ≤ 1
+  at_most_one : (d b : ℕ) → read_by_walk ws d b ≤ 1
   at_most_one zero b = subst (λ (n : ℕ). n ≤ 1) (sym (walk-zero ws b)) (by_block (eqb b 0))
     where
       by_block : (t : Bool) → cond t 1 0 ≤ 1

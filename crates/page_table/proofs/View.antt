@@ -11,11 +11,11 @@ use Rattle.std.proofs.lemmas.Bool.{cases_lt, cases_eq}
 use Rattle.std.proofs.lemmas.Bool.Decides.{nat_tests}
 use Rattle.page_entry.specs.Entry.{Mapped, entry_of, is_dirty}
 use Rattle.page_table.specs.Table.{is_grown, in_range, dirty_among}
-use Rattle.page_table.specs.inside.Nodes.{walk, lookup, has_leaf, with_entry, present_from, pages_from, table_of}
+use Rattle.page_table.specs.inside.Nodes.{read_by_walk, lookup, has_leaf, with_page_entry, present_from, pages_from, table_of}
 use Rattle.page_table.proofs.Trees.{walk-none, walk-zero}
 use Rattle.page_table.proofs.PageEdits.{walk-high}
 
-present-suc : (f : ℕ → Option Mapped) (first n : ℕ) → present_from f first (suc n) ≡ with_entry first (f first) (present_from f (first + 1) n)
+present-suc : (f : ℕ → Option Mapped) (first n : ℕ) → present_from f first (suc n) ≡ with_page_entry first (f first) (present_from f (first + 1) n)
 unfolding present_from
 present-suc f first n = refl
 
@@ -23,7 +23,7 @@ present-zero : (f : ℕ → Option Mapped) (first : ℕ) → present_from f firs
 unfolding present_from
 present-zero f first = refl
 
-below_with : (x page : ℕ) (e : Option Mapped) (rest : List (ℕ × Mapped)) → x < page → below_all nat_cmp x rest ≡ true → below_all nat_cmp x (with_entry page e rest) ≡ true
+below_with : (x page : ℕ) (e : Option Mapped) (rest : List (ℕ × Mapped)) → x < page → below_all nat_cmp x rest ≡ true → below_all nat_cmp x (with_page_entry page e rest) ≡ true
 below_with x page None rest less below = below
 below_with x page (Some m) rest less below = grind (arith, nat_tests)
 
@@ -32,7 +32,7 @@ below_from x f first zero less = ap (below_all nat_cmp x) (present-zero f first)
 below_from x f first (suc n) less =
     ap (below_all nat_cmp x) (present-suc f first n) ∙ below_with x first (f first) (present_from f (first + 1) n) less (below_from x f (first + 1) n (omega arith))
 
-sorted_with : (page : ℕ) (e : Option Mapped) (rest : List (ℕ × Mapped)) → below_all nat_cmp page rest ≡ true → is_sorted nat_cmp rest ≡ true → is_sorted nat_cmp (with_entry page e rest) ≡ true
+sorted_with : (page : ℕ) (e : Option Mapped) (rest : List (ℕ × Mapped)) → below_all nat_cmp page rest ≡ true → is_sorted nat_cmp rest ≡ true → is_sorted nat_cmp (with_page_entry page e rest) ≡ true
 sorted_with page None rest below sorted = sorted
 sorted_with page (Some m) rest below sorted = grind (arith, nat_tests)
 
@@ -41,7 +41,7 @@ sorted_from f first zero = ap (is_sorted nat_cmp) (present-zero f first)
 sorted_from f first (suc n) =
     ap (is_sorted nat_cmp) (present-suc f first n) ∙ sorted_with first (f first) (present_from f (first + 1) n) (below_from first f (first + 1) n (omega arith)) (sorted_from f (first + 1) n)
 
-find_with : (q page : ℕ) (e : Option Mapped) (rest : List (ℕ × Mapped)) → (q ≡ page → find nat_cmp q rest ≡ None) → find nat_cmp q (with_entry page e rest) ≡ cond (eqb q page) e (find nat_cmp q rest)
+find_with : (q page : ℕ) (e : Option Mapped) (rest : List (ℕ × Mapped)) → (q ≡ page → find nat_cmp q rest ≡ None) → find nat_cmp q (with_page_entry page e rest) ≡ cond (eqb q page) e (find nat_cmp q rest)
 find_with q page None rest none = elim (cases_eq q page) [ inl same ↦ (let gone = none same in grind (arith, nat_tests)) | inr other ↦ grind (arith, nat_tests) ]
 find_with q page (Some m) rest none = ap (λ b. cond b (Some m) (find nat_cmp q rest)) (unsigned_tied q page)
 
@@ -83,9 +83,9 @@ any_from g first (suc n) q =
       | inr other ↦ grind (arith, nat_tests)
     ]
 
-leaf-high : (ws : List ℕ) (q : ℕ) → 2 ^ 36 ≤ q → walk ws 3 (q / 512) ≡ 0
+leaf-high : (ws : List ℕ) (q : ℕ) → 2 ^ 36 ≤ q → read_by_walk ws 3 (q / 512) ≡ 0
 leaf-high ws q high =
-    let none : walk ws 0 (q / 512 / 512 / 512 / 512) ≡ 0 = walk-zero ws _ ∙ (let other : q / 512 / 512 / 512 / 512 ≢ 0 = omega arith in grind (arith, nat_tests)) in
+    let none : read_by_walk ws 0 (q / 512 / 512 / 512 / 512) ≡ 0 = walk-zero ws _ ∙ (let other : q / 512 / 512 / 512 / 512 ≢ 0 = omega arith in grind (arith, nat_tests)) in
     walk-none ws 2 (q / 512) (walk-none ws 1 (q / 512 / 512) (walk-none ws 0 (q / 512 / 512 / 512) none))
 
 -- every page that has an entry or a leaf is listed
@@ -98,7 +98,7 @@ pub get_entry : (ws : List ℕ) (q : ℕ) → maps.get (table_of ws).entries q �
 unfolding table_of
 get_entry ws q =
     maps.get-from_sorted nat_cmp (present_from (lookup ws) 0 (2 ^ 36)) q (subst T (sym (sorted_from (lookup ws) 0 (2 ^ 36))) tt)
-    ∙ find_from (lookup ws) 0 (2 ^ 36) q ∙ listed (in_range 0 (0 + 2 ^ 36) q) (walk ws 4 q) (λ out. walk-high ws q (grind (arith, nat_tests)))
+    ∙ find_from (lookup ws) 0 (2 ^ 36) q ∙ listed (in_range 0 (0 + 2 ^ 36) q) (read_by_walk ws 4 q) (λ out. walk-high ws q (grind (arith, nat_tests)))
 
 -- a page has grown where it has a leaf
 pub is_grown-table_of : (ws : List ℕ) (q : ℕ) → is_grown (table_of ws) q ≡ has_leaf ws q
@@ -110,7 +110,7 @@ is_grown-table_of ws q =
     within = elim (cases_lt q (2 ^ 36)) [
       | inl low ↦ (let inside : in_range 0 (0 + 2 ^ 36) q ≡ true = grind (arith, nat_tests) in rw inside refl)
       | inr high ↦
-          let none : walk ws 3 (q / 512) ≡ 0 = leaf-high ws q high in
+          let none : read_by_walk ws 3 (q / 512) ≡ 0 = leaf-high ws q high in
           let out : in_range 0 (0 + 2 ^ 36) q ≡ false = grind (arith, nat_tests) in
           let no_leaf : has_leaf ws q ≡ false = grind (arith, nat_tests) in
           rw (out, no_leaf) refl
@@ -130,7 +130,7 @@ module _ (f : ℕ → Option Mapped) where
   abbrev pub is_listed : ℕ → ℕ → ℕ → Bool
   is_listed start end page = in_range start end page && is_dirty (f page)
 
-  dirty_with : (start end page : ℕ) (e : Option Mapped) (rest : List (ℕ × Mapped)) → dirty_among (with_entry page e rest) start end ≡ cond (in_range start end page && is_dirty e) (page ∷ dirty_among rest start end) (dirty_among rest start end)
+  dirty_with : (start end page : ℕ) (e : Option Mapped) (rest : List (ℕ × Mapped)) → dirty_among (with_page_entry page e rest) start end ≡ cond (in_range start end page && is_dirty e) (page ∷ dirty_among rest start end) (dirty_among rest start end)
   dirty_with start end page None rest = elim (in_range start end page) as (λ b. dirty_among rest start end ≡ cond (b && false) (page ∷ dirty_among rest start end) (dirty_among rest start end)) [ true ↦ refl | false ↦ refl ]
   dirty_with start end page (Some m) rest =
       let test = λ (e : ℕ × Mapped). in_range start end e.0 && e.1.dirty in

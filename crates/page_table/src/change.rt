@@ -1,7 +1,7 @@
 // What is done to the entries of a range.
 ghost use Rattle.std.specs.Prelude.{◌≡◌};
 ghost use Rattle.page_table.specs.Table.{is_marked};
-ghost use Rattle.page_table.specs.inside.Changes.{changed};
+ghost use Rattle.page_table.specs.inside.Changes.{changed_by};
 
 use page_entry::{Entry, FrameNumber};
 
@@ -18,7 +18,7 @@ pub(crate) enum Change<'a> {
 
 /// What the change leaves of an entry.
 pub(crate) fn changed(change: Change, entry: Entry) -> Entry
-    ensures { result ≡ changed change.entry entry }
+    ensures { result ≡ changed_by change.entry entry }
 {
     match change {
         Change::Clear => Entry::absent(),

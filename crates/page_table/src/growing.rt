@@ -1,6 +1,6 @@
 // How a table grows: how many nodes a range needs, and how they are linked once they are made.
 ghost use Rattle.std.specs.Prelude.{◌≡◌, ◌≤◌, ◌<◌, ◌+◌, ◌-◌, ◌*◌, ◌/◌, ◌^◌, ℕ, length};
-ghost use Rattle.page_table.specs.inside.Nodes.{walk, IsWalkable, IsTree, missing, needed, LinksBlocks, GrowsPages};
+ghost use Rattle.page_table.specs.inside.Nodes.{read_by_walk, IsWalkable, IsTree, missing, needed, LinksBlocks, GrowsPages};
 
 use crate::nodes::{MIDDLE_BLOCK, NODE, ROOT_BLOCK, walk};
 use page_entry::PageNumber;
@@ -27,8 +27,8 @@ fn link(words: &mut [u64], depth: u64, block: u64, used: u64)
     requires room { (used + 1) * 512 ≤ length words.old }
     requires depth { 0 < depth }
     requires least { depth ≤ 3 }
-    requires parent { 0 < walk words.old (depth - 1) (block / 512) }
-    requires missing { walk words.old depth block ≡ 0 }
+    requires parent { 0 < read_by_walk words.old (depth - 1) (block / 512) }
+    requires missing { read_by_walk words.old depth block ≡ 0 }
     ensures { LinksBlocks depth block (block + 1) used (used + 1) words.old words.new }
 {
     let parent = walk(words, depth - 1, block / NODE);
@@ -41,7 +41,7 @@ fn link_blocks(words: &mut [u64], depth: u64, first: u64, end: u64, used: u64) -
     requires depth { 0 < depth }
     requires least { depth ≤ 3 }
     requires forward { first ≤ end }
-    requires parents { (block : ℕ) → first ≤ block → block < end → 0 < walk words.old (depth - 1) (block / 512) }
+    requires parents { (block : ℕ) → first ≤ block → block < end → 0 < read_by_walk words.old (depth - 1) (block / 512) }
     requires room { (used + missing words.old depth first (end - first)) * 512 ≤ length words.old }
     ensures { LinksBlocks depth first end used result words.old words.new }
 {

@@ -1,7 +1,7 @@
 // What is done to the entries of a range of pages.
 ghost use Rattle.std.specs.Prelude.{◌≡◌, ◌≤◌, ◌<◌, ◌+◌, ◌/◌, ◌^◌, ℕ, Some, None, nat_lt, if◌then◌else◌};
 ghost use Rattle.page_entry.specs.Entry.{IsEntry};
-ghost use Rattle.page_table.specs.inside.Nodes.{walk, IsTable, EditsPages};
+ghost use Rattle.page_table.specs.inside.Nodes.{read_by_walk, IsTable, EditsPages};
 ghost use Rattle.page_table.specs.inside.Changes.{changed_bits};
 ghost use Rattle.page_table.specs.inside.Marks.{HasMarks, MarksEntries, IsNextPresent};
 
@@ -22,7 +22,7 @@ pub(crate) fn set_page(
 )
     requires table { IsTable words.old }
     requires marks { HasMarks words.old present.old in_use.old }
-    requires leaf { 0 < walk words.old 3 (page / 512) }
+    requires leaf { 0 < read_by_walk words.old 3 (page / 512) }
     requires entry { IsEntry entry }
     ensures edits { EditsPages (λ _. entry) page (page + 1) words.old words.new }
     ensures marks { HasMarks words.new present.new in_use.new }

@@ -1,6 +1,6 @@
 // The nodes of a table: how a walk goes down from the root, and which pages have a leaf.
 ghost use Rattle.std.specs.Prelude.{◌≡◌, ◌≤◌, ◌<◌, ◌+◌, ◌-◌, ◌*◌, ◌/◌, ◌^◌, ℕ, length};
-ghost use Rattle.page_table.specs.inside.Nodes.{word, walk, IsWalkable, IsPastGap, IsFirstGrown};
+ghost use Rattle.page_table.specs.inside.Nodes.{word, read_by_walk, IsWalkable, IsPastGap, IsFirstGrown};
 
 use page_entry::PageNumber;
 
@@ -32,7 +32,7 @@ fn word(words: &[u64], node: u64, place: u64) -> u64
 pub(crate) fn walk(words: &[u64], depth: u64, block: u64) -> u64
     requires words { IsWalkable words.now }
     requires depth { depth ≤ 4 }
-    ensures { result ≡ walk words.now depth block }
+    ensures { result ≡ read_by_walk words.now depth block }
 {
     if depth == 0 {
         return if block == 0 { 1 } else { 0 };

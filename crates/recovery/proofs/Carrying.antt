@@ -15,7 +15,7 @@ use Rattle.volume_codec.specs.Super.{SuperValue, geometry_of}
 use Rattle.volume_codec.specs.Recovery.{Batch}
 use Rattle.volume_codec.proofs.Layouts.{gate_block-low}
 use Rattle.journal.specs.WriteOut.{IsBatch}
-use Rattle.journal.specs.Finished.{IsOutside, gate_byte, Holds, RecoversSame, finishing_calls, Finishes}
+use Rattle.journal.specs.Finished.{IsOutside, gate_byte, HoldsVolume, RecoversSame, finishing_calls, Finishes}
 use Rattle.journal.proofs.Recorded.{recovers_of}
 use Rattle.recovery.specs.Counts.{Rises, RisesWithin, HasCause, IsAccounted}
 use Rattle.recovery.specs.inside.Carrying.{AreShut, IsCarrying, CarriesOut}
@@ -79,7 +79,7 @@ module _ {D : Type 0} (disk : Ghosts D) (g : GeometryValue) (all : List Batch) (
   module _ (seen_is_left : (device : D) → disk.is_honest device → disk.may_leave device (disk.seen device)) (now_is_since : (device : D) (t : ℕ) (c : List ℕ) → t ≤ disk.moment device → disk.may_leave device c → disk.left_since device t c)
       (waiting done : List Batch) (batch : Batch) (now next : D) (carrying : IsCarrying disk g all (waiting ++ batch ∷ []) done start now) where
     -- a crash while one more is finished
-    pub time_more : {T E : Type 0} (result : Result T E) → Finishes disk g batch now result next → (v : SuperValue) (contents : ℕ → List ℕ) → geometry_of v ≡ g → Holds disk v all contents start
+    pub time_more : {T E : Type 0} (result : Result T E) → Finishes disk g batch now result next → (v : SuperValue) (contents : ℕ → List ℕ) → geometry_of v ≡ g → HoldsVolume disk v all contents start
         → LeavesOnly disk.moment disk.left_since start next (RecoversSame v contents (disk.seen start))
     time_more result finishes v contents same holds =
         let so_far = carrying.time v contents same holds in

@@ -8,7 +8,7 @@ use Rattle.volume_codec.specs.Layout.{GeometryValue, IsGeometry, journals_of, de
 use Rattle.volume_codec.specs.Descriptor.{IsDescriptor}
 use Rattle.volume_codec.specs.Recovery.{Batch, IsOpenBatch, IsOpen, AreFalling, has_journal, AreOpen}
 use Rattle.volume_codec.proofs.Batches.{IsAmong, batch_of, each_among, among_open, falling_among}
-use Rattle.recovery.specs.inside.Reading.{AreRising, AreRead, RefusesJournal, RefusesJournals, HaveOneMark}
+use Rattle.recovery.specs.inside.Reading.{AreByJournal, AreRead, RefusesJournal, RefusesJournals, HaveOneMark}
 
 -- what holds of each and of one more
 pub each_push : {X : Type 0} (P : X → Type 0) (xs : List X) (x : X) → AllByRecursion P xs → P x → AllByRecursion P (xs ++ x ∷ [])
@@ -36,7 +36,7 @@ has_journal-last : (batches : List Batch) (batch : Batch) (j : ℕ) → batch.jo
 has_journal-last [] batch j e = let t = eq-eqb batch.journal j e in cc
 has_journal-last (b ∷ bs) batch j e = or_true (b.journal == j) _ (has_journal-last bs batch j e)
 
-rising_push : (batches : List Batch) (batch : Batch) → AreRising batches → AllByRecursion (λ b. b.journal < batch.journal) batches → AreRising (batches ++ batch ∷ [])
+rising_push : (batches : List Batch) (batch : Batch) → AreByJournal batches → AllByRecursion (λ b. b.journal < batch.journal) batches → AreByJournal (batches ++ batch ∷ [])
 rising_push [] batch rising low = (tt, tt)
 rising_push (b ∷ bs) batch rising low = (each_push (λ other. b.journal < other.journal) bs batch rising.0 low.0, rising_push bs batch rising.1 low.1)
 

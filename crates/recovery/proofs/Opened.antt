@@ -14,7 +14,7 @@ use Rattle.volume_codec.proofs.Recovered.{length-lengths_in, lengths_in-le}
 use Rattle.recovery.specs.Counts.{Rises, RisesWithin}
 use Rattle.recovery.specs.Volume.{IsSettled}
 use Rattle.journal.specs.Recovered.{RecoversBy}
-use Rattle.journal.specs.Finished.{Holds, RecoversSame}
+use Rattle.journal.specs.Finished.{HoldsVolume, RecoversSame}
 use Rattle.recovery.specs.Opening.{IsUnwritten, LeftByOpening, opening_calls, HasOpened, HasRefused, RefusesOpening}
 use Rattle.recovery.specs.inside.Carrying.{AreShut}
 use Rattle.recovery.specs.inside.Reading.{carry_calls}
@@ -42,7 +42,7 @@ module _ {D : Type 0} (disk : Ghosts D) (before mid : D) (table : SuperValue) (b
   abbrev contents : ℕ → List ℕ
   contents = contents_in table.slots batches (disk.seen before)
 
-  pub holds : disk.is_honest mid → Only (disk.may_leave mid) (disk.seen mid) → Holds disk table batches contents mid
+  pub holds : disk.is_honest mid → Only (disk.may_leave mid) (disk.seen mid) → HoldsVolume disk table batches contents mid
   holds honest synced = record {
     honest = honest;
     recovers = subst (λ (bytes : List ℕ). RecoversBy table batches contents bytes) (sym unwritten.same) (record { volume = volume; contents_are = λ b home. refl });
@@ -55,7 +55,7 @@ module _ {D : Type 0} (disk : Ghosts D) (before mid : D) (table : SuperValue) (b
       (λ c same. inr (table, batches, volume, subst (λ (bytes : List ℕ). RecoversSame table contents bytes c) unwritten.same same))
 
   -- all of them carried out
-  pub has_opened : (after : D) (n : ℕ) → n ≡ length batches → length (disk.seen after) ≡ length (disk.seen before) → Holds disk table [] contents after → AreShut (geometry_of table) batches (disk.seen mid) (disk.seen after)
+  pub has_opened : (after : D) (n : ℕ) → n ≡ length batches → length (disk.seen after) ≡ length (disk.seen before) → HoldsVolume disk table [] contents after → AreShut (geometry_of table) batches (disk.seen mid) (disk.seen after)
       → Rises (2 + journals_of table.layout + n) (disk.calls_made before) (disk.calls_made mid) → Rises (carry_calls batches) (disk.calls_made mid) (disk.calls_made after)
       → HasOpened disk before table after
   has_opened after n count len now shut first second = record {

@@ -7,9 +7,9 @@ use Rattle.machine.specs.declared.act.Act.{Act}
 use Rattle.machine.specs.declared.act.Act.TheVariants.{Load, Store, Fill, Evict, Switch, Idle, Wake, Fix, Create, Destroy, Map, Unmap, Protect, Reclaim, Msync, Ack, Change, Resume, Flush}
 
 -- no arguments
-abbrev pub alone : Act → List Data → Option Act
-alone act [] = Some act
-alone act _ = None
+abbrev pub without_more : Act → List Data → Option Act
+without_more act [] = Some act
+without_more act _ = None
 
 -- an address and a count
 abbrev pub load_of : List Data → Option Act
@@ -87,11 +87,11 @@ msync_of _ = None
 abbrev pub acts_by_name : List (List ℕ × (List Data → Option Act))
 acts_by_name =
     (codes "load", load_of) ∷ (codes "store", store_of) ∷ (codes "fill", fill_of) ∷ (codes "evict", evict_of)
-    ∷ (codes "switch", switch_of) ∷ (codes "idle", alone Idle) ∷ (codes "wake", alone Wake) ∷ (codes "fix", fix_of)
-    ∷ (codes "create", alone Create) ∷ (codes "destroy", destroy_of) ∷ (codes "map", map_of) ∷ (codes "unmap", unmap_of)
+    ∷ (codes "switch", switch_of) ∷ (codes "idle", without_more Idle) ∷ (codes "wake", without_more Wake) ∷ (codes "fix", fix_of)
+    ∷ (codes "create", without_more Create) ∷ (codes "destroy", destroy_of) ∷ (codes "map", map_of) ∷ (codes "unmap", unmap_of)
     ∷ (codes "protect", protect_of) ∷ (codes "reclaim", reclaim_of) ∷ (codes "msync", msync_of)
-    ∷ (codes "ack", alone Ack)
-    ∷ (codes "change", alone Change) ∷ (codes "resume", alone Resume) ∷ (codes "flush", alone Flush) ∷ []
+    ∷ (codes "ack", without_more Ack)
+    ∷ (codes "change", without_more Change) ∷ (codes "resume", without_more Resume) ∷ (codes "flush", without_more Flush) ∷ []
 
 -- the act of a name and arguments
 abbrev pub act_of : List ℕ → List Data → Option Act

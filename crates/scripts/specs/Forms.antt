@@ -28,14 +28,14 @@ names_of (member name value rest) = name ∷ names_of rest
 abbrev pub unknown_of : Form → Members → Option (List ℕ)
 unknown_of form members = find (λ name. not (is_member form name)) (names_of members)
 
-abbrev pub is_none : {A : Type 0} → Option A → Bool
-is_none None = true
-is_none (Some x) = false
+abbrev pub is_nothing : {A : Type 0} → Option A → Bool
+is_nothing None = true
+is_nothing (Some x) = false
 
 -- whether members have names of the form alone
 abbrev pub are_known : Form → Option Members → Bool
 are_known form None = false
-are_known form (Some members) = is_none (unknown_of form members)
+are_known form (Some members) = is_nothing (unknown_of form members)
 
 -- whether a value is an object without other members
 abbrev pub has_form : Form → Data → Bool

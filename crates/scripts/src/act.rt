@@ -2,7 +2,7 @@
 ghost use Rattle.std.specs.Prelude.{◌≡◌, map, [], ◌∷◌};
 ghost use Rattle.std.specs.Result.{result_ok};
 ghost use Rattle.serde_json.specs.View.{view};
-ghost use Rattle.scripts.specs.Acts.{load_of, store_of, fill_of, evict_of, switch_of, fix_of, destroy_of, map_of, unmap_of, protect_of, reclaim_of, msync_of, alone, act_of};
+ghost use Rattle.scripts.specs.Acts.{load_of, store_of, fill_of, evict_of, switch_of, fix_of, destroy_of, map_of, unmap_of, protect_of, reclaim_of, msync_of, without_more, act_of};
 
 use crate::argument::{access, byte, bytes, keep, long, page, prot, short, write};
 use crate::script_fault::StepFault;
@@ -275,7 +275,7 @@ fn msync_from(va: &Value, len: &Value, flags: &Value) -> Result<Act, StepFault>
 }
 
 fn without_arguments(arguments: &[Value], name: &'static str, act: Act) -> Result<Act, StepFault>
-    ensures { result_ok result ≡ alone act (map view arguments.now) }
+    ensures { result_ok result ≡ without_more act (map view arguments.now) }
 {
     if arguments.is_empty() {
         Ok(act)

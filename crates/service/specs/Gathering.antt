@@ -26,8 +26,8 @@ abbrev pub IsAmong : List CpuState → ℕ → Type 0
 IsAmong cpus number = (i : ℕ) × (cpu : CpuState) × (slice_get cpus i ≡ Some cpu) × (cpu.number ≡ number)
 
 -- how many calls these processors made that were answered
-abbrev pub calls_of : List CpuState → ℕ
-calls_of cpus = sum_by (λ cpu. length cpu.answered) cpus
+abbrev pub answered_calls : List CpuState → ℕ
+answered_calls cpus = sum_by (λ cpu. length cpu.answered) cpus
 
 -- the trace has, for each of these processors, its acts with their replies, in order
 abbrev pub AreAnswered : List Entry → List CpuState → Type 0
@@ -47,4 +47,4 @@ pub record HasGathered {D : Type 0} (disk : Ghosts D) (start : Option (Whole D))
   -- of as many processors as there are, each was given back
   pub whole : (p : ℕ) → p < length cpus → IsAmong cpus p
   -- and there are no other entries
-  pub counted : length trace ≡ calls_of cpus
+  pub counted : length trace ≡ answered_calls cpus

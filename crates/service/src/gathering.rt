@@ -1,7 +1,7 @@
 // What is compared when a service is gathered, and how its count is closed.
 ghost use Rattle.std.specs.Prelude.{ℕ, ◌≡◌, ◌<◌, length, IsTrue, IfSome};
 ghost use Rattle.service.specs.Trace.{of_processor};
-ghost use Rattle.service.specs.Gathering.{IsAmong, AreAnswered, calls_of};
+ghost use Rattle.service.specs.Gathering.{IsAmong, AreAnswered, answered_calls};
 ghost use Rattle.service.specs.inside.Gathering.{ServesFrom};
 
 use crate::locked::{Locked, Room};
@@ -99,7 +99,7 @@ pub(crate) fn merged<D: Device + Drop, A: Allocator + Copy, L: Origin<D>>(
 ) -> Share<L>
     requires { 0 < length cpus.items }
     ensures parts { result.parts ≡ length cpus.items }
-    ensures amount { result.amount ≡ calls_of cpus.items }
+    ensures amount { result.amount ≡ answered_calls cpus.items }
 {
     let mut all = share_of(cpus.take_last());
     while let Some(cpu) = cpus.pop() {

@@ -9,8 +9,8 @@ use Rattle.device.specs.declared.device.Device.{Ghosts}
 use Rattle.machine.specs.State.{Whole}
 use Rattle.session.specs.declared.notes.Notes.{Notes}
 use Rattle.session.specs.declared.ranges.Reached.TheVariants.{All, Refused, NoMemory}
-use Rattle.session.specs.Ranges.{Does, Loads, LoadsReached, Stores, StoresReached}
-use Rattle.session.specs.Steps.{is_aside, AreAside, behind, AreLoads, AreStores, Answers, HasMade, IsTold}
+use Rattle.session.specs.Ranges.{Does, LoadsRange, LoadsReached, StoresRange, StoresReached}
+use Rattle.session.specs.Steps.{is_aside, AreAside, behind, AreLoads, AreStores, AnswersAfter, HasMade, IsTold}
 use Rattle.session.proofs.Stretches.{makes_then}
 use Rattle.std.proofs.lemmas.List.Elements.{Contains-append_right}
 
@@ -66,8 +66,8 @@ stores_then p va from [] (reply ∷ replies) bytes steps' replies' bytes' first 
 stores_then p va from (step ∷ steps) [] bytes steps' replies' bytes' first later = absurd first
 
 -- a piece more was loaded
-pub loads_more : {D : Type 0} (disk : Ghosts D) (old mid new : Whole D) (before between after : Notes) (p va done count : ℕ) (bytes few : List ℕ) → Does disk old before (Loads p va done bytes) mid between
-    → Answers disk mid between (record { p = p; act = Load (behind va done) count }) (Bytes few) new after → Does disk old before (Loads p va (done + count) (bytes ++ few)) new after
+pub loads_more : {D : Type 0} (disk : Ghosts D) (old mid new : Whole D) (before between after : Notes) (p va done count : ℕ) (bytes few : List ℕ) → Does disk old before (LoadsRange p va done bytes) mid between
+    → AnswersAfter disk mid between (record { p = p; act = Load (behind va done) count }) (Bytes few) new after → Does disk old before (LoadsRange p va (done + count) (bytes ++ few)) new after
 loads_more disk old mid new before between after p va done count bytes few first answer =
     let step : Step = record { p = p; act = Load (behind va done) count } in
     record {
@@ -79,7 +79,7 @@ loads_more disk old mid new before between after p va done count bytes few first
     }
 
 -- and no further one
-pub loads_refused : {D : Type 0} (disk : Ghosts D) (old mid new : Whole D) (before between after : Notes) (p va count done : ℕ) (bytes : List ℕ) (reply : Reply) → Does disk old before (Loads p va done bytes) mid between
+pub loads_refused : {D : Type 0} (disk : Ghosts D) (old mid new : Whole D) (before between after : Notes) (p va count done : ℕ) (bytes : List ℕ) (reply : Reply) → Does disk old before (LoadsRange p va done bytes) mid between
     → IsTold disk mid between reply new after → Does disk old before (LoadsReached p va count bytes (Refused done reply)) new after
 loads_refused disk old mid new before between after p va count done bytes reply first told =
     let P : List ℕ → Type 0 = λ b. AreLoads p va 0 done (first.steps ++ told.steps) (first.replies ++ told.replies) b in
@@ -94,8 +94,8 @@ loads_refused disk old mid new before between after p va count done bytes reply 
     }
 
 -- a piece more was stored
-pub stores_more : {D : Type 0} (disk : Ghosts D) (old mid new : Whole D) (before between after : Notes) (p va done : ℕ) (bytes few now : List ℕ) → length bytes ≡ done → bytes ++ few ≡ now → Does disk old before (Stores p va bytes) mid between
-    → Answers disk mid between (record { p = p; act = Store (behind va done) few }) Stored new after → Does disk old before (Stores p va now) new after
+pub stores_more : {D : Type 0} (disk : Ghosts D) (old mid new : Whole D) (before between after : Notes) (p va done : ℕ) (bytes few now : List ℕ) → length bytes ≡ done → bytes ++ few ≡ now → Does disk old before (StoresRange p va bytes) mid between
+    → AnswersAfter disk mid between (record { p = p; act = Store (behind va done) few }) Stored new after → Does disk old before (StoresRange p va now) new after
 stores_more disk old mid new before between after p va done bytes few now long all first answer =
     let step : Step = record { p = p; act = Store (behind va done) few } in
     let P : ℕ → Type 0 = λ n. AreStores p va n (answer.steps ++ step ∷ []) (answer.replies ++ Stored ∷ []) few in
@@ -113,7 +113,7 @@ stores_more disk old mid new before between after p va done bytes few now long a
     }
 
 -- and no further one
-pub stores_refused : {D : Type 0} (disk : Ghosts D) (old mid new : Whole D) (before between after : Notes) (p va done : ℕ) (bytes : List ℕ) (reply : Reply) → Does disk old before (Stores p va (take done bytes)) mid between
+pub stores_refused : {D : Type 0} (disk : Ghosts D) (old mid new : Whole D) (before between after : Notes) (p va done : ℕ) (bytes : List ℕ) (reply : Reply) → Does disk old before (StoresRange p va (take done bytes)) mid between
     → IsTold disk mid between reply new after → Does disk old before (StoresReached p va bytes (Refused done reply)) new after
 stores_refused disk old mid new before between after p va done bytes reply first told =
     let P : List ℕ → Type 0 = λ b. AreStores p va 0 (first.steps ++ told.steps) (first.replies ++ told.replies) b in
@@ -128,8 +128,8 @@ stores_refused disk old mid new before between after p va done bytes reply first
     }
 
 -- where memory is refused, nothing is said of the range
-pub loads_cut : {D : Type 0} (disk : Ghosts D) (old mid new : Whole D) (before between after : Notes) (p va count done : ℕ) (bytes bytes' : List ℕ) (step : Step) (reply : Reply) → Does disk old before (Loads p va done bytes) mid between
-    → Answers disk mid between step reply new after → Does disk old before (LoadsReached p va count bytes' NoMemory) new after
+pub loads_cut : {D : Type 0} (disk : Ghosts D) (old mid new : Whole D) (before between after : Notes) (p va count done : ℕ) (bytes bytes' : List ℕ) (step : Step) (reply : Reply) → Does disk old before (LoadsRange p va done bytes) mid between
+    → AnswersAfter disk mid between step reply new after → Does disk old before (LoadsReached p va count bytes' NoMemory) new after
 loads_cut disk old mid new before between after p va count done bytes bytes' step reply first answer = record {
   steps = first.steps ++ (answer.steps ++ step ∷ []);
   replies = first.replies ++ (answer.replies ++ reply ∷ []);
@@ -137,12 +137,12 @@ loads_cut disk old mid new before between after p va count done bytes bytes' ste
   holds = tt;
 }
 
-pub loads_all : {D : Type 0} (disk : Ghosts D) (old new : Whole D) (before after : Notes) (p va count done : ℕ) (bytes : List ℕ) → done ≡ count → Does disk old before (Loads p va done bytes) new after → Does disk old before (LoadsReached p va count bytes All) new after
+pub loads_all : {D : Type 0} (disk : Ghosts D) (old new : Whole D) (before after : Notes) (p va count done : ℕ) (bytes : List ℕ) → done ≡ count → Does disk old before (LoadsRange p va done bytes) new after → Does disk old before (LoadsReached p va count bytes All) new after
 loads_all disk old new before after p va count done bytes whole it =
     let P : ℕ → Type 0 = λ n. AreLoads p va 0 n it.steps it.replies bytes in
     record { steps = it.steps; replies = it.replies; makes = it.makes; holds = subst P whole it.holds }
 
-pub stores_all : {D : Type 0} (disk : Ghosts D) (old new : Whole D) (before after : Notes) (p va : ℕ) (some bytes : List ℕ) → some ≡ bytes → Does disk old before (Stores p va some) new after → Does disk old before (StoresReached p va bytes All) new after
+pub stores_all : {D : Type 0} (disk : Ghosts D) (old new : Whole D) (before after : Notes) (p va : ℕ) (some bytes : List ℕ) → some ≡ bytes → Does disk old before (StoresRange p va some) new after → Does disk old before (StoresReached p va bytes All) new after
 stores_all disk old new before after p va some bytes whole it =
     let P : List ℕ → Type 0 = λ b. AreStores p va 0 it.steps it.replies b in
     record { steps = it.steps; replies = it.replies; makes = it.makes; holds = subst P whole it.holds }

@@ -10,12 +10,12 @@ use Rattle.machine.specs.State.{Whole}
 use Rattle.machine.specs.Runs.{StepTaken, StepsTaken}
 use Rattle.machine.proofs.Tracks.{taken_then}
 use Rattle.session.specs.declared.notes.Notes.{Notes}
-use Rattle.session.specs.Notes.{noted, noted_all}
-use Rattle.session.specs.Steps.{Makes, HasMade, Says, is_aside, AreAside, GoesAside, IsTold, Answers, IsAcknowledged, Acknowledges}
+use Rattle.session.specs.Notes.{noted_after, noted_all}
+use Rattle.session.specs.Steps.{Makes, HasMade, Says, is_aside, AreAside, GoesAside, IsTold, AnswersAfter, IsMarkDurable, CommitsMark}
 
 noted_then : (before : Notes) (replies more : List Reply) → noted_all before (replies ++ more) ≡ noted_all (noted_all before replies) more
 noted_then before [] more = refl
-noted_then before (reply ∷ replies) more = noted_then (noted before reply) replies more
+noted_then before (reply ∷ replies) more = noted_then (noted_after before reply) replies more
 
 -- no step
 pub makes_none : {D : Type 0} (disk : Ghosts D) (old : Whole D) (before : Notes) → Makes disk old before [] [] old before
@@ -77,11 +77,11 @@ told_before disk old mid new before between after reply first later = record {
 }
 
 -- one step, made first
-pub answers_one : {D : Type 0} (disk : Ghosts D) (old new : Whole D) (before after : Notes) (step : Step) (reply : Reply) → Makes disk old before (step ∷ []) (reply ∷ []) new after → Answers disk old before step reply new after
+pub answers_one : {D : Type 0} (disk : Ghosts D) (old new : Whole D) (before after : Notes) (step : Step) (reply : Reply) → Makes disk old before (step ∷ []) (reply ∷ []) new after → AnswersAfter disk old before step reply new after
 answers_one disk old new before after step reply made = record { steps = []; replies = []; makes = made; aside = tt }
 
 pub answers_then : {D : Type 0} (disk : Ghosts D) (old mid new : Whole D) (before between after : Notes) (step : Step) (reply : Reply) → GoesAside disk old before mid between → Makes disk mid between (step ∷ []) (reply ∷ []) new after
-    → Answers disk old before step reply new after
+    → AnswersAfter disk old before step reply new after
 answers_then disk old mid new before between after step reply first made = record {
   steps = first.steps;
   replies = first.replies;
@@ -90,7 +90,7 @@ answers_then disk old mid new before between after step reply first made = recor
 }
 
 -- an access that is answered so that it reads and stores nothing
-pub answers_aside : {D : Type 0} (disk : Ghosts D) (old new : Whole D) (before after : Notes) (step : Step) (reply : Reply) → is_aside step.act reply ≡ true → Answers disk old before step reply new after → IsTold disk old before reply new after
+pub answers_aside : {D : Type 0} (disk : Ghosts D) (old new : Whole D) (before after : Notes) (step : Step) (reply : Reply) → is_aside step.act reply ≡ true → AnswersAfter disk old before step reply new after → IsTold disk old before reply new after
 answers_aside disk old new before after step reply is answer = record {
   steps = answer.steps ++ step ∷ [];
   replies = answer.replies ++ reply ∷ [];
@@ -143,7 +143,7 @@ made_told disk old new before after reply told = record { steps = told.steps; re
 
 -- a mark before which nothing was stored that no mark had
 pub acknowledged_at_once : {D : Type 0} (disk : Ghosts D) (old mid new : Whole D) (before between after : Notes) (first-reply : Reply) (mark : ℕ) → Says disk old before first-reply mid between → IsTold disk mid between (Marked mark) new after
-    → between.has_unmarked ≡ false → Acknowledges disk old before mark new after
+    → between.has_unmarked ≡ false → CommitsMark disk old before mark new after
 acknowledged_at_once disk old mid new before between after first-reply mark first told none = record {
   steps = first.steps ++ told.steps;
   replies = first.replies ++ told.replies;
@@ -160,7 +160,7 @@ acknowledged_at_once disk old mid new before between after first-reply mark firs
 
 -- a mark that was committed after it was made
 pub acknowledged_later : {D : Type 0} (disk : Ghosts D) (old mid marked new : Whole D) (before between next after : Notes) (first-reply : Reply) (mark : ℕ) → Says disk old before first-reply mid between → IsTold disk mid between (Marked mark) marked next
-    → Says disk marked next (Committed mark) new after → Acknowledges disk old before mark new after
+    → Says disk marked next (Committed mark) new after → CommitsMark disk old before mark new after
 acknowledged_later disk old mid marked new before between next after first-reply mark first told last = record {
   steps = (first.steps ++ told.steps) ++ last.steps;
   replies = (first.replies ++ told.replies) ++ last.replies;
@@ -176,7 +176,7 @@ acknowledged_later disk old mid marked new before between next after first-reply
   };
 }
 
-pub made_acknowledged : {D : Type 0} (disk : Ghosts D) (old new : Whole D) (before after : Notes) (mark : ℕ) → Acknowledges disk old before mark new after → HasMade disk old before new after
+pub made_acknowledged : {D : Type 0} (disk : Ghosts D) (old new : Whole D) (before after : Notes) (mark : ℕ) → CommitsMark disk old before mark new after → HasMade disk old before new after
 made_acknowledged disk old new before after mark it = record { steps = it.steps; replies = it.replies; makes = it.makes }
 
 pub not_true : (b : Bool) → not b ≡ true → b ≡ false

@@ -16,8 +16,8 @@ abbrev pub failed_by : Bool → Reply → Bool
 failed_by before (Refused Device) = true
 failed_by before _ = before
 
-abbrev pub noted : Notes → Reply → Notes
-noted before reply = record {
+abbrev pub noted_after : Notes → Reply → Notes
+noted_after before reply = record {
   has_unmarked = unmarked_by before.has_unmarked reply;
   has_failed = failed_by before.has_failed reply;
 }
@@ -25,4 +25,4 @@ noted before reply = record {
 -- after all these replies
 abbrev pub noted_all : Notes → List Reply → Notes
 noted_all before [] = before
-noted_all before (reply ∷ replies) = noted_all (noted before reply) replies
+noted_all before (reply ∷ replies) = noted_all (noted_after before reply) replies

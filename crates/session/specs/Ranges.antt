@@ -10,25 +10,25 @@ use Rattle.session.specs.declared.ranges.Reached.TheVariants.{All, Refused, NoMe
 use Rattle.session.specs.Steps.{Makes, AreLoads, AreStores}
 
 -- so many bytes from an address on were loaded, which are these
-abbrev pub Loads : ℕ → ℕ → ℕ → List ℕ → List Step → List Reply → Type 0
-Loads p va count bytes steps replies = AreLoads p va 0 count steps replies bytes
+abbrev pub LoadsRange : ℕ → ℕ → ℕ → List ℕ → List Step → List Reply → Type 0
+LoadsRange p va count bytes steps replies = AreLoads p va 0 count steps replies bytes
 
 -- All bytes of a range were loaded; or so many of them, and a step of these was answered so.
 abbrev pub LoadsReached : ℕ → ℕ → ℕ → List ℕ → Reached → List Step → List Reply → Type 0
-LoadsReached p va count bytes All steps replies = Loads p va count bytes steps replies
+LoadsReached p va count bytes All steps replies = LoadsRange p va count bytes steps replies
 LoadsReached p va count bytes (Refused reached reply) steps replies =
-    Loads p va reached bytes steps replies × Contains replies reply
+    LoadsRange p va reached bytes steps replies × Contains replies reply
 LoadsReached p va count bytes NoMemory steps replies = ⊤
 
 -- these bytes were stored from an address on
-abbrev pub Stores : ℕ → ℕ → List ℕ → List Step → List Reply → Type 0
-Stores p va bytes steps replies = AreStores p va 0 steps replies bytes
+abbrev pub StoresRange : ℕ → ℕ → List ℕ → List Step → List Reply → Type 0
+StoresRange p va bytes steps replies = AreStores p va 0 steps replies bytes
 
 -- All bytes were stored from an address on; or so many of them, and a step of these was answered so.
 abbrev pub StoresReached : ℕ → ℕ → List ℕ → Reached → List Step → List Reply → Type 0
-StoresReached p va bytes All steps replies = Stores p va bytes steps replies
+StoresReached p va bytes All steps replies = StoresRange p va bytes steps replies
 StoresReached p va bytes (Refused reached reply) steps replies =
-    Stores p va (take reached bytes) steps replies × Contains replies reply
+    StoresRange p va (take reached bytes) steps replies × Contains replies reply
 StoresReached p va bytes NoMemory steps replies = ⊤
 
 -- Steps were made of which this holds.

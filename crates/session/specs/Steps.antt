@@ -55,8 +55,8 @@ is_aside Flush reply = true
 is_aside act reply = false
 
 -- an act that reads and stores nothing unless it is answered so
-abbrev pub IsAccess : Act → Type 0
-IsAccess act = (reply : Reply) → tells_bytes reply ≡ false → tells_stored reply ≡ false → is_aside act reply ≡ true
+abbrev pub TellsOrIsAside : Act → Type 0
+TellsOrIsAside act = (reply : Reply) → tells_bytes reply ≡ false → tells_stored reply ≡ false → is_aside act reply ≡ true
 
 abbrev pub AreAside : List Step → List Reply → Type 0
 AreAside [] [] = ⊤
@@ -81,7 +81,7 @@ pub record IsTold {D : Type 0} (disk : Ghosts D) (old : Whole D) (before : Notes
   pub told : Contains replies reply
 
 -- A step was made, after others that read and store nothing.
-pub record Answers {D : Type 0} (disk : Ghosts D) (old : Whole D) (before : Notes) (step : Step) (reply : Reply)
+pub record AnswersAfter {D : Type 0} (disk : Ghosts D) (old : Whole D) (before : Notes) (step : Step) (reply : Reply)
     (new : Whole D) (after : Notes) : Type 0 where
   pub steps : List Step
   pub replies : List Reply
@@ -114,7 +114,7 @@ AreStores p va from steps replies bytes = ⊥
 
 -- A mark was made by some of the steps, and is acknowledged: it was committed after them, or before them there was no
 -- store that no mark had yet.
-pub record IsAcknowledged (before : Notes) (replies : List Reply) (mark : ℕ) : Type 0 where
+pub record IsMarkDurable (before : Notes) (replies : List Reply) (mark : ℕ) : Type 0 where
   pub earlier : List Reply
   pub during : List Reply
   pub later : List Reply
@@ -123,9 +123,9 @@ pub record IsAcknowledged (before : Notes) (replies : List Reply) (mark : ℕ) :
   pub durable : Contains later (Committed mark) ⊎ ((noted_all before earlier).has_unmarked ≡ false)
 
 -- Steps were made, by which this mark is acknowledged.
-pub record Acknowledges {D : Type 0} (disk : Ghosts D) (old : Whole D) (before : Notes) (mark : ℕ) (new : Whole D)
+pub record CommitsMark {D : Type 0} (disk : Ghosts D) (old : Whole D) (before : Notes) (mark : ℕ) (new : Whole D)
     (after : Notes) : Type 0 where
   pub steps : List Step
   pub replies : List Reply
   pub makes : Makes disk old before steps replies new after
-  pub acknowledged : IsAcknowledged before replies mark
+  pub acknowledged : IsMarkDurable before replies mark

@@ -1,7 +1,7 @@
 // A commit: from the beginning of its mark to the acknowledgement.
 ghost use Rattle.std.specs.Prelude.{◌≡◌, IfOk, IfErr, IfSome, IsTrue};
 ghost use Rattle.machine.specs.declared.act.Reply.TheVariants as told;
-ghost use Rattle.session.specs.Steps.{Acknowledges, Says};
+ghost use Rattle.session.specs.Steps.{CommitsMark, Says};
 
 use crate::aside::{is_begun, is_flushed};
 use crate::session::Session;
@@ -13,7 +13,7 @@ use std::alloc::Allocator;
 impl<D: Device, A: Allocator + Copy> Session<D, A> {
     /// Commits all stores. Answers the number of the mark, which is acknowledged, or what a step was answered instead.
     pub(crate) fn commit(&mut self, p: ProcessorNumber) -> Result<u32, Reply>
-        ensures ok { IfOk result (λ mark. Acknowledges D.Device self.old.machine self.old.notes mark
+        ensures ok { IfOk result (λ mark. CommitsMark D.Device self.old.machine self.old.notes mark
             self.new.machine self.new.notes) }
         ensures err { IfErr result (λ reply. Says D.Device self.old.machine self.old.notes reply
             self.new.machine self.new.notes) }

@@ -1,6 +1,6 @@
 // What a session notes of the steps that were made.
 ghost use Rattle.std.specs.Prelude.{◌≡◌, false};
-ghost use Rattle.session.specs.Notes.{noted, unmarked_by, failed_by};
+ghost use Rattle.session.specs.Notes.{noted_after, unmarked_by, failed_by};
 
 use machine::Reply;
 use page_entry::Refusal;
@@ -27,7 +27,7 @@ impl Notes {
 
     /// These, and what one reply more says.
     pub(crate) fn after(self, reply: &Reply) -> Self
-        ensures { result ≡ noted self reply.now }
+        ensures { result ≡ noted_after self reply.now }
     {
         Notes {
             has_unmarked: unmarked_by(self.has_unmarked, reply),

@@ -1,7 +1,7 @@
 // Ranges of addresses, loaded and stored in steps of up to eight bytes.
 ghost use Rattle.std.specs.Prelude.{◌≡◌, ◌<◌, ◌≤◌, length, [], true, false, IfOk, IfErr, IfSome, IfNone, IsTrue};
 ghost use Rattle.machine.specs.declared.act.Reply.TheVariants as told;
-ghost use Rattle.session.specs.Steps.{IsTold, Answers, IsAccess, tells_bytes, tells_stored};
+ghost use Rattle.session.specs.Steps.{IsTold, AnswersAfter, TellsOrIsAside, tells_bytes, tells_stored};
 ghost use Rattle.session.specs.Ranges.{Does, LoadsReached, StoresReached};
 
 use crate::session::Session;
@@ -97,8 +97,8 @@ impl<D: Device, A: Allocator + Copy> Session<D, A> {
     // Makes a load or a store at an address, and serves its faults. Answers what it is answered in the end; or else why
     // a fault isn't served.
     fn access(&mut self, step: &Step, va: u64, write: bool) -> Result<Reply, Reply>
-        requires { IsAccess step.now.act }
-        ensures ok { IfOk result (λ reply. Answers D.Device self.old.machine self.old.notes step.now reply
+        requires { TellsOrIsAside step.now.act }
+        ensures ok { IfOk result (λ reply. AnswersAfter D.Device self.old.machine self.old.notes step.now reply
             self.new.machine self.new.notes) }
         ensures err { IfErr result (λ reply. IsTold D.Device self.old.machine self.old.notes reply
             self.new.machine self.new.notes) }

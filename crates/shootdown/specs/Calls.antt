@@ -67,18 +67,18 @@ GoesOn waits old p (Err why) new = (wait_refusal waits old p ≡ Some why) × (n
 abbrev pub idle_refusal : ShootdownState → ℕ → Option Refusal
 idle_refusal s p = option_or (not_running s p) (if is_interrupted (state_of s p) then Some Locked else None)
 
-abbrev pub Idles : ShootdownState → ℕ → Result (Unit {0}) Refusal → ShootdownState → Type 0
-Idles old p (Ok done) new = (idle_refusal old p ≡ None) × (new ≡ idled old p)
-Idles old p (Err why) new = (idle_refusal old p ≡ Some why) × (new ≡ old)
+abbrev pub IdleAnswers : ShootdownState → ℕ → Result (Unit {0}) Refusal → ShootdownState → Type 0
+IdleAnswers old p (Ok done) new = (idle_refusal old p ≡ None) × (new ≡ idled old p)
+IdleAnswers old p (Err why) new = (idle_refusal old p ≡ Some why) × (new ≡ old)
 
 -- a processor switches to a space that there is, while the lock is free
 abbrev pub switch_refusal : ShootdownState → Spaces → ℕ → ℕ → Option Refusal
 switch_refusal s spaces p pcid = option_or (not_free s p) (if has_space spaces pcid then None else Some Einval)
 
-abbrev pub Switches : ShootdownState → Spaces → ℕ → ℕ → Bool → Result (Unit {0}) Refusal → ShootdownState → Type 0
-Switches old spaces p pcid keep (Ok done) new =
+abbrev pub SwitchAnswers : ShootdownState → Spaces → ℕ → ℕ → Bool → Result (Unit {0}) Refusal → ShootdownState → Type 0
+SwitchAnswers old spaces p pcid keep (Ok done) new =
     (switch_refusal old spaces p pcid ≡ None) × (new ≡ switched_to old p pcid keep)
-Switches old spaces p pcid keep (Err why) new = (switch_refusal old spaces p pcid ≡ Some why) × (new ≡ old)
+SwitchAnswers old spaces p pcid keep (Err why) new = (switch_refusal old spaces p pcid ≡ Some why) × (new ≡ old)
 
 -- a space other than 0 may be destroyed while it is no processor's current space
 abbrev pub destroy_refusal : ShootdownState → Spaces → ℕ → Option Refusal

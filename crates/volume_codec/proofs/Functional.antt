@@ -11,8 +11,8 @@ use Rattle.volume_codec.specs.Layout.{GeometryValue, IsGeometry, number_of, magi
 use Rattle.volume_codec.specs.Text.{number_text, zeros, padded}
 use Rattle.volume_codec.specs.Super.{SuperValue, IsName, IsNameByte, IsTableFile, Fits, IsSuper, IsAsked, pages_of, total_pages, block_count, entry_text, entries_text, super_head, super_text}
 use Rattle.volume_codec.specs.Descriptor.{DescriptorValue, RiseWithin, AreHomes, IsDescribed, IsDescriptor, descriptor_text}
-use Rattle.volume_codec.specs.inside.Reading.{number_in, name_in, file_in, entries_in, numbers_in}
-use Rattle.volume_codec.specs.inside.Tables.{files_of, table_of, AreFull}
+use Rattle.volume_codec.specs.inside.Reading.{number_in, name_in, file_in, table_files_in, numbers_in}
+use Rattle.volume_codec.specs.inside.Tables.{files_asked_for, table_of, AreFull}
 use Rattle.volume_codec.proofs.Layouts.{magic_of-injective, length-magic_of}
 use Rattle.volume_codec.proofs.Padding.{length-zeros, length-padded, drop-past}
 use Rattle.volume_codec.proofs.ReadingLemmas.{length-numbers_in}
@@ -64,16 +64,16 @@ drop-entry : (home : ℕ) (f : TableFile) (rest : List ℕ) → length f.name �
 drop-entry home f rest short = drop_at (entry_text home f) rest 48 (length-entry_text home f short)
 
 -- files are read back
-pub entries_in-entries : (home : ℕ) (fs : List TableFile) (rest : List ℕ) → AllByRecursion IsTableFile fs → AllByRecursion (λ f. f.capacity < 256 ^ 8) fs → entries_in (length fs) (entries_text home fs ++ rest) ≡ fs
+pub entries_in-entries : (home : ℕ) (fs : List TableFile) (rest : List ℕ) → AllByRecursion IsTableFile fs → AllByRecursion (λ f. f.capacity < 256 ^ 8) fs → table_files_in (length fs) (entries_text home fs ++ rest) ≡ fs
 entries_in-entries home [] rest each small = refl
 entries_in-entries home (f ∷ fs) rest each small =
     let others = entries_text (home + pages_of f.capacity) fs in
     let e = append_assoc (entry_text home f) others rest in
     let first = file_in-entry home f (others ++ rest) each.0 small.0 in
     let after = drop-entry home f (others ++ rest) each.0.named.short in
-    ap (λ (bytes : List ℕ). file_in bytes ∷ entries_in (length fs) (drop 48 bytes)) e
-    ∙ ap (λ (g : TableFile). g ∷ entries_in (length fs) (drop 48 (entry_text home f ++ (others ++ rest)))) first
-    ∙ ap (λ (bytes : List ℕ). f ∷ entries_in (length fs) bytes) after
+    ap (λ (bytes : List ℕ). file_in bytes ∷ table_files_in (length fs) (drop 48 bytes)) e
+    ∙ ap (λ (g : TableFile). g ∷ table_files_in (length fs) (drop 48 (entry_text home f ++ (others ++ rest)))) first
+    ∙ ap (λ (bytes : List ℕ). f ∷ table_files_in (length fs) bytes) after
     ∙ ap (λ (gs : List TableFile). f ∷ gs) (entries_in-entries (home + pages_of f.capacity) fs rest each.1 small.1)
 
 -- no file is longer than the volume's blocks
@@ -89,7 +89,7 @@ pub record ReadsAs (v : SuperValue) (block : List ℕ) : Type 0 where
   pub magic : take 8 block ≡ magic_of v.layout
   pub count : number_in 4 (drop 8 block) ≡ length v.files
   pub slots : number_in 4 (drop 12 block) ≡ v.slots
-  pub files : entries_in (length v.files) (drop 32 block) ≡ v.files
+  pub files : table_files_in (length v.files) (drop 32 block) ≡ v.files
 
 pub reads_super : (v : SuperValue) → Fits v → ReadsAs v (super_text v)
 reads_super v fits =
@@ -114,7 +114,7 @@ reads_super v fits =
       magic = ap (take 8) e ∙ take_at m (k ++ (s ++ tail)) 8 magic;
       count = ap (number_in 4) at8 ∙ number_in-text 4 (length v.files) (s ++ tail) (omega (arith, fits.few_files));
       slots = ap (number_in 4) at12 ∙ number_in-text 4 v.slots tail (omega (arith, fits.few_slots));
-      files = ap (entries_in (length v.files)) at32 ∙ entries_in-entries (first_file_home v.layout v.slots) v.files rest fits.each (lengths_small v.files (omega (arith, fits.few_blocks)));
+      files = ap (table_files_in (length v.files)) at32 ∙ entries_in-entries (first_file_home v.layout v.slots) v.files rest fits.each (lengths_small v.files (omega (arith, fits.few_blocks)));
     }
 
 pub reads_block : (v : SuperValue) (block : List ℕ) → IsSuper v block → ReadsAs v block
@@ -128,20 +128,20 @@ named_files [] h = tt
 named_files (f ∷ fs) h = (h.0.named, named_files fs h.1)
 
 -- so the entries of a super block have names
-pub entries_named : (v : SuperValue) (block : List ℕ) (count : ℕ) → IsSuper v block → count ≡ number_in 4 (drop 8 block) → AllByRecursion (λ f. IsName f.name) (entries_in count (drop 32 block))
+pub entries_named : (v : SuperValue) (block : List ℕ) (count : ℕ) → IsSuper v block → count ≡ number_in 4 (drop 8 block) → AllByRecursion (λ f. IsName f.name) (table_files_in count (drop 32 block))
 entries_named v block count is counted =
     let r = reads_block v block is in
     let P : List TableFile → Type 0 = λ fs. AllByRecursion (λ f. IsName f.name) fs in
-    subst P (sym (ap (λ n. entries_in n (drop 32 block)) (counted ∙ r.count) ∙ r.files)) (named_files v.files is.fits.each)
+    subst P (sym (ap (λ n. table_files_in n (drop 32 block)) (counted ∙ r.count) ∙ r.files)) (named_files v.files is.fits.each)
 
 -- the value that the bytes of a super block read as
 pub read_value : (layout : Layout) (v : SuperValue) (block : List ℕ) (files : List FileSpec) (count slots : ℕ) → IsSuper v block → take 8 block ≡ magic_of layout
     → count ≡ number_in 4 (drop 8 block) → slots ≡ number_in 4 (drop 12 block)
-    → (AllByRecursion (λ f. IsName f.name) (entries_in count (drop 32 block)) → files_of files ≡ entries_in count (drop 32 block)) → table_of layout files slots ≡ v
+    → (AllByRecursion (λ f. IsName f.name) (table_files_in count (drop 32 block)) → files_asked_for files ≡ table_files_in count (drop 32 block)) → table_of layout files slots ≡ v
 read_value layout v block files count slots is magic counted slotted found =
     let r = reads_block v block is in
-    let fs : files_of files ≡ v.files = found (entries_named v block count is counted) ∙ ap (λ n. entries_in n (drop 32 block)) (counted ∙ r.count) ∙ r.files in
-    ap (λ (l : Layout). let w : SuperValue = record { layout = l; files = files_of files; slots = slots } in w) (magic_of-injective layout v.layout (sym magic ∙ r.magic))
+    let fs : files_asked_for files ≡ v.files = found (entries_named v block count is counted) ∙ ap (λ n. table_files_in n (drop 32 block)) (counted ∙ r.count) ∙ r.files in
+    ap (λ (l : Layout). let w : SuperValue = record { layout = l; files = files_asked_for files; slots = slots } in w) (magic_of-injective layout v.layout (sym magic ∙ r.magic))
     ∙ ap (λ (gs : List TableFile). let w : SuperValue = record { layout = v.layout; files = gs; slots = slots } in w) fs
     ∙ ap (λ (n : ℕ). let w : SuperValue = record { layout = v.layout; files = v.files; slots = n } in w) (slotted ∙ r.slots)
 
@@ -248,7 +248,7 @@ one_table v w block is is' =
     let r = reads_block v block is in
     let r' = reads_block w block is' in
     let layouts = magic_of-injective v.layout w.layout (sym r.magic ∙ r'.magic) in
-    let files : v.files ≡ w.files = sym r.files ∙ ap (λ n. entries_in n (drop 32 block)) (sym r.count ∙ r'.count) ∙ r'.files in
+    let files : v.files ≡ w.files = sym r.files ∙ ap (λ n. table_files_in n (drop 32 block)) (sym r.count ∙ r'.count) ∙ r'.files in
     ap (λ (l : Layout). let u : SuperValue = record { layout = l; files = v.files; slots = v.slots } in u) layouts
     ∙ ap (λ (fs : List TableFile). let u : SuperValue = record { layout = w.layout; files = fs; slots = v.slots } in u) files
     ∙ ap (λ (n : ℕ). let u : SuperValue = record { layout = w.layout; files = w.files; slots = n } in u) (sym r.slots ∙ r'.slots)

@@ -9,8 +9,8 @@ use Rattle.std.proofs.lemmas.List.{drop-drop, map_push, append-nil}
 use Rattle.volume_codec.specs.declared.file_spec.FileSpec.{FileSpec}
 use Rattle.volume_codec.specs.Files.{TableFile}
 use Rattle.volume_codec.specs.Super.{IsName, IsNameByte}
-use Rattle.volume_codec.specs.inside.Reading.{number_in, name_in, file_in, entries_in, numbers_in}
-use Rattle.volume_codec.specs.inside.Tables.{files_of, AreFull}
+use Rattle.volume_codec.specs.inside.Reading.{number_in, name_in, file_in, table_files_in, numbers_in}
+use Rattle.volume_codec.specs.inside.Tables.{files_asked_for, AreFull}
 use Rattle.volume_codec.proofs.Rows.{file_of}
 
 -- a name is text
@@ -31,12 +31,12 @@ text_found {E} (Err e) found d bytes name Q same is h named =
     absurd (h.0 (subst N (sym same) (utf8_name name named)))
 
 -- the next of the files
-pub entries_in-more : (count i : ℕ) (entries : List ℕ) → i < count → entries_in (count - i) (drop (48 * i) entries) ≡ file_in (drop (48 * i) entries) ∷ entries_in (count - (i + 1)) (drop (48 * (i + 1)) entries)
+pub entries_in-more : (count i : ℕ) (entries : List ℕ) → i < count → table_files_in (count - i) (drop (48 * i) entries) ≡ file_in (drop (48 * i) entries) ∷ table_files_in (count - (i + 1)) (drop (48 * (i + 1)) entries)
 entries_in-more count i entries h =
     let n : count - i ≡ suc (count - (i + 1)) = omega arith in
     let m : 48 * i + 48 ≡ 48 * (i + 1) = omega arith in
-    ap (λ k. entries_in k (drop (48 * i) entries)) n
-    ∙ ap (λ (bytes : List ℕ). file_in (drop (48 * i) entries) ∷ entries_in (count - (i + 1)) bytes) (drop-drop 48 (48 * i) entries ∙ ap (λ k. drop k entries) m)
+    ap (λ k. table_files_in k (drop (48 * i) entries)) n
+    ∙ ap (λ (bytes : List ℕ). file_in (drop (48 * i) entries) ∷ table_files_in (count - (i + 1)) bytes) (drop-drop 48 (48 * i) entries ∙ ap (λ k. drop k entries) m)
 
 among : {X : Type 0} (P : X → Type 0) (xs ys : List X) (x : X) → AllByRecursion P (xs ++ x ∷ ys) → P x
 among P [] ys x h = h.0
@@ -44,22 +44,22 @@ among P (y ∷ xs) ys x h = among P xs ys x h.1
 
 -- one file more was read
 pub found_more : (done new : List FileSpec) (file : FileSpec) (count i : ℕ) (entries entry : List ℕ) → i < count
-    → (AllByRecursion (λ f. IsName f.name) (entries_in count entries) → files_of done ++ entries_in (count - i) (drop (48 * i) entries) ≡ entries_in count entries)
+    → (AllByRecursion (λ f. IsName f.name) (table_files_in count entries) → files_asked_for done ++ table_files_in (count - i) (drop (48 * i) entries) ≡ table_files_in count entries)
     → entry ≡ drop (48 * i) entries → (IsName (name_in entry) → file.name.now ≡ name_in entry) → file.capacity ≡ number_in 8 (drop 32 entry) → new ≡ done ++ file ∷ []
-    → AllByRecursion (λ f. IsName f.name) (entries_in count entries) → files_of new ++ entries_in (count - (i + 1)) (drop (48 * (i + 1)) entries) ≡ entries_in count entries
+    → AllByRecursion (λ f. IsName f.name) (table_files_in count entries) → files_asked_for new ++ table_files_in (count - (i + 1)) (drop (48 * (i + 1)) entries) ≡ table_files_in count entries
 found_more done new file count i entries entry h found at read sized is each =
     let P : List TableFile → Type 0 = λ fs. AllByRecursion (λ f. IsName f.name) fs in
     let N : List ℕ → Type 0 = λ bs. IsName (name_in bs) in
-    let here = subst P (sym (found each) ∙ ap (λ (fs : List TableFile). files_of done ++ fs) (entries_in-more count i entries h)) each in
-    let named = read (subst N (sym at) (among (λ f. IsName f.name) (files_of done) _ _ here)) in
+    let here = subst P (sym (found each) ∙ ap (λ (fs : List TableFile). files_asked_for done ++ fs) (entries_in-more count i entries h)) each in
+    let named = read (subst N (sym at) (among (λ f. IsName f.name) (files_asked_for done) _ _ here)) in
     let same : file_of file ≡ file_in (drop (48 * i) entries) =
     ap (λ (name : List ℕ). let f : TableFile = record { name = name; capacity = file.capacity } in f) named
     ∙ ap (λ (n : ℕ). let f : TableFile = record { name = name_in entry; capacity = n } in f) sized
     ∙ ap file_in at in
-    let rest = entries_in (count - (i + 1)) (drop (48 * (i + 1)) entries) in
-    ap (λ (fs : List FileSpec). files_of fs ++ rest) is ∙ ap (λ (fs : List TableFile). fs ++ rest) (map_push file_of done file)
-    ∙ append_assoc (files_of done) (file_of file ∷ []) rest ∙ ap (λ (f : TableFile). files_of done ++ f ∷ rest) same
-    ∙ ap (λ (fs : List TableFile). files_of done ++ fs) (sym (entries_in-more count i entries h)) ∙ found each
+    let rest = table_files_in (count - (i + 1)) (drop (48 * (i + 1)) entries) in
+    ap (λ (fs : List FileSpec). files_asked_for fs ++ rest) is ∙ ap (λ (fs : List TableFile). fs ++ rest) (map_push file_of done file)
+    ∙ append_assoc (files_asked_for done) (file_of file ∷ []) rest ∙ ap (λ (f : TableFile). files_asked_for done ++ f ∷ rest) same
+    ∙ ap (λ (fs : List TableFile). files_asked_for done ++ fs) (sym (entries_in-more count i entries h)) ∙ found each
 
 pub full_push : (files : List FileSpec) (file : FileSpec) → AreFull files → file.length ≡ file.capacity → AreFull (files ++ file ∷ [])
 full_push [] file full is = (is, tt)

@@ -12,7 +12,7 @@ use Rattle.volume_codec.specs.declared.file_spec.FileSpec.{FileSpec}
 use Rattle.volume_codec.specs.declared.super_block.Place.{Place}
 use Rattle.volume_codec.specs.Files.{TableFile}
 use Rattle.volume_codec.specs.Super.{AreDistinct, total_pages, pages_of}
-use Rattle.volume_codec.specs.inside.Tables.{rows_of, homes_of, homes_from, files_of, names_of}
+use Rattle.volume_codec.specs.inside.Tables.{rows_of, homes_of, homes_from, files_asked_for, names_of}
 use Rattle.volume_codec.proofs.TableLemmas.{names_of-files_of}
 use Rattle.volume_codec.proofs.Places.{homes_from-push, total_pages-push, total_pages-take_le}
 
@@ -72,7 +72,7 @@ rows_of-new m key place free = insert_entry-new string_eq m key place (absent m 
 
 -- one more of the files that a caller asks for
 pub rows_of-more : {Z S : Type 0} (m : HashMap (String Z) Place S) (key : String Z) (place : Place) (new : List (String Z × Place)) (files : List FileSpec) (i : ℕ) (d : FileSpec) → i < length files
-    → AreDistinct (names_of files) → rows_of m.entries ≡ files_of (take i files) → string_bytes key ≡ (get_or files i d).name.now → new ≡ insert_entry string_eq m.entries key place
+    → AreDistinct (names_of files) → rows_of m.entries ≡ files_asked_for (take i files) → string_bytes key ≡ (get_or files i d).name.now → new ≡ insert_entry string_eq m.entries key place
     → new ≡ m.entries ++ (key, place) ∷ []
 rows_of-more m key place new files i d h distinct done named is =
     let before = distinct_before (names_of files) i (d.name.now) (omega (arith, length-map files (λ (f : FileSpec). f.name.now))) distinct in
@@ -85,26 +85,26 @@ rows_of-more m key place new files i d h distinct done named is =
     is ∙ rows_of-new m key place free
 
 pub rows_more : {Z : Type 0} (old new : List (String Z × Place)) (key : String Z) (place : Place) (files : List FileSpec) (i : ℕ) (d : FileSpec) → i < length files
-    → new ≡ old ++ (key, place) ∷ [] → rows_of old ≡ files_of (take i files) → string_bytes key ≡ (get_or files i d).name.now → place.capacity ≡ (get_or files i d).capacity
-    → rows_of new ≡ files_of (take (i + 1) files)
+    → new ≡ old ++ (key, place) ∷ [] → rows_of old ≡ files_asked_for (take i files) → string_bytes key ≡ (get_or files i d).name.now → place.capacity ≡ (get_or files i d).capacity
+    → rows_of new ≡ files_asked_for (take (i + 1) files)
 rows_more old new key place files i d h is done named sized =
     let f = get_or files i d in
     ap rows_of is ∙ map_push row old (key, place) ∙ ap (λ (fs : List TableFile). fs ++ row (key, place) ∷ []) done
-    ∙ ap (λ (name : List ℕ). files_of (take i files) ++ (let r : TableFile = record { name = name; capacity = place.capacity } in r) ∷ []) named
-    ∙ ap (λ (n : ℕ). files_of (take i files) ++ (let r : TableFile = record { name = f.name.now; capacity = n } in r) ∷ []) sized ∙ sym (map_more file_of files i d h)
+    ∙ ap (λ (name : List ℕ). files_asked_for (take i files) ++ (let r : TableFile = record { name = name; capacity = place.capacity } in r) ∷ []) named
+    ∙ ap (λ (n : ℕ). files_asked_for (take i files) ++ (let r : TableFile = record { name = f.name.now; capacity = n } in r) ∷ []) sized ∙ sym (map_more file_of files i d h)
 
 pub homes_more : {Z : Type 0} (old new : List (String Z × Place)) (key : String Z) (place : Place) (files : List FileSpec) (i first : ℕ) (d : FileSpec) → i < length files
-    → new ≡ old ++ (key, place) ∷ [] → homes_of old ≡ homes_from first (files_of (take i files)) → string_bytes key ≡ (get_or files i d).name.now → place.first_home ≡ first + total_pages (files_of (take i files))
-    → homes_of new ≡ homes_from first (files_of (take (i + 1) files))
+    → new ≡ old ++ (key, place) ∷ [] → homes_of old ≡ homes_from first (files_asked_for (take i files)) → string_bytes key ≡ (get_or files i d).name.now → place.first_home ≡ first + total_pages (files_asked_for (take i files))
+    → homes_of new ≡ homes_from first (files_asked_for (take (i + 1) files))
 homes_more {Z} old new key place files i first d h is done named at =
     ap homes_of is ∙ map_push (λ (row : String Z × Place). row.1.first_home) old (key, place) ∙ ap (λ (hs : List ℕ). hs ++ place.first_home ∷ []) done
-    ∙ ap (λ n. homes_from first (files_of (take i files)) ++ n ∷ []) at ∙ sym (homes_from-push first (files_of (take i files)) (file_of (get_or files i d)))
+    ∙ ap (λ n. homes_from first (files_asked_for (take i files)) ++ n ∷ []) at ∙ sym (homes_from-push first (files_asked_for (take i files)) (file_of (get_or files i d)))
     ∙ ap (homes_from first) (sym (map_more file_of files i d h))
 
 -- the home blocks of one more of the files
 pub total_pages-more : (files : List FileSpec) (i n : ℕ) (d : FileSpec) → i < length files → n ≡ pages_of (get_or files i d).capacity
-    → total_pages (files_of (take (i + 1) files)) ≡ total_pages (files_of (take i files)) + n
-total_pages-more files i n d h e = ap total_pages (map_more file_of files i d h) ∙ total_pages-push (files_of (take i files)) (file_of (get_or files i d)) ∙ ap (λ k. total_pages (files_of (take i files)) + k) (sym e)
+    → total_pages (files_asked_for (take (i + 1) files)) ≡ total_pages (files_asked_for (take i files)) + n
+total_pages-more files i n d h e = ap total_pages (map_more file_of files i d h) ∙ total_pages-push (files_asked_for (take i files)) (file_of (get_or files i d)) ∙ ap (λ k. total_pages (files_asked_for (take i files)) + k) (sym e)
 
-pub total_pages-part : (files : List FileSpec) (i : ℕ) → total_pages (files_of (take i files)) ≤ total_pages (files_of files)
-total_pages-part files i = omega (arith, ap total_pages (take-map file_of i files), total_pages-take_le (files_of files) i)
+pub total_pages-part : (files : List FileSpec) (i : ℕ) → total_pages (files_asked_for (take i files)) ≤ total_pages (files_asked_for files)
+total_pages-part files i = omega (arith, ap total_pages (take-map file_of i files), total_pages-take_le (files_asked_for files) i)

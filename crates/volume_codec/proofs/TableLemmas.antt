@@ -8,7 +8,7 @@ use Rattle.volume_codec.specs.declared.layout.Layout.{Layout}
 use Rattle.volume_codec.specs.Files.{TableFile, AskedFile, asked_by}
 use Rattle.volume_codec.specs.Layout.{number_of}
 use Rattle.volume_codec.specs.Super.{SuperValue, IsName, IsTableFile, AreDistinct, Fits, IsAsked, block_count}
-use Rattle.volume_codec.specs.inside.Tables.{files_of, names_of, table_of, AreFull}
+use Rattle.volume_codec.specs.inside.Tables.{files_asked_for, names_of, table_of, AreFull}
 use Rattle.volume_codec.proofs.Layouts.{number_of-injective}
 
 -- a fact of each image is a fact of each element
@@ -51,11 +51,11 @@ rest_by_distinct (f ∷ files) h distinct =
     subst Q (sym (rest_of-cons f files)) distinct.1
 
 -- the names of the files that are asked for
-pub names_of-files_of : (files : List FileSpec) → map (λ (f : TableFile). f.name) (files_of files) ≡ names_of files
+pub names_of-files_of : (files : List FileSpec) → map (λ (f : TableFile). f.name) (files_asked_for files) ≡ names_of files
 names_of-files_of [] = refl
 names_of-files_of (f ∷ files) = ap (λ r. f.name.now ∷ r) (names_of-files_of files)
 
-pub length-files_of : (files : List FileSpec) → length (files_of files) ≡ length files
+pub length-files_of : (files : List FileSpec) → length (files_asked_for files) ≡ length files
 length-files_of files = length-map files (λ f. let r : TableFile = record { name = f.name.now; capacity = f.capacity } in r)
 
 -- a table whose parts keep the rules
@@ -88,7 +88,7 @@ pub names_fit : (layout : Layout) (files : List FileSpec) (slots : ℕ) → Fits
 names_fit layout files slots fits = subst AreDistinct (names_of-files_of files) fits.distinct
 
 -- the files of a table, as they are asked for
-files_asked : (files : List FileSpec) → files_of files ≡ map (λ (f : AskedFile). let r : TableFile = record { name = f.name; capacity = f.capacity } in r) (asked_by files)
+files_asked : (files : List FileSpec) → files_asked_for files ≡ map (λ (f : AskedFile). let r : TableFile = record { name = f.name; capacity = f.capacity } in r) (asked_by files)
 files_asked [] = refl
 files_asked (f ∷ files) = ap (λ r. (let g : TableFile = record { name = f.name.now; capacity = f.capacity } in g) ∷ r) (files_asked files)
 
@@ -112,7 +112,7 @@ asked_table layout number files slots v numbered asked =
     let same = number_of-injective v.layout layout (asked.layout_is ∙ sym numbered) in
     ap (λ (l : Layout). let w : SuperValue = record { layout = l; files = v.files; slots = v.slots } in w) same
     ∙ ap (λ (fs : List TableFile). let w : SuperValue = record { layout = layout; files = fs; slots = v.slots } in w) (asked.files_are ∙ sym (files_asked files))
-    ∙ ap (λ (n : ℕ). let w : SuperValue = record { layout = layout; files = files_of files; slots = n } in w) asked.slots_are
+    ∙ ap (λ (n : ℕ). let w : SuperValue = record { layout = layout; files = files_asked_for files; slots = n } in w) asked.slots_are
 
 -- so it keeps the rules
 pub asked_fits : (layout : Layout) (number : ℕ) (files : List FileSpec) (slots : ℕ) (v : SuperValue) → number_of layout ≡ number → IsAsked number (asked_by files) slots v

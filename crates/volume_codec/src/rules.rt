@@ -2,7 +2,7 @@
 ghost use Rattle.std.specs.Prelude.{◌≡◌, ◌≢◌, ◌↔◌, ◌<◌, ◌≤◌, ◌^◌, IsTrue, IfOk, IfErr, All, ℕ, List, length, take};
 ghost use Rattle.volume_codec.specs.Files.{asked_by, asked_by_pairs};
 ghost use Rattle.volume_codec.specs.Super.{SuperValue, Fits, IsName, IsAsked, AreDistinct, pages_of as pages, total_pages, block_count};
-ghost use Rattle.volume_codec.specs.inside.Tables.{files_of, names_of, table_of, AreFull};
+ghost use Rattle.volume_codec.specs.inside.Tables.{files_asked_for, names_of, table_of, AreFull};
 
 use crate::file_spec::FileSpec;
 use crate::geometry::first_file_home_block;
@@ -60,7 +60,7 @@ fn are_distinct(files: &[FileSpec]) -> bool
 /// The home blocks that these files take.
 fn home_blocks(files: &[FileSpec]) -> u64
     requires { length files.now ≤ 64 }
-    ensures value { result ≡ total_pages (files_of files.now) }
+    ensures value { result ≡ total_pages (files_asked_for files.now) }
     ensures small { result ≤ 2 ^ 58 }
 {
     let mut total = 0;

@@ -5,8 +5,8 @@ ghost use Rattle.volume_codec.specs.Files.{asked_by, asked_by_pairs};
 ghost use Rattle.volume_codec.specs.Layout.{magic_of};
 ghost use Rattle.volume_codec.specs.Super.{SuperValue, Fits, IsName, IsSuper, IsAsked, AreDistinct, pages_of as pages, total_pages, first_home_of, block_count as blocks_of, geometry_of, entry_text, super_text, names_in, capacities_in};
 ghost use Rattle.volume_codec.specs.Refusals.{RefusesTable, RefusesSuper};
-ghost use Rattle.volume_codec.specs.inside.Reading.{number_in, name_in, file_in, entries_in, damage_of as damage};
-ghost use Rattle.volume_codec.specs.inside.Tables.{files_of, names_of, rows_of, homes_of, homes_from, AreFull};
+ghost use Rattle.volume_codec.specs.inside.Reading.{number_in, name_in, file_in, table_files_in, damage_of as damage};
+ghost use Rattle.volume_codec.specs.inside.Tables.{files_asked_for, names_of, rows_of, homes_of, homes_from, AreFull};
 
 use crate::block::{BlockWriter, u32_at, u64_at};
 use crate::file_spec::FileSpec;
@@ -58,9 +58,9 @@ fn table<A: Allocator + Copy>(
     first_home: u32,
 ) -> Result<Table<A>, AllocError>
     requires distinct { AreDistinct (names_of files.now) }
-    requires few { first_home + total_pages (files_of files.now) < 2 ^ 32 }
-    ensures rows { IfOk result (λ table. rows_of table.entries ≡ files_of files.now) }
-    ensures homes { IfOk result (λ table. homes_of table.entries ≡ homes_from first_home (files_of files.now)) }
+    requires few { first_home + total_pages (files_asked_for files.now) < 2 ^ 32 }
+    ensures rows { IfOk result (λ table. rows_of table.entries ≡ files_asked_for files.now) }
+    ensures homes { IfOk result (λ table. homes_of table.entries ≡ homes_from first_home (files_asked_for files.now)) }
 {
     let mut table = IndexMap::with_capacity(alloc, files.len())?;
     let mut home = first_home;
@@ -280,8 +280,8 @@ fn file_at(entry: &[u8]) -> FileSpec<'_>
 fn files_at(entries: &[u8], count: usize) -> [FileSpec<'_>; 64]
     requires few { count ≤ 64 }
     requires there { 48 * count ≤ length entries.now }
-    ensures files { AllByRecursion (λ f. IsName f.name) (entries_in count entries.now)
-        → files_of (take count result) ≡ entries_in count entries.now }
+    ensures files { AllByRecursion (λ f. IsName f.name) (table_files_in count entries.now)
+        → files_asked_for (take count result) ≡ table_files_in count entries.now }
     ensures full { AreFull (take count result) }
 {
     let mut files = [FileSpec {

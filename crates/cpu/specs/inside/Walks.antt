@@ -11,9 +11,9 @@ use Rattle.shootdown.specs.Shootdown.{ShootdownState, current, tlb_of, with_tlb}
 use Rattle.cpu.specs.Access.{hardware, cached_of, serves, walk, translated}
 
 -- the frame of what is cached, where that serves the access
-abbrev pub served : Bool → Option CachedEntry → Option ℕ
-served write None = None
-served write (Some e) = if serves write e then Some e.frame else None
+abbrev pub frame_served : Bool → Option CachedEntry → Option ℕ
+frame_served write None = None
+frame_served write (Some e) = if serves write e then Some e.frame else None
 
 -- a walk by an entry that allows the access, which is noted in the table, and cached
 pub record HasWalked (s : ShootdownState) (spaces : Spaces) (p page : ℕ) (write : Bool) (frame : ℕ)

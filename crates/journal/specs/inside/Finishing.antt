@@ -7,17 +7,17 @@ use Rattle.volume_codec.specs.Layout.{GeometryValue}
 use Rattle.volume_codec.specs.Super.{SuperValue, geometry_of}
 use Rattle.volume_codec.specs.Recovery.{Batch}
 use Rattle.journal.specs.WriteOut.{WriteOut, next_stage, calls_in_steps}
-use Rattle.journal.specs.Finished.{IsOutside, gate_byte, Holds, RecoversSame, finishing_calls}
+use Rattle.journal.specs.Finished.{IsOutside, gate_byte, HoldsVolume, RecoversSame, finishing_calls}
 use Rattle.journal.specs.inside.Tied.{IsTied}
 
 -- the write-out of this batch after so many steps
-abbrev pub made : Batch → ℕ → WriteOut
-made batch steps = record { batch = batch; steps = steps }
+abbrev pub after_steps : Batch → ℕ → WriteOut
+after_steps batch steps = record { batch = batch; steps = steps }
 
 -- of these batches of open journals, the newest first: committed, and to be applied, the oldest first
 abbrev pub found_in : List Batch → List WriteOut
 found_in [] = []
-found_in (batch ∷ older) = found_in older ++ made batch (length batch.homes + 4) ∷ []
+found_in (batch ∷ older) = found_in older ++ after_steps batch (length batch.homes + 4) ∷ []
 
 -- the oldest with those that wait, until it is done
 abbrev pub left_of : WriteOut → List WriteOut → List WriteOut
@@ -26,7 +26,7 @@ left_of w newer = option_map_or (λ stage. w ∷ newer) (next_stage w) newer
 -- of a volume that a device held at the start
 pub record IsOnWay {D : Type 0} (disk : Ghosts D) (v : SuperValue) (newer : List Batch) (contents : ℕ → List ℕ)
     (batch : Batch) (steps : ℕ) (start now : D) : Type 0 where
-  pub tied : IsTied v (left_of (made batch steps) (found_in newer)) contents contents (disk.seen now)
+  pub tied : IsTied v (left_of (after_steps batch steps) (found_in newer)) contents contents (disk.seen now)
       (disk.may_leave now)
   pub length_left : (c : List ℕ) → disk.may_leave now c → length c ≡ length (disk.seen start)
   pub past : (c : List ℕ) → disk.may_leave now c
@@ -38,7 +38,7 @@ pub record IsOnWay {D : Type 0} (disk : Ghosts D) (v : SuperValue) (newer : List
 pub record IsUnderWay {D : Type 0} (disk : Ghosts D) (g : GeometryValue) (batch : Batch) (steps : ℕ) (start now : D)
     : Type 0 where
   pub on_way : (v : SuperValue) (newer : List Batch) (contents : ℕ → List ℕ) → geometry_of v ≡ g
-      → Holds disk v (newer ++ batch ∷ []) contents start → IsOnWay disk v newer contents batch steps start now
+      → HoldsVolume disk v (newer ++ batch ∷ []) contents start → IsOnWay disk v newer contents batch steps start now
   pub closed : disk.is_honest start → 2 * length batch.homes + 6 ≤ steps
       → slice_index (disk.seen now) (gate_byte g.slots batch) ≡ 0
   pub others : disk.is_honest start → (i : ℕ) → IsOutside g i → i ≢ gate_byte g.slots batch

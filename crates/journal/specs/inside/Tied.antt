@@ -94,8 +94,8 @@ IsLeftAt v batches old new seen c j Finishing =
     Recovers v new c
     × ((k : ℕ) → k < journals_of v.layout → AllByRecursion (λ w. w.batch.journal ≢ k) batches → IsOpen c v.slots k → ⊥)
 
-abbrev pub IsLeft : SuperValue → List WriteOut → (ℕ → List ℕ) → (ℕ → List ℕ) → List ℕ → List ℕ → Type 0
-IsLeft v batches old new seen c =
+abbrev pub CrashLeaves : SuperValue → List WriteOut → (ℕ → List ℕ) → (ℕ → List ℕ) → List ℕ → List ℕ → Type 0
+CrashLeaves v batches old new seen c =
     MatchOption (current batches) (c ≡ seen)
     (λ w. MatchOption (next_stage w) (c ≡ seen) (IsLeftAt v batches old new seen c w.batch.journal))
 
@@ -103,4 +103,4 @@ IsLeft v batches old new seen c =
 pub record IsTied (v : SuperValue) (batches : List WriteOut) (old new : ℕ → List ℕ) (seen : List ℕ)
     (may_leave : List ℕ → Type 0) : Type 0 where
   pub seen_is : IsSeen v batches old new seen
-  pub left_are : (c : List ℕ) → may_leave c → IsLeft v batches old new seen c
+  pub left_are : (c : List ℕ) → may_leave c → CrashLeaves v batches old new seen c

@@ -55,13 +55,13 @@ without_pages first end (mapping ∷ rest) =
     else put_first (part_below first mapping) (put_first (part_from end mapping) (without_pages first end rest))
 
 -- the mapping with the rights
-abbrev pub with_rights : Rights → Mapping → Mapping
-with_rights rights mapping = record mapping { place = record mapping.place { rights = rights } }
+abbrev pub given_rights : Rights → Mapping → Mapping
+given_rights rights mapping = record mapping { place = record mapping.place { rights = rights } }
 
 -- the mapping with the rights, if it begins within first up to end
 abbrev pub with_rights_within : ℕ → ℕ → Rights → Mapping → Mapping
 with_rights_within first end rights mapping =
-    if nat_le first mapping.first && nat_lt mapping.first end then with_rights rights mapping else mapping
+    if nat_le first mapping.first && nat_lt mapping.first end then given_rights rights mapping else mapping
 
 -- whether the mapping has some of the count pages from first on, of which there is one at least
 abbrev pub meets : ℕ → ℕ → Mapping → Bool

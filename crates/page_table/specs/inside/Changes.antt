@@ -6,12 +6,12 @@ use Rattle.page_table.specs.declared.change.Change.{Change}
 use Rattle.page_table.specs.declared.change.Change.TheVariants.{Clear, MakeReadOnly, Protect}
 
 -- what a change leaves of an entry
-abbrev pub changed : Change → Option Mapped → Option Mapped
-changed Clear entry = None
-changed MakeReadOnly entry = with_writable_of entry false
-changed (Protect marked) None = None
-changed (Protect marked) (Some entry) = Some (protected_if marked.now entry)
+abbrev pub changed_by : Change → Option Mapped → Option Mapped
+changed_by Clear entry = None
+changed_by MakeReadOnly entry = with_writable_of entry false
+changed_by (Protect marked) None = None
+changed_by (Protect marked) (Some entry) = Some (protected_if marked.now entry)
 
 -- what a change leaves of an entry's bits
 abbrev pub changed_bits : Change → ℕ → ℕ
-changed_bits change bits = bits_of (changed change (entry_of bits))
+changed_bits change bits = bits_of (changed_by change (entry_of bits))

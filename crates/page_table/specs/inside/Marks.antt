@@ -3,22 +3,22 @@ use Rattle.std.specs.Prelude.{ℕ, ◌+◌, ◌-◌, ◌*◌, ◌/◌, ◌%◌, 
 use Rattle.page_entry.specs.Entry.{Mapped, entry_of, IsEntry}
 use Rattle.page_table.specs.Table.{in_range}
 use Rattle.page_table.specs.Bits.{is_set}
-use Rattle.page_table.specs.inside.Nodes.{walk, IsTable}
+use Rattle.page_table.specs.inside.Nodes.{read_by_walk, IsTable}
 
 -- the word that is a page's entry, where the page has a leaf
 abbrev pub place_of : List ℕ → ℕ → ℕ
-place_of words page = (walk words 3 (page / 512) - 1) * 512 + page % 512
+place_of words page = (read_by_walk words 3 (page / 512) - 1) * 512 + page % 512
 
 -- a word of a leaf, which is the entry of this page
 pub record IsOfPage (words : List ℕ) (place page : ℕ) : Type 0 where
-  pub leaf : 0 < walk words 3 (page / 512)
+  pub leaf : 0 < read_by_walk words 3 (page / 512)
   pub same : place ≡ place_of words page
 
 -- the bit of a page's entry says whether it is present, and no other bit is set
 pub record MarksEntries (words present : List ℕ) : Type 0 where
   pub ample : length words ≤ length present * 64
-  pub entries : (page : ℕ) → 0 < walk words 3 (page / 512)
-      → is_set present (place_of words page) ≡ nat_lt 0 (walk words 4 page)
+  pub entries : (page : ℕ) → 0 < read_by_walk words 3 (page / 512)
+      → is_set present (place_of words page) ≡ nat_lt 0 (read_by_walk words 4 page)
   pub pages : (place : ℕ) → is_set present place ≡ true → (page : ℕ) × IsOfPage words place page
 
 -- a node with a present entry is in use, and there are words for each node in use
@@ -69,12 +69,12 @@ AreBelow words present first end count = (i : ℕ) → first ≤ i → i < end �
 pub record IsNext (words : List ℕ) (start end page : ℕ) : Type 0 where
   pub low : start ≤ page
   pub high : page < end
-  pub leaf : 0 < walk words 3 (page / 512)
-  pub before : (q : ℕ) → start ≤ q → q < page → walk words 4 q ≡ 0
+  pub leaf : 0 < read_by_walk words 3 (page / 512)
+  pub before : (q : ℕ) → start ≤ q → q < page → read_by_walk words 4 q ≡ 0
 
 -- such a page, or none where no page of the range has a present entry
 abbrev pub IsNextPresent : List ℕ → ℕ → ℕ → Option ℕ → Type 0
-IsNextPresent words start end None = (q : ℕ) → start ≤ q → q < end → walk words 4 q ≡ 0
+IsNextPresent words start end None = (q : ℕ) → start ≤ q → q < end → read_by_walk words 4 q ≡ 0
 IsNextPresent words start end (Some page) = IsNext words start end page
 
 -- the words of a table and their marks

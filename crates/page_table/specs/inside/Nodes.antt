@@ -15,31 +15,31 @@ word words node place = if node == 0 then 0 else slice_index_or words ((node - 1
 -- What a walk over so many levels reads that leads to this block of pages; a block is named by the first of its pages
 -- divided by how many it has: 2^36, 2^27, 2^18 and 2^9 pages, and one page. Up to depth 3 the number of a node, or 0 for
 -- none; at depth 4 an entry's bits, or 0.
-unfoldable pub walk : List ℕ → ℕ → ℕ → ℕ
-walk words zero block = if block == 0 then 1 else 0
-walk words (suc depth) block = word words (walk words depth (block / 512)) (block % 512)
+unfoldable pub read_by_walk : List ℕ → ℕ → ℕ → ℕ
+read_by_walk words zero block = if block == 0 then 1 else 0
+read_by_walk words (suc depth) block = word words (read_by_walk words depth (block / 512)) (block % 512)
 
 -- walks stay within the words
 pub record IsWalkable (words : List ℕ) : Type 0 where
-  pub within : (depth block : ℕ) → depth ≤ 3 → walk words depth block * 512 ≤ length words
+  pub within : (depth block : ℕ) → depth ≤ 3 → read_by_walk words depth block * 512 ≤ length words
 
 -- the first `used` nodes are a tree: each block has a node of its own, and the nodes after them are blank
 pub record IsTree (words : List ℕ) (used : ℕ) : Type 0 where
   pub root : 0 < used
   pub room : used * 512 ≤ length words
   pub walkable : IsWalkable words
-  pub below : (depth block : ℕ) → depth ≤ 3 → walk words depth block ≤ used
-  pub apart : (d b e c : ℕ) → d ≤ 3 → e ≤ 3 → 0 < walk words d b → walk words d b ≡ walk words e c → (d ≡ e) × (b ≡ c)
+  pub below : (depth block : ℕ) → depth ≤ 3 → read_by_walk words depth block ≤ used
+  pub apart : (d b e c : ℕ) → d ≤ 3 → e ≤ 3 → 0 < read_by_walk words d b → read_by_walk words d b ≡ read_by_walk words e c → (d ≡ e) × (b ≡ c)
   pub unused : (i : ℕ) → used * 512 ≤ i → slice_index_or words i 0 ≡ 0
-  pub entries : (page : ℕ) → IsEntry (walk words 4 page)
+  pub entries : (page : ℕ) → IsEntry (read_by_walk words 4 page)
 
 -- a page's entry
 abbrev pub lookup : List ℕ → ℕ → Option Mapped
-lookup words page = entry_of (walk words 4 page)
+lookup words page = entry_of (read_by_walk words 4 page)
 
 -- whether the page has a leaf
 abbrev pub has_leaf : List ℕ → ℕ → Bool
-has_leaf words page = nat_lt 0 (walk words 3 (page / 512))
+has_leaf words page = nat_lt 0 (read_by_walk words 3 (page / 512))
 
 -- the words of a table: nodes that are all in its tree
 pub record IsTable (words : List ℕ) : Type 0 where
@@ -49,41 +49,41 @@ pub record IsTable (words : List ℕ) : Type 0 where
 -- The first page after a block of pages that has no node and has this page; the page itself if it has a leaf.
 pub record IsPastGap (words : List ℕ) (page next : ℕ) : Type 0 where
   pub low : page ≤ next
-  pub leaf : next ≡ page → 0 < walk words 3 (page / 512)
-  pub gap : (q : ℕ) → page ≤ q → q < next → walk words 3 (q / 512) ≡ 0
+  pub leaf : next ≡ page → 0 < read_by_walk words 3 (page / 512)
+  pub gap : (q : ℕ) → page ≤ q → q < next → read_by_walk words 3 (q / 512) ≡ 0
 
 -- the first page of a range that has a leaf
 pub record IsFound (words : List ℕ) (start end page : ℕ) : Type 0 where
   pub low : start ≤ page
   pub high : page < end
-  pub leaf : 0 < walk words 3 (page / 512)
-  pub before : (q : ℕ) → start ≤ q → q < page → walk words 3 (q / 512) ≡ 0
+  pub leaf : 0 < read_by_walk words 3 (page / 512)
+  pub before : (q : ℕ) → start ≤ q → q < page → read_by_walk words 3 (q / 512) ≡ 0
 
 -- the first page of a range that has a leaf, if there is one
 abbrev pub IsFirstGrown : List ℕ → ℕ → ℕ → Option ℕ → Type 0
-IsFirstGrown words start end None = (q : ℕ) → start ≤ q → q < end → walk words 3 (q / 512) ≡ 0
+IsFirstGrown words start end None = (q : ℕ) → start ≤ q → q < end → read_by_walk words 3 (q / 512) ≡ 0
 IsFirstGrown words start end (Some page) = IsFound words start end page
 
 -- f done to the entry of each page of the range; the nodes stay
 pub record EditsPages (f : ℕ → ℕ) (start end : ℕ) (old new : List ℕ) : Type 0 where
   pub table : IsTable new
   pub size : length new ≡ length old
-  pub nodes : (depth block : ℕ) → depth ≤ 3 → walk new depth block ≡ walk old depth block
-  pub pages : (q : ℕ) → walk new 4 q ≡ (if in_range start end q then f (walk old 4 q) else walk old 4 q)
+  pub nodes : (depth block : ℕ) → depth ≤ 3 → read_by_walk new depth block ≡ read_by_walk old depth block
+  pub pages : (q : ℕ) → read_by_walk new 4 q ≡ (if in_range start end q then f (read_by_walk old 4 q) else read_by_walk old 4 q)
 
 -- how many of these blocks, from `first` on, have no node
 abbrev pub missing : List ℕ → ℕ → ℕ → ℕ → ℕ
 missing words depth first zero = 0
 missing words depth first (suc count) =
-    (if walk words depth first == 0 then 1 else 0) + missing words depth (first + 1) count
+    (if read_by_walk words depth first == 0 then 1 else 0) + missing words depth (first + 1) count
 
 -- each block of the range has a node, and no walk to an other block reads anything else
 pub record LinksBlocks (depth first end used made : ℕ) (old new : List ℕ) : Type 0 where
   pub tree : IsTree new made
   pub size : length new ≡ length old
   pub count : made ≡ used + missing old depth first (end - first)
-  pub linked : (block : ℕ) → first ≤ block → block < end → 0 < walk new depth block
-  pub same : (d b : ℕ) → d ≤ 4 → (d ≡ depth → first ≤ b → b < end → 0 < walk old d b) → walk new d b ≡ walk old d b
+  pub linked : (block : ℕ) → first ≤ block → block < end → 0 < read_by_walk new depth block
+  pub same : (d b : ℕ) → d ≤ 4 → (d ≡ depth → first ≤ b → b < end → 0 < read_by_walk old d b) → read_by_walk new d b ≡ read_by_walk old d b
 
 -- how many nodes have to be made so that each page of a range that isn't empty has a leaf
 abbrev pub needed : List ℕ → ℕ → ℕ → ℕ
@@ -97,20 +97,20 @@ needed words start end =
 pub record GrowsPages (start end : ℕ) (old new : List ℕ) : Type 0 where
   pub table : IsTable new
   pub size : length new ≡ length old
-  pub entries : (page : ℕ) → walk new 4 page ≡ walk old 4 page
-  pub grown : (block : ℕ) → start / 512 ≤ block → block ≤ (end - 1) / 512 → 0 < walk new 3 block
-  pub kept : (block : ℕ) → 0 < walk old 3 block → walk new 3 block ≡ walk old 3 block
-  pub others : (block : ℕ) → (start / 512 ≤ block → (end - 1) / 512 < block) → walk new 3 block ≡ walk old 3 block
+  pub entries : (page : ℕ) → read_by_walk new 4 page ≡ read_by_walk old 4 page
+  pub grown : (block : ℕ) → start / 512 ≤ block → block ≤ (end - 1) / 512 → 0 < read_by_walk new 3 block
+  pub kept : (block : ℕ) → 0 < read_by_walk old 3 block → read_by_walk new 3 block ≡ read_by_walk old 3 block
+  pub others : (block : ℕ) → (start / 512 ≤ block → (end - 1) / 512 < block) → read_by_walk new 3 block ≡ read_by_walk old 3 block
 
 -- a page's entry before these, if it is present
-abbrev pub with_entry : ℕ → Option Mapped → List (ℕ × Mapped) → List (ℕ × Mapped)
-with_entry page None rest = rest
-with_entry page (Some entry) rest = (page, entry) ∷ rest
+abbrev pub with_page_entry : ℕ → Option Mapped → List (ℕ × Mapped) → List (ℕ × Mapped)
+with_page_entry page None rest = rest
+with_page_entry page (Some entry) rest = (page, entry) ∷ rest
 
 -- the present entries of so many pages from `first` on
 unfoldable pub present_from : (ℕ → Option Mapped) → ℕ → ℕ → List (ℕ × Mapped)
 present_from entry first zero = []
-present_from entry first (suc count) = with_entry first (entry first) (present_from entry (first + 1) count)
+present_from entry first (suc count) = with_page_entry first (entry first) (present_from entry (first + 1) count)
 
 -- those of so many pages from `first` on for which this holds
 unfoldable pub pages_from : (ℕ → Bool) → ℕ → ℕ → List ℕ
@@ -128,7 +128,7 @@ table_of words = record {
 
 -- the mask of the entries of a block of 512 pages: whether each of them is dirty
 pub record IsLeafMask (words : List ℕ) (block : ℕ) (mask : List ℕ) : Type 0 where
-  pub bits : (i : ℕ) → i < 512 → is_set mask i ≡ has_bit (walk words 4 (block * 512 + i)) 6
+  pub bits : (i : ℕ) → i < 512 → is_set mask i ≡ has_bit (read_by_walk words 4 (block * 512 + i)) 6
 
 -- a list of dirty pages has a table and the mask of the block that its first page is in
 pub record AreDirtyPages (words : List ℕ) (start : ℕ) (mask : List ℕ) : Type 0 where
@@ -153,10 +153,10 @@ IsFirstOfLeaf mask start end (Some page) = IsOfLeaf mask start end page
 pub record IsDirtyPage (words : List ℕ) (start end page : ℕ) : Type 0 where
   pub low : start ≤ page
   pub high : page < end
-  pub here : has_bit (walk words 4 page) 6 ≡ true
-  pub before : (q : ℕ) → start ≤ q → q < page → has_bit (walk words 4 q) 6 ≡ false
+  pub here : has_bit (read_by_walk words 4 page) 6 ≡ true
+  pub before : (q : ℕ) → start ≤ q → q < page → has_bit (read_by_walk words 4 q) 6 ≡ false
 
 -- the first page of a range whose entry is dirty, if there is one
 abbrev pub IsFirstDirty : List ℕ → ℕ → ℕ → Option ℕ → Type 0
-IsFirstDirty words start end None = (q : ℕ) → start ≤ q → q < end → has_bit (walk words 4 q) 6 ≡ false
+IsFirstDirty words start end None = (q : ℕ) → start ≤ q → q < end → has_bit (read_by_walk words 4 q) 6 ≡ false
 IsFirstDirty words start end (Some page) = IsDirtyPage words start end page

@@ -6,7 +6,7 @@ use Rattle.device.specs.declared.device.Device.{Ghosts}
 use Rattle.volume_codec.specs.Layout.{GeometryValue}
 use Rattle.volume_codec.specs.Super.{SuperValue, geometry_of}
 use Rattle.volume_codec.specs.Recovery.{Batch}
-use Rattle.journal.specs.Finished.{IsOutside, gate_byte, Holds, RecoversSame}
+use Rattle.journal.specs.Finished.{IsOutside, gate_byte, HoldsVolume, RecoversSame}
 use Rattle.recovery.specs.Counts.{Rises, RisesWithin}
 use Rattle.recovery.specs.inside.Reading.{carry_calls}
 
@@ -19,9 +19,9 @@ pub record AreShut (g : GeometryValue) (batches : List Batch) (old new : List �
 -- of all these batches the oldest are done, and these wait
 pub record IsCarrying {D : Type 0} (disk : Ghosts D) (g : GeometryValue) (all waiting done : List Batch) (start now : D)
     : Type 0 where
-  pub held : (v : SuperValue) (contents : ℕ → List ℕ) → geometry_of v ≡ g → Holds disk v all contents start
-      → Holds disk v waiting contents now
-  pub time : (v : SuperValue) (contents : ℕ → List ℕ) → geometry_of v ≡ g → Holds disk v all contents start
+  pub held : (v : SuperValue) (contents : ℕ → List ℕ) → geometry_of v ≡ g → HoldsVolume disk v all contents start
+      → HoldsVolume disk v waiting contents now
+  pub time : (v : SuperValue) (contents : ℕ → List ℕ) → geometry_of v ≡ g → HoldsVolume disk v all contents start
       → LeavesOnly disk.moment disk.left_since start now (RecoversSame v contents (disk.seen start))
   pub shut : disk.is_honest start → AreShut g done (disk.seen start) (disk.seen now)
   pub calls : Rises (carry_calls done) (disk.calls_made start) (disk.calls_made now)
@@ -30,6 +30,6 @@ pub record IsCarrying {D : Type 0} (disk : Ghosts D) (g : GeometryValue) (all wa
 pub record CarriesOut {D T E : Type 0} (disk : Ghosts D) (g : GeometryValue) (batches : List Batch) (old : D)
     (result : Result T E) (new : D) : Type 0 where
   pub done : OnOk result (IsCarrying disk g batches [] batches old new)
-  pub time : (v : SuperValue) (contents : ℕ → List ℕ) → geometry_of v ≡ g → Holds disk v batches contents old
+  pub time : (v : SuperValue) (contents : ℕ → List ℕ) → geometry_of v ≡ g → HoldsVolume disk v batches contents old
       → LeavesOnly disk.moment disk.left_since old new (RecoversSame v contents (disk.seen old))
   pub most : RisesWithin (carry_calls batches) (disk.calls_made old) (disk.calls_made new)

@@ -21,9 +21,9 @@ abbrev pub carry_calls : List Batch → ℕ
 carry_calls batches = sum_by (λ batch. 2 * length batch.homes + 3) batches
 
 -- each journal comes after those before it in the list
-abbrev pub AreRising : List Batch → Type 0
-AreRising [] = Unit {0}
-AreRising (batch ∷ batches) = AllByRecursion (λ other. batch.journal < other.journal) batches × AreRising batches
+abbrev pub AreByJournal : List Batch → Type 0
+AreByJournal [] = Unit {0}
+AreByJournal (batch ∷ batches) = AllByRecursion (λ other. batch.journal < other.journal) batches × AreByJournal batches
 
 -- these are the batches of the open journals below this one, in the order of their journals
 pub record AreRead (g : GeometryValue) (bytes : List ℕ) (below : ℕ) (batches : List Batch) : Type 0 where
@@ -31,7 +31,7 @@ pub record AreRead (g : GeometryValue) (bytes : List ℕ) (below : ℕ) (batches
   pub low : AllByRecursion (λ batch. batch.journal < below) batches
   pub all : (j : ℕ) → j < below → IsOpen bytes g.slots j → has_journal batches j ≡ true
   pub few : length batches ≤ below
-  pub rising : AreRising batches
+  pub rising : AreByJournal batches
 
 -- an open journal is damaged where its descriptor says no value
 abbrev pub RefusesJournal : GeometryValue → List ℕ → Refusal → Type 0

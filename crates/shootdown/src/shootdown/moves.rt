@@ -3,7 +3,7 @@ ghost use Rattle.std.specs.Prelude.{◌≡◌, true, false, is_some, None, Some,
 ghost use Rattle.std.specs.FinMap as maps;
 ghost use Rattle.spaces.specs.Spaces.{Spaces as AddressSpaces};
 ghost use Rattle.shootdown.specs.Shootdown.{is_there, is_current, resumed, destroyed};
-ghost use Rattle.shootdown.specs.Calls.{Idles, GoesOn, Switches, is_idle, destroy_refusal};
+ghost use Rattle.shootdown.specs.Calls.{IdleAnswers, GoesOn, SwitchAnswers, is_idle, destroy_refusal};
 ghost use Rattle.shootdown.specs.Coherence.{Coheres, KeepsCoherence, IsForgotten};
 
 use super::Shootdown;
@@ -18,7 +18,7 @@ impl<A: Allocator + Copy> Shootdown<A> {
     /// An active processor idles, also while another holds the lock. `Einval` where there is none with this number,
     /// `Stalled` where it neither is active nor was interrupted, `Locked` where it was interrupted.
     pub fn idle(&mut self, p: ProcessorNumber) -> Result<(), Refusal>
-        ensures idled { Idles self.old p result self.new }
+        ensures idled { IdleAnswers self.old p result self.new }
     {
         match self.state(p)? {
             ProcState::Active => {
@@ -66,7 +66,7 @@ impl<A: Allocator + Copy> Shootdown<A> {
         pcid: Pcid,
         keep: bool,
     ) -> Result<(), Refusal>
-        ensures switched { Switches self.old spaces.now.map p pcid keep result self.new }
+        ensures switched { SwitchAnswers self.old spaces.now.map p pcid keep result self.new }
     {
         self.admit_free(p)?;
         if !spaces.has(pcid) {

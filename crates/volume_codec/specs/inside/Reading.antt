@@ -18,9 +18,9 @@ abbrev pub file_in : List ℕ → TableFile
 file_in entry = record { name = name_in entry; capacity = number_in 8 (drop 32 entry) }
 
 -- the files of so many entries
-abbrev pub entries_in : ℕ → List ℕ → List TableFile
-entries_in zero entries = []
-entries_in (suc n) entries = file_in entries ∷ entries_in n (drop 48 entries)
+abbrev pub table_files_in : ℕ → List ℕ → List TableFile
+table_files_in zero entries = []
+table_files_in (suc n) entries = file_in entries ∷ table_files_in n (drop 48 entries)
 
 -- the numbers of 4 bytes, so many of them
 abbrev pub numbers_in : ℕ → List ℕ → List ℕ

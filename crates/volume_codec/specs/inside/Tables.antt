@@ -11,8 +11,8 @@ use Rattle.volume_codec.specs.Layout.{first_file_home}
 use Rattle.volume_codec.specs.Super.{SuperValue, Fits, pages_of, block_count}
 
 -- the files of the table that is asked for
-abbrev pub files_of : List FileSpec → List TableFile
-files_of files = map (λ f. record { name = f.name.now; capacity = f.capacity }) files
+abbrev pub files_asked_for : List FileSpec → List TableFile
+files_asked_for files = map (λ f. record { name = f.name.now; capacity = f.capacity }) files
 
 -- the names that are asked for
 abbrev pub names_of : List FileSpec → List (List ℕ)
@@ -20,7 +20,7 @@ names_of files = map (λ f. f.name.now) files
 
 -- the table that is asked for, in a layout that there is
 abbrev pub table_of : Layout → List FileSpec → ℕ → SuperValue
-table_of layout files slots = record { layout = layout; files = files_of files; slots = slots }
+table_of layout files slots = record { layout = layout; files = files_asked_for files; slots = slots }
 
 -- each file that is asked for is as long as its capacity
 abbrev pub AreFull : List FileSpec → Type 0

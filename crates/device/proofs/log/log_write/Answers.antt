@@ -1,6 +1,6 @@
 use Rattle.std.proofs.Common.{List, ℕ, ◌∷◌, ◌∙◌, ap}
 use Rattle.device.specs.inside.Logged.{changes_of}
-use Rattle.device.specs.Memory.Change.{write}
+use Rattle.device.specs.Memory.DiskChange.{write}
 use Rattle.device.proofs.Replay.{changes_of-push}
 use Rattle.device.proofs.log.log_write.Goals as goal
 

@@ -1,7 +1,7 @@
 use Rattle.std.proofs.Common.{◌+◌, ◌-◌, ◌^◌, ℕ, ◌∷◌, [], List, length, slice_range, sym, ◌∙◌, ap, subst, arith}
 use Rattle.std.proofs.lemmas.List.{take_all}
 use Rattle.device.specs.Memory.{content_after}
-use Rattle.device.specs.Memory.Change.{write}
+use Rattle.device.specs.Memory.DiskChange.{write}
 use Rattle.device.specs.declared.log.Logged.{Logged}
 use Rattle.device.specs.inside.Logged.{change_of, changes_of}
 use Rattle.device.specs.inside.Replay.{AreWithin}

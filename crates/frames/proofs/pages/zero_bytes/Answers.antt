@@ -1,7 +1,7 @@
 use Rattle.std.proofs.Common.{refl}
-use Rattle.frames.specs.Frames.{zeros, zero_page}
+use Rattle.frames.specs.Frames.{blank_bytes, zero_page}
 use Rattle.frames.proofs.pages.zero_bytes.Goals as goal
 
 pub returns : goal.returns
-unfolding zeros zero_page
+unfolding blank_bytes zero_page
 returns c = refl

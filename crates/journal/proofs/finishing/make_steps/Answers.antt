@@ -4,7 +4,7 @@ use Rattle.device.proofs.Done.{did_as}
 use Rattle.journal.specs.declared.flushed.Flushed.TheVariants.{Broken}
 use Rattle.journal.specs.Work.{has_done}
 use Rattle.journal.specs.WriteOut.{FlushValue, next_stage, advanced_of, flush_work, flush_answer}
-use Rattle.journal.specs.inside.Finishing.{made, IsUnderWay}
+use Rattle.journal.specs.inside.Finishing.{after_steps, IsUnderWay}
 use Rattle.journal.proofs.StandsKept.{done_unless}
 use Rattle.journal.proofs.UnderWay.{late_stage, first_step, under_step, under_failed, under_end, after_value, late_answer_of}
 use Rattle.journal.proofs.finishing.make_steps.Goals as goal
@@ -16,7 +16,7 @@ loop-step-init g c =
     let k = length batch.homes in
     let place : f.write_out.steps ≡ k + 4 + 0 = omega (arith, c.requires.committed) in
     record {
-      value = λ i. record f { write_out = made batch (place i); broken = c.requires.whole i };
+      value = λ i. record f { write_out = after_steps batch (place i); broken = c.requires.whole i };
       under = subst (λ n. IsUnderWay g.D.Device f.geometry batch n c.args.device.now c.args.device.now) (let same : k + 4 ≡ k + 4 + 0 = omega arith in same)
           (first_step g.D.Device f.geometry batch c.args.device.now c.requires.batch (g.met.D.Device.since_now c.args.device.now));
     }
@@ -56,7 +56,7 @@ loop-step-preserved g c =
     let next : n + 1 ≡ k + 4 + (c.loop-step._step + 1) = omega arith in
     record {
       value = c.step.ensures.value ∙ after_value c.loop-step.flush c.step.result whole sane ∙ ap (λ (x : FlushValue). record x { write_out = advanced_of x.write_out }) value
-          ∙ (λ i. record f { write_out = made batch (next i); broken = false });
+          ∙ (λ i. record f { write_out = after_steps batch (next i); broken = false });
       under = subst (λ m. IsUnderWay g.D.Device f.geometry batch m c.args.device.now c.step.new.device) next
           (under_step g.D.Device f.geometry batch c.requires.batch n _ c.args.device.now c.loop-step.device c.step.new.device c.requires.long (omega arith) to c.loop-step.invariant.under did);
     }

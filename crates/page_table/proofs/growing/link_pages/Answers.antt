@@ -1,12 +1,12 @@
 use Rattle.std.proofs.Common.{◌≡◌, ◌/◌, arith}
-use Rattle.page_table.specs.inside.Nodes.{walk}
+use Rattle.page_table.specs.inside.Nodes.{read_by_walk}
 use Rattle.page_table.proofs.Trees.{walk-root}
 use Rattle.page_table.proofs.Ranges.{middle_room, leaf_room, GrowsPages-linked}
 use Rattle.page_table.proofs.growing.link_pages.Goals as goal
 
 pub link_blocks-tops-requires-clause-parents : goal.link_blocks-tops-requires-clause-parents
 link_blocks-tops-requires-clause-parents c = λ block low high.
-    let root : walk c.args.words.now 0 (block / 512) ≡ 1 = walk-root c.args.words.now (block / 512) (omega (arith, c.requires.small)) in omega arith
+    let root : read_by_walk c.args.words.now 0 (block / 512) ≡ 1 = walk-root c.args.words.now (block / 512) (omega (arith, c.requires.small)) in omega arith
 
 pub link_blocks-middles-requires-clause-room : goal.link_blocks-middles-requires-clause-room
 link_blocks-middles-requires-clause-room c =

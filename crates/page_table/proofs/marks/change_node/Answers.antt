@@ -1,6 +1,6 @@
 use Rattle.std.proofs.Common.{◌+◌, ◌*◌, ap, ◌∙◌, sym, subst, arith}
 use Rattle.page_entry.specs.Entry.{IsEntry, bits_of}
-use Rattle.page_table.specs.inside.Changes.{changed, changed_bits}
+use Rattle.page_table.specs.inside.Changes.{changed_by, changed_bits}
 use Rattle.page_table.proofs.MarkedEdits.{EditsMarked-all, EditsMarked-next, not_yet}
 use Rattle.page_table.proofs.marks.change_node.Goals as goal
 
@@ -24,7 +24,7 @@ entries-preserved c =
       low = omega arith;
       high = omega arith;
       done = EditsMarked-next (changed_bits c.args.change) c.args.present.now (c.args.node * 512) c.entries.place ((c.args.node + 1) * 512) c.in-Some.at c.bits.result c.args.words.now c.entries.words from inv.done found (omega (arith, c.entries.auto.words, c.requires.node))
-          (c.bits.ensures.bits ∙ ap bits_of (c.changed.ensures ∙ ap (changed c.args.change) c.of_bits.ensures));
+          (c.bits.ensures.bits ∙ ap bits_of (c.changed.ensures ∙ ap (changed_by c.args.change) c.of_bits.ensures));
     }
 
 pub returns : goal.returns

@@ -3,7 +3,7 @@ use Rattle.std.proofs.lemmas.List.{length-map}
 use Rattle.std.proofs.lemmas.Result.{err_from_is_err_and}
 use Rattle.volume_codec.specs.Layout.{GeometryValue}
 use Rattle.volume_codec.specs.Recovery.{contents_in}
-use Rattle.journal.specs.Finished.{Holds}
+use Rattle.journal.specs.Finished.{HoldsVolume}
 use Rattle.recovery.specs.Opening.{HasOpened}
 use Rattle.recovery.specs.inside.Carrying.{AreShut}
 use Rattle.recovery.specs.inside.Reading.{batch_of, batches_of}
@@ -31,7 +31,7 @@ returns-in_err-carry_out_all-clause-opens g c =
     }
 
 module _ (g : _) (c : goal.In_ok-carry_out_all g) (honest : g.D.Device.is_honest c.args.device.now) where
-  held : Holds g.D.Device c.in_ok-table.table [] (contents_in c.in_ok-table.table.slots (batches_of c.in_ok-table.found.items) (g.D.Device.seen c.args.device.now)) c.carry_out_all.new.device
+  held : HoldsVolume g.D.Device c.in_ok-table.table [] (contents_in c.in_ok-table.table.slots (batches_of c.in_ok-table.found.items) (g.D.Device.seen c.args.device.now)) c.carry_out_all.new.device
   held =
       let e = c.in_ok-table.ensures in
       c.in_ok-carry_out_all.ensures.carries.done.held c.in_ok-table.table _ (sym c.geometry.ensures.value)

@@ -8,8 +8,8 @@ use Rattle.volume_codec.specs.Files.{TableFile, AskedFile, asked_by}
 use Rattle.volume_codec.specs.Layout.{magic_of}
 use Rattle.volume_codec.specs.Super.{SuperValue, IsSuper, IsName, IsAsked, super_text}
 use Rattle.volume_codec.specs.Refusals.{RefusesTable, RefusesSuper}
-use Rattle.volume_codec.specs.inside.Reading.{entries_in, damage_of}
-use Rattle.volume_codec.specs.inside.Tables.{files_of, table_of}
+use Rattle.volume_codec.specs.inside.Reading.{table_files_in, damage_of}
+use Rattle.volume_codec.specs.inside.Tables.{files_asked_for, table_of}
 use Rattle.volume_codec.proofs.Functional.{reads_block, read_value, refuses_table, refuses_spelling}
 use Rattle.volume_codec.proofs.ReadingLemmas.{other_by_ne}
 use Rattle.volume_codec.proofs.TableLemmas.{asked_table}
@@ -38,10 +38,10 @@ refused layout number block files slots _ magic none h = absurd h
 
 -- what the entries read as
 found : (block : List ℕ) (files : List TableFile) (count : ℕ) → length block ≡ 4096
-    → (AllByRecursion (λ f. IsName f.name) (entries_in count (take 4064 (drop 32 block))) → files ≡ entries_in count (take 4064 (drop 32 block)))
-    → AllByRecursion (λ f. IsName f.name) (entries_in count (drop 32 block)) → files ≡ entries_in count (drop 32 block)
+    → (AllByRecursion (λ f. IsName f.name) (table_files_in count (take 4064 (drop 32 block))) → files ≡ table_files_in count (take 4064 (drop 32 block)))
+    → AllByRecursion (λ f. IsName f.name) (table_files_in count (drop 32 block)) → files ≡ table_files_in count (drop 32 block)
 found block files count l h =
-    let P : List ℕ → Type 0 = λ entries. AllByRecursion (λ f. IsName f.name) (entries_in count entries) → files ≡ entries_in count entries in
+    let P : List ℕ → Type 0 = λ entries. AllByRecursion (λ f. IsName f.name) (table_files_in count entries) → files ≡ table_files_in count entries in
     subst P (whole block l) h
 
 pub returns-in-Err-clause-refused : goal.returns-in-Err-clause-refused
@@ -52,7 +52,7 @@ returns-in-Err-clause-refused g c =
     let r = refused c.in-Some.layout c.number.result block (asked_by files) c.from-slots.result c.in-Err.refusal c.in-Some.ensures.some
     (refuses_table c.in-Some.layout c.number.result block files c.from-slots.result numbered c.files_at-files.ensures.full
     (λ v is. read_value c.in-Some.layout v block files c.u32_at-count.result c.from-slots.result is c.in-Some.ensures.some c.u32_at-count.ensures (c.from-slots.ensures ∙ c.u32_at.ensures)
-    (found block (files_of files) c.u32_at-count.result c.told-block c.files_at-files.ensures.files)))
+    (found block (files_asked_for files) c.u32_at-count.result c.told-block c.files_at-files.ensures.files)))
     c.in-Err.ensures.refused in
     let P : Refusal → Type 0 = λ e. RefusesSuper block e in
     subst P (sym c.damage_of.ensures) r
@@ -67,7 +67,7 @@ returns-then-ne-clause-refused g c =
       c.in-Some.ensures.some,
       refuses_spelling block c.to_block.result (table_of c.in-Some.layout files c.from-slots.result)
           (λ v is. read_value c.in-Some.layout v block files c.u32_at-count.result c.from-slots.result is c.in-Some.ensures.some c.u32_at-count.ensures (c.from-slots.ensures ∙ c.u32_at.ensures)
-          (found block (files_of files) c.u32_at-count.result c.told-block c.files_at-files.ensures.files))
+          (found block (files_asked_for files) c.u32_at-count.result c.told-block c.files_at-files.ensures.files))
           (c.to_block.ensures ∙ ap super_text same)
           (other_by_ne _ _ _ c.ne.ensures c.if-ne.true),
     )

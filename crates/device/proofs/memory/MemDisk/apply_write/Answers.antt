@@ -1,7 +1,7 @@
 use Rattle.std.proofs.Common.{◌≡◌, ◌+◌, ◌≤◌, ℕ, List, length, ◌∙◌, sym, ap, subst, arith}
 use Rattle.std.proofs.lemmas.List.{with_items_is}
 use Rattle.device.specs.Device.{written}
-use Rattle.device.specs.Memory.{Change, Recorded, seen_of}
+use Rattle.device.specs.Memory.{DiskChange, Recorded, seen_of}
 use Rattle.device.specs.inside.Logged.{changes_of}
 use Rattle.device.specs.inside.Replay.{IsReplay}
 use Rattle.device.proofs.Ranges.{length-written}
@@ -20,5 +20,5 @@ invariant_of-self-2 g c =
     let long = length-written was c.args.at c.args.bytes.now fits in
     let items = ◌∙◌ {A = List ℕ} {b = c.put.new.content} (with_items_is fields.content c.put.new.content (omega (arith, ap length put_is, long, fields.content.ok.0))) put_is in
     subst (λ (l : List ℕ). IsReplay fields.first.items (changes_of c.log_write.new.log.items) l fields.synced) (sym items)
-    (subst (λ (l : List Change). IsReplay fields.first.items l (written was c.args.at c.args.bytes.now) fields.synced) (sym more)
+    (subst (λ (l : List DiskChange). IsReplay fields.first.items l (written was c.args.at c.args.bytes.now) fields.synced) (sym more)
     (replay_write fields.first.items was (changes_of fields.log.items) fields.synced c.args.at c.args.bytes.now fits c.self.invariant))

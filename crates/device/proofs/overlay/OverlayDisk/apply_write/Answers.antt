@@ -1,5 +1,5 @@
 use Rattle.std.proofs.Common.{◌∙◌, sym, subst, List, length, arith}
-use Rattle.device.specs.Memory.{Change}
+use Rattle.device.specs.Memory.{DiskChange}
 use Rattle.device.specs.inside.Logged.{changes_of}
 use Rattle.device.specs.inside.Replay.{AreWithin}
 use Rattle.device.proofs.Outcomes.{on_ok}
@@ -11,4 +11,4 @@ invariant_of-self-else-is_err g c =
     let disk = c.self.inside in
     let long = length_of_overlay g.D.Device.seen c.args.self.now disk.inner (changes_of disk.log.items) disk.refused disk.calls disk.faults c.self.view_is c.self.invariant in
     let more = on_ok c.log_write.result (sym c.is_err.ensures.value ∙ c.if-is_err.false) c.log_write.ensures.ok in
-    subst (λ (l : List Change). AreWithin (length (g.D.Device.seen disk.inner)) l) (sym more) (omega (arith, long, c.requires), c.self.invariant)
+    subst (λ (l : List DiskChange). AreWithin (length (g.D.Device.seen disk.inner)) l) (sym more) (omega (arith, long, c.requires), c.self.invariant)

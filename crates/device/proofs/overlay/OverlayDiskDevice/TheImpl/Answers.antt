@@ -1,5 +1,5 @@
 use Rattle.std.proofs.Common.{rules}
-use Rattle.device.specs.Memory.Change.{write, sync}
+use Rattle.device.specs.Memory.DiskChange.{write, sync}
 use Rattle.device.specs.Overlay.{as_recorded}
 use Rattle.device.proofs.Replay.{write_left, write_keeps, write_time, sync_time}
 use Rattle.device.proofs.Overlays.{as_changed, as_refused, overlay_time, length_after_write, sure_after_sync}

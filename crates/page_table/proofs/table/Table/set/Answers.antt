@@ -1,13 +1,13 @@
 use Rattle.std.proofs.Common.{ℕ, ◌<◌, ◌/◌, List, length, sym, ap, ◌∙◌, subst, arith}
 use Rattle.std.proofs.lemmas.List.{with_items_is}
 use Rattle.page_table.specs.Table.{TableState, put_entry}
-use Rattle.page_table.specs.inside.Nodes.{walk, table_of}
+use Rattle.page_table.specs.inside.Nodes.{read_by_walk, table_of}
 use Rattle.page_table.proofs.Tables.{table_of-set, leaf_of_grown}
 use Rattle.page_table.proofs.table.Table.set.Goals as goal
 
 pub set_page-requires-clause-leaf : goal.set_page-requires-clause-leaf
 set_page-requires-clause-leaf g c =
-    subst (λ (ws : List ℕ). 0 < walk ws 3 (c.args.page / 512)) (sym c.deref_mut.ensures.value) (leaf_of_grown c.self.inside.words.items c.args.self.now c.args.page c.self.view_is c.requires)
+    subst (λ (ws : List ℕ). 0 < read_by_walk ws 3 (c.args.page / 512)) (sym c.deref_mut.ensures.value) (leaf_of_grown c.self.inside.words.items c.args.self.now c.args.page c.self.view_is c.requires)
 
 pub returns : goal.returns
 returns g c =

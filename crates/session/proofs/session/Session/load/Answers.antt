@@ -2,8 +2,8 @@ use Rattle.std.proofs.Common.{◌≡◌, ℕ, ◌+◌, Bool, true, not, if◌the
 use Rattle.std.specs.Result.{is_ok}
 use Rattle.machine.specs.declared.act.Act.TheVariants.{Load}
 use Rattle.machine.specs.declared.act.Reply.{Reply}
-use Rattle.session.specs.Ranges.{Does, Loads}
-use Rattle.session.specs.Steps.{Answers, behind}
+use Rattle.session.specs.Ranges.{Does, LoadsRange}
+use Rattle.session.specs.Steps.{AnswersAfter, behind}
 use Rattle.session.proofs.Pieces.{loads_more, loads_refused, loads_cut, loads_all}
 use Rattle.session.proofs.Stretches.{makes_none, answers_aside}
 use Rattle.session.proofs.session.Session.load.Goals as goal
@@ -22,12 +22,12 @@ returns-then-is_err g c = loads_cut g.D.Device _ _ _ _ _ _ c.args.p c.args.va c.
 
 pub loop-done-preserved : goal.loop-done-preserved
 loop-done-preserved g c =
-    let P : ℕ → Type 0 = λ at. Answers g.D.Device c.loop-done.self.machine c.loop-done.self.notes (record { p = c.args.p; act = Load at c.piece-few.result }) c.in-Ok.answer c.access.new.self.machine c.access.new.self.notes in
-    let Q : Reply → Type 0 = λ r. Answers g.D.Device c.loop-done.self.machine c.loop-done.self.notes (record { p = c.args.p; act = Load (behind c.args.va c.loop-done.done) c.piece-few.result }) r c.access.new.self.machine c.access.new.self.notes in
+    let P : ℕ → Type 0 = λ at. AnswersAfter g.D.Device c.loop-done.self.machine c.loop-done.self.notes (record { p = c.args.p; act = Load at c.piece-few.result }) c.in-Ok.answer c.access.new.self.machine c.access.new.self.notes in
+    let Q : Reply → Type 0 = λ r. AnswersAfter g.D.Device c.loop-done.self.machine c.loop-done.self.notes (record { p = c.args.p; act = Load (behind c.args.va c.loop-done.done) c.piece-few.result }) r c.access.new.self.machine c.access.new.self.notes in
     let answer = subst Q c.in-Some.ensures.some (subst P c.saturating_add-from.ensures c.in-Ok.ensures.ok) in
     let done : is_ok c.extend_from_slice.result ≡ true = c.is_err.ensures.negation ∙ ap not c.if-is_err.false in
     let items : c.extend_from_slice.new.self.items ≡ c.loop-done.bytes.items ++ c.in-Some.read.now = c.extend_from_slice.ensures.items ∙ ap (λ (b : Bool). if b then c.loop-done.bytes.items ++ c.as_slice.result.now else c.loop-done.bytes.items) done ∙ ap (λ l. c.loop-done.bytes.items ++ l) c.as_slice.ensures.same in
-    let R : List ℕ → Type 0 = λ b. Does g.D.Device c.args.self.now.machine c.args.self.now.notes (Loads c.args.p c.args.va (c.loop-done.done + c.piece-few.result) b) c.access.new.self.machine c.access.new.self.notes in
+    let R : List ℕ → Type 0 = λ b. Does g.D.Device c.args.self.now.machine c.args.self.now.notes (LoadsRange c.args.p c.args.va (c.loop-done.done + c.piece-few.result) b) c.access.new.self.machine c.access.new.self.notes in
     (omega (arith, c.piece-few.ensures.left, c.loop-done.invariant.0, c.loop-done-test.true), subst R (sym items) (loads_more g.D.Device _ _ _ _ _ _ c.args.p c.args.va c.loop-done.done c.piece-few.result c.loop-done.bytes.items c.in-Some.read.now c.loop-done.invariant.1 answer))
 
 pub returns : goal.returns

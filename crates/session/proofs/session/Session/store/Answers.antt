@@ -3,7 +3,7 @@ use Rattle.std.proofs.lemmas.List.{take_all}
 use Rattle.std.proofs.Math.Seq.{take-add}
 use Rattle.machine.specs.declared.act.Act.TheVariants.{Store}
 use Rattle.machine.specs.declared.act.Reply.{Reply}
-use Rattle.session.specs.Steps.{Answers, behind}
+use Rattle.session.specs.Steps.{AnswersAfter, behind}
 use Rattle.session.proofs.Pieces.{stores_more, stores_refused, stores_all}
 use Rattle.session.proofs.Stretches.{makes_none, answers_aside}
 use Rattle.session.proofs.session.Session.store.Goals as goal
@@ -21,8 +21,8 @@ pub loop-done-preserved : goal.loop-done-preserved
 loop-done-preserved g c =
     let bytes = c.args.bytes.now in
     let few = c.piece-few.result in
-    let P : ℕ → Type 0 = λ at. Answers g.D.Device c.loop-done.self.machine c.loop-done.self.notes (record { p = c.args.p; act = Store at c.part.result }) c.in-Ok.answer c.access.new.self.machine c.access.new.self.notes in
-    let Q : Reply → Type 0 = λ r. Answers g.D.Device c.loop-done.self.machine c.loop-done.self.notes (record { p = c.args.p; act = Store (behind c.args.va c.loop-done.done) c.part.result }) r c.access.new.self.machine c.access.new.self.notes in
+    let P : ℕ → Type 0 = λ at. AnswersAfter g.D.Device c.loop-done.self.machine c.loop-done.self.notes (record { p = c.args.p; act = Store at c.part.result }) c.in-Ok.answer c.access.new.self.machine c.access.new.self.notes in
+    let Q : Reply → Type 0 = λ r. AnswersAfter g.D.Device c.loop-done.self.machine c.loop-done.self.notes (record { p = c.args.p; act = Store (behind c.args.va c.loop-done.done) c.part.result }) r c.access.new.self.machine c.access.new.self.notes in
     let answer = subst Q (c.if-not-is_stored.ensures.is refl) (subst P c.saturating_add-from.ensures c.in-Ok.ensures.ok) in
     let span : c.loop-done.done + few - c.loop-done.done ≡ few = omega arith in
     let long : length (take c.loop-done.done bytes) ≡ c.loop-done.done = omega (arith, length-take c.loop-done.done bytes, c.loop-done.invariant.0) in
