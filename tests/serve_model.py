@@ -6,6 +6,7 @@ no TLB, no frames, no journal. Where an answer hangs on those, it says so.
 
 import json
 import re
+import struct
 
 PAGE = 4096
 RANGE = 65536
@@ -128,6 +129,29 @@ def request_of(line):
                 return ("stores", processor, at, bytes.fromhex(rest[1]))
         raise Bad("other arguments")
     return [step_of(value)]
+
+
+def files_of(volume):
+    """What the bytes of a volume recover to: home blocks, with the records of open journals in their places."""
+    count, slots = struct.unpack(">II", volume[8:16])
+    gates = [1] if volume[:8] == b"FAMSYNC1" else [1, 3 + slots]
+    journals = []
+    for gate in gates:
+        if volume[gate * PAGE] == 0xA7:
+            begin = (gate + 1) * PAGE
+            mark, records = struct.unpack(">QI", volume[begin : begin + 12])
+            homes = struct.unpack(f">{records}I", volume[begin + 16 : begin + 16 + 4 * records])
+            journals.append((mark, {home: gate + 2 + record for record, home in enumerate(homes)}))
+    places = {}
+    for _, records in sorted(journals, key=lambda journal: journal[0]):
+        places.update(records)
+    contents = []
+    for file in range(count):
+        begin = 64 + 48 * file
+        length, home, pages = struct.unpack(">QII", volume[begin : begin + 16])
+        blocks = (PAGE * places.get(block, block) for block in range(home, home + pages))
+        contents.append(b"".join(volume[block : block + PAGE] for block in blocks)[:length])
+    return contents
 
 
 class Model:
