@@ -162,8 +162,8 @@ class Model:
         self.memory = [bytearray((length + PAGE - 1) // PAGE * PAGE) for _, length in files]
         self.kept = [bytes(memory) for memory in self.memory]
         self.stored = set()
-        # pages of the last commit, whose write-out may still be under way
-        self.last = set()
+        # pages of the last two commits, whose write-outs may still be under way
+        self.last, self.earlier = set(), set()
         self.marks = 0
         self.spaces = {}
         self.current = [0] * cpus
@@ -243,7 +243,7 @@ class Model:
             return "noframe after a whole page, or after 0"
         cut = (act, processor, at, done if act == "loads" else bytes.fromhex(what[: 2 * done]))
         whole = self.range(cut)
-        stay = self.stored | self.last | self.past_the_end()
+        stay = self.stored | self.last | self.earlier | self.past_the_end()
         if len(stay) < frames:
             return f"a page more, as {len(stay)} have to stay in memory and there are {frames} frames"
         return f"noframe after {done}" + (" " + whole[7:] if act == "loads" and done > 0 else "")
@@ -251,7 +251,7 @@ class Model:
     def commit(self):
         self.marks += 1
         if self.stored:
-            self.last = set(self.stored)
+            self.last, self.earlier = set(self.stored), self.last
         for file, page in self.stored:
             kept = bytearray(self.kept[file])
             kept[page * PAGE : (page + 1) * PAGE] = self.memory[file][page * PAGE : (page + 1) * PAGE]
