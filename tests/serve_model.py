@@ -6,6 +6,7 @@ no TLB, no frames, no journal. Where an answer hangs on those, it says so.
 
 import json
 import re
+import struct
 
 PAGE = 4096
 RANGE = 65536
@@ -130,6 +131,29 @@ def request_of(line):
     return [step_of(value)]
 
 
+def files_of(volume):
+    """What the bytes of a volume recover to: home blocks, with the records of open journals in their places."""
+    count, slots = struct.unpack(">II", volume[8:16])
+    gates = [1] if volume[:8] == b"FAMSYNC1" else [1, 3 + slots]
+    journals = []
+    for gate in gates:
+        if volume[gate * PAGE] == 0xA7:
+            begin = (gate + 1) * PAGE
+            mark, records = struct.unpack(">QI", volume[begin : begin + 12])
+            homes = struct.unpack(f">{records}I", volume[begin + 16 : begin + 16 + 4 * records])
+            journals.append((mark, {home: gate + 2 + record for record, home in enumerate(homes)}))
+    places = {}
+    for _, records in sorted(journals, key=lambda journal: journal[0]):
+        places.update(records)
+    contents = []
+    for file in range(count):
+        begin = 64 + 48 * file
+        length, home, pages = struct.unpack(">QII", volume[begin : begin + 16])
+        blocks = (PAGE * places.get(block, block) for block in range(home, home + pages))
+        contents.append(b"".join(volume[block : block + PAGE] for block in blocks)[:length])
+    return contents
+
+
 class Model:
     """One processor, or several that are all active and in whatever space they were switched to."""
 
@@ -138,8 +162,8 @@ class Model:
         self.memory = [bytearray((length + PAGE - 1) // PAGE * PAGE) for _, length in files]
         self.kept = [bytes(memory) for memory in self.memory]
         self.stored = set()
-        # pages of the last commit, whose write-out may still be under way
-        self.last = set()
+        # pages of the last two commits, whose write-outs may still be under way
+        self.last, self.earlier = set(), set()
         self.marks = 0
         self.spaces = {}
         self.current = [0] * cpus
@@ -219,7 +243,7 @@ class Model:
             return "noframe after a whole page, or after 0"
         cut = (act, processor, at, done if act == "loads" else bytes.fromhex(what[: 2 * done]))
         whole = self.range(cut)
-        stay = self.stored | self.last | self.past_the_end()
+        stay = self.stored | self.last | self.earlier | self.past_the_end()
         if len(stay) < frames:
             return f"a page more, as {len(stay)} have to stay in memory and there are {frames} frames"
         return f"noframe after {done}" + (" " + whole[7:] if act == "loads" and done > 0 else "")
@@ -227,7 +251,7 @@ class Model:
     def commit(self):
         self.marks += 1
         if self.stored:
-            self.last = set(self.stored)
+            self.last, self.earlier = set(self.stored), self.last
         for file, page in self.stored:
             kept = bytearray(self.kept[file])
             kept[page * PAGE : (page + 1) * PAGE] = self.memory[file][page * PAGE : (page + 1) * PAGE]
