@@ -10,7 +10,9 @@ use Rattle.machine.specs.State.{Whole}
 use Rattle.session.specs.declared.notes.Notes.{Notes}
 use Rattle.session.specs.declared.ranges.Reached.TheVariants.{All, Refused, NoMemory}
 use Rattle.session.specs.Ranges.{Does, LoadsRange, LoadsReached, StoresRange, StoresReached}
-use Rattle.session.specs.Steps.{is_aside, AreAside, behind, AreLoads, AreStores, AnswersAfter, HasMade, IsTold}
+use Rattle.session.specs.Steps.{is_aside, behind, AreLoads, AreStores}
+use Rattle.session.specs.inside.Aside.{AreAside, AnswersAfter, IsTold}
+use Rattle.session.specs.inside.Made.{HasMade}
 use Rattle.session.proofs.Stretches.{makes_then}
 use Rattle.std.proofs.lemmas.List.Elements.{Contains-append_right}
 

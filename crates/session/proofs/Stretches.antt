@@ -11,7 +11,9 @@ use Rattle.machine.specs.Runs.{StepTaken, StepsTaken}
 use Rattle.machine.proofs.Tracks.{taken_then}
 use Rattle.session.specs.declared.notes.Notes.{Notes}
 use Rattle.session.specs.Notes.{noted_after, noted_all}
-use Rattle.session.specs.Steps.{Makes, HasMade, Says, is_aside, AreAside, GoesAside, IsTold, AnswersAfter, IsMarkDurable, CommitsMark}
+use Rattle.session.specs.Steps.{Makes, Says, is_aside, IsMarkDurable, CommitsMark}
+use Rattle.session.specs.inside.Aside.{AreAside, GoesAside, IsTold, AnswersAfter}
+use Rattle.session.specs.inside.Made.{HasMade}
 
 noted_then : (before : Notes) (replies more : List Reply) → noted_all before (replies ++ more) ≡ noted_all (noted_all before replies) more
 noted_then before [] more = refl

@@ -1,5 +1,5 @@
 -- What steps a request makes, and what they are answered.
-use Rattle.std.specs.Prelude.{ℕ, ⊤, ◌≡◌, ◌⊎◌, ◌+◌, ◌-◌, ◌^◌, min, Bool, true, false, not, List, [], ◌∷◌, ◌++◌, length, Contains}
+use Rattle.std.specs.Prelude.{ℕ, ◌≡◌, ◌⊎◌, ◌+◌, ◌-◌, ◌^◌, min, Bool, true, false, not, List, [], ◌∷◌, ◌++◌, length, Contains}
 use Rattle.device.specs.declared.device.Device.{Ghosts}
 use Rattle.machine.specs.declared.act.Act.{Act}
 use Rattle.machine.specs.declared.act.Act.TheVariants.{Load, Store, Fix, Reclaim, Ack, Change, Resume, Flush}
@@ -16,13 +16,6 @@ pub record Makes {D : Type 0} (disk : Ghosts D) (old : Whole D) (before : Notes)
     (replies : List Reply) (new : Whole D) (after : Notes) : Type 0 where
   pub taken : StepsTaken disk old steps replies new
   pub notes : after ≡ noted_all before replies
-
--- Steps were made.
-pub record HasMade {D : Type 0} (disk : Ghosts D) (old : Whole D) (before : Notes) (new : Whole D)
-    (after : Notes) : Type 0 where
-  pub steps : List Step
-  pub replies : List Reply
-  pub makes : Makes disk old before steps replies new after
 
 -- Steps were made, and this is one of their replies.
 pub record Says {D : Type 0} (disk : Ghosts D) (old : Whole D) (before : Notes) (reply : Reply) (new : Whole D)
@@ -54,46 +47,12 @@ is_aside Resume reply = true
 is_aside Flush reply = true
 is_aside act reply = false
 
--- an act that reads and stores nothing unless it is answered so
-abbrev pub TellsOrIsAside : Act → Type 0
-TellsOrIsAside act = (reply : Reply) → tells_bytes reply ≡ false → tells_stored reply ≡ false → is_aside act reply ≡ true
-
-abbrev pub AreAside : List Step → List Reply → Type 0
-AreAside [] [] = ⊤
-AreAside (step ∷ steps) (reply ∷ replies) = (is_aside step.act reply ≡ true) × AreAside steps replies
-AreAside steps replies = ⊥
-
--- Steps were made that read and store nothing.
-pub record GoesAside {D : Type 0} (disk : Ghosts D) (old : Whole D) (before : Notes) (new : Whole D)
-    (after : Notes) : Type 0 where
-  pub steps : List Step
-  pub replies : List Reply
-  pub makes : Makes disk old before steps replies new after
-  pub aside : AreAside steps replies
-
--- So they were, and this is one of their replies.
-pub record IsTold {D : Type 0} (disk : Ghosts D) (old : Whole D) (before : Notes) (reply : Reply) (new : Whole D)
-    (after : Notes) : Type 0 where
-  pub steps : List Step
-  pub replies : List Reply
-  pub makes : Makes disk old before steps replies new after
-  pub aside : AreAside steps replies
-  pub told : Contains replies reply
-
--- A step was made, after others that read and store nothing.
-pub record AnswersAfter {D : Type 0} (disk : Ghosts D) (old : Whole D) (before : Notes) (step : Step) (reply : Reply)
-    (new : Whole D) (after : Notes) : Type 0 where
-  pub steps : List Step
-  pub replies : List Reply
-  pub makes : Makes disk old before (steps ++ step ∷ []) (replies ++ reply ∷ []) new after
-  pub aside : AreAside steps replies
-
 -- the address that lies so far behind another one
 abbrev pub behind : ℕ → ℕ → ℕ
 behind va count = min (va + count) (2 ^ 64 - 1)
 
--- Of a range from an address on, the bytes from one offset to another were loaded, piece by piece in order: these bytes
--- are what the loads among the steps were answered, and the other steps read and store nothing.
+-- Of a range from an address on, the bytes from one offset to another were loaded, piece by piece in order: these
+-- bytes are what the loads among the steps were answered, and the other steps read and store nothing.
 abbrev pub AreLoads : ℕ → ℕ → ℕ → ℕ → List Step → List Reply → List ℕ → Type 0
 AreLoads p va from to [] [] bytes = (from ≡ to) × (bytes ≡ [])
 AreLoads p va from to (step ∷ steps) (reply ∷ replies) bytes =
@@ -102,8 +61,8 @@ AreLoads p va from to (step ∷ steps) (reply ∷ replies) bytes =
     × (reply ≡ Bytes few) × (bytes ≡ few ++ rest) × AreLoads p va (from + count) to steps replies rest)
 AreLoads p va from to steps replies bytes = ⊥
 
--- Of a range from an address on, these bytes were stored from an offset on, piece by piece in order, and the other steps
--- read and store nothing.
+-- Of a range from an address on, these bytes were stored from an offset on, piece by piece in order, and the other
+-- steps read and store nothing.
 abbrev pub AreStores : ℕ → ℕ → ℕ → List Step → List Reply → List ℕ → Type 0
 AreStores p va from [] [] bytes = bytes ≡ []
 AreStores p va from (step ∷ steps) (reply ∷ replies) bytes =

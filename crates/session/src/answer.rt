@@ -1,5 +1,5 @@
 // The line that answers a request.
-ghost use Rattle.session.specs.Steps.{HasMade};
+ghost use Rattle.session.specs.inside.Made.{HasMade};
 
 use crate::ranges::Reached;
 use crate::request::Request;

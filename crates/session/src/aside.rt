@@ -1,5 +1,5 @@
 // Steps that a session makes beside those that it was asked for: faults are served, and frames are made free.
-ghost use Rattle.session.specs.Steps.{GoesAside, IsTold};
+ghost use Rattle.session.specs.inside.Aside.{GoesAside, IsTold};
 
 use crate::session::Session;
 use device::Device;

@@ -12,7 +12,7 @@ use std::alloc::Allocator;
 
 impl<D: Device, A: Allocator + Copy> Session<D, A> {
     /// Commits all stores. Answers the number of the mark, which is acknowledged, or what a step was answered instead.
-    pub(crate) fn commit(&mut self, p: ProcessorNumber) -> Result<u32, Reply>
+    pub fn commit(&mut self, p: ProcessorNumber) -> Result<u32, Reply>
         ensures ok { IfOk result (λ mark. CommitsMark D.Device self.old.machine self.old.notes mark
             self.new.machine self.new.notes) }
         ensures err { IfErr result (λ reply. Says D.Device self.old.machine self.old.notes reply

@@ -17,6 +17,7 @@ mod session_fault;
 pub use files::{FileLine, Files};
 pub use line::{Line, read_line};
 pub use notes::Notes;
+pub use ranges::Reached;
 pub use request::{Request, read_request, read_shape};
 pub use request_fault::RequestFault;
 pub use serving::serve_on;

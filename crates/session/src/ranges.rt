@@ -1,7 +1,8 @@
 // Ranges of addresses, loaded and stored in steps of up to eight bytes.
 ghost use Rattle.std.specs.Prelude.{◌≡◌, ◌<◌, ◌≤◌, length, [], true, false, IfOk, IfErr, IfSome, IfNone, IsTrue};
 ghost use Rattle.machine.specs.declared.act.Reply.TheVariants as told;
-ghost use Rattle.session.specs.Steps.{IsTold, AnswersAfter, TellsOrIsAside, tells_bytes, tells_stored};
+ghost use Rattle.session.specs.Steps.{tells_bytes, tells_stored};
+ghost use Rattle.session.specs.inside.Aside.{IsTold, AnswersAfter, TellsOrIsAside};
 ghost use Rattle.session.specs.Ranges.{Does, LoadsReached, StoresReached};
 
 use crate::session::Session;
@@ -23,7 +24,7 @@ pub enum Reached {
 
 impl<D: Device, A: Allocator + Copy> Session<D, A> {
     /// Loads so many bytes from an address on.
-    pub(crate) fn load(
+    pub fn load(
         &mut self,
         p: ProcessorNumber,
         va: u64,
@@ -64,7 +65,7 @@ impl<D: Device, A: Allocator + Copy> Session<D, A> {
     }
 
     /// Stores bytes from an address on.
-    pub(crate) fn store(&mut self, p: ProcessorNumber, va: u64, bytes: &[u8]) -> Reached
+    pub fn store(&mut self, p: ProcessorNumber, va: u64, bytes: &[u8]) -> Reached
         ensures { Does D.Device self.old.machine self.old.notes (StoresReached p va bytes.now result)
             self.new.machine self.new.notes }
     {

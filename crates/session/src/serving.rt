@@ -4,7 +4,8 @@ ghost use Rattle.machine.specs.declared.act.Reply.{Reply};
 ghost use Rattle.machine.specs.declared.act.Shape.{Shape};
 ghost use Rattle.machine.specs.declared.act.Step.{Step};
 ghost use Rattle.engine.specs.Engine.{HasStarted, HasRun};
-ghost use Rattle.session.specs.Steps.{Makes, HasMade};
+ghost use Rattle.session.specs.Steps.{Makes};
+ghost use Rattle.session.specs.inside.Made.{HasMade};
 
 use crate::line::{Line, MOST_OF_LINE, read_line};
 use crate::request::read_request;

@@ -1,5 +1,5 @@
 use Rattle.std.proofs.Common.{◌≡◌}
-use Rattle.session.specs.Steps.{HasMade}
+use Rattle.session.specs.inside.Made.{HasMade}
 use Rattle.session.proofs.serving.serve_lines.Given as goal
 
 abbrev pub invariant-loop : goal.invariant-loop

@@ -1,4 +1,4 @@
-use Rattle.session.specs.Steps.{HasMade}
+use Rattle.session.specs.inside.Made.{HasMade}
 use Rattle.session.proofs.session.Session.answer_steps.Given as goal
 
 abbrev pub invariant-loop-i : goal.invariant-loop-i

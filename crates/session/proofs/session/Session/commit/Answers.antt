@@ -1,6 +1,7 @@
 use Rattle.std.proofs.Common.{subst, refl}
 use Rattle.machine.specs.declared.act.Reply.{Reply}
-use Rattle.session.specs.Steps.{IsTold, Says}
+use Rattle.session.specs.Steps.{Says}
+use Rattle.session.specs.inside.Aside.{IsTold}
 use Rattle.session.proofs.Stretches.{not_true, acknowledged_at_once, acknowledged_later, made_said, made_then, made_told, says_later, says_told}
 use Rattle.session.proofs.session.Session.commit.Goals as goal
 

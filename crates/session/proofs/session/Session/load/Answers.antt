@@ -3,7 +3,8 @@ use Rattle.std.specs.Result.{is_ok}
 use Rattle.machine.specs.declared.act.Act.TheVariants.{Load}
 use Rattle.machine.specs.declared.act.Reply.{Reply}
 use Rattle.session.specs.Ranges.{Does, LoadsRange}
-use Rattle.session.specs.Steps.{AnswersAfter, behind}
+use Rattle.session.specs.Steps.{behind}
+use Rattle.session.specs.inside.Aside.{AnswersAfter}
 use Rattle.session.proofs.Pieces.{loads_more, loads_refused, loads_cut, loads_all}
 use Rattle.session.proofs.Stretches.{makes_none, answers_aside}
 use Rattle.session.proofs.session.Session.load.Goals as goal

@@ -3,7 +3,8 @@ use Rattle.std.proofs.lemmas.List.{take_all}
 use Rattle.std.proofs.Math.Seq.{take-add}
 use Rattle.machine.specs.declared.act.Act.TheVariants.{Store}
 use Rattle.machine.specs.declared.act.Reply.{Reply}
-use Rattle.session.specs.Steps.{AnswersAfter, behind}
+use Rattle.session.specs.Steps.{behind}
+use Rattle.session.specs.inside.Aside.{AnswersAfter}
 use Rattle.session.proofs.Pieces.{stores_more, stores_refused, stores_all}
 use Rattle.session.proofs.Stretches.{makes_none, answers_aside}
 use Rattle.session.proofs.session.Session.store.Goals as goal

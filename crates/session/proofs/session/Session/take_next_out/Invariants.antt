@@ -1,4 +1,4 @@
-use Rattle.session.specs.Steps.{GoesAside}
+use Rattle.session.specs.inside.Aside.{GoesAside}
 use Rattle.session.proofs.session.Session.take_next_out.Given as goal
 
 abbrev pub invariant-loop : goal.invariant-loop

@@ -1,4 +1,4 @@
-use Rattle.session.specs.Steps.{HasMade}
+use Rattle.session.specs.inside.Made.{HasMade}
 use Rattle.session.proofs.session.Session.write_out.Given as goal
 
 abbrev pub invariant-loop : goal.invariant-loop

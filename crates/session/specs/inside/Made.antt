@@ -1,0 +1,15 @@
+-- That steps were made.
+use Rattle.std.specs.Prelude.{List}
+use Rattle.device.specs.declared.device.Device.{Ghosts}
+use Rattle.machine.specs.declared.act.Reply.{Reply}
+use Rattle.machine.specs.declared.act.Step.{Step}
+use Rattle.machine.specs.State.{Whole}
+use Rattle.session.specs.declared.notes.Notes.{Notes}
+use Rattle.session.specs.Steps.{Makes}
+
+-- Steps were made.
+pub record HasMade {D : Type 0} (disk : Ghosts D) (old : Whole D) (before : Notes) (new : Whole D)
+    (after : Notes) : Type 0 where
+  pub steps : List Step
+  pub replies : List Reply
+  pub makes : Makes disk old before steps replies new after
