@@ -6,7 +6,8 @@ ghost use Rattle.shootdown.specs.Calls.{HandsOut};
 ghost use Rattle.machine.specs.State.{home_of};
 ghost use Rattle.machine.specs.inside.Sound.{IsSound};
 ghost use Rattle.machine.specs.Rules.{Changes};
-ghost use Rattle.machine.specs.inside.Layers.{state_in, IsQuiet, IsPageOf, MayBegin, with_homes};
+ghost use Rattle.machine.specs.inside.Layers.{state_in, IsQuiet, IsPageOf, with_homes};
+ghost use Rattle.journal.specs.Standing.{MayBegin};
 
 use crate::Reply;
 use crate::layers::Layers;
