@@ -44,7 +44,7 @@ module _ {D : Type 0} (disk : Ghosts D) (files : List File) (start : Whole D) wh
       let capacities : s.lengths ≡ map (λ (f : TableFile). f.capacity) s.table.files = begins.lengths_are in
       let sound = fresh_sound s begins.fresh begins.volume.super_block.fits (ap length capacities ∙ length-lengths_in s.table (block_at (disk.seen start.device)))
       (λ file. let same : length_of s file ≡ capacity_of s file = ap (λ (l : List ℕ). get_or l file 0) capacities in omega (arith, same)) in
-      let has = files_at_start files s (disk.seen start.device) begins.volume begins.files_are begins.lengths_are in
+      let has = files_at_start files s (disk.seen start.device) sound begins.volume begins.files_are begins.lengths_are in
       let pages = pages_at_start files s begins.fresh has in
       let d = durable_at_start disk files start sound begins in
       record {

@@ -9,7 +9,7 @@ use Rattle.spaces.specs.Spaces.{entry_at}
 use Rattle.shootdown.specs.Shootdown.{processor_at}
 use Rattle.shootdown.specs.Coherence.{IsUsable}
 use Rattle.checkpoint.specs.Checkpoint.{Holds, is_held}
-use Rattle.machine.specs.State.{State, home_of, length_of}
+use Rattle.machine.specs.State.{State, home_of, length_of, part}
 
 -- the home blocks whose records aren't written yet
 abbrev pub waiting_homes : WriteOutsValue → List ℕ
@@ -40,7 +40,7 @@ pub record IsInFile (s : State) (owner : FilePage) : Type 0 where
 
 -- the bytes of a page up to its file's end
 abbrev pub within_file : State → FilePage → List ℕ → List ℕ
-within_file s owner bytes = take (length_of s owner.file - 4096 * owner.page) bytes
+within_file s owner bytes = part s.lengths owner bytes
 
 -- the list recovers to contents that have, for this page, these bytes up to its file's end
 pub record HasPart (s : State) (owner : FilePage) (bytes c : List ℕ) : Type 0 where
