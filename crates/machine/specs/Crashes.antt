@@ -4,7 +4,8 @@ use Rattle.device.specs.Device.{Only, LeavesOnly}
 use Rattle.device.specs.declared.device.Device.{Ghosts}
 use Rattle.volume_codec.specs.Files.{File}
 use Rattle.volume_codec.specs.Layout.{block_at}
-use Rattle.volume_codec.specs.Recovery.{IsVolume, files_in, lengths_in}
+use Rattle.volume_codec.specs.Lengths.{lengths_in}
+use Rattle.volume_codec.specs.Recovery.{IsVolume, files_in}
 use Rattle.machine.specs.declared.act.Reply.{Reply}
 use Rattle.machine.specs.declared.act.Step.{Step}
 use Rattle.machine.specs.State.{Whole}

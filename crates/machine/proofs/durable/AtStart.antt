@@ -10,7 +10,7 @@ use Rattle.machine.proofs.Names.{Places, AddressSpace, first_spaces, empty_space
 use Rattle.machine.proofs.Names.{is_running, fresh_shootdown, processor_at, Holds, CheckpointState, Shape, file_bytes}
 use Rattle.machine.proofs.Names.{Mark, Acknowledge, memory_of, State, length_of, Whole, home_of, cut_at_end, IsFresh}
 use Rattle.machine.proofs.Names.{fresh, Told, told_at_start, told_first, IsArranged, HasFiles, HasParts, AreContentsOf}
-use Rattle.machine.proofs.Names.{block_at, first_file_home, IsVolume, files_from, files_in, lengths_in, blocks_from}
+use Rattle.machine.proofs.Names.{block_at, first_file_home, IsVolume, files_from, files_in, lengths_in, blocks_from, no_lengths_blocks, fixed_lengths}
 use Rattle.machine.proofs.Names.{Contains, All, WriteOut, WriteOutsValue, none_of, has_uncommitted, IsStanding}
 use Rattle.machine.proofs.Names.{stands_first, bytes_at_mark, IsSound, Ghosts, Begins, IsInFile, within_file}
 use Rattle.std.specs.FinMap as maps
@@ -139,10 +139,13 @@ pub files_at_start : (files : List File) (s : State) (disk : List ℕ) → IsVol
 files_at_start files s disk volume files_are lengths_are =
     let b = first_file_home s.table.layout s.table.slots in
     let whole : (i : ℕ) → i < b + total_pages s.table.files → length (block_at disk i) ≡ 4096 = λ i high. length-block_at disk i (let long = volume.long in omega arith) in
+    let none = no_lengths_blocks s.table.layout in
+    let capacities = fixed_lengths s.table (block_at disk) none in
+    let are = files_are ∙ ap (files_from (block_at disk) b s.table.files) capacities in
     record {
-      named = ap (map (λ (f : File). let t : TableFile = record { name = f.name; capacity = f.capacity } in t)) files_are ∙ named_from (block_at disk) b s.table.files;
-      lengths = ap (map (λ (f : File). length f.bytes)) files_are ∙ lengths_from (block_at disk) b s.table.files whole ∙ sym lengths_are;
-      fixed = λ contents. sym lengths_are;
+      named = ap (map (λ (f : File). let t : TableFile = record { name = f.name; capacity = f.capacity } in t)) are ∙ named_from (block_at disk) b s.table.files;
+      lengths = ap (map (λ (f : File). length f.bytes)) are ∙ lengths_from (block_at disk) b s.table.files whole ∙ sym (lengths_are ∙ capacities);
+      fixed = λ contents. fixed_lengths s.table contents none ∙ sym (lengths_are ∙ capacities);
     }
 
 -- ---- the bytes of a file in the blocks of a volume

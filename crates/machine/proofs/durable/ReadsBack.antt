@@ -1,6 +1,6 @@
 -- What a crash may leave reads back as the files after a durable prefix of the history; frozen pages are protected.
 use Rattle.machine.proofs.Names.{ℕ, ◌⊎◌, inl, inr, List, Option, Some, None, ◌≡◌, Bool, true, false, MatchBool, refl}
-use Rattle.machine.proofs.Names.{sym, ap, ◌∙◌, ◌<◌, length, subst, File, SuperValue, Recovers, RecoversTo, Stage}
+use Rattle.machine.proofs.Names.{sym, ap, ◌∙◌, ◌<◌, length, subst, File, SuperValue, Recovers, RecoversTo, no_lengths_blocks, fixed_has_lengths, Stage}
 use Rattle.machine.proofs.Names.{Recording, Describing, SyncingRecords, Opening, Committing, current_stage, LeftWithin}
 use Rattle.machine.proofs.Names.{LeftBefore, stands_left, committed-at, stage_committed, Event, memory_of, after, Mark}
 use Rattle.machine.proofs.Names.{files_after, is_touched, State, ReadsBack, IsSound, Told, AreContentsOf}
@@ -33,7 +33,7 @@ pub reads_contents : (files : List File) (history : List Event) (s : State) → 
 reads_contents files history s sound has contents prefix are acknowledged c recovers = record {
   prefix = prefix;
   durable = record { rest = are.rest; begins = are.begins; marked = are.marked; acknowledged = acknowledged };
-  recovers = record { table = s.table; contents = contents; recovers = recovers; files_are = files_have files s sound has contents (after (memory_of files) prefix) are.whole are.parts };
+  recovers = record { table = s.table; contents = contents; recovers = recovers; lengths = fixed_has_lengths s.table contents (no_lengths_blocks s.table.layout); files_are = files_have files s sound has contents (after (memory_of files) prefix) are.whole are.parts };
 }
 
 pub reads_within : (files : List File) (told : Told) (s : State) → IsSound s → HasFiles files s → (old new : ℕ → List ℕ) → IsWritten files told s old new → (c : List ℕ) → LeftWithin s.table old new (current_stage s.write_outs) c → ReadsBack files told.history c
@@ -50,7 +50,7 @@ reads_now files told s seen may sound has is c left = reads_within files told s 
 
 module _ (files : List File) (told : Told) (s : State) (sound : IsSound s) (has : HasFiles files s) (old new : ℕ → List ℕ) (w : IsWritten files told s old new) (ordered : AreInOrder s.write_outs.batches) (c : List ℕ) where
   recovers_to : (contents : ℕ → List ℕ) (prefix : List Event) → AreContentsOf files told.history s contents prefix → Recovers s.table contents c → RecoversTo c (files_after files prefix)
-  recovers_to contents prefix are recovers = record { table = s.table; contents = contents; recovers = recovers; files_are = files_have files s sound has contents (after (memory_of files) prefix) are.whole are.parts }
+  recovers_to contents prefix are recovers = record { table = s.table; contents = contents; recovers = recovers; lengths = fixed_has_lengths s.table contents (no_lengths_blocks s.table.layout); files_are = files_have files s sound has contents (after (memory_of files) prefix) are.whole are.parts }
 
   -- where no batch waits, New is the files at the last acknowledged mark
   settled : ((n : ℕ) → IsWaiting s.write_outs.batches n → ⊥) → Recovers s.table new c → IsAcknowledged files told.history c

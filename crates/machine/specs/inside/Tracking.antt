@@ -5,7 +5,7 @@ use Rattle.std.specs.FinMap as maps
 use Rattle.page_entry.specs.declared.numbers.FilePage.{FilePage}
 use Rattle.frames.specs.Frames.{frame_at, bytes_of}
 use Rattle.volume_codec.specs.Files.{File}
-use Rattle.volume_codec.specs.Recovery.{lengths_in}
+use Rattle.volume_codec.specs.Lengths.{lengths_in}
 use Rattle.journal.specs.WriteOut.{WriteOut, has_committed}
 use Rattle.journal.specs.WriteOuts.{has_uncommitted}
 use Rattle.journal.specs.inside.Standing.{IsStanding}
