@@ -1,8 +1,8 @@
 -- The laws hold on the track of a run: each step of a tracked machine keeps it tracked.
 use Rattle.machine.proofs.Names.{ℕ, ◌≡◌, List, [], ◌∷◌, ◌++◌, length, map, get_or, refl, sym, ap, ◌∙◌, subst, arith}
-use Rattle.machine.proofs.Names.{Ghosts, File, TableFile, block_at, length-lengths_in, Act, Reply, Step, Whole}
-use Rattle.machine.proofs.Names.{length_of, Told, tell, tell_all, EachStep, IsLawful, told_first, StepTaken, StepsTaken}
-use Rattle.machine.proofs.Names.{Follows, Begins, StepIsSafe, Throughout, capacity_of, IsTracked, append-nil}
+use Rattle.machine.proofs.Names.{zero, suc, ◌≤◌, slice_get, Some, AreLengths, Ghosts, File, TableFile, Act, Reply, Step, Whole}
+use Rattle.machine.proofs.Names.{Told, tell, tell_all, EachStep, IsLawful, told_first, StepTaken, StepsTaken}
+use Rattle.machine.proofs.Names.{Follows, Begins, StepIsSafe, Throughout, IsTracked, append-nil}
 use Rattle.machine.proofs.Names.{append_assoc, IsOnTrack}
 use Rattle.machine.proofs.sound.AtBoot.{fresh_sound}
 use Rattle.machine.proofs.durable.Steps.{tracked_kept, step_safe}
@@ -36,14 +36,25 @@ module _ {D : Type 0} (Safe : Told → Whole D → Step → Reply → Whole D �
 
 -- ---- runs
 
+-- each length is at most its file's capacity, and where there is no file both are 0
+lengths_within : (fs : List TableFile) (lengths : List ℕ) → length lengths ≡ length fs
+    → ((i n : ℕ) (f : TableFile) → slice_get fs i ≡ Some f → slice_get lengths i ≡ Some n → n ≤ f.capacity)
+    → (file : ℕ) → get_or lengths file 0 ≤ get_or (map (λ (f : TableFile). f.capacity) fs) file 0
+lengths_within [] [] count within file = omega arith
+lengths_within [] (n ∷ lengths) count within file = absurd (omega (arith, count))
+lengths_within (f ∷ fs) [] count within file = absurd (omega (arith, count))
+lengths_within (f ∷ fs) (n ∷ lengths) count within zero = within 0 n f refl refl
+lengths_within (f ∷ fs) (n ∷ lengths) count within (suc file) =
+    lengths_within fs lengths (omega (arith, count)) (λ i m g at size. within (suc i) m g at size) file
+
 module _ {D : Type 0} (disk : Ghosts D) (files : List File) (start : Whole D) where
   -- they hold of no steps
   pub follows_first : Begins disk files start → Follows disk files start [] [] start
   follows_first begins =
       let s = start.state in
-      let capacities : s.lengths ≡ map (λ (f : TableFile). f.capacity) s.table.files = begins.lengths_are in
-      let sound = fresh_sound s begins.fresh begins.volume.super_block.fits (ap length capacities ∙ length-lengths_in s.table (block_at (disk.seen start.device)))
-      (λ file. let same : length_of s file ≡ capacity_of s file = ap (λ (l : List ℕ). get_or l file 0) capacities in omega (arith, same)) in
+      let are : AreLengths s.table s.lengths = subst (AreLengths s.table) (sym begins.lengths_are) begins.fit.are in
+      let sound = fresh_sound s begins.fresh begins.volume.super_block.fits are.count
+      (lengths_within s.table.files s.lengths are.count are.within) in
       let has = files_at_start files s (disk.seen start.device) sound begins.volume begins.files_are begins.lengths_are in
       let pages = pages_at_start files s begins.fresh has in
       let d = durable_at_start disk files start sound begins in
