@@ -1,10 +1,10 @@
 -- The laws hold on the track of a run: each step of a tracked machine keeps it tracked.
 use Rattle.machine.proofs.Names.{ℕ, ◌≡◌, List, [], ◌∷◌, ◌++◌, length, map, get_or, refl, sym, ap, ◌∙◌, subst, arith}
-use Rattle.machine.proofs.Names.{zero, suc, ◌≤◌, slice_get, Some, AreLengths, Ghosts, File, TableFile, Act, Reply, Step, Whole}
+use Rattle.machine.proofs.Names.{AreLengths, Ghosts, File, Act, Reply, Step, Whole}
 use Rattle.machine.proofs.Names.{Told, tell, tell_all, EachStep, IsLawful, told_first, StepTaken, StepsTaken}
 use Rattle.machine.proofs.Names.{Follows, Begins, StepIsSafe, Throughout, IsTracked, append-nil}
 use Rattle.machine.proofs.Names.{append_assoc, IsOnTrack}
-use Rattle.machine.proofs.sound.AtBoot.{fresh_sound}
+use Rattle.machine.proofs.sound.AtBoot.{fresh_sound, lengths_within}
 use Rattle.machine.proofs.durable.Steps.{tracked_kept, step_safe}
 use Rattle.machine.proofs.durable.AtStart.{durable_at_start, arranged_at_start, pages_at_start, files_at_start}
 use Rattle.machine.proofs.track.Lawful.{lawful}
@@ -35,17 +35,6 @@ module _ {D : Type 0} (Safe : Told → Whole D → Step → Reply → Whole D �
   each_more P told old steps replies now step reply run each here = absurd run
 
 -- ---- runs
-
--- each length is at most its file's capacity, and where there is no file both are 0
-lengths_within : (fs : List TableFile) (lengths : List ℕ) → length lengths ≡ length fs
-    → ((i n : ℕ) (f : TableFile) → slice_get fs i ≡ Some f → slice_get lengths i ≡ Some n → n ≤ f.capacity)
-    → (file : ℕ) → get_or lengths file 0 ≤ get_or (map (λ (f : TableFile). f.capacity) fs) file 0
-lengths_within [] [] count within file = omega arith
-lengths_within [] (n ∷ lengths) count within file = absurd (omega (arith, count))
-lengths_within (f ∷ fs) [] count within file = absurd (omega (arith, count))
-lengths_within (f ∷ fs) (n ∷ lengths) count within zero = within 0 n f refl refl
-lengths_within (f ∷ fs) (n ∷ lengths) count within (suc file) =
-    lengths_within fs lengths (omega (arith, count)) (λ i m g at size. within (suc i) m g at size) file
 
 module _ {D : Type 0} (disk : Ghosts D) (files : List File) (start : Whole D) where
   -- they hold of no steps
