@@ -101,7 +101,7 @@ pub use Rattle.machine.specs.inside.Moves.{SameDirty, Saying, Silent, Store, Sto
 pub use Rattle.machine.specs.inside.Moves.{said, said_all}
 pub use Rattle.machine.specs.inside.Sound.{AreOlderCommitted, AreSpacesSound, AreWriteOutsSound, IsMemory}
 pub use Rattle.machine.specs.inside.Sound.{IsMemorySound, IsPrepared, IsSound, capacity_of}
-pub use Rattle.machine.specs.inside.Tracking.{AreContentsOf, AreMarks, ArePlain, AreTouched, AreWithin}
+pub use Rattle.machine.specs.inside.Tracking.{AreContentsOf, AreMarks, ArePlain, AreTouched}
 pub use Rattle.machine.specs.inside.Tracking.{HasAcknowledged, HasFiles}
 pub use Rattle.machine.specs.inside.Tracking.{HasParts, IsArranged, IsLatest, IsLost, IsTracked, IsWaiting, IsWritten}
 pub use Rattle.machine.specs.inside.Tracking.{change_in, pending_in}
@@ -207,12 +207,15 @@ pub use Rattle.std.specs.Option.{IfNone, IfSome, option_and_then, option_map, op
 pub use Rattle.std.specs.Ordering.{nat_cmp}
 pub use Rattle.std.specs.Prelude.{IfErr, IfOk, IsTrue, MatchBool, min, nat_lt}
 pub use Rattle.volume_codec.proofs.Public.{blocks_from-device, fits_geometry, length-block_at, length-file}
-pub use Rattle.volume_codec.proofs.Public.{length-lengths_in, length-padded, length-zeros, take-past}
+pub use Rattle.volume_codec.proofs.Public.{has_lengths-same, length-lengths_in, length-padded, length-zeros, lengths_in-same}
+pub use Rattle.volume_codec.proofs.Public.{take-past}
 pub use Rattle.volume_codec.proofs.Public.{total_pages-take_le, total_pages-take_more, zeros-nil}
 pub use Rattle.volume_codec.specs.Descriptor.{AreHomes, RiseWithin}
 pub use Rattle.volume_codec.specs.Files.{File, TableFile}
 pub use Rattle.volume_codec.specs.Layout.{GeometryValue, IsHome, block_at, first_file_home, first_home, journals_of}
+pub use Rattle.volume_codec.specs.Layout.{lengths_blocks}
 pub use Rattle.volume_codec.specs.Recovery.{Batch, IsDamaged, IsNotAVolume, IsVolume, Recovers, RecoversTo, blocks_from}
-pub use Rattle.volume_codec.specs.Recovery.{files_from, files_in, lengths_in}
+pub use Rattle.volume_codec.specs.Lengths.{AreLengths, HasLengths, lengths_in}
+pub use Rattle.volume_codec.specs.Recovery.{files_from, files_in}
 pub use Rattle.volume_codec.specs.Super.{Fits, SuperValue, block_count, geometry_of, pages_of, total_pages}
 pub use Rattle.volume_codec.specs.Text.{padded, zeros}

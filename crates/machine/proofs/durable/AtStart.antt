@@ -9,7 +9,7 @@ use Rattle.machine.proofs.Names.{zeros, padded, length-padded, length-block_at, 
 use Rattle.machine.proofs.Names.{Places, AddressSpace, first_spaces, empty_space, Processor, fresh_processor}
 use Rattle.machine.proofs.Names.{is_running, fresh_shootdown, processor_at, Holds, CheckpointState, Shape, file_bytes}
 use Rattle.machine.proofs.Names.{Mark, Acknowledge, memory_of, State, length_of, Whole, home_of, cut_at_end, IsFresh}
-use Rattle.machine.proofs.Names.{fresh, Told, told_at_start, told_first, IsArranged, HasFiles, HasParts, AreContentsOf, AreWithin}
+use Rattle.machine.proofs.Names.{fresh, Told, told_at_start, told_first, IsArranged, HasFiles, HasParts, AreContentsOf}
 use Rattle.machine.proofs.Names.{block_at, first_file_home, IsVolume, files_from, files_in, lengths_in, blocks_from}
 use Rattle.machine.proofs.Names.{Contains, All, WriteOut, WriteOutsValue, none_of, has_uncommitted, IsStanding}
 use Rattle.machine.proofs.Names.{stands_first, bytes_at_mark, IsSound, Ghosts, Begins, IsInFile, within_file}
@@ -241,7 +241,7 @@ durable_at_start ghosts files start sound begins =
       begins = refl;
       marked = inl refl;
       whole = λ file page. length-page_of (file_bytes files file) page;
-      within = subst (AreWithin s.table) (sym has.lengths) sound.within;
+      fits = begins.fit;
       same_lengths = sym begins.lengths_are ∙ sym has.lengths;
       parts = subst (λ (l : List ℕ). HasParts s.table l (block_at disk) (memory_of files)) (sym has.lengths) parts;
     } in

@@ -1,11 +1,11 @@
 -- Contents that have the parts of files have these files.
 use Rattle.machine.proofs.Names.{◌≡◌, ℕ, zero, suc, ◌+◌, ◌-◌, ◌*◌, ◌<◌, ◌≤◌, List, [], ◌∷◌, ◌++◌, length, map, take}
-use Rattle.machine.proofs.Names.{get_or, refl, sym, ap, ◌∙◌, subst, inl, inr, arith, drop, cases_lt, take-append-le}
-use Rattle.machine.proofs.Names.{take_all, length-take, length-map, append-nil, length-drop, File}
+use Rattle.machine.proofs.Names.{get_or, slice_get, Some, refl, sym, ap, ◌∙◌, subst, inl, inr, arith, drop, cases_lt}
+use Rattle.machine.proofs.Names.{take-append-le, take_all, length-take, length-map, append-nil, length-drop, File}
 use Rattle.machine.proofs.Names.{TableFile, first_file_home, block_at, pages_of, total_pages, blocks_from, files_from}
 use Rattle.machine.proofs.Names.{files_in, take-past, zeros-nil, blocks_from-device, Memory}
 use Rattle.machine.proofs.Names.{bytes_of_pages, files_from_memory, Event, file_bytes, memory_of, files_after, after}
-use Rattle.machine.proofs.Names.{SuperValue, lengths_of, lengths_after, lengths_in, home_of, HasParts, AreWithin}
+use Rattle.machine.proofs.Names.{SuperValue, lengths_of, lengths_after, lengths_in, home_of, HasParts, AreLengths}
 use Rattle.machine.proofs.Names.{AreContentsOf, zeros, AreDurable}
 use Rattle.machine.specs.History.{page_of}
 use Rattle.machine.proofs.durable.AtStart.{file_bytes-next, length-page_of}
@@ -72,18 +72,18 @@ in_table f = record { name = f.name; capacity = f.capacity }
 pub record HasPartsFrom (contents : ℕ → List ℕ) (memory : Memory) (k b : ℕ) (fs : List File) (lengths : List ℕ) : Type 0 where
   pub parts : (i page : ℕ) → i < length fs → 4096 * page < get_or lengths i 0
       → take (get_or lengths i 0 - 4096 * page) (contents (b + total_pages (take i (map in_table fs)) + page)) ≡ take (get_or lengths i 0 - 4096 * page) (memory (k + i) page)
-  pub fits : (i : ℕ) → get_or lengths i 0 ≤ get_or (map (λ (f : TableFile). f.capacity) (map in_table fs)) i 0
+  pub fits : (i n : ℕ) (f : TableFile) → slice_get (map in_table fs) i ≡ Some f → slice_get lengths i ≡ Some n → n ≤ f.capacity
 
 pub same_files : (contents : ℕ → List ℕ) (memory : Memory) (k b : ℕ) (fs : List File) (lengths : List ℕ) → ((file page : ℕ) → length (memory file page) ≡ 4096) → HasPartsFrom contents memory k b fs lengths
     → files_from_memory k fs lengths memory ≡ files_from contents b (map in_table fs) lengths
 same_files contents memory k b [] lengths whole are = refl
 same_files contents memory k b (f ∷ fs) [] whole are = refl
 same_files contents memory k b (f ∷ fs) (n ∷ lengths) whole are =
-    let fits : n ≤ f.capacity = are.fits 0 in
+    let fits : n ≤ f.capacity = are.fits 0 n (in_table f) refl refl in
     let bytes : bytes_of_pages (memory k) n ≡ take n (blocks_from contents b (pages_of f.capacity)) =
     same_bytes contents (memory k) (pages_of n) (pages_of f.capacity) b 0 n (whole k) first (omega arith) (omega (arith, fits)) in
     let rest : files_from_memory (k + 1) fs lengths memory ≡ files_from contents (b + pages_of f.capacity) (map in_table fs) lengths =
-    same_files contents memory (k + 1) (b + pages_of f.capacity) fs lengths whole (record { parts = later; fits = λ i. are.fits (suc i) }) in
+    same_files contents memory (k + 1) (b + pages_of f.capacity) fs lengths whole (record { parts = later; fits = λ i m g file size. are.fits (suc i) m g file size }) in
     λ i. record { name = f.name; bytes = bytes i; capacity = f.capacity } ∷ rest i
   where
     first : (page : ℕ) → 4096 * page < n → take (n - 4096 * page) (contents (b + page)) ≡ take (n - 4096 * page) (memory k (0 + page))
@@ -103,7 +103,7 @@ same_files contents memory k b (f ∷ fs) (n ∷ lengths) whole are =
 -- ---- the files of a table
 
 module _ (files : List File) (table : SuperValue) (named : map in_table files ≡ table.files) where
-  parts_from : (contents : ℕ → List ℕ) (memory : Memory) (lengths : List ℕ) → AreWithin table lengths → HasParts table lengths contents memory → HasPartsFrom contents memory 0 (first_file_home table.layout table.slots) files lengths
+  parts_from : (contents : ℕ → List ℕ) (memory : Memory) (lengths : List ℕ) → AreLengths table lengths → HasParts table lengths contents memory → HasPartsFrom contents memory 0 (first_file_home table.layout table.slots) files lengths
   parts_from contents memory lengths within parts = record {
     parts = λ i page lt inside.
         let file : i ≡ 0 + i = omega arith in
@@ -111,11 +111,11 @@ module _ (files : List File) (table : SuperValue) (named : map in_table files �
         ap (λ (l : List TableFile). first_file_home table.layout table.slots + total_pages (take i l) + page) (sym named) in
         sym (ap (λ k. take (get_or lengths i 0 - 4096 * page) (contents k)) home) ∙ parts (record { file = i; page = page }) (omega (arith, lt, ap length named, length-map files in_table)) inside
         ∙ ap (λ k. take (get_or lengths i 0 - 4096 * page) (memory k page)) file;
-    fits = λ i. subst (λ (l : List TableFile). get_or lengths i 0 ≤ get_or (map (λ (f : TableFile). f.capacity) l) i 0) (sym named) (within i);
+    fits = λ i n f file size. within.within i n f (sym (ap (λ (l : List TableFile). slice_get l i) named) ∙ file) size;
   }
 
   -- contents that have the parts of a memory have its files
-  pub files_have : (contents : ℕ → List ℕ) (memory : Memory) (lengths : List ℕ) → ((file page : ℕ) → length (memory file page) ≡ 4096) → AreWithin table lengths → lengths_in table contents ≡ lengths → HasParts table lengths contents memory
+  pub files_have : (contents : ℕ → List ℕ) (memory : Memory) (lengths : List ℕ) → ((file page : ℕ) → length (memory file page) ≡ 4096) → AreLengths table lengths → lengths_in table contents ≡ lengths → HasParts table lengths contents memory
       → files_from_memory 0 files lengths memory ≡ files_in table contents
   files_have contents memory lengths whole within same parts =
       same_files contents memory 0 (first_file_home table.layout table.slots) files lengths whole (parts_from contents memory lengths within parts)
@@ -125,7 +125,7 @@ module _ (files : List File) (table : SuperValue) (named : map in_table files �
   -- so have contents after a prefix of a history
   pub prefix_has : (history : List Event) (contents : ℕ → List ℕ) (prefix : List Event) → AreContentsOf files history table contents prefix → files_after files prefix ≡ files_in table contents
   prefix_has history contents prefix are =
-      files_have contents (after (memory_of files) prefix) (lengths_after (lengths_of files) prefix) are.whole are.within are.same_lengths are.parts
+      files_have contents (after (memory_of files) prefix) (lengths_after (lengths_of files) prefix) are.whole (subst (AreLengths table) are.same_lengths are.fits.are) are.same_lengths are.parts
 
 -- ---- files to which nothing was stored are as they were
 

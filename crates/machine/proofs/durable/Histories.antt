@@ -361,7 +361,7 @@ contents_more files history events s x same contents prefix are =
       begins = begins_more prefix are.rest history events are.begins;
       marked = are.marked;
       whole = are.whole;
-      within = are.within;
+      fits = are.fits;
       same_lengths = are.same_lengths;
       parts = are.parts;
     })

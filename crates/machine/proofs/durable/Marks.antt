@@ -12,8 +12,10 @@ use Rattle.machine.proofs.Names.{stands_begun, stands_other, Checkpoint, Spaces,
 use Rattle.machine.proofs.Names.{without_notes, Event, Memory, Mark, Acknowledge, memory_of, after, has_unmarked}
 use Rattle.machine.proofs.Names.{is_touched, State, home_of, cut_at_end, MarkMade, end_change, with_batch}
 use Rattle.machine.proofs.Names.{bytes_at_mark, IsSound, Told, change_in, HasParts, AreContentsOf, HasAcknowledged}
-use Rattle.machine.proofs.Names.{IsWaiting, IsWritten, IsLatest, AreTouched, IsInFile, within_file, part, AreWithin}
-use Rattle.machine.proofs.Names.{HasFiles, lengths_in, lengths_of, lengths_after}
+use Rattle.machine.proofs.Names.{IsWaiting, IsWritten, IsLatest, AreTouched, IsInFile, within_file, part, HasLengths}
+use Rattle.machine.proofs.Names.{HasFiles, lengths_in, lengths_of, lengths_after, lengths_blocks, first_home}
+use Rattle.machine.proofs.Names.{lengths_in-same, has_lengths-same}
+use Rattle.machine.proofs.durable.Lists.{contains_unmapped}
 use Rattle.machine.proofs.durable.Histories.{marked_by, after_mark, after_marked, lengths_mark, only_itself, only_marked, unmarked_by_touched, in_history, acknowledged_more, some_touched, contents_more}
 use Rattle.machine.proofs.durable.Uncommitted.{committed_frozen, none_uncommitted, begun_early}
 use Rattle.machine.proofs.durable.Homes.{within_cut, overlaid, overlaid-other, overlaid-at, overlaid-elsewhere, bytes_at_mark-held}
@@ -123,13 +125,13 @@ module _ (files : List File) (told : Told) (s : State) (p number : ℕ) (seen : 
     in_file outs owner is = record { there = is.there; inside = is.inside }
 
     -- contents that have the memory and the lengths of now
-    made_contents : (contents : ℕ → List ℕ) → lengths_in s.table contents ≡ s.lengths → HasParts s.table s.lengths contents memory → AreContentsOf files longer s.table contents made
-    made_contents contents lengths parts = record {
+    made_contents : (contents : ℕ → List ℕ) → HasLengths s.table contents → lengths_in s.table contents ≡ s.lengths → HasParts s.table s.lengths contents memory → AreContentsOf files longer s.table contents made
+    made_contents contents fits lengths parts = record {
       rest = cond (has_unmarked history) [] (Acknowledge number ∷ []);
       begins = append_assoc history (Mark number ∷ []) (cond (has_unmarked history) [] (Acknowledge number ∷ []));
       marked = inr (history, number, refl);
       whole = λ file page. ap length (same_made file page) ∙ latest.whole file page;
-      within = subst (AreWithin s.table) (sym lengths_made) sound.within;
+      fits = fits;
       same_lengths = lengths ∙ sym lengths_made;
       parts = subst (λ (l : List ℕ). HasParts s.table l contents (after (memory_of files) made)) (sym lengths_made)
           (λ owner there inside. parts owner there inside ∙ sym (ap (part s.lengths owner) (same_made owner.file owner.page)));
@@ -184,10 +186,10 @@ module _ (files : List File) (told : Told) (s : State) (p number : ℕ) (seen : 
         stands = stands_other s.table old new new s.write_outs seen may committed stands;
         written = record {
           before = made;
-          old_are = made_contents new w.same_lengths all_parts;
+          old_are = made_contents new w.new_are.fits w.same_lengths all_parts;
           acknowledged = made_acknowledged;
           marked = made;
-          new_are = made_contents new w.same_lengths all_parts;
+          new_are = made_contents new w.new_are.fits w.same_lengths all_parts;
           grown = made_acknowledged;
           marks = All-weaker (λ (x : WriteOut). Contains w.marked (Mark x.batch.mark)) (λ (x : WriteOut). Contains made (Mark x.batch.mark)) (λ x has. in_made (Mark x.batch.mark) has) s.write_outs.batches w.marks;
           fresh = λ y there early has. none_early y there early;
@@ -261,8 +263,16 @@ module _ (files : List File) (told : Told) (s : State) (p number : ℕ) (seen : 
       next_contents = overlaid s pages new
 
       -- the lengths are those that New had
+      same_block : 0 < lengths_blocks s.table.layout → next_contents (first_home s.table.layout s.table.slots) ≡ new (first_home s.table.layout s.table.slots)
+      same_block some = overlaid-other s pages new (first_home s.table.layout s.table.slots) (λ has.
+          let at = contains_unmapped (home_of s.table) pages (first_home s.table.layout s.table.slots) has in
+          let home = at.2 in absurd (omega (arith, home, some)))
+
       next_lengths : lengths_in s.table next_contents ≡ s.lengths
-      next_lengths = w.same_lengths
+      next_lengths = lengths_in-same s.table next_contents new same_block ∙ w.same_lengths
+
+      next_fits : HasLengths s.table next_contents
+      next_fits = has_lengths-same s.table new next_contents (λ some. sym (same_block some)) w.new_are.fits
 
       next_parts : HasParts s.table s.lengths next_contents memory
       next_parts owner there inside = let is : IsInFile s owner = record { there = there; inside = inside } in elim (cases_Bool (is_touched history owner.file owner.page)) [
@@ -302,7 +312,7 @@ module _ (files : List File) (told : Told) (s : State) (p number : ℕ) (seen : 
               old_are = contents_more files history (marked_by history number) s x (record { table = refl; lengths = refl }) new w.marked w.new_are;
               acknowledged = acknowledged_more w.marked history (marked_by history number) (λ n has. absurd (waits n has)) w.grown;
               marked = made;
-              new_are = made_contents next_contents next_lengths next_parts;
+              new_are = made_contents next_contents next_fits next_lengths next_parts;
               grown = made_acknowledged;
               marks = All-push (λ (y : WriteOut). Contains made (Mark y.batch.mark)) s.write_outs.batches (begun_of (next_batch s.write_outs number homes))
                   (All-weaker (λ (y : WriteOut). Contains w.marked (Mark y.batch.mark)) (λ (y : WriteOut). Contains made (Mark y.batch.mark)) (λ y has. in_made (Mark y.batch.mark) has) s.write_outs.batches w.marks)

@@ -33,7 +33,7 @@ pub reads_contents : (files : List File) (history : List Event) (s : State) → 
 reads_contents files history s sound has contents prefix are acknowledged c recovers = record {
   prefix = prefix;
   durable = record { rest = are.rest; begins = are.begins; marked = are.marked; acknowledged = acknowledged };
-  recovers = record { table = s.table; contents = contents; recovers = recovers; files_are = prefix_has files s.table has.named history contents prefix are };
+  recovers = record { table = s.table; contents = contents; recovers = recovers; lengths = are.fits; files_are = prefix_has files s.table has.named history contents prefix are };
 }
 
 pub reads_within : (files : List File) (told : Told) (s : State) → IsSound s → HasFiles files told.history s → (old new : ℕ → List ℕ) → IsWritten files told s old new → (c : List ℕ) → LeftWithin s.table old new (current_stage s.write_outs) c → ReadsBack files told.history c
@@ -50,7 +50,7 @@ reads_now files told s seen may sound has is c left = reads_within files told s 
 
 module _ (files : List File) (told : Told) (s : State) (sound : IsSound s) (has : HasFiles files told.history s) (old new : ℕ → List ℕ) (w : IsWritten files told s old new) (ordered : AreInOrder s.write_outs.batches) (c : List ℕ) where
   recovers_to : (contents : ℕ → List ℕ) (prefix : List Event) → AreContentsOf files told.history s.table contents prefix → Recovers s.table contents c → RecoversTo c (files_after files prefix)
-  recovers_to contents prefix are recovers = record { table = s.table; contents = contents; recovers = recovers; files_are = prefix_has files s.table has.named told.history contents prefix are }
+  recovers_to contents prefix are recovers = record { table = s.table; contents = contents; recovers = recovers; lengths = are.fits; files_are = prefix_has files s.table has.named told.history contents prefix are }
 
   -- where no batch waits, New is the files at the last acknowledged mark
   settled : ((n : ℕ) → IsWaiting s.write_outs.batches n → ⊥) → Recovers s.table new c → IsAcknowledged files told.history c

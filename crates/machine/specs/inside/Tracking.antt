@@ -6,7 +6,7 @@ use Rattle.page_entry.specs.declared.numbers.FilePage.{FilePage}
 use Rattle.frames.specs.Frames.{frame_at, bytes_of}
 use Rattle.volume_codec.specs.Files.{File}
 use Rattle.volume_codec.specs.Super.{SuperValue}
-use Rattle.volume_codec.specs.Recovery.{lengths_in}
+use Rattle.volume_codec.specs.Lengths.{HasLengths, lengths_in}
 use Rattle.journal.specs.WriteOut.{WriteOut, has_committed}
 use Rattle.journal.specs.WriteOuts.{has_uncommitted}
 use Rattle.journal.specs.inside.Standing.{IsStanding}
@@ -83,11 +83,6 @@ HasParts table lengths contents memory = (owner : FilePage) → owner.file < len
     → 4096 * owner.page < slice_index_or lengths owner.file 0
     → part lengths owner (contents (home_of table owner)) ≡ part lengths owner (memory owner.file owner.page)
 
--- each of these lengths is at most the file's capacity
-abbrev pub AreWithin : SuperValue → List ℕ → Type 0
-AreWithin table lengths = (file : ℕ)
-    → slice_index_or lengths file 0 ≤ slice_index_or (map (λ f. f.capacity) table.files) file 0
-
 -- the contents are those after a marked prefix of the history, with the lengths after that prefix
 pub record AreContentsOf (files : List File) (history : List Event) (table : SuperValue) (contents : ℕ → List ℕ)
     (prefix : List Event) : Type 0 where
@@ -95,7 +90,7 @@ pub record AreContentsOf (files : List File) (history : List Event) (table : Sup
   pub begins : prefix ++ rest ≡ history
   pub marked : IsMarked prefix
   pub whole : (file page : ℕ) → length (after (memory_of files) prefix file page) ≡ 4096
-  pub within : AreWithin table (lengths_after (lengths_of files) prefix)
+  pub fits : HasLengths table contents
   pub same_lengths : lengths_in table contents ≡ lengths_after (lengths_of files) prefix
   pub parts : HasParts table (lengths_after (lengths_of files) prefix) contents (after (memory_of files) prefix)
 
