@@ -36,7 +36,7 @@ impl<D: Device, A: Allocator + Copy> Layers<D, A> {
         self.shootdown.admit_free(p)?;
         let pcid = self.shootdown.space(p);
         let place = fault::place(&self.spaces, pcid, va, write)?;
-        let length = file_length(&self.table, place.file);
+        let length = file_length(&self.lengths, place.file);
         if length <= PAGE * u64::from(place.page) {
             return Err(Refusal::BusAdrErr);
         }

@@ -17,6 +17,8 @@ use volume_codec::Super;
 #[derive(Drop)]
 pub(crate) struct Layers<D: Device, A: Allocator + Copy> {
     pub(crate) table: Super<A>,
+    // The length of each file in bytes.
+    pub(crate) lengths: Vec<u64, A>,
     pub(crate) shootdown: Shootdown<A>,
     pub(crate) spaces: Spaces<A>,
     pub(crate) frames: Frames<A>,

@@ -9,7 +9,7 @@ use Rattle.machine.proofs.Names.{stands_left, Act, Reply, Step, Event, Memory, A
 use Rattle.machine.proofs.Names.{State, Whole, home_of, end_change, FlushMade, HasStepped, FlushFailed, MarkMade, with_batch}
 use Rattle.machine.proofs.Names.{work_asked, reply_to, after_record, after_failure, Told, tell, ended_by, ReadsBack}
 use Rattle.machine.proofs.Names.{StepIsSafe, StopsInStep, step_work, StepMade, StepTaken, IsSound, IsArranged}
-use Rattle.machine.proofs.Names.{IsTracked, said_all, IsMoved, Performed, Moved, Marked, Failed}
+use Rattle.machine.proofs.Names.{lengths_of, IsTracked, said_all, IsMoved, Performed, Moved, Marked, Failed}
 use Rattle.page_entry.specs.declared.refusal.Refusal.TheVariants as refusals
 use Rattle.journal.specs.declared.flushed.Flushed.TheVariants as flushed
 use Rattle.machine.specs.declared.act.Act.TheVariants as acts
@@ -17,7 +17,7 @@ use Rattle.machine.specs.declared.act.Reply.TheVariants as replies
 use Rattle.machine.specs.inside.Moves.{Flushed as Stepped}
 use Rattle.machine.proofs.sound.Kept.{performed_sound}
 use Rattle.machine.proofs.acts.All.{performed}
-use Rattle.machine.proofs.durable.Histories.{written_as, marked_by, after_marked, AreQuiet, quiet_nothing, quiet_acknowledge, touched_mark, SameFiles}
+use Rattle.machine.proofs.durable.Histories.{written_as, marked_by, after_marked, lengths_marked, resized_mark, AreQuiet, quiet_nothing, quiet_acknowledge, touched_mark, SameFiles}
 use Rattle.machine.proofs.durable.Marks.{IsDurable, marked_durable}
 use Rattle.machine.proofs.durable.Flushes.{flush_within, flush_failed, flush_goes_on, flush_commits}
 use Rattle.machine.proofs.durable.ReadsBack.{reads_within, reads_now, stops_within}
@@ -174,7 +174,8 @@ module _ (files : List File) (told : Told) (s : State) (disk : List ℕ) (may : 
     marked_pages =
         let memory = after_marked (memory_of files) told.history number in
         subst (HasPages files marked) (sym made.done) (record {
-          files_are = files_kept files s _ (record { table = refl; lengths = refl }) has.files_are;
+          files_are = files_kept files told.history marked.history s _ (record { table = refl; lengths = refl }) (lengths_marked (lengths_of files) told.history number)
+              (resized_mark told.history number (has_unmarked told.history)) has.files_are;
           latest = record {
             whole = λ file page. ap (λ (m : Memory). length (m file page)) memory ∙ has.latest.whole file page;
             latest = λ frame owner holds. has.latest.latest frame owner holds ∙ ap (λ (m : Memory). m owner.file owner.page) (sym memory);
@@ -190,7 +191,7 @@ module _ (files : List File) (told : Told) (s : State) (disk : List ℕ) (may : 
     marking told_is work same_disk =
         outcome_as marked Nothing told_is work (tracked_of marked marked_arranged marked_pages
         (durable_as files (record told { history = told.history ++ marked_by told.history number }) marked new disk disk' may' refl same_disk
-        (marked_durable files told s p number disk may' t.old t.new t.sound t.latest t.touched (stands_less s.table s.write_outs t.old t.new disk may may' (left_by Nothing work) t.stands) t.written made.next made.may.lock new made (fits number made)))) left_now
+        (marked_durable files told s p number disk may' t.old t.new t.sound t.files_are t.latest t.touched (stands_less s.table s.write_outs t.old t.new disk may may' (left_by Nothing work) t.stands) t.written made.next made.may.lock new made (fits number made)))) left_now
 
   -- ---- a step of the write-outs
 

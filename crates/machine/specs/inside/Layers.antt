@@ -4,7 +4,7 @@ use Rattle.page_entry.specs.declared.refusal.Refusal.{Refusal}
 use Rattle.page_entry.specs.declared.numbers.FilePage.{FilePage}
 use Rattle.mappings.specs.declared.page_range.PageRange.{PageRange}
 use Rattle.mappings.specs.declared.place.Rights.{Rights}
-use Rattle.volume_codec.specs.Super.{SuperValue, block_count, capacities_in}
+use Rattle.volume_codec.specs.Super.{SuperValue, block_count}
 use Rattle.spaces.specs.declared.change.Change.{Change}
 use Rattle.spaces.specs.declared.change.Change.TheVariants.{Unmap, Protect}
 use Rattle.shootdown.specs.declared.lock.Lock.{Lock}
@@ -18,11 +18,11 @@ use Rattle.machine.specs.State.{State, Whole, home_of, cut_at_end}
 use Rattle.machine.specs.Refusals.{pages_in_file}
 use Rattle.machine.specs.inside.Sound.{IsSound}
 
--- the state of a machine with these layers; in these layouts a file is as long as its capacity
+-- the state of a machine with these layers
 abbrev pub state_in : {D Z : Type 0} → Layers D Z → State
 state_in m = record {
   table = m.table;
-  lengths = capacities_in m.table;
+  lengths = m.lengths.items;
   hardware = record { shootdown = m.shootdown; spaces = m.spaces.map; memory = m.frames };
   checkpoint = m.checkpoint;
   write_outs = m.write_outs;
