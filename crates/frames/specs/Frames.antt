@@ -63,10 +63,8 @@ all_free frames copies = record { frames = replicate frames None; copies = repli
 
 -- with a frame for this page, with these bytes
 abbrev pub with_page : FramesState → ℕ → FilePage → List ℕ → FramesState
-with_page s frame page bytes = record s {
-  frames = slice_set s.frames frame
-      (Some (record { page = page; bytes = bytes }));
-}
+with_page s frame page bytes =
+    record s { frames = slice_set s.frames frame (Some (record { page = page; bytes = bytes })) }
 
 -- with a frame free
 abbrev pub without_frame : FramesState → ℕ → FramesState
@@ -74,10 +72,8 @@ without_frame s frame = record s { frames = slice_set s.frames frame None }
 
 -- with bytes written into a frame from a place on
 abbrev pub with_bytes : FramesState → ℕ → ℕ → List ℕ → FramesState
-with_bytes s frame at bytes = record s {
-  frames = slice_set s.frames frame
-      (overwrite_frame (frame_at s frame) at bytes);
-}
+with_bytes s frame at bytes =
+    record s { frames = slice_set s.frames frame (overwrite_frame (frame_at s frame) at bytes) }
 
 -- with a copy of a frame
 abbrev pub with_copy : FramesState → ℕ → ℕ → FramesState
