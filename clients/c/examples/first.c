@@ -6,7 +6,9 @@ int main(void)
 {
     famsync *volume;
     famsync_memory *memory;
-    if (famsync_open("bank.vol", NULL, &volume) != FAMSYNC_OK || famsync_memory_open(volume, "bank", &memory) != FAMSYNC_OK)
+    if (famsync_open("bank.vol", NULL, &volume) != FAMSYNC_OK)
+        return 1;
+    if (famsync_memory_open(volume, "bank", &memory) != FAMSYNC_OK)
         return 1;
     long *balance = famsync_memory_at(memory);
     for (;;) {
