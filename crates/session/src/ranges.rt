@@ -1,8 +1,8 @@
 // Ranges of addresses, loaded and stored in steps of up to eight bytes.
 ghost use Rattle.std.specs.Prelude.{◌≡◌, ◌<◌, ◌≤◌, length, [], true, false, IfOk, IfErr, IfSome, IfNone, IsTrue};
 ghost use Rattle.machine.specs.declared.act.Reply.TheVariants as told;
-ghost use Rattle.session.specs.Steps.{tells_bytes, tells_stored};
-ghost use Rattle.session.specs.inside.Aside.{IsTold, AnswersAfter, TellsOrIsAside};
+ghost use Rattle.session.specs.Steps.{tells_bytes, tells_stored, tells_fixed};
+ghost use Rattle.session.specs.inside.Aside.{StopsAt, AnswersAfter, TellsOrIsAside};
 ghost use Rattle.session.specs.Ranges.{Does, LoadsReached, StoresReached};
 
 use crate::session::Session;
@@ -101,7 +101,7 @@ impl<D: Device, A: Allocator + Copy> Session<D, A> {
         requires { TellsOrIsAside step.now.act }
         ensures ok { IfOk result (λ reply. AnswersAfter D.Device self.old.machine self.old.notes step.now reply
             self.new.machine self.new.notes) }
-        ensures err { IfErr result (λ reply. IsTold D.Device self.old.machine self.old.notes reply
+        ensures err { IfErr result (λ reply. StopsAt D.Device self.old.machine self.old.notes step.now.p va reply
             self.new.machine self.new.notes) }
     {
         for _ in 0..u64::MAX {
@@ -155,7 +155,9 @@ fn is_fault(reply: &Reply) -> bool
     matches!(reply, Reply::Refused(Refusal::Fault(_)))
 }
 
-fn is_fixed(reply: &Reply) -> bool {
+fn is_fixed(reply: &Reply) -> bool
+    ensures { result ≡ tells_fixed reply.now }
+{
     matches!(reply, Reply::Fixed)
 }
 
