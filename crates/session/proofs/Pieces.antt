@@ -9,7 +9,7 @@ use Rattle.device.specs.declared.device.Device.{Ghosts}
 use Rattle.machine.specs.State.{Whole}
 use Rattle.session.specs.declared.notes.Notes.{Notes}
 use Rattle.session.specs.declared.ranges.Reached.TheVariants.{All, Refused, NoMemory}
-use Rattle.session.specs.Ranges.{Does, LoadsRange, LoadsReached, StoresRange, StoresReached}
+use Rattle.session.specs.Ranges.{MakesStepsThat, LoadsRange, LoadsReached, StoresRange, StoresReached}
 use Rattle.session.specs.Steps.{Makes, is_aside, behind, EndsAt, AreLoads, AreStores}
 use Rattle.session.specs.inside.Aside.{AreAside, AnswersAfter, StopsAt}
 use Rattle.session.specs.inside.Made.{HasMade}
@@ -84,8 +84,8 @@ stores_ended p va from [] (other ∷ replies) bytes at reply steps' replies' fir
 stores_ended p va from (step ∷ steps) [] bytes at reply steps' replies' first ended = absurd first
 
 -- a piece more was loaded
-pub loads_more : {D : Type 0} (disk : Ghosts D) (old mid new : Whole D) (before between after : Notes) (p va done count : ℕ) (bytes few : List ℕ) → Does disk old before (LoadsRange p va done bytes) mid between
-    → AnswersAfter disk mid between (record { p = p; act = Load (behind va done) count }) (Bytes few) new after → Does disk old before (LoadsRange p va (done + count) (bytes ++ few)) new after
+pub loads_more : {D : Type 0} (disk : Ghosts D) (old mid new : Whole D) (before between after : Notes) (p va done count : ℕ) (bytes few : List ℕ) → MakesStepsThat disk old before (LoadsRange p va done bytes) mid between
+    → AnswersAfter disk mid between (record { p = p; act = Load (behind va done) count }) (Bytes few) new after → MakesStepsThat disk old before (LoadsRange p va (done + count) (bytes ++ few)) new after
 loads_more disk old mid new before between after p va done count bytes few first answer =
     let step : Step = record { p = p; act = Load (behind va done) count } in
     record {
@@ -97,8 +97,8 @@ loads_more disk old mid new before between after p va done count bytes few first
     }
 
 -- and no further one
-pub loads_refused : {D : Type 0} (disk : Ghosts D) (old mid new : Whole D) (before between after : Notes) (p va count done : ℕ) (bytes : List ℕ) (reply : Reply) → done < count → Does disk old before (LoadsRange p va done bytes) mid between
-    → StopsAt disk mid between p (behind va done) reply new after → Does disk old before (LoadsReached p va count bytes (Refused done reply)) new after
+pub loads_refused : {D : Type 0} (disk : Ghosts D) (old mid new : Whole D) (before between after : Notes) (p va count done : ℕ) (bytes : List ℕ) (reply : Reply) → done < count → MakesStepsThat disk old before (LoadsRange p va done bytes) mid between
+    → StopsAt disk mid between p (behind va done) reply new after → MakesStepsThat disk old before (LoadsReached p va count bytes (Refused done reply)) new after
 loads_refused disk old mid new before between after p va count done bytes reply fewer first told =
     let P : List ℕ → Type 0 = λ b. AreLoads p va 0 done (first.steps ++ told.steps) (first.replies ++ told.replies) b in
     record {
@@ -113,8 +113,8 @@ loads_refused disk old mid new before between after p va count done bytes reply 
     }
 
 -- a piece more was stored
-pub stores_more : {D : Type 0} (disk : Ghosts D) (old mid new : Whole D) (before between after : Notes) (p va done : ℕ) (bytes few now : List ℕ) → length bytes ≡ done → bytes ++ few ≡ now → Does disk old before (StoresRange p va bytes) mid between
-    → AnswersAfter disk mid between (record { p = p; act = Store (behind va done) few }) Stored new after → Does disk old before (StoresRange p va now) new after
+pub stores_more : {D : Type 0} (disk : Ghosts D) (old mid new : Whole D) (before between after : Notes) (p va done : ℕ) (bytes few now : List ℕ) → length bytes ≡ done → bytes ++ few ≡ now → MakesStepsThat disk old before (StoresRange p va bytes) mid between
+    → AnswersAfter disk mid between (record { p = p; act = Store (behind va done) few }) Stored new after → MakesStepsThat disk old before (StoresRange p va now) new after
 stores_more disk old mid new before between after p va done bytes few now long all first answer =
     let step : Step = record { p = p; act = Store (behind va done) few } in
     let P : ℕ → Type 0 = λ n. AreStores p va n (answer.steps ++ step ∷ []) (answer.replies ++ Stored ∷ []) few in
@@ -132,8 +132,8 @@ stores_more disk old mid new before between after p va done bytes few now long a
     }
 
 -- and no further one
-pub stores_refused : {D : Type 0} (disk : Ghosts D) (old mid new : Whole D) (before between after : Notes) (p va done : ℕ) (bytes : List ℕ) (reply : Reply) → done < length bytes → Does disk old before (StoresRange p va (take done bytes)) mid between
-    → StopsAt disk mid between p (behind va done) reply new after → Does disk old before (StoresReached p va bytes (Refused done reply)) new after
+pub stores_refused : {D : Type 0} (disk : Ghosts D) (old mid new : Whole D) (before between after : Notes) (p va done : ℕ) (bytes : List ℕ) (reply : Reply) → done < length bytes → MakesStepsThat disk old before (StoresRange p va (take done bytes)) mid between
+    → StopsAt disk mid between p (behind va done) reply new after → MakesStepsThat disk old before (StoresReached p va bytes (Refused done reply)) new after
 stores_refused disk old mid new before between after p va done bytes reply fewer first told =
     let P : List ℕ → Type 0 = λ b. AreStores p va 0 (first.steps ++ told.steps) (first.replies ++ told.replies) b in
     record {
@@ -148,34 +148,34 @@ stores_refused disk old mid new before between after p va done bytes reply fewer
     }
 
 -- where memory is refused, the piece was loaded all the same
-pub loads_cut : {D : Type 0} (disk : Ghosts D) (old new : Whole D) (before after : Notes) (p va count done : ℕ) (bytes bytes' : List ℕ) → done ≤ count → Does disk old before (LoadsRange p va done bytes) new after
-    → Does disk old before (LoadsReached p va count bytes' NoMemory) new after
+pub loads_cut : {D : Type 0} (disk : Ghosts D) (old new : Whole D) (before after : Notes) (p va count done : ℕ) (bytes bytes' : List ℕ) → done ≤ count → MakesStepsThat disk old before (LoadsRange p va done bytes) new after
+    → MakesStepsThat disk old before (LoadsReached p va count bytes' NoMemory) new after
 loads_cut disk old new before after p va count done bytes bytes' fits it = record { steps = it.steps; replies = it.replies; makes = it.makes; holds = (done, bytes, fits, it.holds) }
 
-pub loads_all : {D : Type 0} (disk : Ghosts D) (old new : Whole D) (before after : Notes) (p va count done : ℕ) (bytes : List ℕ) → done ≡ count → Does disk old before (LoadsRange p va done bytes) new after → Does disk old before (LoadsReached p va count bytes All) new after
+pub loads_all : {D : Type 0} (disk : Ghosts D) (old new : Whole D) (before after : Notes) (p va count done : ℕ) (bytes : List ℕ) → done ≡ count → MakesStepsThat disk old before (LoadsRange p va done bytes) new after → MakesStepsThat disk old before (LoadsReached p va count bytes All) new after
 loads_all disk old new before after p va count done bytes whole it =
     let P : ℕ → Type 0 = λ n. AreLoads p va 0 n it.steps it.replies bytes in
     record { steps = it.steps; replies = it.replies; makes = it.makes; holds = subst P whole it.holds }
 
-pub stores_all : {D : Type 0} (disk : Ghosts D) (old new : Whole D) (before after : Notes) (p va : ℕ) (some bytes : List ℕ) → some ≡ bytes → Does disk old before (StoresRange p va some) new after → Does disk old before (StoresReached p va bytes All) new after
+pub stores_all : {D : Type 0} (disk : Ghosts D) (old new : Whole D) (before after : Notes) (p va : ℕ) (some bytes : List ℕ) → some ≡ bytes → MakesStepsThat disk old before (StoresRange p va some) new after → MakesStepsThat disk old before (StoresReached p va bytes All) new after
 stores_all disk old new before after p va some bytes whole it =
     let P : List ℕ → Type 0 = λ b. AreStores p va 0 it.steps it.replies b in
     record { steps = it.steps; replies = it.replies; makes = it.makes; holds = subst P whole it.holds }
 
-pub made_does : {D : Type 0} (disk : Ghosts D) (old new : Whole D) (before after : Notes) (what : List Step → List Reply → Type 0) → Does disk old before what new after → HasMade disk old before new after
+pub made_does : {D : Type 0} (disk : Ghosts D) (old new : Whole D) (before after : Notes) (what : List Step → List Reply → Type 0) → MakesStepsThat disk old before what new after → HasMade disk old before new after
 made_does disk old new before after what it = record { steps = it.steps; replies = it.replies; makes = it.makes }
 
-pub does_nothing : {D : Type 0} (disk : Ghosts D) (old : Whole D) (before : Notes) (what : List Step → List Reply → Type 0) → what [] [] → Does disk old before what old before
+pub does_nothing : {D : Type 0} (disk : Ghosts D) (old : Whole D) (before : Notes) (what : List Step → List Reply → Type 0) → what [] [] → MakesStepsThat disk old before what old before
 does_nothing disk old before what holds = record { steps = []; replies = []; makes = makes_none disk old before; holds = holds }
 
 -- what was done is more than was asked
-pub does_more : {D : Type 0} (disk : Ghosts D) (old new : Whole D) (before after : Notes) (what more : List Step → List Reply → Type 0) → ((steps : List Step) (replies : List Reply) → what steps replies → more steps replies) → Does disk old before what new after
-    → Does disk old before more new after
+pub does_more : {D : Type 0} (disk : Ghosts D) (old new : Whole D) (before after : Notes) (what more : List Step → List Reply → Type 0) → ((steps : List Step) (replies : List Reply) → what steps replies → more steps replies) → MakesStepsThat disk old before what new after
+    → MakesStepsThat disk old before more new after
 does_more disk old new before after what more all it = record { steps = it.steps; replies = it.replies; makes = it.makes; holds = all it.steps it.replies it.holds }
 
 -- one more of the steps that were asked for
 pub first_more : {D : Type 0} (disk : Ghosts D) (old mid new : Whole D) (before between after : Notes) (wanted : List Step) (i : ℕ) (step : Step) (reply : Reply) → i < length wanted → step ≡ get_or wanted i step
-    → Does disk old before (λ steps replies. steps ≡ take i wanted) mid between → Makes disk mid between (step ∷ []) (reply ∷ []) new after → Does disk old before (λ steps replies. steps ≡ take (i + 1) wanted) new after
+    → MakesStepsThat disk old before (λ steps replies. steps ≡ take i wanted) mid between → Makes disk mid between (step ∷ []) (reply ∷ []) new after → MakesStepsThat disk old before (λ steps replies. steps ≡ take (i + 1) wanted) new after
 first_more disk old mid new before between after wanted i step reply below at first made = record {
   steps = first.steps ++ step ∷ [];
   replies = first.replies ++ reply ∷ [];

@@ -37,7 +37,7 @@ StoresReached p va bytes (Refused reached reply) steps replies =
 StoresReached p va bytes NoMemory steps replies = ⊥
 
 -- Steps were made of which this holds.
-pub record Does {D : Type 0} (disk : Ghosts D) (old : Whole D) (before : Notes)
+pub record MakesStepsThat {D : Type 0} (disk : Ghosts D) (old : Whole D) (before : Notes)
     (what : List Step → List Reply → Type 0) (new : Whole D) (after : Notes) : Type 0 where
   pub steps : List Step
   pub replies : List Reply

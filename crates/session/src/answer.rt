@@ -1,6 +1,6 @@
 // The line that answers a request.
 ghost use Rattle.session.specs.Asked.{asked, AreFirst, IsDoneFor};
-ghost use Rattle.session.specs.Ranges.{Does};
+ghost use Rattle.session.specs.Ranges.{MakesStepsThat};
 ghost use Rattle.session.specs.Requests.{asks_load, asks_store, asks_commit};
 
 use crate::ranges::Reached;
@@ -21,7 +21,7 @@ impl<D: Device, A: Allocator + Copy> Session<D, A> {
         request: &Request<A>,
         out: &mut W,
     ) -> Result<(), SessionFault>
-        ensures { Does D.Device self.old.machine self.old.notes (IsDoneFor (asked request.now))
+        ensures { MakesStepsThat D.Device self.old.machine self.old.notes (IsDoneFor (asked request.now))
             self.new.machine self.new.notes }
     {
         match request {
@@ -38,7 +38,7 @@ impl<D: Device, A: Allocator + Copy> Session<D, A> {
         steps: &[Step],
         out: &mut W,
     ) -> Result<(), SessionFault>
-        ensures { Does D.Device self.old.machine self.old.notes (AreFirst steps.now)
+        ensures { MakesStepsThat D.Device self.old.machine self.old.notes (AreFirst steps.now)
             self.new.machine self.new.notes }
     {
         for (i, step) in steps.iter().enumerate() {
@@ -58,7 +58,7 @@ impl<D: Device, A: Allocator + Copy> Session<D, A> {
         count: u64,
         out: &mut W,
     ) -> Result<(), SessionFault>
-        ensures { Does D.Device self.old.machine self.old.notes (IsDoneFor (asks_load p va count))
+        ensures { MakesStepsThat D.Device self.old.machine self.old.notes (IsDoneFor (asks_load p va count))
             self.new.machine self.new.notes }
     {
         let count = count as usize;
@@ -76,7 +76,7 @@ impl<D: Device, A: Allocator + Copy> Session<D, A> {
         bytes: &[u8],
         out: &mut W,
     ) -> Result<(), SessionFault>
-        ensures { Does D.Device self.old.machine self.old.notes (IsDoneFor (asks_store p va bytes.now))
+        ensures { MakesStepsThat D.Device self.old.machine self.old.notes (IsDoneFor (asks_store p va bytes.now))
             self.new.machine self.new.notes }
     {
         let reached = self.store(p, va, bytes);
@@ -88,7 +88,7 @@ impl<D: Device, A: Allocator + Copy> Session<D, A> {
         p: ProcessorNumber,
         out: &mut W,
     ) -> Result<(), SessionFault>
-        ensures { Does D.Device self.old.machine self.old.notes (IsDoneFor (asks_commit p))
+        ensures { MakesStepsThat D.Device self.old.machine self.old.notes (IsDoneFor (asks_commit p))
             self.new.machine self.new.notes }
     {
         let committed = self.commit(p);

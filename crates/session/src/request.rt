@@ -189,10 +189,7 @@ fn step_alone<A: Allocator + Copy>(alloc: A, value: &Value) -> Result<Request<A>
     Ok(Request::Steps(steps))
 }
 
-fn load_of<A: Allocator + Copy>(
-    p: &Value,
-    arguments: &[Value],
-) -> Result<Request<A>, RequestFault>
+fn load_of<A: Allocator + Copy>(p: &Value, arguments: &[Value]) -> Result<Request<A>, RequestFault>
     ensures ok { IfOk result (λ request. load_of (view p.now) (map view arguments.now) ≡ Some (asked request)) }
     ensures err { IfErr result (λ fault. load_of (view p.now) (map view arguments.now) ≡ None) }
 {
@@ -296,10 +293,7 @@ fn bytes_of<A: Allocator + Copy>(alloc: A, value: &Value) -> Result<Vec<u8, A>, 
     }
 }
 
-fn bytes_of_digits<A: Allocator + Copy>(
-    alloc: A,
-    digits: &str,
-) -> Result<Vec<u8, A>, RequestFault>
+fn bytes_of_digits<A: Allocator + Copy>(alloc: A, digits: &str) -> Result<Vec<u8, A>, RequestFault>
     ensures ok { IfOk result (λ bytes. digits_of digits.now ≡ Some bytes.items) }
     ensures err { IfErr result (λ fault. IsMemory fault ⊎ (digits_of digits.now ≡ None)) }
 {

@@ -5,7 +5,7 @@ ghost use Rattle.machine.specs.declared.act.Shape.{Shape};
 ghost use Rattle.machine.specs.declared.act.Step.{Step};
 ghost use Rattle.engine.specs.Engine.{HasStarted, HasRun};
 ghost use Rattle.session.specs.Asked.{IsServedFor};
-ghost use Rattle.session.specs.Ranges.{Does};
+ghost use Rattle.session.specs.Ranges.{MakesStepsThat};
 ghost use Rattle.session.specs.Steps.{Makes};
 ghost use Rattle.session.specs.inside.Made.{HasMade};
 
@@ -93,7 +93,7 @@ pub fn serve_line<D: Device, A: Allocator + Copy, W: io::Write>(
     line: &[u8],
     out: &mut W,
 ) -> Result<(), SessionFault>
-    ensures { Does D.Device session.old.machine session.old.notes (IsServedFor line.now)
+    ensures { MakesStepsThat D.Device session.old.machine session.old.notes (IsServedFor line.now)
         session.new.machine session.new.notes }
 {
     match read_request(global, alloc, line) {
