@@ -13,7 +13,7 @@ use Rattle.machine.specs.State.{Whole}
 use Rattle.machine.specs.Runs.{StepTaken, StepsTaken}
 use Rattle.session.specs.declared.notes.Notes.{Notes}
 use Rattle.session.specs.Notes.{noted_after, noted_all}
-use Rattle.session.specs.Steps.{Makes, Says, is_aside, is_of_commit, AreOfCommit, ends, EndsAt, IsMarkDurable, CommitsMark}
+use Rattle.session.specs.Steps.{Makes, Says, is_aside, is_of_commit, AreOfCommit, may_end, EndsAt, IsMarkDurable, CommitsMark}
 use Rattle.session.specs.inside.Aside.{AreAside, GoesAside, IsTold, StopsAt, AnswersAfter}
 use Rattle.session.specs.inside.Made.{HasMade, GoesOn}
 
@@ -160,7 +160,7 @@ answers_aside disk old new before after step reply is answer = record {
 }
 
 -- one step that ends a range
-pub stops_one : {D : Type 0} (disk : Ghosts D) (old new : Whole D) (before after : Notes) (step : Step) (at : ℕ) (reply : Reply) → is_aside step.act reply ≡ true → ends at step.act reply ≡ true → Makes disk old before (step ∷ []) (reply ∷ []) new after
+pub stops_one : {D : Type 0} (disk : Ghosts D) (old new : Whole D) (before after : Notes) (step : Step) (at : ℕ) (reply : Reply) → is_aside step.act reply ≡ true → may_end at step.act reply ≡ true → Makes disk old before (step ∷ []) (reply ∷ []) new after
     → StopsAt disk old before step.p at reply new after
 stops_one disk old new before after step at reply is ended made = record { steps = step ∷ []; replies = reply ∷ []; makes = made; aside = (is, tt); ends = inl (refl, ended, refl) }
 
@@ -183,7 +183,7 @@ stops_before disk old mid new before between after p at reply first later = reco
 }
 
 -- an access that ends a range
-pub answers_stop : {D : Type 0} (disk : Ghosts D) (old new : Whole D) (before after : Notes) (step : Step) (at : ℕ) (reply : Reply) → is_aside step.act reply ≡ true → ends at step.act reply ≡ true → AnswersAfter disk old before step reply new after
+pub answers_stop : {D : Type 0} (disk : Ghosts D) (old new : Whole D) (before after : Notes) (step : Step) (at : ℕ) (reply : Reply) → is_aside step.act reply ≡ true → may_end at step.act reply ≡ true → AnswersAfter disk old before step reply new after
     → StopsAt disk old before step.p at reply new after
 answers_stop disk old new before after step at reply is ended answer = record {
   steps = answer.steps ++ step ∷ [];

@@ -26,8 +26,8 @@ count_of = whole_number 65536
 abbrev pub digits_of : List ℕ → Option (List ℕ)
 digits_of digits = if nat_le (length digits) 131072 then result_ok (decode_of digits) else None
 
-abbrev pub bytes_of : Data → Option (List ℕ)
-bytes_of value = if_some (as_str value) digits_of
+abbrev pub bytes_in_digits : Data → Option (List ℕ)
+bytes_in_digits value = if_some (as_str value) digits_of
 
 -- an address and a count
 abbrev pub load_of : Data → List Data → Option Asked
@@ -38,7 +38,7 @@ load_of p _ = None
 -- an address and the digits of bytes
 abbrev pub store_of : Data → List Data → Option Asked
 store_of p (va ∷ digits ∷ []) = if_some (byte_of p)
-    (λ p. if_some (long_of va) (λ va. if_some (bytes_of digits) (λ bytes. Some (asks_store p va bytes))))
+    (λ p. if_some (long_of va) (λ va. if_some (bytes_in_digits digits) (λ bytes. Some (asks_store p va bytes))))
 store_of p _ = None
 
 abbrev pub commit_of : Data → List Data → Option Asked
@@ -50,18 +50,18 @@ abbrev pub step_alone : Data → Option Asked
 step_alone value = option_map (λ step. asks_steps (step ∷ [])) (step_of value)
 
 -- a processor, a name and arguments: a range, a commit, or else a step
-abbrev pub named : Data → Option (List ℕ) → Data → List Data → Option Asked
-named value None p arguments = step_alone value
-named value (Some name) p arguments =
+abbrev pub named_request : Data → Option (List ℕ) → Data → List Data → Option Asked
+named_request value None p arguments = step_alone value
+named_request value (Some name) p arguments =
     if bytes_eq name (codes "loads") then load_of p arguments
     else if bytes_eq name (codes "stores") then store_of p arguments
     else if bytes_eq name (codes "commit") then commit_of p arguments
     else step_alone value
 
 -- a list whose first item isn't a list
-abbrev pub alone : Data → Data → List Data → Option Asked
-alone value p (name ∷ arguments) = named value (as_str name) p arguments
-alone value p [] = step_alone value
+abbrev pub single_request : Data → Data → List Data → Option Asked
+single_request value p (name ∷ arguments) = named_request value (as_str name) p arguments
+single_request value p [] = step_alone value
 
 -- one step or more, made in order
 abbrev pub steps_together : List Data → Option Asked
@@ -69,7 +69,7 @@ steps_together items = option_map asks_steps (all_of step_of items)
 
 abbrev pub items_request : Data → List Data → Option Asked
 items_request value (first ∷ rest) =
-    if is_some (as_array first) then steps_together (first ∷ rest) else alone value first rest
+    if is_some (as_array first) then steps_together (first ∷ rest) else single_request value first rest
 items_request value [] = None
 
 abbrev pub request_of : Data → Option Asked

@@ -69,16 +69,16 @@ tells_fixed Fixed = true
 tells_fixed _ = false
 
 -- how a step may end a range at an address: a load or a store there that isn't made, or a fault there that isn't served
-abbrev pub ends : ℕ → Act → Reply → Bool
-ends at (Load va count) reply = (va == at) && not (tells_bytes reply)
-ends at (Store va bytes) reply = (va == at) && not (tells_stored reply)
-ends at (Fix va write) reply = (va == at) && not (tells_fixed reply)
-ends at act reply = false
+abbrev pub may_end : ℕ → Act → Reply → Bool
+may_end at (Load va count) reply = (va == at) && not (tells_bytes reply)
+may_end at (Store va bytes) reply = (va == at) && not (tells_stored reply)
+may_end at (Fix va write) reply = (va == at) && not (tells_fixed reply)
+may_end at act reply = false
 
 -- one of the steps is of this processor, and may end a range at this address with this reply
 abbrev pub EndsAt : ℕ → ℕ → Reply → List Step → List Reply → Type 0
 EndsAt p at reply (step ∷ steps) (other ∷ replies) =
-    ((step.p ≡ p) × (ends at step.act other ≡ true) × (other ≡ reply)) ⊎ EndsAt p at reply steps replies
+    ((step.p ≡ p) × (may_end at step.act other ≡ true) × (other ≡ reply)) ⊎ EndsAt p at reply steps replies
 EndsAt p at reply steps replies = ⊥
 
 -- Of a range from an address on, the bytes from one offset to another were loaded, piece by piece in order: these

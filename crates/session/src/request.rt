@@ -6,8 +6,8 @@ ghost use Rattle.serde_json.specs.View.{view};
 ghost use Rattle.scripts.specs.Arguments.{whole_number, byte_of, long_of, all_of};
 ghost use Rattle.scripts.specs.Script.{step_of};
 ghost use Rattle.session.specs.Asked.{asked, IsMemory};
-ghost use Rattle.session.specs.Requests.{request_in, request_of, items_request, steps_together, step_alone, named};
-ghost use Rattle.session.specs.Requests.{load_of, store_of, commit_of, bytes_of, digits_of};
+ghost use Rattle.session.specs.Requests.{request_in, request_of, items_request, steps_together, step_alone, named_request};
+ghost use Rattle.session.specs.Requests.{load_of, store_of, commit_of, bytes_in_digits, digits_of};
 
 use crate::request_fault::RequestFault;
 use hex::FromHexError;
@@ -161,9 +161,9 @@ fn named<A: Allocator + Copy>(
     name: &Value,
     arguments: &[Value],
 ) -> Result<Request<A>, RequestFault>
-    ensures ok { IfOk result (λ request. named (view value.now) (as_str (view name.now)) (view p.now)
+    ensures ok { IfOk result (λ request. named_request (view value.now) (as_str (view name.now)) (view p.now)
         (map view arguments.now) ≡ Some (asked request)) }
-    ensures err { IfErr result (λ fault. IsMemory fault ⊎ (named (view value.now) (as_str (view name.now))
+    ensures err { IfErr result (λ fault. IsMemory fault ⊎ (named_request (view value.now) (as_str (view name.now))
         (view p.now) (map view arguments.now) ≡ None)) }
 {
     match name.as_str() {
@@ -284,8 +284,8 @@ fn number(value: &Value, most: u64, what: &'static str) -> Result<u64, RequestFa
 
 // The bytes that a string of hexadecimal digits is.
 fn bytes_of<A: Allocator + Copy>(alloc: A, value: &Value) -> Result<Vec<u8, A>, RequestFault>
-    ensures ok { IfOk result (λ bytes. bytes_of (view value.now) ≡ Some bytes.items) }
-    ensures err { IfErr result (λ fault. IsMemory fault ⊎ (bytes_of (view value.now) ≡ None)) }
+    ensures ok { IfOk result (λ bytes. bytes_in_digits (view value.now) ≡ Some bytes.items) }
+    ensures err { IfErr result (λ fault. IsMemory fault ⊎ (bytes_in_digits (view value.now) ≡ None)) }
 {
     match value.as_str() {
         Some(digits) => bytes_of_digits(alloc, digits),
