@@ -7,5 +7,6 @@ pub mod Kept
 pub mod FoundJournals
 pub mod Opened
 pub mod Reopened
+pub mod StandingLengths
 pub mod Blank
 pub mod Carrying

@@ -1,11 +1,13 @@
 // The lengths of a volume's files, where the layout has a block for them.
 ghost use Rattle.std.specs.Prelude.{◌≡◌, ◌≤◌, ◌*◌, ◌↔◌, IsTrue, IfOk, IfErr, MatchResult, length};
+ghost use Rattle.volume_codec.specs.Files.{asked_by, lengths_asked};
 ghost use Rattle.volume_codec.specs.Text.{numbers_in};
 ghost use Rattle.volume_codec.specs.Super.{capacities_in};
 ghost use Rattle.volume_codec.specs.Lengths.{AreLengths, IsLengths, lengths_text};
 ghost use Rattle.volume_codec.specs.Refusals.{RefusesLengths};
 
 use crate::block::{BlockWriter, u64_at};
+use crate::file_spec::FileSpec;
 use crate::super_block::Super;
 use page_entry::Refusal;
 use std::alloc::Allocator;
@@ -19,6 +21,18 @@ pub fn write_lengths(lengths: &[u64]) -> [u8; 4096]
     let mut block = BlockWriter::new();
     for length in lengths {
         block.push_u64(*length);
+    }
+    block.finish()
+}
+
+/// The block that says the lengths of these files, at most 64. Takes no memory.
+pub fn write_lengths_of(files: &[FileSpec]) -> [u8; 4096]
+    requires { length files.now ≤ 64 }
+    ensures { result ≡ lengths_text (lengths_asked (asked_by files.now)) }
+{
+    let mut block = BlockWriter::new();
+    for file in files {
+        block.push_u64(file.length);
     }
     block.finish()
 }
