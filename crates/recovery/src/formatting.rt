@@ -77,7 +77,11 @@ fn erase<D: Device>(device: &mut D, from: u64, to: u64) -> Result<(), Refusal>
 }
 
 /// Writes the lengths of these files into their block, where the layout has one.
-fn put_lengths<D: Device>(device: &mut D, geometry: &Geometry, files: &[FileSpec]) -> Result<(), Refusal>
+fn put_lengths<D: Device>(
+    device: &mut D,
+    geometry: &Geometry,
+    files: &[FileSpec],
+) -> Result<(), Refusal>
     requires long { 4096 * geometry.now.blocks ≤ length (D.seen device.old) }
     requires few { length files.now ≤ 64 }
     ensures said { D.is_honest device.old → OnOk result (0 < lengths_blocks geometry.now.layout
@@ -105,7 +109,11 @@ fn put_lengths<D: Device>(device: &mut D, geometry: &Geometry, files: &[FileSpec
 }
 
 /// Writes the home blocks of a volume with these files: their lengths, where a block has them, and zeros.
-fn empty_homes<D: Device>(device: &mut D, geometry: &Geometry, files: &[FileSpec]) -> Result<(), Refusal>
+fn empty_homes<D: Device>(
+    device: &mut D,
+    geometry: &Geometry,
+    files: &[FileSpec],
+) -> Result<(), Refusal>
     requires long { 4096 * geometry.now.blocks ≤ length (D.seen device.old) }
     requires few { length files.now ≤ 64 }
     ensures emptied { D.is_honest device.old → OnOk result (AreEmptied geometry.now
@@ -126,8 +134,7 @@ fn empty_homes<D: Device>(device: &mut D, geometry: &Geometry, files: &[FileSpec
     ensures calls { OnOk result
         (Rises ((geometry.now.blocks - first_home geometry.now.layout geometry.now.slots + 7) / 8
         + lengths_blocks geometry.now.layout) (D.calls_made device.old) (D.calls_made device.new)) }
-    ensures most {
-        RisesWithin ((geometry.now.blocks - first_home geometry.now.layout geometry.now.slots + 7) / 8
+    ensures most { RisesWithin ((geometry.now.blocks - first_home geometry.now.layout geometry.now.slots + 7) / 8
         + lengths_blocks geometry.now.layout) (D.calls_made device.old) (D.calls_made device.new) }
 {
     let homes = PAGE * u64::from(geometry.first_home());

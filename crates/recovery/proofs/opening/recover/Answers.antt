@@ -14,10 +14,10 @@ use Rattle.recovery.proofs.opening.recover.Goals as goal
 
 pub returns-in_err-table-clause-opens : goal.returns-in_err-table-clause-opens
 returns-in_err-table-clause-opens g c =
-    let p = err_from_is_err_and c.from_residual-in_err-table.result c.from_residual-in_err-table.ensures.1 in
+    let p = err_from_is_err_and c.from_residual.result c.from_residual.ensures.1 in
     let f = c.in_err-table.ensures in
     record {
-      kept = kept_err (table_found c.from_residual-in_err-table.result) (ap (λ r. table_found r) p.1 ∙ ap Err p.2) f.kept;
+      kept = kept_err (table_found c.from_residual.result) (ap (λ r. table_found r) p.1 ∙ ap Err p.2) f.kept;
       ended = λ honest. rw (p.1, p.2) (record { reason = f.refused honest; done = inl (record { unwritten = f.unwritten honest; calls = f.most honest }) });
       within = λ honest. leaves_weaker (f.unwritten honest).time (λ l may. inl may);
     }
