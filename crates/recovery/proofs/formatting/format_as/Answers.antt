@@ -7,7 +7,11 @@ use Rattle.volume_codec.specs.Files.{asked_by}
 use Rattle.volume_codec.specs.Super.{SuperValue, block_count}
 use Rattle.volume_codec.proofs.TableLemmas.{one_asked}
 use Rattle.recovery.specs.Format.{RefusesFormat, format_calls}
+use Rattle.recovery.proofs.Formatted.{asked_few}
 use Rattle.recovery.proofs.formatting.format_as.Goals as goal
+
+pub write_table-requires-clause-few : goal.write_table-requires-clause-few
+write_table-requires-clause-few g c = asked_few c.args.layout c.args.slots c.args.files.now c.in_ok-table.table c.in_ok-table.ensures.ok
 
 pub returns-clause-refused : goal.returns-clause-refused
 returns-clause-refused g c =
