@@ -1,5 +1,5 @@
 -- What keeps stores from a page that is being written out, and what the pages have that a mark doesn't gather.
-use Rattle.std.specs.Prelude.{ℕ, nat_le, ◌≡◌, ◌-◌, ◌*◌, ◌<◌, true, false, List, [], length, map, take, drop, Some, if◌then◌else◌}
+use Rattle.std.specs.Prelude.{ℕ, nat_le, ◌≡◌, ◌*◌, ◌<◌, true, false, List, [], length, map, drop, Some, if◌then◌else◌}
 use Rattle.std.specs.List.{All, flat_map, filter}
 use Rattle.page_entry.specs.Entry.{Mapped}
 use Rattle.page_entry.specs.declared.numbers.FilePage.{FilePage}

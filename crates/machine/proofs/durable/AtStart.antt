@@ -2,10 +2,10 @@
 use Rattle.machine.proofs.Names.{ℕ, zero, suc, ◌≡◌, ◌-◌, ◌*◌, ◌<◌, true, false, eqb, List, [], ◌∷◌, ◌++◌, length, take}
 use Rattle.machine.proofs.Names.{drop, map, replicate, get_or, Option, None, is_some, unwrap_or, refl, sym, ap, ◌∙◌}
 use Rattle.machine.proofs.Names.{subst, inl, inr, arith, ◌+◌, ◌≤◌, nat_cmp, cases_lt, cond-false, ne_eqb, false≢true}
-use Rattle.machine.proofs.Names.{length-replicate, get_or-replicate, length-take, length-drop, take_all, append-nil}
+use Rattle.machine.proofs.Names.{length-replicate, get_or-replicate, length-take, length-drop, take_all}
 use Rattle.machine.proofs.Names.{take_at, drop_at, drop-drop, drop-take, take-take, take-append_seam, FilePage}
-use Rattle.machine.proofs.Names.{all_free, File, TableFile, SuperValue, pages_of, total_pages, geometry_of, block_count}
-use Rattle.machine.proofs.Names.{zeros, padded, zeros-nil, length-padded, length-block_at, length-file, fits_geometry}
+use Rattle.machine.proofs.Names.{all_free, File, TableFile, SuperValue, pages_of, total_pages, geometry_of}
+use Rattle.machine.proofs.Names.{zeros, padded, length-padded, length-block_at, length-file, fits_geometry}
 use Rattle.machine.proofs.Names.{Places, AddressSpace, first_spaces, empty_space, Processor, fresh_processor}
 use Rattle.machine.proofs.Names.{is_running, fresh_shootdown, processor_at, Holds, CheckpointState, Shape, file_bytes}
 use Rattle.machine.proofs.Names.{Mark, Acknowledge, memory_of, State, length_of, Whole, home_of, cut_at_end, IsFresh}

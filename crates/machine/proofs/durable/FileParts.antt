@@ -1,9 +1,9 @@
 -- Contents that have the parts of files have these files.
 use Rattle.machine.proofs.Names.{◌≡◌, ℕ, zero, suc, ◌+◌, ◌-◌, ◌*◌, ◌<◌, ◌≤◌, List, [], ◌∷◌, ◌++◌, length, map, take}
-use Rattle.machine.proofs.Names.{get_or, slice_get, Some, refl, sym, ap, ◌∙◌, subst, inl, inr, arith, drop, cases_lt, take-append-le}
-use Rattle.machine.proofs.Names.{take_all, length-take, get_or-map, length-map, append-nil, length-drop, File}
+use Rattle.machine.proofs.Names.{get_or, slice_get, Some, refl, sym, ap, ◌∙◌, subst, inl, inr, arith, drop, cases_lt}
+use Rattle.machine.proofs.Names.{take-append-le, take_all, length-take, length-map, append-nil, length-drop, File}
 use Rattle.machine.proofs.Names.{TableFile, first_file_home, block_at, pages_of, total_pages, blocks_from, files_from}
-use Rattle.machine.proofs.Names.{files_in, take-past, length-padded, zeros-nil, blocks_from-device, Memory}
+use Rattle.machine.proofs.Names.{files_in, take-past, zeros-nil, blocks_from-device, Memory}
 use Rattle.machine.proofs.Names.{bytes_of_pages, files_from_memory, Event, file_bytes, memory_of, files_after, after}
 use Rattle.machine.proofs.Names.{SuperValue, lengths_of, lengths_after, lengths_in, home_of, HasParts, AreLengths}
 use Rattle.machine.proofs.Names.{AreContentsOf, zeros, AreDurable}

@@ -1,11 +1,11 @@
 -- A step of the write-outs: it writes a record that New has, and once it commits a batch, what was New is Old, too.
 use Rattle.machine.proofs.Names.{◌≡◌, ◌<◌, ◌≤◌, ◌+◌, ◌-◌, ◌*◌, ℕ, true, false, not, List, [], ◌∷◌, ◌++◌, length, map}
-use Rattle.machine.proofs.Names.{take, drop, get_or, Option, Some, None, IsSome, inl, inr, refl, sym, ap, ◌∙◌, subst}
-use Rattle.machine.proofs.Names.{arith, ◌==◌, ◌⊎◌, suc, cond, Bool, Contains, flat_map, list_any, All, option_map}
+use Rattle.machine.proofs.Names.{take, drop, get_or, Option, Some, None, inl, inr, refl, sym, ap, ◌∙◌, subst}
+use Rattle.machine.proofs.Names.{arith, ◌==◌, ◌⊎◌, suc, cond, Bool, Contains, flat_map, All, option_map}
 use Rattle.machine.proofs.Names.{option_map_or, option_and_then, cond-false, cases_Bool, both_ways, or_from}
 use Rattle.machine.proofs.Names.{not_from_true, or_parts, append-nil, drop_more, length-take, list_any-append}
-use Rattle.machine.proofs.Names.{Contains-push, Contains-get_or, All-contains, FilePage, length-padded, Frame, bytes_of}
-use Rattle.machine.proofs.Names.{frame_at, page_of, IsBefore, before_each, is_of_page, AreRising, Stage, Recording}
+use Rattle.machine.proofs.Names.{Contains-push, Contains-get_or, All-contains, FilePage, length-padded}
+use Rattle.machine.proofs.Names.{IsBefore, before_each, AreRising, Stage, Recording}
 use Rattle.machine.proofs.Names.{Committing, Applying, Committed, Broken, answer_at, WriteOut, next_stage}
 use Rattle.machine.proofs.Names.{has_committed, advanced_of, record_at, next_record, next_home, answer_of, broken_after}
 use Rattle.machine.proofs.Names.{WriteOutsValue, has_uncommitted, advanced, outs_record, outs_home, next_answer}

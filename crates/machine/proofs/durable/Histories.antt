@@ -1,15 +1,15 @@
 -- Histories that grow: the memory after them, the pages that they touch, their prefixes and their marks.
 use Rattle.machine.proofs.Names.{◌≡◌, ℕ, ◌+◌, ◌*◌, ◌/◌, ◌%◌, ◌<◌, ◌≤◌, Bool, true, false, ◌&&◌, eqb, if◌then◌else◌}
-use Rattle.machine.proofs.Names.{List, [], ◌∷◌, ◌++◌, length, take, drop, refl, sym, ap, ◌∙◌, inl, inr, arith, ◌⊎◌}
+use Rattle.machine.proofs.Names.{List, [], ◌∷◌, ◌++◌, length, take, refl, sym, ap, ◌∙◌, inl, inr, arith, ◌⊎◌}
 use Rattle.machine.proofs.Names.{cond, subst, append_assoc, ◌↔◌, ◌-◌, get_or, Some, cond-true, cond-false, cond_both}
 use Rattle.machine.proofs.Names.{and_from, and_left, and_right, eq-eqb, ne_eqb, cases_eq, both_ways, eqb-true}
-use Rattle.machine.proofs.Names.{and_parts, false_from_ne_true, length-take, append-nil, File, length-padded, overwrite}
-use Rattle.machine.proofs.Names.{length-overwrite, Memory, Event, Mark, Acknowledge, memory_of, file_bytes, stored}
+use Rattle.machine.proofs.Names.{and_parts, false_from_ne_true, append-nil, File, overwrite}
+use Rattle.machine.proofs.Names.{length-overwrite, Memory, Event, Mark, Acknowledge, memory_of, stored}
 use Rattle.machine.proofs.Names.{after, is_touched, has_unmarked, Contains, All, fold, fold-append, list_any, list_any-append, min, ◌||◌, or_from, or_left}
 use Rattle.machine.proofs.Names.{or_right, or_parts, cases_Bool, lengths_after, with_length, with_event, since_mark, is_change}
 use Rattle.machine.proofs.Names.{is_change_of, is_resize, has_resized, cut_file, lengths_in}
 use Rattle.machine.proofs.Names.{Contains-append_left, Contains-append_cases, Contains-get_or, HasAcknowledged, IsLost}
-use Rattle.machine.proofs.Names.{IsWaiting, AreMarks, AreTouched, change_in, HasParts, AreContentsOf, IsWritten, State}
+use Rattle.machine.proofs.Names.{IsWaiting, AreMarks, AreTouched, change_in, AreContentsOf, IsWritten, State}
 use Rattle.machine.proofs.Names.{home_of, cut_at_end, FilePage, MarkMade, bytes_at_mark, Told, SuperValue, WriteOut}
 use Rattle.machine.proofs.Names.{has_committed, WriteOutsValue, has_uncommitted, Checkpoint, IsInFile, within_file}
 use Rattle.machine.specs.History.{Store, SetLength}
