@@ -1,9 +1,9 @@
 -- The lengths of files: what contents say of them, and reading what was spelled.
-use Rattle.std.proofs.Common.{◌≡◌, ◌≢◌, ℕ, zero, suc, ◌<◌, ◌≤◌, ◌^◌, ◌==◌, ◌⊎◌, inl, inr, Bool, true, false, cond, List, [], ◌∷◌, length, slice_get, Some, map, refl, sym, ap, subst, ◌∙◌, arith}
+use Rattle.std.proofs.Common.{◌≡◌, ◌≢◌, ℕ, zero, suc, ◌+◌, ◌<◌, ◌≤◌, ◌^◌, ◌==◌, ◌⊎◌, inl, inr, Bool, true, false, cond, List, [], ◌∷◌, ◌++◌, length, take, slice_get, slice_index, Some, map, refl, sym, ap, subst, ◌∙◌, arith}
 use Rattle.std.specs.List.{AllByRecursion}
 use Rattle.std.proofs.lemmas.Bool.{cases_eq}
 use Rattle.std.proofs.lemmas.Bool.Decides.{nat_tests}
-use Rattle.std.proofs.lemmas.List.{length-map}
+use Rattle.std.proofs.lemmas.List.{length-map, take_more}
 use Rattle.volume_codec.specs.Files.{TableFile}
 use Rattle.volume_codec.specs.Layout.{IsHome, lengths_blocks, first_home}
 use Rattle.volume_codec.specs.Text.{numbers_in}
@@ -103,3 +103,58 @@ reads_lengths v lengths block fits is =
 -- so a block says at most one list of lengths
 pub one_lengths : (v : SuperValue) (lengths others block : List ℕ) → Fits v → IsLengths v lengths block → IsLengths v others block → lengths ≡ others
 one_lengths v lengths others block fits is is' = sym (reads_lengths v lengths block fits is) ∙ reads_lengths v others block fits is'
+
+-- none of the first lengths is above its file's capacity
+abbrev pub AreFirst : List TableFile → List ℕ → ℕ → Type 0
+AreFirst fs lengths k = (i n : ℕ) (f : TableFile) → i < k → slice_get fs i ≡ Some f → slice_get lengths i ≡ Some n → n ≤ f.capacity
+
+-- the file of a capacity
+pub file_of_capacity : (fs : List TableFile) (i c : ℕ) → slice_get (map (λ (f : TableFile). f.capacity) fs) i ≡ Some c → (f : TableFile) × (slice_get fs i ≡ Some f) × (f.capacity ≡ c)
+file_of_capacity [] i c e = cc
+file_of_capacity (f ∷ fs) zero c e = (f, refl, cc)
+file_of_capacity (f ∷ fs) (suc i) c e = file_of_capacity fs i c e
+
+pub there_is : (xs : List ℕ) (i x : ℕ) → slice_get xs i ≡ Some x → i < length xs
+there_is [] i x e = cc
+there_is (y ∷ ys) zero x e = omega arith
+there_is (y ∷ ys) (suc i) x e = omega (arith, there_is ys i x e)
+
+pub index_is : (xs : List ℕ) (i x : ℕ) → slice_get xs i ≡ Some x → slice_index xs i ≡ x
+index_is [] i x e = cc
+index_is (y ∷ ys) zero x e = cc
+index_is (y ∷ ys) (suc i) x e = index_is ys i x e
+
+get_there : (xs : List ℕ) (i : ℕ) → i < length xs → slice_get xs i ≡ Some (slice_index xs i)
+get_there [] i h = absurd (omega arith)
+get_there (x ∷ xs) zero h = refl
+get_there (x ∷ xs) (suc i) h = get_there xs i (omega arith)
+
+-- one length more
+pub first_more : (v : SuperValue) (lengths : List ℕ) (k c : ℕ) → AreFirst v.files lengths k → slice_get (capacities_in v) k ≡ Some c → slice_index lengths k ≤ c → AreFirst v.files lengths (k + 1)
+first_more v lengths k c first sized le = λ i n f h file size. elim (cases_eq i k) [
+  | inl same ↦
+      let capacity = capacity_at v.files k c f (ap (λ j. slice_get v.files j) (sym same) ∙ file) sized in
+      let length = index_is lengths i n size in
+      let here = ap (slice_index lengths) same in
+      omega (arith, le, capacity, length, here)
+  | inr other ↦ first i n f (omega arith) file size
+]
+
+-- all of them
+pub first_all : (v : SuperValue) (lengths : List ℕ) (k : ℕ) → length lengths ≡ length v.files → length lengths ≤ k → AreFirst v.files lengths k → AreLengths v lengths
+first_all v lengths k count all first = record { count = count; within = λ i n f file size. first i n f (omega (arith, there_is lengths i n size)) file size }
+
+-- one that is too high
+pub too_high : (v : SuperValue) (lengths : List ℕ) (k c : ℕ) → k < length lengths → slice_get (capacities_in v) k ≡ Some c → c < slice_index lengths k → AreLengths v lengths → ⊥
+too_high v lengths k c there sized high are =
+    let f = file_of_capacity v.files k c sized in
+    omega (arith, are.within k (slice_index lengths k) f.0 f.1 (get_there lengths k there), f.2)
+
+-- one capacity more
+pub capacity_pushed : (capacities done new : List ℕ) (i c : ℕ) → new ≡ done ++ c ∷ [] → done ≡ take i capacities → slice_get capacities i ≡ Some c → new ≡ take (i + 1) capacities
+capacity_pushed capacities done new i c is was sized =
+    is ∙ ap (λ (r : List ℕ). r ++ c ∷ []) was ∙ ap (λ k. take i capacities ++ k ∷ []) (sym (index_is capacities i c sized)) ∙ sym (take_more capacities i 0 (there_is capacities i c sized))
+
+-- what a reader found is what the block says
+pub found_lengths : (v : SuperValue) (found lengths block : List ℕ) (count : ℕ) → Fits v → found ≡ numbers_in 8 count block → count ≡ length v.files → IsLengths v lengths block → found ≡ lengths
+found_lengths v found lengths block count fits is counted says = is ∙ ap (λ n. numbers_in 8 n block) counted ∙ reads_lengths v lengths block fits says
