@@ -210,7 +210,7 @@ pub use Rattle.std.specs.Ordering.{nat_cmp}
 pub use Rattle.std.specs.Prelude.{IfErr, IfOk, IsTrue, MatchBool, min, nat_lt}
 pub use Rattle.volume_codec.proofs.Public.{blocks_from-device, fits_geometry, length-block_at, length-file}
 pub use Rattle.volume_codec.proofs.Public.{has_lengths-same, length-lengths_in, length-padded, length-zeros, lengths_in-same}
-pub use Rattle.volume_codec.proofs.Public.{take-past}
+pub use Rattle.volume_codec.proofs.Public.{length-number_text, reads_lengths, said_lengths, take-past}
 pub use Rattle.volume_codec.proofs.Public.{total_pages-take_le, total_pages-take_more, zeros-nil}
 pub use Rattle.volume_codec.specs.Descriptor.{AreHomes, RiseWithin}
 pub use Rattle.volume_codec.specs.Files.{File, TableFile}
@@ -220,4 +220,4 @@ pub use Rattle.volume_codec.specs.Recovery.{Batch, IsDamaged, IsNotAVolume, IsVo
 pub use Rattle.volume_codec.specs.Lengths.{AreLengths, HasLengths, lengths_in, lengths_text}
 pub use Rattle.volume_codec.specs.Recovery.{files_from, files_in}
 pub use Rattle.volume_codec.specs.Super.{Fits, SuperValue, block_count, geometry_of, pages_of, total_pages}
-pub use Rattle.volume_codec.specs.Text.{padded, zeros}
+pub use Rattle.volume_codec.specs.Text.{number_text, padded, zeros}

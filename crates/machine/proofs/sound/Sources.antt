@@ -1,6 +1,6 @@
 -- The home blocks of a mark: that of the lengths before those of pages.
 use Rattle.machine.proofs.Names.{ℕ, zero, suc, ◌≡◌, ◌<◌, ◌≤◌, ◌++◌, Bool, true, false, cond, leb, List, [], ◌∷◌, map, get_or}
-use Rattle.machine.proofs.Names.{refl, sym, ap, ◌∙◌, inl, inr, ⊎_elim, arith, All, All-cons, All-map, Contains, filter}
+use Rattle.machine.proofs.Names.{refl, sym, ap, ◌∙◌, subst, inl, inr, arith, All, All-cons, All-map, Contains, filter}
 use Rattle.machine.proofs.Names.{cases_Bool, cond-true, cond-false, false_from_ne_true, false≢true, le-leb, leb-true}
 use Rattle.machine.proofs.Names.{FilePage, FramesState, SuperValue, first_home, first_file_home, lengths_blocks, State}
 use Rattle.machine.proofs.Names.{home_of, is_in_memory, mark_homes, file_homes, IsSource}
@@ -19,8 +19,8 @@ of_lengths table some = false_from_ne_true (leb (first_file_home table.layout ta
 pub filter_contains : (test : ℕ → Bool) (xs : List ℕ) (x : ℕ) → Contains (filter test xs) x → Contains xs x
 filter_contains test [] x has = has
 filter_contains test (y ∷ ys) x has = elim (cases_Bool (test y)) [
-  | inl keeps ↦ by (Rattle.machine.proofs.Names.subst (λ (l : List ℕ). Contains l x) (cond-true (test y) (y ∷ filter test ys) (filter test ys) keeps) has)
-  | inr drops ↦ contains_cons y ys x (filter_contains test ys x (Rattle.machine.proofs.Names.subst (λ (l : List ℕ). Contains l x) (cond-false (test y) (y ∷ filter test ys) (filter test ys) drops) has))
+  | inl keeps ↦ by (subst (λ (l : List ℕ). Contains l x) (cond-true (test y) (y ∷ filter test ys) (filter test ys) keeps) has)
+  | inr drops ↦ contains_cons y ys x (filter_contains test ys x (subst (λ (l : List ℕ). Contains l x) (cond-false (test y) (y ∷ filter test ys) (filter test ys) drops) has))
 ]
   where
     by : Contains (y ∷ filter test ys) x → Contains (y ∷ ys) x
