@@ -94,7 +94,7 @@ module _ (s : State) (sound : IsSound s) (contents : ℕ → List ℕ) where
 
   -- those of pages do
   pub laid-page : (owner : FilePage) → laid s contents (home_of s.table owner) ≡ contents (home_of s.table owner)
-  laid-page owner = laid-other (home_of s.table owner) (λ set at. let some = (sound.write_outs.settled set).2.1 in let home = at in omega (arith, some, home))
+  laid-page owner = laid-other (home_of s.table owner) (λ set at. let some = (sound.write_outs.settled set).2 in let home = at in omega (arith, some, home))
 
   pub laid-lengths : s.resized ≡ true → laid s contents (first_home s.table.layout s.table.slots) ≡ lengths_text s.lengths
   laid-lengths set =

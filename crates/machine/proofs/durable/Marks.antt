@@ -288,7 +288,7 @@ module _ (files : List File) (told : Told) (s : State) (p number : ℕ) (seen : 
 
       set_lengths : s.resized ≡ true → lengths_in s.table next_contents ≡ s.lengths
       set_lengths set =
-          said_lengths s.table next_contents (sound.write_outs.settled set).2.1
+          said_lengths s.table next_contents (sound.write_outs.settled set).2
           ∙ reads_lengths s.table s.lengths (next_contents lengths_home) sound.fits (record { are = lengths_fit; spelled = laid-lengths s sound (overlaid s pages new) set })
 
       next_lengths : lengths_in s.table next_contents ≡ s.lengths

@@ -121,7 +121,7 @@ module _ (s : State) (hardware : Hardware) (checkpoint : CheckpointState) (pages
   marked_by outs = record s { hardware = hardware; checkpoint = checkpoint; write_outs = outs; marks = s.marks + 1; resized = false }
 
   has_block : s.resized ≡ true → 0 < lengths_blocks s.table.layout
-  has_block set = (sound.write_outs.settled set).2.1
+  has_block set = (sound.write_outs.settled set).2
 
   -- nothing is frozen by it
   none_more : checkpoint.frozen ≡ [] → AreWriteOutsSound (marked_by s.write_outs)

@@ -38,7 +38,7 @@ module _ (s : State) (sound : IsSound s) where
         sources = all_after (λ (b : Batch). All source b.homes) answer batches still;
         marked = all_after (λ (b : Batch). (0 < b.mark) × (b.mark ≤ s.marks)) answer batches is.marked;
         few_marks = is.few_marks;
-        settled = λ set. (ap (batches_after answer) (is.settled set).0 ∙ none_after answer, unset set, (is.settled set).2.1);
+        settled = λ set. (ap (batches_after answer) (is.settled set).0 ∙ none_after answer, unset set, (is.settled set).2);
         frozen = frozen;
       }
     where
