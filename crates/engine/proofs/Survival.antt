@@ -14,11 +14,11 @@ use Rattle.machine.specs.declared.act.Step.{Step}
 use Rattle.machine.specs.Crashes.{StepIsSafe, Throughout}
 use Rattle.machine.specs.History.{Event, files_after}
 use Rattle.machine.specs.Later.{Finds, FindsDurable}
-use Rattle.machine.specs.Laws.{EachStep, FaultsAreServed, ReadsBack}
+use Rattle.machine.specs.Laws.{EachStep, FaultsAreServed, IsLawful, ReadsBack}
 use Rattle.machine.specs.OnTrack.{IsOnTrack}
 use Rattle.machine.specs.Runs.{StepsTaken}
 use Rattle.machine.specs.State.{Whole}
-use Rattle.machine.specs.Steps.{IsLawful, told_first}
+use Rattle.machine.specs.Steps.{told_first}
 use Rattle.machine.specs.Told.{Told, tell}
 use Rattle.engine.specs.Engine.{HasStarted, HasRun}
 use Rattle.engine.specs.Survival.{history_of, KeepsFiles, FindsAfterCrash, StepSurvives, Survives}

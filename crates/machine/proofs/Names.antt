@@ -51,7 +51,7 @@ pub use Rattle.journal.specs.declared.stage.Stage.TheVariants.{Opening, Recordin
 pub use Rattle.journal.specs.inside.Sound.{AreInOrder, IsOlder}
 pub use Rattle.journal.specs.inside.Standing.{IsStanding}
 pub use Rattle.journal.specs.inside.Tied.{IsTied}
-pub use Rattle.machine.specs.Calls.{CallsOf, FixCalls, FlushCalls, has_failed, is_absent, reads_page}
+pub use Rattle.machine.specs.Calls.{CallsOf, Counts, has_failed}
 pub use Rattle.machine.specs.Crashes.{Begins, StepIsSafe, Throughout}
 pub use Rattle.machine.specs.Durability.{AreFrozenProtected, HasPart, IsInFile, file_homes, frozen_homes}
 pub use Rattle.machine.specs.Durability.{waiting_homes}
@@ -62,22 +62,21 @@ pub use Rattle.machine.specs.History.{cut_file, files_from_memory, has_resized, 
 pub use Rattle.machine.specs.History.{is_resize, is_touched, lengths_after, lengths_of, memory_of, since_mark, stored}
 pub use Rattle.machine.specs.History.{with_event, with_length}
 pub use Rattle.machine.specs.Later.{AreDurable, Finds, FindsDurable, OpensTo}
-pub use Rattle.machine.specs.Laws.{AddressLaw, EachStep, FaultsAreServed, IsAccessOf, IsAnswered, IsFreeToAct, IsInside}
-pub use Rattle.machine.specs.Laws.{LeadsTo, LoadLaw, LoadsLatest, ReadsBack, ServesNext, StoreLaw, StoresAtPlace}
+pub use Rattle.machine.specs.Laws.{EachStep, FaultsAreServed, IsAccessOf, IsAnswered, IsFreeToAct, IsInside, IsLawful}
+pub use Rattle.machine.specs.Laws.{LeadsTo, LoadsLatest, ReadsBack, ServesNext, StoresAtPlace}
 pub use Rattle.machine.specs.Laws.{told_at_start}
 pub use Rattle.machine.specs.OnTrack.{IsOnTrack}
-pub use Rattle.machine.specs.Refusals.{destroy_refusal_of, first_of, fix_refusal, flush_refusal, is_msync, map_refusal}
-pub use Rattle.machine.specs.Refusals.{mapping_refusal, msync_refusal, pages_in_file, protect_refusal_of}
-pub use Rattle.machine.specs.Refusals.{reclaim_refusal, refuse_if, served_refusal, unmap_refusal, why_not}
-pub use Rattle.machine.specs.Rules.{Acts, FixMade, Fixes, FlushFailed, FlushMade, Flushes, IsRefused, LoadAnswers}
-pub use Rattle.machine.specs.Rules.{MapMade, Maps, MarkMade, MayChange, MayLeave, ProtectMade, Reaches, ReclaimKept}
-pub use Rattle.machine.specs.Rules.{ReclaimMade, Rules, SpaceDestroyed, StoreAnswers, UnmapMade, WantsMemory}
+pub use Rattle.machine.specs.Refusals.{first_of, is_absent, is_msync, mapping_refusal, pages_in_file, reads_page}
+pub use Rattle.machine.specs.Refusals.{reason_against, refuse_if, served_refusal, why_not}
+pub use Rattle.machine.specs.Rules.{Accesses, Acts, Answers, FixMade, FlushFailed, FlushMade, MarkMade, MayChange}
+pub use Rattle.machine.specs.Rules.{MayLeave, ProtectMade, ReclaimKept, ReclaimMade, Refuses, Rules}
+pub use Rattle.machine.specs.Rules.{SpaceDestroyed, UnmapMade, WantsMemory}
 pub use Rattle.machine.specs.Rules.{after_failure, after_record, begin_change, bytes_at_mark, bytes_with, end_change}
-pub use Rattle.machine.specs.Rules.{next_page, reply_to, with_batch, with_hardware, with_shootdown, with_spaces}
+pub use Rattle.machine.specs.Rules.{next_page, with_batch, with_hardware, with_shootdown, with_spaces}
 pub use Rattle.machine.specs.Rules.{is_page_next, mark_homes, work_asked}
 pub use Rattle.machine.specs.Runs.{StepTaken, StepsTaken}
 pub use Rattle.machine.specs.State.{State, Whole, cut_at_end, home_of, length_of, page_from, part}
-pub use Rattle.machine.specs.Steps.{IsLawful, StepMade, step_work, told_first}
+pub use Rattle.machine.specs.Steps.{StepMade, step_work, told_first}
 pub use Rattle.machine.specs.Stops.{IsAcknowledged, IsNew, IsOld, Stops, StopsBefore, StopsInStep, StopsWithin}
 pub use Rattle.machine.specs.Sums.{AskFor, CallsAddUp, asked_for, listed_work}
 pub use Rattle.machine.specs.Told.{Pending, Protecting, Told, Unmapping, begun_by, begun_protect, begun_unmap, changed}
@@ -98,8 +97,8 @@ pub use Rattle.machine.specs.inside.Moves.{AreSpacesTold, Begin, Beginning, Begi
 pub use Rattle.machine.specs.inside.Moves.{Changing, Copy, Destroy, Drop, End, Ending, EndsChange, Entering, Failed}
 pub use Rattle.machine.specs.inside.Moves.{IsMoved, IsProcessorTold, Leaving, Mapping, Marked, Move, Moved, Moves}
 pub use Rattle.machine.specs.inside.Moves.{Performed, Remap, Replace, ReplacesProcessor, ReplacesSpaces, Running}
-pub use Rattle.machine.specs.inside.Moves.{SameDirty, Saying, Silent, Store, StoresBytes, Storing, effect_of, ending_of}
-pub use Rattle.machine.specs.inside.Moves.{said, said_all}
+pub use Rattle.machine.specs.inside.Moves.{HasStepped, SameDirty, Saying, Silent, Store, StoresBytes, Storing, effect_of}
+pub use Rattle.machine.specs.inside.Moves.{ending_of, reply_to, said, said_all}
 pub use Rattle.machine.specs.inside.Sound.{AreOlderCommitted, AreSpacesSound, AreWriteOutsSound, IsMemory}
 pub use Rattle.machine.specs.inside.Sound.{IsMemorySound, IsPrepared, IsSound, IsSource, capacity_of}
 pub use Rattle.machine.specs.inside.Tracking.{AreContentsOf, AreMarks, ArePlain, AreTouched}

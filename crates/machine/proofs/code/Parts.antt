@@ -4,7 +4,7 @@ use Rattle.machine.proofs.Names.{FilePage, FramesState, frame_at, page_of, HasNo
 use Rattle.machine.proofs.Names.{zero, suc, ◌<◌, ◌-◌, List, [], ◌∷◌, length, map, slice_index, ◌==◌, false, cond, refl}
 use Rattle.machine.proofs.Names.{ap, ◌∙◌, arith, nat_tests, TableFile, pages_of, pages_in_file, None, subst, Rights}
 use Rattle.machine.proofs.Names.{PageRange, Lock, Layers, IsReserved, AreReserved, IsQuiet, Bool, Result, Err, Refusal}
-use Rattle.machine.proofs.Names.{Mapped, entry_at, current, Hardware, Fills, Evicts, filled_by, Reaches, with_hardware}
+use Rattle.machine.proofs.Names.{Mapped, entry_at, current, Hardware, Fills, Evicts, filled_by, with_hardware}
 use Rattle.std.specs.Option.{is_some}
 
 -- ---- the holder of the lock, once its change is handed out
@@ -69,5 +69,6 @@ lock-evicts h p slot (Ok there) new evicts = ap (λ (x : Hardware). x.shootdown.
 lock-evicts h p slot (Err why) new evicts = ap (λ (x : Hardware). x.shootdown.lock) evicts.2
 
 -- the answer that was given, by what it was found to be
-pub answered_so : (Answers : Bool → Hardware → Type 0) (s : State) (found answer : Bool) (new : Hardware) → found ≡ answer → Answers found new → Reaches s (Answers answer) (with_hardware s new)
+pub answered_so : (Answers : Bool → Hardware → Type 0) (s : State) (found answer : Bool) (new : Hardware) → found ≡ answer
+    → Answers found new → (hardware : Hardware) × Answers answer hardware × (with_hardware s new ≡ with_hardware s hardware)
 answered_so Answers s found answer new is made = (new, subst (λ b. Answers b new) is made, refl)

@@ -16,8 +16,9 @@ use Rattle.machine.proofs.Names.{stands_other, State, length_of, home_of, cut_at
 use Rattle.machine.proofs.Names.{bytes_with, bytes_at_mark, work_asked, after_record, after_failure, File, journals_of}
 use Rattle.machine.proofs.Names.{AreHomes, Batch, SuperValue, geometry_of, Flushed, Sync, worked, TornFromWork}
 use Rattle.machine.proofs.Names.{LeftWithin, IsStanding, Checkpoint, Lock, not_running, Event, Mark, Acknowledge}
-use Rattle.machine.proofs.Names.{flush_refusal, Told, change_in, IsLost, IsWaiting, IsWritten}
+use Rattle.machine.proofs.Names.{reason_against, Told, change_in, IsLost, IsWaiting, IsWritten}
 use Rattle.journal.specs.WriteOuts.{current}
+use Rattle.machine.specs.declared.act.Act.TheVariants as acts
 use Rattle.machine.specs.Rules.{next_record as record_asked}
 use Rattle.journal.specs.declared.flushed.Flushed.TheVariants as flushed
 use Rattle.page_entry.specs.declared.refusal.Refusal.TheVariants as refusals
@@ -184,7 +185,7 @@ marks_after answer batches prefix all k d lt =
 -- ---- the step
 
 module _ (files : List File) (told : Told) (s : State) (seen : List ℕ) (may : List ℕ → Type 0) (old new : ℕ → List ℕ) (sound : IsSound s) (stands : IsStanding s.table s.write_outs old new seen may) (w : IsWritten files told s old new)
-    (p : ℕ) (allowed : flush_refusal s p ≡ None) (some : s.write_outs.batches ≡ [] → ⊥) where
+    (p : ℕ) (allowed : reason_against s p acts.Flush ≡ None) (some : s.write_outs.batches ≡ [] → ⊥) where
   pub flush_whole : s.write_outs.broken ≡ false
   flush_whole = second_not_refused (not_running s.hardware.shootdown p) s.write_outs.broken refusals.Broken [] allowed
 
