@@ -9,7 +9,7 @@ ghost use Rattle.machine.specs.inside.Layers.{state_in, reply_to, IsQuiet, AreRe
 
 use crate::Reply;
 use crate::layers::Layers;
-use crate::paging::{file_length, home_block, is_cut};
+use crate::paging::{home_block, is_cut};
 use device::Device;
 use mappings::{PageRange, Rights};
 use page_entry::{FilePage, FrameNumber, PAGE, Pcid, ProcessorNumber, Refusal};
@@ -57,7 +57,7 @@ impl<D: Device, A: Allocator + Copy> Layers<D, A> {
         requires held { Holds self.now.frames frame page }
         ensures { IsTrue result ↔ IsAtHome (state_in self.now) page frame }
     {
-        let left = file_length(&self.lengths, page.file).saturating_sub(PAGE * u64::from(page.page));
+        let left = self.file_length(page.file).saturating_sub(PAGE * u64::from(page.page));
         !self.checkpoint.is_dirty(&self.spaces, &self.frames, frame)
             && !self.write_outs.has_block(home_block(&self.table, page))
             && is_cut(self.frames.bytes(frame), left)

@@ -10,7 +10,7 @@ ghost use Rattle.machine.specs.inside.Layers.{state_in, reply_to, AnswersBy, Kee
 
 use crate::Reply;
 use crate::layers::Layers;
-use crate::paging::{file_length, home_block};
+use crate::paging::home_block;
 use device::Device;
 use fault::PageFault;
 use page_entry::{FilePage, PAGE, ProcessorNumber, Refusal};
@@ -36,7 +36,7 @@ impl<D: Device, A: Allocator + Copy> Layers<D, A> {
         self.shootdown.admit_free(p)?;
         let pcid = self.shootdown.space(p);
         let place = fault::place(&self.spaces, pcid, va, write)?;
-        let length = file_length(&self.lengths, place.file);
+        let length = self.file_length(place.file);
         if length <= PAGE * u64::from(place.page) {
             return Err(Refusal::BusAdrErr);
         }

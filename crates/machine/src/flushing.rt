@@ -16,7 +16,7 @@ ghost use Rattle.machine.specs.inside.Flushing.{HasSmallMark, IsThere, bytes_fro
 
 use crate::Reply;
 use crate::layers::Layers;
-use crate::paging::{cut_off, file_length};
+use crate::paging::cut_off;
 use device::Device;
 use frames::Frames;
 use journal::Flushed;
@@ -140,7 +140,7 @@ impl<D: Device, A: Allocator + Copy> Layers<D, A> {
         ensures kept { KeepsReserved self.old self.new }
     {
         let page = self.checkpoint.frozen()[0];
-        let left = file_length(&self.lengths, page.file).saturating_sub(PAGE * u64::from(page.page));
+        let left = self.file_length(page.file).saturating_sub(PAGE * u64::from(page.page));
         if left >= PAGE {
             return self.step_with(true, Source::Page(page));
         }

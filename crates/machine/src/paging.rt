@@ -17,8 +17,8 @@ pub(crate) fn pages_in_file<A: Allocator + Copy>(table: &Super<A>, file: FileNum
     table.pages(file as usize)
 }
 
-/// The length of a file in bytes.
-pub(crate) fn file_length(lengths: &[u64], file: FileNumber) -> u64
+/// The length of a file in bytes, of these lengths.
+pub(crate) fn length_at(lengths: &[u64], file: FileNumber) -> u64
     requires { file < length lengths.now }
     ensures { result ≡ slice_index_or lengths.now file 0 }
 {

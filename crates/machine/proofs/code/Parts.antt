@@ -5,6 +5,8 @@ use Rattle.machine.proofs.Names.{zero, suc, ◌<◌, ◌-◌, List, [], ◌∷�
 use Rattle.machine.proofs.Names.{ap, ◌∙◌, arith, nat_tests, TableFile, pages_of, pages_in_file, None, subst, Rights}
 use Rattle.machine.proofs.Names.{PageRange, Lock, Layers, IsReserved, AreReserved, IsQuiet, Bool, Result, Err, Refusal}
 use Rattle.machine.proofs.Names.{Mapped, entry_at, current, Hardware, Fills, Evicts, filled_by, with_hardware}
+use Rattle.machine.proofs.Names.{◌+◌, ◌++◌, take, slice_get, slice_get_within, get_or_from_slice_get}
+use Rattle.std.proofs.lemmas.List.{take_more}
 use Rattle.std.specs.Option.{is_some}
 
 -- ---- the holder of the lock, once its change is handed out
@@ -26,6 +28,12 @@ pages-in_file (f ∷ files) (suc file) below =
     let before : file ≡ suc file - 1 = omega arith in
     let other : false ≡ (suc file == 0) = grind (arith, nat_tests) in
     pages-in_file files file (omega (arith, below)) ∙ ap (pages_in_file files) before ∙ ap (λ b. cond b (pages_of f.capacity) (pages_in_file files (suc file - 1))) other
+
+-- ---- one length more of a list
+
+pub taken_more : (lengths : List ℕ) (i n : ℕ) → slice_get lengths i ≡ Some n → take (i + 1) lengths ≡ take i lengths ++ n ∷ []
+taken_more lengths i n at =
+    take_more lengths i 0 (slice_get_within lengths i n at) ∙ ap (λ k. take i lengths ++ k ∷ []) (get_or_from_slice_get lengths i n 0 at)
 
 -- ---- what is reserved for a change that is under way stays reserved
 

@@ -7,8 +7,8 @@ pub bounds-frozen-0 : goal.bounds-frozen-0
 bounds-frozen-0 g c =
     subst (λ (pages : List FilePage). 0 < length pages) (sym c.frozen.ensures.frozen) (is_next_page (state_in c.args.self.now) c.requires.sound c.requires.record).some
 
-pub file_length-requires : goal.file_length-requires
-file_length-requires g c =
+pub file_length-requires-clause-there : goal.file_length-requires-clause-there
+file_length-requires-clause-there g c =
     subst (λ (pages : List FilePage). (get_or pages 0 (record { file = 0; page = 0 })).file < length c.args.self.now.table.files) (sym c.frozen.ensures.frozen) (is_next_page (state_in c.args.self.now) c.requires.sound c.requires.record).file.there
 
 pub overflow_mul-from : goal.overflow_mul-from

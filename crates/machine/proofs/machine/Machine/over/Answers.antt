@@ -15,7 +15,7 @@ invariant_of-result g c =
         fits = c.requires.shaped;
         as_booted = λ i. record {
           table = table;
-          lengths = room.lengths_are i;
+          lengths = c.args.room.lengths.items;
           hardware = record { shootdown = room.shootdown i; spaces = (room.spaces i).map; memory = room.frames i };
           checkpoint = room.checkpoint i;
           write_outs = room.write_outs i;
