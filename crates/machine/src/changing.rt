@@ -57,7 +57,9 @@ impl<D: Device, A: Allocator + Copy> Layers<D, A> {
         requires held { Holds self.now.frames frame page }
         ensures { IsTrue result ↔ IsAtHome (state_in self.now) page frame }
     {
-        let left = self.file_length(page.file).saturating_sub(PAGE * u64::from(page.page));
+        let left = self
+            .file_length(page.file)
+            .saturating_sub(PAGE * u64::from(page.page));
         !self.checkpoint.is_dirty(&self.spaces, &self.frames, frame)
             && !self.write_outs.has_block(home_block(&self.table, page))
             && is_cut(self.frames.bytes(frame), left)

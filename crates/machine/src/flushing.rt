@@ -140,7 +140,9 @@ impl<D: Device, A: Allocator + Copy> Layers<D, A> {
         ensures kept { KeepsReserved self.old self.new }
     {
         let page = self.checkpoint.frozen()[0];
-        let left = self.file_length(page.file).saturating_sub(PAGE * u64::from(page.page));
+        let left = self
+            .file_length(page.file)
+            .saturating_sub(PAGE * u64::from(page.page));
         if left >= PAGE {
             return self.step_with(true, Source::Page(page));
         }
