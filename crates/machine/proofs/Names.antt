@@ -36,6 +36,7 @@ pub use Rattle.journal.proofs.Public.{stage_committed, stage_is, stands_after, s
 pub use Rattle.journal.proofs.Public.{stands_first, stands_left, stands_other, stands_within}
 pub use Rattle.journal.specs.Crash.{LeftBefore, LeftWithin}
 pub use Rattle.journal.specs.Stage.{answer_at, is_committed}
+pub use Rattle.journal.specs.Standing.{MayBegin}
 pub use Rattle.journal.specs.Work.{CopyBlock, HasFailed, Nothing, Sync, TornByWork, TornFromWork, Work, WriteAt}
 pub use Rattle.journal.specs.Work.{calls_of, has_done, work_at, worked}
 pub use Rattle.journal.specs.WriteOut.{WriteOut, advanced_of, answer_of, begun_of, broken_after, calls_in_steps}
@@ -92,7 +93,7 @@ pub use Rattle.machine.specs.inside.Flushing.{HasSmallMark, checkpoint_after, me
 pub use Rattle.machine.specs.inside.Flushing.{released_pages, reply_of_flush}
 pub use Rattle.machine.specs.inside.Following.{Follows}
 pub use Rattle.machine.specs.inside.Layers.{AnswersBy, AreLayers, AreReserved, IsAtHome, IsPageOf, IsQuiet, IsReserved}
-pub use Rattle.machine.specs.inside.Layers.{KeepsReserved, MayBegin, state_in, whole_in, with_homes}
+pub use Rattle.machine.specs.inside.Layers.{KeepsReserved, state_in, whole_in, with_homes}
 pub use Rattle.machine.specs.inside.Moves.{AreSpacesTold, Begin, Beginning, BeginsChange, Bring, ChangesPlaces}
 pub use Rattle.machine.specs.inside.Moves.{Changing, Copy, Destroy, Drop, End, Ending, EndsChange, Entering, Failed}
 pub use Rattle.machine.specs.inside.Moves.{IsMoved, IsProcessorTold, Leaving, Mapping, Marked, Move, Moved, Moves}

@@ -77,8 +77,8 @@ Reaches s p act reply new =
 
 -- ---- refusals
 
--- an act that may be refused memory, where nothing else is against it: a space is made; pages are mapped; a mapping has
--- to be split before its pages are unmapped or given other rights
+-- an act that asks for memory: a space is made; pages are mapped; a mapping has to be split before its pages are
+-- unmapped or given other rights
 abbrev pub AsksMemory : State → Act → Type 0
 AsksMemory s acts.Create = (pcid : ℕ) × IsLowestFree s.hardware.spaces pcid
 AsksMemory s (acts.Map pcid va len file offset prot access) = Unit {0}
@@ -90,11 +90,12 @@ AsksMemory s (acts.Protect pcid va len prot) =
     × (0 < splits (space_at s.hardware.spaces pcid).places range (Some prot))
 AsksMemory s act = ⊥
 
+-- an act that may be refused memory: it asks for it, and nothing is against it
 abbrev pub WantsMemory : State → ℕ → Act → Type 0
 WantsMemory s p act = (reason_against s p act ≡ None) × AsksMemory s act
 
--- Why an act is refused: for the first reason against it. Where there is none, memory may be refused, a space isn't
--- made without a free PCID, and a fault isn't served whose page couldn't be read.
+-- Why an act is refused: for the first reason against it. Where there is none, memory may be refused, no space is made
+-- without a free PCID, and a fault isn't served if the one read of its page fails.
 abbrev pub Refuses : State → ℕ → Act → Refusal → Type 0
 Refuses s p acts.Create refusals.Enomem =
     (reason_against s p acts.Create ≡ None) × ((pcid : ℕ) → IsLowestFree s.hardware.spaces pcid → ⊥)
@@ -328,13 +329,13 @@ Does s disk p (acts.Fix va write) replies.Fixed new = FixMade s disk p va write 
 Does s disk p acts.Create (replies.Space pcid) new =
     IsLowestFree s.hardware.spaces pcid × (new ≡ with_spaces s (with_space s.hardware.spaces pcid empty_space))
 Does s disk p (acts.Destroy pcid) replies.Destroyed new = SpaceDestroyed s pcid new
--- the pages of the len bytes from va on of a space are mapped to a file from the offset on: these pages, from this page
--- of the file on; no entry is made
+-- it maps the pages of the len bytes from va on of a space to a file from the offset on, that is, from this page of the
+-- file on; no entry is made
 Does s disk p (acts.Map pcid va len file offset prot access) replies.Mapped new =
     (pages : PageRange × ℕ) × (judged_mapping s.hardware.spaces pcid va len offset ≡ Ok pages)
     × (new ≡ with_spaces s (with_mapping s.hardware.spaces pcid pages.0
     (record { file = file; page = pages.1; rights = prot; access = access })))
--- it begins to unmap the pages of the len bytes from va on of a space if one of them is mapped
+-- it begins to unmap the pages of the len bytes from va on of a space if one of them is mapped, and else nothing
 Does s disk p (acts.Unmap pcid va len) replies.Begun new =
     (range : PageRange) × (judged_range s.hardware.spaces pcid va len ≡ Ok range)
     × (maps_some s.hardware.spaces pcid range ≡ true) × (new ≡ begin_change s p (changes.Unmap pcid range))
@@ -345,7 +346,7 @@ Does s disk p (acts.Unmap pcid va len) replies.Fine new =
 Does s disk p (acts.Protect pcid va len prot) replies.Begun new =
     (range : PageRange) × (judged_protection s.hardware.spaces pcid va len prot ≡ Ok range)
     × (new ≡ begin_change s p (changes.Protect pcid range prot))
--- it begins to take a page of a file out of memory if a frame has it
+-- it begins to take a page of a file out of memory if a frame has it, and else nothing
 Does s disk p (acts.Reclaim file page) replies.Begun new =
     (is_in_memory s.hardware.memory (record { file = file; page = page }) ≡ true)
     × (new ≡ begin_change s p (changes.Reclaim (record { file = file; page = page })))
@@ -354,8 +355,7 @@ Does s disk p (acts.Reclaim file page) replies.Nothing new =
 -- it begins a commit of all stores, also of those outside the range; va, len and flags only decide whether it is
 -- refused
 Does s disk p (acts.Msync va len flags) replies.Begun new = new ≡ begin_change s p changes.Checkpoint
--- it makes the change that it had begun, once no processor is interrupted any more; there is none where the lock is
--- free
+-- it makes the change that it had begun, and the reply says which; there is none where the lock is free
 Does s disk p acts.Change replies.Unmapped new = UnmapMade s p new
 Does s disk p acts.Change replies.Protected new = ProtectMade s p new
 Does s disk p acts.Change replies.Reclaimed new = ReclaimMade s p new

@@ -7,7 +7,8 @@ ghost use Rattle.machine.specs.declared.act.Act.TheVariants.{Change};
 ghost use Rattle.machine.specs.State.{home_of};
 ghost use Rattle.machine.specs.inside.Sound.{IsSound};
 ghost use Rattle.machine.specs.Rules.{Answers};
-ghost use Rattle.machine.specs.inside.Layers.{state_in, IsQuiet, IsPageOf, MayBegin, with_homes};
+ghost use Rattle.machine.specs.inside.Layers.{state_in, IsQuiet, IsPageOf, with_homes};
+ghost use Rattle.journal.specs.Standing.{MayBegin};
 
 use crate::Reply;
 use crate::layers::Layers;

@@ -1,5 +1,5 @@
 -- How the code keeps a machine: its layers, and what private calls promise of them.
-use Rattle.std.specs.Prelude.{ℕ, ◌≡◌, ◌*◌, ◌≤◌, ◌<◌, false, List, [], ◌∷◌, length, Option, Some, None, Result, Ok, Err}
+use Rattle.std.specs.Prelude.{ℕ, ◌≡◌, ◌*◌, ◌≤◌, ◌<◌, List, [], ◌∷◌, length, Option, Some, None, Result, Ok, Err}
 use Rattle.page_entry.specs.declared.refusal.Refusal.{Refusal}
 use Rattle.page_entry.specs.declared.numbers.FilePage.{FilePage}
 use Rattle.mappings.specs.declared.page_range.PageRange.{PageRange}
@@ -11,10 +11,8 @@ use Rattle.shootdown.specs.declared.lock.Lock.{Lock}
 use Rattle.machine.specs.declared.act.Reply.{Reply}
 use Rattle.machine.specs.declared.act.Reply.TheVariants as replies
 use Rattle.machine.specs.declared.layers.Layers.{Layers}
-use Rattle.std.specs.List.{AllByRecursion}
-use Rattle.volume_codec.specs.Descriptor.{AreHomes}
 use Rattle.frames.specs.Frames.{frame_at, bytes_of}
-use Rattle.journal.specs.WriteOuts.{WriteOutsValue, is_busy, begun, HasBlock}
+use Rattle.journal.specs.WriteOuts.{WriteOutsValue, begun, HasBlock}
 use Rattle.checkpoint.specs.Checkpoint.{IsDirty}
 use Rattle.machine.specs.State.{State, Whole, home_of, cut_at_end}
 use Rattle.machine.specs.Refusals.{pages_in_file}
@@ -82,14 +80,6 @@ pub record KeepsReserved {D Z : Type 0} (old new : Layers D Z) : Type 0 where
 pub record AnswersBy (honest : Type 0) (rules : List ℕ → List ℕ → Type 0) (disk disk' : List ℕ) : Type 0 where
   pub some_disk : (d d' : List ℕ) × rules d d'
   pub own_disk : honest → rules disk disk'
-
--- a batch of these home blocks may begin under this mark
-pub record MayBegin (outs : WriteOutsValue) (mark : ℕ) (blocks : List ℕ) : Type 0 where
-  pub whole : outs.broken ≡ false
-  pub free : is_busy outs ≡ false
-  pub some_mark : 0 < mark
-  pub homes : AreHomes outs.geometry blocks
-  pub newest : AllByRecursion (λ w. w.batch.mark < mark) outs.batches
 
 -- with a batch of these home blocks, if there are any
 abbrev pub with_homes : WriteOutsValue → ℕ → List ℕ → WriteOutsValue
