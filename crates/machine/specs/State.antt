@@ -1,5 +1,5 @@
 -- What contracts see of a machine: the states of its layers.
-use Rattle.std.specs.Prelude.{ℕ, ◌-◌, ◌*◌, ◌+◌, List, take, slice_index_or}
+use Rattle.std.specs.Prelude.{ℕ, Bool, ◌-◌, ◌*◌, ◌+◌, List, take, slice_index_or}
 use Rattle.page_entry.specs.declared.numbers.FilePage.{FilePage}
 use Rattle.volume_codec.specs.Super.{SuperValue, first_home_of}
 use Rattle.volume_codec.specs.Text.{padded}
@@ -21,6 +21,8 @@ pub record State : Type 0 where
   pub write_outs : WriteOutsValue
   -- how many marks were made since boot
   pub marks : ℕ
+  -- whether a length was set since the last mark
+  pub resized : Bool
 
 -- a machine and its device
 pub record Whole (D : Type 0) : Type 0 where
