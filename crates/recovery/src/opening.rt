@@ -425,9 +425,9 @@ fn recover<D: Device, A: Allocator + Copy>(
 /// two open journals have one mark, or the device is shorter than its volume; nothing is written then. `Device` where a
 /// device call failed.
 /// `OutOfMemory` may come in the place of these, and nothing is written then either. An `Err` hands the device back.
-/// With no open journal it makes 3 device calls in layout 1 and 4 in layout 2, and 2k + 4 more for each open journal
-/// of k records. Where it is refused it makes no more than that; one where block 0 holds no table, and where nothing
-/// is written 4 in layout 1 and 6 in layout 2.
+/// With no open journal it makes 3 device calls in layout 1, 4 in layout 2 and 5 in layout 3, and 2k + 4 more for each
+/// open journal of k records. Where it is refused it makes no more than that; one where block 0 holds no table, and where
+/// nothing is written 4 in layout 1, 6 in layout 2 and 7 in layout 3.
 pub fn open<D: Device, A: Allocator + Copy>(
     alloc: A,
     mut device: D,
