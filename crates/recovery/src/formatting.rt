@@ -166,8 +166,8 @@ fn write_table<D: Device, A: Allocator + Copy>(
 /// volume stays, also then.
 ///
 /// It writes zeros over all home blocks, 32,768 bytes at a time, then the lengths block where the layout has one,
-/// closes each gate, syncs, writes the super block and syncs. A crash meanwhile leaves block 0 as it was, or any bytes in
-/// it and all the rest of the volume empty: the lengths that were asked for, home blocks of zeros, and closed gates.
+/// closes each gate, syncs, writes the super block and syncs. A crash meanwhile leaves block 0 as it was, or any bytes
+/// in it and all the rest of the volume empty: the lengths that were asked for, home blocks of zeros, and closed gates.
 /// Where it is refused it makes no more device calls than where it is not.
 pub fn format_as<D: Device, A: Allocator + Copy>(
     alloc: A,
