@@ -528,6 +528,10 @@ const FAULTS: &[(&str, &str)] = &[
         "disk \"none.img\": badshape: SLOTS is 1021, and 1 to 1020 are allowed\n",
     ),
     (
+        "format|--layout|3|none.img|1|a=1",
+        "disk \"none.img\": badshape: SLOTS is 1, and 2 to 1020 are allowed\n",
+    ),
+    (
         "format|none.img|4|a=0",
         "disk \"none.img\": badshape: the length of \"a\" is 0, and lengths begin at 1\n",
     ),
@@ -552,12 +556,12 @@ const FAULTS: &[(&str, &str)] = &[
         "disk \"none.img\": badshape: the volume would have more than 4294967295 blocks\n",
     ),
     (
-        "format|--layout|3|none.img|4|a=1",
-        "disk \"none.img\": badshape: LAYOUT is 3, and 1 and 2 are served\n",
+        "format|--layout|4|none.img|4|a=1",
+        "disk \"none.img\": badshape: LAYOUT is 4, and 1 to 3 are served\n",
     ),
     (
         "format|--layout=0|none.img|4|a=1",
-        "disk \"none.img\": badshape: LAYOUT is 0, and 1 and 2 are served\n",
+        "disk \"none.img\": badshape: LAYOUT is 0, and 1 to 3 are served\n",
     ),
     ("format|none/x.img|4|a=1", "file \"none/x.img.new\": "),
     ("format|none/x\n.img|4|a=1", "file \"none/x\\n.img.new\": "),
@@ -924,7 +928,7 @@ fn refuses_image<R: Host>(rt: &R, changes: &[(usize, u8)], len: usize, cause: &s
     }
 }
 
-const FOREIGN: &str = "notavolume: the file doesn't begin with FAMSYNC1 or FAMSYNC2";
+const FOREIGN: &str = "notavolume: the file doesn't begin with FAMSYNC1, FAMSYNC2 or FAMSYNC3";
 
 const SPOILT: &str = "damaged: the super block breaks the format";
 

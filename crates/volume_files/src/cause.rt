@@ -25,10 +25,10 @@ impl fmt::Display for Refused<'_> {
 /// What was found, and what is allowed.
 #[derive(Clone, Copy, Debug, Error)]
 pub enum Cause<'a> {
-    #[error("LAYOUT is {0}, and 1 and 2 are served")]
+    #[error("LAYOUT is {0}, and 1 to 3 are served")]
     Layout(u64),
-    #[error("SLOTS is {0}, and 1 to 1020 are allowed")]
-    Slots(u64),
+    #[error("SLOTS is {found}, and {least} to 1020 are allowed")]
+    Slots { found: u64, least: u64 },
     #[error("{0} files are asked for, and 1 to 64 are allowed")]
     FileCount(usize),
     #[error("the name {0:?} isn't 1 to 32 characters from ! to ~")]
@@ -41,7 +41,7 @@ pub enum Cause<'a> {
     TooManyBlocks,
     #[error("the file has {0} bytes, and a volume has 4096 at least")]
     TooShort(u64),
-    #[error("the file doesn't begin with FAMSYNC1 or FAMSYNC2")]
+    #[error("the file doesn't begin with FAMSYNC1, FAMSYNC2 or FAMSYNC3")]
     Magic,
     #[error("the super block breaks the format")]
     SuperBlock,
@@ -70,11 +70,16 @@ pub fn refused_to_format<'a>(
 
 // What is outside the limits of volumes.
 fn cause_in_files<'a>(layout: u64, files: &[FileSpec<'a>], slots: u64) -> Cause<'a> {
-    if !matches!(layout, 1 | 2) {
+    if !matches!(layout, 1 | 2 | 3) {
         return Cause::Layout(layout);
     }
-    if !(1..=1_020).contains(&slots) {
-        return Cause::Slots(slots);
+    // A batch of layout 3 may have the lengths besides a page.
+    let least = if layout == 3 { 2 } else { 1 };
+    if !(least..=1_020).contains(&slots) {
+        return Cause::Slots {
+            found: slots,
+            least,
+        };
     }
     if !(1..=64).contains(&files.len()) {
         return Cause::FileCount(files.len());
