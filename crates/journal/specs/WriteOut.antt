@@ -87,12 +87,6 @@ pub record FlushValue : Type 0 where
 abbrev pub flush_of : GeometryValue → Batch → ℕ → FlushValue
 flush_of g batch room = record { geometry = g; write_out = begun_of batch; broken = false; room = room }
 
--- after the step that commits it
-abbrev pub committed_of : GeometryValue → Batch → ℕ → FlushValue
-committed_of g batch room = record (flush_of g batch room) {
-  write_out = record { batch = batch; steps = length batch.homes + 4 };
-}
-
 -- the record and its home block, the work and the answer of its next step
 abbrev pub flush_record : FlushValue → Option ℕ
 flush_record flush = if flush.broken then None else next_record flush.write_out

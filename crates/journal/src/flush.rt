@@ -4,7 +4,8 @@ ghost use Rattle.std.specs.Vec.{vec_capacity};
 ghost use Rattle.device.specs.Did.{Did};
 ghost use Rattle.journal.specs.Work.{has_done};
 ghost use Rattle.journal.specs.WriteOut.{next_stage, has_committed};
-ghost use Rattle.journal.specs.WriteOut.{IsBatch, flush_of, committed_of, flush_record, flush_home, flush_work, flush_answer, flush_after};
+ghost use Rattle.journal.specs.WriteOut.{IsBatch, flush_of, flush_record, flush_home, flush_work, flush_answer, flush_after};
+ghost use Rattle.journal.specs.inside.Listed.{committed_of};
 
 use crate::listed::Listed;
 use crate::{Flushed, Stage};

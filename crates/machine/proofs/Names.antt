@@ -59,8 +59,8 @@ pub use Rattle.machine.specs.Durability.{waiting_homes}
 pub use Rattle.machine.specs.Durability.{within_file}
 pub use Rattle.machine.specs.Fresh.{IsFresh, IsShape, fresh}
 pub use Rattle.machine.specs.History.{Acknowledge, Event, Mark, Memory, after, bytes_of_pages, file_bytes, files_after}
-pub use Rattle.machine.specs.History.{cut_file, files_from_memory, has_resized, has_unmarked, is_change, is_change_of}
-pub use Rattle.machine.specs.History.{is_resize, is_touched, lengths_after, lengths_of, memory_of, since_mark, stored}
+pub use Rattle.machine.specs.History.{cut_file, files_from_memory, has_unmarked, is_change, is_change_of, is_touched}
+pub use Rattle.machine.specs.History.{lengths_after, lengths_of, memory_of, since_mark, stored}
 pub use Rattle.machine.specs.History.{with_event, with_length}
 pub use Rattle.machine.specs.Later.{AreDurable, Finds, FindsDurable, OpensTo}
 pub use Rattle.machine.specs.Laws.{EachStep, FaultsAreServed, IsAccessOf, IsAnswered, IsFreeToAct, IsInside, IsLawful}
@@ -105,7 +105,7 @@ pub use Rattle.machine.specs.inside.Sound.{IsMemorySound, IsPrepared, IsSound, I
 pub use Rattle.machine.specs.inside.Tracking.{AreContentsOf, AreMarks, ArePlain, AreTouched}
 pub use Rattle.machine.specs.inside.Tracking.{HasAcknowledged, HasFiles}
 pub use Rattle.machine.specs.inside.Tracking.{HasParts, IsArranged, IsLatest, IsLost, IsTracked, IsWaiting, IsWritten}
-pub use Rattle.machine.specs.inside.Tracking.{change_in, pending_in}
+pub use Rattle.machine.specs.inside.Tracking.{change_in, has_resized, is_resize, pending_in}
 pub use Rattle.mappings.specs.Judgement.{add_refusal, is_mappable, is_user_range, mapped_pages_of, pages_holding}
 pub use Rattle.mappings.specs.Judgement.{protect_refusal, range_of_bytes}
 pub use Rattle.mappings.specs.Places.{Places, all_mapped, allows, any_forbids, any_mapped, is_among, may_write}

@@ -109,14 +109,6 @@ is_change_of file page event = false
 abbrev pub has_unmarked : List Event → Bool
 has_unmarked history = list_any is_change (since_mark history)
 
--- whether a change of length does
-abbrev pub is_resize : Event → Bool
-is_resize (SetLength file from to) = true
-is_resize event = false
-
-abbrev pub has_resized : List Event → Bool
-has_resized history = list_any is_resize (since_mark history)
-
 -- whether a store to this page of a file, or a growth that has it, stands after the last mark
 abbrev pub is_touched : List Event → ℕ → ℕ → Bool
 is_touched history file page = list_any (is_change_of file page) (since_mark history)

@@ -1,8 +1,11 @@
 -- Steps after steps: what was made, and that it reads and stores nothing.
-use Rattle.std.proofs.Common.{◌≡◌, ◌⊎◌, inl, inr, ℕ, ◌+◌, Bool, true, false, not, List, [], ◌∷◌, ◌++◌, length, refl, sym, ◌∙◌, ap, subst, Contains}
+use Rattle.std.proofs.Common.{◌≡◌, ◌⊎◌, inl, inr, ℕ, ◌+◌, ◌==◌, ◌&&◌, arith, Bool, true, false, not, List, [], ◌∷◌, ◌++◌, length, refl, sym, ◌∙◌, ap, subst, Contains}
+use Rattle.std.proofs.lemmas.Bool.Decides.{nat_tests}
 use Rattle.std.proofs.lemmas.List.{append-nil}
 use Rattle.std.proofs.lemmas.List.Elements.{Contains-append_left, Contains-append_right, Contains-push}
 use Rattle.device.specs.declared.device.Device.{Ghosts}
+use Rattle.machine.specs.declared.act.Act.{Act}
+use Rattle.machine.specs.declared.act.Act.TheVariants.{Load, Store, Fill, Evict, Switch, Idle, Wake, Fix, Create, Destroy, Map, Unmap, Protect, Reclaim, Msync, Ack, Change, Resume, Flush}
 use Rattle.machine.specs.declared.act.Reply.{Reply}
 use Rattle.machine.specs.declared.act.Reply.TheVariants.{Marked, Committed}
 use Rattle.machine.specs.declared.act.Step.{Step}
@@ -10,9 +13,9 @@ use Rattle.machine.specs.State.{Whole}
 use Rattle.machine.specs.Runs.{StepTaken, StepsTaken}
 use Rattle.session.specs.declared.notes.Notes.{Notes}
 use Rattle.session.specs.Notes.{noted_after, noted_all}
-use Rattle.session.specs.Steps.{Makes, Says, is_aside, IsMarkDurable, CommitsMark}
-use Rattle.session.specs.inside.Aside.{AreAside, GoesAside, IsTold, AnswersAfter}
-use Rattle.session.specs.inside.Made.{HasMade}
+use Rattle.session.specs.Steps.{Makes, Says, is_aside, is_of_commit, AreOfCommit, may_end, EndsAt, IsMarkDurable, CommitsMark}
+use Rattle.session.specs.inside.Aside.{AreAside, GoesAside, IsTold, StopsAt, AnswersAfter}
+use Rattle.session.specs.inside.Made.{HasMade, GoesOn}
 
 noted_then : (before : Notes) (replies more : List Reply) → noted_all before (replies ++ more) ≡ noted_all (noted_all before replies) more
 noted_then before [] more = refl
@@ -41,6 +44,55 @@ aside_all [] [] steps' replies' first later = later
 aside_all (step ∷ steps) (reply ∷ replies) steps' replies' first later = (first.0, aside_all steps replies steps' replies' first.1 later)
 aside_all [] (reply ∷ replies) steps' replies' first later = absurd first
 aside_all (step ∷ steps) [] steps' replies' first later = absurd first
+
+-- steps of a commit after steps of a commit
+commit_all : (steps : List Step) (replies : List Reply) (steps' : List Step) (replies' : List Reply) → AreOfCommit steps replies → AreOfCommit steps' replies' → AreOfCommit (steps ++ steps') (replies ++ replies')
+commit_all [] [] steps' replies' first later = later
+commit_all (step ∷ steps) (reply ∷ replies) steps' replies' first later = (first.0, commit_all steps replies steps' replies' first.1 later)
+commit_all [] (reply ∷ replies) steps' replies' first later = absurd first
+commit_all (step ∷ steps) [] steps' replies' first later = absurd first
+
+aside_is_of_commit : (act : Act) (reply : Reply) → is_aside act reply ≡ true → is_of_commit act reply ≡ true
+aside_is_of_commit (Msync va len flags) reply is = refl
+aside_is_of_commit (Load va count) reply is = is
+aside_is_of_commit (Store va bytes) reply is = is
+aside_is_of_commit (Fill page) reply is = is
+aside_is_of_commit (Evict slot) reply is = is
+aside_is_of_commit (Switch space keep) reply is = is
+aside_is_of_commit Idle reply is = is
+aside_is_of_commit Wake reply is = is
+aside_is_of_commit (Fix va write) reply is = is
+aside_is_of_commit Create reply is = is
+aside_is_of_commit (Destroy space) reply is = is
+aside_is_of_commit (Map space va len file offset prot access) reply is = is
+aside_is_of_commit (Unmap space va len) reply is = is
+aside_is_of_commit (Protect space va len prot) reply is = is
+aside_is_of_commit (Reclaim file page) reply is = is
+aside_is_of_commit Ack reply is = is
+aside_is_of_commit Change reply is = is
+aside_is_of_commit Resume reply is = is
+aside_is_of_commit Flush reply is = is
+
+-- what reads and stores nothing may be part of a commit
+commit_aside : (steps : List Step) (replies : List Reply) → AreAside steps replies → AreOfCommit steps replies
+commit_aside [] [] aside = aside
+commit_aside (step ∷ steps) (reply ∷ replies) aside = (aside_is_of_commit step.act reply aside.0, commit_aside steps replies aside.1)
+commit_aside [] (reply ∷ replies) aside = absurd aside
+commit_aside (step ∷ steps) [] aside = absurd aside
+
+-- what ends a range, before and after other steps
+pub ends_before : (p at : ℕ) (reply : Reply) (steps : List Step) (replies : List Reply) (steps' : List Step) (replies' : List Reply) → EndsAt p at reply steps replies → EndsAt p at reply (steps ++ steps') (replies ++ replies')
+ends_before p at reply (step ∷ steps) (other ∷ replies) steps' replies' (inl this) = inl this
+ends_before p at reply (step ∷ steps) (other ∷ replies) steps' replies' (inr more) = inr (ends_before p at reply steps replies steps' replies' more)
+ends_before p at reply [] [] steps' replies' ended = absurd ended
+ends_before p at reply [] (other ∷ replies) steps' replies' ended = absurd ended
+ends_before p at reply (step ∷ steps) [] steps' replies' ended = absurd ended
+
+pub ends_later : (p at : ℕ) (reply : Reply) (steps : List Step) (replies : List Reply) (steps' : List Step) (replies' : List Reply) → AreAside steps replies → EndsAt p at reply steps' replies' → EndsAt p at reply (steps ++ steps') (replies ++ replies')
+ends_later p at reply [] [] steps' replies' aside ended = ended
+ends_later p at reply (step ∷ steps) (other ∷ replies) steps' replies' aside ended = inr (ends_later p at reply steps replies steps' replies' aside.1 ended)
+ends_later p at reply [] (other ∷ replies) steps' replies' aside ended = absurd aside
+ends_later p at reply (step ∷ steps) [] steps' replies' aside ended = absurd aside
 
 -- no step
 pub aside_none : {D : Type 0} (disk : Ghosts D) (old : Whole D) (before : Notes) → GoesAside disk old before old before
@@ -107,6 +159,61 @@ answers_aside disk old new before after step reply is answer = record {
   told = Contains-push answer.replies reply;
 }
 
+-- one step that ends a range
+pub stops_one : {D : Type 0} (disk : Ghosts D) (old new : Whole D) (before after : Notes) (step : Step) (at : ℕ) (reply : Reply) → is_aside step.act reply ≡ true → may_end at step.act reply ≡ true → Makes disk old before (step ∷ []) (reply ∷ []) new after
+    → StopsAt disk old before step.p at reply new after
+stops_one disk old new before after step at reply is ended made = record { steps = step ∷ []; replies = reply ∷ []; makes = made; aside = (is, tt); ends = inl (refl, ended, refl) }
+
+pub stops_later : {D : Type 0} (disk : Ghosts D) (old mid new : Whole D) (before between after : Notes) (p at : ℕ) (reply : Reply) → GoesAside disk old before mid between → StopsAt disk mid between p at reply new after → StopsAt disk old before p at reply new after
+stops_later disk old mid new before between after p at reply first later = record {
+  steps = first.steps ++ later.steps;
+  replies = first.replies ++ later.replies;
+  makes = makes_then disk old mid new before between after first.steps first.replies later.steps later.replies first.makes later.makes;
+  aside = aside_all first.steps first.replies later.steps later.replies first.aside later.aside;
+  ends = ends_later p at reply first.steps first.replies later.steps later.replies first.aside later.ends;
+}
+
+pub stops_before : {D : Type 0} (disk : Ghosts D) (old mid new : Whole D) (before between after : Notes) (p at : ℕ) (reply : Reply) → StopsAt disk old before p at reply mid between → GoesAside disk mid between new after → StopsAt disk old before p at reply new after
+stops_before disk old mid new before between after p at reply first later = record {
+  steps = first.steps ++ later.steps;
+  replies = first.replies ++ later.replies;
+  makes = makes_then disk old mid new before between after first.steps first.replies later.steps later.replies first.makes later.makes;
+  aside = aside_all first.steps first.replies later.steps later.replies first.aside later.aside;
+  ends = ends_before p at reply first.steps first.replies later.steps later.replies first.ends;
+}
+
+-- an access that ends a range
+pub answers_stop : {D : Type 0} (disk : Ghosts D) (old new : Whole D) (before after : Notes) (step : Step) (at : ℕ) (reply : Reply) → is_aside step.act reply ≡ true → may_end at step.act reply ≡ true → AnswersAfter disk old before step reply new after
+    → StopsAt disk old before step.p at reply new after
+answers_stop disk old new before after step at reply is ended answer = record {
+  steps = answer.steps ++ step ∷ [];
+  replies = answer.replies ++ reply ∷ [];
+  makes = answer.makes;
+  aside = aside_all answer.steps answer.replies (step ∷ []) (reply ∷ []) answer.aside (is, tt);
+  ends = ends_later step.p at reply answer.steps answer.replies (step ∷ []) (reply ∷ []) answer.aside (inl (refl, ended, refl));
+}
+
+-- steps of a commit
+pub commit_none : {D : Type 0} (disk : Ghosts D) (old : Whole D) (before : Notes) → GoesOn disk old before old before
+commit_none disk old before = record { steps = []; replies = []; makes = makes_none disk old before; of_commit = tt }
+
+pub commit_one : {D : Type 0} (disk : Ghosts D) (old new : Whole D) (before after : Notes) (step : Step) (reply : Reply) → is_of_commit step.act reply ≡ true → Makes disk old before (step ∷ []) (reply ∷ []) new after → GoesOn disk old before new after
+commit_one disk old new before after step reply is makes = record { steps = step ∷ []; replies = reply ∷ []; makes = makes; of_commit = (is, tt) }
+
+pub commit_then : {D : Type 0} (disk : Ghosts D) (old mid new : Whole D) (before between after : Notes) → GoesOn disk old before mid between → GoesOn disk mid between new after → GoesOn disk old before new after
+commit_then disk old mid new before between after first later = record {
+  steps = first.steps ++ later.steps;
+  replies = first.replies ++ later.replies;
+  makes = makes_then disk old mid new before between after first.steps first.replies later.steps later.replies first.makes later.makes;
+  of_commit = commit_all first.steps first.replies later.steps later.replies first.of_commit later.of_commit;
+}
+
+pub commit_told : {D : Type 0} (disk : Ghosts D) (old new : Whole D) (before after : Notes) (reply : Reply) → IsTold disk old before reply new after → GoesOn disk old before new after
+commit_told disk old new before after reply told = record { steps = told.steps; replies = told.replies; makes = told.makes; of_commit = commit_aside told.steps told.replies told.aside }
+
+pub commit_said : {D : Type 0} (disk : Ghosts D) (old new : Whole D) (before after : Notes) (reply : Reply) → Says disk old before reply new after → GoesOn disk old before new after
+commit_said disk old new before after reply said = record { steps = said.steps; replies = said.replies; makes = said.makes; of_commit = said.of_commit }
+
 -- whatever was made
 pub made_none : {D : Type 0} (disk : Ghosts D) (old : Whole D) (before : Notes) → HasMade disk old before old before
 made_none disk old before = record { steps = []; replies = []; makes = makes_none disk old before }
@@ -121,27 +228,29 @@ made_then disk old mid new before between after first later = record {
 pub made_one : {D : Type 0} (disk : Ghosts D) (old new : Whole D) (before after : Notes) (step : Step) (reply : Reply) → Makes disk old before (step ∷ []) (reply ∷ []) new after → HasMade disk old before new after
 made_one disk old new before after step reply makes = record { steps = step ∷ []; replies = reply ∷ []; makes = makes }
 
-pub says_one : {D : Type 0} (disk : Ghosts D) (old new : Whole D) (before after : Notes) (step : Step) (reply : Reply) → Makes disk old before (step ∷ []) (reply ∷ []) new after → Says disk old before reply new after
-says_one disk old new before after step reply makes = record { steps = step ∷ []; replies = reply ∷ []; makes = makes; told = Contains-push [] reply }
+pub says_one : {D : Type 0} (disk : Ghosts D) (old new : Whole D) (before after : Notes) (step : Step) (reply : Reply) → is_of_commit step.act reply ≡ true → Makes disk old before (step ∷ []) (reply ∷ []) new after → Says disk old before reply new after
+says_one disk old new before after step reply is makes = record { steps = step ∷ []; replies = reply ∷ []; makes = makes; of_commit = (is, tt); told = Contains-push [] reply }
 
-pub says_later : {D : Type 0} (disk : Ghosts D) (old mid new : Whole D) (before between after : Notes) (reply : Reply) → HasMade disk old before mid between → Says disk mid between reply new after → Says disk old before reply new after
+pub says_later : {D : Type 0} (disk : Ghosts D) (old mid new : Whole D) (before between after : Notes) (reply : Reply) → GoesOn disk old before mid between → Says disk mid between reply new after → Says disk old before reply new after
 says_later disk old mid new before between after reply first later = record {
   steps = first.steps ++ later.steps;
   replies = first.replies ++ later.replies;
   makes = makes_then disk old mid new before between after first.steps first.replies later.steps later.replies first.makes later.makes;
+  of_commit = commit_all first.steps first.replies later.steps later.replies first.of_commit later.of_commit;
   told = Contains-append_right first.replies later.replies reply later.told;
 }
 
-pub says_before : {D : Type 0} (disk : Ghosts D) (old mid new : Whole D) (before between after : Notes) (reply : Reply) → Says disk old before reply mid between → HasMade disk mid between new after → Says disk old before reply new after
+pub says_before : {D : Type 0} (disk : Ghosts D) (old mid new : Whole D) (before between after : Notes) (reply : Reply) → Says disk old before reply mid between → GoesOn disk mid between new after → Says disk old before reply new after
 says_before disk old mid new before between after reply first later = record {
   steps = first.steps ++ later.steps;
   replies = first.replies ++ later.replies;
   makes = makes_then disk old mid new before between after first.steps first.replies later.steps later.replies first.makes later.makes;
+  of_commit = commit_all first.steps first.replies later.steps later.replies first.of_commit later.of_commit;
   told = Contains-append_left first.replies later.replies reply first.told;
 }
 
 pub says_told : {D : Type 0} (disk : Ghosts D) (old new : Whole D) (before after : Notes) (reply : Reply) → IsTold disk old before reply new after → Says disk old before reply new after
-says_told disk old new before after reply told = record { steps = told.steps; replies = told.replies; makes = told.makes; told = told.told }
+says_told disk old new before after reply told = record { steps = told.steps; replies = told.replies; makes = told.makes; of_commit = commit_aside told.steps told.replies told.aside; told = told.told }
 
 pub made_said : {D : Type 0} (disk : Ghosts D) (old new : Whole D) (before after : Notes) (reply : Reply) → Says disk old before reply new after → HasMade disk old before new after
 made_said disk old new before after reply said = record { steps = said.steps; replies = said.replies; makes = said.makes }
@@ -156,6 +265,7 @@ acknowledged_at_once disk old mid new before between after first-reply mark firs
   steps = first.steps ++ told.steps;
   replies = first.replies ++ told.replies;
   makes = makes_then disk old mid new before between after first.steps first.replies told.steps told.replies first.makes told.makes;
+  of_commit = commit_all first.steps first.replies told.steps told.replies first.of_commit (commit_aside told.steps told.replies told.aside);
   acknowledged = record {
     earlier = first.replies;
     during = told.replies;
@@ -174,6 +284,7 @@ acknowledged_later disk old mid marked new before between next after first-reply
   replies = (first.replies ++ told.replies) ++ last.replies;
   makes = makes_then disk old marked new before next after (first.steps ++ told.steps) (first.replies ++ told.replies) last.steps last.replies
       (makes_then disk old mid marked before between next first.steps first.replies told.steps told.replies first.makes told.makes) last.makes;
+  of_commit = commit_all (first.steps ++ told.steps) (first.replies ++ told.replies) last.steps last.replies (commit_all first.steps first.replies told.steps told.replies first.of_commit (commit_aside told.steps told.replies told.aside)) last.of_commit;
   acknowledged = record {
     earlier = first.replies;
     during = told.replies;
@@ -186,6 +297,10 @@ acknowledged_later disk old mid marked new before between next after first-reply
 
 pub made_acknowledged : {D : Type 0} (disk : Ghosts D) (old new : Whole D) (before after : Notes) (mark : ℕ) → CommitsMark disk old before mark new after → HasMade disk old before new after
 made_acknowledged disk old new before after mark it = record { steps = it.steps; replies = it.replies; makes = it.makes }
+
+-- a number is itself, and this isn't told
+pub same_and_not : (n : ℕ) (b : Bool) → b ≡ false → ((n == n) && not b) ≡ true
+same_and_not n b is = let here : (n == n) ≡ true = grind (arith, nat_tests) in rw (is, here) refl
 
 pub not_true : (b : Bool) → not b ≡ true → b ≡ false
 not_true false is = refl

@@ -1,4 +1,6 @@
 pub mod Notes
+pub mod Requests
+pub mod Asked
 pub mod Steps
 pub mod Ranges
 pub mod inside

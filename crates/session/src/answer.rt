@@ -1,5 +1,7 @@
 // The line that answers a request.
-ghost use Rattle.session.specs.inside.Made.{HasMade};
+ghost use Rattle.session.specs.Asked.{asked, AreFirst, IsDoneFor};
+ghost use Rattle.session.specs.Ranges.{MakesStepsThat};
+ghost use Rattle.session.specs.Requests.{asks_load, asks_store, asks_commit};
 
 use crate::ranges::Reached;
 use crate::request::Request;
@@ -19,7 +21,8 @@ impl<D: Device, A: Allocator + Copy> Session<D, A> {
         request: &Request<A>,
         out: &mut W,
     ) -> Result<(), SessionFault>
-        ensures { HasMade D.Device self.old.machine self.old.notes self.new.machine self.new.notes }
+        ensures { MakesStepsThat D.Device self.old.machine self.old.notes (IsDoneFor (asked request.now))
+            self.new.machine self.new.notes }
     {
         match request {
             Request::Steps(steps) => self.answer_steps(steps, out),
@@ -35,7 +38,8 @@ impl<D: Device, A: Allocator + Copy> Session<D, A> {
         steps: &[Step],
         out: &mut W,
     ) -> Result<(), SessionFault>
-        ensures { HasMade D.Device self.old.machine self.old.notes self.new.machine self.new.notes }
+        ensures { MakesStepsThat D.Device self.old.machine self.old.notes (AreFirst steps.now)
+            self.new.machine self.new.notes }
     {
         for (i, step) in steps.iter().enumerate() {
             let reply = self.make(step);
@@ -54,7 +58,8 @@ impl<D: Device, A: Allocator + Copy> Session<D, A> {
         count: u64,
         out: &mut W,
     ) -> Result<(), SessionFault>
-        ensures { HasMade D.Device self.old.machine self.old.notes self.new.machine self.new.notes }
+        ensures { MakesStepsThat D.Device self.old.machine self.old.notes (IsDoneFor (asks_load p va count))
+            self.new.machine self.new.notes }
     {
         let count = count as usize;
         let Ok(mut bytes) = Vec::with_capacity(alloc, count) else {
@@ -71,7 +76,8 @@ impl<D: Device, A: Allocator + Copy> Session<D, A> {
         bytes: &[u8],
         out: &mut W,
     ) -> Result<(), SessionFault>
-        ensures { HasMade D.Device self.old.machine self.old.notes self.new.machine self.new.notes }
+        ensures { MakesStepsThat D.Device self.old.machine self.old.notes (IsDoneFor (asks_store p va bytes.now))
+            self.new.machine self.new.notes }
     {
         let reached = self.store(p, va, bytes);
         write_stored(&reached, bytes.len(), out).map_err(SessionFault::Output)
@@ -82,7 +88,8 @@ impl<D: Device, A: Allocator + Copy> Session<D, A> {
         p: ProcessorNumber,
         out: &mut W,
     ) -> Result<(), SessionFault>
-        ensures { HasMade D.Device self.old.machine self.old.notes self.new.machine self.new.notes }
+        ensures { MakesStepsThat D.Device self.old.machine self.old.notes (IsDoneFor (asks_commit p))
+            self.new.machine self.new.notes }
     {
         let committed = self.commit(p);
         write_committed(&committed, out).map_err(SessionFault::Output)

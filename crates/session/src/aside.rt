@@ -1,5 +1,7 @@
 // Steps that a session makes beside those that it was asked for: faults are served, and frames are made free.
-ghost use Rattle.session.specs.inside.Aside.{GoesAside, IsTold};
+ghost use Rattle.std.specs.Prelude.{◌≡◌, false};
+ghost use Rattle.session.specs.Steps.{tells_fixed};
+ghost use Rattle.session.specs.inside.Aside.{GoesAside, IsTold, StopsAt};
 
 use crate::session::Session;
 use device::Device;
@@ -14,7 +16,9 @@ impl<D: Device, A: Allocator + Copy> Session<D, A> {
     /// Serves a fault of a processor, and makes a frame free for it where none is. Answers `Fixed`, or why it isn't
     /// served.
     pub(crate) fn fix(&mut self, p: ProcessorNumber, va: u64, write: bool) -> Reply
-        ensures { IsTold D.Device self.old.machine self.old.notes result self.new.machine self.new.notes }
+        ensures told { IsTold D.Device self.old.machine self.old.notes result self.new.machine self.new.notes }
+        ensures ends { tells_fixed result ≡ false → StopsAt D.Device self.old.machine self.old.notes p va result
+            self.new.machine self.new.notes }
     {
         let fix = Step {
             p,

@@ -1,9 +1,9 @@
 // Ranges of addresses, loaded and stored in steps of up to eight bytes.
 ghost use Rattle.std.specs.Prelude.{◌≡◌, ◌<◌, ◌≤◌, length, [], true, false, IfOk, IfErr, IfSome, IfNone, IsTrue};
 ghost use Rattle.machine.specs.declared.act.Reply.TheVariants as told;
-ghost use Rattle.session.specs.Steps.{tells_bytes, tells_stored};
-ghost use Rattle.session.specs.inside.Aside.{IsTold, AnswersAfter, TellsOrIsAside};
-ghost use Rattle.session.specs.Ranges.{Does, LoadsReached, StoresReached};
+ghost use Rattle.session.specs.Steps.{tells_bytes, tells_stored, tells_fixed};
+ghost use Rattle.session.specs.inside.Aside.{StopsAt, AnswersAfter, TellsOrIsAside};
+ghost use Rattle.session.specs.Ranges.{MakesStepsThat, LoadsReached, StoresReached};
 
 use crate::session::Session;
 use device::Device;
@@ -32,8 +32,8 @@ impl<D: Device, A: Allocator + Copy> Session<D, A> {
         bytes: &mut Vec<u8, A>,
     ) -> Reached
         requires { bytes.old.items ≡ [] }
-        ensures { Does D.Device self.old.machine self.old.notes (LoadsReached p va count bytes.new.items result)
-            self.new.machine self.new.notes }
+        ensures { MakesStepsThat D.Device self.old.machine self.old.notes
+            (LoadsReached p va count bytes.new.items result) self.new.machine self.new.notes }
     {
         let mut done = 0;
         while done < count {
@@ -66,7 +66,7 @@ impl<D: Device, A: Allocator + Copy> Session<D, A> {
 
     /// Stores bytes from an address on.
     pub fn store(&mut self, p: ProcessorNumber, va: u64, bytes: &[u8]) -> Reached
-        ensures { Does D.Device self.old.machine self.old.notes (StoresReached p va bytes.now result)
+        ensures { MakesStepsThat D.Device self.old.machine self.old.notes (StoresReached p va bytes.now result)
             self.new.machine self.new.notes }
     {
         let mut done = 0;
@@ -101,7 +101,7 @@ impl<D: Device, A: Allocator + Copy> Session<D, A> {
         requires { TellsOrIsAside step.now.act }
         ensures ok { IfOk result (λ reply. AnswersAfter D.Device self.old.machine self.old.notes step.now reply
             self.new.machine self.new.notes) }
-        ensures err { IfErr result (λ reply. IsTold D.Device self.old.machine self.old.notes reply
+        ensures err { IfErr result (λ reply. StopsAt D.Device self.old.machine self.old.notes step.now.p va reply
             self.new.machine self.new.notes) }
     {
         for _ in 0..u64::MAX {
@@ -155,7 +155,9 @@ fn is_fault(reply: &Reply) -> bool
     matches!(reply, Reply::Refused(Refusal::Fault(_)))
 }
 
-fn is_fixed(reply: &Reply) -> bool {
+fn is_fixed(reply: &Reply) -> bool
+    ensures { result ≡ tells_fixed reply.now }
+{
     matches!(reply, Reply::Fixed)
 }
 

@@ -1,5 +1,13 @@
 // Requests, and how they are read.
-ghost use Rattle.std.specs.Prelude.{◌≤◌, IfOk};
+ghost use Rattle.std.specs.Prelude.{◌≡◌, ◌≤◌, ◌⊎◌, [], ◌∷◌, map, Some, None, IfOk, IfErr, IsUtf8};
+ghost use Rattle.std.specs.Result.{result_ok};
+ghost use Rattle.serde_json.specs.Find.{as_str};
+ghost use Rattle.serde_json.specs.View.{view};
+ghost use Rattle.scripts.specs.Arguments.{whole_number, byte_of, long_of, all_of};
+ghost use Rattle.scripts.specs.Script.{step_of};
+ghost use Rattle.session.specs.Asked.{asked, IsMemory};
+ghost use Rattle.session.specs.Requests.{request_in, request_of, items_request, steps_together, step_alone, named_request};
+ghost use Rattle.session.specs.Requests.{load_of, store_of, commit_of, bytes_in_digits, digits_of};
 
 use crate::request_fault::RequestFault;
 use hex::FromHexError;
@@ -49,7 +57,10 @@ pub fn read_request<A: Allocator + Copy>(
     global: Global,
     alloc: A,
     line: &[u8],
-) -> Result<Request<A>, RequestFault> {
+) -> Result<Request<A>, RequestFault>
+    ensures ok { IfOk result (λ request. request_in line.now ≡ Some (asked request)) }
+    ensures err { IfErr result (λ fault. IsMemory fault ⊎ (request_in line.now ≡ None) ⊎ ¬ (IsUtf8 line.now)) }
+{
     let text = str::from_utf8(line).map_err(|_| RequestFault::NotUtf8)?;
     match parsed(global, text) {
         Ok(value) => request_of(global, alloc, &value),
@@ -58,43 +69,65 @@ pub fn read_request<A: Allocator + Copy>(
     }
 }
 
+#[tactic(auto, using(scripts::proofs::AllOf::list_of_items))]
 fn request_of<A: Allocator + Copy>(
     global: Global,
     alloc: A,
     value: &Value,
-) -> Result<Request<A>, RequestFault> {
-    let items = value.as_array().ok_or(RequestFault::NotAList)?.as_slice();
-    match items {
-        [] => Err(RequestFault::Empty),
-        [first, ..] if first.is_array() => steps_of(global, alloc, items),
-        [p, name, arguments @ ..] => match name.as_str() {
-            Some("loads") => load_of(p, arguments),
-            Some("stores") => store_of(alloc, p, arguments),
-            Some("commit") => commit_of(p, arguments),
-            _ => one_step(alloc, value),
-        },
-        _ => one_step(alloc, value),
+) -> Result<Request<A>, RequestFault>
+    ensures ok { IfOk result (λ request. request_of (view value.now) ≡ Some (asked request)) }
+    ensures err { IfErr result (λ fault. IsMemory fault ⊎ (request_of (view value.now) ≡ None)) }
+{
+    match value.as_array() {
+        Some(items) => items_request(global, alloc, value, items),
+        None => Err(RequestFault::NotAList),
     }
 }
 
-fn one_step<A: Allocator + Copy>(alloc: A, value: &Value) -> Result<Request<A>, RequestFault> {
-    let step = match read_step(value) {
-        Ok(step) => step,
-        Err(cause) => return Err(RequestFault::Step(cause)),
-    };
-    let mut steps = Vec::new(alloc);
-    if steps.push(step).is_err() {
-        return Err(RequestFault::Memory(AllocError));
+// The request that a value is which is a list of these items.
+fn items_request<A: Allocator + Copy>(
+    global: Global,
+    alloc: A,
+    value: &Value,
+    items: &[Value],
+) -> Result<Request<A>, RequestFault>
+    ensures ok { IfOk result (λ request. items_request (view value.now) (map view items.now)
+        ≡ Some (asked request)) }
+    ensures err { IfErr result (λ fault. IsMemory fault
+        ⊎ (items_request (view value.now) (map view items.now) ≡ None)) }
+{
+    match items {
+        [] => Err(RequestFault::Empty),
+        [first, ..] if first.is_array() => steps_together(global, alloc, items),
+        [p, name, arguments @ ..] => named(alloc, value, p, name, arguments),
+        _ => step_alone(alloc, value),
     }
-    Ok(Request::Steps(steps))
 }
 
 // All steps of a list, in order. A fault says which is refused first, counted from 1.
-fn steps_of<A: Allocator + Copy>(
+fn steps_together<A: Allocator + Copy>(
     global: Global,
     alloc: A,
     items: &[Value],
-) -> Result<Request<A>, RequestFault> {
+) -> Result<Request<A>, RequestFault>
+    ensures ok { IfOk result (λ request. steps_together (map view items.now) ≡ Some (asked request)) }
+    ensures err { IfErr result (λ fault. IsMemory fault ⊎ (steps_together (map view items.now) ≡ None)) }
+{
+    match steps(global, alloc, items) {
+        Ok(steps) => Ok(Request::Steps(steps)),
+        Err(fault) => Err(fault),
+    }
+}
+
+#[tactic(auto, using(scripts::proofs::AllOf::all_of_next, scripts::proofs::AllOf::all_of_fails))]
+fn steps<A: Allocator + Copy>(
+    global: Global,
+    alloc: A,
+    items: &[Value],
+) -> Result<Vec<Step, A>, RequestFault>
+    ensures ok { IfOk result (λ steps. all_of step_of (map view items.now) ≡ Some steps.items) }
+    ensures err { IfErr result (λ fault. IsMemory fault ⊎ (all_of step_of (map view items.now) ≡ None)) }
+{
     let mut steps = Vec::with_capacity(alloc, items.len()).map_err(RequestFault::Memory)?;
     for (i, item) in items.iter().enumerate() {
         let step = match read_step(item) {
@@ -105,7 +138,7 @@ fn steps_of<A: Allocator + Copy>(
             return Err(RequestFault::Memory(AllocError));
         }
     }
-    Ok(Request::Steps(steps))
+    Ok(steps)
 }
 
 // The step of this number is refused, as it stands in the request.
@@ -120,16 +153,64 @@ fn refused_step(global: Global, number: u64, value: &Value, cause: StepFault) ->
     }
 }
 
-fn load_of<A: Allocator + Copy>(
+// A processor, a name and arguments, which are the items of this value: a range, a commit, or else a step.
+fn named<A: Allocator + Copy>(
+    alloc: A,
+    value: &Value,
     p: &Value,
+    name: &Value,
     arguments: &[Value],
-) -> Result<Request<A>, RequestFault> {
-    let [va, count] = arguments else {
-        return Err(wrong_arguments("loads", "an address and a count"));
+) -> Result<Request<A>, RequestFault>
+    ensures ok { IfOk result (λ request. named_request (view value.now) (as_str (view name.now)) (view p.now)
+        (map view arguments.now) ≡ Some (asked request)) }
+    ensures err { IfErr result (λ fault. IsMemory fault ⊎ (named_request (view value.now) (as_str (view name.now))
+        (view p.now) (map view arguments.now) ≡ None)) }
+{
+    match name.as_str() {
+        Some("loads") => load_of(p, arguments),
+        Some("stores") => store_of(alloc, p, arguments),
+        Some("commit") => commit_of(p, arguments),
+        _ => step_alone(alloc, value),
+    }
+}
+
+fn step_alone<A: Allocator + Copy>(alloc: A, value: &Value) -> Result<Request<A>, RequestFault>
+    ensures ok { IfOk result (λ request. step_alone (view value.now) ≡ Some (asked request)) }
+    ensures err { IfErr result (λ fault. IsMemory fault ⊎ (step_alone (view value.now) ≡ None)) }
+{
+    let step = match read_step(value) {
+        Ok(step) => step,
+        Err(cause) => return Err(RequestFault::Step(cause)),
     };
+    let mut steps = Vec::new(alloc);
+    if steps.push(step).is_err() {
+        return Err(RequestFault::Memory(AllocError));
+    }
+    Ok(Request::Steps(steps))
+}
+
+fn load_of<A: Allocator + Copy>(p: &Value, arguments: &[Value]) -> Result<Request<A>, RequestFault>
+    ensures ok { IfOk result (λ request. load_of (view p.now) (map view arguments.now) ≡ Some (asked request)) }
+    ensures err { IfErr result (λ fault. load_of (view p.now) (map view arguments.now) ≡ None) }
+{
+    match arguments {
+        [va, count] => load_from(p, va, count),
+        _ => Err(wrong_arguments("loads", "an address and a count")),
+    }
+}
+
+fn load_from<A: Allocator + Copy>(
+    p: &Value,
+    va: &Value,
+    count: &Value,
+) -> Result<Request<A>, RequestFault>
+    ensures ok { IfOk result (λ request. load_of (view p.now) (view va.now ∷ view count.now ∷ [])
+        ≡ Some (asked request)) }
+    ensures err { IfErr result (λ fault. load_of (view p.now) (view va.now ∷ view count.now ∷ []) ≡ None) }
+{
     Ok(Request::Load {
         p: processor(p)?,
-        va: number(va, u64::MAX, "the address")?,
+        va: address(va)?,
         count: number(count, MOST_BYTES, "the count")?,
     })
 }
@@ -138,13 +219,30 @@ fn store_of<A: Allocator + Copy>(
     alloc: A,
     p: &Value,
     arguments: &[Value],
-) -> Result<Request<A>, RequestFault> {
-    let [va, digits] = arguments else {
-        return Err(wrong_arguments("stores", "an address and a string of hexadecimal digits"));
-    };
+) -> Result<Request<A>, RequestFault>
+    ensures ok { IfOk result (λ request. store_of (view p.now) (map view arguments.now) ≡ Some (asked request)) }
+    ensures err { IfErr result (λ fault. IsMemory fault ⊎ (store_of (view p.now) (map view arguments.now) ≡ None)) }
+{
+    match arguments {
+        [va, digits] => store_from(alloc, p, va, digits),
+        _ => Err(wrong_arguments("stores", "an address and a string of hexadecimal digits")),
+    }
+}
+
+fn store_from<A: Allocator + Copy>(
+    alloc: A,
+    p: &Value,
+    va: &Value,
+    digits: &Value,
+) -> Result<Request<A>, RequestFault>
+    ensures ok { IfOk result (λ request. store_of (view p.now) (view va.now ∷ view digits.now ∷ [])
+        ≡ Some (asked request)) }
+    ensures err { IfErr result (λ fault. IsMemory fault
+        ⊎ (store_of (view p.now) (view va.now ∷ view digits.now ∷ []) ≡ None)) }
+{
     Ok(Request::Store {
         p: processor(p)?,
-        va: number(va, u64::MAX, "the address")?,
+        va: address(va)?,
         bytes: bytes_of(alloc, digits)?,
     })
 }
@@ -152,20 +250,31 @@ fn store_of<A: Allocator + Copy>(
 fn commit_of<A: Allocator + Copy>(
     p: &Value,
     arguments: &[Value],
-) -> Result<Request<A>, RequestFault> {
-    let [] = arguments else {
-        return Err(wrong_arguments("commit", "none"));
-    };
-    Ok(Request::Commit { p: processor(p)? })
+) -> Result<Request<A>, RequestFault>
+    ensures ok { IfOk result (λ request. commit_of (view p.now) (map view arguments.now) ≡ Some (asked request)) }
+    ensures err { IfErr result (λ fault. commit_of (view p.now) (map view arguments.now) ≡ None) }
+{
+    match arguments {
+        [] => Ok(Request::Commit { p: processor(p)? }),
+        _ => Err(wrong_arguments("commit", "none")),
+    }
 }
 
-fn processor(value: &Value) -> Result<ProcessorNumber, RequestFault> {
+fn processor(value: &Value) -> Result<ProcessorNumber, RequestFault>
+    ensures { result_ok result ≡ byte_of (view value.now) }
+{
     Ok(number(value, 255, "the processor")? as u8)
+}
+
+fn address(value: &Value) -> Result<u64, RequestFault>
+    ensures { result_ok result ≡ long_of (view value.now) }
+{
+    number(value, u64::MAX, "the address")
 }
 
 // A whole number up to `most`. `what` names it in a fault.
 fn number(value: &Value, most: u64, what: &'static str) -> Result<u64, RequestFault>
-    ensures { IfOk result (λ number. number ≤ most) }
+    ensures { result_ok result ≡ whole_number most (view value.now) }
 {
     match value.as_u64() {
         Some(number) if number <= most => Ok(number),
@@ -174,8 +283,20 @@ fn number(value: &Value, most: u64, what: &'static str) -> Result<u64, RequestFa
 }
 
 // The bytes that a string of hexadecimal digits is.
-fn bytes_of<A: Allocator + Copy>(alloc: A, value: &Value) -> Result<Vec<u8, A>, RequestFault> {
-    let digits = value.as_str().ok_or(RequestFault::Bytes(MOST_BYTES))?;
+fn bytes_of<A: Allocator + Copy>(alloc: A, value: &Value) -> Result<Vec<u8, A>, RequestFault>
+    ensures ok { IfOk result (λ bytes. bytes_in_digits (view value.now) ≡ Some bytes.items) }
+    ensures err { IfErr result (λ fault. IsMemory fault ⊎ (bytes_in_digits (view value.now) ≡ None)) }
+{
+    match value.as_str() {
+        Some(digits) => bytes_of_digits(alloc, digits),
+        None => Err(RequestFault::Bytes(MOST_BYTES)),
+    }
+}
+
+fn bytes_of_digits<A: Allocator + Copy>(alloc: A, digits: &str) -> Result<Vec<u8, A>, RequestFault>
+    ensures ok { IfOk result (λ bytes. digits_of digits.now ≡ Some bytes.items) }
+    ensures err { IfErr result (λ fault. IsMemory fault ⊎ (digits_of digits.now ≡ None)) }
+{
     if digits.len() as u64 > 2 * MOST_BYTES {
         return Err(RequestFault::Bytes(MOST_BYTES));
     }

@@ -4,6 +4,8 @@ ghost use Rattle.machine.specs.declared.act.Reply.{Reply};
 ghost use Rattle.machine.specs.declared.act.Shape.{Shape};
 ghost use Rattle.machine.specs.declared.act.Step.{Step};
 ghost use Rattle.engine.specs.Engine.{HasStarted, HasRun};
+ghost use Rattle.session.specs.Asked.{IsServedFor};
+ghost use Rattle.session.specs.Ranges.{MakesStepsThat};
 ghost use Rattle.session.specs.Steps.{Makes};
 ghost use Rattle.session.specs.inside.Made.{HasMade};
 
@@ -82,14 +84,17 @@ fn serve_next<D: Device, A: Allocator + Copy, I: BufRead, W: io::Write>(
     }
 }
 
-fn serve_line<D: Device, A: Allocator + Copy, W: io::Write>(
+/// Answers a line, without its line feed, by one line: carries out the request that it is, and nothing else; or says
+/// why it is none, and makes no step.
+pub fn serve_line<D: Device, A: Allocator + Copy, W: io::Write>(
     global: Global,
     alloc: A,
     session: &mut Session<D, A>,
     line: &[u8],
     out: &mut W,
 ) -> Result<(), SessionFault>
-    ensures { HasMade D.Device session.old.machine session.old.notes session.new.machine session.new.notes }
+    ensures { MakesStepsThat D.Device session.old.machine session.old.notes (IsServedFor line.now)
+        session.new.machine session.new.notes }
 {
     match read_request(global, alloc, line) {
         Ok(request) => session.answer(alloc, &request, out),

@@ -1,8 +1,9 @@
 -- A write-out as the code lists it: with the memory of its list of home blocks.
 use Rattle.std.specs.Prelude.{ℕ, ◌+◌, length}
-use Rattle.volume_codec.specs.Recovery.{Batch}
 use Rattle.journal.specs.declared.flushed.Flushed.{Flushed}
-use Rattle.journal.specs.WriteOut.{WriteOut, begun_of, write_out_after}
+use Rattle.volume_codec.specs.Recovery.{Batch}
+use Rattle.volume_codec.specs.Layout.{GeometryValue}
+use Rattle.journal.specs.WriteOut.{WriteOut, FlushValue, begun_of, flush_of, write_out_after}
 
 pub record ListedWriteOut : Type 0 where
   pub write_out : WriteOut
@@ -18,6 +19,12 @@ abbrev pub committed_listed : Batch → ℕ → ListedWriteOut
 committed_listed batch room = record {
   write_out = record { batch = batch; steps = length batch.homes + 4 };
   room = room;
+}
+
+-- the same of a write-out by itself
+abbrev pub committed_of : GeometryValue → Batch → ℕ → FlushValue
+committed_of g batch room = record (flush_of g batch room) {
+  write_out = record { batch = batch; steps = length batch.homes + 4 };
 }
 
 -- after a step that answers so

@@ -1,6 +1,6 @@
 -- How a machine's state and its device go with what its run tells.
-use Rattle.std.specs.Prelude.{ℕ, ◌≡◌, ◌≢◌, ◌<◌, ◌≤◌, ◌↔◌, ◌⊎◌, ◌*◌, true, false, List, ◌++◌, length, map, Option, Some, None, is_some, Contains, slice_index_or}
-use Rattle.std.specs.List.{All}
+use Rattle.std.specs.Prelude.{ℕ, ◌≡◌, ◌≢◌, ◌<◌, ◌≤◌, ◌↔◌, ◌⊎◌, ◌*◌, Bool, true, false, List, ◌++◌, length, map, Option, Some, None, is_some, Contains, slice_index_or}
+use Rattle.std.specs.List.{All, list_any}
 use Rattle.std.specs.FinMap as maps
 use Rattle.page_entry.specs.declared.numbers.FilePage.{FilePage}
 use Rattle.frames.specs.Frames.{frame_at, bytes_of}
@@ -18,7 +18,7 @@ use Rattle.shootdown.specs.Processors.{is_running}
 use Rattle.shootdown.specs.Shootdown.{state_of, current}
 use Rattle.checkpoint.specs.Checkpoint.{Holds, IsDirty}
 use Rattle.fault.specs.Fault.{is_in_memory}
-use Rattle.machine.specs.History.{Event, Memory, memory_of, after, lengths_of, lengths_after, has_resized, is_touched, Mark, Acknowledge, IsMarked}
+use Rattle.machine.specs.History.{Event, SetLength, Memory, memory_of, after, lengths_of, lengths_after, since_mark, is_touched, Mark, Acknowledge, IsMarked}
 use Rattle.machine.specs.State.{State, home_of, part, cut_at_end}
 use Rattle.machine.specs.Rules.{bytes_at_mark}
 use Rattle.machine.specs.Durability.{IsInFile, within_file}
@@ -50,6 +50,14 @@ pub record IsArranged (told : Told) (s : State) : Type 0 where
   pub same_locked : told.locked ≡ is_some s.hardware.shootdown.lock
   pub same_pending : told.pending ≡ pending_in (change_in s.hardware.shootdown.lock)
   pub same_lengths : told.lengths ≡ s.lengths
+
+-- whether a length was set since the last mark
+abbrev pub is_resize : Event → Bool
+is_resize (SetLength file from to) = true
+is_resize event = false
+
+abbrev pub has_resized : List Event → Bool
+has_resized history = list_any is_resize (since_mark history)
 
 -- the machine's table has these files, and its lengths are those after the history
 pub record HasFiles (files : List File) (history : List Event) (s : State) : Type 0 where

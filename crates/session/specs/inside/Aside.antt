@@ -1,12 +1,12 @@
 -- Steps that read and store nothing.
-use Rattle.std.specs.Prelude.{⊤, ◌≡◌, true, false, List, [], ◌∷◌, ◌++◌, Contains}
+use Rattle.std.specs.Prelude.{ℕ, ⊤, ◌≡◌, true, false, List, [], ◌∷◌, ◌++◌, Contains}
 use Rattle.device.specs.declared.device.Device.{Ghosts}
 use Rattle.machine.specs.declared.act.Act.{Act}
 use Rattle.machine.specs.declared.act.Reply.{Reply}
 use Rattle.machine.specs.declared.act.Step.{Step}
 use Rattle.machine.specs.State.{Whole}
 use Rattle.session.specs.declared.notes.Notes.{Notes}
-use Rattle.session.specs.Steps.{Makes, is_aside, tells_bytes, tells_stored}
+use Rattle.session.specs.Steps.{Makes, is_aside, tells_bytes, tells_stored, EndsAt}
 
 -- an act that reads and stores nothing unless it is answered so
 abbrev pub TellsOrIsAside : Act → Type 0
@@ -42,3 +42,12 @@ pub record AnswersAfter {D : Type 0} (disk : Ghosts D) (old : Whole D) (before :
   pub replies : List Reply
   pub makes : Makes disk old before (steps ++ step ∷ []) (replies ++ reply ∷ []) new after
   pub aside : AreAside steps replies
+
+-- Steps were made that read and store nothing, and one of them may end a range at this address with this reply.
+pub record StopsAt {D : Type 0} (disk : Ghosts D) (old : Whole D) (before : Notes) (p at : ℕ) (reply : Reply)
+    (new : Whole D) (after : Notes) : Type 0 where
+  pub steps : List Step
+  pub replies : List Reply
+  pub makes : Makes disk old before steps replies new after
+  pub aside : AreAside steps replies
+  pub ends : EndsAt p at reply steps replies

@@ -5,7 +5,7 @@ use Rattle.machine.specs.declared.act.Reply.{Reply}
 use Rattle.machine.specs.declared.act.Step.{Step}
 use Rattle.machine.specs.State.{Whole}
 use Rattle.session.specs.declared.notes.Notes.{Notes}
-use Rattle.session.specs.Steps.{Makes}
+use Rattle.session.specs.Steps.{Makes, AreOfCommit}
 
 -- Steps were made.
 pub record HasMade {D : Type 0} (disk : Ghosts D) (old : Whole D) (before : Notes) (new : Whole D)
@@ -13,3 +13,11 @@ pub record HasMade {D : Type 0} (disk : Ghosts D) (old : Whole D) (before : Note
   pub steps : List Step
   pub replies : List Reply
   pub makes : Makes disk old before steps replies new after
+
+-- Steps of a commit were made.
+pub record GoesOn {D : Type 0} (disk : Ghosts D) (old : Whole D) (before : Notes) (new : Whole D)
+    (after : Notes) : Type 0 where
+  pub steps : List Step
+  pub replies : List Reply
+  pub makes : Makes disk old before steps replies new after
+  pub of_commit : AreOfCommit steps replies

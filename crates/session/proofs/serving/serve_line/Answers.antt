@@ -1,8 +1,9 @@
-use Rattle.session.proofs.Stretches.{made_none}
+use Rattle.std.proofs.Common.{inl, refl}
+use Rattle.session.proofs.Pieces.{does_nothing}
 use Rattle.session.proofs.serving.serve_line.Goals as goal
 
 pub returns-in-Err-Memory : goal.returns-in-Err-Memory
-returns-in-Err-Memory g c = made_none g.D.Device _ _
+returns-in-Err-Memory g c = does_nothing g.D.Device _ _ _ (inl (refl, refl))
 
 pub returns-in-Err : goal.returns-in-Err
-returns-in-Err g c = made_none g.D.Device _ _
+returns-in-Err g c = does_nothing g.D.Device _ _ _ (inl (refl, refl))

@@ -2,24 +2,34 @@ use Rattle.std.proofs.Common.{◌≡◌, ℕ, ◌+◌, Bool, true, not, if◌the
 use Rattle.std.specs.Result.{is_ok}
 use Rattle.machine.specs.declared.act.Act.TheVariants.{Load}
 use Rattle.machine.specs.declared.act.Reply.{Reply}
-use Rattle.session.specs.Ranges.{Does, LoadsRange}
+use Rattle.session.specs.Ranges.{MakesStepsThat, LoadsRange}
 use Rattle.session.specs.Steps.{behind}
-use Rattle.session.specs.inside.Aside.{AnswersAfter}
+use Rattle.session.specs.inside.Aside.{StopsAt, AnswersAfter}
 use Rattle.session.proofs.Pieces.{loads_more, loads_refused, loads_cut, loads_all}
-use Rattle.session.proofs.Stretches.{makes_none, answers_aside}
+use Rattle.session.proofs.Stretches.{makes_none, answers_stop, same_and_not}
 use Rattle.session.proofs.session.Session.load.Goals as goal
 
 pub loop-done-init : goal.loop-done-init
 loop-done-init g c = (omega arith, record { steps = []; replies = []; makes = makes_none g.D.Device _ _; holds = (refl, c.requires) })
 
 pub returns-in-Err : goal.returns-in-Err
-returns-in-Err g c = loads_refused g.D.Device _ _ _ _ _ _ c.args.p c.args.va c.args.count c.loop-done.done c.loop-done.bytes.items c.in-Err.reply c.loop-done.invariant.1 c.in-Err.ensures.err
+returns-in-Err g c =
+    let P : ℕ → Type 0 = λ at. StopsAt g.D.Device c.loop-done.self.machine c.loop-done.self.notes c.args.p at c.in-Err.reply c.access.new.self.machine c.access.new.self.notes in
+    loads_refused g.D.Device _ _ _ _ _ _ c.args.p c.args.va c.args.count c.loop-done.done c.loop-done.bytes.items c.in-Err.reply (omega (arith, c.loop-done-test.true)) c.loop-done.invariant.1 (subst P c.saturating_add-from.ensures c.in-Err.ensures.err)
 
 pub returns-in_default : goal.returns-in_default
-returns-in_default g c = loads_refused g.D.Device _ _ _ _ _ _ c.args.p c.args.va c.args.count c.loop-done.done c.loop-done.bytes.items c.in-Ok.answer c.loop-done.invariant.1 (answers_aside g.D.Device _ _ _ _ _ _ (ap not c.in_default.ensures.none) c.in-Ok.ensures.ok)
+returns-in_default g c =
+    let P : ℕ → Type 0 = λ at. StopsAt g.D.Device c.loop-done.self.machine c.loop-done.self.notes c.args.p at c.in-Ok.answer c.access.new.self.machine c.access.new.self.notes in
+    loads_refused g.D.Device _ _ _ _ _ _ c.args.p c.args.va c.args.count c.loop-done.done c.loop-done.bytes.items c.in-Ok.answer (omega (arith, c.loop-done-test.true)) c.loop-done.invariant.1 (subst P c.saturating_add-from.ensures
+    (answers_stop g.D.Device _ _ _ _ _ c.saturating_add-from.result _ (ap not c.in_default.ensures.none) (same_and_not c.saturating_add-from.result _ c.in_default.ensures.none) c.in-Ok.ensures.ok))
 
 pub returns-then-is_err : goal.returns-then-is_err
-returns-then-is_err g c = loads_cut g.D.Device _ _ _ _ _ _ c.args.p c.args.va c.args.count c.loop-done.done c.loop-done.bytes.items c.extend_from_slice.new.self.items _ _ c.loop-done.invariant.1 c.in-Ok.ensures.ok
+returns-then-is_err g c =
+    let P : ℕ → Type 0 = λ at. AnswersAfter g.D.Device c.loop-done.self.machine c.loop-done.self.notes (record { p = c.args.p; act = Load at c.piece-few.result }) c.in-Ok.answer c.access.new.self.machine c.access.new.self.notes in
+    let Q : Reply → Type 0 = λ r. AnswersAfter g.D.Device c.loop-done.self.machine c.loop-done.self.notes (record { p = c.args.p; act = Load (behind c.args.va c.loop-done.done) c.piece-few.result }) r c.access.new.self.machine c.access.new.self.notes in
+    let answer = subst Q c.in-Some.ensures.some (subst P c.saturating_add-from.ensures c.in-Ok.ensures.ok) in
+    loads_cut g.D.Device _ _ _ _ c.args.p c.args.va c.args.count (c.loop-done.done + c.piece-few.result) (c.loop-done.bytes.items ++ c.in-Some.read.now) c.extend_from_slice.new.self.items (omega (arith, c.piece-few.ensures.left, c.loop-done.invariant.0, c.loop-done-test.true))
+    (loads_more g.D.Device _ _ _ _ _ _ c.args.p c.args.va c.loop-done.done c.piece-few.result c.loop-done.bytes.items c.in-Some.read.now c.loop-done.invariant.1 answer)
 
 pub loop-done-preserved : goal.loop-done-preserved
 loop-done-preserved g c =
@@ -28,7 +38,7 @@ loop-done-preserved g c =
     let answer = subst Q c.in-Some.ensures.some (subst P c.saturating_add-from.ensures c.in-Ok.ensures.ok) in
     let done : is_ok c.extend_from_slice.result ≡ true = c.is_err.ensures.negation ∙ ap not c.if-is_err.false in
     let items : c.extend_from_slice.new.self.items ≡ c.loop-done.bytes.items ++ c.in-Some.read.now = c.extend_from_slice.ensures.items ∙ ap (λ (b : Bool). if b then c.loop-done.bytes.items ++ c.as_slice.result.now else c.loop-done.bytes.items) done ∙ ap (λ l. c.loop-done.bytes.items ++ l) c.as_slice.ensures.same in
-    let R : List ℕ → Type 0 = λ b. Does g.D.Device c.args.self.now.machine c.args.self.now.notes (LoadsRange c.args.p c.args.va (c.loop-done.done + c.piece-few.result) b) c.access.new.self.machine c.access.new.self.notes in
+    let R : List ℕ → Type 0 = λ b. MakesStepsThat g.D.Device c.args.self.now.machine c.args.self.now.notes (LoadsRange c.args.p c.args.va (c.loop-done.done + c.piece-few.result) b) c.access.new.self.machine c.access.new.self.notes in
     (omega (arith, c.piece-few.ensures.left, c.loop-done.invariant.0, c.loop-done-test.true), subst R (sym items) (loads_more g.D.Device _ _ _ _ _ _ c.args.p c.args.va c.loop-done.done c.piece-few.result c.loop-done.bytes.items c.in-Some.read.now c.loop-done.invariant.1 answer))
 
 pub returns : goal.returns

@@ -1,8 +1,8 @@
-use Rattle.session.proofs.Stretches.{made_none, made_then, made_told, says_later, says_told}
+use Rattle.session.proofs.Stretches.{commit_none, commit_then, commit_told, says_later, says_told}
 use Rattle.session.proofs.session.Session.write_out.Goals as goal
 
 pub loop-init : goal.loop-init
-loop-init g c = made_none g.D.Device _ _
+loop-init g c = commit_none g.D.Device _ _
 
 pub returns-then-is_committed : goal.returns-then-is_committed
 returns-then-is_committed g c = says_later g.D.Device _ _ _ _ _ _ _ c.loop.invariant (says_told g.D.Device _ _ _ _ _ c.flush-flushed.ensures)
@@ -11,7 +11,7 @@ pub returns-then-not-is_flushed : goal.returns-then-not-is_flushed
 returns-then-not-is_flushed g c = says_later g.D.Device _ _ _ _ _ _ _ c.loop.invariant (says_told g.D.Device _ _ _ _ _ c.flush-flushed.ensures)
 
 pub loop-preserved : goal.loop-preserved
-loop-preserved g c = made_then g.D.Device _ _ _ _ _ _ c.loop.invariant (made_told g.D.Device _ _ _ _ _ c.flush-flushed.ensures)
+loop-preserved g c = commit_then g.D.Device _ _ _ _ _ _ c.loop.invariant (commit_told g.D.Device _ _ _ _ _ c.flush-flushed.ensures)
 
 pub returns : goal.returns
 returns g c = says_later g.D.Device _ _ _ _ _ _ _ c.loop.invariant (says_told g.D.Device _ _ _ _ _ c.flush.ensures)

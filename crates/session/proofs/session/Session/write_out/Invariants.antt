@@ -1,5 +1,5 @@
-use Rattle.session.specs.inside.Made.{HasMade}
+use Rattle.session.specs.inside.Made.{GoesOn}
 use Rattle.session.proofs.session.Session.write_out.Given as goal
 
 abbrev pub invariant-loop : goal.invariant-loop
-invariant-loop g l = HasMade g.D.Device l.initial.self.machine l.initial.self.notes l.self.machine l.self.notes
+invariant-loop g l = GoesOn g.D.Device l.initial.self.machine l.initial.self.notes l.self.machine l.self.notes

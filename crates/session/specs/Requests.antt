@@ -1,0 +1,80 @@
+-- What a line asks for: the grammar of requests.
+use Rattle.std.specs.Prelude.{ℕ, nat_le, List, [], ◌∷◌, length, if◌then◌else◌, codes}
+use Rattle.std.specs.Prelude.{Option, Some, None, is_some, option_map}
+use Rattle.std.specs.Result.{result_ok}
+use Rattle.std.specs.Str.{bytes_eq}
+use Rattle.hex.specs.Hex.{decode_of}
+use Rattle.serde_json.specs.Data.{Data}
+use Rattle.serde_json.specs.Read.{read}
+use Rattle.serde_json.specs.Find.{as_str, as_array}
+use Rattle.scripts.specs.Arguments.{if_some, whole_number, byte_of, long_of, list_of, all_of}
+use Rattle.scripts.specs.Script.{step_of}
+use Rattle.machine.specs.declared.act.Step.{Step}
+
+-- what is asked for: steps; to load so many bytes from an address on; to store bytes from an address on; to commit
+pub data Asked : Type 0 where
+  asks_steps : List Step → Asked
+  asks_load : ℕ → ℕ → ℕ → Asked
+  asks_store : ℕ → ℕ → List ℕ → Asked
+  asks_commit : ℕ → Asked
+
+-- how many bytes are loaded: at most 64 KiB
+abbrev pub count_of : Data → Option ℕ
+count_of = whole_number 65536
+
+-- two hexadecimal digits for each of at most 64 KiB
+abbrev pub digits_of : List ℕ → Option (List ℕ)
+digits_of digits = if nat_le (length digits) 131072 then result_ok (decode_of digits) else None
+
+abbrev pub bytes_in_digits : Data → Option (List ℕ)
+bytes_in_digits value = if_some (as_str value) digits_of
+
+-- an address and a count
+abbrev pub load_of : Data → List Data → Option Asked
+load_of p (va ∷ count ∷ []) = if_some (byte_of p)
+    (λ p. if_some (long_of va) (λ va. if_some (count_of count) (λ count. Some (asks_load p va count))))
+load_of p _ = None
+
+-- an address and the digits of bytes
+abbrev pub store_of : Data → List Data → Option Asked
+store_of p (va ∷ digits ∷ []) = if_some (byte_of p)
+    (λ p. if_some (long_of va) (λ va. if_some (bytes_in_digits digits) (λ bytes. Some (asks_store p va bytes))))
+store_of p _ = None
+
+abbrev pub commit_of : Data → List Data → Option Asked
+commit_of p [] = if_some (byte_of p) (λ p. Some (asks_commit p))
+commit_of p _ = None
+
+-- one step, as in a script
+abbrev pub step_alone : Data → Option Asked
+step_alone value = option_map (λ step. asks_steps (step ∷ [])) (step_of value)
+
+-- a processor, a name and arguments: a range, a commit, or else a step
+abbrev pub named_request : Data → Option (List ℕ) → Data → List Data → Option Asked
+named_request value None p arguments = step_alone value
+named_request value (Some name) p arguments =
+    if bytes_eq name (codes "loads") then load_of p arguments
+    else if bytes_eq name (codes "stores") then store_of p arguments
+    else if bytes_eq name (codes "commit") then commit_of p arguments
+    else step_alone value
+
+-- a list whose first item isn't a list
+abbrev pub single_request : Data → Data → List Data → Option Asked
+single_request value p (name ∷ arguments) = named_request value (as_str name) p arguments
+single_request value p [] = step_alone value
+
+-- one step or more, made in order
+abbrev pub steps_together : List Data → Option Asked
+steps_together items = option_map asks_steps (all_of step_of items)
+
+abbrev pub items_request : Data → List Data → Option Asked
+items_request value (first ∷ rest) =
+    if is_some (as_array first) then steps_together (first ∷ rest) else single_request value first rest
+items_request value [] = None
+
+abbrev pub request_of : Data → Option Asked
+request_of value = if_some (as_array value) (λ items. items_request value (list_of items))
+
+-- what a line asks for
+abbrev pub request_in : List ℕ → Option Asked
+request_in line = if_some (read line) request_of
