@@ -1,5 +1,5 @@
 -- A device that was erased, its gates closed and its table written is a blank volume, and what a crash leaves of that.
-use Rattle.std.proofs.Common.{◌≡◌, ◌≢◌, ◌≤◌, ◌<◌, ℕ, ◌+◌, ◌-◌, ◌*◌, inl, inr, List, [], ◌∷◌, ◌++◌, refl, length, get_or, length-append, sym, ◌∙◌, ap, subst, arith}
+use Rattle.std.proofs.Common.{◌≡◌, ◌≢◌, ◌≤◌, ◌<◌, ℕ, ◌+◌, ◌-◌, ◌*◌, inl, inr, List, [], ◌∷◌, ◌++◌, refl, length, get_or, length-append, Result, Ok, Err, OnOk, sym, ◌∙◌, ap, subst, arith}
 use Rattle.std.specs.List.{flat_map}
 use Rattle.std.proofs.lemmas.List.{ext_get_or, length-map}
 use Rattle.device.specs.Device.{written, Torn, TornFrom, Only, LeavesOnly}
@@ -138,6 +138,11 @@ module _ {D : Type 0} (disk : Ghosts D) (table : SuperValue) (lengths : List ℕ
       let P : List ℕ → Type 0 = λ d. Torn 0 4096 d c in
       partly_emptied table lengths (disk.may_leave old) torn.0 c some (closed_left erasing torn.0 (closing torn.0 (unwritten.left torn.0 torn.1))) wide
       (rest c (subst P (only torn.0 torn.1 ∙ unwritten.same) wide)))
+
+-- two facts of a call that succeeded
+pub both_ok : {T E A B : Type 0} (r : Result T E) → OnOk r A → OnOk r B → OnOk r (A × B)
+both_ok (Ok x) a b = (a, b)
+both_ok (Err e) a b = tt
 
 -- the lengths were written over zeros
 pub are_emptied : (g : GeometryValue) (lengths old mid new : List ℕ) (low high : ℕ) → low ≡ 4096 * first_home g.layout g.slots → high ≡ 4096 * g.blocks → IsErased low high old mid
