@@ -140,9 +140,9 @@ module _ {D : Type 0} (disk : Ghosts D) (table : SuperValue) (lengths : List ℕ
       (rest c (subst P (only torn.0 torn.1 ∙ unwritten.same) wide)))
 
 -- two facts of a call that succeeded
-pub both_ok : {T E A B : Type 0} (r : Result T E) → OnOk r A → OnOk r B → OnOk r (A × B)
-both_ok (Ok x) a b = (a, b)
-both_ok (Err e) a b = tt
+pub both_ok : {T E : Type 0} (A B : Type 0) (r : Result T E) → OnOk r A → OnOk r B → OnOk r (A × B)
+both_ok A B (Ok x) a b = (a, b)
+both_ok A B (Err e) a b = tt
 
 -- the lengths were written over zeros
 pub are_emptied : (g : GeometryValue) (lengths old mid new : List ℕ) (low high : ℕ) → low ≡ 4096 * first_home g.layout g.slots → high ≡ 4096 * g.blocks → IsErased low high old mid

@@ -55,7 +55,7 @@ returns-clause-formatted g c = λ honest.
       synced = both.1;
       past = c.write_table.ensures.past honest;
     })
-    (both_ok c.write_table.result (c.write_table.ensures.blank honest) (c.write_table.ensures.synced honest))
+    (both_ok _ _ c.write_table.result (c.write_table.ensures.blank honest) (c.write_table.ensures.synced honest))
 
 pub returns-clause-past : goal.returns-clause-past
 returns-clause-past g c = λ honest table i asked low.
