@@ -2,12 +2,14 @@
 ghost use Rattle.std.specs.Prelude.{◌≡◌};
 
 use crate::failure::Failure;
+use crate::look::Look;
 use crate::words::{decimal, file_spec};
 use clap::error::ErrorKind;
 use clap::{Arg, ArgAction, ArgMatches, Command, Error};
 use std::alloc::{AllocError, Allocator, Global};
 use std::convert::AsStr;
 use volume_codec::FileSpec;
+use volume_files::ExportPlan;
 
 /// What the words ask for.
 #[derive(Drop)]
@@ -18,6 +20,7 @@ pub enum Job<'a, A: Allocator + Copy> {
         disk: &'a str,
         slots: u64,
         files: Vec<FileSpec<'a>, A>,
+        json: bool,
     },
     /// Run a script on a volume, also on one that is marked as suspect where it is trusted.
     Run {
@@ -37,10 +40,14 @@ pub enum Job<'a, A: Allocator + Copy> {
         trust: bool,
     },
     /// Print the files of a volume, also of one that is marked as suspect where it is trusted.
-    Dump {
-        disk: &'a str,
-        trust: bool,
-    },
+    Dump(Look<'a>),
+    /// Print what the bytes of a volume say, also of one that is marked as suspect where it is trusted.
+    Info(Look<'a>),
+    /// Print whether a volume is clean, needs opening, or is damaged, also of one that is marked as suspect where it is
+    /// trusted.
+    Check(Look<'a>),
+    /// Copy a file out of a volume, also of one that is marked as suspect where it is trusted.
+    Export(Wanted<'a>),
     /// Run a trace again on a copy of a volume, also of one that is marked as suspect where it is trusted.
     Replay {
         disk: &'a str,
@@ -49,6 +56,14 @@ pub enum Job<'a, A: Allocator + Copy> {
     },
     /// Print this text: help, or the version.
     Show(String),
+}
+
+/// What a copy is asked for by.
+#[derive(Clone, Copy)]
+pub struct Wanted<'a> {
+    pub plan: ExportPlan<'a>,
+    pub trust: bool,
+    pub json: bool,
 }
 
 /// Reads the words, of which the first is the program's name.
@@ -88,14 +103,31 @@ fn job_of<'a, A: Allocator + Copy>(
             disk: text(words, "DISK"),
             trust: words.get_flag("trust"),
         }),
-        Some((_, words)) => Ok(Job::Dump {
-            disk: text(words, "DISK"),
+        Some(("info", words)) => Ok(Job::Info(look_at(words))),
+        Some(("check", words)) => Ok(Job::Check(look_at(words))),
+        Some(("export", words)) => Ok(Job::Export(Wanted {
+            plan: ExportPlan {
+                disk: text(words, "DISK"),
+                file: text(words, "FILE"),
+                out: text(words, "OUT"),
+            },
             trust: words.get_flag("trust"),
-        }),
-        None => Ok(Job::Dump {
+            json: words.get_flag("json"),
+        })),
+        Some((_, words)) => Ok(Job::Dump(look_at(words))),
+        None => Ok(Job::Dump(Look {
             disk: "",
             trust: false,
-        }),
+            json: false,
+        })),
+    }
+}
+
+fn look_at<'a>(words: &ArgMatches<'a>) -> Look<'a> {
+    Look {
+        disk: text(words, "DISK"),
+        trust: words.get_flag("trust"),
+        json: words.get_flag("json"),
     }
 }
 
@@ -116,6 +148,7 @@ fn format_job<'a, A: Allocator + Copy>(
         disk: text(words, "DISK"),
         slots,
         files,
+        json: words.get_flag("json"),
     })
 }
 
@@ -136,13 +169,17 @@ fn program<'a>(alloc: Global) -> Result<Command<'a>, AllocError> {
         .subcommand(threads_command(alloc)?)?
         .subcommand(serve_command(alloc)?)?
         .subcommand(replay_command(alloc)?)?
-        .subcommand(dump_command(alloc)?)
+        .subcommand(dump_command(alloc)?)?
+        .subcommand(info_command(alloc)?)?
+        .subcommand(check_command(alloc)?)?
+        .subcommand(export_command(alloc)?)
 }
 
 fn format_command<'a>(alloc: Global) -> Result<Command<'a>, AllocError> {
     Command::new(alloc, "format")
         .about("Makes or replaces the file DISK by a volume whose files are all zeros")
         .arg(layout_option(alloc))?
+        .arg(json_option(alloc))?
         .arg(word(alloc, "DISK", "The file to make"))?
         .arg(word(
             alloc,
@@ -224,7 +261,43 @@ fn dump_command<'a>(alloc: Global) -> Result<Command<'a>, AllocError> {
     Command::new(alloc, "dump")
         .about("Prints the files of a volume as it would be opened, and leaves it as it is")
         .arg(trust_option(alloc))?
+        .arg(json_option(alloc))?
         .arg(word(alloc, "DISK", "The file that holds the volume"))
+}
+
+fn info_command<'a>(alloc: Global) -> Result<Command<'a>, AllocError> {
+    Command::new(alloc, "info")
+        .about("Prints what the bytes of a volume say: its shape, its files, its journals, and what opening would do")
+        .arg(trust_option(alloc))?
+        .arg(json_option(alloc))?
+        .arg(word(alloc, "DISK", "The file that holds the volume"))
+}
+
+fn check_command<'a>(alloc: Global) -> Result<Command<'a>, AllocError> {
+    Command::new(alloc, "check")
+        .about(
+            "Prints whether a volume is clean, needs opening or is damaged, with status 0, 1 or 3",
+        )
+        .arg(trust_option(alloc))?
+        .arg(json_option(alloc))?
+        .arg(word(alloc, "DISK", "The file that holds the volume"))
+}
+
+fn export_command<'a>(alloc: Global) -> Result<Command<'a>, AllocError> {
+    Command::new(alloc, "export")
+        .about("Copies a file of a volume, as it would be opened, to the file OUT, and leaves the volume as it is")
+        .arg(trust_option(alloc))?
+        .arg(json_option(alloc))?
+        .arg(word(alloc, "DISK", "The file that holds the volume"))?
+        .arg(word(alloc, "FILE", "The name of the file in the volume"))?
+        .arg(word(alloc, "OUT", "The file to make or replace"))
+}
+
+fn json_option<'a>(alloc: Global) -> Arg<'a> {
+    Arg::new(alloc, "json")
+        .long("json")
+        .action(ArgAction::SetTrue)
+        .help("Print JSON, faults too")
 }
 
 fn word<'a>(alloc: Global, name: &'a str, help: &'a str) -> Arg<'a> {

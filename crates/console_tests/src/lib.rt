@@ -2,8 +2,9 @@
 #![tactic(auto)]
 
 #[cfg(test)]
-mod replays;
+mod looks;
 #[cfg(test)]
+mod replays;
 #[cfg(test)]
 mod tests;
 #[cfg(test)]

@@ -139,7 +139,7 @@ pub fn writes<R: Host>(rt: &R, path: &str, parts: &[&str]) -> bool {
 
 // An image of the volume of the files `a` of 5,000 bytes and `b` of 4,096, with 4 record slots and with these bytes at
 // these offsets changed.
-fn image(alloc: Global, changes: &[(usize, u8)]) -> Result<Vec<u8>, AllocError> {
+pub fn image(alloc: Global, changes: &[(usize, u8)]) -> Result<Vec<u8>, AllocError> {
     let mut image = vec![in alloc; 0; 40_960]?;
     put(&mut image, 0, b"FAMSYNC1");
     put(&mut image, 8, &[0, 0, 0, 2, 0, 0, 0, 4, 0, 0, 0, 10]);
@@ -180,7 +180,7 @@ pub fn removes<R: Host>(rt: &R, paths: &[&str]) -> bool {
 }
 
 // Whether a file has these bytes.
-fn holds<R: Host>(rt: &R, path: &str, bytes: &[u8]) -> bool {
+pub fn holds<R: Host>(rt: &R, path: &str, bytes: &[u8]) -> bool {
     match fs::read(rt, path) {
         Ok(found) => found.as_slice() == bytes,
         Err(_) => false,

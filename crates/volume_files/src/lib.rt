@@ -1,8 +1,10 @@
-//! Volumes in real files: found, locked and marked, made, opened and printed.
+//! Volumes in real files: found, locked and marked, made, opened, printed, and a file of one copied out.
 #![tactic(auto)]
 
 mod cause;
+mod copying;
 mod disk;
+mod exporting;
 mod failure;
 mod listing;
 mod making;
@@ -12,7 +14,8 @@ mod volume_file;
 mod watched_file;
 
 pub use cause::{Cause, Refused, first_block, refused_to_open};
-pub use disk::{VolumeDisk, dump, open_disk, read_file};
+pub use disk::{VolumeDisk, dump, open_disk, read_file, refused_on_copy, unreadable};
+pub use exporting::{ExportPlan, export};
 pub use failure::FileFailure;
 pub use making::{Plan, format};
 pub use mark::Mark;

@@ -7,7 +7,7 @@ use device::FileDisk;
 use page_entry::{PAGE, Refusal};
 use std::alloc::Allocator;
 use std::fs::{File, Files, OpenOptions, Permissions};
-use std::io::{ErrorKind, Write};
+use std::io::ErrorKind;
 use std::os::unix::fs::{FileExt, MetadataExt, PermissionsExt, fchown};
 use std::{fs, io};
 use volume_codec::FileSpec;
@@ -33,17 +33,15 @@ impl<'a> Plan<'a, '_> {
 /// Makes or replaces the file at a path by the volume of a plan, and says how many blocks it has. The volume is made in
 /// another file beside it, `.new`, which takes its name once all of it is on the disk: where this fails before or is cut
 /// off, the old file is as it was.
-pub fn format<'a, R, A, W>(
+pub fn format<'a, R, A>(
     rt: &R,
     alloc: A,
     path: &'a str,
     plan: Plan<'a, '_>,
-    out: &mut W,
-) -> Result<(), FileFailure<'a>>
+) -> Result<u64, FileFailure<'a>>
 where
     R: Files<File = File> + AllocGlobal,
     A: Allocator + Copy,
-    W: Write,
 {
     let blocks = match recovery::blocks_as(plan.layout, plan.files, plan.slots) {
         Ok(blocks) => blocks,
@@ -67,8 +65,7 @@ where
     let failed = |cause| FileFailure::File { path, cause };
     sync_folder_of(rt, &place).map_err(failed)?;
     Mark::of(rt, &place)?.remove().map_err(failed)?;
-    writeln!(out, "formatted {blocks} blocks")?;
-    Ok(())
+    Ok(blocks)
 }
 
 // The file that is to be replaced, locked, if there is one.
@@ -140,8 +137,8 @@ where
     }
 }
 
-// Gives a new file the mode of an old one, and its group and owner where the system allows that.
-fn take_after(new: &File, old: &File) -> io::Result<()> {
+/// Gives a new file the mode of an old one, and its group and owner where the system allows that.
+pub fn take_after(new: &File, old: &File) -> io::Result<()> {
     let was = old.metadata()?;
     unless_denied(fchown(new, None, Some(was.gid())))?;
     unless_denied(fchown(new, Some(was.uid()), None))?;
@@ -175,8 +172,8 @@ where
     Ok(())
 }
 
-// Gives the new file the name of the old one.
-fn renamed<'a, R>(
+/// Gives the new file the name of the old one.
+pub fn renamed<'a, R>(
     rt: &R,
     path: &'a str,
     new: &str,
