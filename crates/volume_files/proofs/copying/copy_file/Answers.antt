@@ -12,4 +12,4 @@ returns-in-Ok-clause-copied g c = λ honest.
       recovers = c.opened_as_recovered.ensures.files c.args.device volume.device volume.table (opens.ended honest);
       copied = copied;
     })
-    (c.copy_named.ensures (opens.kept.honest.1 honest))
+    (c.copy_named.ensures.copied (opens.kept.honest.1 honest))

@@ -6,7 +6,7 @@ use Rattle.volume_files.proofs.Dumped.{length_of_file, name_of_file, file_at, as
 use Rattle.volume_files.proofs.copying.copy_found.Goals as goal
 
 pub returns : goal.returns
-returns g c = λ honest.
+returns g c = record { copied = λ honest.
     let old = c.args.volume.now in
     let seen = g.D.Device.seen old.device in
     let files = files_of old.table seen in
@@ -23,4 +23,4 @@ returns g c = λ honest.
       named = sym (name_of_file old seen i f.0 c.args.name.now are f.1 c.requires.named);
       whole = subst P bytes (c.in_ok-copy_pages.ensures.copied honest);
       counted = sym long ∙ ap length bytes;
-    }
+    } }
