@@ -1,12 +1,14 @@
 -- What is found of a volume that was opened on a copy.
-use Rattle.std.proofs.Common.{◌≡◌, ℕ, List, sym, ◌∙◌, ap, subst}
+use Rattle.std.proofs.Common.{◌≡◌, ◌⊎◌, ⊎_elim, ℕ, List, Result, Ok, Err, IfErr, sym, ◌∙◌, ap, subst}
 use Rattle.device.specs.declared.device.Device.{Ghosts}
 use Rattle.volume_codec.specs.Layout.{block_at}
 use Rattle.volume_codec.specs.Super.{SuperValue, IsSuper, geometry_of}
 use Rattle.volume_codec.specs.Recovery.{IsVolume, Recovers, lengths_in}
 use Rattle.volume_codec.proofs.Functional.{one_table}
 use Rattle.recovery.specs.Counts.{Rises}
-use Rattle.recovery.specs.Opening.{HasOpened, opening_calls}
+use Rattle.page_entry.specs.declared.refusal.Refusal.{Refusal}
+use Rattle.page_entry.specs.declared.refusal.Refusal.TheVariants.{OutOfMemory}
+use Rattle.recovery.specs.Opening.{HasOpened, RefusesOpening, opening_calls}
 use Rattle.recovery.specs.Volume.{VolumeState, IsAtRest}
 use Rattle.inspection.specs.declared.found.Journal.{Journal}
 use Rattle.inspection.specs.declared.found.Found.{Found}
@@ -26,7 +28,7 @@ found_of_opened {O} {Z} disk bytes own journals before volume found opened recov
     record {
       batches = batches;
       volume = subst (λ t. IsVolume t batches bytes) (sym same_table) held;
-      journals = subst (λ t. AreJournals {Z} (geometry_of t) bytes found.journals.items) table (subst (λ js. AreJournals {Z} (geometry_of own) bytes js) (sym same_journals) are);
+      journals = subst (λ t. AreJournals {Z = Z} (geometry_of t) bytes found.journals.items) table (subst (λ js. AreJournals {Z = Z} (geometry_of own) bytes js) (sym same_journals) are);
       contents = contents;
       recovers = subst (λ t. Recovers t contents bytes) (sym same_table) (subst (λ b. Recovers volume.table contents b) seen recovers);
       lengths = same_lengths ∙ rest.lengths_are ∙ ap (λ t. lengths_in t contents) (sym same_table);
@@ -34,3 +36,14 @@ found_of_opened {O} {Z} disk bytes own journals before volume found opened recov
           (subst (λ n. Rises (opening_calls volume.table batches) 0 n) (sym same_calls)
           (subst (λ n. Rises (opening_calls volume.table batches) n (disk.calls_made volume.device)) none opened.calls));
     }
+
+-- memory may be refused for any bytes
+pub refused_memory : {X E : Type 0} (bytes : List ℕ) (result : Result X (Refusal × E)) → IfErr result (λ refused. refused.0 ≡ OutOfMemory) → IfErr result (λ refused. RefusesOpening bytes refused.0)
+refused_memory bytes (Ok x) is = tt
+refused_memory bytes (Err refused) is = subst (RefusesOpening bytes) (sym is) tt
+
+pub refused_or_memory : (bytes : List ℕ) (refusal refused : Refusal) → RefusesOpening bytes refusal → (refused ≡ refusal) ⊎ (refused ≡ OutOfMemory) → RefusesOpening bytes refused
+refused_or_memory bytes refusal refused reason is = ⊎_elim
+    (λ (same : refused ≡ refusal). subst (RefusesOpening bytes) (sym same) reason)
+    (λ (memory : refused ≡ OutOfMemory). subst (RefusesOpening bytes) (sym memory) tt)
+    is

@@ -23,11 +23,15 @@ volume_line v =
 abbrev pub capacity_text : ℕ → ℕ → List ℕ
 capacity_text n capacity = if capacity == n then 10 ∷ [] else codes ", capacity " ++ decimal capacity ++ 10 ∷ []
 
--- a file of n bytes
+abbrev pub file_name : List ℕ → List ℕ
+file_name name = codes "file " ++ name ++ codes ": "
+
+abbrev pub file_size : ℕ → ℕ → ℕ → List ℕ
+file_size n pages home = decimal n ++ codes " bytes, " ++ decimal pages ++ codes " pages, home " ++ decimal home
+
+-- a file of n bytes, whose home blocks begin here
 abbrev pub file_text : List ℕ → ℕ → ℕ → ℕ → List ℕ
-file_text name n capacity home =
-    codes "file " ++ name ++ codes ": " ++ decimal n ++ codes " bytes, " ++ decimal (pages_of capacity)
-    ++ codes " pages, home " ++ decimal home ++ capacity_text n capacity
+file_text name n capacity home = file_name name ++ file_size n (pages_of capacity) home ++ capacity_text n capacity
 
 -- file i, whose length is n
 abbrev pub file_line : SuperValue → ℕ → ℕ → List ℕ
@@ -46,10 +50,15 @@ place_text v h (Some place) = 32 ∷ name_of v place.file ++ 58 ∷ decimal plac
 abbrev pub home_text : SuperValue → ℕ → List ℕ
 home_text v h = place_text v h (place_in v h)
 
--- a descriptor
+abbrev pub homes_text : SuperValue → List ℕ → List ℕ
+homes_text v homes = flat_map (home_text v) homes
+
+-- a descriptor: its mark, and how many home blocks it has, and which
+abbrev pub open_head : ℕ → ℕ → List ℕ
+open_head mark count = codes " open, mark " ++ decimal mark ++ codes ", " ++ decimal count ++ codes " blocks:"
+
 abbrev pub open_text : SuperValue → DescriptorValue → List ℕ
-open_text v d = codes " open, mark " ++ decimal d.mark ++ codes ", " ++ decimal (length d.homes) ++ codes " blocks:"
-    ++ flat_map (home_text v) d.homes ++ 10 ∷ []
+open_text v d = open_head d.mark (length d.homes) ++ homes_text v d.homes ++ 10 ∷ []
 
 abbrev pub state_text : SuperValue → Option DescriptorValue → List ℕ
 state_text v None = codes " closed\n"

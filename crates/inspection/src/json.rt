@@ -3,6 +3,7 @@ ghost use Rattle.std.specs.Prelude.{◌≡◌, ◌<◌, length, IfOk};
 ghost use Rattle.serde_json.specs.View.{view};
 ghost use Rattle.inspection.specs.Json.{list, file_members, file_data, files_data, home_data, homes_data, closed_data, open_data, journal_data, journals_data, volume_data, info_data, health_data, damage_data};
 
+use crate::file::{capacity_of, name_of};
 use crate::found::{Found, Journal};
 use crate::health::Health;
 use crate::place::place_of;
@@ -76,10 +77,11 @@ fn file_value<A: Allocator + Copy>(
     requires { file < length table.now.files }
     ensures { IfOk result (λ value. view value ≡ file_data table.now file bytes) }
 {
-    let capacity = table.capacity(file);
+    let name = name_of(table, file);
+    let capacity = capacity_of(table, file);
     let pages = table.pages(file);
     let home = table.first_home(file);
-    file_object(global, table.name(file), bytes, capacity, pages, home)
+    file_object(global, name, bytes, capacity, pages, home)
 }
 
 fn file_object(
@@ -182,7 +184,7 @@ fn home_value<A: Allocator + Copy>(
 {
     match place_of(table, home) {
         Some(place) => {
-            let name = table.name(place.file);
+            let name = name_of(table, place.file);
             let page = place.page;
             json!(in global; {"file": name, "page": page})
         }

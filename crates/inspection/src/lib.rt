@@ -2,6 +2,7 @@
 //! printed as text and as JSON. Nothing is written to the volume.
 #![tactic(auto)]
 
+mod file;
 mod found;
 mod health;
 mod json;

@@ -75,6 +75,8 @@ fn write_file<D: Device + Drop, A: Allocator + Copy, W: io::Write>(
     out: &mut W,
 ) -> Result<(), LineFault>
     requires { file < length volume.old.table.files }
+    ensures table { volume.new.table ≡ volume.old.table }
+    ensures lengths { volume.new.lengths ≡ volume.old.lengths }
 {
     let bytes = volume.length(file);
     let name = volume.name(file);
@@ -92,6 +94,8 @@ fn write_pages<D: Device + Drop, A: Allocator + Copy, W: io::Write>(
 ) -> Result<(), LineFault>
     requires there { file < length volume.old.table.files }
     requires long { slice_get volume.old.lengths file ≡ Some bytes }
+    ensures table { volume.new.table ≡ volume.old.table }
+    ensures lengths { volume.new.lengths ≡ volume.old.lengths }
 {
     for page in 0..bytes.div_ceil(PAGE) {
         let at = PAGE * page;

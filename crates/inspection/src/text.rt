@@ -1,9 +1,10 @@
 // What is found of a volume, as text.
-ghost use Rattle.std.specs.Prelude.{◌≡◌, ◌<◌, OnOk, length, slice_get, slice_index, Some};
+ghost use Rattle.std.specs.Prelude.{◌≡◌, ◌<◌, ◌∷◌, [], OnOk, length, slice_get, slice_index, Some};
 ghost use Rattle.std.specs.Io.KnownBytes.{Appends};
 ghost use Rattle.volume_codec.specs.Super.{pages_of};
-ghost use Rattle.inspection.specs.Text.{volume_line, calls_line, capacity_text, file_line, file_lines, file_text, home_text, open_text, journal_line, journal_lines, info_text};
+ghost use Rattle.inspection.specs.Text.{volume_line, calls_line, capacity_text, file_name, file_size, file_line, file_lines, file_text, home_text, homes_text, open_head, open_text, journal_line, journal_lines, info_text};
 
+use crate::file::{capacity_of, name_of};
 use crate::found::{Found, Journal};
 use crate::place::place_of;
 use page_entry::PAGE;
@@ -69,10 +70,11 @@ fn write_file<A: Allocator + Copy, W: io::Write>(
     requires { file < length table.now.files }
     ensures { OnOk result (Appends (W.contents out.old) (W.contents out.new) (file_line table.now file bytes)) }
 {
-    let capacity = table.capacity(file);
+    let name = name_of(table, file);
+    let capacity = capacity_of(table, file);
     let pages = table.pages(file);
     let home = table.first_home(file);
-    write_file_text(table.name(file), bytes, capacity, pages, home, out)
+    write_file_text(name, bytes, capacity, pages, home, out)
 }
 
 fn write_file_text<W: io::Write>(
@@ -87,8 +89,21 @@ fn write_file_text<W: io::Write>(
     ensures { OnOk result (Appends (W.contents out.old) (W.contents out.new)
         (file_text name.now bytes capacity home)) }
 {
-    write!(out, "file {name}: {bytes} bytes, {pages} pages, home {home}")?;
+    write_file_name(name, out)?;
+    write_file_size(bytes, pages, home, out)?;
     write_capacity(bytes, capacity, out)
+}
+
+fn write_file_name<W: io::Write>(name: &str, out: &mut W) -> io::Result<()>
+    ensures { OnOk result (Appends (W.contents out.old) (W.contents out.new) (file_name name.now)) }
+{
+    write!(out, "file {name}: ")
+}
+
+fn write_file_size<W: io::Write>(bytes: u64, pages: u32, home: u32, out: &mut W) -> io::Result<()>
+    ensures { OnOk result (Appends (W.contents out.old) (W.contents out.new) (file_size bytes pages home)) }
+{
+    write!(out, "{bytes} bytes, {pages} pages, home {home}")
 }
 
 // The capacity of a file where that isn't its length, and the line's end.
@@ -144,12 +159,37 @@ fn write_descriptor<A: Allocator + Copy, W: io::Write>(
     ensures { OnOk result (Appends (W.contents out.old) (W.contents out.new) (open_text table.now descriptor.now)) }
 {
     let mark = descriptor.mark();
-    let count = descriptor.homes().len();
-    write!(out, " open, mark {mark}, {count} blocks:")?;
-    for home in descriptor.homes() {
+    let homes = descriptor.homes();
+    let count = homes.len();
+    write_open_head(mark, count, out)?;
+    write_homes(table, homes, out)?;
+    write_line_end(out)
+}
+
+fn write_open_head<W: io::Write>(mark: u64, count: usize, out: &mut W) -> io::Result<()>
+    ensures { OnOk result (Appends (W.contents out.old) (W.contents out.new) (open_head mark count)) }
+{
+    write!(out, " open, mark {mark}, {count} blocks:")
+}
+
+fn write_line_end<W: io::Write>(out: &mut W) -> io::Result<()>
+    ensures { OnOk result (Appends (W.contents out.old) (W.contents out.new) (10 ∷ [])) }
+{
+    writeln!(out)
+}
+
+// Home blocks, each as a page of its file.
+fn write_homes<A: Allocator + Copy, W: io::Write>(
+    table: &Super<A>,
+    homes: &[u32],
+    out: &mut W,
+) -> io::Result<()>
+    ensures { OnOk result (Appends (W.contents out.old) (W.contents out.new) (homes_text table.now homes.now)) }
+{
+    for home in homes {
         write_home(table, *home, out)?;
     }
-    writeln!(out)
+    Ok(())
 }
 
 // A home block, as a page of its file.
@@ -162,7 +202,7 @@ fn write_home<A: Allocator + Copy, W: io::Write>(
 {
     match place_of(table, home) {
         Some(place) => {
-            let name = table.name(place.file);
+            let name = name_of(table, place.file);
             let page = place.page;
             write!(out, " {name}:{page}")
         }

@@ -1,4 +1,4 @@
-use Rattle.std.proofs.Common.{rules, ◌≡◌, ℕ, ◌+◌, List, [], ◌∷◌, ◌++◌, length, subst, sym, ◌∙◌, ap}
+use Rattle.std.proofs.Common.{rules, ◌≡◌, ℕ, ◌+◌, List, [], ◌∷◌, ◌++◌, length, subst, sym, ◌∙◌, ap, arith}
 use Rattle.std.proofs.lemmas.Result.{err_from_is_err_and}
 use Rattle.recovery.specs.inside.Reading.{RefusesJournals}
 use Rattle.inspection.specs.Found.{IsJournal}
@@ -25,5 +25,5 @@ loop-journal-preserved g c =
       read = read;
       len = ap length read.same;
       count = ap length pushed ∙ length_more c.loop-journal.found.items says ∙ ap (λ n. n + 1) i.count;
-      say = λ honest. rw pushed (from_push c.args.geometry.now bytes 0 c.loop-journal.journal c.loop-journal.found.items says (i.say honest) i.count (subst P i.read.same (e.says (i.read.honest.1 honest))));
+      say = λ honest. rw pushed (from_push c.args.geometry.now bytes 0 c.loop-journal.journal c.loop-journal.found.items says (i.say honest) (omega (arith, i.count)) (subst P i.read.same (e.says (i.read.honest.1 honest))));
     }

@@ -1,14 +1,22 @@
-use Rattle.std.proofs.Common.{rules, ◌<◌, length, get_or}
+use Rattle.std.proofs.Common.{rules, ◌++◌, ◌∷◌, [], length}
 use Rattle.std.specs.Io.KnownBytes.{Appends}
-use Rattle.inspection.specs.Text.{home_text}
-use Rattle.inspection.proofs.Writing.{item_more}
+use Rattle.inspection.specs.Text.{open_head, homes_text}
+use Rattle.inspection.proofs.Writing.{appends_both, ok_map}
 use Rattle.inspection.proofs.text.write_descriptor.Goals as goal
 
-pub loop-home-preserved : goal.loop-home-preserved
-loop-home-preserved g c =
+pub returns : goal.returns
+returns g c =
     let contents = g.W.Write.contents in
-    let homes = c.loop-home.home-items in
-    let i = c.loop-home.home-index in
-    let below : i < length homes = search rules in
-    let wrote : Appends (contents c.loop-home.out) (contents c.write_home.new.out) (home_text c.args.table.now (get_or homes i 0)) = search rules in
-    item_more (home_text c.args.table.now) _ (contents c.loop-home.out) (contents c.write_home.new.out) homes i 0 below c.loop-home.invariant wrote
+    let v = c.args.table.now in
+    let d = c.args.descriptor.now in
+    let start = contents c.args.out.now in
+    let first = contents c.write_open_head.new.out in
+    let second = contents c.write_homes.new.out in
+    let end = contents c.write_line_end.new.out in
+    let x = open_head d.mark (length d.homes) in
+    let y = homes_text v d.homes in
+    let head : Appends start first x = search rules in
+    let homes : Appends first second y = search rules in
+    ok_map c.write_line_end.result
+    (λ last. appends_both start second end (x ++ y) (10 ∷ []) (appends_both start first second x y head homes) last)
+    c.write_line_end.ensures

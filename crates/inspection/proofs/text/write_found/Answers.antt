@@ -1,4 +1,5 @@
-use Rattle.std.proofs.Common.{◌++◌, length}
+use Rattle.std.proofs.Common.{rules, ◌++◌, length}
+use Rattle.std.specs.Io.KnownBytes.{Appends}
 use Rattle.inspection.specs.Text.{volume_line, file_lines, journal_lines, calls_line}
 use Rattle.inspection.proofs.Writing.{appends_both, ok_map}
 use Rattle.inspection.proofs.text.write_found.Goals as goal
@@ -16,8 +17,9 @@ returns g c =
     let b = file_lines found.table found.lengths.items (length found.table.files) in
     let d = journal_lines found.table found.journals.items in
     let e = calls_line found.calls in
+    let files : Appends first second b = search rules in
+    let journals : Appends second third d = search rules in
     ok_map c.write_calls.result
-    (λ last. appends_both start first end a (b ++ d ++ e) c.in_ok-write_volume.ensures
-    (appends_both first second end b (d ++ e) c.in_ok-write_files.ensures
-    (appends_both second third end d e c.in_ok-write_journals.ensures last)))
+    (λ last. appends_both start third end (a ++ b ++ d) e
+    (appends_both start second third (a ++ b) d (appends_both start first second a b c.in_ok-write_volume.ensures files) journals) last)
     c.write_calls.ensures
