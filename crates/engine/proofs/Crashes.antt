@@ -19,6 +19,7 @@ module _ {D : Type 0} (disk : Ghosts D) (seen_is_left : (device : D) → disk.is
     table = recovered.table;
     contents = recovered.contents;
     recovers = being_recovers table recovered.table batches recovered.contents (disk.seen before) c volume being recovered.recovers;
+    lengths = recovered.lengths;
     files_are = recovered.files_are;
   }
 

@@ -7,7 +7,6 @@ use Rattle.machine.specs.declared.act.Reply.{Reply}
 use Rattle.machine.specs.declared.act.Step.{Step}
 use Rattle.machine.specs.State.{Whole}
 use Rattle.machine.specs.Runs.{StepTaken, StepsTaken}
-use Rattle.machine.proofs.Tracks.{taken_then}
 use Rattle.engine.specs.Listening.{HasHeard, HasStopped}
 
 pub heard_more : {L : Type 0} (hears : L → Reply → Bool → L → Type 0) (old mid new : L) (replies : List Reply) (reply : Reply) → HasHeard hears old replies mid → hears mid reply true new → HasHeard hears old (replies ++ reply ∷ []) new
@@ -68,16 +67,21 @@ fetched steps room part i n within same =
     let P : ℕ → Type 0 = λ m. take m (part ++ drop n room) ≡ part in
     subst P count (take-append_seam part (drop n room)) ∙ whole
 
+-- steps after steps are steps
+abbrev pub GoesOn : {D : Type 0} → Ghosts D → Type 0
+GoesOn {D} disk =
+    (old mid new : Whole D) (steps later : List Step) (replies told : List Reply) → StepsTaken disk old steps replies mid → StepsTaken disk mid later told new → StepsTaken disk old (steps ++ later) (replies ++ told) new
+
 -- as many steps as there are replies were made of a portion, after those before it
-pub taken_portion : {D : Type 0} (disk : Ghosts D) (old mid new : Whole D) (steps portion : List Step) (i n : ℕ) (replies more : List Reply) → i + n ≤ length steps → portion ≡ take n (drop i steps) → length replies ≡ i
+pub taken_portion : {D : Type 0} (disk : Ghosts D) → GoesOn disk → (old mid new : Whole D) (steps portion : List Step) (i n : ℕ) (replies more : List Reply) → i + n ≤ length steps → portion ≡ take n (drop i steps) → length replies ≡ i
     → StepsTaken disk old (take i steps) replies mid → StepsTaken disk mid (take (length more) portion) more new → StepsTaken disk old (take (length (replies ++ more)) steps) (replies ++ more) new
-taken_portion disk old mid new steps portion i n replies more within same count taken later =
+taken_portion disk goes_on old mid new steps portion i n replies more within same count taken later =
     let few : length more ≤ n = omega (arith, taken_few disk mid portion more new later, ap (λ (l : List Step). length l) same, length-take n (drop i steps)) in
     let made : take (length more) portion ≡ take (length more) (drop i steps) = ap (λ l. take (length more) l) same ∙ take-take (length more) n (drop i steps) few in
     let P : List Step → Type 0 = λ l. StepsTaken disk mid l more new in
     let Q : List Step → Type 0 = λ l. StepsTaken disk old l (replies ++ more) new in
     let all : take i steps ++ take (length more) (drop i steps) ≡ take (length (replies ++ more)) steps = sym (take-add i (length more) steps) ∙ ap (λ k. take k steps) (sym (length-append replies more ∙ ap (λ k. k + length more) count)) in
-    subst Q all (taken_then disk old mid new (take i steps) replies (take (length more) (drop i steps)) more taken (subst P made later))
+    subst Q all (goes_on old mid new (take i steps) (take (length more) (drop i steps)) replies more taken (subst P made later))
 
 -- the device stays as long and as honest as it was
 pub taken_kept : {D : Type 0} (disk : Ghosts D) (old : Whole D) (steps : List Step) (replies : List Reply) (new : Whole D) → StepsTaken disk old steps replies new

@@ -7,7 +7,7 @@ use Rattle.volume_codec.specs.Layout.{block_at}
 use Rattle.volume_codec.specs.Recovery.{RecoversTo}
 use Rattle.recovery.specs.Opening.{HasOpened}
 use Rattle.recovery.specs.Volume.{VolumeState, IsAtRest, files_of}
-use Rattle.recovery.proofs.Reopened.{opened_contents}
+use Rattle.recovery.proofs.Reopened.{opened_files as recovered_files}
 use Rattle.machine.specs.declared.act.Reply.{Reply}
 use Rattle.machine.specs.declared.act.Shape.{Shape}
 use Rattle.machine.specs.declared.act.Step.{Step}
@@ -20,8 +20,7 @@ use Rattle.engine.proofs.Runs.{taken_kept}
 
 -- the files that an honest device recovered to when it was opened
 opened_files : {D : Type 0} (disk : Ghosts D) (before : D) (volume : VolumeState D) → HasOpened disk before volume.table volume.device → RecoversTo (disk.seen before) (files_of volume.table (disk.seen volume.device))
-opened_files disk before volume has =
-    record { table = volume.table; contents = block_at (disk.seen volume.device); recovers = opened_contents disk before volume.device volume.table has; files_are = refl }
+opened_files disk before volume has = recovered_files disk before volume.device volume.table has
 
 booted_begins : {D : Type 0} (disk : Ghosts D) (volume : VolumeState D) (shape : Shape) → IsShape volume.table shape → IsAtRest disk volume → disk.is_honest volume.device
     → Begins disk (files_of volume.table (disk.seen volume.device)) (record { state = fresh volume.table volume.lengths shape; device = volume.device })
@@ -29,6 +28,7 @@ booted_begins disk volume shape shaped rest honest = record {
   fresh = record { shape = shape; fits = shaped; as_booted = refl };
   volume = rest.holds;
   files_are = refl;
+  fit = rest.lengths_fit;
   lengths_are = rest.lengths_are;
   honest = honest;
   synced = rest.synced;

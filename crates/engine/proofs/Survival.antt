@@ -14,11 +14,11 @@ use Rattle.machine.specs.declared.act.Step.{Step}
 use Rattle.machine.specs.Crashes.{StepIsSafe, Throughout}
 use Rattle.machine.specs.History.{Event, files_after}
 use Rattle.machine.specs.Later.{Finds, FindsDurable}
-use Rattle.machine.specs.Laws.{EachStep, FaultsAreServed, ReadsBack}
+use Rattle.machine.specs.Laws.{EachStep, FaultsAreServed, IsLawful, ReadsBack}
 use Rattle.machine.specs.OnTrack.{IsOnTrack}
 use Rattle.machine.specs.Runs.{StepsTaken}
 use Rattle.machine.specs.State.{Whole}
-use Rattle.machine.specs.Steps.{IsLawful, told_first}
+use Rattle.machine.specs.Steps.{told_first}
 use Rattle.machine.specs.Told.{Told, tell}
 use Rattle.engine.specs.Engine.{HasStarted, HasRun}
 use Rattle.engine.specs.Survival.{history_of, KeepsFiles, FindsAfterCrash, StepSurvives, Survives}
@@ -56,7 +56,7 @@ module _ {D : Type 0} (disk : Ghosts D) (settled : (files : List File) (n : ℕ)
   keeps_files left_as files before after result honest opens all = λ first later n restarted is.
       let alike = left_as before after result (disk.seen first) honest opens restarted.left in
       let r = all alike.0 alike.1 in
-      settled files n first later restarted.honest restarted.only (record { table = r.table; contents = r.contents; recovers = alike.2 r.table r.contents r.recovers; files_are = r.files_are }) is
+      settled files n first later restarted.honest restarted.only (record { table = r.table; contents = r.contents; recovers = alike.2 r.table r.contents r.recovers; lengths = r.lengths; files_are = r.files_are }) is
 
   pub run_of : (durable : (files : List File) (history : List Event) (n : ℕ) (first later : D) → disk.is_honest first → ((c : List ℕ) → disk.may_leave first c → ReadsBack files history c) → IsLater disk n first later → FindsDurable disk files history later)
       (left_as : (before after : D) (result : Result SuperValue Refusal) (c : List ℕ) → disk.is_honest before → Opens disk before result after → disk.left_since after (disk.moment before) c → RecoversAs (disk.may_leave before) c)

@@ -9,9 +9,9 @@ use Rattle.machine.specs.declared.act.Step.{Step}
 use Rattle.machine.specs.Crashes.{StepIsSafe, Throughout}
 use Rattle.machine.specs.History.{Event}
 use Rattle.machine.specs.Later.{AreDurable, Finds, FindsDurable}
-use Rattle.machine.specs.Laws.{EachStep, FaultsAreServed}
+use Rattle.machine.specs.Laws.{EachStep, FaultsAreServed, IsLawful}
 use Rattle.machine.specs.State.{Whole}
-use Rattle.machine.specs.Steps.{IsLawful, told_first}
+use Rattle.machine.specs.Steps.{told_first}
 use Rattle.machine.specs.Told.{Told, tell_all}
 
 -- what these steps and their replies tell was stored, marked and acknowledged

@@ -8,7 +8,7 @@ ghost use Rattle.engine.specs.Engine.{HasStarted, HasNotStarted, HasRun, KeepsDe
 
 use crate::{Listener, ran_since_start};
 use device::Device;
-use machine::{Act, Machine, Shape, Step};
+use machine::{Act, Machine, Shape, Step, steps_after_steps};
 use page_entry::Refusal;
 use std::alloc::Allocator;
 
@@ -53,6 +53,7 @@ fn make_steps<D: Device, A: Allocator + Copy, L: Listener>(
     ensures { (replies : List Reply) × HasListened L.hears (length steps.now) listener.old replies listener.new
         × StepsTaken D.Device machine.old (take (length replies) steps.now) replies machine.new }
 {
+    steps_after_steps(machine.device());
     let mut portion = [NO_STEP; PORTION];
     let mut from = 0;
     while from < steps.len() {

@@ -8,8 +8,8 @@ ghost use Rattle.volume_codec.specs.Recovery.{Batch, IsOpen, IsNewer, has_journa
 ghost use Rattle.journal.specs.declared.stage.Stage.TheVariants.{Committing, Finishing};
 ghost use Rattle.journal.specs.Stage.{stage_at};
 ghost use Rattle.journal.specs.declared.flushed.Flushed.{Flushed};
-ghost use Rattle.journal.specs.WriteOut.{WriteOut, IsBatch, calls_in_steps};
-ghost use Rattle.journal.specs.WriteOuts.{WriteOutsValue, current_stage, HasBlock, outs_after};
+ghost use Rattle.journal.specs.WriteOut.{WriteOut, IsBatch, advanced_of, has_committed, calls_in_steps};
+ghost use Rattle.journal.specs.WriteOuts.{WriteOutsValue, has_uncommitted, current, advanced, current_stage, HasBlock, outs_after};
 ghost use Rattle.journal.specs.Recovered.{RecoversBy, IsUnread};
 ghost use Rattle.journal.specs.Crash.{LeftBefore, LeftWithin};
 ghost use Rattle.journal.specs.Standing.{Stands};
@@ -24,6 +24,17 @@ pub fn steps_of_a_write_out()
     ensures ends { (k n : ℕ) → (stage_at k n ≡ None) ↔ (2 * k + 7 ≤ n) }
     ensures calls { (g : GeometryValue) (batch : Batch) → let k = length batch.homes in
         calls_in_steps g batch (2 * k + 7) ≡ 3 * k + 7 }
+{}
+
+/// Whose step comes next: the newest one's, where its batch isn't committed, and only that one changes by it; where all
+/// after the oldest are committed, the oldest one's. (Of write-outs that `WriteOuts` keeps, none but the newest has a
+/// batch that isn't committed.)
+pub fn whose_step_comes_next()
+    ensures newest { (older : List WriteOut) (newest : WriteOut) → has_committed newest ≡ false
+        → (current (older ++ newest ∷ []) ≡ Some newest)
+        × (advanced (older ++ newest ∷ []) ≡ older ++ advanced_of newest ∷ []) }
+    ensures oldest { (oldest : WriteOut) (newer : List WriteOut) → has_uncommitted newer ≡ false
+        → (current (oldest ∷ newer) ≡ Some oldest) × (advanced (oldest ∷ newer) ≡ advanced_of oldest ∷ newer) }
 {}
 
 /// A step makes no batch: each that isn't done after it was there before it.

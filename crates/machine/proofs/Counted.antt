@@ -8,7 +8,7 @@ use Rattle.machine.proofs.Names.{File, GeometryValue, Batch, Stage, Committing, 
 use Rattle.machine.proofs.Names.{Nothing, work_at, calls_of, WriteOut, next_stage, begun_of, advanced_of, work_of}
 use Rattle.machine.proofs.Names.{answer_of, calls_in_steps, WriteOutsValue, has_uncommitted, advanced, outs_after}
 use Rattle.machine.proofs.Names.{outs_record, next_answer, next_batch, begun, IsAt, stage_is, early_calls, all_calls}
-use Rattle.machine.proofs.Names.{current-oldest, Act, Reply, Step, State, Whole, home_of, Acts, FlushMade, MarkMade}
+use Rattle.machine.proofs.Names.{current-oldest, Act, Reply, Step, State, Whole, home_of, Acts, MarkMade}
 use Rattle.machine.proofs.Names.{with_batch, after_record, reply_to, step_work, StepTaken, StepsTaken, listed_work}
 use Rattle.machine.proofs.Names.{asked_for, AskFor, IsOnTrack, IsSound, Performed, Moved, Marked, Failed}
 use Rattle.journal.specs.declared.flushed.Flushed.TheVariants as flushed
@@ -257,7 +257,7 @@ module _ (n : ℕ) (batch : Batch) (its : batch.mark ≡ n) (g : GeometryValue) 
     more_marks : Performed s disk p act reply new disk' → n ≤ s.marks → n ≤ new.marks
     more_marks (Moved by) le = omega (arith, le, (moves_leave disk s by.says new sound by.moves).1)
     more_marks (Marked number act_is reply_is made same_disk) le = let same : new.marks ≡ number = ap (λ (x : State). x.marks) made.done in omega (arith, le, same, made.next)
-    more_marks (Stepped act_is made fine) le = let same = ap (λ (x : State). x.marks) made.done ∙ either (is_some (outs_record s.write_outs)) in omega (arith, le, same)
+    more_marks (Stepped act_is by fine) le = let same = ap (λ (x : State). x.marks) by.made.done ∙ either (is_some (outs_record s.write_outs)) in omega (arith, le, same)
       where
         either : (b : Bool) → (cond b (after_record s) s).marks ≡ s.marks
         either true = refl
@@ -274,11 +274,11 @@ module _ (n : ℕ) (batch : Batch) (its : batch.mark ≡ n) (g : GeometryValue) 
     stands_next (Marked number act_is reply_is made same_disk) le works st =
         idles (with_batch s number made.pages) works (ap (λ (x : State). x.write_outs) made.done) (λ i. step_work s (act_is i) (reply_is i))
         (marked s works number made.pages (λ same. absurd (omega (arith, le, made.next, same))) st)
-    stands_next (Stepped act_is made fine) le works st =
-        let goes = step_goes (next_answer s.write_outs) reply made.answered fine in
+    stands_next (Stepped act_is by fine) le works st =
+        let goes = step_goes (next_answer s.write_outs) reply by.answered fine in
         let whole = whole_answer s.write_outs goes in
-        subst (λ o. Stands o (works ++ asked_for n s act reply)) (sym (ap (λ (x : State). x.write_outs) made.done))
-        (subst (λ w. Stands (outs_after s.write_outs (next_answer s.write_outs)) (works ++ asked s.write_outs.batches w)) (sym (work_now s act reply act_is (next_answer s.write_outs) made.answered goes whole.0))
+        subst (λ o. Stands o (works ++ asked_for n s act reply)) (sym (ap (λ (x : State). x.write_outs) by.made.done))
+        (subst (λ w. Stands (outs_after s.write_outs (next_answer s.write_outs)) (works ++ asked s.write_outs.batches w)) (sym (work_now s act reply act_is (next_answer s.write_outs) by.answered goes whole.0))
         (stepped s works (next_answer s.write_outs) goes (sym whole.1) st))
     stands_next (Failed act_is reply_is made) le works st = inl (ap (λ (x : State). x.write_outs.broken) made.done)
 
@@ -349,31 +349,12 @@ module _ (n : ℕ) (batch : Batch) (its : batch.mark ≡ n) (g : GeometryValue) 
 -- ---- only a step of the write-outs answers so
 
 module _ (s : State) (disk : List ℕ) (p : ℕ) (new : State) (disk' : List ℕ) (number : ℕ) where
-  abbrev IsStep : Act → Reply → Type 0
-  IsStep act reply = Acts s disk p act reply new disk' → (act ≡ acts.Flush) × FlushMade s disk p reply new disk'
+  abbrev IsStep : Act → Flushed → Type 0
+  IsStep act answer = Acts s disk p act (reply_to answer) new disk' → (act ≡ acts.Flush) × (next_answer s.write_outs ≡ answer)
 
-  steps_alone : (act : Act) → IsStep act (replies.Committed number) × IsStep act (replies.Done number)
-  steps_alone (acts.Load va count) = (λ rule. absurd rule.0.1, λ rule. absurd rule.0.1)
-  steps_alone (acts.Store va bytes) = (λ rule. absurd rule.0.1, λ rule. absurd rule.0.1)
-  steps_alone (acts.Fill page) = (λ rule. absurd rule.0.1, λ rule. absurd rule.0.1)
-  steps_alone (acts.Evict slot) = (λ rule. absurd rule.0.1, λ rule. absurd rule.0.1)
-  steps_alone acts.Flush = (λ rule. (refl, rule), λ rule. (refl, rule))
-  steps_alone act = (λ rule. absurd rule.0, λ rule. absurd rule.0)
-
--- the reply tells the answer
-committed_is : (number : ℕ) (a : Flushed) → replies.Committed number ≡ reply_to a → a ≡ flushed.Committed number
-committed_is number (flushed.Committed mark) e = ap flushed.Committed (same number mark e)
-  where
-    same : (a b : ℕ) → replies.Committed a ≡ replies.Committed b → b ≡ a
-    same a b e = cc
-committed_is number answer e = cc
-
-done_is : (number : ℕ) (a : Flushed) → replies.Done number ≡ reply_to a → a ≡ flushed.Done number
-done_is number (flushed.Done mark) e = ap flushed.Done (same number mark e)
-  where
-    same : (a b : ℕ) → replies.Done a ≡ replies.Done b → b ≡ a
-    same a b e = cc
-done_is number answer e = cc
+  steps_alone : (act : Act) → IsStep act (flushed.Committed number) × IsStep act (flushed.Done number)
+  steps_alone acts.Flush = (λ rule. (refl, rule.answered), λ rule. (refl, rule.answered))
+  steps_alone act = (λ rule. absurd rule.0.1, λ rule. absurd rule.0.1)
 
 -- ---- from the mark on
 
@@ -412,21 +393,22 @@ module _ {D : Type 0} (disk : Ghosts D) (files : List File) (start old marked la
   abbrev HasAsked : Reply → ℕ → Type 0
   HasAsked reply count = (works : List Work) × AskFor disk number marked (steps ++ step ∷ []) (answers ++ reply ∷ []) new works × (length works ≡ count) × (sum_by calls_of works ≡ calls_in_steps g its_batch count)
 
-  counted : (reply : Reply) (answer : Flushed) → GoesOn answer → ((w : WriteOut) → answer_of w ≡ answer → w.batch.mark ≡ number) → ((d d' : List ℕ) → IsStep last.state d step.p new.state d' number step.act reply) → ((a : Flushed) → reply ≡ reply_to a → a ≡ answer) → StepTaken disk last step reply new
-      → (m : ℕ) × (answer_of (record { batch = its_batch; steps = m }) ≡ answer) × HasAsked reply (suc m)
-  counted reply answer goes tells is_step answer_is here =
+  counted : (answer : Flushed) → GoesOn answer → ((w : WriteOut) → answer_of w ≡ answer → w.batch.mark ≡ number) → ((d d' : List ℕ) → IsStep last.state d step.p new.state d' number step.act answer) → StepTaken disk last step (reply_to answer) new
+      → (m : ℕ) × (answer_of (record { batch = its_batch; steps = m }) ≡ answer) × HasAsked (reply_to answer) (suc m)
+  counted answer goes tells is_step here =
+      let reply = reply_to answer in
       let marks : marked.state.marks ≡ number = ap (λ (x : State). x.marks) mark.done in
       let st = subst (λ o. Stands number its_batch refl g o []) (sym (ap (λ (x : State). x.write_outs) mark.done)) (begins mark.pages) in
       let asked = run number its_batch refl g disk last new step reply here steps answers marked [] (marked_sound s p number marked.state mark sound) (omega (arith, marks)) taken st in
       let flush = is_step here.answered.0 here.answered.1 here.answered.2 in
-      let end = ends number its_batch refl g disk last new step reply here answer goes tells asked.works flush.0 flush.1.answered (answer_is (next_answer last.state.write_outs) flush.1.answered) asked.stands in
+      let end = ends number its_batch refl g disk last new step reply here answer goes tells asked.works flush.0 (ap reply_to (sym flush.1)) flush.1 asked.stands in
       (end.0, end.1, (asked.works ++ asked_for number last.state step.act reply, asked.asks, end.2, end.3))
 
   pub committed_count : StepTaken disk last step (replies.Committed number) new
       → (works : List Work) × AskFor disk number marked (steps ++ step ∷ []) (answers ++ replies.Committed number ∷ []) new works × (length works ≡ length mark.pages + 4) × (sum_by calls_of works ≡ length mark.pages + 4)
   committed_count here =
-      let found = counted (replies.Committed number) (flushed.Committed number) tt (λ w e. (answered_at w g (flushed.Committed number) e).0)
-      (λ d d'. (steps_alone last.state d step.p new.state d' number step.act).0) (committed_is number) here in
+      let found = counted (flushed.Committed number) tt (λ w e. (answered_at w g (flushed.Committed number) e).0)
+      (λ d d'. (steps_alone last.state d step.p new.state d' number step.act).0) here in
       let at = (answered_at (record { batch = its_batch; steps = found.0 }) g (flushed.Committed number) found.1).1 in
       let count : suc found.0 ≡ length mark.pages + 4 = omega (arith, at, length-map mark.pages (home_of s.table)) in
       let few : suc found.0 ≤ length its_batch.homes + 4 = omega (arith, at) in
@@ -435,8 +417,8 @@ module _ {D : Type 0} (disk : Ghosts D) (files : List File) (start old marked la
   pub done_count : StepTaken disk last step (replies.Done number) new
       → (works : List Work) × AskFor disk number marked (steps ++ step ∷ []) (answers ++ replies.Done number ∷ []) new works × (length works ≡ 2 * length mark.pages + 7) × (sum_by calls_of works ≡ 3 * length mark.pages + 7)
   done_count here =
-      let found = counted (replies.Done number) (flushed.Done number) tt (λ w e. (answered_at w g (flushed.Done number) e).0)
-      (λ d d'. (steps_alone last.state d step.p new.state d' number step.act).1) (done_is number) here in
+      let found = counted (flushed.Done number) tt (λ w e. (answered_at w g (flushed.Done number) e).0)
+      (λ d d'. (steps_alone last.state d step.p new.state d' number step.act).1) here in
       let at = (answered_at (record { batch = its_batch; steps = found.0 }) g (flushed.Done number) found.1).1 in
       let pages = length-map mark.pages (home_of s.table) in
       let count : suc found.0 ≡ 2 * length its_batch.homes + 7 = omega (arith, at) in

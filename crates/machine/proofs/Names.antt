@@ -36,6 +36,7 @@ pub use Rattle.journal.proofs.Public.{stage_committed, stage_is, stands_after, s
 pub use Rattle.journal.proofs.Public.{stands_first, stands_left, stands_other, stands_within}
 pub use Rattle.journal.specs.Crash.{LeftBefore, LeftWithin}
 pub use Rattle.journal.specs.Stage.{answer_at, is_committed}
+pub use Rattle.journal.specs.Standing.{MayBegin}
 pub use Rattle.journal.specs.Work.{CopyBlock, HasFailed, Nothing, Sync, TornByWork, TornFromWork, Work, WriteAt}
 pub use Rattle.journal.specs.Work.{calls_of, has_done, work_at, worked}
 pub use Rattle.journal.specs.WriteOut.{WriteOut, advanced_of, answer_of, begun_of, broken_after, calls_in_steps}
@@ -51,31 +52,31 @@ pub use Rattle.journal.specs.declared.stage.Stage.TheVariants.{Opening, Recordin
 pub use Rattle.journal.specs.inside.Sound.{AreInOrder, IsOlder}
 pub use Rattle.journal.specs.inside.Standing.{IsStanding}
 pub use Rattle.journal.specs.inside.Tied.{IsTied}
-pub use Rattle.machine.specs.Calls.{CallsOf, FixCalls, FlushCalls, has_failed, is_absent, reads_page}
+pub use Rattle.machine.specs.Calls.{CallsOf, Counts, has_failed}
 pub use Rattle.machine.specs.Crashes.{Begins, StepIsSafe, Throughout}
 pub use Rattle.machine.specs.Durability.{AreFrozenProtected, HasPart, IsInFile, frozen_homes, waiting_homes}
 pub use Rattle.machine.specs.Durability.{within_file}
 pub use Rattle.machine.specs.Fresh.{IsFresh, IsShape, fresh}
 pub use Rattle.machine.specs.History.{Acknowledge, Event, Mark, Memory, after, bytes_of_pages, file_bytes, files_after}
-pub use Rattle.machine.specs.History.{files_from_memory, has_unmarked, is_touched, memory_of, stored, touched_after}
-pub use Rattle.machine.specs.History.{unmarked_after}
+pub use Rattle.machine.specs.History.{cut_file, files_from_memory, has_resized, has_unmarked, is_change, is_change_of}
+pub use Rattle.machine.specs.History.{is_resize, is_touched, lengths_after, lengths_of, memory_of, since_mark, stored}
+pub use Rattle.machine.specs.History.{with_event, with_length}
 pub use Rattle.machine.specs.Later.{AreDurable, Finds, FindsDurable, OpensTo}
-pub use Rattle.machine.specs.Laws.{AddressLaw, EachStep, FaultsAreServed, IsAccessOf, IsAnswered, IsFreeToAct, IsInside}
-pub use Rattle.machine.specs.Laws.{LeadsTo, LoadLaw, LoadsLatest, ReadsBack, ServesNext, StoreLaw, StoresAtPlace}
+pub use Rattle.machine.specs.Laws.{EachStep, FaultsAreServed, IsAccessOf, IsAnswered, IsFreeToAct, IsInside, IsLawful}
+pub use Rattle.machine.specs.Laws.{LeadsTo, LoadsLatest, ReadsBack, ServesNext, StoresAtPlace}
 pub use Rattle.machine.specs.Laws.{told_at_start}
 pub use Rattle.machine.specs.OnTrack.{IsOnTrack}
-pub use Rattle.machine.specs.Refusals.{destroy_refusal_of, first_of, fix_refusal, flush_refusal, is_msync, map_refusal}
-pub use Rattle.machine.specs.Refusals.{mapping_refusal, msync_refusal, pages_in_file, protect_refusal_of}
-pub use Rattle.machine.specs.Refusals.{reclaim_refusal, refuse_if, served_refusal, unmap_refusal, why_not}
-pub use Rattle.machine.specs.Rules.{Acts, FixMade, Fixes, FlushFailed, FlushMade, Flushes, IsRefused, LoadAnswers}
-pub use Rattle.machine.specs.Rules.{MapMade, Maps, MarkMade, MayChange, MayLeave, ProtectMade, Reaches, ReclaimKept}
-pub use Rattle.machine.specs.Rules.{ReclaimMade, Rules, SpaceDestroyed, StoreAnswers, UnmapMade, WantsMemory}
+pub use Rattle.machine.specs.Refusals.{first_of, is_absent, is_msync, mapping_refusal, pages_in_file, reads_page}
+pub use Rattle.machine.specs.Refusals.{reason_against, refuse_if, served_refusal, why_not}
+pub use Rattle.machine.specs.Rules.{Accesses, Acts, Answers, FixMade, FlushFailed, FlushMade, MarkMade, MayChange}
+pub use Rattle.machine.specs.Rules.{MayLeave, ProtectMade, ReclaimKept, ReclaimMade, Refuses, Rules}
+pub use Rattle.machine.specs.Rules.{SpaceDestroyed, UnmapMade, WantsMemory}
 pub use Rattle.machine.specs.Rules.{after_failure, after_record, begin_change, bytes_at_mark, bytes_with, end_change}
-pub use Rattle.machine.specs.Rules.{next_page, reply_to, with_batch, with_hardware, with_shootdown, with_spaces}
+pub use Rattle.machine.specs.Rules.{next_page, with_batch, with_hardware, with_shootdown, with_spaces}
 pub use Rattle.machine.specs.Rules.{work_asked}
 pub use Rattle.machine.specs.Runs.{StepTaken, StepsTaken}
-pub use Rattle.machine.specs.State.{State, Whole, cut_at_end, home_of, length_of, page_from}
-pub use Rattle.machine.specs.Steps.{IsLawful, StepMade, step_work, told_first}
+pub use Rattle.machine.specs.State.{State, Whole, cut_at_end, home_of, length_of, page_from, part}
+pub use Rattle.machine.specs.Steps.{StepMade, step_work, told_first}
 pub use Rattle.machine.specs.Stops.{IsAcknowledged, IsNew, IsOld, Stops, StopsBefore, StopsInStep, StopsWithin}
 pub use Rattle.machine.specs.Sums.{AskFor, CallsAddUp, asked_for, listed_work}
 pub use Rattle.machine.specs.Told.{Pending, Protecting, Told, Unmapping, begun_by, begun_protect, begun_unmap, changed}
@@ -91,16 +92,17 @@ pub use Rattle.machine.specs.inside.Flushing.{HasSmallMark, checkpoint_after, me
 pub use Rattle.machine.specs.inside.Flushing.{released_pages, reply_of_flush}
 pub use Rattle.machine.specs.inside.Following.{Follows}
 pub use Rattle.machine.specs.inside.Layers.{AnswersBy, AreLayers, AreReserved, IsAtHome, IsPageOf, IsQuiet, IsReserved}
-pub use Rattle.machine.specs.inside.Layers.{KeepsReserved, MayBegin, state_in, whole_in, with_homes}
+pub use Rattle.machine.specs.inside.Layers.{KeepsReserved, state_in, whole_in, with_homes}
 pub use Rattle.machine.specs.inside.Moves.{AreSpacesTold, Begin, Beginning, BeginsChange, Bring, ChangesPlaces}
 pub use Rattle.machine.specs.inside.Moves.{Changing, Copy, Destroy, Drop, End, Ending, EndsChange, Entering, Failed}
 pub use Rattle.machine.specs.inside.Moves.{IsMoved, IsProcessorTold, Leaving, Mapping, Marked, Move, Moved, Moves}
 pub use Rattle.machine.specs.inside.Moves.{Performed, Remap, Replace, ReplacesProcessor, ReplacesSpaces, Running}
-pub use Rattle.machine.specs.inside.Moves.{SameDirty, Saying, Silent, Store, StoresBytes, Storing, effect_of, ending_of}
-pub use Rattle.machine.specs.inside.Moves.{said, said_all}
+pub use Rattle.machine.specs.inside.Moves.{HasStepped, SameDirty, Saying, Silent, Store, StoresBytes, Storing, effect_of}
+pub use Rattle.machine.specs.inside.Moves.{ending_of, reply_to, said, said_all}
 pub use Rattle.machine.specs.inside.Sound.{AreOlderCommitted, AreSpacesSound, AreWriteOutsSound, IsMemory}
 pub use Rattle.machine.specs.inside.Sound.{IsMemorySound, IsPrepared, IsSound, capacity_of}
-pub use Rattle.machine.specs.inside.Tracking.{AreContentsOf, AreMarks, ArePlain, AreTouched, HasAcknowledged, HasFiles}
+pub use Rattle.machine.specs.inside.Tracking.{AreContentsOf, AreMarks, ArePlain, AreTouched}
+pub use Rattle.machine.specs.inside.Tracking.{HasAcknowledged, HasFiles}
 pub use Rattle.machine.specs.inside.Tracking.{HasParts, IsArranged, IsLatest, IsLost, IsTracked, IsWaiting, IsWritten}
 pub use Rattle.machine.specs.inside.Tracking.{change_in, pending_in}
 pub use Rattle.mappings.specs.Judgement.{add_refusal, is_mappable, is_user_range, mapped_pages_of, pages_holding}
@@ -196,21 +198,24 @@ pub use Rattle.std.proofs.lemmas.List.Elements.{All-weaker, Contains-append_case
 pub use Rattle.std.proofs.lemmas.List.Elements.{Contains-append_right, Contains-get_or, Contains-push}
 pub use Rattle.std.proofs.lemmas.List.Elements.{Contains-push_cases, recursion_from_All}
 pub use Rattle.std.proofs.lemmas.List.Folds.{list_any-append}
-pub use Rattle.std.proofs.lemmas.List.Sums.{count_by-le-length, sum_by-append, sum_by-set}
+pub use Rattle.std.proofs.lemmas.List.Sums.{count_by-le-length, fold-append, sum_by-append, sum_by-set}
 pub use Rattle.std.proofs.lemmas.Option.{get_or_from_slice_get, slice_get_within}
 pub use Rattle.std.proofs.lemmas.Result.{err_from_is_err_and}
 pub use Rattle.std.specs.Cmp.{nat_cmp_total, unsigned_tied}
-pub use Rattle.std.specs.List.{All, AllByRecursion, Contains, count_by, flat_map, list_any}
+pub use Rattle.std.specs.List.{All, AllByRecursion, Contains, count_by, flat_map, fold, list_any}
 pub use Rattle.std.specs.Option.{IfNone, IfSome, option_and_then, option_map, option_map_or, option_or}
 pub use Rattle.std.specs.Ordering.{nat_cmp}
-pub use Rattle.std.specs.Prelude.{IfErr, IfOk, IsTrue, MatchBool, nat_lt}
+pub use Rattle.std.specs.Prelude.{IfErr, IfOk, IsTrue, MatchBool, min, nat_lt}
 pub use Rattle.volume_codec.proofs.Public.{blocks_from-device, fits_geometry, length-block_at, length-file}
-pub use Rattle.volume_codec.proofs.Public.{length-lengths_in, length-padded, length-zeros, take-past}
+pub use Rattle.volume_codec.proofs.Public.{has_lengths-same, length-lengths_in, length-padded, length-zeros, lengths_in-same}
+pub use Rattle.volume_codec.proofs.Public.{take-past}
 pub use Rattle.volume_codec.proofs.Public.{total_pages-take_le, total_pages-take_more, zeros-nil}
 pub use Rattle.volume_codec.specs.Descriptor.{AreHomes, RiseWithin}
 pub use Rattle.volume_codec.specs.Files.{File, TableFile}
 pub use Rattle.volume_codec.specs.Layout.{GeometryValue, IsHome, block_at, first_file_home, first_home, journals_of}
+pub use Rattle.volume_codec.specs.Layout.{lengths_blocks}
 pub use Rattle.volume_codec.specs.Recovery.{Batch, IsDamaged, IsNotAVolume, IsVolume, Recovers, RecoversTo, blocks_from}
-pub use Rattle.volume_codec.specs.Recovery.{files_from, files_in, lengths_in}
+pub use Rattle.volume_codec.specs.Lengths.{AreLengths, HasLengths, lengths_in}
+pub use Rattle.volume_codec.specs.Recovery.{files_from, files_in}
 pub use Rattle.volume_codec.specs.Super.{Fits, SuperValue, block_count, geometry_of, pages_of, total_pages}
 pub use Rattle.volume_codec.specs.Text.{padded, zeros}

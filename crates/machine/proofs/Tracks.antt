@@ -1,10 +1,10 @@
 -- The laws hold on the track of a run: each step of a tracked machine keeps it tracked.
 use Rattle.machine.proofs.Names.{ℕ, ◌≡◌, List, [], ◌∷◌, ◌++◌, length, map, get_or, refl, sym, ap, ◌∙◌, subst, arith}
-use Rattle.machine.proofs.Names.{Ghosts, File, TableFile, block_at, length-lengths_in, Act, Reply, Step, Whole}
-use Rattle.machine.proofs.Names.{length_of, Told, tell, tell_all, EachStep, IsLawful, told_first, StepTaken, StepsTaken}
-use Rattle.machine.proofs.Names.{Follows, Begins, StepIsSafe, Throughout, capacity_of, IsTracked, append-nil}
+use Rattle.machine.proofs.Names.{AreLengths, Ghosts, File, Act, Reply, Step, Whole}
+use Rattle.machine.proofs.Names.{Told, tell, tell_all, EachStep, IsLawful, told_first, StepTaken, StepsTaken}
+use Rattle.machine.proofs.Names.{Follows, Begins, StepIsSafe, Throughout, IsTracked, append-nil}
 use Rattle.machine.proofs.Names.{append_assoc, IsOnTrack}
-use Rattle.machine.proofs.sound.AtBoot.{fresh_sound}
+use Rattle.machine.proofs.sound.AtBoot.{fresh_sound, lengths_within}
 use Rattle.machine.proofs.durable.Steps.{tracked_kept, step_safe}
 use Rattle.machine.proofs.durable.AtStart.{durable_at_start, arranged_at_start, pages_at_start, files_at_start}
 use Rattle.machine.proofs.track.Lawful.{lawful}
@@ -41,10 +41,10 @@ module _ {D : Type 0} (disk : Ghosts D) (files : List File) (start : Whole D) wh
   pub follows_first : Begins disk files start → Follows disk files start [] [] start
   follows_first begins =
       let s = start.state in
-      let capacities : s.lengths ≡ map (λ (f : TableFile). f.capacity) s.table.files = begins.lengths_are in
-      let sound = fresh_sound s begins.fresh begins.volume.super_block.fits (ap length capacities ∙ length-lengths_in s.table (block_at (disk.seen start.device)))
-      (λ file. let same : length_of s file ≡ capacity_of s file = ap (λ (l : List ℕ). get_or l file 0) capacities in omega (arith, same)) in
-      let has = files_at_start files s (disk.seen start.device) begins.volume begins.files_are begins.lengths_are in
+      let are : AreLengths s.table s.lengths = subst (AreLengths s.table) (sym begins.lengths_are) begins.fit.are in
+      let sound = fresh_sound s begins.fresh begins.volume.super_block.fits are.count
+      (lengths_within s.table.files s.lengths are.count are.within) in
+      let has = files_at_start files s (disk.seen start.device) sound begins.volume begins.files_are begins.lengths_are in
       let pages = pages_at_start files s begins.fresh has in
       let d = durable_at_start disk files start sound begins in
       record {

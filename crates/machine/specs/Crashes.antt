@@ -4,7 +4,8 @@ use Rattle.device.specs.Device.{Only, LeavesOnly}
 use Rattle.device.specs.declared.device.Device.{Ghosts}
 use Rattle.volume_codec.specs.Files.{File}
 use Rattle.volume_codec.specs.Layout.{block_at}
-use Rattle.volume_codec.specs.Recovery.{IsVolume, files_in, lengths_in}
+use Rattle.volume_codec.specs.Lengths.{HasLengths, lengths_in}
+use Rattle.volume_codec.specs.Recovery.{IsVolume, files_in}
 use Rattle.machine.specs.declared.act.Reply.{Reply}
 use Rattle.machine.specs.declared.act.Step.{Step}
 use Rattle.machine.specs.State.{Whole}
@@ -13,11 +14,12 @@ use Rattle.machine.specs.Laws.{ReadsBack}
 use Rattle.machine.specs.Fresh.{IsFresh}
 use Rattle.machine.specs.Runs.{StepTaken}
 
--- A run may begin: the machine is as boot leaves it over a volume whose gates are closed, with these files; its device
--- is honest, and a crash leaves what a read gives.
+-- A run may begin: the machine is as boot leaves it over a volume whose gates are closed, with these files and the
+-- lengths that the volume has; its device is honest, and a crash leaves what a read gives.
 pub record Begins {D : Type 0} (disk : Ghosts D) (files : List File) (start : Whole D) : Type 0 where
   pub fresh : IsFresh start.state
   pub volume : IsVolume start.state.table [] (disk.seen start.device)
+  pub fit : HasLengths start.state.table (block_at (disk.seen start.device))
   pub files_are : files ≡ files_in start.state.table (block_at (disk.seen start.device))
   pub lengths_are : start.state.lengths ≡ lengths_in start.state.table (block_at (disk.seen start.device))
   pub honest : disk.is_honest start.device

@@ -1,5 +1,5 @@
 -- What keeps stores from a page that is being written out, and what the pages have that a mark doesn't gather.
-use Rattle.std.specs.Prelude.{ℕ, ◌≡◌, ◌-◌, ◌*◌, ◌<◌, true, false, List, [], length, map, take, drop, Some, if◌then◌else◌}
+use Rattle.std.specs.Prelude.{ℕ, ◌≡◌, ◌*◌, ◌<◌, true, false, List, [], length, map, drop, Some, if◌then◌else◌}
 use Rattle.std.specs.List.{All, flat_map}
 use Rattle.page_entry.specs.Entry.{Mapped}
 use Rattle.page_entry.specs.declared.numbers.FilePage.{FilePage}
@@ -9,7 +9,7 @@ use Rattle.spaces.specs.Spaces.{entry_at}
 use Rattle.shootdown.specs.Shootdown.{processor_at}
 use Rattle.shootdown.specs.Coherence.{IsUsable}
 use Rattle.checkpoint.specs.Checkpoint.{Holds, is_held}
-use Rattle.machine.specs.State.{State, home_of, length_of}
+use Rattle.machine.specs.State.{State, home_of, length_of, part}
 
 -- the home blocks whose records aren't written yet
 abbrev pub waiting_homes : WriteOutsValue → List ℕ
@@ -40,7 +40,7 @@ pub record IsInFile (s : State) (owner : FilePage) : Type 0 where
 
 -- the bytes of a page up to its file's end
 abbrev pub within_file : State → FilePage → List ℕ → List ℕ
-within_file s owner bytes = take (length_of s owner.file - 4096 * owner.page) bytes
+within_file s owner bytes = part s.lengths owner bytes
 
 -- the list recovers to contents that have, for this page, these bytes up to its file's end
 pub record HasPart (s : State) (owner : FilePage) (bytes c : List ℕ) : Type 0 where

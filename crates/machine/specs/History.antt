@@ -1,6 +1,7 @@
 -- The history of a run: what was stored, where marks stand, and which marks were acknowledged; and the memory and the
 -- files that a history leaves (Park, Kelly and Shen 2013: the whole effect of an msync or none of it).
-use Rattle.std.specs.Prelude.{ℕ, ◌+◌, ◌-◌, ◌*◌, ◌/◌, ◌%◌, ◌==◌, ◌≡◌, Bool, true, false, ◌&&◌, ◌⊎◌, if◌then◌else◌, List, [], ◌∷◌, ◌++◌, length, take, drop, Contains}
+use Rattle.std.specs.Prelude.{ℕ, ◌+◌, ◌-◌, ◌*◌, ◌/◌, ◌%◌, ◌==◌, ◌≡◌, nat_lt, nat_le, min, Bool, true, false, ◌&&◌, ◌⊎◌, if◌then◌else◌, List, [], ◌∷◌, ◌++◌, length, map, take, drop, slice_set, Contains}
+use Rattle.std.specs.List.{fold, list_any}
 use Rattle.volume_codec.specs.Files.{File}
 use Rattle.volume_codec.specs.Text.{padded}
 use Rattle.volume_codec.specs.Super.{pages_of}
@@ -28,23 +29,25 @@ memory_of files file page = page_of (file_bytes files file) page
 abbrev pub bytes_of_pages : (ℕ → List ℕ) → ℕ → List ℕ
 bytes_of_pages pages n = take n (blocks_from pages 0 (pages_of n))
 
--- these files, the first of them with this number, with the bytes that a memory has for them, up to their lengths
--- (POSIX: bytes after the end of the last page aren't part of the file)
-abbrev pub files_from_memory : ℕ → List File → Memory → List File
-files_from_memory file [] memory = []
-files_from_memory file (f ∷ fs) memory =
-    record { name = f.name; bytes = bytes_of_pages (memory file) (length f.bytes); capacity = f.capacity }
-    ∷ files_from_memory (file + 1) fs memory
+-- these files, the first of them with this number, with these lengths and the bytes that a memory has for them (POSIX:
+-- bytes after the end of the last page aren't part of the file)
+abbrev pub files_from_memory : ℕ → List File → List ℕ → Memory → List File
+files_from_memory file (f ∷ fs) (n ∷ lengths) memory =
+    record { name = f.name; bytes = bytes_of_pages (memory file) n; capacity = f.capacity }
+    ∷ files_from_memory (file + 1) fs lengths memory
+files_from_memory file files lengths memory = []
 
--- the files that a memory has
-abbrev pub files_in : List File → Memory → List File
-files_in files memory = files_from_memory 0 files memory
+-- the length of each of these files
+abbrev pub lengths_of : List File → List ℕ
+lengths_of files = map (λ f. length f.bytes) files
 
--- what a run does to memory and to the promise of durability
+-- what a run does to memory, to lengths and to the promise of durability
 pub data Event : Type 0 where
   -- bytes were stored at this offset of a file
   Store : (file offset : ℕ) (bytes : List ℕ) → Event
-  -- all stores so far belong to this mark
+  -- the length of a file became another: bytes from the smaller one on are zeros
+  SetLength : (file from to : ℕ) → Event
+  -- all stores and lengths so far belong to this mark
   Mark : (number : ℕ) → Event
   -- this mark is durable
   Acknowledge : (number : ℕ) → Event
@@ -54,40 +57,69 @@ abbrev pub stored : Memory → ℕ → ℕ → List ℕ → Memory
 stored memory file offset bytes =
     λ f p. if f == file && p == offset / 4096 then overwrite (memory f p) (offset % 4096) bytes else memory f p
 
+-- the memory after the bytes of a file from this one on became zeros
+abbrev pub cut_file : Memory → ℕ → ℕ → Memory
+cut_file memory file end =
+    λ f p. if f == file then padded 4096 (take (end - 4096 * p) (memory f p)) else memory f p
+
 -- the memory after a history
 abbrev pub after : Memory → List Event → Memory
 after memory [] = memory
 after memory (Store file offset bytes ∷ events) = after (stored memory file offset bytes) events
+after memory (SetLength file from to ∷ events) = after (cut_file memory file (min from to)) events
 after memory (Mark number ∷ events) = after memory events
 after memory (Acknowledge number ∷ events) = after memory events
 
+-- the lengths after one event, and after a history
+abbrev pub with_length : List ℕ → Event → List ℕ
+with_length lengths (SetLength file from to) = slice_set lengths file to
+with_length lengths event = lengths
+
+abbrev pub lengths_after : List ℕ → List Event → List ℕ
+lengths_after lengths history = fold with_length lengths history
+
 -- the files after a history that began with these files
 abbrev pub files_after : List File → List Event → List File
-files_after files history = files_in files (after (memory_of files) history)
+files_after files history =
+    files_from_memory 0 files (lengths_after (lengths_of files) history) (after (memory_of files) history)
 
--- whether a store stands after the last mark of a history, where this says whether one stood there before it
-abbrev pub unmarked_after : Bool → List Event → Bool
-unmarked_after before [] = before
-unmarked_after before (Store file offset bytes ∷ events) = unmarked_after true events
-unmarked_after before (Mark number ∷ events) = unmarked_after false events
-unmarked_after before (Acknowledge number ∷ events) = unmarked_after before events
+-- the events after the last mark of a history, or all of one without marks
+abbrev pub with_event : List Event → Event → List Event
+with_event events (Mark number) = []
+with_event events event = events ++ event ∷ []
 
--- whether a store stands after the last mark
+abbrev pub since_mark : List Event → List Event
+since_mark history = fold with_event [] history
+
+-- whether an event changes files
+abbrev pub is_change : Event → Bool
+is_change (Store file offset bytes) = true
+is_change (SetLength file from to) = true
+is_change event = false
+
+-- whether an event changes the bytes of a page or makes it part of its file: the store to it, and each growth of the
+-- file that begins in it or before it and ends in it or after it
+abbrev pub is_change_of : ℕ → ℕ → Event → Bool
+is_change_of file page (Store f offset bytes) = f == file && page == offset / 4096
+is_change_of file page (SetLength f from to) =
+    f == file && nat_lt from to && nat_le (from / 4096) page && nat_lt page (pages_of to)
+is_change_of file page event = false
+
+-- whether a store or a change of length stands after the last mark
 abbrev pub has_unmarked : List Event → Bool
-has_unmarked history = unmarked_after false history
+has_unmarked history = list_any is_change (since_mark history)
 
--- whether a store to this page of a file stands after the last mark of a history, where this says whether one stood
--- there before it
-abbrev pub touched_after : ℕ → ℕ → Bool → List Event → Bool
-touched_after file page before [] = before
-touched_after file page before (Store f offset bytes ∷ events) =
-    touched_after file page (if f == file && page == offset / 4096 then true else before) events
-touched_after file page before (Mark number ∷ events) = touched_after file page false events
-touched_after file page before (Acknowledge number ∷ events) = touched_after file page before events
+-- whether a change of length does
+abbrev pub is_resize : Event → Bool
+is_resize (SetLength file from to) = true
+is_resize event = false
 
--- whether a store to this page of a file stands after the last mark of a history, or anywhere in one without marks
+abbrev pub has_resized : List Event → Bool
+has_resized history = list_any is_resize (since_mark history)
+
+-- whether a store to this page of a file, or a growth that has it, stands after the last mark
 abbrev pub is_touched : List Event → ℕ → ℕ → Bool
-is_touched history file page = touched_after file page false history
+is_touched history file page = list_any (is_change_of file page) (since_mark history)
 
 -- empty, or ends with a mark
 abbrev pub IsMarked : List Event → Type 0

@@ -29,10 +29,9 @@ told_at_start files cpus = record {
 
 -- a fact of each step of a run, by what was told before it
 abbrev pub EachStep : (Told → ℕ → Act → Reply → Type 0) → Told → List Step → List Reply → Type 0
-EachStep P told [] replies = Unit {0}
-EachStep P told (step ∷ steps) [] = Unit {0}
 EachStep P told (step ∷ steps) (reply ∷ replies) =
     P told step.p step.act reply × EachStep P (tell told step reply) steps replies
+EachStep P told steps replies = Unit {0}
 
 -- ---- coherence
 
@@ -43,11 +42,6 @@ pub record LoadsLatest (files : List File) (told : Told) (p va count : ℕ) (byt
   pub place : Place
   pub leads : place_told told p va ≡ Some place
   pub latest : bytes ≡ take count (drop (va % 4096) (after (memory_of files) told.history place.file place.page))
-
--- a load that answers gives the latest answered stores; of every other act or reply nothing is said
-abbrev pub LoadLaw : List File → Told → ℕ → Act → Reply → Type 0
-LoadLaw files told p (acts.Load va count) (replies.Bytes bytes) = LoadsLatest files told p va count bytes
-LoadLaw files told p act reply = Unit {0}
 
 -- the page of a place begins before the end of its file
 abbrev pub IsInside : Told → Place → Type 0
@@ -60,11 +54,6 @@ pub record StoresAtPlace (told : Told) (p va : ℕ) : Type 0 where
   pub allowed : may_write place.rights ≡ true
   pub inside : IsInside told place
 
--- a store that answers stands at a place that allows it; of every other act or reply nothing is said
-abbrev pub StoreLaw : Told → ℕ → Act → Reply → Type 0
-StoreLaw told p (acts.Store va bytes) replies.Stored = StoresAtPlace told p va
-StoreLaw told p act reply = Unit {0}
-
 -- a fault's address leads to a place that allows the access
 pub record LeadsTo (told : Told) (p va : ℕ) (write : Bool) (place : Place) : Type 0 where
   pub leads : place_told told p va ≡ Some place
@@ -76,23 +65,26 @@ pub record IsFreeToAct (told : Told) (p : ℕ) : Type 0 where
   pub running : slice_index_or told.running p false ≡ true
   pub free : told.locked ≡ false
 
--- Which of the three address refusals a fault gets: the first leads nowhere, the second isn't allowed, the third is
--- past the file's end. Every answer that comes after these in the order of refusals comes of none of them; and those
--- that come before have a cause of their own.
-abbrev pub AddressLaw : Told → ℕ → Act → Reply → Type 0
-AddressLaw told p (acts.Fix va write) (replies.Refused refusals.Einval) =
+-- Loads, stores and faults are answered by what was told. Of the three address refusals of a fault, the first leads
+-- nowhere, the second isn't allowed, the third is past the file's end; every answer that comes after these in the order
+-- of refusals comes of none of them, and those that come before have a cause of their own.
+abbrev pub IsLawful : List File → Told → ℕ → Act → Reply → Type 0
+IsLawful files told p (acts.Load va count) (replies.Bytes bytes) = LoadsLatest files told p va count bytes
+IsLawful files told p (acts.Store va bytes) replies.Stored = StoresAtPlace told p va
+IsLawful files told p (acts.Fix va write) (replies.Refused refusals.Einval) =
     (length told.running ≤ p) ⊎ (IsFreeToAct told p × (2 ^ 47 ≤ va))
-AddressLaw told p (acts.Fix va write) (replies.Refused refusals.Stalled) =
+IsLawful files told p (acts.Fix va write) (replies.Refused refusals.Stalled) =
     (p < length told.running) × (slice_index_or told.running p false ≡ false)
-AddressLaw told p (acts.Fix va write) (replies.Refused refusals.Locked) = told.locked ≡ true
-AddressLaw told p (acts.Fix va write) (replies.Refused refusals.SegvMapErr) =
+IsLawful files told p (acts.Fix va write) (replies.Refused refusals.Locked) = told.locked ≡ true
+IsLawful files told p (acts.Fix va write) (replies.Refused refusals.SegvMapErr) =
     (va < 2 ^ 47) × (place_told told p va ≡ None)
-AddressLaw told p (acts.Fix va write) (replies.Refused refusals.SegvAccErr) =
+IsLawful files told p (acts.Fix va write) (replies.Refused refusals.SegvAccErr) =
     (place : Place) × (place_told told p va ≡ Some place) × (write ≡ true) × (may_write place.rights ≡ false)
-AddressLaw told p (acts.Fix va write) (replies.Refused refusals.BusAdrErr) =
+IsLawful files told p (acts.Fix va write) (replies.Refused refusals.BusAdrErr) =
     (place : Place) × LeadsTo told p va write place × (IsInside told place → ⊥)
-AddressLaw told p (acts.Fix va write) reply = (place : Place) × LeadsTo told p va write place × IsInside told place
-AddressLaw told p act reply = Unit {0}
+IsLawful files told p (acts.Fix va write) reply =
+    (place : Place) × LeadsTo told p va write place × IsInside told place
+IsLawful files told p act reply = Unit {0}
 
 -- the reply of a load or a store that was made
 abbrev pub IsAnswered : Act → Reply → Type 0
@@ -114,10 +106,9 @@ ServesNext p act reply steps replies = Unit {0}
 
 -- a served fault is served: the access that follows at once answers
 abbrev pub FaultsAreServed : List Step → List Reply → Type 0
-FaultsAreServed [] replies = Unit {0}
-FaultsAreServed (step ∷ steps) [] = Unit {0}
 FaultsAreServed (step ∷ steps) (reply ∷ replies) =
     ServesNext step.p step.act reply steps replies × FaultsAreServed steps replies
+FaultsAreServed steps replies = Unit {0}
 
 -- ---- durability
 

@@ -35,10 +35,14 @@ length_of s file = slice_index_or s.lengths file 0
 abbrev pub home_of : SuperValue → FilePage → ℕ
 home_of table owner = first_home_of table owner.file + owner.page
 
+-- the bytes of a page up to its file's end, of files of these lengths
+abbrev pub part : List ℕ → FilePage → List ℕ → List ℕ
+part lengths owner bytes = take (slice_index_or lengths owner.file 0 - 4096 * owner.page) bytes
+
 -- what the record of a page has, and what a frame has when the page is read in: its bytes up to the file's end, then
 -- zeros
 abbrev pub cut_at_end : State → FilePage → List ℕ → List ℕ
-cut_at_end s owner bytes = padded 4096 (take (length_of s owner.file - 4096 * owner.page) bytes)
+cut_at_end s owner bytes = padded 4096 (part s.lengths owner bytes)
 
 -- a page as it is read in from its home block
 abbrev pub page_from : State → List ℕ → FilePage → List ℕ

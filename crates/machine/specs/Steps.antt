@@ -13,7 +13,7 @@ use Rattle.machine.specs.declared.act.Step.{Step}
 use Rattle.machine.specs.State.{State, Whole}
 use Rattle.machine.specs.Rules.{Rules, work_asked}
 use Rattle.machine.specs.Told.{Told}
-use Rattle.machine.specs.Laws.{told_at_start, LoadLaw, StoreLaw, AddressLaw}
+use Rattle.machine.specs.Laws.{told_at_start}
 
 -- what a step that is answered so writes or makes sure on the device: the work of a write-out's step, and else nothing
 abbrev pub step_work : State → Act → Reply → Work
@@ -38,13 +38,6 @@ pub record StepMade {D : Type 0} (disk : Ghosts D) (old : Whole D) (step : Step)
   pub unread : (from to : ℕ) → reply ≡ replies.Refused refusals.Device
       → step_work old.state step.act reply ≡ CopyBlock from to → disk.calls_made old.device < 2 ^ 64 - 2
       → disk.calls_made new.device ≡ disk.calls_made old.device + 1 → disk.seen new.device ≡ disk.seen old.device
-  pub honest : disk.is_honest new.device
-
--- loads, stores and faults are answered by what was told
-pub record IsLawful (files : List File) (told : Told) (p : ℕ) (act : Act) (reply : Reply) : Type 0 where
-  pub load : LoadLaw files told p act reply
-  pub store : StoreLaw told p act reply
-  pub address : AddressLaw told p act reply
 
 -- what is told at the start of a run of this machine with these files
 abbrev pub told_first : List File → State → Told

@@ -1,6 +1,7 @@
 // Loads and stores, and what a TLB caches and drops unasked.
 ghost use Rattle.cpu.specs.Access.{IsReachable};
-ghost use Rattle.machine.specs.Rules.{Reaches, LoadAnswers, StoreAnswers, FillAnswers, EvictAnswers};
+ghost use Rattle.machine.specs.declared.act.Act.TheVariants.{Load, Store, Fill, Evict};
+ghost use Rattle.machine.specs.Rules.{Reaches};
 ghost use Rattle.machine.specs.inside.Layers.{state_in, reply_to, IsQuiet};
 
 use crate::layers::Layers;
@@ -13,8 +14,7 @@ impl<D: Device, A: Allocator + Copy> Layers<D, A> {
     // Bytes are read from an address of a processor's current space.
     pub(crate) fn load(&mut self, p: ProcessorNumber, va: u64, count: u8) -> Result<Reply, Refusal>
         requires { IsReachable (state_in self.old).hardware }
-        ensures rules { Reaches (state_in self.old)
-            (LoadAnswers (state_in self.old).hardware p va count (reply_to result)) (state_in self.new) }
+        ensures rules { Reaches (state_in self.old) p (Load va count) (reply_to result) (state_in self.new) }
         ensures quiet { IsQuiet self.old self.new }
     {
         let bytes = cpu::load(
@@ -36,8 +36,7 @@ impl<D: Device, A: Allocator + Copy> Layers<D, A> {
         bytes: FewBytes,
     ) -> Result<Reply, Refusal>
         requires { IsReachable (state_in self.old).hardware }
-        ensures rules { Reaches (state_in self.old)
-            (StoreAnswers (state_in self.old).hardware p va bytes (reply_to result)) (state_in self.new) }
+        ensures rules { Reaches (state_in self.old) p (Store va bytes) (reply_to result) (state_in self.new) }
         ensures quiet { IsQuiet self.old self.new }
     {
         cpu::store(
@@ -53,8 +52,7 @@ impl<D: Device, A: Allocator + Copy> Layers<D, A> {
 
     // A page of a processor's current space is cached, if it has an entry.
     pub(crate) fn fill(&mut self, p: ProcessorNumber, page: PageNumber) -> Result<Reply, Refusal>
-        ensures rules { Reaches (state_in self.old)
-            (FillAnswers (state_in self.old).hardware p page (reply_to result)) (state_in self.new) }
+        ensures rules { Reaches (state_in self.old) p (Fill page) (reply_to result) (state_in self.new) }
         ensures quiet { IsQuiet self.old self.new }
     {
         match cpu::fill(&mut self.shootdown, &mut self.spaces, p, page)? {
@@ -65,8 +63,7 @@ impl<D: Device, A: Allocator + Copy> Layers<D, A> {
 
     // The entry in a slot of a processor's TLB is dropped, if there is such a slot.
     pub(crate) fn evict(&mut self, p: ProcessorNumber, slot: u8) -> Result<Reply, Refusal>
-        ensures rules { Reaches (state_in self.old)
-            (EvictAnswers (state_in self.old).hardware p slot (reply_to result)) (state_in self.new) }
+        ensures rules { Reaches (state_in self.old) p (Evict slot) (reply_to result) (state_in self.new) }
         ensures quiet { IsQuiet self.old self.new }
     {
         match cpu::evict(&mut self.shootdown, p, slot as usize)? {

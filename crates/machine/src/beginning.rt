@@ -1,8 +1,9 @@
 // Changes that are begun: they take place once nobody uses what they affect.
-ghost use Rattle.std.specs.Prelude.{◌≡◌, ◌-◌, ◌^◌, ◌||◌, nat_le};
+ghost use Rattle.std.specs.Prelude.{ℕ, List, ◌≡◌, ◌-◌, ◌^◌, ◌||◌, nat_le};
 ghost use Rattle.journal.specs.WriteOuts.{is_busy};
 ghost use Rattle.machine.specs.Refusals.{is_msync};
-ghost use Rattle.machine.specs.Rules.{Unmaps, Protects, Reclaims, Msyncs};
+ghost use Rattle.machine.specs.declared.act.Act.TheVariants.{Unmap, Protect, Reclaim, Msync};
+ghost use Rattle.machine.specs.Rules.{Answers};
 ghost use Rattle.machine.specs.inside.Layers.{state_in, reply_to, IsQuiet};
 
 use crate::Reply;
@@ -34,7 +35,8 @@ impl<D: Device, A: Allocator + Copy> Layers<D, A> {
         va: u64,
         len: u64,
     ) -> Result<Reply, Refusal>
-        ensures rules { Unmaps (state_in self.old) p space va len (reply_to result) (state_in self.new) }
+        ensures rules { (disk : List ℕ)
+            → Answers (state_in self.old) disk p (Unmap space va len) (reply_to result) (state_in self.new) }
         ensures quiet { IsQuiet self.old self.new }
     {
         self.shootdown.admit_free(p)?;
@@ -57,7 +59,8 @@ impl<D: Device, A: Allocator + Copy> Layers<D, A> {
         len: u64,
         prot: Rights,
     ) -> Result<Reply, Refusal>
-        ensures rules { Protects (state_in self.old) p space va len prot (reply_to result) (state_in self.new) }
+        ensures rules { (disk : List ℕ)
+            → Answers (state_in self.old) disk p (Protect space va len prot) (reply_to result) (state_in self.new) }
         ensures quiet { IsQuiet self.old self.new }
     {
         self.shootdown.admit_free(p)?;
@@ -74,7 +77,8 @@ impl<D: Device, A: Allocator + Copy> Layers<D, A> {
 
     // It is begun to take a page of a file out of memory, if it is there.
     pub(crate) fn reclaim(&mut self, p: ProcessorNumber, page: FilePage) -> Result<Reply, Refusal>
-        ensures rules { Reclaims (state_in self.old) p page (reply_to result) (state_in self.new) }
+        ensures rules { (disk : List ℕ)
+            → Answers (state_in self.old) disk p (Reclaim page.file page.page) (reply_to result) (state_in self.new) }
         ensures quiet { IsQuiet self.old self.new }
     {
         self.shootdown.admit_free(p)?;
@@ -107,7 +111,8 @@ impl<D: Device, A: Allocator + Copy> Layers<D, A> {
         len: u64,
         flags: u8,
     ) -> Result<Reply, Refusal>
-        ensures rules { Msyncs (state_in self.old) p va len flags (reply_to result) (state_in self.new) }
+        ensures rules { (disk : List ℕ)
+            → Answers (state_in self.old) disk p (Msync va len flags) (reply_to result) (state_in self.new) }
         ensures quiet { IsQuiet self.old self.new }
     {
         self.shootdown.admit_free(p)?;

@@ -1,14 +1,15 @@
 // Changes that are made, once nobody uses what they affect.
-ghost use Rattle.std.specs.Prelude.{◌≡◌, ◌↔◌, ℕ, Some, Ok, IsTrue, IfSome, IfNone};
+ghost use Rattle.std.specs.Prelude.{◌≡◌, ◌↔◌, ℕ, List, Some, Ok, IsTrue, IfSome, IfNone};
 ghost use Rattle.shootdown.specs.Calls.{HandsOut};
 ghost use Rattle.checkpoint.specs.Checkpoint.{Holds};
+ghost use Rattle.machine.specs.declared.act.Act.TheVariants.{Change as Changing};
 ghost use Rattle.machine.specs.inside.Sound.{IsSound};
-ghost use Rattle.machine.specs.Rules.{Changes, MayLeave};
+ghost use Rattle.machine.specs.Rules.{Answers, MayLeave};
 ghost use Rattle.machine.specs.inside.Layers.{state_in, reply_to, IsQuiet, AreReserved, IsPageOf, IsAtHome};
 
 use crate::Reply;
 use crate::layers::Layers;
-use crate::paging::{file_length, home_block, is_cut};
+use crate::paging::{home_block, is_cut};
 use device::Device;
 use mappings::{PageRange, Rights};
 use page_entry::{FilePage, FrameNumber, PAGE, Pcid, ProcessorNumber, Refusal};
@@ -21,7 +22,7 @@ impl<D: Device, A: Allocator + Copy> Layers<D, A> {
         requires sound { IsSound (state_in self.old) }
         requires reserved { AreReserved self.old.shootdown.lock self.old.spaces.prepared }
         requires held { HandsOut self.old.shootdown p (Ok (Some (Change.Unmap pcid range))) }
-        ensures rules { Changes (state_in self.old) p result (state_in self.new) }
+        ensures rules { (disk : List ℕ) → Answers (state_in self.old) disk p Changing result (state_in self.new) }
         ensures quiet { IsQuiet self.old self.new }
     {
         self.checkpoint.unmap(&mut self.spaces, pcid, range);
@@ -40,7 +41,7 @@ impl<D: Device, A: Allocator + Copy> Layers<D, A> {
         requires sound { IsSound (state_in self.old) }
         requires reserved { AreReserved self.old.shootdown.lock self.old.spaces.prepared }
         requires held { HandsOut self.old.shootdown p (Ok (Some (Change.Protect pcid range rights))) }
-        ensures rules { Changes (state_in self.old) p result (state_in self.new) }
+        ensures rules { (disk : List ℕ) → Answers (state_in self.old) disk p Changing result (state_in self.new) }
         ensures quiet { IsQuiet self.old self.new }
     {
         self.spaces.protect(pcid, range, rights);
@@ -56,7 +57,7 @@ impl<D: Device, A: Allocator + Copy> Layers<D, A> {
         requires held { Holds self.now.frames frame page }
         ensures { IsTrue result ↔ IsAtHome (state_in self.now) page frame }
     {
-        let left = file_length(&self.table, page.file).saturating_sub(PAGE * u64::from(page.page));
+        let left = self.file_length(page.file).saturating_sub(PAGE * u64::from(page.page));
         !self.checkpoint.is_dirty(&self.spaces, &self.frames, frame)
             && !self.write_outs.has_block(home_block(&self.table, page))
             && is_cut(self.frames.bytes(frame), left)
@@ -84,7 +85,7 @@ impl<D: Device, A: Allocator + Copy> Layers<D, A> {
     fn end_reclaim(&mut self, p: ProcessorNumber, page: FilePage) -> Reply
         requires sound { IsSound (state_in self.old) }
         requires held { HandsOut self.old.shootdown p (Ok (Some (Change.Reclaim page))) }
-        ensures rules { Changes (state_in self.old) p result (state_in self.new) }
+        ensures rules { (disk : List ℕ) → Answers (state_in self.old) disk p Changing result (state_in self.new) }
         ensures quiet { IsQuiet self.old self.new }
     {
         let Some(frame) = self.frame_to_free(page) else {
@@ -101,7 +102,8 @@ impl<D: Device, A: Allocator + Copy> Layers<D, A> {
     pub(crate) fn change(&mut self, p: ProcessorNumber) -> Result<Reply, Refusal>
         requires sound { IsSound (state_in self.old) }
         requires reserved { AreReserved self.old.shootdown.lock self.old.spaces.prepared }
-        ensures rules { Changes (state_in self.old) p (reply_to result) (state_in self.new) }
+        ensures rules { (disk : List ℕ)
+            → Answers (state_in self.old) disk p Changing (reply_to result) (state_in self.new) }
         ensures quiet { IsQuiet self.old self.new }
     {
         let Some(change) = self.shootdown.change(p)? else {

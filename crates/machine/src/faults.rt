@@ -2,14 +2,15 @@
 ghost use Rattle.std.specs.Prelude.{◌≡◌, ◌*◌, ◌≤◌, ℕ, List, length, true, false, is_err, IfOk};
 ghost use Rattle.volume_codec.specs.Super.{block_count};
 ghost use Rattle.fault.specs.Fixing.{ReadsOnce};
-ghost use Rattle.machine.specs.Calls.{reads_page};
+ghost use Rattle.machine.specs.declared.act.Act.TheVariants.{Fix};
+ghost use Rattle.machine.specs.Refusals.{reads_page};
 ghost use Rattle.machine.specs.inside.Sound.{IsSound};
-ghost use Rattle.machine.specs.Rules.{Fixes};
+ghost use Rattle.machine.specs.Rules.{Answers};
 ghost use Rattle.machine.specs.inside.Layers.{state_in, reply_to, AnswersBy, KeepsReserved};
 
 use crate::Reply;
 use crate::layers::Layers;
-use crate::paging::{file_length, home_block};
+use crate::paging::home_block;
 use device::Device;
 use fault::PageFault;
 use page_entry::{FilePage, PAGE, ProcessorNumber, Refusal};
@@ -23,7 +24,7 @@ impl<D: Device, A: Allocator + Copy> Layers<D, A> {
 
         // The rules hold for some bytes of the page that was read, and of an honest device for its own.
         ensures rules { AnswersBy (D.is_honest self.old.device)
-            (λ d d'. Fixes (state_in self.old) d p va write (reply_to result) (state_in self.new) × (d' ≡ d))
+            (λ d d'. Answers (state_in self.old) d p (Fix va write) (reply_to result) (state_in self.new) × (d' ≡ d))
             (D.seen self.old.device) (D.seen self.new.device) }
         ensures fixed { IfOk result (λ reply. reply ≡ Reply.Fixed) }
         ensures untouched { reads_page (state_in self.old) p va write ≡ false → self.new.device ≡ self.old.device }
@@ -35,7 +36,7 @@ impl<D: Device, A: Allocator + Copy> Layers<D, A> {
         self.shootdown.admit_free(p)?;
         let pcid = self.shootdown.space(p);
         let place = fault::place(&self.spaces, pcid, va, write)?;
-        let length = file_length(&self.table, place.file);
+        let length = self.file_length(place.file);
         if length <= PAGE * u64::from(place.page) {
             return Err(Refusal::BusAdrErr);
         }

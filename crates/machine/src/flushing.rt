@@ -8,16 +8,16 @@ ghost use Rattle.checkpoint.specs.Checkpoint.{AreCopiesOfFrozen};
 ghost use Rattle.fault.specs.Fault.{is_in_memory};
 ghost use Rattle.machine.specs.declared.act.Act.TheVariants.{Flush};
 ghost use Rattle.machine.specs.Calls.{has_failed};
-ghost use Rattle.machine.specs.Refusals.{flush_refusal};
+ghost use Rattle.machine.specs.Refusals.{reason_against};
 ghost use Rattle.machine.specs.inside.Sound.{IsMemory, IsSound};
-ghost use Rattle.machine.specs.Rules.{bytes_at_mark, work_asked, Flushes};
+ghost use Rattle.machine.specs.Rules.{bytes_at_mark, work_asked, Acts};
 ghost use Rattle.machine.specs.Steps.{step_work};
 ghost use Rattle.machine.specs.inside.Layers.{state_in, reply_to, AnswersBy, KeepsReserved};
 ghost use Rattle.machine.specs.inside.Flushing.{HasSmallMark, IsThere, bytes_from, reply_of_flush, memory_after, checkpoint_after};
 
 use crate::Reply;
 use crate::layers::Layers;
-use crate::paging::{cut_off, file_length};
+use crate::paging::cut_off;
 use device::Device;
 use frames::Frames;
 use journal::Flushed;
@@ -103,8 +103,8 @@ impl<D: Device, A: Allocator + Copy> Layers<D, A> {
         requires long { 4096 * block_count self.old.table ≤ length (D.seen self.old.device) }
         requires whole { self.old.write_outs.broken ≡ false }
         requires some { self.old.write_outs.batches ≢ [] }
-        ensures rules { (p : ℕ) → flush_refusal (state_in self.old) p ≡ None → AnswersBy (D.is_honest self.old.device)
-            (λ d d'. Flushes (state_in self.old) d p (reply_to result) (state_in self.new) d')
+        ensures rules { (p : ℕ) → reason_against (state_in self.old) p Flush ≡ None
+            → AnswersBy (D.is_honest self.old.device) (λ d d'. Acts (state_in self.old) d p Flush (reply_to result) (state_in self.new) d')
             (D.seen self.old.device) (D.seen self.new.device) }
         ensures did { Did D.Device self.old.device (step_work (state_in self.old) Flush (reply_to result))
             (not (has_failed (reply_to result))) self.new.device }
@@ -124,15 +124,15 @@ impl<D: Device, A: Allocator + Copy> Layers<D, A> {
         requires long { 4096 * block_count self.old.table ≤ length (D.seen self.old.device) }
         requires whole { self.old.write_outs.broken ≡ false }
         requires some { self.old.write_outs.batches ≢ [] }
-        ensures rules { (p : ℕ) → flush_refusal (state_in self.old) p ≡ None → AnswersBy (D.is_honest self.old.device)
-            (λ d d'. Flushes (state_in self.old) d p (reply_to result) (state_in self.new) d')
+        ensures rules { (p : ℕ) → reason_against (state_in self.old) p Flush ≡ None
+            → AnswersBy (D.is_honest self.old.device) (λ d d'. Acts (state_in self.old) d p Flush (reply_to result) (state_in self.new) d')
             (D.seen self.old.device) (D.seen self.new.device) }
         ensures did { Did D.Device self.old.device (step_work (state_in self.old) Flush (reply_to result))
             (not (has_failed (reply_to result))) self.new.device }
         ensures kept { KeepsReserved self.old self.new }
     {
         let page = self.checkpoint.frozen()[0];
-        let left = file_length(&self.table, page.file).saturating_sub(PAGE * u64::from(page.page));
+        let left = self.file_length(page.file).saturating_sub(PAGE * u64::from(page.page));
         if left >= PAGE {
             return self.step_with(true, Source::Page(page));
         }
@@ -147,8 +147,8 @@ impl<D: Device, A: Allocator + Copy> Layers<D, A> {
         requires long { 4096 * block_count self.old.table ≤ length (D.seen self.old.device) }
         requires whole { self.old.write_outs.broken ≡ false }
         requires some { self.old.write_outs.batches ≢ [] }
-        ensures rules { (p : ℕ) → flush_refusal (state_in self.old) p ≡ None → AnswersBy (D.is_honest self.old.device)
-            (λ d d'. Flushes (state_in self.old) d p (reply_to result) (state_in self.new) d')
+        ensures rules { (p : ℕ) → reason_against (state_in self.old) p Flush ≡ None
+            → AnswersBy (D.is_honest self.old.device) (λ d d'. Acts (state_in self.old) d p Flush (reply_to result) (state_in self.new) d')
             (D.seen self.old.device) (D.seen self.new.device) }
         ensures did { Did D.Device self.old.device (step_work (state_in self.old) Flush (reply_to result))
             (not (has_failed (reply_to result))) self.new.device }
@@ -166,7 +166,7 @@ impl<D: Device, A: Allocator + Copy> Layers<D, A> {
         requires sound { IsSound (state_in self.old) }
         requires long { 4096 * block_count self.old.table ≤ length (D.seen self.old.device) }
         ensures rules { AnswersBy (D.is_honest self.old.device)
-            (λ d d'. Flushes (state_in self.old) d p (reply_to result) (state_in self.new) d')
+            (λ d d'. Acts (state_in self.old) d p Flush (reply_to result) (state_in self.new) d')
             (D.seen self.old.device) (D.seen self.new.device) }
         ensures did { Did D.Device self.old.device (step_work (state_in self.old) Flush (reply_to result))
             (not (has_failed (reply_to result))) self.new.device }

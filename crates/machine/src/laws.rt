@@ -39,6 +39,13 @@ pub fn opened_later<D: Device>(device: &D)
     one_reading();
 }
 
+/// Where steps were made, and further ones after them, all of them were made one after the other.
+pub fn steps_after_steps<D: Device>(device: &D)
+    ensures { (old mid new : Whole D) (steps later : List Step) (replies told : List Reply)
+        → StepsTaken D.Device old steps replies mid → StepsTaken D.Device mid later told new
+        → StepsTaken D.Device old (steps ++ later) (replies ++ told) new }
+{}
+
 /// The device calls of steps that were made one after the other are the sum of what each step makes, and so are those
 /// that failed; where the counts, at two calls for each step, stay below the end of 64 bits.
 pub fn calls_of_steps<D: Device>(device: &D)

@@ -1,13 +1,17 @@
 // The layers of a machine, which its acts use together.
+ghost use Rattle.std.specs.Prelude.{◌≡◌, ◌<◌, length};
 ghost use Rattle.shootdown.specs.Coherence.{Coheres};
 ghost use Rattle.checkpoint.specs.Backing.{AreBacked};
+ghost use Rattle.machine.specs.State.{length_of};
 ghost use Rattle.machine.specs.inside.Sound.{IsSound};
 ghost use Rattle.machine.specs.inside.Layers.{state_in};
 
+use crate::paging::length_at;
 use checkpoint::Checkpoint;
 use device::Device;
 use frames::Frames;
 use journal::WriteOuts;
+use page_entry::FileNumber;
 use shootdown::Shootdown;
 use spaces::Spaces;
 use std::alloc::Allocator;
@@ -17,6 +21,8 @@ use volume_codec::Super;
 #[derive(Drop)]
 pub(crate) struct Layers<D: Device, A: Allocator + Copy> {
     pub(crate) table: Super<A>,
+    // The length of each file in bytes.
+    pub(crate) lengths: Vec<u64, A>,
     pub(crate) shootdown: Shootdown<A>,
     pub(crate) spaces: Spaces<A>,
     pub(crate) frames: Frames<A>,
@@ -28,6 +34,15 @@ pub(crate) struct Layers<D: Device, A: Allocator + Copy> {
 }
 
 impl<D: Device, A: Allocator + Copy> Layers<D, A> {
+    // The length of a file in bytes.
+    pub(crate) fn file_length(&self, file: FileNumber) -> u64
+        requires sound { IsSound (state_in self.now) }
+        requires there { file < length self.now.table.files }
+        ensures { result ≡ length_of (state_in self.now) file }
+    {
+        length_at(&self.lengths, file)
+    }
+
     // Layers that are sound go with each other: processors with page tables, and these with frames.
     pub(crate) fn are_coherent(&self)
         requires sound { IsSound (state_in self.now) }

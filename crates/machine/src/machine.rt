@@ -1,6 +1,5 @@
 // The machine: how it is made, what can be asked of it, and one step of it.
 ghost use Rattle.std.specs.Prelude.{◌≡◌, ◌≢◌, ◌↔◌, ℕ, List, length, false, IsTrue, IfOk, IfErr, OnOk};
-ghost use Rattle.volume_codec.specs.Super.{geometry_of};
 ghost use Rattle.shootdown.specs.Shootdown.{is_there, state_of};
 ghost use Rattle.shootdown.specs.Coherence.{Coheres};
 ghost use Rattle.checkpoint.specs.Backing.{AreBacked};
@@ -75,7 +74,7 @@ impl<D: Device, A: Allocator + Copy> Machine<D, A> {
         if !shape.fits(volume.table()) {
             return Err((Refusal::BadShape, volume));
         }
-        match Room::new(alloc, volume.table().geometry(), shape) {
+        match Room::new(alloc, &volume, shape) {
             Ok(room) => Ok(Machine::over(volume, room, shape)),
             Err(_) => Err((Refusal::OutOfMemory, volume)),
         }
@@ -84,10 +83,11 @@ impl<D: Device, A: Allocator + Copy> Machine<D, A> {
     // A machine of this shape over a volume, in its room.
     fn over(volume: Volume<D, A>, room: Room<A>, shape: Shape) -> Self
         requires shaped { IsShape volume.table shape }
-        requires room { IsRoom (geometry_of volume.table) shape room }
+        requires room { IsRoom volume.table volume.lengths shape room }
         ensures { result ≡ record { state = fresh volume.table volume.lengths shape; device = volume.device } }
     {
         let Room {
+            lengths,
             shootdown,
             spaces,
             frames,
@@ -98,6 +98,7 @@ impl<D: Device, A: Allocator + Copy> Machine<D, A> {
         Machine {
             layers: Layers {
                 table,
+                lengths,
                 shootdown,
                 spaces,
                 frames,

@@ -1,7 +1,8 @@
 // Spaces and mappings: acts that take effect at once.
 ghost use Rattle.std.specs.Prelude.{ℕ, List, length};
 ghost use Rattle.checkpoint.specs.Backing.{HasNotes};
-ghost use Rattle.machine.specs.Rules.{Acts, Creates, Destroys};
+ghost use Rattle.machine.specs.declared.act.Act.TheVariants.{Create, Destroy};
+ghost use Rattle.machine.specs.Rules.{Answers};
 ghost use Rattle.machine.specs.inside.Layers.{state_in, reply_to, IsQuiet};
 ghost use Rattle.machine.specs.inside.Acting.{IsMap};
 
@@ -15,7 +16,8 @@ use std::alloc::Allocator;
 impl<D: Device, A: Allocator + Copy> Layers<D, A> {
     // A space is made, of the lowest PCID that is free.
     pub(crate) fn create(&mut self, p: ProcessorNumber) -> Result<Reply, Refusal>
-        ensures rules { Creates (state_in self.old) p (reply_to result) (state_in self.new) }
+        ensures rules { (disk : List ℕ)
+            → Answers (state_in self.old) disk p Create (reply_to result) (state_in self.new) }
         ensures quiet { IsQuiet self.old self.new }
     {
         self.shootdown.admit_free(p)?;
@@ -26,7 +28,8 @@ impl<D: Device, A: Allocator + Copy> Layers<D, A> {
     // A space that no processor is in goes, with its mappings and its entries.
     pub(crate) fn destroy(&mut self, p: ProcessorNumber, space: Pcid) -> Result<Reply, Refusal>
         requires { HasNotes self.old.spaces.map (length self.old.checkpoint.notes) }
-        ensures rules { Destroys (state_in self.old) p space (reply_to result) (state_in self.new) }
+        ensures rules { (disk : List ℕ)
+            → Answers (state_in self.old) disk p (Destroy space) (reply_to result) (state_in self.new) }
         ensures quiet { IsQuiet self.old self.new }
     {
         self.shootdown.admit_free(p)?;
@@ -40,7 +43,7 @@ impl<D: Device, A: Allocator + Copy> Layers<D, A> {
     pub(crate) fn map(&mut self, p: ProcessorNumber, act: &Act) -> Result<Reply, Refusal>
         requires { IsMap act.now }
         ensures rules { (disk : List ℕ)
-            → Acts (state_in self.old) disk p act.now (reply_to result) (state_in self.new) disk }
+            → Answers (state_in self.old) disk p act.now (reply_to result) (state_in self.new) }
         ensures quiet { IsQuiet self.old self.new }
     {
         let Act::Map {

@@ -1,12 +1,14 @@
 // Marks: all stores so far belong to one.
-ghost use Rattle.std.specs.Prelude.{◌≡◌, ◌≤◌, ◌<◌, length, map, take, Some, Ok};
+ghost use Rattle.std.specs.Prelude.{ℕ, List, ◌≡◌, ◌≤◌, ◌<◌, length, map, take, Some, Ok};
 ghost use Rattle.std.specs.List.{All};
 ghost use Rattle.spaces.specs.declared.change.Change.TheVariants.{Checkpoint};
 ghost use Rattle.shootdown.specs.Calls.{HandsOut};
+ghost use Rattle.machine.specs.declared.act.Act.TheVariants.{Change};
 ghost use Rattle.machine.specs.State.{home_of};
 ghost use Rattle.machine.specs.inside.Sound.{IsSound};
-ghost use Rattle.machine.specs.Rules.{Changes};
-ghost use Rattle.machine.specs.inside.Layers.{state_in, IsQuiet, IsPageOf, MayBegin, with_homes};
+ghost use Rattle.machine.specs.Rules.{Answers};
+ghost use Rattle.machine.specs.inside.Layers.{state_in, IsQuiet, IsPageOf, with_homes};
+ghost use Rattle.journal.specs.Standing.{MayBegin};
 
 use crate::Reply;
 use crate::layers::Layers;
@@ -58,7 +60,7 @@ impl<D: Device, A: Allocator + Copy> Layers<D, A> {
     pub(crate) fn mark(&mut self, p: ProcessorNumber) -> Reply
         requires sound { IsSound (state_in self.old) }
         requires held { HandsOut self.old.shootdown p (Ok (Some Checkpoint)) }
-        ensures rules { Changes (state_in self.old) p result (state_in self.new) }
+        ensures rules { (disk : List ℕ) → Answers (state_in self.old) disk p Change result (state_in self.new) }
         ensures quiet { IsQuiet self.old self.new }
     {
         let freezes = !self.write_outs.is_broken();

@@ -1,6 +1,6 @@
 // Pages of files: their home blocks, and how many of their bytes are the file's.
 ghost use Rattle.std.specs.Prelude.{◌≡◌, ◌↔◌, ◌<◌, length, take, replicate, slice_index_or, IsTrue};
-ghost use Rattle.volume_codec.specs.Super.{block_count, capacities_in};
+ghost use Rattle.volume_codec.specs.Super.{block_count};
 ghost use Rattle.volume_codec.specs.Text.{padded};
 ghost use Rattle.machine.specs.State.{home_of};
 ghost use Rattle.machine.specs.Refusals.{pages_in_file};
@@ -17,12 +17,12 @@ pub(crate) fn pages_in_file<A: Allocator + Copy>(table: &Super<A>, file: FileNum
     table.pages(file as usize)
 }
 
-/// The length of a file of the table. In these layouts it is as long as its capacity.
-pub(crate) fn file_length<A: Allocator + Copy>(table: &Super<A>, file: FileNumber) -> u64
-    requires { file < length table.now.files }
-    ensures { result ≡ slice_index_or (capacities_in table.now) file 0 }
+/// The length of a file in bytes, of these lengths.
+pub(crate) fn length_at(lengths: &[u64], file: FileNumber) -> u64
+    requires { file < length lengths.now }
+    ensures { result ≡ slice_index_or lengths.now file 0 }
 {
-    table.capacity(file as usize)
+    lengths[file as usize]
 }
 
 /// The home block of a page of a file.

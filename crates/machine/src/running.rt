@@ -14,8 +14,8 @@ ghost use Rattle.machine.specs.Durability.{AreFrozenProtected, HasPart, IsInFile
 ghost use Rattle.machine.specs.Crashes.{Begins, StepIsSafe, Throughout};
 ghost use Rattle.machine.specs.History.{after, has_unmarked, is_touched, memory_of};
 ghost use Rattle.machine.specs.Told.{tell_all};
-ghost use Rattle.machine.specs.Laws.{EachStep, FaultsAreServed, ReadsBack};
-ghost use Rattle.machine.specs.Steps.{IsLawful, told_first};
+ghost use Rattle.machine.specs.Laws.{EachStep, FaultsAreServed, IsLawful, ReadsBack};
+ghost use Rattle.machine.specs.Steps.{told_first};
 ghost use Rattle.machine.specs.OnTrack.{IsOnTrack};
 ghost use Rattle.machine.specs.Stops.{Stops, StopsInStep};
 ghost use Rattle.machine.specs.Runs.{StepTaken, StepsTaken};

@@ -1,5 +1,7 @@
 // Processors that switch to other spaces, stall, resume, idle and wake.
-ghost use Rattle.machine.specs.Rules.{Switches, Acknowledges, Resumes, Wakes, Idles};
+ghost use Rattle.std.specs.Prelude.{ℕ, List};
+ghost use Rattle.machine.specs.declared.act.Act.TheVariants.{Switch, Ack, Resume, Wake, Idle};
+ghost use Rattle.machine.specs.Rules.{Answers};
 ghost use Rattle.machine.specs.inside.Layers.{state_in, reply_to, IsQuiet};
 
 use crate::Reply;
@@ -16,7 +18,8 @@ impl<D: Device, A: Allocator + Copy> Layers<D, A> {
         space: Pcid,
         keep: bool,
     ) -> Result<Reply, Refusal>
-        ensures rules { Switches (state_in self.old) p space keep (reply_to result) (state_in self.new) }
+        ensures rules { (disk : List ℕ)
+            → Answers (state_in self.old) disk p (Switch space keep) (reply_to result) (state_in self.new) }
         ensures quiet { IsQuiet self.old self.new }
     {
         self.shootdown.switch(p, &self.spaces, space, keep)?;
@@ -25,7 +28,8 @@ impl<D: Device, A: Allocator + Copy> Layers<D, A> {
 
     // An interrupted processor stalls.
     pub(crate) fn acknowledge(&mut self, p: ProcessorNumber) -> Result<Reply, Refusal>
-        ensures rules { Acknowledges (state_in self.old) p (reply_to result) (state_in self.new) }
+        ensures rules { (disk : List ℕ)
+            → Answers (state_in self.old) disk p Ack (reply_to result) (state_in self.new) }
         ensures quiet { IsQuiet self.old self.new }
     {
         match self.shootdown.ack(p)? {
@@ -36,7 +40,8 @@ impl<D: Device, A: Allocator + Copy> Layers<D, A> {
 
     // A stalled processor goes on.
     pub(crate) fn resume(&mut self, p: ProcessorNumber) -> Result<Reply, Refusal>
-        ensures rules { Resumes (state_in self.old) p (reply_to result) (state_in self.new) }
+        ensures rules { (disk : List ℕ)
+            → Answers (state_in self.old) disk p Resume (reply_to result) (state_in self.new) }
         ensures quiet { IsQuiet self.old self.new }
     {
         match self.shootdown.resume(p)? {
@@ -47,7 +52,8 @@ impl<D: Device, A: Allocator + Copy> Layers<D, A> {
 
     // An idle processor wakes.
     pub(crate) fn wake(&mut self, p: ProcessorNumber) -> Result<Reply, Refusal>
-        ensures rules { Wakes (state_in self.old) p (reply_to result) (state_in self.new) }
+        ensures rules { (disk : List ℕ)
+            → Answers (state_in self.old) disk p Wake (reply_to result) (state_in self.new) }
         ensures quiet { IsQuiet self.old self.new }
     {
         match self.shootdown.wake(p)? {
@@ -58,7 +64,8 @@ impl<D: Device, A: Allocator + Copy> Layers<D, A> {
 
     // A processor goes to sleep.
     pub(crate) fn idle(&mut self, p: ProcessorNumber) -> Result<Reply, Refusal>
-        ensures rules { Idles (state_in self.old) p (reply_to result) (state_in self.new) }
+        ensures rules { (disk : List ℕ)
+            → Answers (state_in self.old) disk p Idle (reply_to result) (state_in self.new) }
         ensures quiet { IsQuiet self.old self.new }
     {
         self.shootdown.idle(p)?;

@@ -10,6 +10,8 @@ use Rattle.volume_codec.specs.Text.{zeros}
 use Rattle.volume_codec.specs.Super.{SuperValue, IsAsked, pages_of, total_pages}
 use Rattle.volume_codec.specs.Recovery.{Recovers, RecoversTo, files_from, files_in}
 use Rattle.volume_codec.proofs.Batches.{one_contents}
+use Rattle.volume_codec.proofs.Layouts.{no_lengths_blocks}
+use Rattle.volume_codec.proofs.Lengths.{fixed_lengths, fixed_has_lengths}
 use Rattle.volume_codec.proofs.Places.{file_block-home}
 use Rattle.volume_codec.proofs.Recovered.{blank_file, files_in-same}
 use Rattle.recovery.specs.Volume.{files_of}
@@ -42,7 +44,8 @@ blank_files table layout slots files bytes asked blank =
     let P : List TableFile → Type 0 = λ fs.
     (((i : ℕ) → first_file_home table.layout table.slots ≤ i → i < first_file_home table.layout table.slots + total_pages fs → block_at bytes i ≡ zeros 4096)
     → files_from (block_at bytes) (first_file_home table.layout table.slots) fs (map (λ (f : TableFile). f.capacity) fs) ≡ zero_files files) in
-    subst P (sym asked.files_are) (blank_from (block_at bytes) (first_file_home table.layout table.slots) files asked.lengths) (λ i low high. blank.rest.homes i (file_block-home table i low high))
+    ap (files_from (block_at bytes) (first_file_home table.layout table.slots) table.files) (fixed_lengths table (block_at bytes) (no_lengths_blocks table.layout))
+    ∙ subst P (sym asked.files_are) (blank_from (block_at bytes) (first_file_home table.layout table.slots) files asked.lengths) (λ i low high. blank.rest.homes i (file_block-home table i low high))
 
 blank_recovers : (table : SuperValue) (bytes : List ℕ) → IsBlank table bytes → Recovers table (block_at bytes) bytes
 blank_recovers table bytes blank = record {
@@ -72,7 +75,7 @@ module _ {D : Type 0} (disk : Ghosts D) (seen_is_left : (device : D) → disk.is
       all : AllRecover (λ _. true) (disk.may_leave new)
       all c may =
           let P : List ℕ → Type 0 = λ bytes. RecoversTo bytes (files_of table (disk.seen new)) in
-          (files_of table (disk.seen new), subst P (sym (formatted.synced c may)) (record { table = table; contents = block_at (disk.seen new); recovers = own; files_are = refl }), refl)
+          (files_of table (disk.seen new), subst P (sym (formatted.synced c may)) (record { table = table; contents = block_at (disk.seen new); recovers = own; lengths = fixed_has_lengths table (block_at (disk.seen new)) (no_lengths_blocks table.layout); files_are = refl }), refl)
 
       by : (r : Result SuperValue Refusal) → FindsAmong (disk.may_leave new) r (disk.seen after)
           → MatchResult r (λ t. IsAsked layout files slots t × (files_of t (disk.seen after) ≡ zero_files files)) (λ refusal. (refusal ≡ Device) ⊎ (refusal ≡ OutOfMemory))

@@ -1,10 +1,8 @@
 -- The open batches are carried out one after another, the oldest first.
-use Rattle.std.proofs.Common.{◌≡◌, ◌≢◌, ◌<◌, ◌≤◌, ◌⊎◌, inl, inr, ℕ, ◌+◌, ◌-◌, ◌*◌, ◌^◌, ltb, List, [], ◌∷◌, ◌++◌, length, get_or, Result, Ok, Err, refl, sym, ap, ◌∙◌, subst, arith}
+use Rattle.std.proofs.Common.{◌≡◌, ◌≢◌, ◌≤◌, ◌⊎◌, inl, inr, ℕ, ◌+◌, ◌-◌, ◌*◌, ◌^◌, ltb, List, [], ◌∷◌, ◌++◌, length, get_or, Result, Ok, Err, refl, sym, ap, ◌∙◌, subst, arith}
 use Rattle.std.specs.List.{AllByRecursion}
-use Rattle.std.proofs.lemmas.Bool.{cases_eq, cond-true}
-use Rattle.std.proofs.lemmas.Bool.Decides.{nat_tests}
+use Rattle.std.proofs.lemmas.Bool.{cases_eq}
 use Rattle.std.proofs.lemmas.List.Sums.{sum_by-append}
-use Rattle.device.specs.Count.{raised}
 use Rattle.device.specs.Device.{LeavesOnly}
 use Rattle.device.specs.declared.device.Device.{Ghosts}
 use Rattle.device.proofs.Moments.{leaves_at_start, leaves_on}
@@ -15,11 +13,12 @@ use Rattle.volume_codec.specs.Super.{SuperValue, geometry_of}
 use Rattle.volume_codec.specs.Recovery.{Batch}
 use Rattle.volume_codec.proofs.Layouts.{gate_block-low}
 use Rattle.journal.specs.WriteOut.{IsBatch}
-use Rattle.journal.specs.Finished.{IsOutside, gate_byte, HoldsVolume, RecoversSame, finishing_calls, Finishes}
+use Rattle.journal.specs.Finished.{IsOutside, gate_byte, HoldsVolume, RecoversSame, Finishes}
 use Rattle.journal.proofs.Recorded.{recovers_of}
-use Rattle.recovery.specs.Counts.{Rises, RisesWithin, HasCause, IsAccounted}
+use Rattle.recovery.specs.Counts.{Rises, HasCause, IsAccounted}
 use Rattle.recovery.specs.inside.Carrying.{AreShut, IsCarrying, CarriesOut}
 use Rattle.recovery.specs.inside.Reading.{carry_calls}
+use Rattle.recovery.proofs.Writing.{raised_rises}
 
 -- what holds of each element and of the last
 pub each_unpush : {X : Type 0} (P : X → Type 0) (xs : List X) (x : X) → AllByRecursion P (xs ++ x ∷ []) → AllByRecursion P xs × P x
@@ -35,9 +34,6 @@ finishes_err e f = record { finished = f.finished; closed = f.closed; time = f.t
 
 pub finished_kept : {D : Type 0} {disk : Ghosts D} {g : GeometryValue} {batch : Batch} {old new : D} → Finishes {T = Unit {0}} {E = Refusal} disk g batch old (Ok tt) new → IsAccounted {X = Unit {0}} disk old (Ok tt) new
 finished_kept f = record { honest = f.honest; len = f.same_length; cause = f.faults }
-
-raised_rises : (a b : ℕ) → b ≡ raised a → Rises 1 a b
-raised_rises a b is small = is ∙ cond-true (ltb a (2 ^ 64 - 1)) (a + 1) a (grind (arith, nat_tests))
 
 pub failed_kept : {D : Type 0} {disk : Ghosts D} {g : GeometryValue} {batch : Batch} {old new : D} {e : Refusal} → e ≡ Device → Finishes {T = Unit {0}} {E = Refusal} disk g batch old (Err e) new → IsAccounted {X = Unit {0}} disk old (Err e) new
 failed_kept {disk = disk} {old = old} {new = new} {e = e} is f = record {

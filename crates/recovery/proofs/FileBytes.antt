@@ -4,10 +4,10 @@ use Rattle.std.proofs.lemmas.List.{drop-drop, take-take}
 use Rattle.volume_codec.specs.Files.{File, TableFile}
 use Rattle.volume_codec.specs.Layout.{block_at}
 use Rattle.volume_codec.specs.Super.{SuperValue, pages_of, first_home_of, block_count}
-use Rattle.volume_codec.specs.Recovery.{lengths_in}
+use Rattle.volume_codec.specs.Lengths.{AreLengths, lengths_in}
 use Rattle.volume_codec.proofs.Places.{first_home_of-next, first_home_of-le}
 use Rattle.volume_codec.proofs.Recovered.{file_in-at, blocks_from-device}
-use Rattle.recovery.specs.Volume.{VolumeState, AreLengths, files_of, bytes_of}
+use Rattle.recovery.specs.Volume.{VolumeState, files_of, bytes_of}
 use Rattle.recovery.proofs.BlockRanges.{range-take}
 
 -- the element at a place

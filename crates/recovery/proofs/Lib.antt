@@ -9,3 +9,4 @@ pub mod Opened
 pub mod Reopened
 pub mod Blank
 pub mod Carrying
+pub mod Writing

@@ -10,7 +10,9 @@ use Rattle.page_entry.specs.declared.refusal.Refusal.TheVariants.{Device}
 use Rattle.volume_codec.specs.Layout.{journals_of, block_at}
 use Rattle.volume_codec.specs.Super.{SuperValue, Fits, block_count, geometry_of, capacities_in}
 use Rattle.volume_codec.specs.Recovery.{Batch, IsVolume, contents_in}
-use Rattle.volume_codec.proofs.Recovered.{length-lengths_in, lengths_in-le}
+use Rattle.volume_codec.specs.Lengths.{HasLengths}
+use Rattle.volume_codec.proofs.Layouts.{no_lengths_blocks}
+use Rattle.volume_codec.proofs.Lengths.{fixed_lengths, fixed_has_lengths, capacities_are}
 use Rattle.recovery.specs.Counts.{Rises, RisesWithin}
 use Rattle.recovery.specs.Volume.{IsSettled}
 use Rattle.journal.specs.Recovered.{RecoversBy}
@@ -55,12 +57,13 @@ module _ {D : Type 0} (disk : Ghosts D) (before mid : D) (table : SuperValue) (b
       (λ c same. inr (table, batches, volume, subst (λ (bytes : List ℕ). RecoversSame table contents bytes c) unwritten.same same))
 
   -- all of them carried out
-  pub has_opened : (after : D) (n : ℕ) → n ≡ length batches → length (disk.seen after) ≡ length (disk.seen before) → HoldsVolume disk table [] contents after → AreShut (geometry_of table) batches (disk.seen mid) (disk.seen after)
+  pub has_opened : (after : D) (n : ℕ) → HasLengths table contents → n ≡ length batches → length (disk.seen after) ≡ length (disk.seen before) → HoldsVolume disk table [] contents after → AreShut (geometry_of table) batches (disk.seen mid) (disk.seen after)
       → Rises (2 + journals_of table.layout + n) (disk.calls_made before) (disk.calls_made mid) → Rises (carry_calls batches) (disk.calls_made mid) (disk.calls_made after)
       → HasOpened disk before table after
-  has_opened after n count len now shut first second = record {
+  has_opened after n fit count len now shut first second = record {
     batches = batches;
     held = volume;
+    lengths = fit;
     opened = record {
       same_length = len;
       homes = λ b home. sym (now.recovers.contents_are b home);
@@ -72,9 +75,9 @@ module _ {D : Type 0} (disk : Ghosts D) (before mid : D) (table : SuperValue) (b
   }
 
   -- a device call failed on the way
-  pub has_failed : (refusal : Refusal) (after : D) (n : ℕ) → n ≡ length batches → refusal ≡ Device → Rises (2 + journals_of table.layout + n) (disk.calls_made before) (disk.calls_made mid)
+  pub has_failed : (refusal : Refusal) (after : D) (n : ℕ) → HasLengths table contents → n ≡ length batches → refusal ≡ Device → Rises (2 + journals_of table.layout + n) (disk.calls_made before) (disk.calls_made mid)
       → RisesWithin (carry_calls batches) (disk.calls_made mid) (disk.calls_made after) → HasRefused disk before refusal after
-  has_failed refusal after n count is first second =
+  has_failed refusal after n fit count is first second =
       let P : Refusal → Type 0 = λ e. RefusesOpening (disk.seen before) e in
       record {
         reason = subst P (sym is) tt;
@@ -83,6 +86,7 @@ module _ {D : Type 0} (disk : Ghosts D) (before mid : D) (table : SuperValue) (b
           table = table;
           batches = batches;
           held = volume;
+          lengths = fit;
           calls = most_calls_of table batches (disk.calls_made before) (disk.calls_made mid) (disk.calls_made after) n count first second;
         });
       }
@@ -93,9 +97,14 @@ pub is_settled : {D : Type 0} (disk : Ghosts D) (after : D) (table : SuperValue)
 is_settled disk after table fits long rests = record {
   fits = fits;
   long = long;
-  lengths = record {
-    count = length-lengths_in table (block_at (disk.seen after));
-    within = λ i n f file size. lengths_in-le table (block_at (disk.seen after)) i n f file size;
-  };
-  at_rest = λ honest. let is = rests honest in record { holds = is.0; lengths_are = refl; synced = is.1 };
+  lengths = capacities_are table;
+  at_rest = λ honest.
+      let is = rests honest in
+      let none = no_lengths_blocks table.layout in
+      record {
+        holds = is.0;
+        lengths_fit = fixed_has_lengths table (block_at (disk.seen after)) none;
+        lengths_are = sym (fixed_lengths table (block_at (disk.seen after)) none);
+        synced = is.1;
+      };
 }

@@ -1,16 +1,15 @@
 -- What a crash within an opening leaves recovers to the same, and so to any depth.
-use Rattle.std.proofs.Common.{◌≡◌, ◌≢◌, ◌<◌, ◌≤◌, ◌⊎◌, inl, inr, Bool, true, ℕ, zero, suc, ◌+◌, List, [], ◌∷◌, ◌++◌, length, Result, Ok, Err, MatchResult, IfOk, refl, sym, ◌∙◌, ap, subst, arith}
-use Rattle.std.specs.List.{AllByRecursion}
+use Rattle.std.proofs.Common.{◌≡◌, ◌<◌, ◌≤◌, ◌⊎◌, inl, inr, Bool, true, ℕ, zero, suc, List, Result, Ok, Err, MatchResult, IfOk, refl, sym, ◌∙◌, ap, subst, arith}
 use Rattle.device.specs.declared.device.Device.{Ghosts}
 use Rattle.page_entry.specs.declared.refusal.Refusal.{Refusal}
 use Rattle.page_entry.specs.declared.refusal.Refusal.TheVariants.{Device, OutOfMemory, NotAVolume, Damaged}
 use Rattle.volume_codec.specs.Files.{File}
-use Rattle.volume_codec.specs.Layout.{GeometryValue, IsHome, record_block, block_at}
-use Rattle.volume_codec.specs.Super.{SuperValue, IsSuper, block_count, geometry_of}
-use Rattle.volume_codec.specs.Recovery.{Batch, AreOpen, standing_block, contents_in, IsVolume, Recovers, RecoversTo, IsNotAVolume, IsDamaged}
-use Rattle.volume_codec.proofs.Batches.{IsAmong, each_among, one_list, one_contents, one_recovery}
-use Rattle.volume_codec.proofs.Functional.{one_table}
-use Rattle.volume_codec.proofs.Places.{fits_geometry}
+use Rattle.volume_codec.specs.Layout.{IsHome, block_at}
+use Rattle.volume_codec.specs.Super.{SuperValue, block_count, geometry_of}
+use Rattle.volume_codec.specs.Lengths.{HasLengths}
+use Rattle.volume_codec.specs.Recovery.{Batch, contents_in, IsVolume, Recovers, RecoversTo, IsNotAVolume, IsDamaged}
+use Rattle.volume_codec.proofs.Batches.{one_contents, one_recovery}
+use Rattle.volume_codec.proofs.Lengths.{has_lengths-same, same_lengths_block}
 use Rattle.journal.specs.Finished.{RecoversSame}
 use Rattle.recovery.specs.Volume.{files_of}
 use Rattle.recovery.specs.Opening.{HasOpened, HasRefused, RefusesOpening, LeftByOpening, Opens}
@@ -33,6 +32,21 @@ being_recovers table w batches contents old c volume being r =
 
 pub opened_contents : {D : Type 0} (disk : Ghosts D) (before after : D) (table : SuperValue) → HasOpened disk before table after → Recovers table (block_at (disk.seen after)) (disk.seen before)
 opened_contents disk before after table has = record { batches = has.batches; volume = has.held; contents_are = λ b home. has.opened.homes b home }
+
+-- with the lengths that it had
+pub opened_lengths : {D : Type 0} (disk : Ghosts D) (before after : D) (table : SuperValue) → HasOpened disk before table after → HasLengths table (block_at (disk.seen after))
+opened_lengths disk before after table has =
+    let was = contents_in table.slots has.batches (disk.seen before) in
+    has_lengths-same table was (block_at (disk.seen after)) (same_lengths_block table was (block_at (disk.seen after)) (λ b home. sym (has.opened.homes b home))) has.lengths
+
+pub opened_files : {D : Type 0} (disk : Ghosts D) (before after : D) (table : SuperValue) → HasOpened disk before table after → RecoversTo (disk.seen before) (files_of table (disk.seen after))
+opened_files disk before after table has = record {
+  table = table;
+  contents = block_at (disk.seen after);
+  recovers = opened_contents disk before after table has;
+  lengths = opened_lengths disk before after table has;
+  files_are = refl;
+}
 
 -- bytes that recover to files are refused for no reason of theirs
 not_a_volume : (bytes : List ℕ) (table : SuperValue) (contents : ℕ → List ℕ) → Recovers table contents bytes → IsNotAVolume bytes → ⊥
@@ -59,7 +73,7 @@ pub tested_as : (test : List File → Bool) (first later : List ℕ → Type 0) 
 tested_as test first later alike all c left =
     let d = alike c left in
     let r = all d.0 d.1 in
-    (r.0, record { table = r.1.table; contents = r.1.contents; recovers = d.2 r.1.table r.1.contents r.1.recovers; files_are = r.1.files_are }, r.2)
+    (r.0, record { table = r.1.table; contents = r.1.contents; recovers = d.2 r.1.table r.1.contents r.1.recovers; lengths = r.1.lengths; files_are = r.1.files_are }, r.2)
 
 module _ {D : Type 0} (disk : Ghosts D) (seen_is_left : (device : D) → disk.is_honest device → disk.may_leave device (disk.seen device))
     (now_is_since : (device : D) (t : ℕ) (c : List ℕ) → t ≤ disk.moment device → disk.may_leave device c → disk.left_since device t c) where
@@ -121,7 +135,7 @@ module _ {D : Type 0} (disk : Ghosts D) (seen_is_left : (device : D) → disk.is
 
       later_recovers : RecoversTo (disk.seen later) recovering.0
       later_recovers =
-          record { table = recovering.1.table; contents = recovering.1.contents; recovers = d.2 recovering.1.table recovering.1.contents recovering.1.recovers; files_are = recovering.1.files_are }
+          record { table = recovering.1.table; contents = recovering.1.contents; recovers = d.2 recovering.1.table recovering.1.contents recovering.1.recovers; lengths = recovering.1.lengths; files_are = recovering.1.files_are }
 
       by : (r : Result SuperValue Refusal) → MatchResult r (λ table. HasOpened disk later table after) (λ refusal. HasRefused disk later refusal after)
           → FindsAmong (disk.may_leave first) r (disk.seen after) × IfOk r (λ table. test (files_of table (disk.seen after)) ≡ true)
@@ -131,7 +145,7 @@ module _ {D : Type 0} (disk : Ghosts D) (seen_is_left : (device : D) → disk.is
           let P : SuperValue → Type 0 = λ v. Recovers v (block_at (disk.seen after)) d.0 in
           let r = recovering.1.recovers in
           let files = one_recovery (disk.seen later) recovering.0 (files_of table (disk.seen after)) later_recovers
-          (record { table = table; contents = block_at (disk.seen after); recovers = mine; files_are = refl }) in (
+          (record { table = table; contents = block_at (disk.seen after); recovers = mine; lengths = opened_lengths disk later after table has; files_are = refl }) in (
             (d.0, d.1, subst P one.0 (record { batches = r.batches; volume = r.volume; contents_are = λ b home. sym (one.1 b home) ∙ r.contents_are b home })),
             ap test (sym files) ∙ recovering.2,
           )

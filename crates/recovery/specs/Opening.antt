@@ -7,6 +7,7 @@ use Rattle.page_entry.specs.declared.refusal.Refusal.{Refusal}
 use Rattle.page_entry.specs.declared.refusal.Refusal.TheVariants.{Device, OutOfMemory, NotAVolume, Damaged}
 use Rattle.volume_codec.specs.Layout.{GeometryValue, IsHome, journals_of, block_at}
 use Rattle.volume_codec.specs.Super.{SuperValue, IsSuper, geometry_of}
+use Rattle.volume_codec.specs.Lengths.{HasLengths}
 use Rattle.volume_codec.specs.Recovery.{Batch, contents_in, IsVolume, IsNotAVolume, IsDamaged}
 use Rattle.journal.specs.Finished.{IsOutside, gate_byte, RecoversSame}
 use Rattle.recovery.specs.Counts.{Rises, RisesWithin, IsAccounted}
@@ -40,10 +41,12 @@ LeftByOpening disk before c = disk.may_leave before c
 abbrev pub opening_calls : SuperValue → List Batch → ℕ
 opening_calls table batches = 2 + journals_of table.layout + sum_by (λ batch. 2 * length batch.homes + 4) batches
 
--- a device that held a volume with this table was opened: its open batches were carried out, and all of it is synced
+-- a device that held a volume with this table was opened: its files had lengths, its open batches were carried out, and
+-- all of it is synced
 pub record HasOpened {D : Type 0} (disk : Ghosts D) (before : D) (table : SuperValue) (after : D) : Type 0 where
   pub batches : List Batch
   pub held : IsVolume table batches (disk.seen before)
+  pub lengths : HasLengths table (contents_in table.slots batches (disk.seen before))
   pub opened : IsOpened (geometry_of table) batches (disk.seen before) (disk.seen after)
   pub synced : Only (disk.may_leave after) (disk.seen after)
   pub calls : Rises (opening_calls table batches) (disk.calls_made before) (disk.calls_made after)
@@ -78,12 +81,13 @@ pub record HasNotBegun {D : Type 0} (disk : Ghosts D) (before after : D) : Type 
   pub unwritten : IsUnwritten disk before after
   pub calls : FindsWithin (disk.seen before) (disk.calls_made before) (disk.calls_made after)
 
--- a device call failed while the open batches of a volume were carried out
+-- a device call failed while the open batches of a volume, whose files had lengths, were carried out
 pub record HasFailed {D : Type 0} (disk : Ghosts D) (before : D) (refusal : Refusal) (after : D) : Type 0 where
   pub device : refusal ≡ Device
   pub table : SuperValue
   pub batches : List Batch
   pub held : IsVolume table batches (disk.seen before)
+  pub lengths : HasLengths table (contents_in table.slots batches (disk.seen before))
   pub calls : RisesWithin (opening_calls table batches) (disk.calls_made before) (disk.calls_made after)
 
 -- an opening was refused: for its reason, before it wrote anything or by a device call that failed since

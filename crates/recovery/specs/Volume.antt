@@ -1,11 +1,12 @@
 -- A volume that was opened: its table, the lengths of its files, and the device that it lies on.
-use Rattle.std.specs.Prelude.{◌≡◌, ℕ, ◌*◌, ◌≤◌, List, [], Some, map, length, slice_get, slice_index_or}
+use Rattle.std.specs.Prelude.{◌≡◌, ℕ, ◌*◌, ◌≤◌, List, [], map, length, slice_index_or}
 use Rattle.device.specs.Device.{Only}
 use Rattle.device.specs.declared.device.Device.{Ghosts}
-use Rattle.volume_codec.specs.Files.{File, TableFile}
+use Rattle.volume_codec.specs.Files.{File}
 use Rattle.volume_codec.specs.Layout.{block_at}
 use Rattle.volume_codec.specs.Super.{SuperValue, Fits, block_count}
-use Rattle.volume_codec.specs.Recovery.{IsVolume, lengths_in, files_in}
+use Rattle.volume_codec.specs.Lengths.{AreLengths, HasLengths, lengths_in}
+use Rattle.volume_codec.specs.Recovery.{IsVolume, files_in}
 
 -- what a volume is to its users: the table of its files, the length of each, and its device
 pub record VolumeState (D : Type 0) : Type 0 where
@@ -13,16 +14,11 @@ pub record VolumeState (D : Type 0) : Type 0 where
   pub lengths : List ℕ
   pub device : D
 
--- each file has a length, and none is above its file's capacity
-pub record AreLengths (table : SuperValue) (lengths : List ℕ) : Type 0 where
-  pub count : length lengths ≡ length table.files
-  pub within : (i n : ℕ) (f : TableFile) → slice_get table.files i ≡ Some f → slice_get lengths i ≡ Some n
-      → n ≤ f.capacity
-
--- an honest device that holds a volume with its gates closed, all of it synced, so that a crash leaves what a read
--- gives
+-- an honest device that holds a volume with its gates closed and the lengths of its files, all of it synced, so that a
+-- crash leaves what a read gives
 pub record IsAtRest {D : Type 0} (disk : Ghosts D) (volume : VolumeState D) : Type 0 where
   pub holds : IsVolume volume.table [] (disk.seen volume.device)
+  pub lengths_fit : HasLengths volume.table (block_at (disk.seen volume.device))
   pub lengths_are : volume.lengths ≡ lengths_in volume.table (block_at (disk.seen volume.device))
   pub synced : Only (disk.may_leave volume.device) (disk.seen volume.device)
 

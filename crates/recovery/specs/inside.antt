@@ -2,3 +2,4 @@
 pub mod Carrying
 pub mod Reading
 pub mod Erasing
+pub mod Writing

@@ -1,12 +1,14 @@
 // The device calls that volumes are made and opened by, with a fault as a refusal.
-ghost use Rattle.std.specs.Prelude.{◌≡◌, ◌+◌, ◌*◌, ◌≤◌, List, ℕ, length, slice_range, IfOk, IfErr, OnOk};
-ghost use Rattle.device.specs.Device.{written, Torn, TornFrom, Only, LeavesOnly};
+ghost use Rattle.std.specs.Prelude.{◌≡◌, ◌+◌, ◌*◌, ◌≤◌, length, slice_range, is_ok, IfOk, IfErr, OnOk};
+ghost use Rattle.device.specs.Did.{Did};
+ghost use Rattle.device.specs.Work.{Sync, WriteAt};
 ghost use Rattle.volume_codec.specs.Layout.{block_at};
 ghost use Rattle.volume_codec.specs.Text.{zeros};
-ghost use Rattle.recovery.specs.Counts.{Rises, RisesWithin, IsAccounted};
+ghost use Rattle.recovery.specs.Counts.{Rises, IsAccounted};
 ghost use Rattle.recovery.specs.Opening.{IsUnwritten};
+ghost use Rattle.recovery.specs.inside.Writing.{DidBoth};
 
-use device::Device;
+use device::{Device, make_sure, write_at};
 use page_entry::{PAGE, Refusal};
 
 /// A block of zeros.
@@ -51,18 +53,10 @@ pub fn read_block<D: Device>(device: &mut D, block: u32) -> Result<[u8; 4096], R
 /// Writes bytes from an offset on.
 pub fn write<D: Device>(device: &mut D, at: u64, bytes: &[u8]) -> Result<(), Refusal>
     requires { at + length bytes.now ≤ length (D.seen device.old) }
-
-    ensures written { D.is_honest device.old
-        → OnOk result (D.seen device.new ≡ written (D.seen device.old) at bytes.now) }
-    ensures torn { D.is_honest device.old → Torn at (length bytes.now) (D.seen device.old) (D.seen device.new) }
-    ensures left { (c : List ℕ) → D.may_leave device.new c → TornFrom at (length bytes.now) (D.may_leave device.old) c }
-    ensures time { LeavesOnly D.moment D.left_since device.old device.new
-        (TornFrom at (length bytes.now) (D.may_leave device.old)) }
-    ensures kept { IsAccounted D.Device device.old result device.new }
+    ensures did { Did D.Device device.old (WriteAt at bytes.now) (is_ok result) device.new }
     ensures fault { IfErr result (λ refusal. refusal ≡ Refusal.Device) }
-    ensures calls { Rises 1 (D.calls_made device.old) (D.calls_made device.new) }
 {
-    match device.write(at, bytes) {
+    match write_at(device, at, bytes) {
         Ok(()) => Ok(()),
         Err(_) => Err(Refusal::Device),
     }
@@ -70,13 +64,10 @@ pub fn write<D: Device>(device: &mut D, at: u64, bytes: &[u8]) -> Result<(), Ref
 
 /// Makes sure of what was written.
 pub fn sync<D: Device>(device: &mut D) -> Result<(), Refusal>
-    ensures unwritten { D.is_honest device.old → IsUnwritten D.Device device.old device.new }
-    ensures durable { D.is_honest device.old → OnOk result (Only (D.may_leave device.new) (D.seen device.new)) }
-    ensures kept { IsAccounted D.Device device.old result device.new }
+    ensures did { Did D.Device device.old Sync (is_ok result) device.new }
     ensures fault { IfErr result (λ refusal. refusal ≡ Refusal.Device) }
-    ensures calls { Rises 1 (D.calls_made device.old) (D.calls_made device.new) }
 {
-    match device.sync() {
+    match make_sure(device) {
         Ok(()) => Ok(()),
         Err(_) => Err(Refusal::Device),
     }
@@ -85,17 +76,8 @@ pub fn sync<D: Device>(device: &mut D) -> Result<(), Refusal>
 /// Writes bytes from an offset on, and makes sure of them.
 pub fn write_synced<D: Device>(device: &mut D, at: u64, bytes: &[u8]) -> Result<(), Refusal>
     requires { at + length bytes.now ≤ length (D.seen device.old) }
-
-    ensures written { D.is_honest device.old
-        → OnOk result (D.seen device.new ≡ written (D.seen device.old) at bytes.now) }
-    ensures torn { D.is_honest device.old → Torn at (length bytes.now) (D.seen device.old) (D.seen device.new) }
-    ensures durable { D.is_honest device.old → OnOk result (Only (D.may_leave device.new) (D.seen device.new)) }
-    ensures time { D.is_honest device.old → LeavesOnly D.moment D.left_since device.old device.new
-        (TornFrom at (length bytes.now) (D.may_leave device.old)) }
-    ensures kept { IsAccounted D.Device device.old result device.new }
+    ensures did { DidBoth D.Device device.old (WriteAt at bytes.now) Sync (is_ok result) device.new }
     ensures fault { IfErr result (λ refusal. refusal ≡ Refusal.Device) }
-    ensures calls { OnOk result (Rises 2 (D.calls_made device.old) (D.calls_made device.new)) }
-    ensures most { RisesWithin 2 (D.calls_made device.old) (D.calls_made device.new) }
 {
     write(device, at, bytes)?;
     sync(device)

@@ -1,6 +1,6 @@
 // A volume is made on a device.
-ghost use Rattle.std.specs.Prelude.{◌≡◌, ◌⊎◌, ◌+◌, ◌-◌, ◌*◌, ◌/◌, ◌<◌, ◌≤◌, List, ℕ, length, slice_index, IfOk, IfErr, OnOk};
-ghost use Rattle.device.specs.Device.{Torn, TornFrom, Only, LeavesOnly};
+ghost use Rattle.std.specs.Prelude.{◌≡◌, ◌⊎◌, ◌+◌, ◌-◌, ◌*◌, ◌/◌, ◌<◌, ◌≤◌, ℕ, length, slice_index, IfOk, IfErr, OnOk};
+ghost use Rattle.device.specs.Device.{Only, LeavesOnly};
 ghost use Rattle.volume_codec.specs.Files.{asked_by, asked_by_pairs};
 ghost use Rattle.volume_codec.specs.Layout.{GeometryValue, IsGeometry, journals_of, gate_block, first_home, block_at};
 ghost use Rattle.volume_codec.specs.Text.{zeros};
@@ -8,6 +8,7 @@ ghost use Rattle.volume_codec.specs.Super.{SuperValue, IsAsked, Fits, block_coun
 ghost use Rattle.recovery.specs.Counts.{Rises, RisesWithin, IsAccounted};
 ghost use Rattle.recovery.specs.Format.{IsBlank, IsPartlyFormatted, HasFormatted, LeftByFormat, RefusesFormat, format_calls};
 ghost use Rattle.recovery.specs.inside.Erasing.{IsErased, AreClosed};
+ghost use Rattle.recovery.specs.inside.Writing.{HasOverwritten};
 
 use crate::calls::{sync, write, write_synced};
 use device::Device;
@@ -54,15 +55,9 @@ fn erase<D: Device>(device: &mut D, from: u64, to: u64) -> Result<(), Refusal>
     requires order { from ≤ to }
     requires room { to ≤ length (D.seen device.old) }
     ensures erased { D.is_honest device.old → OnOk result (IsErased from to (D.seen device.old) (D.seen device.new)) }
-    ensures torn { D.is_honest device.old → Torn from (to - from) (D.seen device.old) (D.seen device.new) }
-    ensures left { (c : List ℕ) → D.may_leave device.new c → TornFrom from (to - from) (D.may_leave device.old) c }
-    ensures time { LeavesOnly D.moment D.left_since device.old device.new
-        (TornFrom from (to - from) (D.may_leave device.old)) }
-    ensures kept { IsAccounted D.Device device.old result device.new }
+    ensures overwrites { HasOverwritten D.Device from (to - from) ((to - from + 32767) / 32768)
+        device.old result device.new }
     ensures fault { IfErr result (λ refusal. refusal ≡ Refusal.Device) }
-    ensures calls { OnOk result
-        (Rises ((to - from + 32767) / 32768) (D.calls_made device.old) (D.calls_made device.new)) }
-    ensures most { RisesWithin ((to - from + 32767) / 32768) (D.calls_made device.old) (D.calls_made device.new) }
 {
     let zeros = zero_piece();
     let mut at = from;
@@ -79,17 +74,9 @@ fn close_gates<D: Device>(device: &mut D, geometry: &Geometry) -> Result<(), Ref
     requires { 4096 * geometry.now.blocks ≤ length (D.seen device.old) }
     ensures closed { D.is_honest device.old → OnOk result
         (AreClosed geometry.now.slots (journals_of geometry.now.layout) (D.seen device.old) (D.seen device.new)) }
-    ensures torn { D.is_honest device.old
-        → Torn 0 (4096 * geometry.now.blocks) (D.seen device.old) (D.seen device.new) }
-    ensures left { (c : List ℕ) → D.may_leave device.new c
-        → TornFrom 4096 (4096 * geometry.now.blocks - 4096) (D.may_leave device.old) c }
-    ensures time { LeavesOnly D.moment D.left_since device.old device.new
-        (TornFrom 4096 (4096 * geometry.now.blocks - 4096) (D.may_leave device.old)) }
-    ensures kept { IsAccounted D.Device device.old result device.new }
+    ensures overwrites { HasOverwritten D.Device 4096 (4096 * geometry.now.blocks - 4096)
+        (journals_of geometry.now.layout) device.old result device.new }
     ensures fault { IfErr result (λ refusal. refusal ≡ Refusal.Device) }
-    ensures calls { OnOk result
-        (Rises (journals_of geometry.now.layout) (D.calls_made device.old) (D.calls_made device.new)) }
-    ensures most { RisesWithin (journals_of geometry.now.layout) (D.calls_made device.old) (D.calls_made device.new) }
 {
     for journal in 0..geometry.journals() {
         let gate = geometry.gate_block(journal);

@@ -8,10 +8,10 @@ use Rattle.machine.specs.declared.act.Reply.{Reply}
 use Rattle.machine.specs.declared.act.Step.{Step}
 use Rattle.machine.specs.Crashes.{Begins, StepIsSafe, Throughout}
 use Rattle.machine.specs.Fresh.{IsFresh}
-use Rattle.machine.specs.Laws.{EachStep, FaultsAreServed, ReadsBack}
+use Rattle.machine.specs.Laws.{EachStep, FaultsAreServed, IsLawful, ReadsBack}
 use Rattle.machine.specs.Runs.{StepTaken, StepsTaken}
 use Rattle.machine.specs.State.{Whole}
-use Rattle.machine.specs.Steps.{IsLawful, told_first}
+use Rattle.machine.specs.Steps.{told_first}
 use Rattle.machine.specs.Told.{Told, tell_all}
 use Rattle.service.specs.declared.entry.Entry.{Entry}
 use Rattle.service.specs.Trace.{progress_of, steps_of, replies_of}

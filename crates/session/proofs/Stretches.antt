@@ -8,7 +8,6 @@ use Rattle.machine.specs.declared.act.Reply.TheVariants.{Marked, Committed}
 use Rattle.machine.specs.declared.act.Step.{Step}
 use Rattle.machine.specs.State.{Whole}
 use Rattle.machine.specs.Runs.{StepTaken, StepsTaken}
-use Rattle.machine.proofs.Tracks.{taken_then}
 use Rattle.session.specs.declared.notes.Notes.{Notes}
 use Rattle.session.specs.Notes.{noted_after, noted_all}
 use Rattle.session.specs.Steps.{Makes, Says, is_aside, IsMarkDurable, CommitsMark}
@@ -18,6 +17,13 @@ use Rattle.session.specs.inside.Made.{HasMade}
 noted_then : (before : Notes) (replies more : List Reply) → noted_all before (replies ++ more) ≡ noted_all (noted_all before replies) more
 noted_then before [] more = refl
 noted_then before (reply ∷ replies) more = noted_then (noted_after before reply) replies more
+
+taken_then : {D : Type 0} (disk : Ghosts D) (old mid new : Whole D) (steps : List Step) (replies : List Reply) (later : List Step) (told : List Reply) → StepsTaken disk old steps replies mid → StepsTaken disk mid later told new
+    → StepsTaken disk old (steps ++ later) (replies ++ told) new
+taken_then {D} disk old mid new [] [] later told first rest = let P : Whole D → Type 0 = λ m. StepsTaken disk m later told new in subst P first rest
+taken_then disk old mid new (step ∷ steps) (reply ∷ replies) later told (next, here, first) rest = (next, here, taken_then disk next mid new steps replies later told first rest)
+taken_then disk old mid new [] (reply ∷ replies) later told first rest = absurd first
+taken_then disk old mid new (step ∷ steps) [] later told first rest = absurd first
 
 -- no step
 pub makes_none : {D : Type 0} (disk : Ghosts D) (old : Whole D) (before : Notes) → Makes disk old before [] [] old before

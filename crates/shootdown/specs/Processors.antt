@@ -4,7 +4,7 @@
 use Rattle.std.specs.Prelude.{ℕ, ◌≡◌, ◌<◌, ◌≤◌, ◌+◌, ◌==◌, ◌&&◌, ◌||◌, not, nat_lt, Bool, true, false, List, [], ◌∷◌, ◌++◌, length, fold, replicate, slice_set, slice_index_or, if◌then◌else◌}
 use Rattle.std.specs.List.{list_any, All}
 use Rattle.pcid_tlb.specs.declared.Invpcid.{Invpcid}
-use Rattle.pcid_tlb.specs.declared.Invpcid.TheVariants.{IndividualAddress, SingleContext, AllContexts}
+use Rattle.pcid_tlb.specs.declared.Invpcid.TheVariants.{IndividualAddress, SingleContext, AllContextsAndGlobals, AllContexts}
 use Rattle.pcid_tlb.specs.Tlb.{TlbState, keep_entries, cr3_loaded, IsTlb}
 use Rattle.shootdown.specs.declared.proc_state.ProcState.{ProcState}
 use Rattle.shootdown.specs.declared.proc_state.ProcState.TheVariants.{Active, Interrupted}
@@ -52,7 +52,8 @@ is_running _ = false
 abbrev pub drops_pcid : Invpcid → ℕ → Bool
 drops_pcid (IndividualAddress pcid page) q = false
 drops_pcid (SingleContext pcid) q = q == pcid
-drops_pcid _ q = true
+drops_pcid AllContextsAndGlobals q = true
+drops_pcid AllContexts q = true
 
 -- whether an invalidation drops the entry of a page of a PCID
 abbrev pub drops_page : Invpcid → ℕ → ℕ → Bool
@@ -85,7 +86,8 @@ queued queue a = if nat_lt (length queue) queue_len then queue ++ a ∷ [] else 
 abbrev pub is_concerned : Processor → Invpcid → Bool
 is_concerned p (IndividualAddress pcid page) = slice_index_or p.may_cache pcid false
 is_concerned p (SingleContext pcid) = slice_index_or p.may_cache pcid false
-is_concerned p _ = true
+is_concerned p AllContextsAndGlobals = true
+is_concerned p AllContexts = true
 
 -- the processor is told of an invalidation: it goes to whoever may cache what it drops, whatever space is current
 abbrev pub told : Processor → Invpcid → Processor

@@ -8,10 +8,10 @@ use Rattle.volume_codec.specs.declared.file_spec.FileSpec.{FileSpec}
 use Rattle.volume_codec.specs.declared.layout.Layout.{Layout}
 use Rattle.volume_codec.specs.Files.{TableFile, asked_by}
 use Rattle.volume_codec.specs.Layout.{GeometryValue, IsGeometry, number_of, magic_of, first_home, first_file_home}
-use Rattle.volume_codec.specs.Text.{number_text, zeros, padded}
+use Rattle.volume_codec.specs.Text.{number_text, number_in, numbers_in, zeros, padded}
 use Rattle.volume_codec.specs.Super.{SuperValue, IsName, IsNameByte, IsTableFile, Fits, IsSuper, IsAsked, pages_of, total_pages, block_count, entry_text, entries_text, super_head, super_text}
 use Rattle.volume_codec.specs.Descriptor.{DescriptorValue, RiseWithin, AreHomes, IsDescribed, IsDescriptor, descriptor_text}
-use Rattle.volume_codec.specs.inside.Reading.{number_in, name_in, file_in, table_files_in, numbers_in}
+use Rattle.volume_codec.specs.inside.Reading.{name_in, file_in, table_files_in}
 use Rattle.volume_codec.specs.inside.Tables.{files_asked_for, table_of, AreFull}
 use Rattle.volume_codec.proofs.Layouts.{magic_of-injective, length-magic_of}
 use Rattle.volume_codec.proofs.Padding.{length-zeros, length-padded, drop-past}
@@ -77,7 +77,7 @@ entries_in-entries home (f ∷ fs) rest each small =
     ∙ ap (λ (gs : List TableFile). f ∷ gs) (entries_in-entries (home + pages_of f.capacity) fs rest each.1 small.1)
 
 -- no file is longer than the volume's blocks
-lengths_small : (fs : List TableFile) → total_pages fs < 2 ^ 32 → AllByRecursion (λ f. f.capacity < 256 ^ 8) fs
+pub lengths_small : (fs : List TableFile) → total_pages fs < 2 ^ 32 → AllByRecursion (λ f. f.capacity < 256 ^ 8) fs
 lengths_small [] h = tt
 lengths_small (f ∷ fs) h = (omega arith, lengths_small fs (omega arith))
 
@@ -158,15 +158,15 @@ pub refuses_spelling : (block spelled : List ℕ) (table : SuperValue) → ((v :
 refuses_spelling block spelled table same text other v is = other (text ∙ ap super_text (same v is) ∙ sym is.spelled)
 
 -- numbers are read back
-pub numbers_in-text : (ns : List ℕ) (rest : List ℕ) → AllByRecursion (λ n. n < 256 ^ 4) ns → numbers_in (length ns) (flat_map (number_text 4) ns ++ rest) ≡ ns
-numbers_in-text [] rest h = refl
-numbers_in-text (n ∷ ns) rest h =
-    let others = flat_map (number_text 4) ns in
-    let e = append_assoc (number_text 4 n) others rest in
-    let after = drop_at (number_text 4 n) (others ++ rest) 4 (length-number_text 4 n) in
-    ap (λ (bytes : List ℕ). number_in 4 bytes ∷ numbers_in (length ns) (drop 4 bytes)) e
-    ∙ ap (λ k. k ∷ numbers_in (length ns) (drop 4 (number_text 4 n ++ (others ++ rest)))) (number_in-text 4 n (others ++ rest) h.0)
-    ∙ ap (λ (bytes : List ℕ). n ∷ numbers_in (length ns) bytes) after ∙ ap (λ (ms : List ℕ). n ∷ ms) (numbers_in-text ns rest h.1)
+pub numbers_in-text : (size : ℕ) (ns : List ℕ) (rest : List ℕ) → AllByRecursion (λ n. n < 256 ^ size) ns → numbers_in size (length ns) (flat_map (number_text size) ns ++ rest) ≡ ns
+numbers_in-text size [] rest h = refl
+numbers_in-text size (n ∷ ns) rest h =
+    let others = flat_map (number_text size) ns in
+    let e = append_assoc (number_text size n) others rest in
+    let after = drop_at (number_text size n) (others ++ rest) size (length-number_text size n) in
+    ap (λ (bytes : List ℕ). number_in size bytes ∷ numbers_in size (length ns) (drop size bytes)) e
+    ∙ ap (λ k. k ∷ numbers_in size (length ns) (drop size (number_text size n ++ (others ++ rest)))) (number_in-text size n (others ++ rest) h.0)
+    ∙ ap (λ (bytes : List ℕ). n ∷ numbers_in size (length ns) bytes) after ∙ ap (λ (ms : List ℕ). n ∷ ms) (numbers_in-text size ns rest h.1)
 
 homes_small : (low high : ℕ) (homes : List ℕ) → high < 2 ^ 32 → RiseWithin low high homes → AllByRecursion (λ n. n < 256 ^ 4) homes
 homes_small low high [] h rise = tt
@@ -179,7 +179,7 @@ group_descriptor a b c d z = simp append_assoc
 pub record DescriptorReadsAs (d : DescriptorValue) (block : List ℕ) : Type 0 where
   pub mark : number_in 8 block ≡ d.mark
   pub count : number_in 4 (drop 8 block) ≡ length d.homes
-  pub homes : numbers_in (length d.homes) (drop 16 block) ≡ d.homes
+  pub homes : numbers_in 4 (length d.homes) (drop 16 block) ≡ d.homes
 
 pub reads_descriptor : (g : GeometryValue) (d : DescriptorValue) → IsGeometry g → IsDescribed g d → DescriptorReadsAs d (descriptor_text d)
 reads_descriptor g d fits is =
@@ -197,7 +197,7 @@ reads_descriptor g d fits is =
     record {
       mark = ap (number_in 8) e ∙ number_in-text 8 d.mark (k ++ tail) (omega (arith, is.small_mark));
       count = ap (number_in 4) at8 ∙ number_in-text 4 (length d.homes) tail (omega (arith, is.homes.few, fits.few_slots));
-      homes = ap (numbers_in (length d.homes)) at16 ∙ numbers_in-text d.homes rest (homes_small _ _ d.homes fits.few_blocks is.homes.rising);
+      homes = ap (numbers_in 4 (length d.homes)) at16 ∙ numbers_in-text 4 d.homes rest (homes_small _ _ d.homes fits.few_blocks is.homes.rising);
     }
 
 pub reads_descriptor_block : (g : GeometryValue) (d : DescriptorValue) (block : List ℕ) → IsGeometry g → IsDescriptor g d block → DescriptorReadsAs d block
@@ -207,10 +207,10 @@ reads_descriptor_block g d block fits is =
 
 -- the value that the bytes of a descriptor read as
 pub read_descriptor_value : (g : GeometryValue) (d : DescriptorValue) (block : List ℕ) (mark count : ℕ) (homes : List ℕ) → IsGeometry g → IsDescriptor g d block
-    → mark ≡ number_in 8 block → count ≡ number_in 4 (drop 8 block) → homes ≡ numbers_in count (drop 16 block) → (let w : DescriptorValue = record { mark = mark; homes = homes } in w) ≡ d
+    → mark ≡ number_in 8 block → count ≡ number_in 4 (drop 8 block) → homes ≡ numbers_in 4 count (drop 16 block) → (let w : DescriptorValue = record { mark = mark; homes = homes } in w) ≡ d
 read_descriptor_value g d block mark count homes fits is marked counted found =
     let r = reads_descriptor_block g d block fits is in
-    let hs : homes ≡ d.homes = found ∙ ap (λ n. numbers_in n (drop 16 block)) (counted ∙ r.count) ∙ r.homes in
+    let hs : homes ≡ d.homes = found ∙ ap (λ n. numbers_in 4 n (drop 16 block)) (counted ∙ r.count) ∙ r.homes in
     ap (λ (n : ℕ). let w : DescriptorValue = record { mark = n; homes = homes } in w) (marked ∙ r.mark)
     ∙ ap (λ (ns : List ℕ). let w : DescriptorValue = record { mark = d.mark; homes = ns } in w) hs
 
@@ -225,10 +225,10 @@ pub refuses_other : (g : GeometryValue) (block written : List ℕ) (e : Descript
 refuses_other g block written e same text other d is = other (text ∙ ap descriptor_text (same d is) ∙ sym is.spelled)
 
 -- the homes that a reader found keep the rules where its tests passed
-pub found_homes : (g : GeometryValue) (block homes : List ℕ) (count low high : ℕ) → homes ≡ numbers_in count (drop 16 block) → 0 < count → count ≤ g.slots
+pub found_homes : (g : GeometryValue) (block homes : List ℕ) (count low high : ℕ) → homes ≡ numbers_in 4 count (drop 16 block) → 0 < count → count ≤ g.slots
     → low ≡ first_home g.layout g.slots → high ≡ g.blocks → RiseWithin low high homes → AreHomes g homes
 found_homes g block homes count low high found some few l h rise =
-    let len = ap length found ∙ length-numbers_in count (drop 16 block) in
+    let len = ap length found ∙ length-numbers_in 4 count (drop 16 block) in
     let l' : low ≡ first_home g.layout g.slots = omega arith in
     let P : ℕ → Type 0 = λ k. RiseWithin k high homes in
     let Q : ℕ → Type 0 = λ k. RiseWithin (first_home g.layout g.slots) k homes in
@@ -258,6 +258,6 @@ pub one_descriptor : (g : GeometryValue) (d e : DescriptorValue) (block : List �
 one_descriptor g d e block fits is is' =
     let r = reads_descriptor_block g d block fits is in
     let r' = reads_descriptor_block g e block fits is' in
-    let homes : d.homes ≡ e.homes = sym r.homes ∙ ap (λ n. numbers_in n (drop 16 block)) (sym r.count ∙ r'.count) ∙ r'.homes in
+    let homes : d.homes ≡ e.homes = sym r.homes ∙ ap (λ n. numbers_in 4 n (drop 16 block)) (sym r.count ∙ r'.count) ∙ r'.homes in
     ap (λ (n : ℕ). let u : DescriptorValue = record { mark = n; homes = d.homes } in u) (sym r.mark ∙ r'.mark)
     ∙ ap (λ (hs : List ℕ). let u : DescriptorValue = record { mark = e.mark; homes = hs } in u) homes

@@ -4,7 +4,7 @@ use Rattle.std.proofs.lemmas.Bool.{cases_lt}
 use Rattle.std.proofs.lemmas.Nat.{mul-le}
 use Rattle.volume_codec.specs.declared.layout.Layout.{Layout}
 use Rattle.volume_codec.specs.declared.layout.Layout.TheVariants.{One, Two}
-use Rattle.volume_codec.specs.Layout.{GeometryValue, IsGeometry, number_of, magic_of, journals_of, gate_block, descriptor_block, record_block, first_home, first_file_home}
+use Rattle.volume_codec.specs.Layout.{GeometryValue, IsGeometry, number_of, magic_of, journals_of, gate_block, descriptor_block, record_block, first_home, lengths_blocks, first_file_home}
 
 -- no two layouts have one number
 pub number_of-injective : (a b : Layout) → number_of a ≡ number_of b → a ≡ b
@@ -24,6 +24,11 @@ magic_of-injective Two Two h = refl
 pub length-magic_of : (layout : Layout) → length (magic_of layout) ≡ 8
 length-magic_of One = refl
 length-magic_of Two = refl
+
+-- in these layouts no block holds lengths
+pub no_lengths_blocks : (layout : Layout) → lengths_blocks layout ≡ 0
+no_lengths_blocks One = refl
+no_lengths_blocks Two = refl
 
 -- the blocks of a journal end before those of the next
 next_journal : (j k w : ℕ) → j < k → j * w + w ≤ k * w

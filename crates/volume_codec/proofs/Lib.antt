@@ -8,6 +8,7 @@ pub mod Blocks
 pub mod Homes
 pub mod ReadingLemmas
 pub mod Functional
+pub mod Lengths
 pub mod Recovered
 pub mod Batches
 pub mod Public

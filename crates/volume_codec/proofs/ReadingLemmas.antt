@@ -9,7 +9,8 @@ use Rattle.std.proofs.lemmas.List.{drop-drop, map_push, append-nil}
 use Rattle.volume_codec.specs.declared.file_spec.FileSpec.{FileSpec}
 use Rattle.volume_codec.specs.Files.{TableFile}
 use Rattle.volume_codec.specs.Super.{IsName, IsNameByte}
-use Rattle.volume_codec.specs.inside.Reading.{number_in, name_in, file_in, table_files_in, numbers_in}
+use Rattle.volume_codec.specs.Text.{number_in, numbers_in}
+use Rattle.volume_codec.specs.inside.Reading.{name_in, file_in, table_files_in}
 use Rattle.volume_codec.specs.inside.Tables.{files_asked_for, AreFull}
 use Rattle.volume_codec.proofs.Rows.{file_of}
 
@@ -69,30 +70,30 @@ pub other_by_ne : (r : Bool) (xs ys : List ℕ) → r ≡ not (bytes_eq xs ys) �
 other_by_ne r xs ys is t same = let e = (bytes_eq-Decides xs ys).1 same in let n = ap not e in cc
 
 -- the next of the numbers
-pub numbers_in-more : (count i from : ℕ) (bytes : List ℕ) → i < count
-    → numbers_in (count - i) (drop (from + 4 * i) bytes) ≡ number_in 4 (drop (from + 4 * i) bytes) ∷ numbers_in (count - (i + 1)) (drop (from + 4 * (i + 1)) bytes)
-numbers_in-more count i from bytes h =
+pub numbers_in-more : (size count i from : ℕ) (bytes : List ℕ) → i < count
+    → numbers_in size (count - i) (drop (from + size * i) bytes) ≡ number_in size (drop (from + size * i) bytes) ∷ numbers_in size (count - (i + 1)) (drop (from + size * (i + 1)) bytes)
+numbers_in-more size count i from bytes h =
     let n : count - i ≡ suc (count - (i + 1)) = omega arith in
-    let m : from + 4 * i + 4 ≡ from + 4 * (i + 1) = omega arith in
-    ap (λ k. numbers_in k (drop (from + 4 * i) bytes)) n
-    ∙ ap (λ (rest : List ℕ). number_in 4 (drop (from + 4 * i) bytes) ∷ numbers_in (count - (i + 1)) rest) (drop-drop 4 (from + 4 * i) bytes ∙ ap (λ k. drop k bytes) m)
+    let m : from + size * i + size ≡ from + size * (i + 1) = omega arith in
+    ap (λ k. numbers_in size k (drop (from + size * i) bytes)) n
+    ∙ ap (λ (rest : List ℕ). number_in size (drop (from + size * i) bytes) ∷ numbers_in size (count - (i + 1)) rest) (drop-drop size (from + size * i) bytes ∙ ap (λ k. drop k bytes) m)
 
 -- one number more was read
-pub number_found : (done new : List ℕ) (n count i from : ℕ) (bytes : List ℕ) → i < count
-    → done ++ numbers_in (count - i) (drop (from + 4 * i) bytes) ≡ numbers_in count (drop from bytes) → n ≡ number_in 4 (drop (from + 4 * i) bytes) → new ≡ done ++ n ∷ []
-    → new ++ numbers_in (count - (i + 1)) (drop (from + 4 * (i + 1)) bytes) ≡ numbers_in count (drop from bytes)
-number_found done new n count i from bytes h found read is =
-    let rest = numbers_in (count - (i + 1)) (drop (from + 4 * (i + 1)) bytes) in
+pub number_found : (done new : List ℕ) (n size count i from : ℕ) (bytes : List ℕ) → i < count
+    → done ++ numbers_in size (count - i) (drop (from + size * i) bytes) ≡ numbers_in size count (drop from bytes) → n ≡ number_in size (drop (from + size * i) bytes) → new ≡ done ++ n ∷ []
+    → new ++ numbers_in size (count - (i + 1)) (drop (from + size * (i + 1)) bytes) ≡ numbers_in size count (drop from bytes)
+number_found done new n size count i from bytes h found read is =
+    let rest = numbers_in size (count - (i + 1)) (drop (from + size * (i + 1)) bytes) in
     ap (λ (r : List ℕ). r ++ rest) is ∙ append_assoc done (n ∷ []) rest ∙ ap (λ k. done ++ k ∷ rest) read
-    ∙ ap (λ (r : List ℕ). done ++ r) (sym (numbers_in-more count i from bytes h)) ∙ found
+    ∙ ap (λ (r : List ℕ). done ++ r) (sym (numbers_in-more size count i from bytes h)) ∙ found
 
 -- all numbers were read
-pub numbers_found : (done : List ℕ) (count i from : ℕ) (bytes : List ℕ) → count ≤ i
-    → done ++ numbers_in (count - i) (drop (from + 4 * i) bytes) ≡ numbers_in count (drop from bytes) → done ≡ numbers_in count (drop from bytes)
-numbers_found done count i from bytes h found =
+pub numbers_found : (done : List ℕ) (size count i from : ℕ) (bytes : List ℕ) → count ≤ i
+    → done ++ numbers_in size (count - i) (drop (from + size * i) bytes) ≡ numbers_in size count (drop from bytes) → done ≡ numbers_in size count (drop from bytes)
+numbers_found done size count i from bytes h found =
     let n : count - i ≡ 0 = omega arith in
-    sym (append-nil done) ∙ ap (λ k. done ++ numbers_in k (drop (from + 4 * i) bytes)) (sym n) ∙ found
+    sym (append-nil done) ∙ ap (λ k. done ++ numbers_in size k (drop (from + size * i) bytes)) (sym n) ∙ found
 
-pub length-numbers_in : (count : ℕ) (bytes : List ℕ) → length (numbers_in count bytes) ≡ count
-length-numbers_in zero bytes = refl
-length-numbers_in (suc n) bytes = ap suc (length-numbers_in n (drop 4 bytes))
+pub length-numbers_in : (size count : ℕ) (bytes : List ℕ) → length (numbers_in size count bytes) ≡ count
+length-numbers_in size zero bytes = refl
+length-numbers_in size (suc n) bytes = ap suc (length-numbers_in size n (drop size bytes))

@@ -1,17 +1,19 @@
 -- What follows of the contents that a volume recovers to.
-use Rattle.std.proofs.Common.{◌≡◌, ◌≢◌, ℕ, zero, suc, ◌+◌, ◌-◌, ◌*◌, ◌/◌, ◌%◌, ◌<◌, ◌≤◌, ◌⊎◌, inl, inr, Bool, true, false, cond, ◌==◌, List, [], ◌∷◌, ◌++◌, length, take, drop, get_or, slice_get, Some, map, refl, sym, ap, ◌∙◌, arith, length-append}
+use Rattle.std.proofs.Common.{◌≡◌, ◌≢◌, ℕ, zero, suc, ◌+◌, ◌-◌, ◌*◌, ◌/◌, ◌%◌, ◌<◌, ◌≤◌, ◌⊎◌, inl, inr, Bool, true, false, cond, ◌==◌, List, [], ◌∷◌, ◌++◌, length, take, drop, get_or, slice_get, Some, refl, sym, ap, ◌∙◌, arith, length-append}
 use Rattle.std.specs.List.{AllByRecursion}
 use Rattle.std.proofs.lemmas.Bool.{cases_lt}
 use Rattle.std.proofs.lemmas.Bool.Decides.{nat_tests, eqb_tells}
-use Rattle.std.proofs.lemmas.List.{length-take-le, drop-drop, length-map, get_or-append_right, get_or_append_left}
+use Rattle.std.proofs.lemmas.List.{length-take-le, drop-drop, get_or-append_right, get_or_append_left}
 use Rattle.std.proofs.Math.Seq.{take-add}
 use Rattle.volume_codec.specs.Files.{File, TableFile}
 use Rattle.volume_codec.specs.Layout.{IsHome, block_at, record_block, first_file_home}
 use Rattle.volume_codec.specs.Text.{zeros}
 use Rattle.volume_codec.specs.Super.{SuperValue, pages_of, total_pages, first_home_of, geometry_of}
 use Rattle.volume_codec.specs.Descriptor.{RiseWithin}
-use Rattle.volume_codec.specs.Recovery.{Batch, record_or, standing_block, blocks_from, lengths_in, files_from, files_in}
+use Rattle.volume_codec.specs.Recovery.{Batch, record_or, standing_block, blocks_from, files_from, files_in}
+use Rattle.volume_codec.specs.Lengths.{lengths_in}
 use Rattle.volume_codec.proofs.Homes.{rising_at}
+use Rattle.volume_codec.proofs.Lengths.{lengths_in-same, same_lengths_block}
 use Rattle.volume_codec.proofs.Padding.{zeros-append, take-zeros, zeros-nil}
 use Rattle.volume_codec.proofs.Places.{file_block-home}
 
@@ -34,7 +36,9 @@ files_from-same f g b (s ∷ fs) (n ∷ lengths) h =
 
 -- contents that agree on home blocks have the same files
 pub files_in-same : (v : SuperValue) (contents others : ℕ → List ℕ) → ((b : ℕ) → IsHome (geometry_of v) b → contents b ≡ others b) → files_in v contents ≡ files_in v others
-files_in-same v contents others h = files_from-same contents others (first_file_home v.layout v.slots) v.files (lengths_in v contents) (λ i low high. h i (file_block-home v i low high))
+files_in-same v contents others h =
+    files_from-same contents others (first_file_home v.layout v.slots) v.files (lengths_in v contents) (λ i low high. h i (file_block-home v i low high))
+    ∙ ap (files_from others (first_file_home v.layout v.slots) v.files) (lengths_in-same v contents others (same_lengths_block v contents others h))
 
 -- the file of a place begins after the pages of those before it
 file_from-at : (f : ℕ → List ℕ) (b : ℕ) (fs : List TableFile) (lengths : List ℕ) (i n : ℕ) (s : TableFile) → slice_get fs i ≡ Some s → slice_get lengths i ≡ Some n
@@ -54,18 +58,6 @@ file_from-at f b (t ∷ fs) (m ∷ lengths) (suc i) n s e l =
 pub file_in-at : (v : SuperValue) (contents : ℕ → List ℕ) (i n : ℕ) (s : TableFile) → slice_get v.files i ≡ Some s → slice_get (lengths_in v contents) i ≡ Some n
     → slice_get (files_in v contents) i ≡ Some (record { name = s.name; bytes = take n (blocks_from contents (first_home_of v i) (pages_of s.capacity)); capacity = s.capacity })
 file_in-at v contents i n s e l = file_from-at contents (first_file_home v.layout v.slots) v.files (lengths_in v contents) i n s e l
-
--- there are as many lengths as files, none above its capacity
-pub length-lengths_in : (v : SuperValue) (contents : ℕ → List ℕ) → length (lengths_in v contents) ≡ length v.files
-length-lengths_in v contents = length-map v.files (λ (f : TableFile). f.capacity)
-
-capacity_at : (fs : List TableFile) (i n : ℕ) (s : TableFile) → slice_get fs i ≡ Some s → slice_get (map (λ (f : TableFile). f.capacity) fs) i ≡ Some n → n ≡ s.capacity
-capacity_at [] i n s e l = cc
-capacity_at (f ∷ fs) zero n s e l = let file : f ≡ s = cc in let size : f.capacity ≡ n = cc in sym size ∙ ap (λ (x : TableFile). x.capacity) file
-capacity_at (f ∷ fs) (suc i) n s e l = capacity_at fs i n s e l
-
-pub lengths_in-le : (v : SuperValue) (contents : ℕ → List ℕ) (i n : ℕ) (s : TableFile) → slice_get v.files i ≡ Some s → slice_get (lengths_in v contents) i ≡ Some n → n ≤ s.capacity
-lengths_in-le v contents i n s e l = omega (arith, capacity_at v.files i n s e l)
 
 -- the blocks of a device one after another are a range of its bytes
 pub blocks_from-device : (bytes : List ℕ) (b n : ℕ) → blocks_from (block_at bytes) b n ≡ take (4096 * n) (drop (4096 * b) bytes)

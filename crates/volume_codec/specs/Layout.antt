@@ -1,6 +1,6 @@
 -- Where the parts of a volume lie. A block is 4,096 bytes, and block i begins at 4,096 times i. Block 0 is the super
 -- block. Each journal follows with a gate block, a descriptor block and its record slots, then come the home blocks.
-use Rattle.std.specs.Prelude.{ℕ, ◌+◌, ◌*◌, ◌<◌, ◌≤◌, ◌^◌, List, codes, take, drop}
+use Rattle.std.specs.Prelude.{ℕ, ◌+◌, ◌-◌, ◌*◌, ◌<◌, ◌≤◌, ◌^◌, List, codes, take, drop}
 use Rattle.volume_codec.specs.declared.layout.Layout.{Layout}
 use Rattle.volume_codec.specs.declared.layout.Layout.TheVariants.{One, Two}
 
@@ -35,13 +35,18 @@ record_block slots j i = 3 + j * (2 + slots) + i
 abbrev pub first_home : Layout → ℕ → ℕ
 first_home layout slots = 1 + journals_of layout * (2 + slots)
 
--- the first home block of the files; in these layouts nothing else has a home block
-abbrev pub first_file_home : Layout → ℕ → ℕ
-first_file_home layout slots = first_home layout slots
+-- how many home blocks, the first ones, hold the lengths of the files; in these layouts none does
+abbrev pub lengths_blocks : Layout → ℕ
+lengths_blocks One = 0
+lengths_blocks Two = 0
 
--- the greatest number of frames of a machine: a batch has a record slot for a page of each
+-- the first home block of the files
+abbrev pub first_file_home : Layout → ℕ → ℕ
+first_file_home layout slots = first_home layout slots + lengths_blocks layout
+
+-- the greatest number of frames of a machine: a batch has a record slot for a page of each and for the lengths
 abbrev pub max_frames : Layout → ℕ → ℕ
-max_frames layout slots = slots
+max_frames layout slots = slots - lengths_blocks layout
 
 -- where a volume has its parts: its layout, the record slots of each journal, and its number of blocks
 pub record GeometryValue : Type 0 where
@@ -54,9 +59,10 @@ pub record IsHome (g : GeometryValue) (b : ℕ) : Type 0 where
   pub low : first_home g.layout g.slots ≤ b
   pub high : b < g.blocks
 
--- a volume of this geometry may be: 1 to 1,020 slots, a home block at least, below 2^32 blocks
+-- a volume of this geometry may be: slots for the lengths and a page at least, up to 1,020, a home block of a file at
+-- least, below 2^32 blocks
 pub record IsGeometry (g : GeometryValue) : Type 0 where
-  pub some_slots : 0 < g.slots
+  pub some_slots : lengths_blocks g.layout < g.slots
   pub few_slots : g.slots ≤ 1020
   pub some_homes : first_file_home g.layout g.slots < g.blocks
   pub few_blocks : g.blocks < 2 ^ 32

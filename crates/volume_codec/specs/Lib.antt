@@ -3,6 +3,7 @@ pub mod Layout
 pub mod Text
 pub mod Super
 pub mod Descriptor
+pub mod Lengths
 pub mod Recovery
 pub mod Refusals
 pub mod inside

@@ -1,12 +1,13 @@
 -- What the bytes of a volume recover to, and which bytes are no volume. The contents of a volume are a function from a
 -- home block's number to the bytes of that block.
-use Rattle.std.specs.Prelude.{◌≡◌, ◌≢◌, ℕ, zero, suc, ◌+◌, ◌*◌, ◌<◌, ◌≤◌, ◌==◌, if◌then◌else◌, ◌⊎◌, Bool, true, List, [], ◌∷◌, ◌++◌, length, map, take, slice_index}
+use Rattle.std.specs.Prelude.{◌≡◌, ◌≢◌, ℕ, zero, suc, ◌+◌, ◌*◌, ◌<◌, ◌≤◌, ◌==◌, if◌then◌else◌, ◌⊎◌, Bool, true, List, [], ◌∷◌, ◌++◌, length, take, slice_index}
 use Rattle.std.specs.List.{AllByRecursion, list_any}
 use Rattle.volume_codec.specs.declared.layout.Layout.{Layout}
 use Rattle.volume_codec.specs.Files.{File, TableFile}
 use Rattle.volume_codec.specs.Layout.{GeometryValue, IsHome, magic_of, journals_of, gate_block, descriptor_block, record_block, first_file_home, block_at}
 use Rattle.volume_codec.specs.Super.{SuperValue, IsSuper, pages_of, block_count, geometry_of}
 use Rattle.volume_codec.specs.Descriptor.{IsDescriptor}
+use Rattle.volume_codec.specs.Lengths.{lengths_in, HasLengths}
 
 -- the gate of journal j is open, where its block begins with the byte 0xA7; every other byte closes it
 abbrev pub IsOpen : List ℕ → ℕ → ℕ → Type 0
@@ -77,10 +78,6 @@ abbrev pub blocks_from : (ℕ → List ℕ) → ℕ → ℕ → List ℕ
 blocks_from contents b zero = []
 blocks_from contents b (suc n) = contents b ++ blocks_from contents (b + 1) n
 
--- the lengths of the files in contents; in these layouts a file is as long as its capacity
-abbrev pub lengths_in : SuperValue → (ℕ → List ℕ) → List ℕ
-lengths_in v contents = map (λ f. f.capacity) v.files
-
 -- files of these lengths, whose home blocks begin at block b
 abbrev pub files_from : (ℕ → List ℕ) → ℕ → List TableFile → List ℕ → List File
 files_from contents b (f ∷ fs) (n ∷ lengths) =
@@ -92,11 +89,12 @@ files_from contents b fs lengths = []
 abbrev pub files_in : SuperValue → (ℕ → List ℕ) → List File
 files_in v contents = files_from contents (first_file_home v.layout v.slots) v.files (lengths_in v contents)
 
--- a device with these bytes recovers to these files
+-- a device with these bytes recovers to these files, whose lengths keep the grammar
 pub record RecoversTo (bytes : List ℕ) (files : List File) : Type 0 where
   pub table : SuperValue
   pub contents : ℕ → List ℕ
   pub recovers : Recovers table contents bytes
+  pub lengths : HasLengths table contents
   pub files_are : files ≡ files_in table contents
 
 -- no volume: too short for a super block, or without the magic of any layout

@@ -1,13 +1,12 @@
 // Blocks of 4,096 bytes: numbers read at a place, and bytes written one after another.
 ghost use Rattle.std.specs.Prelude.{◌≡◌, ◌≤◌, ◌+◌, ◌++◌, [], length, drop};
-ghost use Rattle.volume_codec.specs.inside.Reading.{number_in};
-ghost use Rattle.volume_codec.specs.Text.{number_text, zeros, padded};
+ghost use Rattle.volume_codec.specs.Text.{number_text, number_in, zeros, padded};
 
 use byteorder::{BigEndian, ByteOrder};
 use std::marker::Model;
 
 /// The number in the 4 bytes from this place on.
-#[tactic(auto, unfolding(crate::specs::inside::Reading::number_in))]
+#[tactic(auto, unfolding(crate::specs::Text::number_in))]
 pub fn u32_at(bytes: &[u8], at: usize) -> u32
     requires { at + 4 ≤ length bytes.now }
     ensures { result ≡ number_in 4 (drop at bytes.now) }
@@ -16,7 +15,7 @@ pub fn u32_at(bytes: &[u8], at: usize) -> u32
 }
 
 /// The number in the 8 bytes from this place on.
-#[tactic(auto, unfolding(crate::specs::inside::Reading::number_in))]
+#[tactic(auto, unfolding(crate::specs::Text::number_in))]
 pub fn u64_at(bytes: &[u8], at: usize) -> u64
     requires { at + 8 ≤ length bytes.now }
     ensures { result ≡ number_in 8 (drop at bytes.now) }

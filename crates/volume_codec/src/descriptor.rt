@@ -2,7 +2,7 @@
 ghost use Rattle.std.specs.Prelude.{◌≡◌, ◌≤◌, ◌+◌, ◌*◌, ◌↔◌, IsTrue, IfOk, IfErr, MatchResult, length, drop};
 ghost use Rattle.volume_codec.specs.Descriptor.{RiseWithin, IsDescribed, IsDescriptor};
 ghost use Rattle.volume_codec.specs.Refusals.{RefusesDescriptor};
-ghost use Rattle.volume_codec.specs.inside.Reading.{numbers_in};
+ghost use Rattle.volume_codec.specs.Text.{numbers_in};
 
 use crate::block::{BlockWriter, u32_at, u64_at};
 use crate::geometry::Geometry;
@@ -89,7 +89,7 @@ fn homes_at<A: Allocator + Copy>(
     count: usize,
 ) -> Result<Vec<u32, A>, Refusal>
     requires { 16 + 4 * count ≤ length block.now }
-    ensures { MatchResult result (λ homes. homes.items ≡ numbers_in count (drop 16 block.now))
+    ensures { MatchResult result (λ homes. homes.items ≡ numbers_in 4 count (drop 16 block.now))
         (λ refusal. refusal ≡ Refusal.OutOfMemory) }
 {
     let Ok(mut homes) = Vec::with_capacity(alloc, count) else {

@@ -20,7 +20,7 @@ pub(crate) fn first_file_home_block(layout: Layout, slots: u32) -> u32
     ensures value { result ≡ file_home layout slots }
     ensures small { result < 4096 }
 {
-    first_home_block(layout, slots)
+    first_home_block(layout, slots) + layout.lengths_blocks()
 }
 
 /// Where a volume has its parts. Journals, and the record slots of each, are counted from 0.
@@ -135,10 +135,11 @@ impl Geometry {
         first_file_home_block(self.layout, self.slots)
     }
 
-    /// The greatest number of frames of a machine over the volume: a batch has a record slot for a page of each.
+    /// The greatest number of frames of a machine over the volume: a batch has a record slot for a page of each and for
+    /// the lengths.
     pub fn max_frames(&self) -> u32
         ensures { result ≡ frames self.now.layout self.now.slots }
     {
-        self.slots
+        self.slots - self.layout.lengths_blocks()
     }
 }

@@ -4,17 +4,20 @@ ghost use Rattle.std.specs.List.{AllByRecursion};
 ghost use Rattle.volume_codec.specs.declared.layout.Layout.TheVariants.{One, Two};
 ghost use Rattle.volume_codec.specs.Files.{File, TableFile};
 ghost use Rattle.volume_codec.specs.Layout.{GeometryValue, IsGeometry, IsHome, journals_of, gate_block, descriptor_block, record_block, first_home, block_at};
-ghost use Rattle.volume_codec.specs.Super.{SuperValue, IsSuper, pages_of, first_home_of, block_count, geometry_of};
+ghost use Rattle.volume_codec.specs.Super.{SuperValue, Fits, IsSuper, pages_of, first_home_of, block_count, geometry_of};
 ghost use Rattle.volume_codec.specs.Descriptor.{DescriptorValue, RiseWithin, IsDescriptor};
-ghost use Rattle.volume_codec.specs.Recovery.{Batch, AreOpen, standing_block, blocks_from, contents_in, lengths_in, files_in, Recovers, RecoversTo, IsVolume};
+ghost use Rattle.volume_codec.specs.Lengths.{IsLengths, HasLengths, lengths_in};
+ghost use Rattle.volume_codec.specs.Recovery.{Batch, AreOpen, standing_block, blocks_from, contents_in, files_in, Recovers, RecoversTo, IsVolume};
 
-/// A block says at most one table, and at most one descriptor in a volume of one geometry; bytes have at most one list
-/// of open batches, and recover to at most one table, contents and list of files. So reading a block that was written
-/// gives back the value that was written.
+/// A block says at most one table, at most one descriptor in a volume of one geometry, and at most one list of lengths
+/// in a volume with one table; bytes have at most one list of open batches, and recover to at most one table, contents
+/// and list of files. So reading a block that was written gives back the value that was written.
 pub fn one_reading()
     ensures tables { (v w : SuperValue) (block : List ℕ) → IsSuper v block → IsSuper w block → v ≡ w }
     ensures descriptors { (g : GeometryValue) (d e : DescriptorValue) (block : List ℕ) → IsGeometry g
         → IsDescriptor g d block → IsDescriptor g e block → d ≡ e }
+    ensures lengths { (v : SuperValue) (lengths others : List ℕ) (block : List ℕ) → Fits v
+        → IsLengths v lengths block → IsLengths v others block → lengths ≡ others }
     ensures batches { (g : GeometryValue) (batches others : List Batch) (bytes : List ℕ) → IsGeometry g
         → AreOpen g batches bytes → AreOpen g others bytes → batches ≡ others }
     ensures contents { (v w : SuperValue) (contents others : ℕ → List ℕ) (bytes : List ℕ)
@@ -72,8 +75,8 @@ pub fn files_from_contents()
           capacity = f.capacity;
         }) }
     ensures lengths { (v : SuperValue) (contents : ℕ → List ℕ) → length (lengths_in v contents) ≡ length v.files }
-    ensures within { (v : SuperValue) (contents : ℕ → List ℕ) (i n : ℕ) (f : TableFile) → slice_get v.files i ≡ Some f
-        → slice_get (lengths_in v contents) i ≡ Some n → n ≤ f.capacity }
+    ensures within { (v : SuperValue) (contents : ℕ → List ℕ) (i n : ℕ) (f : TableFile) → HasLengths v contents
+        → slice_get v.files i ≡ Some f → slice_get (lengths_in v contents) i ≡ Some n → n ≤ f.capacity }
     ensures device { (bytes : List ℕ) (b n : ℕ)
         → blocks_from (block_at bytes) b n ≡ take (4096 * n) (drop (4096 * b) bytes) }
     ensures byte { (contents : ℕ → List ℕ) (b n k : ℕ) → ((i : ℕ) → b ≤ i → i < b + n → length (contents i) ≡ 4096)

@@ -1,6 +1,6 @@
 // The layouts of volumes.
-ghost use Rattle.std.specs.Prelude.{◌≡◌, ◌≢◌, IfSome, IfNone, List};
-ghost use Rattle.volume_codec.specs.Layout.{number_of, magic_of, journals_of};
+ghost use Rattle.std.specs.Prelude.{◌≡◌, ◌≢◌, ◌≤◌, IfSome, IfNone, List};
+ghost use Rattle.volume_codec.specs.Layout.{number_of, magic_of, journals_of, lengths_blocks as lengths};
 
 /// The byte that opens a journal's gate; it is the first of the gate's block, and every other value closes the gate.
 pub const OPEN_GATE: u8 = 0xA7;
@@ -73,6 +73,17 @@ impl Layout {
         match self {
             Layout::One => 1,
             Layout::Two => 2,
+        }
+    }
+
+    /// How many home blocks, the first ones, hold the lengths of the files.
+    pub fn lengths_blocks(self) -> u32
+        ensures value { result ≡ lengths self }
+        ensures small { result ≤ 1 }
+    {
+        match self {
+            Layout::One => 0,
+            Layout::Two => 0,
         }
     }
 }

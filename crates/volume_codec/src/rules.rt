@@ -78,7 +78,10 @@ pub(crate) fn count_blocks(layout: Layout, files: &[FileSpec], slots: u64) -> Re
     ensures err { IfErr result (λ refusal. (refusal ≡ Refusal.BadShape)
         × (AreFull files.now → Fits (table_of layout files.now slots) → ⊥)) }
 {
-    if files.is_empty() || files.len() > MAX_FILES || slots == 0 || slots > MAX_SLOTS {
+    if files.is_empty() || files.len() > MAX_FILES {
+        return Err(Refusal::BadShape);
+    }
+    if slots <= u64::from(layout.lengths_blocks()) || slots > MAX_SLOTS {
         return Err(Refusal::BadShape);
     }
     if !are_files(files) || !are_distinct(files) {

@@ -5,7 +5,8 @@ ghost use Rattle.volume_codec.specs.Files.{asked_by, asked_by_pairs};
 ghost use Rattle.volume_codec.specs.Layout.{magic_of};
 ghost use Rattle.volume_codec.specs.Super.{SuperValue, Fits, IsName, IsSuper, IsAsked, AreDistinct, pages_of as pages, total_pages, first_home_of, block_count as blocks_of, geometry_of, entry_text, super_text, names_in, capacities_in};
 ghost use Rattle.volume_codec.specs.Refusals.{RefusesTable, RefusesSuper};
-ghost use Rattle.volume_codec.specs.inside.Reading.{number_in, name_in, file_in, table_files_in, damage_of as damage};
+ghost use Rattle.volume_codec.specs.Text.{number_in};
+ghost use Rattle.volume_codec.specs.inside.Reading.{name_in, file_in, table_files_in, damage_of as damage};
 ghost use Rattle.volume_codec.specs.inside.Tables.{files_asked_for, names_of, rows_of, homes_of, homes_from, AreFull};
 
 use crate::block::{BlockWriter, u32_at, u64_at};

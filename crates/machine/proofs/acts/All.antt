@@ -1,13 +1,15 @@
 -- What each act does, by its rule: the one place where acts are told apart.
 use Rattle.machine.proofs.Names.{ℕ, ◌≡◌, Bool, true, false, cond, List, [], ◌∷◌, ◌++◌, length, Option, Some, None}
-use Rattle.machine.proofs.Names.{Result, Ok, Err, refl, ap, inl, inr, Refusal, range_of_bytes, mapped_pages_of}
+use Rattle.machine.proofs.Names.{Result, Ok, Err, refl, ap, Refusal, range_of_bytes, mapped_pages_of}
 use Rattle.machine.proofs.Names.{is_user_space, judged_protection-ok, is_stalled, is_idle, Act, Reply, Step, State}
 use Rattle.machine.proofs.Names.{Acts, Rules, Told, Pending, Unmapping, Protecting, changed, mapped_in, begun_by}
 use Rattle.machine.proofs.Names.{begun_unmap, begun_protect, IsSound, Silent, Storing, Ending, Leaving, Performed}
-use Rattle.machine.proofs.Names.{Moved, Marked, Failed, Destroy, Store}
+use Rattle.machine.proofs.Names.{Moved, Marked, Failed, Destroy, Store, FlushMade, HasStepped, reply_to, sym, subst}
 use Rattle.page_entry.specs.declared.refusal.Refusal.TheVariants as refusals
 use Rattle.machine.specs.declared.act.Act.TheVariants as acts
 use Rattle.machine.specs.declared.act.Reply.TheVariants as replies
+use Rattle.journal.specs.declared.flushed.Flushed.{Flushed as Answer}
+use Rattle.journal.specs.declared.flushed.Flushed.TheVariants as flushed
 use Rattle.machine.specs.inside.Moves.{Flushed}
 use Rattle.machine.proofs.sound.Admitted.{wait_admitted}
 use Rattle.machine.proofs.moves.Silent.{no_moves, moved, moved_all, silently}
@@ -30,6 +32,12 @@ changed_history told (Some (Unmapping space range)) = refl
 changed_history told (Some (Protecting space range rights)) = refl
 
 module _ (s : State) (disk : List ℕ) (p : ℕ) (new : State) (disk' : List ℕ) (sound : IsSound s) where
+  stepped : (answer : Answer) → FlushMade s disk p answer new disk' → HasStepped s disk p (reply_to answer) new disk'
+  stepped answer made = record {
+    answered = ap reply_to (sym made.answered);
+    made = subst (λ (a : Answer). FlushMade s disk p a new disk') (sym made.answered) made;
+  }
+
   pub performed_act : (act : Act) (reply : Reply) → Acts s disk p act reply new disk'
       → Performed s disk p act reply new disk'
   performed_act (acts.Load va count) (replies.Bytes bytes) rule =
@@ -38,7 +46,6 @@ module _ (s : State) (disk : List ℕ) (p : ℕ) (new : State) (disk' : List ℕ
       silently (fault_moves s p sound va count false code rule.0.0 rule.0.1 rule.0.2) (λ told. refl) refl rule.1
   performed_act (acts.Load va count) (replies.Refused why) rule =
       silently (same_moves s p sound rule.0.0 rule.0.1.1 rule.0.2) (λ told. refl) refl rule.1
-  performed_act (acts.Load va count) reply rule = absurd rule.0.1
   performed_act (acts.Store va bytes) replies.Stored rule = Moved (record {
     says = Storing p va bytes ∷ [];
     moves = (new, Store (record { p = p; va = va; bytes = bytes; hardware = rule.0.0; made = rule.0.1; says_is = refl; done = rule.0.2 }), refl);
@@ -50,123 +57,72 @@ module _ (s : State) (disk : List ℕ) (p : ℕ) (new : State) (disk' : List ℕ
       silently (fault_moves s p sound va (length bytes) true code rule.0.0 rule.0.1 rule.0.2) (λ told. refl) refl rule.1
   performed_act (acts.Store va bytes) (replies.Refused why) rule =
       silently (same_moves s p sound rule.0.0 rule.0.1.1 rule.0.2) (λ told. refl) refl rule.1
-  performed_act (acts.Store va bytes) reply rule = absurd rule.0.1
   performed_act (acts.Fill page) replies.Filled rule =
       silently (fill_moves s p sound page true rule.0.0 rule.0.1.0 rule.0.1.1 rule.0.2) (λ told. refl) refl rule.1
   performed_act (acts.Fill page) replies.Nothing rule =
       silently (fill_moves s p sound page false rule.0.0 rule.0.1.0 rule.0.1.1 rule.0.2) (λ told. refl) refl rule.1
   performed_act (acts.Fill page) (replies.Refused why) rule =
       silently (same_moves s p sound rule.0.0 rule.0.1.2 rule.0.2) (λ told. refl) refl rule.1
-  performed_act (acts.Fill page) reply rule = absurd rule.0.1
   performed_act (acts.Evict slot) replies.Evicted rule =
       silently (evict_moves s p sound slot rule.0.0 rule.0.1.0 rule.0.1.2 rule.0.2) (λ told. refl) refl rule.1
   performed_act (acts.Evict slot) replies.Nothing rule =
       silently (evict_moves s p sound slot rule.0.0 rule.0.1.0 rule.0.1.2 rule.0.2) (λ told. refl) refl rule.1
   performed_act (acts.Evict slot) (replies.Refused why) rule =
       silently (same_moves s p sound rule.0.0 rule.0.1.2 rule.0.2) (λ told. refl) refl rule.1
-  performed_act (acts.Evict slot) reply rule = absurd rule.0.1
   performed_act (acts.Switch space keep) replies.Switched rule =
       moved (switch_moves s p sound space keep rule.0.0 rule.0.1) (λ told. refl) (λ told. refl) refl rule.1
-  performed_act (acts.Switch space keep) (replies.Refused why) rule =
-      silently (no_moves rule.0.unchanged) (λ told. refl) refl rule.1
-  performed_act (acts.Switch space keep) reply rule = absurd rule.0
   performed_act acts.Idle replies.Idled rule =
       moved (idle_moves s p sound rule.0.0 rule.0.1) (λ told. refl) (λ told. refl) refl rule.1
-  performed_act acts.Idle (replies.Refused why) rule = silently (no_moves rule.0.unchanged) (λ told. refl) refl rule.1
-  performed_act acts.Idle reply rule = absurd rule.0
   performed_act acts.Wake replies.Woken rule =
-      moved (resume_moves s p sound (wait_admitted is_idle s.hardware.shootdown p rule.0.0 (ap is_idle rule.0.1)) rule.0.2) (λ told. refl) (λ told. refl) refl rule.1
-  performed_act acts.Wake replies.Nothing rule = silently (no_moves rule.0.2) (λ told. refl) refl rule.1
-  performed_act acts.Wake (replies.Refused why) rule = silently (no_moves rule.0.unchanged) (λ told. refl) refl rule.1
-  performed_act acts.Wake reply rule = absurd rule.0
+      moved (resume_moves s p sound (wait_admitted is_idle s.hardware.shootdown p rule.0.0 (ap is_idle rule.0.1.0)) rule.0.1.1) (λ told. refl) (λ told. refl) refl rule.1
+  performed_act acts.Wake replies.Nothing rule = silently (no_moves rule.0.1.1) (λ told. refl) refl rule.1
   performed_act (acts.Fix va write) replies.Fixed rule =
-      silently (fix_moves s disk sound p va write new rule.0) (λ told. refl) refl rule.1
-  performed_act (acts.Fix va write) (replies.Refused refusals.Device) rule =
-      silently (no_moves (elim rule.0 [ inl refused ↦ refused.unchanged | inr failed ↦ failed.unchanged ])) (λ told. refl) refl rule.1
-  performed_act (acts.Fix va write) (replies.Refused why) rule =
-      silently (no_moves rule.0.unchanged) (λ told. refl) refl rule.1
-  performed_act (acts.Fix va write) reply rule = absurd rule.0
+      silently (fix_moves s disk sound p va write new rule.0.0 rule.0.1) (λ told. refl) refl rule.1
   performed_act acts.Create (replies.Space pcid) rule =
-      moved (create_moves s p pcid rule.0.0 rule.0.1 sound rule.0.2) (λ told. refl) (λ told. refl) refl rule.1
-  performed_act acts.Create (replies.Refused refusals.Enomem) rule =
-      silently (no_moves rule.0.2) (λ told. refl) refl rule.1
-  performed_act acts.Create (replies.Refused refusals.OutOfMemory) rule =
-      silently (no_moves rule.0.1) (λ told. refl) refl rule.1
-  performed_act acts.Create (replies.Refused why) rule = silently (no_moves rule.0.unchanged) (λ told. refl) refl rule.1
-  performed_act acts.Create reply rule = absurd rule.0
+      moved (create_moves s p pcid rule.0.0 rule.0.1.0 sound rule.0.1.1) (λ told. refl) (λ told. refl) refl rule.1
   performed_act (acts.Destroy space) replies.Destroyed rule =
-      moved {says = Leaving space} (Destroy (record { p = p; pcid = space; made = rule.0; says_is = refl })) (λ told. refl) (λ told. refl) refl rule.1
-  performed_act (acts.Destroy space) (replies.Refused why) rule =
-      silently (no_moves rule.0.unchanged) (λ told. refl) refl rule.1
-  performed_act (acts.Destroy space) reply rule = absurd rule.0
+      moved {says = Leaving space} (Destroy (record { p = p; pcid = space; allowed = rule.0.0; made = rule.0.1; says_is = refl })) (λ told. refl) (λ told. refl) refl rule.1
   performed_act (acts.Map space va len file offset prot access) replies.Mapped rule =
-      moved (map_moves s p space va len file offset prot access rule.0 sound)
+      moved (map_moves s p space va len file offset prot access rule.0.1.0 rule.0.0 rule.0.1.1 rule.0.1.2 sound)
       (λ told. ap (λ r. record (mapped_in told space file prot access r) { history = told.history ++ [] })
-      (judged_so (is_user_space s.hardware.spaces space) (mapped_pages_of va len offset) rule.0.pages rule.0.judged)) (λ told. refl) refl rule.1
-  performed_act (acts.Map space va len file offset prot access) (replies.Refused refusals.OutOfMemory) rule =
-      silently (no_moves rule.0.1) (λ told. refl) refl rule.1
-  performed_act (acts.Map space va len file offset prot access) (replies.Refused why) rule =
-      silently (no_moves rule.0.unchanged) (λ told. refl) refl rule.1
-  performed_act (acts.Map space va len file offset prot access) reply rule = absurd rule.0
+      (judged_so (is_user_space s.hardware.spaces space) (mapped_pages_of va len offset) rule.0.1.0 rule.0.1.1)) (λ told. refl) refl rule.1
   performed_act (acts.Unmap space va len) replies.Begun rule =
-      moved (unmap_moves s p space va len rule.0.1 rule.0.0 rule.0.2 rule.0.4)
+      moved (unmap_moves s p space va len rule.0.1.0 rule.0.0 rule.0.1.1 rule.0.1.3)
       (λ told. ap (λ r. record (begun_by told p (begun_unmap space r)) { history = told.history ++ [] })
-      (judged_so (is_user_space s.hardware.spaces space) (range_of_bytes va len) rule.0.1 rule.0.2)) (λ told. refl) refl rule.1
-  performed_act (acts.Unmap space va len) replies.Fine rule = silently (no_moves rule.0.4) (λ told. refl) refl rule.1
-  performed_act (acts.Unmap space va len) (replies.Refused refusals.OutOfMemory) rule =
-      silently (no_moves rule.0.1) (λ told. refl) refl rule.1
-  performed_act (acts.Unmap space va len) (replies.Refused why) rule =
-      silently (no_moves rule.0.unchanged) (λ told. refl) refl rule.1
-  performed_act (acts.Unmap space va len) reply rule = absurd rule.0
+      (judged_so (is_user_space s.hardware.spaces space) (range_of_bytes va len) rule.0.1.0 rule.0.1.1)) (λ told. refl) refl rule.1
+  performed_act (acts.Unmap space va len) replies.Fine rule = silently (no_moves rule.0.1.3) (λ told. refl) refl rule.1
   performed_act (acts.Protect space va len prot) replies.Begun rule =
-      moved (protect_moves s p space va len prot rule.0.1 rule.0.0 rule.0.2 rule.0.3)
+      moved (protect_moves s p space va len prot rule.0.1.0 rule.0.0 rule.0.1.1 rule.0.1.2)
       (λ told. ap (λ r. record (begun_by told p (begun_protect space prot r)) { history = told.history ++ [] })
-      (judged_so (is_user_space s.hardware.spaces space) (range_of_bytes va len) rule.0.1 (judged_protection-ok s.hardware.spaces space va len prot rule.0.1 rule.0.2).0)) (λ told. refl) refl rule.1
-  performed_act (acts.Protect space va len prot) (replies.Refused refusals.OutOfMemory) rule =
-      silently (no_moves rule.0.1) (λ told. refl) refl rule.1
-  performed_act (acts.Protect space va len prot) (replies.Refused why) rule =
-      silently (no_moves rule.0.unchanged) (λ told. refl) refl rule.1
-  performed_act (acts.Protect space va len prot) reply rule = absurd rule.0
+      (judged_so (is_user_space s.hardware.spaces space) (range_of_bytes va len) rule.0.1.0 (judged_protection-ok s.hardware.spaces space va len prot rule.0.1.0 rule.0.1.1).0)) (λ told. refl) refl rule.1
   performed_act (acts.Reclaim file page) replies.Begun rule =
-      moved (reclaim_moves s p (record { file = file; page = page }) rule.0.0 rule.0.1 rule.0.2) (λ told. refl) (λ told. refl) refl rule.1
-  performed_act (acts.Reclaim file page) replies.Nothing rule = silently (no_moves rule.0.2) (λ told. refl) refl rule.1
-  performed_act (acts.Reclaim file page) (replies.Refused why) rule =
-      silently (no_moves rule.0.unchanged) (λ told. refl) refl rule.1
-  performed_act (acts.Reclaim file page) reply rule = absurd rule.0
+      moved (reclaim_moves s p (record { file = file; page = page }) rule.0.0 rule.0.1.0 rule.0.1.1) (λ told. refl) (λ told. refl) refl rule.1
+  performed_act (acts.Reclaim file page) replies.Nothing rule = silently (no_moves rule.0.1.1) (λ told. refl) refl rule.1
   performed_act (acts.Msync va len flags) replies.Begun rule =
       moved (msync_moves s p va len flags rule.0.0 rule.0.1) (λ told. refl) (λ told. refl) refl rule.1
-  performed_act (acts.Msync va len flags) (replies.Refused why) rule =
-      silently (no_moves rule.0.unchanged) (λ told. refl) refl rule.1
-  performed_act (acts.Msync va len flags) reply rule = absurd rule.0
   performed_act acts.Ack replies.Acked rule =
-      moved (ack_moves s p sound rule.0.0 rule.0.1 rule.0.2) (λ told. refl) (λ told. refl) refl rule.1
-  performed_act acts.Ack replies.Nothing rule = silently (no_moves rule.0.2) (λ told. refl) refl rule.1
-  performed_act acts.Ack (replies.Refused why) rule = silently (no_moves rule.0.unchanged) (λ told. refl) refl rule.1
-  performed_act acts.Ack reply rule = absurd rule.0
+      moved (ack_moves s p sound rule.0.0 rule.0.1.0 rule.0.1.1) (λ told. refl) (λ told. refl) refl rule.1
+  performed_act acts.Ack replies.Nothing rule = silently (no_moves rule.0.1.1) (λ told. refl) refl rule.1
   performed_act acts.Change replies.Unmapped rule =
-      moved (unmapped_moves disk s p new sound rule.0) (λ told. refl) (λ told. changed_history told told.pending) refl rule.1
+      moved (unmapped_moves disk s p new sound rule.0.1) (λ told. refl) (λ told. changed_history told told.pending) refl rule.1
   performed_act acts.Change replies.Protected rule =
-      moved (protected_moves disk s p new sound rule.0) (λ told. refl) (λ told. changed_history told told.pending) refl rule.1
+      moved (protected_moves disk s p new sound rule.0.1) (λ told. refl) (λ told. changed_history told told.pending) refl rule.1
   performed_act acts.Change replies.Reclaimed rule =
-      moved_all (Ending p ∷ Silent ∷ []) (reclaimed_moves disk s p new sound rule.0) (λ told. refl) (λ told. refl) refl rule.1
+      moved_all (Ending p ∷ Silent ∷ []) (reclaimed_moves disk s p new sound rule.0.1) (λ told. refl) (λ told. refl) refl rule.1
   performed_act acts.Change replies.Kept rule =
-      moved (kept_moves disk s p new sound rule.0) (λ told. refl) (λ told. refl) refl rule.1
-  performed_act acts.Change (replies.Marked number) rule = Marked number refl refl rule.0 rule.1
-  performed_act acts.Change replies.Nothing rule = silently (no_moves rule.0.2) (λ told. refl) refl rule.1
-  performed_act acts.Change (replies.Refused why) rule = silently (no_moves rule.0.unchanged) (λ told. refl) refl rule.1
-  performed_act acts.Change reply rule = absurd rule.0
+      moved (kept_moves disk s p new sound rule.0.1) (λ told. refl) (λ told. refl) refl rule.1
+  performed_act acts.Change (replies.Marked number) rule = Marked number refl refl rule.0.1 rule.1
+  performed_act acts.Change replies.Nothing rule = silently (no_moves rule.0.1.1) (λ told. refl) refl rule.1
   performed_act acts.Resume replies.Resumed rule =
-      moved (resume_moves s p sound (wait_admitted is_stalled s.hardware.shootdown p rule.0.0 (ap is_stalled rule.0.1)) rule.0.2) (λ told. refl) (λ told. refl) refl rule.1
-  performed_act acts.Resume replies.Nothing rule = silently (no_moves rule.0.2) (λ told. refl) refl rule.1
-  performed_act acts.Resume (replies.Refused why) rule = silently (no_moves rule.0.unchanged) (λ told. refl) refl rule.1
-  performed_act acts.Resume reply rule = absurd rule.0
-  performed_act acts.Flush replies.Going rule = Flushed refl rule (λ why e. cc)
-  performed_act acts.Flush (replies.Committed number) rule = Flushed refl rule (λ why e. cc)
-  performed_act acts.Flush (replies.Done number) rule = Flushed refl rule (λ why e. cc)
-  performed_act acts.Flush replies.Nothing rule = silently (no_moves rule.2) (λ told. refl) refl rule.3
+      moved (resume_moves s p sound (wait_admitted is_stalled s.hardware.shootdown p rule.0.0 (ap is_stalled rule.0.1.0)) rule.0.1.1) (λ told. refl) (λ told. refl) refl rule.1
+  performed_act acts.Resume replies.Nothing rule = silently (no_moves rule.0.1.1) (λ told. refl) refl rule.1
+  performed_act acts.Flush replies.Going rule = Flushed refl (stepped flushed.Going rule) (λ why e. cc)
+  performed_act acts.Flush (replies.Committed number) rule = Flushed refl (stepped (flushed.Committed number) rule) (λ why e. cc)
+  performed_act acts.Flush (replies.Done number) rule = Flushed refl (stepped (flushed.Done number) rule) (λ why e. cc)
+  performed_act acts.Flush replies.Nothing rule = silently (no_moves rule.0.1.1) (λ told. refl) refl rule.1
   performed_act acts.Flush (replies.Refused refusals.Device) rule = Failed refl refl rule
-  performed_act acts.Flush (replies.Refused why) rule = silently (no_moves rule.0.unchanged) (λ told. refl) refl rule.1
-  performed_act acts.Flush reply rule = absurd rule
+  performed_act act (replies.Refused why) rule = silently (no_moves rule.0.1) (λ told. refl) refl rule.1
+  performed_act act reply rule = absurd rule.0.1
 
 pub performed : (s : State) (disk : List ℕ) (step : Step) (reply : Reply) (new : State) (disk' : List ℕ) → IsSound s
     → Rules s disk step reply new disk' → Performed s disk step.p step.act reply new disk'

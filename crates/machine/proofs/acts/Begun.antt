@@ -3,9 +3,10 @@ use Rattle.machine.proofs.Names.{ℕ, ◌≡◌, ◌+◌, ◌-◌, ◌<◌, ◌^
 use Rattle.machine.proofs.Names.{None, Ok, refl, arith, or_parts, leb-false, Rights, PageRange, FilePage, is_busy}
 use Rattle.machine.proofs.Names.{Change, maps_each, judged_range, judged_protection, judged_range-ok}
 use Rattle.machine.proofs.Names.{judged_protection-ok, not_free, current, is_in_memory, State, refuse_if, why_not}
-use Rattle.machine.proofs.Names.{pages_in_file, is_msync, unmap_refusal, protect_refusal_of, reclaim_refusal}
-use Rattle.machine.proofs.Names.{msync_refusal, begin_change, IsPrepared, pending_in, Beginning, Move, Begin}
+use Rattle.machine.proofs.Names.{pages_in_file, is_msync, reason_against}
+use Rattle.machine.proofs.Names.{begin_change, IsPrepared, pending_in, Beginning, Move, Begin}
 use Rattle.page_entry.specs.declared.refusal.Refusal.TheVariants as refusals
+use Rattle.machine.specs.declared.act.Act.TheVariants as acts
 use Rattle.spaces.specs.declared.change.Change.TheVariants as changes
 use Rattle.machine.proofs.sound.Admitted.{first_none, refuse_none}
 
@@ -16,7 +17,7 @@ module _ {disk : List ℕ} (s : State) (p : ℕ) {new : State} where
   begins change free prepared whole is =
       Begin (record { p = p; change = change; free = free; prepared = prepared; whole = whole; says_is = refl; done = is })
 
-  pub unmap_moves : (pcid va len : ℕ) (range : PageRange) → unmap_refusal s p pcid va len ≡ None
+  pub unmap_moves : (pcid va len : ℕ) (range : PageRange) → reason_against s p (acts.Unmap pcid va len) ≡ None
       → judged_range s.hardware.spaces pcid va len ≡ Ok range
       → new ≡ begin_change s p (changes.Unmap pcid range)
       → Move disk s (Beginning p (pending_in (Some (changes.Unmap pcid range)))) new
@@ -25,7 +26,7 @@ module _ {disk : List ℕ} (s : State) (p : ℕ) {new : State} where
       (judged_range-ok s.hardware.spaces pcid va len range judged) (λ e. cc) is
 
   pub protect_moves : (pcid va len : ℕ) (prot : Rights) (range : PageRange)
-      → protect_refusal_of s p pcid va len prot ≡ None → judged_protection s.hardware.spaces pcid va len prot ≡ Ok range
+      → reason_against s p (acts.Protect pcid va len prot) ≡ None → judged_protection s.hardware.spaces pcid va len prot ≡ Ok range
       → new ≡ begin_change s p (changes.Protect pcid range prot)
       → Move disk s (Beginning p (pending_in (Some (changes.Protect pcid range prot)))) new
   protect_moves pcid va len prot range none judged is =
@@ -34,7 +35,7 @@ module _ {disk : List ℕ} (s : State) (p : ℕ) {new : State} where
       begins (changes.Protect pcid range prot) (first_none (not_free s.hardware.shootdown p) (why_not (judged_protection s.hardware.spaces pcid va len prot) ∷ []) none).0
       (user.0, user.1, fit.1) (λ e. cc) is
 
-  pub reclaim_moves : (owner : FilePage) → reclaim_refusal s p owner ≡ None
+  pub reclaim_moves : (owner : FilePage) → reason_against s p (acts.Reclaim owner.file owner.page) ≡ None
       → is_in_memory s.hardware.memory owner ≡ true
       → new ≡ begin_change s p (changes.Reclaim owner) → Move disk s (Beginning p None) new
   reclaim_moves owner none there is =
@@ -46,7 +47,7 @@ module _ {disk : List ℕ} (s : State) (p : ℕ) {new : State} where
       let page = leb-false (pages_in_file s.table.files owner.file) owner.page (refuse_none (leb (pages_in_file s.table.files owner.file) owner.page) refusals.Einval (first_none no_page [] two.1).0) in
       begins (changes.Reclaim owner) parts.0 (file, page, there) (λ e. cc) is
 
-  pub msync_moves : (va len flags : ℕ) → msync_refusal s p va len flags ≡ None
+  pub msync_moves : (va len flags : ℕ) → reason_against s p (acts.Msync va len flags) ≡ None
       → new ≡ begin_change s p changes.Checkpoint → Move disk s (Beginning p None) new
   msync_moves va len flags none is =
       let invalid = refuse_if (not (is_msync va len flags)) refusals.Einval in

@@ -4,7 +4,8 @@ use Rattle.machine.proofs.Names.{◌∙◌, subst, inl, inr, list_any, and_parts
 use Rattle.machine.proofs.Names.{FilePage, may_write, FramesState, Frame, page_of, entry_at, with_entry, Keeps, current}
 use Rattle.machine.proofs.Names.{Holds, is_of_page, is_held, is_frozen, page_at, is_in_memory, copies_out, Brings}
 use Rattle.machine.proofs.Names.{CopiesOut, fixed_entry, State, length_of, page_from, FixMade, IsInFile, IsSound, Bring}
-use Rattle.machine.proofs.Names.{Copy, Remap}
+use Rattle.machine.proofs.Names.{Copy, Remap, reason_against}
+use Rattle.machine.specs.declared.act.Act.TheVariants as acts
 use Rattle.fault.proofs.Public.{MayBe-fixed, Keeps-fixed}
 use Rattle.machine.proofs.sound.Admitted.{free_of, free_below, served_at_fix, unlocked}
 use Rattle.machine.proofs.sound.Frames.{with_memory}
@@ -48,8 +49,9 @@ module _ (s : State) (disk : List ℕ) (sound : IsSound s) where
         holds = there.holds;
       })
 
-  pub fix_moves : (p va : ℕ) (write : Bool) (new : State) → FixMade s disk p va write new → SilentMoves disk s new
-  fix_moves p va write new made =
+  pub fix_moves : (p va : ℕ) (write : Bool) (new : State) → reason_against s p (acts.Fix va write) ≡ None
+      → FixMade s disk p va write new → SilentMoves disk s new
+  fix_moves p va write new allowed made =
       let h = s.hardware in
       let c = s.checkpoint in
       let pcid = current h.shootdown p in
@@ -57,8 +59,8 @@ module _ (s : State) (disk : List ℕ) (sound : IsSound s) where
       let owner = page_at made.place in
       let served = made.served in
       let mapped = (led_to h.spaces pcid va write made.place made.leads).mapped in
-      let may = servable h.memory c s.write_outs.broken made.place (length_of s made.place.file) write (served_at_fix s p va write made.place made.allowed made.leads) in
-      let free = (free_below h.shootdown p (free_of s p _ made.allowed)).1 in
+      let may = servable h.memory c s.write_outs.broken made.place (length_of s made.place.file) write (served_at_fix s p va write made.place allowed made.leads) in
+      let free = (free_below h.shootdown p (free_of s p _ allowed)).1 in
       let in_file : IsInFile s owner = record { there = sound.spaces.in_table pcid page made.place mapped; inside = may.inside } in
       let half = brought owner served.frame served.mid in_file may.absent served.brought in
       let held : copies_out h.memory c owner write ≡ true → is_held served.mid c owner ≡ true = λ copies.

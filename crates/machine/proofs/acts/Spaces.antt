@@ -8,10 +8,11 @@ use Rattle.machine.proofs.Names.{has_space-with_space, space_at-with_space_same,
 use Rattle.machine.proofs.Names.{place_at-create, place_at-with_mapping, entry_at-create, entry_at-with_mapping}
 use Rattle.machine.proofs.Names.{AreSpaces-create, AreSpaces-with_mapping, mappable_ends, judged_mapping-ok}
 use Rattle.machine.proofs.Names.{Grows-create, Grows-with_mapping, not_free, Coheres-grown, AreBacked-created}
-use Rattle.machine.proofs.Names.{AreBacked-with_mapping, State, refuse_if, first_of, mapping_refusal, map_refusal}
-use Rattle.machine.proofs.Names.{with_spaces, MapMade, IsSound, Mapping, ChangesPlaces, Move, Remap}
+use Rattle.machine.proofs.Names.{AreBacked-with_mapping, State, refuse_if, first_of, mapping_refusal, reason_against}
+use Rattle.machine.proofs.Names.{with_spaces, IsSound, Mapping, ChangesPlaces, Move, Remap}
 use Rattle.std.specs.FinMap as maps
 use Rattle.page_entry.specs.declared.refusal.Refusal.TheVariants as refusals
+use Rattle.machine.specs.declared.act.Act.TheVariants as acts
 use Rattle.mappings.specs.Places.{advanced}
 use Rattle.mappings.proofs.Public.{Decides-any_in_range}
 use Rattle.machine.proofs.sound.Lists.{same_some}
@@ -56,7 +57,7 @@ pub record MayMap (s : State) (p pcid file : ℕ) (prot access : Rights) (pages 
   pub added : add_refusal (space_at s.hardware.spaces pcid).places pages.0 (record { file = file; page = pages.1; rights = prot; access = access }) ≡ None
 
 pub map_admitted : (s : State) (p pcid va len file offset : ℕ) (prot access : Rights) (pages : PageRange × ℕ)
-    → map_refusal s p pcid va len file offset prot access ≡ None
+    → reason_against s p (acts.Map pcid va len file offset prot access) ≡ None
     → judged_mapping s.hardware.spaces pcid va len offset ≡ Ok pages → MayMap s p pcid file prot access pages
 map_admitted s p pcid va len file offset prot access pages none judged =
     let past = refuse_if (leb (length s.table.files) file) refusals.NoFile in
@@ -95,17 +96,19 @@ unmapped_at places range page none among =
     by None at low high = refl
     by (Some place) at low high = absurd (false≢true (sym none ∙ (Decides-any_in_range (maps.contains_key places) range.first range.count).1 (page, low, high, ap is_some at)))
 
-pub map_moves : {disk : List ℕ} (s : State) (p pcid va len file offset : ℕ) (prot access : Rights) {new : State} (made : MapMade s p pcid va len file offset prot access new)
-    → IsSound s
-    → Move disk s (Mapping pcid (λ places. with_range places made.pages.0.first made.pages.0.count (record { file = file; page = made.pages.1; rights = prot; access = access }))) new
-map_moves s p pcid va len file offset prot access {new} made sound =
+pub map_moves : {disk : List ℕ} (s : State) (p pcid va len file offset : ℕ) (prot access : Rights) {new : State} (pages : PageRange × ℕ)
+    → reason_against s p (acts.Map pcid va len file offset prot access) ≡ None
+    → judged_mapping s.hardware.spaces pcid va len offset ≡ Ok pages
+    → new ≡ with_spaces s (with_mapping s.hardware.spaces pcid pages.0 (record { file = file; page = pages.1; rights = prot; access = access })) → IsSound s
+    → Move disk s (Mapping pcid (λ places. with_range places pages.0.first pages.0.count (record { file = file; page = pages.1; rights = prot; access = access }))) new
+map_moves s p pcid va len file offset prot access {new} pages allowed judged done sound =
     let old = s.hardware.spaces in
-    let range = made.pages.0 in
-    let place : Place = record { file = file; page = made.pages.1; rights = prot; access = access } in
+    let range = pages.0 in
+    let place : Place = record { file = file; page = pages.1; rights = prot; access = access } in
     let spaces = with_mapping old pcid range place in
-    let may = map_admitted s p pcid va len file offset prot access made.pages made.allowed made.judged in
+    let may = map_admitted s p pcid va len file offset prot access pages allowed judged in
     let free = (free_below s.hardware.shootdown p may.free).1 in
-    let user = (judged_mapping-ok old pcid va len offset made.pages made.judged).0 in
+    let user = (judged_mapping-ok old pcid va len offset pages judged).0 in
     let unmapped = none_mapped (space_at old pcid).places range place may.added in
     Remap spaces (record {
       are_spaces = AreSpaces-with_mapping old pcid range place sound.spaces.spaces user (mappable_ends (space_at old pcid).places range place may.added);
@@ -114,10 +117,10 @@ map_moves s p pcid va len file offset prot access {new} made sound =
       prepared = λ held is. unlocked s.hardware.shootdown.lock held free is;
       backed = AreBacked-with_mapping s.hardware.memory s.checkpoint old pcid range place (λ page among. unmapped_at (space_at old pcid).places range page unmapped among) sound.memory.backed;
       told = places_made old pcid (record (space_at old pcid) { places = with_range (space_at old pcid).places range.first range.count place }) (λ places. with_range places range.first range.count place) refl;
-      done = made.done;
+      done = done;
     }) (λ frame. dirty_equal old spaces s.checkpoint frame (entry_at-with_mapping old pcid range place))
   where
     in_files : (q page : ℕ) (other : Place) (b : Bool) → file < length s.table.files
-        → cond b (Some (advanced (record { file = file; page = made.pages.1; rights = prot; access = access }) (page - made.pages.0.first))) (place_at s.hardware.spaces q page) ≡ Some other → other.file < length s.table.files
+        → cond b (Some (advanced (record { file = file; page = pages.1; rights = prot; access = access }) (page - pages.0.first))) (place_at s.hardware.spaces q page) ≡ Some other → other.file < length s.table.files
     in_files q page other true below is = subst (λ (x : Place). x.file < length s.table.files) (same_some is) below
     in_files q page other false below is = sound.spaces.in_table q page other is

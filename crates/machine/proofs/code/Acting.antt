@@ -2,13 +2,14 @@
 use Rattle.machine.proofs.Names.{ℕ, ◌≡◌, ◌≢◌, ◌+◌, ◌-◌, ◌^◌, ◌<◌, Bool, true, false, not, ◌&&◌, cond, List, [], length}
 use Rattle.machine.proofs.Names.{Result, Ok, Err, is_err, is_none, refl, sym, ap, ◌∙◌, subst, arith, raised, LeavesOnly}
 use Rattle.machine.proofs.Names.{Ghosts, Did, leaves_at_start, Refusal, Work, WriteAt, CopyBlock, Sync, Nothing}
-use Rattle.machine.proofs.Names.{TornFromWork, calls_of, ReadsOnce, Act, Reply, Step, Layers, State, fix_refusal, Acts}
-use Rattle.machine.proofs.Names.{Fixes, Flushes, work_asked, CallsOf, FixCalls, FlushCalls, reads_page, has_failed}
+use Rattle.machine.proofs.Names.{TornFromWork, calls_of, ReadsOnce, Act, Reply, Step, Layers, State, reason_against, Acts}
+use Rattle.machine.proofs.Names.{Answers, CallsOf, Counts, reads_page, has_failed}
 use Rattle.machine.proofs.Names.{step_work, state_in, AnswersBy, KeepsReserved, IsQuiet, ActDone}
 use Rattle.page_entry.specs.declared.refusal.Refusal.TheVariants as refusals
 use Rattle.machine.specs.declared.act.Act.TheVariants as acts
 use Rattle.machine.specs.declared.act.Reply.TheVariants as replies
 use Rattle.machine.specs.inside.Layers.{reply_to}
+use Rattle.machine.specs.inside.Acting.{FixCalls}
 
 -- the laws of a device that these lemmas rest on
 abbrev pub SinceNow : {D : Type 0} → Ghosts D → Type 0
@@ -64,19 +65,23 @@ few_calls (CopyBlock from to) calls few = omega (arith, few)
 few_calls Sync calls few = omega (arith, few)
 few_calls Nothing calls few = omega (arith, few)
 
-module _ {D : Type 0} (disk : Ghosts D) (s : State) (old new : D) where
-  flush_calls : (reply : Reply) → Did disk old (step_work s acts.Flush reply) (not (has_failed reply)) new
-      → FlushCalls s reply (disk.calls_made old) (disk.calls_made new) (disk.faults_met old) (disk.faults_met new)
-  flush_calls replies.Going did = (λ few. did.calls (few_calls (work_asked s) _ few), did.faults)
-  flush_calls (replies.Committed number) did = (λ few. did.calls (few_calls (work_asked s) _ few), did.faults)
-  flush_calls (replies.Done number) did = (λ few. did.calls (few_calls (work_asked s) _ few), did.faults)
-  flush_calls (replies.Refused refusals.Device) did = (λ few. did.calls (few_calls (work_asked s) _ few), did.faults)
-  flush_calls (replies.Refused why) did = let same = did.still refl in (ap disk.calls_made same, ap disk.faults_met same)
-  flush_calls reply did = let same = did.still refl in (ap disk.calls_made same, ap disk.faults_met same)
+module _ {D : Type 0} (disk : Ghosts D) (old new : D) where
+  counts_by : (work : Work) (failed : Bool) → Did disk old work (not failed) new
+      → Counts work failed (disk.calls_made old) (disk.calls_made new)
+  counts_by work true did = λ few. did.calls (few_calls work _ few)
+  counts_by Nothing false did = ap disk.calls_made (did.still refl)
+  counts_by (WriteAt at bytes) false did = λ few. did.calls (few_calls (WriteAt at bytes) _ few)
+  counts_by (CopyBlock from to) false did = λ few. did.calls (few_calls (CopyBlock from to) _ few)
+  counts_by Sync false did = λ few. did.calls (few_calls Sync _ few)
+
+  faults_by : (work : Work) (failed : Bool) → Did disk old work (not failed) new
+      → disk.faults_met new ≡ cond failed (raised (disk.faults_met old)) (disk.faults_met old)
+  faults_by work true did = did.faults
+  faults_by work false did = did.faults
 
 pub flush_done : {D Z : Type 0} (disk : Ghosts D) (old new : Layers D Z) (step : Step) (reply : Reply)
     → step.act ≡ acts.Flush
-    → AnswersBy (disk.is_honest old.device) (λ d d'. Flushes (state_in old) d step.p reply (state_in new) d') (disk.seen old.device) (disk.seen new.device)
+    → AnswersBy (disk.is_honest old.device) (λ d d'. Acts (state_in old) d step.p acts.Flush reply (state_in new) d') (disk.seen old.device) (disk.seen new.device)
     → Did disk old.device (step_work (state_in old) acts.Flush reply) (not (has_failed reply)) new.device
     → KeepsReserved old new → ActDone disk old step reply new
 flush_done {D} disk old new step reply is rules did kept =
@@ -88,7 +93,10 @@ flush_done {D} disk old new step reply is rules did kept =
       time = did.time;
       honest = did.honest;
       len = did.same_length;
-      calls = flush_calls disk (state_in old) old.device new.device reply did;
+      calls = (
+        counts_by disk old.device new.device (step_work (state_in old) acts.Flush reply) (has_failed reply) did,
+        faults_by disk old.device new.device (step_work (state_in old) acts.Flush reply) (has_failed reply) did,
+      );
       kept = kept;
     })
 
@@ -97,21 +105,21 @@ flush_done {D} disk old new step reply is rules did kept =
 -- a read that was made failed exactly where the reply says so
 failed_if : (s : State) (d : List ℕ) (p va : ℕ) (write : Bool) (result : Result Reply Refusal) (new : State)
     → Rattle.std.specs.Result.IfOk result (λ reply. reply ≡ replies.Fixed)
-    → reads_page s p va write ≡ true → Fixes s d p va write (reply_to result) new
+    → reads_page s p va write ≡ true → Answers s d p (acts.Fix va write) (reply_to result) new
     → is_err result ≡ has_failed (reply_to result)
 failed_if s d p va write (Ok reply) new fixed reads rule = ap has_failed (sym fixed)
 failed_if s d p va write (Err refusals.Device) new fixed reads rule = refl
-failed_if s d p va write (Err why) new fixed reads rule = absurd (unread (is_none (fix_refusal s p va write)) reads (ap is_none rule.reason_is))
+failed_if s d p va write (Err why) new fixed reads rule = absurd (unread (is_none (reason_against s p (acts.Fix va write))) reads (ap is_none rule.0))
   where
     unread : (b : Bool)
-        → (b && Rattle.machine.specs.Calls.is_absent s (Rattle.fault.specs.Fault.place_of_fault s.hardware.spaces (Rattle.shootdown.specs.Shootdown.current s.hardware.shootdown p) va write)) ≡ true
+        → (b && Rattle.machine.specs.Refusals.is_absent s (Rattle.fault.specs.Fault.place_of_fault s.hardware.spaces (Rattle.shootdown.specs.Shootdown.current s.hardware.shootdown p) va write)) ≡ true
         → b ≡ false → ⊥
     unread true e f = absurd (cc)
     unread false e f = absurd (cc)
 
 pub fix_done : {D Z : Type 0} (disk : Ghosts D) (since_now : SinceNow disk) (old new : Layers D Z) (step : Step) (va : ℕ) (write : Bool) (result : Result Reply Refusal)
     → step.act ≡ acts.Fix va write
-    → AnswersBy (disk.is_honest old.device) (λ d d'. Fixes (state_in old) d step.p va write (reply_to result) (state_in new) × (d' ≡ d)) (disk.seen old.device) (disk.seen new.device)
+    → AnswersBy (disk.is_honest old.device) (λ d d'. Answers (state_in old) d step.p (acts.Fix va write) (reply_to result) (state_in new) × (d' ≡ d)) (disk.seen old.device) (disk.seen new.device)
     → Rattle.std.specs.Result.IfOk result (λ reply. reply ≡ replies.Fixed)
     → (reads_page (state_in old) step.p va write ≡ false → new.device ≡ old.device)
     → (reads_page (state_in old) step.p va write ≡ true
@@ -125,7 +133,7 @@ fix_done {D} disk since_now old new step va write result is rules fixed untouche
     by false e =
         still_done disk since_now old new step.p (acts.Fix va write) (reply_to result) rules (untouched e) refl
         (subst (λ b. FixCalls b (reply_to result) (disk.calls_made old.device) (disk.calls_made old.device) (disk.faults_met old.device) (disk.faults_met old.device)) (sym e)
-        (record { one_read = refl; its_fault = refl })) kept
+        (refl, refl)) kept
     by true e =
         let made = read e in
         let failed = failed_if (state_in old) rules.some_disk.0 step.p va write result (state_in new) fixed e rules.some_disk.2.0 in
@@ -138,6 +146,6 @@ fix_done {D} disk since_now old new step va write result is rules fixed untouche
           honest = made.honest;
           len = made.len;
           calls = subst (λ b. FixCalls b (reply_to result) (disk.calls_made old.device) (disk.calls_made new.device) (disk.faults_met old.device) (disk.faults_met new.device)) (sym e)
-              (record { one_read = made.one_call; its_fault = made.one_fault ∙ ap (λ b. cond b (raised (disk.faults_met old.device)) (disk.faults_met old.device)) failed });
+              (made.one_call, made.one_fault ∙ ap (λ b. cond b (raised (disk.faults_met old.device)) (disk.faults_met old.device)) failed);
           kept = kept;
         }

@@ -1,12 +1,13 @@
 -- How faults are served, by what the layer below did.
 use Rattle.machine.proofs.Names.{ℕ, ◌≡◌, inl, inr, ◌*◌, ◌/◌, ◌≤◌, ◌&&◌, ◌||◌, not, Bool, true, false, cond, List, []}
-use Rattle.machine.proofs.Names.{◌∷◌, ◌++◌, length, take, Option, Some, None, is_none, Result, Ok, refl, sym, ap, ◌∙◌}
+use Rattle.machine.proofs.Names.{◌∷◌, ◌++◌, length, take, Some, None, is_none, Result, Ok, refl, sym, ap, ◌∙◌}
 use Rattle.machine.proofs.Names.{subst, ⊎_elim, arith, drop_at, take_all, Refusal, Place, may_write, cond-false}
 use Rattle.machine.proofs.Names.{block_at, length-zeros, FramesState, has_free, Spaces, current, not_free, page_at}
 use Rattle.machine.proofs.Names.{FaultServed, is_in_memory, copies_out, place_of_fault, fault_refusal, FixRefused}
 use Rattle.machine.proofs.Names.{FixDone, refusal_of, reads_home, block_from, State, length_of, home_of, page_from}
-use Rattle.machine.proofs.Names.{served_refusal, fix_refusal, is_absent, reads_page, Fixes, with_hardware, AnswersBy}
+use Rattle.machine.proofs.Names.{served_refusal, reason_against, is_absent, reads_page, Answers, with_hardware, AnswersBy}
 use Rattle.page_entry.specs.declared.refusal.Refusal.TheVariants as refusals
+use Rattle.machine.specs.declared.act.Act.TheVariants as acts
 use Rattle.fault.specs.declared.page_fault.PageFault.{PageFault}
 use Rattle.fault.specs.Fixing.{cut_to_length as cut_by}
 use Rattle.machine.specs.declared.act.Reply.TheVariants as replies
@@ -16,40 +17,40 @@ use Rattle.machine.proofs.code.Refusals.{passed, found, alone, at_most}
 
 -- ---- refused before anything is read
 
-pub fixes_refused : (s : State) (d : List ℕ) (p va : ℕ) (write : Bool) (why : Refusal) → fix_refusal s p va write ≡ Some why → Fixes s d p va write (replies.Refused why) s
-fixes_refused s d p va write refusals.Device is = inl (record { reason_is = is; unchanged = refl })
-fixes_refused s d p va write why is = record { reason_is = is; unchanged = refl }
+pub fixes_refused : (s : State) (d : List ℕ) (p va : ℕ) (write : Bool) (why : Refusal) → reason_against s p (acts.Fix va write) ≡ Some why → Answers s d p (acts.Fix va write) (replies.Refused why) s
+fixes_refused s d p va write refusals.Device is = (inl is, refl)
+fixes_refused s d p va write why is = (is, refl)
 
-pub refused_by : (honest : Type 0) (s : State) (disk : List ℕ) (p va : ℕ) (write : Bool) (why : Refusal) → fix_refusal s p va write ≡ Some why
-    → AnswersBy honest (λ d d'. Fixes s d p va write (replies.Refused why) s × (d' ≡ d)) disk disk
+pub refused_by : (honest : Type 0) (s : State) (disk : List ℕ) (p va : ℕ) (write : Bool) (why : Refusal) → reason_against s p (acts.Fix va write) ≡ Some why
+    → AnswersBy honest (λ d d'. Answers s d p (acts.Fix va write) (replies.Refused why) s × (d' ≡ d)) disk disk
 refused_by honest s disk p va write why is = record {
   some_disk = ([], [], (fixes_refused s [] p va write why is, refl));
   own_disk = λ h. (fixes_refused s disk p va write why is, refl);
 }
 
 -- nothing is read then
-pub refused_unread : (s : State) (p va : ℕ) (write : Bool) (why : Refusal) → fix_refusal s p va write ≡ Some why → reads_page s p va write ≡ false
+pub refused_unread : (s : State) (p va : ℕ) (write : Bool) (why : Refusal) → reason_against s p (acts.Fix va write) ≡ Some why → reads_page s p va write ≡ false
 refused_unread s p va write why is = ap (λ r. is_none r && is_absent s (place_of_fault s.hardware.spaces (current s.hardware.shootdown p) va write)) is
 
 -- the processor may not act
-pub fix_refusal-not_free : (s : State) (p va : ℕ) (write : Bool) (why : Refusal) → not_free s.hardware.shootdown p ≡ Some why → fix_refusal s p va write ≡ Some why
-fix_refusal-not_free s p va write why is =
+pub fix-not_free : (s : State) (p va : ℕ) (write : Bool) (why : Refusal) → not_free s.hardware.shootdown p ≡ Some why → reason_against s p (acts.Fix va write) ≡ Some why
+fix-not_free s p va write why is =
     found (not_free s.hardware.shootdown p) (served_refusal s write (place_of_fault s.hardware.spaces (current s.hardware.shootdown p) va write) ∷ []) why is
 
 -- by where the address leads
-pub fix_refusal-leads : (s : State) (p va : ℕ) (write : Bool) (leads : Result Place Refusal) → not_free s.hardware.shootdown p ≡ None
-    → place_of_fault s.hardware.spaces (current s.hardware.shootdown p) va write ≡ leads → fix_refusal s p va write ≡ served_refusal s write leads
-fix_refusal-leads s p va write leads free is =
+pub fix-leads : (s : State) (p va : ℕ) (write : Bool) (leads : Result Place Refusal) → not_free s.hardware.shootdown p ≡ None
+    → place_of_fault s.hardware.spaces (current s.hardware.shootdown p) va write ≡ leads → reason_against s p (acts.Fix va write) ≡ served_refusal s write leads
+fix-leads s p va write leads free is =
     let served = served_refusal s write (place_of_fault s.hardware.spaces (current s.hardware.shootdown p) va write) in
     passed (not_free s.hardware.shootdown p) (served ∷ []) (served_refusal s write leads) free (alone served ∙ ap (served_refusal s write) is)
 
 -- the page begins past the file's end
-pub fix_refusal-past : (s : State) (p va : ℕ) (write : Bool) (place : Place) → not_free s.hardware.shootdown p ≡ None
-    → place_of_fault s.hardware.spaces (current s.hardware.shootdown p) va write ≡ Ok place → length_of s place.file ≤ 4096 * place.page → fix_refusal s p va write ≡ Some refusals.BusAdrErr
-fix_refusal-past s p va write place free leads past =
+pub fix-past : (s : State) (p va : ℕ) (write : Bool) (place : Place) → not_free s.hardware.shootdown p ≡ None
+    → place_of_fault s.hardware.spaces (current s.hardware.shootdown p) va write ≡ Ok place → length_of s place.file ≤ 4096 * place.page → reason_against s p (acts.Fix va write) ≡ Some refusals.BusAdrErr
+fix-past s p va write place free leads past =
     let copies = copies_out s.hardware.memory s.checkpoint (page_at place) write && not (has_free s.hardware.memory.copies) in
     let rest = cond copies (Some refusals.Held) (cond (is_in_memory s.hardware.memory (page_at place)) None (cond (not (has_free s.hardware.memory.frames)) (Some refusals.NoFrame) (cond s.write_outs.broken (Some refusals.Device) None))) in
-    fix_refusal-leads s p va write (Ok place) free leads ∙ ap (λ b. cond b (Some refusals.BusAdrErr) rest) (at_most (length_of s place.file) (4096 * place.page) past)
+    fix-leads s p va write (Ok place) free leads ∙ ap (λ b. cond b (Some refusals.BusAdrErr) rest) (at_most (length_of s place.file) (4096 * place.page) past)
 
 -- a device of which one page was read at most
 pub seen_same : {D : Type 0} (seen : D → List ℕ) (old new : D) (reads : Bool) → (reads ≡ false → new ≡ old) → (reads ≡ true → seen new ≡ seen old) → seen new ≡ seen old
@@ -84,9 +85,9 @@ fault_at s p va write place pcid home length_is broken free space leads at_home 
 }
 
 module _ (s : State) (p va : ℕ) (write : Bool) (fault : PageFault) (at : IsFaultAt s p va write fault) where
-  pub same_refusal : fix_refusal s p va write ≡ refusal_of s.hardware.memory s.checkpoint fault
+  pub same_refusal : reason_against s p (acts.Fix va write) ≡ refusal_of s.hardware.memory s.checkpoint fault
   same_refusal =
-      fix_refusal-leads s p va write (Ok fault.place) at.free at.leads
+      fix-leads s p va write (Ok fault.place) at.free at.leads
       ∙ (λ i. fault_refusal s.hardware.memory s.checkpoint (sym at.broken i) fault.place (sym at.length_is i) (sym at.stores i))
       ∙ sym (cond-false (fault.write && not (may_write fault.place.rights)) _ _
       (ap (λ b. b && not (may_write fault.place.rights)) at.stores ∙ and_not write (may_write fault.place.rights) (led_to s.hardware.spaces (current s.hardware.shootdown p) va write fault.place at.leads).allowed))
@@ -101,28 +102,13 @@ module _ (s : State) (p va : ℕ) (write : Bool) (fault : PageFault) (at : IsFau
 
   -- it was refused, or its read failed
   pub refused_fix : (honest : Type 0) (disk disk' : List ℕ) (why : Refusal) → (honest → disk' ≡ disk) → FixRefused s.hardware.memory s.checkpoint fault why
-      → AnswersBy honest (λ d d'. Fixes s d p va write (replies.Refused why) s × (d' ≡ d)) disk disk'
+      → AnswersBy honest (λ d d'. Answers s d p (acts.Fix va write) (replies.Refused why) s × (d' ≡ d)) disk disk'
   refused_fix honest disk disk' why same refused =
-      let all : (d : List ℕ) → Fixes s d p va write (replies.Refused why) s = λ d. ⊎_elim
+      let all : (d : List ℕ) → Answers s d p (acts.Fix va write) (replies.Refused why) s = λ d. ⊎_elim
       (λ first. fixes_refused s d p va write why (same_refusal ∙ first))
-      (λ failed. subst (λ (x : Refusal). Fixes s d p va write (replies.Refused x) s) (sym failed.1)
-      (inr (record {
-        allowed = same_refusal ∙ allowed_by (refusal_of s.hardware.memory s.checkpoint fault) (is_in_memory s.hardware.memory (page_at fault.place)) failed.0;
-        place = fault.place;
-        leads = at.leads;
-        absent = absent_by (refusal_of s.hardware.memory s.checkpoint fault) (is_in_memory s.hardware.memory (page_at fault.place)) failed.0;
-        unchanged = refl;
-      }))) refused in
+      (λ failed. subst (λ (x : Refusal). Answers s d p (acts.Fix va write) (replies.Refused x) s) (sym failed.1)
+      (inr (same_reads ∙ failed.0), refl)) refused in
       record { some_disk = ([], [], (all [], refl)); own_disk = λ h. (all disk, same h) }
-    where
-      allowed_by : (o : Option Refusal) (b : Bool) → (is_none o && not b) ≡ true → o ≡ None
-      allowed_by None b e = refl
-      allowed_by (Some x) b e = absurd (cc)
-
-      absent_by : (o : Option Refusal) (b : Bool) → (is_none o && not b) ≡ true → b ≡ false
-      absent_by None true e = absurd (cc)
-      absent_by None false e = refl
-      absent_by (Some x) b e = absurd (cc)
 
   -- ---- it was served
 
@@ -171,20 +157,15 @@ module _ (s : State) (p va : ℕ) (write : Bool) (fault : PageFault) (at : IsFau
     new : State
     new = with_hardware s (record s.hardware { spaces = spaces'; memory = memory' })
 
-    fixed : refusal_of s.hardware.memory s.checkpoint fault ≡ None → (d : List ℕ) → ServedWith (page_from s d (page_at fault.place)) → Fixes s d p va write replies.Fixed new
+    fixed : refusal_of s.hardware.memory s.checkpoint fault ≡ None → (d : List ℕ) → ServedWith (page_from s d (page_at fault.place)) → Answers s d p (acts.Fix va write) replies.Fixed new
     unfolding ServedWith new
-    fixed allowed d served = record {
-      allowed = same_refusal ∙ allowed;
-      place = fault.place;
-      leads = at.leads;
-      spaces = spaces';
-      memory = memory';
-      served = served;
-      done = refl;
-    }
+    fixed allowed d served = (
+      same_refusal ∙ allowed,
+      record { place = fault.place; leads = at.leads; spaces = spaces'; memory = memory'; served = served; done = refl },
+    )
 
     pub served_fix : (honest : Type 0) (disk disk' : List ℕ) → (honest → disk' ≡ disk) → FixDone honest disk s.hardware.spaces s.hardware.memory s.checkpoint fault spaces' memory'
-        → AnswersBy honest (λ d d'. Fixes s d p va write replies.Fixed (with_hardware s (record s.hardware { spaces = spaces'; memory = memory' })) × (d' ≡ d)) disk disk'
+        → AnswersBy honest (λ d d'. Answers s d p (acts.Fix va write) replies.Fixed (with_hardware s (record s.hardware { spaces = spaces'; memory = memory' })) × (d' ≡ d)) disk disk'
     unfolding ServedWith new home
     served_fix honest disk disk' same done = by (is_in_memory s.hardware.memory (page_at fault.place)) refl
       where
@@ -192,7 +173,7 @@ module _ (s : State) (p va : ℕ) (write : Bool) (fault : PageFault) (at : IsFau
         was = here done.bytes done.served
 
         by : (b : Bool) → is_in_memory s.hardware.memory (page_at fault.place) ≡ b
-            → AnswersBy honest (λ d d'. Fixes s d p va write replies.Fixed (with_hardware s (record s.hardware { spaces = spaces'; memory = memory' })) × (d' ≡ d)) disk disk'
+            → AnswersBy honest (λ d d'. Answers s d p (acts.Fix va write) replies.Fixed (with_hardware s (record s.hardware { spaces = spaces'; memory = memory' })) × (d' ≡ d)) disk disk'
         by true there = record {
           some_disk = ([], [], (fixed done.allowed [] (unread done.bytes (page_from s [] (page_at fault.place)) there was), refl));
           own_disk = λ h. (fixed done.allowed disk (unread done.bytes (page_from s disk (page_at fault.place)) there was), same h);

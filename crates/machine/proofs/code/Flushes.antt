@@ -1,10 +1,10 @@
 -- Steps of the write-outs, by what the journal answers.
 use Rattle.machine.proofs.Names.{ℕ, ◌≡◌, ◌≢◌, ◌⊎◌, Bool, true, false, not, cond, List, [], Option, Some, None, is_some}
-use Rattle.machine.proofs.Names.{refl, sym, ap, ◌∙◌, subst, ⊎_elim, MatchBool, Torn, Ghosts, Did, did_nothing, Refusal}
+use Rattle.machine.proofs.Names.{refl, sym, ap, subst, ⊎_elim, MatchBool, Torn, Ghosts, Did, did_nothing, Refusal}
 use Rattle.machine.proofs.Names.{Flushed, Work, WriteAt, CopyBlock, Sync, Nothing, worked, TornByWork, has_done}
 use Rattle.machine.proofs.Names.{WriteOutsValue, next_answer, outs_after, outs_record, is_running, ShootdownState}
-use Rattle.machine.proofs.Names.{is_there, state_of, not_running, Reply, State, flush_refusal, reply_to, after_record}
-use Rattle.machine.proofs.Names.{work_asked, FlushMade, Flushes, has_failed, step_work, AnswersBy, reply_of_flush}
+use Rattle.machine.proofs.Names.{is_there, state_of, not_running, State, reason_against, after_record}
+use Rattle.machine.proofs.Names.{work_asked, FlushMade, Acts, has_failed, step_work, AnswersBy, reply_of_flush}
 use Rattle.machine.proofs.Names.{memory_after, checkpoint_after, released_memory, released_pages}
 use Rattle.page_entry.specs.declared.refusal.Refusal.TheVariants as refusals
 use Rattle.journal.specs.declared.flushed.Flushed.TheVariants as flushed
@@ -36,33 +36,33 @@ nothing_torn (CopyBlock from to) = not_torn _ _ []
 nothing_torn Sync = refl
 nothing_torn Nothing = refl
 
-module _ (honest : Type 0) (s : State) (disk disk' : List ℕ) (p : ℕ) (allowed : flush_refusal s p ≡ None) (some : s.write_outs.batches ≢ []) where
-  made : (answer : Flushed) (reply : Reply) (new : State) → reply ≡ reply_to answer → answer ≡ next_answer s.write_outs
+module _ (honest : Type 0) (s : State) (disk disk' : List ℕ) (p : ℕ) (allowed : reason_against s p acts.Flush ≡ None) (some : s.write_outs.batches ≢ []) where
+  made : (answer : Flushed) (new : State) → answer ≡ next_answer s.write_outs
       → new ≡ record (cond (is_some (outs_record s.write_outs)) (after_record s) s) { write_outs = outs_after s.write_outs (next_answer s.write_outs) }
-      → (d : List ℕ) → FlushMade s d p reply new (worked d (work_asked s))
-  made answer reply new replied is done d = record { allowed = allowed; some = some; answered = replied ∙ ap reply_to is; done = done; disk_done = refl }
+      → (d : List ℕ) → FlushMade s d p answer new (worked d (work_asked s))
+  made answer new is done d = record { allowed = allowed; some = some; answered = sym is; done = done; disk_done = refl }
 
-  own : (reply : Reply) (new : State) → ((d : List ℕ) → FlushMade s d p reply new (worked d (work_asked s))) → disk' ≡ worked disk (work_asked s) → FlushMade s disk p reply new disk'
-  own reply new all is = subst (FlushMade s disk p reply new) (sym is) (all disk)
+  own : (answer : Flushed) (new : State) → ((d : List ℕ) → FlushMade s d p answer new (worked d (work_asked s))) → disk' ≡ worked disk (work_asked s) → FlushMade s disk p answer new disk'
+  own answer new all is = subst (FlushMade s disk p answer new) (sym is) (all disk)
 
   -- by the journal's answer, which isn't that it was broken before
   pub flushes_by : (answer : Flushed) → (answer ≡ next_answer s.write_outs) ⊎ (answer ≡ flushed.Device) → answer ≢ flushed.Broken
       → (honest → MatchBool (has_done answer) (disk' ≡ worked disk (work_asked s)) (TornByWork (work_asked s) disk disk'))
-      → AnswersBy honest (λ d d'. Flushes s d p (reply_by (reply_of_flush answer)) (stepped s answer) d') disk disk'
+      → AnswersBy honest (λ d d'. Acts s d p acts.Flush (reply_by (reply_of_flush answer)) (stepped s answer) d') disk disk'
   flushes_by flushed.Going answered whole seen =
       let is : flushed.Going ≡ next_answer s.write_outs = ⊎_elim (λ e. e) (λ e. absurd (cc)) answered in
-      let all = made flushed.Going replies.Going (stepped s flushed.Going) refl is (with_record s (is_some (outs_record s.write_outs)) _ _ (ap (outs_after s.write_outs) is)) in
-      record { some_disk = ([], worked [] (work_asked s), all []); own_disk = λ h. own replies.Going (stepped s flushed.Going) all (seen h) }
+      let all = made flushed.Going (stepped s flushed.Going) is (with_record s (is_some (outs_record s.write_outs)) _ _ (ap (outs_after s.write_outs) is)) in
+      record { some_disk = ([], worked [] (work_asked s), all []); own_disk = λ h. own flushed.Going (stepped s flushed.Going) all (seen h) }
   flushes_by (flushed.Committed mark) answered whole seen =
       let is : flushed.Committed mark ≡ next_answer s.write_outs = ⊎_elim (λ e. e) (λ e. absurd (cc)) answered in
       let new = stepped s (flushed.Committed mark) in
-      let all = made (flushed.Committed mark) (replies.Committed mark) new refl is (with_record s (is_some (outs_record s.write_outs)) _ _ (ap (outs_after s.write_outs) is)) in
-      record { some_disk = ([], worked [] (work_asked s), all []); own_disk = λ h. own (replies.Committed mark) new all (seen h) }
+      let all = made (flushed.Committed mark) new is (with_record s (is_some (outs_record s.write_outs)) _ _ (ap (outs_after s.write_outs) is)) in
+      record { some_disk = ([], worked [] (work_asked s), all []); own_disk = λ h. own (flushed.Committed mark) new all (seen h) }
   flushes_by (flushed.Done mark) answered whole seen =
       let is : flushed.Done mark ≡ next_answer s.write_outs = ⊎_elim (λ e. e) (λ e. absurd (cc)) answered in
       let new = stepped s (flushed.Done mark) in
-      let all = made (flushed.Done mark) (replies.Done mark) new refl is (with_record s (is_some (outs_record s.write_outs)) _ _ (ap (outs_after s.write_outs) is)) in
-      record { some_disk = ([], worked [] (work_asked s), all []); own_disk = λ h. own (replies.Done mark) new all (seen h) }
+      let all = made (flushed.Done mark) new is (with_record s (is_some (outs_record s.write_outs)) _ _ (ap (outs_after s.write_outs) is)) in
+      record { some_disk = ([], worked [] (work_asked s), all []); own_disk = λ h. own (flushed.Done mark) new all (seen h) }
   flushes_by flushed.Device answered whole seen = record {
     some_disk = ([], [], record { allowed = allowed; some = some; done = refl; disk_torn = nothing_torn (work_asked s) });
     own_disk = λ h. record { allowed = allowed; some = some; done = refl; disk_torn = seen h };
@@ -90,9 +90,9 @@ abbrev pub IsCalm : Refusal → Type 0
 IsCalm refusals.Device = ⊥
 IsCalm why = Unit {0}
 
-pub flushes_refused : (s : State) (p : ℕ) (why : Refusal) (d : List ℕ) → IsCalm why → flush_refusal s p ≡ Some why → Flushes s d p (replies.Refused why) s d
+pub flushes_refused : (s : State) (p : ℕ) (why : Refusal) (d : List ℕ) → IsCalm why → reason_against s p acts.Flush ≡ Some why → Acts s d p acts.Flush (replies.Refused why) s d
 flushes_refused s p refusals.Device d calm is = absurd calm
-flushes_refused s p why d calm is = (record { reason_is = is; unchanged = refl }, refl)
+flushes_refused s p why d calm is = ((is, refl), refl)
 
 -- nothing is asked of the device then
 pub flush_untouched : {D : Type 0} (disk : Ghosts D) (since_now : (device : D) (c : List ℕ) → disk.left_since device (disk.moment device) c → disk.may_leave device c) (s : State) (why : Refusal) (device : D) → IsCalm why

@@ -49,7 +49,8 @@ module _ (s : State) (sound : IsSound s) (noted : CheckpointState) (pages : List
         whole = is;
         free = ready is;
         some_mark = omega arith;
-        homes = subst (λ (owners : List FilePage). Rattle.volume_codec.specs.Descriptor.AreHomes s.write_outs.geometry (map (home_of s.table) owners)) (sym (frozen_if false is))
+        small_mark = omega (arith, sound.write_outs.few_marks);
+        are_homes = subst (λ (owners : List FilePage). Rattle.volume_codec.specs.Descriptor.AreHomes s.write_outs.geometry (map (home_of s.table) owners)) (sym (frozen_if false is))
             (batch_homes s sound noted (not s.write_outs.broken) pages gathers (subst (λ (owners : List FilePage). 0 < length owners) (frozen_if false is) some));
         newest = newest_mark s sound;
       }

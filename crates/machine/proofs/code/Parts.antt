@@ -4,7 +4,9 @@ use Rattle.machine.proofs.Names.{FilePage, FramesState, frame_at, page_of, HasNo
 use Rattle.machine.proofs.Names.{zero, suc, ◌<◌, ◌-◌, List, [], ◌∷◌, length, map, slice_index, ◌==◌, false, cond, refl}
 use Rattle.machine.proofs.Names.{ap, ◌∙◌, arith, nat_tests, TableFile, pages_of, pages_in_file, None, subst, Rights}
 use Rattle.machine.proofs.Names.{PageRange, Lock, Layers, IsReserved, AreReserved, IsQuiet, Bool, Result, Err, Refusal}
-use Rattle.machine.proofs.Names.{Mapped, entry_at, current, Hardware, Fills, Evicts, filled_by, Reaches, with_hardware}
+use Rattle.machine.proofs.Names.{Mapped, entry_at, current, Hardware, Fills, Evicts, filled_by, with_hardware}
+use Rattle.machine.proofs.Names.{◌+◌, ◌++◌, take, slice_get, slice_get_within, get_or_from_slice_get}
+use Rattle.std.proofs.lemmas.List.{take_more}
 use Rattle.std.specs.Option.{is_some}
 
 -- ---- the holder of the lock, once its change is handed out
@@ -26,6 +28,12 @@ pages-in_file (f ∷ files) (suc file) below =
     let before : file ≡ suc file - 1 = omega arith in
     let other : false ≡ (suc file == 0) = grind (arith, nat_tests) in
     pages-in_file files file (omega (arith, below)) ∙ ap (pages_in_file files) before ∙ ap (λ b. cond b (pages_of f.capacity) (pages_in_file files (suc file - 1))) other
+
+-- ---- one length more of a list
+
+pub taken_more : (lengths : List ℕ) (i n : ℕ) → slice_get lengths i ≡ Some n → take (i + 1) lengths ≡ take i lengths ++ n ∷ []
+taken_more lengths i n at =
+    take_more lengths i 0 (slice_get_within lengths i n at) ∙ ap (λ k. take i lengths ++ k ∷ []) (get_or_from_slice_get lengths i n 0 at)
 
 -- ---- what is reserved for a change that is under way stays reserved
 
@@ -69,5 +77,6 @@ lock-evicts h p slot (Ok there) new evicts = ap (λ (x : Hardware). x.shootdown.
 lock-evicts h p slot (Err why) new evicts = ap (λ (x : Hardware). x.shootdown.lock) evicts.2
 
 -- the answer that was given, by what it was found to be
-pub answered_so : (Answers : Bool → Hardware → Type 0) (s : State) (found answer : Bool) (new : Hardware) → found ≡ answer → Answers found new → Reaches s (Answers answer) (with_hardware s new)
+pub answered_so : (Answers : Bool → Hardware → Type 0) (s : State) (found answer : Bool) (new : Hardware) → found ≡ answer
+    → Answers found new → (hardware : Hardware) × Answers answer hardware × (with_hardware s new ≡ with_hardware s hardware)
 answered_so Answers s found answer new is made = (new, subst (λ b. Answers b new) is made, refl)

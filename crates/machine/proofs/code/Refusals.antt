@@ -3,9 +3,9 @@ use Rattle.machine.proofs.Names.{ℕ, ◌≡◌, ◌<◌, ◌≤◌, Bool, true,
 use Rattle.machine.proofs.Names.{ap, ◌∙◌, arith, le-leb, nat_tests, option_or, Refusal, refuse_if, first_of, cond}
 use Rattle.machine.proofs.Names.{length, not, unwrap_or, Ok, sym, subst, Place, Rights, PageRange, Places, allows}
 use Rattle.machine.proofs.Names.{any_mapped, is_mappable, add_refusal, space_at, judged_mapping, not_free, State}
-use Rattle.machine.proofs.Names.{mapping_refusal, map_refusal, Maps, FilePage, pages_in_file, reclaim_refusal}
+use Rattle.machine.proofs.Names.{mapping_refusal, reason_against, Refuses, FilePage, pages_in_file}
 use Rattle.page_entry.specs.declared.refusal.Refusal.TheVariants as refusals
-use Rattle.machine.specs.declared.act.Reply.TheVariants as replies
+use Rattle.machine.specs.declared.act.Act.TheVariants as acts
 
 -- ---- the first of several reasons
 
@@ -53,10 +53,10 @@ judged-add places range place why is = by (is_mappable range place.page) (allows
     by true true true e = judged_as refusals.Overlap why tt e
     by true true false e = absurd (cc)
 
-maps-judged : (s : State) (p pcid va len file offset : ℕ) (prot access : Rights) (why : Refusal) → IsJudged why → map_refusal s p pcid va len file offset prot access ≡ Some why
-    → Maps s p pcid va len file offset prot access (replies.Refused why) s
+maps-judged : (s : State) (p pcid va len file offset : ℕ) (prot access : Rights) (why : Refusal) → IsJudged why → reason_against s p (acts.Map pcid va len file offset prot access) ≡ Some why
+    → Refuses s p (acts.Map pcid va len file offset prot access) why
 maps-judged s p pcid va len file offset prot access refusals.OutOfMemory judged some = absurd judged
-maps-judged s p pcid va len file offset prot access why judged some = record { reason_is = some; unchanged = refl }
+maps-judged s p pcid va len file offset prot access why judged some = some
 
 -- why these pages of a file that is there may not be added
 abbrev adding : State → ℕ → ℕ → Rights → Rights → PageRange × ℕ → Option Refusal
@@ -65,22 +65,19 @@ adding s pcid file prot access pages =
 
 -- there is no such file
 pub maps-no_file : (s : State) (p pcid va len file offset : ℕ) (prot access : Rights) (pages : PageRange × ℕ) → not_free s.hardware.shootdown p ≡ None
-    → judged_mapping s.hardware.spaces pcid va len offset ≡ Ok pages → length s.table.files ≤ file → Maps s p pcid va len file offset prot access (replies.Refused refusals.NoFile) s
+    → judged_mapping s.hardware.spaces pcid va len offset ≡ Ok pages → length s.table.files ≤ file → Refuses s p (acts.Map pcid va len file offset prot access) refusals.NoFile
 maps-no_file s p pcid va len file offset prot access pages free judged past =
     let why = mapping_refusal s pcid file prot access (judged_mapping s.hardware.spaces pcid va len offset) in
     let missing = refuse_if (nat_le (length s.table.files) file) refusals.NoFile in
-    record {
-      reason_is = passed (not_free s.hardware.shootdown p) (why ∷ []) (Some refusals.NoFile) free
-          (alone why ∙ ap (mapping_refusal s pcid file prot access) judged
-          ∙ found missing (adding s pcid file prot access pages ∷ []) refusals.NoFile (holds (nat_le (length s.table.files) file) refusals.NoFile (at_most (length s.table.files) file past)));
-      unchanged = refl;
-    }
+    passed (not_free s.hardware.shootdown p) (why ∷ []) (Some refusals.NoFile) free
+    (alone why ∙ ap (mapping_refusal s pcid file prot access) judged
+    ∙ found missing (adding s pcid file prot access pages ∷ []) refusals.NoFile (holds (nat_le (length s.table.files) file) refusals.NoFile (at_most (length s.table.files) file past)))
 
 -- of a file that is there
-pub map_refusal-adding : (s : State) (p pcid va len file offset : ℕ) (prot access : Rights) (pages : PageRange × ℕ) (reason : Option Refusal) → not_free s.hardware.shootdown p ≡ None
+pub map-adding : (s : State) (p pcid va len file offset : ℕ) (prot access : Rights) (pages : PageRange × ℕ) (reason : Option Refusal) → not_free s.hardware.shootdown p ≡ None
     → judged_mapping s.hardware.spaces pcid va len offset ≡ Ok pages → file < length s.table.files
-    → add_refusal (space_at s.hardware.spaces pcid).places pages.0 (record { file = file; page = pages.1; rights = prot; access = access }) ≡ reason → map_refusal s p pcid va len file offset prot access ≡ reason
-map_refusal-adding s p pcid va len file offset prot access pages reason free judged below is =
+    → add_refusal (space_at s.hardware.spaces pcid).places pages.0 (record { file = file; page = pages.1; rights = prot; access = access }) ≡ reason → reason_against s p (acts.Map pcid va len file offset prot access) ≡ reason
+map-adding s p pcid va len file offset prot access pages reason free judged below is =
     let why = mapping_refusal s pcid file prot access (judged_mapping s.hardware.spaces pcid va len offset) in
     passed (not_free s.hardware.shootdown p) (why ∷ []) reason free
     (alone why ∙ ap (mapping_refusal s pcid file prot access) judged
@@ -91,22 +88,22 @@ map_refusal-adding s p pcid va len file offset prot access pages reason free jud
 pub maps-unadded : (s : State) (p pcid va len file offset : ℕ) (prot access : Rights) (pages : PageRange × ℕ) (why : Refusal) → not_free s.hardware.shootdown p ≡ None
     → judged_mapping s.hardware.spaces pcid va len offset ≡ Ok pages → file < length s.table.files
     → why ≡ unwrap_or (add_refusal (space_at s.hardware.spaces pcid).places pages.0 (record { file = file; page = pages.1; rights = prot; access = access })) refusals.OutOfMemory
-    → Maps s p pcid va len file offset prot access (replies.Refused why) s
+    → Refuses s p (acts.Map pcid va len file offset prot access) why
 maps-unadded s p pcid va len file offset prot access pages why free judged below is =
-    subst (λ (x : Refusal). Maps s p pcid va len file offset prot access (replies.Refused x) s) (sym is) (by (adding s pcid file prot access pages) refl)
+    subst (Refuses s p (acts.Map pcid va len file offset prot access)) (sym is) (by (adding s pcid file prot access pages) refl)
   where
-    by : (reason : Option Refusal) → adding s pcid file prot access pages ≡ reason → Maps s p pcid va len file offset prot access (replies.Refused (unwrap_or reason refusals.OutOfMemory)) s
-    by None e = (map_refusal-adding s p pcid va len file offset prot access pages None free judged below e, refl)
+    by : (reason : Option Refusal) → adding s pcid file prot access pages ≡ reason → Refuses s p (acts.Map pcid va len file offset prot access) (unwrap_or reason refusals.OutOfMemory)
+    by None e = (map-adding s p pcid va len file offset prot access pages None free judged below e, tt)
     by (Some x) e =
         maps-judged s p pcid va len file offset prot access x
         (judged-add (space_at s.hardware.spaces pcid).places pages.0 (record { file = file; page = pages.1; rights = prot; access = access }) x e)
-        (map_refusal-adding s p pcid va len file offset prot access pages (Some x) free judged below e)
+        (map-adding s p pcid va len file offset prot access pages (Some x) free judged below e)
 
 -- ---- why a reclaim is refused
 
 -- of a file that is there
 of_file : (s : State) (p : ℕ) (owner : FilePage) (reason : Option Refusal) → not_free s.hardware.shootdown p ≡ None → owner.file < length s.table.files
-    → refuse_if (nat_le (pages_in_file s.table.files owner.file) owner.page) refusals.Einval ≡ reason → reclaim_refusal s p owner ≡ reason
+    → refuse_if (nat_le (pages_in_file s.table.files owner.file) owner.page) refusals.Einval ≡ reason → reason_against s p (acts.Reclaim owner.file owner.page) ≡ reason
 of_file s p owner reason free file is =
     let missing = refuse_if (nat_le (length s.table.files) owner.file) refusals.NoFile in
     let past = refuse_if (nat_le (pages_in_file s.table.files owner.file) owner.page) refusals.Einval in
@@ -114,11 +111,11 @@ of_file s p owner reason free file is =
     (passed missing (past ∷ []) reason (fails (nat_le (length s.table.files) owner.file) refusals.NoFile (above (length s.table.files) owner.file file)) (alone past ∙ is))
 
 pub reclaim-past : (s : State) (p : ℕ) (owner : FilePage) → not_free s.hardware.shootdown p ≡ None → owner.file < length s.table.files
-    → pages_in_file s.table.files owner.file ≤ owner.page → reclaim_refusal s p owner ≡ Some refusals.Einval
+    → pages_in_file s.table.files owner.file ≤ owner.page → reason_against s p (acts.Reclaim owner.file owner.page) ≡ Some refusals.Einval
 reclaim-past s p owner free file past =
     of_file s p owner (Some refusals.Einval) free file (holds (nat_le (pages_in_file s.table.files owner.file) owner.page) refusals.Einval (at_most (pages_in_file s.table.files owner.file) owner.page past))
 
 pub reclaim-allowed : (s : State) (p : ℕ) (owner : FilePage) → not_free s.hardware.shootdown p ≡ None → owner.file < length s.table.files
-    → owner.page < pages_in_file s.table.files owner.file → reclaim_refusal s p owner ≡ None
+    → owner.page < pages_in_file s.table.files owner.file → reason_against s p (acts.Reclaim owner.file owner.page) ≡ None
 reclaim-allowed s p owner free file within =
     of_file s p owner None free file (fails (nat_le (pages_in_file s.table.files owner.file) owner.page) refusals.Einval (above (pages_in_file s.table.files owner.file) owner.page within))

@@ -22,7 +22,6 @@ module _ {D Z : Type 0} (disk : Ghosts D) (old new : Layers D Z) (step : Step) (
     sure = done.sure honest;
     within = done.time;
     unread = done.unread honest;
-    honest = done.honest.1 honest;
   }
 
   pub not_full : reply ≢ replies.Refused refusals.TraceFull

@@ -1,12 +1,11 @@
 -- The device calls of steps add up.
 use Rattle.machine.proofs.Names.{ℕ, ◌≡◌, ◌+◌, ◌-◌, ◌*◌, ◌^◌, ◌<◌, ◌≤◌, inl, inr, Bool, true, false, cond, List, [], ◌∷◌}
 use Rattle.machine.proofs.Names.{length, refl, ap, ◌∙◌, arith, nat_lt, lt-ltb, cond-true, Ghosts, raised, Work, WriteAt}
-use Rattle.machine.proofs.Names.{CopyBlock, Sync, Nothing, calls_of, HasFailed, Act, Reply, Step, State, Whole}
-use Rattle.machine.proofs.Names.{work_asked, CallsOf, FixCalls, FlushCalls, reads_page, has_failed, StepsTaken}
+use Rattle.machine.proofs.Names.{CopyBlock, Sync, Nothing, HasFailed, Act, Reply, Step, State, Whole}
+use Rattle.machine.proofs.Names.{CallsOf, Counts, reads_page, has_failed, step_work, StepsTaken}
 use Rattle.machine.proofs.Names.{CallsAddUp}
-use Rattle.page_entry.specs.declared.refusal.Refusal.TheVariants as refusals
 use Rattle.machine.specs.declared.act.Act.TheVariants as acts
-use Rattle.machine.specs.declared.act.Reply.TheVariants as replies
+use Rattle.machine.specs.inside.Acting.{FixCalls}
 
 -- a count that isn't at its end rises by one
 one_more : (n : ℕ) → n < 2 ^ 64 - 1 → raised n ≡ n + 1
@@ -30,36 +29,26 @@ rises first its from_0 risen failed few one = record { first = first; its = its;
 fix_rise : (reads : Bool) (reply : Reply) (calls calls' faults faults' : ℕ) → calls < 2 ^ 64 - 2 → faults < 2 ^ 64 - 1
     → FixCalls reads reply calls calls' faults faults' → Rise (FixCalls reads reply) calls calls' faults faults'
 fix_rise true reply calls calls' faults faults' below under made =
-    rises 1 (cond (has_failed reply) 1 0) (record { one_read = refl; its_fault = refl }) (made.one_read ∙ one_more calls (omega (arith, below)))
-    (by (has_failed reply) made.its_fault).0 (omega arith) (by (has_failed reply) made.its_fault).1
+    rises 1 (cond (has_failed reply) 1 0) (refl, refl) (made.0 ∙ one_more calls (omega (arith, below)))
+    (by (has_failed reply) made.1).0 (omega arith) (by (has_failed reply) made.1).1
   where
     by : (b : Bool) → faults' ≡ cond b (raised faults) faults → (faults' ≡ faults + cond b 1 0) × (cond b 1 0 ≤ 1)
     by true is = (is ∙ one_more faults under, omega arith)
     by false is = (omega (arith, is), omega arith)
 fix_rise false reply calls calls' faults faults' below under made =
-    rises 0 0 (record { one_read = refl; its_fault = refl }) (omega (arith, made.one_read)) (omega (arith, made.its_fault)) (omega arith) (omega arith)
+    rises 0 0 (refl, refl) (omega (arith, made.0)) (omega (arith, made.1)) (omega arith) (omega arith)
 
 none_rise : (calls calls' faults faults' : ℕ) → (calls' ≡ calls) × (faults' ≡ faults) → Rise (λ c c' f f'. (c' ≡ c) × (f' ≡ f)) calls calls' faults faults'
 none_rise calls calls' faults faults' same = rises 0 0 (refl, refl) (omega (arith, same.0)) (omega (arith, same.1)) (omega arith) (omega arith)
 
--- the work of a step of a write-out
-few_calls : (work : Work) → calls_of work ≤ 2
-few_calls (WriteAt at bytes) = omega arith
-few_calls (CopyBlock from to) = omega arith
-few_calls Sync = omega arith
-few_calls Nothing = omega arith
-
-abbrev Worked : Work → ℕ → ℕ → ℕ → ℕ → Type 0
-Worked work calls calls' faults faults' = (calls < 2 ^ 64 - 2 → calls' ≡ calls + calls_of work) × (faults' ≡ faults)
-
-work_rise : (work : Work) (calls calls' faults faults' : ℕ) → calls < 2 ^ 64 - 2 → Worked work calls calls' faults faults' → Rise (Worked work) calls calls' faults faults'
-work_rise work calls calls' faults faults' below made =
-    rises (calls_of work) 0 ((λ low. omega arith), refl) (made.0 below) (omega (arith, made.1)) (few_calls work) (omega arith)
+-- the work of a step of a write-out, in as many calls
+work_rise : (n : ℕ) (calls calls' faults faults' : ℕ) → n ≤ 2 → calls < 2 ^ 64 - 2
+    → (calls < 2 ^ 64 - 2 → calls' ≡ calls + n) × (faults' ≡ faults)
+    → Rise (λ c c' f f'. (c < 2 ^ 64 - 2 → c' ≡ c + n) × (f' ≡ f)) calls calls' faults faults'
+work_rise n calls calls' faults faults' few below made =
+    rises n 0 ((λ low. omega arith), refl) (made.0 below) (omega (arith, made.1)) few (omega arith)
 
 -- or what was made of it
-abbrev Failed : Work → ℕ → ℕ → ℕ → ℕ → Type 0
-Failed work calls calls' faults faults' = (calls < 2 ^ 64 - 2 → HasFailed work calls calls') × (faults' ≡ raised faults)
-
 failed_first : (work : Work) (calls calls' : ℕ) → HasFailed work calls calls' → (first : ℕ) × HasFailed work 0 first × (calls' ≡ calls + first) × (first ≤ 2)
 failed_first (WriteAt at bytes) calls calls' failed = (1, refl, failed, omega arith)
 failed_first (CopyBlock from to) calls calls' (inl failed) = (1, inl refl, failed, omega arith)
@@ -67,24 +56,21 @@ failed_first (CopyBlock from to) calls calls' (inr failed) = (2, inr refl, faile
 failed_first Sync calls calls' failed = (1, refl, failed, omega arith)
 failed_first Nothing calls calls' failed = absurd failed
 
-fail_rise : (work : Work) (calls calls' faults faults' : ℕ) → calls < 2 ^ 64 - 2 → faults < 2 ^ 64 - 1 → Failed work calls calls' faults faults' → Rise (Failed work) calls calls' faults faults'
-fail_rise work calls calls' faults faults' below under made =
+flush_rise : (work : Work) (failed : Bool) (calls calls' faults faults' : ℕ) → calls < 2 ^ 64 - 2 → faults < 2 ^ 64 - 1
+    → Counts work failed calls calls' × (faults' ≡ cond failed (raised faults) faults)
+    → Rise (λ c c' f f'. Counts work failed c c' × (f' ≡ cond failed (raised f) f)) calls calls' faults faults'
+flush_rise work true calls calls' faults faults' below under made =
     let found = failed_first work calls calls' (made.0 below) in
     rises found.0 1 ((λ low. found.1), refl) found.2 (made.1 ∙ one_more faults under) found.3 (omega arith)
-
-flush_rise : (s : State) (reply : Reply) (calls calls' faults faults' : ℕ) → calls < 2 ^ 64 - 2 → faults < 2 ^ 64 - 1
-    → FlushCalls s reply calls calls' faults faults' → Rise (FlushCalls s reply) calls calls' faults faults'
-flush_rise s replies.Going calls calls' faults faults' below under made = work_rise (work_asked s) calls calls' faults faults' below made
-flush_rise s (replies.Committed number) calls calls' faults faults' below under made = work_rise (work_asked s) calls calls' faults faults' below made
-flush_rise s (replies.Done number) calls calls' faults faults' below under made = work_rise (work_asked s) calls calls' faults faults' below made
-flush_rise s (replies.Refused refusals.Device) calls calls' faults faults' below under made = fail_rise (work_asked s) calls calls' faults faults' below under made
-flush_rise s (replies.Refused why) calls calls' faults faults' below under made = none_rise calls calls' faults faults' made
-flush_rise s reply calls calls' faults faults' below under made = none_rise calls calls' faults faults' made
+flush_rise Nothing false calls calls' faults faults' below under made = none_rise calls calls' faults faults' made
+flush_rise (WriteAt at bytes) false calls calls' faults faults' below under made = work_rise 1 calls calls' faults faults' (omega arith) below made
+flush_rise (CopyBlock from to) false calls calls' faults faults' below under made = work_rise 2 calls calls' faults faults' (omega arith) below made
+flush_rise Sync false calls calls' faults faults' below under made = work_rise 1 calls calls' faults faults' (omega arith) below made
 
 step_rise : (s : State) (p : ℕ) (act : Act) (reply : Reply) (calls calls' faults faults' : ℕ) → calls < 2 ^ 64 - 2 → faults < 2 ^ 64 - 1
     → CallsOf s p act reply calls calls' faults faults' → Rise (CallsOf s p act reply) calls calls' faults faults'
 step_rise s p (acts.Fix va write) reply calls calls' faults faults' below under made = fix_rise (reads_page s p va write) reply calls calls' faults faults' below under made
-step_rise s p acts.Flush reply calls calls' faults faults' below under made = flush_rise s reply calls calls' faults faults' below under made
+step_rise s p acts.Flush reply calls calls' faults faults' below under made = flush_rise (step_work s acts.Flush reply) (has_failed reply) calls calls' faults faults' below under made
 step_rise s p act reply calls calls' faults faults' below under made = none_rise calls calls' faults faults' made
 
 pub calls_add_up : {D : Type 0} (disk : Ghosts D) (old : Whole D) (steps : List Step) (replies : List Reply) (new : Whole D)

@@ -2,10 +2,10 @@
 use Rattle.machine.proofs.Names.{ℕ, zero, suc, ◌≡◌, ◌-◌, ◌*◌, ◌<◌, true, false, eqb, List, [], ◌∷◌, ◌++◌, length, take}
 use Rattle.machine.proofs.Names.{drop, map, replicate, get_or, Option, None, is_some, unwrap_or, refl, sym, ap, ◌∙◌}
 use Rattle.machine.proofs.Names.{subst, inl, inr, arith, ◌+◌, ◌≤◌, nat_cmp, cases_lt, cond-false, ne_eqb, false≢true}
-use Rattle.machine.proofs.Names.{length-replicate, get_or-replicate, length-take, length-drop, take_all, append-nil}
+use Rattle.machine.proofs.Names.{length-replicate, get_or-replicate, length-take, length-drop, take_all}
 use Rattle.machine.proofs.Names.{take_at, drop_at, drop-drop, drop-take, take-take, take-append_seam, FilePage}
-use Rattle.machine.proofs.Names.{all_free, File, TableFile, SuperValue, pages_of, total_pages, geometry_of, block_count}
-use Rattle.machine.proofs.Names.{zeros, padded, zeros-nil, length-padded, length-block_at, length-file, fits_geometry}
+use Rattle.machine.proofs.Names.{all_free, File, TableFile, SuperValue, pages_of, total_pages, geometry_of}
+use Rattle.machine.proofs.Names.{zeros, padded, length-padded, length-block_at, length-file, fits_geometry}
 use Rattle.machine.proofs.Names.{Places, AddressSpace, first_spaces, empty_space, Processor, fresh_processor}
 use Rattle.machine.proofs.Names.{is_running, fresh_shootdown, processor_at, Holds, CheckpointState, Shape, file_bytes}
 use Rattle.machine.proofs.Names.{Mark, Acknowledge, memory_of, State, length_of, Whole, home_of, cut_at_end, IsFresh}
@@ -84,7 +84,7 @@ plain_page bytes page n is =
           sym (nothing_padded 4096 (page_of bytes page) whole) ∙ ap (padded 4096) (sym all)
     ]
 
-module _ (files : List File) (table : SuperValue) (lengths : List ℕ) (shape : Shape) (has : HasFiles files (fresh table lengths shape)) where
+module _ (files : List File) (table : SuperValue) (lengths : List ℕ) (shape : Shape) (has : HasFiles files [] (fresh table lengths shape)) where
   abbrev start : State
   start = fresh table lengths shape
 
@@ -107,42 +107,47 @@ module _ (files : List File) (table : SuperValue) (lengths : List ℕ) (shape : 
   }
 
 -- so is each fresh machine
-pub arranged_at_start : (files : List File) (s : State) → IsFresh s → HasFiles files s → IsArranged (told_first files s) s
+pub arranged_at_start : (files : List File) (s : State) → IsFresh s → HasFiles files [] s → IsArranged (told_first files s) s
 arranged_at_start files s is has =
     let same = is.as_booted in
     let cpus : length s.hardware.shootdown.processors ≡ is.shape.cpus = ap (λ (x : State). length x.hardware.shootdown.processors) same ∙ length-replicate is.shape.cpus (fresh_processor is.shape.tlb) in
     subst (λ n. IsArranged (told_at_start files n) s) (sym cpus)
-    (subst (λ (x : State). HasFiles files x → IsArranged (told_at_start files is.shape.cpus) x) (sym same) (arranged_fresh files s.table s.lengths is.shape) has)
+    (subst (λ (x : State). HasFiles files [] x → IsArranged (told_at_start files is.shape.cpus) x) (sym same) (arranged_fresh files s.table s.lengths is.shape) has)
 
-pub pages_at_start : (files : List File) (s : State) → IsFresh s → HasFiles files s → HasPages files (told_first files s) s
+pub pages_at_start : (files : List File) (s : State) → IsFresh s → HasFiles files [] s → HasPages files (told_first files s) s
 pages_at_start files s is has =
     let same = is.as_booted in
     let cpus : length s.hardware.shootdown.processors ≡ is.shape.cpus = ap (λ (x : State). length x.hardware.shootdown.processors) same ∙ length-replicate is.shape.cpus (fresh_processor is.shape.tlb) in
     subst (λ n. HasPages files (told_at_start files n) s) (sym cpus)
-    (subst (λ (x : State). HasFiles files x → HasPages files (told_at_start files is.shape.cpus) x) (sym same) (pages_fresh files s.table s.lengths is.shape) has)
+    (subst (λ (x : State). HasFiles files [] x → HasPages files (told_at_start files is.shape.cpus) x) (sym same) (pages_fresh files s.table s.lengths is.shape) has)
 
--- ---- the files of a volume at rest are those of its table, each as long as the table tells
+-- ---- the files of a volume at rest are those of its table, with its lengths
 
-named_from : (contents : ℕ → List ℕ) (b : ℕ) (fs : List TableFile) → map (λ (f : File). let t : TableFile = record { name = f.name; capacity = f.capacity } in t) (files_from contents b fs (map (λ (f : TableFile). f.capacity) fs)) ≡ fs
-named_from contents b [] = refl
-named_from contents b (f ∷ fs) = ap (λ (rest : List TableFile). f ∷ rest) (named_from contents (b + pages_of f.capacity) fs)
+named_from : (contents : ℕ → List ℕ) (b : ℕ) (fs : List TableFile) (lengths : List ℕ) → length lengths ≡ length fs → map (λ (f : File). let t : TableFile = record { name = f.name; capacity = f.capacity } in t) (files_from contents b fs lengths) ≡ fs
+named_from contents b [] lengths size = refl
+named_from contents b (f ∷ fs) [] size = absurd (omega (arith, size))
+named_from contents b (f ∷ fs) (n ∷ lengths) size = ap (λ (rest : List TableFile). f ∷ rest) (named_from contents (b + pages_of f.capacity) fs lengths (omega (arith, size)))
 
-lengths_from : (contents : ℕ → List ℕ) (b : ℕ) (fs : List TableFile) → ((i : ℕ) → i < b + total_pages fs → length (contents i) ≡ 4096)
-    → map (λ (f : File). length f.bytes) (files_from contents b fs (map (λ (f : TableFile). f.capacity) fs)) ≡ map (λ (f : TableFile). f.capacity) fs
-lengths_from contents b [] whole = refl
-lengths_from contents b (f ∷ fs) whole =
-    let first = length-file contents b f.capacity f.capacity (λ i low high. whole i (omega arith)) (omega arith) in
-    let rest = lengths_from contents (b + pages_of f.capacity) fs (λ i high. whole i (omega arith)) in
+lengths_from : (contents : ℕ → List ℕ) (b : ℕ) (fs : List TableFile) (lengths : List ℕ) → length lengths ≡ length fs → ((i : ℕ) → get_or lengths i 0 ≤ capacity_at fs i) → ((i : ℕ) → i < b + total_pages fs → length (contents i) ≡ 4096)
+    → map (λ (f : File). length f.bytes) (files_from contents b fs lengths) ≡ lengths
+lengths_from contents b [] [] size within whole = refl
+lengths_from contents b [] (n ∷ lengths) size within whole = absurd (omega (arith, size))
+lengths_from contents b (f ∷ fs) [] size within whole = absurd (omega (arith, size))
+lengths_from contents b (f ∷ fs) (n ∷ lengths) size within whole =
+    let fits : n ≤ f.capacity = within 0 in
+    let first = length-file contents b n f.capacity (λ i low high. whole i (omega arith)) fits in
+    let rest = lengths_from contents (b + pages_of f.capacity) fs lengths (omega (arith, size)) (λ i. within (suc i)) (λ i high. whole i (omega arith)) in
     λ i. first i ∷ rest i
 
-pub files_at_start : (files : List File) (s : State) (disk : List ℕ) → IsVolume s.table [] disk → files ≡ files_in s.table (block_at disk) → s.lengths ≡ lengths_in s.table (block_at disk) → HasFiles files s
-files_at_start files s disk volume files_are lengths_are =
+pub files_at_start : (files : List File) (s : State) (disk : List ℕ) → IsSound s → IsVolume s.table [] disk → files ≡ files_in s.table (block_at disk) → s.lengths ≡ lengths_in s.table (block_at disk) → HasFiles files [] s
+files_at_start files s disk sound volume files_are lengths_are =
     let b = first_file_home s.table.layout s.table.slots in
     let whole : (i : ℕ) → i < b + total_pages s.table.files → length (block_at disk i) ≡ 4096 = λ i high. length-block_at disk i (let long = volume.long in omega arith) in
+    let files_of : files ≡ files_from (block_at disk) b s.table.files s.lengths = files_are ∙ ap (files_from (block_at disk) b s.table.files) (sym lengths_are) in
     record {
-      named = ap (map (λ (f : File). let t : TableFile = record { name = f.name; capacity = f.capacity } in t)) files_are ∙ named_from (block_at disk) b s.table.files;
-      lengths = ap (map (λ (f : File). length f.bytes)) files_are ∙ lengths_from (block_at disk) b s.table.files whole ∙ sym lengths_are;
-      fixed = λ contents. sym lengths_are;
+      named = ap (map (λ (f : File). let t : TableFile = record { name = f.name; capacity = f.capacity } in t)) files_of ∙ named_from (block_at disk) b s.table.files s.lengths sound.lengths;
+      lengths = ap (map (λ (f : File). length f.bytes)) files_of ∙ lengths_from (block_at disk) b s.table.files s.lengths sound.lengths sound.within whole;
+      resized = refl;
     }
 
 -- ---- the bytes of a file in the blocks of a volume
@@ -217,8 +222,9 @@ module _ (s : State) (sound : IsSound s) (seen : List ℕ) (files : List File) (
       ap (λ (l : List ℕ). padded 4096 (take 4096 (drop (4096 * owner.page) l))) bytes
       ∙ ap (padded 4096) (page_in_blocks (block_at seen) b n (length_of s owner.file) owner.page (λ i low high. length-block_at seen i (let long = volume.long in omega (arith, long, before, high))) (page_below s sound.within owner is) (omega (arith, inside)))
 
-  first_parts : HasParts s (block_at seen) (memory_of files)
-  first_parts owner is =
+  first_parts : HasParts s.table s.lengths (block_at seen) (memory_of files)
+  first_parts owner there inside =
+      let is : IsInFile s owner = record { there = there; inside = inside } in
       sym (ap (within_file s owner) (page_first owner is)
       ∙ within_cut s owner (block_at seen (home_of s.table owner)) (length-block_at seen (home_of s.table owner) (let long = volume.long in let below = (home_is s sound owner is).high in omega (arith, long, below))))
 
@@ -229,12 +235,15 @@ durable_at_start ghosts files start sound begins =
     let disk = ghosts.seen start.device in
     let outs : s.write_outs ≡ none_of (geometry_of s.table) = ap (λ (x : State). x.write_outs) begins.fresh.as_booted in
     let parts = first_parts s sound disk files begins.volume begins.files_are begins.lengths_are in
-    let are : AreContentsOf files [] s (block_at disk) [] = record {
+    let has = files_at_start files s disk sound begins.volume begins.files_are begins.lengths_are in
+    let are : AreContentsOf files [] s.table (block_at disk) [] = record {
       rest = [];
       begins = refl;
       marked = inl refl;
       whole = λ file page. length-page_of (file_bytes files file) page;
-      parts = parts;
+      fits = begins.fit;
+      same_lengths = sym begins.lengths_are ∙ sym has.lengths;
+      parts = subst (λ (l : List ℕ). HasParts s.table l (block_at disk) (memory_of files)) (sym has.lengths) parts;
     } in
     record {
       old = block_at disk;
@@ -253,7 +262,8 @@ durable_at_start ghosts files start sound begins =
         only = record { each = λ n has. absurd (contains_none (Mark n) has); in_before = λ n has. absurd (contains_none (Mark n) has); in_marked = λ n has. absurd (contains_none (Mark n) has) };
         numbered = λ n has. absurd (contains_none (Mark n) has);
         ready = λ broken held. ap (λ (o : WriteOutsValue). has_uncommitted o.batches) outs;
-        clean = inr (λ owner is untouched. parts owner is);
+        clean = inr (λ owner is untouched. parts owner is.there is.inside);
+        same_lengths = sym begins.lengths_are;
         frozen = subst (λ (c : CheckpointState). All (λ owner. block_at disk (home_of s.table owner) ≡ cut_at_end s owner (bytes_at_mark s.hardware.memory owner)) c.frozen) (sym (ap (λ (x : State). x.checkpoint) begins.fresh.as_booted)) (λ k d lt. absurd (omega arith));
       };
     }

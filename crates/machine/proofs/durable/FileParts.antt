@@ -1,12 +1,13 @@
 -- Contents that have the parts of files have these files.
 use Rattle.machine.proofs.Names.{◌≡◌, ℕ, zero, suc, ◌+◌, ◌-◌, ◌*◌, ◌<◌, ◌≤◌, List, [], ◌∷◌, ◌++◌, length, map, take}
-use Rattle.machine.proofs.Names.{get_or, refl, sym, ap, ◌∙◌, subst, inl, inr, arith, drop, cases_lt, take-append-le}
-use Rattle.machine.proofs.Names.{take_all, length-take, get_or-map, length-map, append-nil, length-drop, File}
+use Rattle.machine.proofs.Names.{get_or, slice_get, Some, refl, sym, ap, ◌∙◌, subst, inl, inr, arith, drop, cases_lt}
+use Rattle.machine.proofs.Names.{take-append-le, take_all, length-take, length-map, append-nil, length-drop, File}
 use Rattle.machine.proofs.Names.{TableFile, first_file_home, block_at, pages_of, total_pages, blocks_from, files_from}
-use Rattle.machine.proofs.Names.{files_in, take-past, length-padded, zeros-nil, blocks_from-device, Memory}
-use Rattle.machine.proofs.Names.{bytes_of_pages, files_from_memory, Event, file_bytes, memory_of, files_after, State}
-use Rattle.machine.proofs.Names.{home_of, length_of, IsInFile, IsSound, HasParts, HasFiles, zeros, AreDurable}
-use Rattle.machine.specs.History.{files_in as files_of, page_of}
+use Rattle.machine.proofs.Names.{files_in, take-past, zeros-nil, blocks_from-device, Memory}
+use Rattle.machine.proofs.Names.{bytes_of_pages, files_from_memory, Event, file_bytes, memory_of, files_after, after}
+use Rattle.machine.proofs.Names.{SuperValue, lengths_of, lengths_after, lengths_in, home_of, HasParts, AreLengths}
+use Rattle.machine.proofs.Names.{AreContentsOf, zeros, AreDurable}
+use Rattle.machine.specs.History.{page_of}
 use Rattle.machine.proofs.durable.AtStart.{file_bytes-next, length-page_of}
 
 -- ---- the bytes of one file
@@ -66,70 +67,65 @@ same_bytes contents pages (suc m) (suc n) b q r whole parts le_m le_n = elim (ca
 abbrev pub in_table : File → TableFile
 in_table f = record { name = f.name; capacity = f.capacity }
 
--- the contents have the parts of these files, of which the first has this number and begins at this home block
-pub record HasPartsFrom (contents : ℕ → List ℕ) (memory : Memory) (k b : ℕ) (fs : List File) : Type 0 where
-  pub parts : (i page : ℕ) (d : File) → i < length fs → 4096 * page < length (get_or fs i d).bytes
-      → take (length (get_or fs i d).bytes - 4096 * page) (contents (b + total_pages (take i (map in_table fs)) + page)) ≡ take (length (get_or fs i d).bytes - 4096 * page) (memory (k + i) page)
-  pub fits : (i : ℕ) (d : File) → i < length fs → length (get_or fs i d).bytes ≤ (get_or fs i d).capacity
+-- the contents have the parts of these files with these lengths, of which the first has this number and begins at this
+-- home block
+pub record HasPartsFrom (contents : ℕ → List ℕ) (memory : Memory) (k b : ℕ) (fs : List File) (lengths : List ℕ) : Type 0 where
+  pub parts : (i page : ℕ) → i < length fs → 4096 * page < get_or lengths i 0
+      → take (get_or lengths i 0 - 4096 * page) (contents (b + total_pages (take i (map in_table fs)) + page)) ≡ take (get_or lengths i 0 - 4096 * page) (memory (k + i) page)
+  pub fits : (i n : ℕ) (f : TableFile) → slice_get (map in_table fs) i ≡ Some f → slice_get lengths i ≡ Some n → n ≤ f.capacity
 
-pub same_files : (contents : ℕ → List ℕ) (memory : Memory) (k b : ℕ) (fs : List File) → ((file page : ℕ) → length (memory file page) ≡ 4096) → HasPartsFrom contents memory k b fs
-    → files_from_memory k fs memory ≡ files_from contents b (map in_table fs) (map (λ f. length f.bytes) fs)
-same_files contents memory k b [] whole are = refl
-same_files contents memory k b (f ∷ fs) whole are =
-    let fits = are.fits 0 f (omega arith) in
-    let bytes : bytes_of_pages (memory k) (length f.bytes) ≡ take (length f.bytes) (blocks_from contents b (pages_of f.capacity)) =
-    same_bytes contents (memory k) (pages_of (length f.bytes)) (pages_of f.capacity) b 0 (length f.bytes) (whole k) first (omega arith) (omega (arith, fits)) in
-    let rest : files_from_memory (k + 1) fs memory ≡ files_from contents (b + pages_of f.capacity) (map in_table fs) (map (λ f. length f.bytes) fs) =
-    same_files contents memory (k + 1) (b + pages_of f.capacity) fs whole (record { parts = later; fits = λ i d lt. are.fits (suc i) d (omega arith) }) in
+pub same_files : (contents : ℕ → List ℕ) (memory : Memory) (k b : ℕ) (fs : List File) (lengths : List ℕ) → ((file page : ℕ) → length (memory file page) ≡ 4096) → HasPartsFrom contents memory k b fs lengths
+    → files_from_memory k fs lengths memory ≡ files_from contents b (map in_table fs) lengths
+same_files contents memory k b [] lengths whole are = refl
+same_files contents memory k b (f ∷ fs) [] whole are = refl
+same_files contents memory k b (f ∷ fs) (n ∷ lengths) whole are =
+    let fits : n ≤ f.capacity = are.fits 0 n (in_table f) refl refl in
+    let bytes : bytes_of_pages (memory k) n ≡ take n (blocks_from contents b (pages_of f.capacity)) =
+    same_bytes contents (memory k) (pages_of n) (pages_of f.capacity) b 0 n (whole k) first (omega arith) (omega (arith, fits)) in
+    let rest : files_from_memory (k + 1) fs lengths memory ≡ files_from contents (b + pages_of f.capacity) (map in_table fs) lengths =
+    same_files contents memory (k + 1) (b + pages_of f.capacity) fs lengths whole (record { parts = later; fits = λ i m g file size. are.fits (suc i) m g file size }) in
     λ i. record { name = f.name; bytes = bytes i; capacity = f.capacity } ∷ rest i
   where
-    first : (page : ℕ) → 4096 * page < length f.bytes → take (length f.bytes - 4096 * page) (contents (b + page)) ≡ take (length f.bytes - 4096 * page) (memory k (0 + page))
+    first : (page : ℕ) → 4096 * page < n → take (n - 4096 * page) (contents (b + page)) ≡ take (n - 4096 * page) (memory k (0 + page))
     first page lt =
         let block : b + 0 + page ≡ b + page = omega arith in
         let file : k + 0 ≡ k = omega arith in
         let place : page ≡ 0 + page = omega arith in
-        sym (ap (λ j. take (length f.bytes - 4096 * page) (contents j)) block) ∙ are.parts 0 page f (omega arith) lt ∙ (λ i. take (length f.bytes - 4096 * page) (memory (file i) (place i)))
+        sym (ap (λ j. take (n - 4096 * page) (contents j)) block) ∙ are.parts 0 page (omega arith) lt ∙ (λ i. take (n - 4096 * page) (memory (file i) (place i)))
 
-    later : (i page : ℕ) (d : File) → i < length fs → 4096 * page < length (get_or fs i d).bytes
-        → take (length (get_or fs i d).bytes - 4096 * page) (contents (b + pages_of f.capacity + total_pages (take i (map in_table fs)) + page)) ≡ take (length (get_or fs i d).bytes - 4096 * page) (memory (k + 1 + i) page)
-    later i page d lt inside =
+    later : (i page : ℕ) → i < length fs → 4096 * page < get_or lengths i 0
+        → take (get_or lengths i 0 - 4096 * page) (contents (b + pages_of f.capacity + total_pages (take i (map in_table fs)) + page)) ≡ take (get_or lengths i 0 - 4096 * page) (memory (k + 1 + i) page)
+    later i page lt inside =
         let block : b + (pages_of f.capacity + total_pages (take i (map in_table fs))) + page ≡ b + pages_of f.capacity + total_pages (take i (map in_table fs)) + page = omega arith in
         let file : k + suc i ≡ k + 1 + i = omega arith in
-        sym (ap (λ j. take (length (get_or fs i d).bytes - 4096 * page) (contents j)) block) ∙ are.parts (suc i) page d (omega arith) inside ∙ ap (λ j. take (length (get_or fs i d).bytes - 4096 * page) (memory j page)) file
+        sym (ap (λ j. take (get_or lengths i 0 - 4096 * page) (contents j)) block) ∙ are.parts (suc i) page (omega arith) inside ∙ ap (λ j. take (get_or lengths i 0 - 4096 * page) (memory j page)) file
 
--- ---- the files of a machine
+-- ---- the files of a table
 
-module _ (files : List File) (s : State) (sound : IsSound s) (has : HasFiles files s) where
-  length_is : (i : ℕ) (d : File) → i < length files → length_of s i ≡ length (get_or files i d).bytes
-  length_is i d lt = sym (ap (λ (l : List ℕ). get_or l i 0) has.lengths) ∙ get_or-map (λ (f : File). length f.bytes) files i d 0 lt
-
-  there : (i : ℕ) → i < length files → i < length s.table.files
-  there i lt = omega (arith, lt, ap length has.named, length-map files in_table)
-
-  capacity_is : (i : ℕ) (d : File) → i < length files → get_or (map (λ (f : TableFile). f.capacity) s.table.files) i 0 ≡ (get_or files i d).capacity
-  capacity_is i d lt =
-      sym (ap (λ (l : List TableFile). get_or (map (λ (f : TableFile). f.capacity) l) i 0) has.named)
-      ∙ get_or-map (λ (f : TableFile). f.capacity) (map in_table files) i (in_table d) 0 (omega (arith, lt, length-map files in_table))
-      ∙ ap (λ (f : TableFile). f.capacity) (get_or-map in_table files i d (in_table d) lt)
-
-  pub parts_from : (contents : ℕ → List ℕ) (memory : Memory) → HasParts s contents memory → HasPartsFrom contents memory 0 (first_file_home s.table.layout s.table.slots) files
-  parts_from contents memory parts = record {
-    parts = λ i page d lt inside.
-        let len = length_is i d lt in
+module _ (files : List File) (table : SuperValue) (named : map in_table files ≡ table.files) where
+  parts_from : (contents : ℕ → List ℕ) (memory : Memory) (lengths : List ℕ) → AreLengths table lengths → HasParts table lengths contents memory → HasPartsFrom contents memory 0 (first_file_home table.layout table.slots) files lengths
+  parts_from contents memory lengths within parts = record {
+    parts = λ i page lt inside.
         let file : i ≡ 0 + i = omega arith in
-        let is : IsInFile s (record { file = i; page = page }) = record { there = there i lt; inside = omega (arith, len, inside) } in
-        let home : home_of s.table (record { file = i; page = page }) ≡ first_file_home s.table.layout s.table.slots + total_pages (take i (map in_table files)) + page =
-        ap (λ (l : List TableFile). first_file_home s.table.layout s.table.slots + total_pages (take i l) + page) (sym has.named) in
-        sym (λ k. take (len k - 4096 * page) (contents (home k))) ∙ parts (record { file = i; page = page }) is ∙ (λ k. take (len k - 4096 * page) (memory (file k) page));
-    fits = λ i d lt. let low = sound.within i in omega (arith, low, length_is i d lt, capacity_is i d lt);
+        let home : home_of table (record { file = i; page = page }) ≡ first_file_home table.layout table.slots + total_pages (take i (map in_table files)) + page =
+        ap (λ (l : List TableFile). first_file_home table.layout table.slots + total_pages (take i l) + page) (sym named) in
+        sym (ap (λ k. take (get_or lengths i 0 - 4096 * page) (contents k)) home) ∙ parts (record { file = i; page = page }) (omega (arith, lt, ap length named, length-map files in_table)) inside
+        ∙ ap (λ k. take (get_or lengths i 0 - 4096 * page) (memory k page)) file;
+    fits = λ i n f file size. within.within i n f (sym (ap (λ (l : List TableFile). slice_get l i) named) ∙ file) size;
   }
 
   -- contents that have the parts of a memory have its files
-  pub files_have : (contents : ℕ → List ℕ) (memory : Memory) → ((file page : ℕ) → length (memory file page) ≡ 4096) → HasParts s contents memory → files_of files memory ≡ files_in s.table contents
-  files_have contents memory whole parts =
-      same_files contents memory 0 (first_file_home s.table.layout s.table.slots) files whole (parts_from contents memory parts)
-      ∙ ap (λ (l : List TableFile). files_from contents (first_file_home s.table.layout s.table.slots) l (map (λ (f : File). length f.bytes) files)) has.named
-      ∙ ap (files_from contents (first_file_home s.table.layout s.table.slots) s.table.files) (has.lengths ∙ sym (has.fixed contents))
+  pub files_have : (contents : ℕ → List ℕ) (memory : Memory) (lengths : List ℕ) → ((file page : ℕ) → length (memory file page) ≡ 4096) → AreLengths table lengths → lengths_in table contents ≡ lengths → HasParts table lengths contents memory
+      → files_from_memory 0 files lengths memory ≡ files_in table contents
+  files_have contents memory lengths whole within same parts =
+      same_files contents memory 0 (first_file_home table.layout table.slots) files lengths whole (parts_from contents memory lengths within parts)
+      ∙ ap (λ (l : List TableFile). files_from contents (first_file_home table.layout table.slots) l lengths) named
+      ∙ ap (files_from contents (first_file_home table.layout table.slots) table.files) (sym same)
+
+  -- so have contents after a prefix of a history
+  pub prefix_has : (history : List Event) (contents : ℕ → List ℕ) (prefix : List Event) → AreContentsOf files history table contents prefix → files_after files prefix ≡ files_in table contents
+  prefix_has history contents prefix are =
+      files_have contents (after (memory_of files) prefix) (lengths_after (lengths_of files) prefix) are.whole (subst (AreLengths table) are.same_lengths are.fits.are) are.same_lengths are.parts
 
 -- ---- files to which nothing was stored are as they were
 
@@ -159,7 +155,7 @@ bytes_as_pages bytes =
     ∙ ap (take (length bytes)) (blocks_from-device bytes 0 n ∙ take_all (4096 * n) bytes (omega arith))
     ∙ take_all (length bytes) bytes (omega arith)
 
-files_as_stored : (k : ℕ) (files : List File) (memory : Memory) → ((i page : ℕ) → memory (i + k) page ≡ page_of (file_bytes files i) page) → files_from_memory k files memory ≡ files
+files_as_stored : (k : ℕ) (files : List File) (memory : Memory) → ((i page : ℕ) → memory (i + k) page ≡ page_of (file_bytes files i) page) → files_from_memory k files (lengths_of files) memory ≡ files
 files_as_stored k [] memory same = refl
 files_as_stored k (f ∷ files) memory same =
     let here : k ≡ 0 + k = omega arith in
@@ -167,7 +163,7 @@ files_as_stored k (f ∷ files) memory same =
     let bytes : bytes_of_pages (memory k) (length f.bytes) ≡ f.bytes = ap (λ (pages : ℕ → List ℕ). bytes_of_pages pages (length f.bytes)) (λ i page. first page i) ∙ bytes_as_pages f.bytes in
     let next : (i page : ℕ) → memory (i + (k + 1)) page ≡ page_of (file_bytes files i) page =
     λ i page. (let place : i + (k + 1) ≡ suc i + k = omega arith in ap (λ j. memory j page) place ∙ same (suc i) page ∙ ap (λ bytes. page_of bytes page) (file_bytes-next f files i)) in
-    let rest : files_from_memory (k + 1) files memory ≡ files = files_as_stored (k + 1) files memory next in
+    let rest : files_from_memory (k + 1) files (lengths_of files) memory ≡ files = files_as_stored (k + 1) files memory next in
     λ i. record { name = f.name; bytes = bytes i; capacity = f.capacity } ∷ rest i
 
 pub files_unchanged : (files : List File) → files_after files [] ≡ files

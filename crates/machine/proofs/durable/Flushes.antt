@@ -1,11 +1,11 @@
 -- A step of the write-outs: it writes a record that New has, and once it commits a batch, what was New is Old, too.
 use Rattle.machine.proofs.Names.{◌≡◌, ◌<◌, ◌≤◌, ◌+◌, ◌-◌, ◌*◌, ℕ, true, false, not, List, [], ◌∷◌, ◌++◌, length, map}
-use Rattle.machine.proofs.Names.{take, drop, get_or, Option, Some, None, IsSome, inl, inr, refl, sym, ap, ◌∙◌, subst}
-use Rattle.machine.proofs.Names.{arith, ◌==◌, ◌⊎◌, suc, cond, Bool, Contains, flat_map, list_any, All, option_map}
+use Rattle.machine.proofs.Names.{take, drop, get_or, Option, Some, None, inl, inr, refl, sym, ap, ◌∙◌, subst}
+use Rattle.machine.proofs.Names.{arith, ◌==◌, ◌⊎◌, suc, cond, Bool, Contains, flat_map, All, option_map}
 use Rattle.machine.proofs.Names.{option_map_or, option_and_then, cond-false, cases_Bool, both_ways, or_from}
 use Rattle.machine.proofs.Names.{not_from_true, or_parts, append-nil, drop_more, length-take, list_any-append}
-use Rattle.machine.proofs.Names.{Contains-push, Contains-get_or, All-contains, FilePage, length-padded, Frame, bytes_of}
-use Rattle.machine.proofs.Names.{frame_at, page_of, IsBefore, before_each, is_of_page, AreRising, Stage, Recording}
+use Rattle.machine.proofs.Names.{Contains-push, Contains-get_or, All-contains, FilePage, length-padded}
+use Rattle.machine.proofs.Names.{IsBefore, before_each, AreRising, Stage, Recording}
 use Rattle.machine.proofs.Names.{Committing, Applying, Committed, Broken, answer_at, WriteOut, next_stage}
 use Rattle.machine.proofs.Names.{has_committed, advanced_of, record_at, next_record, next_home, answer_of, broken_after}
 use Rattle.machine.proofs.Names.{WriteOutsValue, has_uncommitted, advanced, outs_record, outs_home, next_answer}
@@ -16,8 +16,9 @@ use Rattle.machine.proofs.Names.{stands_other, State, length_of, home_of, cut_at
 use Rattle.machine.proofs.Names.{bytes_with, bytes_at_mark, work_asked, after_record, after_failure, File, journals_of}
 use Rattle.machine.proofs.Names.{AreHomes, Batch, SuperValue, geometry_of, Flushed, Sync, worked, TornFromWork}
 use Rattle.machine.proofs.Names.{LeftWithin, IsStanding, Checkpoint, Lock, not_running, Event, Mark, Acknowledge}
-use Rattle.machine.proofs.Names.{flush_refusal, Told, change_in, IsLost, IsWaiting, IsWritten}
+use Rattle.machine.proofs.Names.{reason_against, Told, change_in, IsLost, IsWaiting, IsWritten}
 use Rattle.journal.specs.WriteOuts.{current}
+use Rattle.machine.specs.declared.act.Act.TheVariants as acts
 use Rattle.machine.specs.Rules.{next_record as record_asked}
 use Rattle.journal.specs.declared.flushed.Flushed.TheVariants as flushed
 use Rattle.page_entry.specs.declared.refusal.Refusal.TheVariants as refusals
@@ -232,7 +233,7 @@ marks_after answer batches prefix all k d lt =
 -- ---- the step
 
 module _ (files : List File) (told : Told) (s : State) (seen : List ℕ) (may : List ℕ → Type 0) (old new : ℕ → List ℕ) (sound : IsSound s) (stands : IsStanding s.table s.write_outs old new seen may) (w : IsWritten files told s old new)
-    (p : ℕ) (allowed : flush_refusal s p ≡ None) (some : s.write_outs.batches ≡ [] → ⊥) where
+    (p : ℕ) (allowed : reason_against s p acts.Flush ≡ None) (some : s.write_outs.batches ≡ [] → ⊥) where
   pub flush_whole : s.write_outs.broken ≡ false
   flush_whole = second_not_refused (not_running s.hardware.shootdown p) s.write_outs.broken refusals.Broken [] allowed
 

@@ -1,16 +1,18 @@
 -- Histories that grow: the memory after them, the pages that they touch, their prefixes and their marks.
 use Rattle.machine.proofs.Names.{◌≡◌, ℕ, ◌+◌, ◌*◌, ◌/◌, ◌%◌, ◌<◌, ◌≤◌, Bool, true, false, ◌&&◌, eqb, if◌then◌else◌}
-use Rattle.machine.proofs.Names.{List, [], ◌∷◌, ◌++◌, length, take, drop, refl, sym, ap, ◌∙◌, inl, inr, arith, ◌⊎◌}
+use Rattle.machine.proofs.Names.{List, [], ◌∷◌, ◌++◌, length, take, refl, sym, ap, ◌∙◌, inl, inr, arith, ◌⊎◌}
 use Rattle.machine.proofs.Names.{cond, subst, append_assoc, ◌↔◌, ◌-◌, get_or, Some, cond-true, cond-false, cond_both}
 use Rattle.machine.proofs.Names.{and_from, and_left, and_right, eq-eqb, ne_eqb, cases_eq, both_ways, eqb-true}
-use Rattle.machine.proofs.Names.{and_parts, false_from_ne_true, length-take, append-nil, File, length-padded, overwrite}
-use Rattle.machine.proofs.Names.{length-overwrite, Memory, Event, Mark, Acknowledge, memory_of, file_bytes, stored}
-use Rattle.machine.proofs.Names.{after, touched_after, is_touched, unmarked_after, has_unmarked, Contains, All}
+use Rattle.machine.proofs.Names.{and_parts, false_from_ne_true, append-nil, File, overwrite}
+use Rattle.machine.proofs.Names.{length-overwrite, Memory, Event, Mark, Acknowledge, memory_of, stored}
+use Rattle.machine.proofs.Names.{after, is_touched, has_unmarked, Contains, All, fold, fold-append, list_any, list_any-append, min, ◌||◌, or_from, or_left}
+use Rattle.machine.proofs.Names.{or_right, or_parts, cases_Bool, lengths_after, with_length, with_event, since_mark, is_change}
+use Rattle.machine.proofs.Names.{is_change_of, is_resize, has_resized, cut_file, lengths_in}
 use Rattle.machine.proofs.Names.{Contains-append_left, Contains-append_cases, Contains-get_or, HasAcknowledged, IsLost}
-use Rattle.machine.proofs.Names.{IsWaiting, AreMarks, AreTouched, change_in, HasParts, AreContentsOf, IsWritten, State}
+use Rattle.machine.proofs.Names.{IsWaiting, AreMarks, AreTouched, change_in, AreContentsOf, IsWritten, State}
 use Rattle.machine.proofs.Names.{home_of, cut_at_end, FilePage, MarkMade, bytes_at_mark, Told, SuperValue, WriteOut}
 use Rattle.machine.proofs.Names.{has_committed, WriteOutsValue, has_uncommitted, Checkpoint, IsInFile, within_file}
-use Rattle.machine.specs.History.{Store}
+use Rattle.machine.specs.History.{Store, SetLength}
 use Rattle.machine.proofs.durable.Lists.{contains_none, first_or, only_one}
 
 -- ---- memory
@@ -18,6 +20,7 @@ use Rattle.machine.proofs.durable.Lists.{contains_none, first_or, only_one}
 pub after-append : (memory : Memory) (history events : List Event) → after memory (history ++ events) ≡ after (after memory history) events
 after-append memory [] events = refl
 after-append memory (Store file offset bytes ∷ history) events = after-append (stored memory file offset bytes) history events
+after-append memory (SetLength file from to ∷ history) events = after-append (cut_file memory file (min from to)) history events
 after-append memory (event ∷ history) events = after-append memory history events
 
 pub after_store : (memory : Memory) (history : List Event) (file offset : ℕ) (bytes : List ℕ) → after memory (history ++ Store file offset bytes ∷ []) ≡ stored (after memory history) file offset bytes
@@ -53,23 +56,34 @@ length-stored memory file page at bytes f p whole fits small =
 
 -- ---- touched pages
 
-pub touched_after-append : (file page : ℕ) (before : Bool) (history events : List Event) → touched_after file page before (history ++ events) ≡ touched_after file page (touched_after file page before history) events
-touched_after-append file page before [] events = refl
-touched_after-append file page before (Store f offset bytes ∷ history) events = touched_after-append file page (if eqb f file && eqb page (offset / 4096) then true else before) history events
-touched_after-append file page before (Mark number ∷ history) events = touched_after-append file page false history events
-touched_after-append file page before (Acknowledge number ∷ history) events = touched_after-append file page before history events
+or_none : (b t : Bool) → t ≡ false → (b || (t || false)) ≡ b
+or_none true t none = refl
+or_none false t none = or_from t false none refl
 
--- after a mark, acknowledged at once or not, no page is touched
+-- one event more that is no mark
+any_more : (test : Event → Bool) (history : List Event) (event : Event) → fold with_event (since_mark history) (event ∷ []) ≡ since_mark history ++ event ∷ []
+    → list_any test (since_mark (history ++ event ∷ [])) ≡ (list_any test (since_mark history) || (test event || false))
+any_more test history event is =
+    ap (list_any test) (fold-append with_event [] history (event ∷ []) ∙ is) ∙ list_any-append test (since_mark history) (event ∷ [])
+
+-- after a mark, acknowledged at once or not, no page is touched and no length was set
+any_mark : (test : Event → Bool) (history : List Event) (number : ℕ) (waits : Bool) → test (Acknowledge number) ≡ false → list_any test (since_mark (history ++ Mark number ∷ (if waits then [] else Acknowledge number ∷ []))) ≡ false
+any_mark test history number true none = ap (list_any test) (fold-append with_event [] history (Mark number ∷ []))
+any_mark test history number false none = ap (list_any test) (fold-append with_event [] history (Mark number ∷ Acknowledge number ∷ [])) ∙ or_from (test (Acknowledge number)) false none refl
+
 pub touched_mark : (history : List Event) (number : ℕ) (waits : Bool) (file page : ℕ) → is_touched (history ++ Mark number ∷ (if waits then [] else Acknowledge number ∷ [])) file page ≡ false
-touched_mark history number true file page = touched_after-append file page false history (Mark number ∷ [])
-touched_mark history number false file page = touched_after-append file page false history (Mark number ∷ Acknowledge number ∷ [])
+touched_mark history number waits file page = any_mark (is_change_of file page) history number waits refl
+
+pub resized_mark : (history : List Event) (number : ℕ) (waits : Bool) → has_resized (history ++ Mark number ∷ (if waits then [] else Acknowledge number ∷ [])) ≡ false
+resized_mark history number waits = any_mark is_resize history number waits refl
 
 pub touched_there : (history : List Event) (file page at : ℕ) (bytes : List ℕ) → at < 4096 → is_touched (history ++ Store file (4096 * page + at) bytes ∷ []) file page ≡ true
 touched_there history file page at bytes small =
     let place : (4096 * page + at) / 4096 ≡ page = omega arith in
-    touched_after-append file page false history (Store file (4096 * page + at) bytes ∷ [])
-    ∙ cond-true (eqb file file && eqb page ((4096 * page + at) / 4096)) true (is_touched history file page)
-    (and_from (eqb file file) (eqb page ((4096 * page + at) / 4096)) (eq-eqb file file refl) (eq-eqb page ((4096 * page + at) / 4096) (sym place)))
+    any_more (is_change_of file page) history (Store file (4096 * page + at) bytes) refl
+    ∙ or_right (is_touched history file page) (eqb file file && eqb page ((4096 * page + at) / 4096) || false)
+    (or_left (eqb file file && eqb page ((4096 * page + at) / 4096)) false
+    (and_from (eqb file file) (eqb page ((4096 * page + at) / 4096)) (eq-eqb file file refl) (eq-eqb page ((4096 * page + at) / 4096) (sym place))))
 
 pub touched_elsewhere : (history : List Event) (file page at : ℕ) (bytes : List ℕ) (f p : ℕ) → at < 4096 → (f ≡ file → p ≡ page → ⊥) → is_touched (history ++ Store file (4096 * page + at) bytes ∷ []) f p ≡ is_touched history f p
 touched_elsewhere history file page at bytes f p small other =
@@ -79,36 +93,58 @@ touched_elsewhere history file page at bytes f p small other =
       | inl same ↦ and_right (eqb file f) (eqb p ((4096 * page + at) / 4096)) (ne_eqb p ((4096 * page + at) / 4096) (λ e. other same (e ∙ place)))
       | inr ne ↦ and_left (eqb file f) (eqb p ((4096 * page + at) / 4096)) (ne_eqb file f (λ e. ne (sym e)))
     ] in
-    touched_after-append f p false history (Store file (4096 * page + at) bytes ∷ [])
-    ∙ cond-false (eqb file f && eqb p ((4096 * page + at) / 4096)) true (is_touched history f p) test
+    any_more (is_change_of f p) history (Store file (4096 * page + at) bytes) refl ∙ or_none (is_touched history f p) (eqb file f && eqb p ((4096 * page + at) / 4096)) test
 
 -- ---- events that store nothing and mark nothing
 
--- events that leave memory and the touched pages as they are
+-- events that leave memory, lengths and the touched pages as they are
 pub record AreQuiet (history events : List Event) : Type 0 where
   pub memory : (memory : Memory) → after memory (history ++ events) ≡ after memory history
+  pub lengths : (lengths : List ℕ) → lengths_after lengths (history ++ events) ≡ lengths_after lengths history
   pub touched : (file page : ℕ) → is_touched (history ++ events) file page ≡ is_touched history file page
+  pub resized : has_resized (history ++ events) ≡ has_resized history
 
 pub quiet_nothing : (history : List Event) → AreQuiet history []
 quiet_nothing history = record {
   memory = λ memory. after-append memory history [];
-  touched = λ file page. touched_after-append file page false history [];
+  lengths = λ lengths. fold-append with_length lengths history [];
+  touched = λ file page. ap (list_any (is_change_of file page)) (fold-append with_event [] history []);
+  resized = ap (list_any is_resize) (fold-append with_event [] history []);
 }
 
 pub quiet_acknowledge : (history : List Event) (number : ℕ) → AreQuiet history (Acknowledge number ∷ [])
 quiet_acknowledge history number = record {
   memory = λ memory. after-append memory history (Acknowledge number ∷ []);
-  touched = λ file page. touched_after-append file page false history (Acknowledge number ∷ []);
+  lengths = λ lengths. fold-append with_length lengths history (Acknowledge number ∷ []);
+  touched = λ file page. any_more (is_change_of file page) history (Acknowledge number) refl ∙ or_none (is_touched history file page) false refl;
+  resized = any_more is_resize history (Acknowledge number) refl ∙ or_none (has_resized history) false refl;
 }
 
--- ---- histories that grow
+-- a store sets no length
+pub lengths_store : (lengths : List ℕ) (history : List Event) (file offset : ℕ) (bytes : List ℕ) → lengths_after lengths (history ++ Store file offset bytes ∷ []) ≡ lengths_after lengths history
+lengths_store lengths history file offset bytes = fold-append with_length lengths history (Store file offset bytes ∷ [])
 
--- a page that got a store after the last mark is a store after it
-pub unmarked_by_touched : (file page : ℕ) (before waits : Bool) (events : List Event) → (before ≡ true → waits ≡ true) → touched_after file page before events ≡ true → unmarked_after waits events ≡ true
-unmarked_by_touched file page before waits [] goes is = goes is
-unmarked_by_touched file page before waits (Store f offset bytes ∷ events) goes is = unmarked_by_touched file page (cond (eqb f file && eqb page (offset / 4096)) true before) true events (λ _. refl) is
-unmarked_by_touched file page before waits (Mark number ∷ events) goes is = unmarked_by_touched file page false false events (λ e. e) is
-unmarked_by_touched file page before waits (Acknowledge number ∷ events) goes is = unmarked_by_touched file page before waits events goes is
+pub resized_store : (history : List Event) (file offset : ℕ) (bytes : List ℕ) → has_resized (history ++ Store file offset bytes ∷ []) ≡ has_resized history
+resized_store history file offset bytes = any_more is_resize history (Store file offset bytes) refl ∙ or_none (has_resized history) false refl
+
+-- ---- changes since the last mark
+
+any_weaker : (test more : Event → Bool) (events : List Event) → ((event : Event) → test event ≡ true → more event ≡ true) → list_any test events ≡ true → list_any more events ≡ true
+any_weaker test more [] goes is = is
+any_weaker test more (event ∷ events) goes is = elim (cases_Bool (test event)) [
+  | inl here ↦ or_left (more event) (list_any more events) (goes event here)
+  | inr other ↦ or_right (more event) (list_any more events) (any_weaker test more events goes (ap (λ b. b || list_any test events) (sym other) ∙ is))
+]
+
+change_of_some : (file page : ℕ) (event : Event) → is_change_of file page event ≡ true → is_change event ≡ true
+change_of_some file page (Store f offset bytes) is = refl
+change_of_some file page (SetLength f from to) is = refl
+change_of_some file page (Mark number) is = is
+change_of_some file page (Acknowledge number) is = is
+
+-- a page that was touched after the last mark is a change after it
+pub unmarked_by_touched : (history : List Event) (file page : ℕ) → is_touched history file page ≡ true → has_unmarked history ≡ true
+unmarked_by_touched history file page is = any_weaker (is_change_of file page) is_change (since_mark history) (change_of_some file page) is
 
 -- ---- a mark, and what comes with it
 
@@ -125,6 +161,16 @@ after_marked memory history number = by (has_unmarked history)
     by : (waits : Bool) → after memory (history ++ Mark number ∷ (cond waits [] (Acknowledge number ∷ []))) ≡ after memory history
     by true = after-append memory history (Mark number ∷ [])
     by false = after-append memory history (Mark number ∷ Acknowledge number ∷ [])
+
+pub lengths_mark : (lengths : List ℕ) (history : List Event) (number : ℕ) → lengths_after lengths (history ++ Mark number ∷ []) ≡ lengths_after lengths history
+lengths_mark lengths history number = fold-append with_length lengths history (Mark number ∷ [])
+
+pub lengths_marked : (lengths : List ℕ) (history : List Event) (number : ℕ) → lengths_after lengths (history ++ marked_by history number) ≡ lengths_after lengths history
+lengths_marked lengths history number = by (has_unmarked history)
+  where
+    by : (waits : Bool) → lengths_after lengths (history ++ Mark number ∷ (cond waits [] (Acknowledge number ∷ []))) ≡ lengths_after lengths history
+    by true = fold-append with_length lengths history (Mark number ∷ [])
+    by false = fold-append with_length lengths history (Mark number ∷ Acknowledge number ∷ [])
 
 pub acknowledge_same : (m n : ℕ) → Acknowledge m ≡ Acknowledge n → m ≡ n
 acknowledge_same m n e = cc
@@ -184,14 +230,14 @@ pub record IsUntouched (memory : Memory) (history events : List Event) (file pag
 
 untouched_store : (memory : Memory) (history : List Event) (file page f offset : ℕ) (bytes : List ℕ) → is_touched (history ++ Store f offset bytes ∷ []) file page ≡ false → IsUntouched memory history (Store f offset bytes ∷ []) file page
 untouched_store memory history file page f offset bytes is =
-    let was : cond (eqb f file && eqb page (offset / 4096)) true (is_touched history file page) ≡ false = sym (touched_after-append file page false history (Store f offset bytes ∷ [])) ∙ is in
-    let other : (eqb f file && eqb page (offset / 4096)) ≡ false =
-    false_from_ne_true (eqb f file && eqb page (offset / 4096)) (λ e. both_ways (cond (eqb f file && eqb page (offset / 4096)) true (is_touched history file page)) was (cond-true (eqb f file && eqb page (offset / 4096)) true (is_touched history file page) e)) in
+    let here = eqb f file && eqb page (offset / 4096) in
+    let was = or_parts (is_touched history file page) (here || false) (sym (any_more (is_change_of file page) history (Store f offset bytes) refl) ∙ is) in
+    let other : here ≡ false = (or_parts here false was.1).0 in
     let elsewhere : (eqb file f && eqb page (offset / 4096)) ≡ false = false_from_ne_true (eqb file f && eqb page (offset / 4096)) (λ e.
     let parts = and_parts (eqb file f) (eqb page (offset / 4096)) e in
-    both_ways (eqb f file && eqb page (offset / 4096)) other (and_from (eqb f file) (eqb page (offset / 4096)) (eq-eqb f file (sym (eqb-true file f parts.0))) parts.1)) in
+    both_ways here other (and_from (eqb f file) (eqb page (offset / 4096)) (eq-eqb f file (sym (eqb-true file f parts.0))) parts.1)) in
     record {
-      before = sym (cond-false (eqb f file && eqb page (offset / 4096)) true (is_touched history file page) other) ∙ was;
+      before = was.0;
       same = ap (λ (m : Memory). m file page) (after-append memory history (Store f offset bytes ∷ []))
           ∙ cond-false (eqb file f && eqb page (offset / 4096)) _ (after memory history file page) elsewhere;
     }
@@ -256,15 +302,17 @@ marks_settled before marked history x none are = record {
 
 -- ---- which pages a mark gathers, by the history
 
--- a store that is in no mark yet touched some page
-pub some_touched : (touched : ℕ → ℕ → Bool) (before : Bool) (events : List Event) → (before ≡ true → (file page : ℕ) × (touched file page ≡ true)) → unmarked_after before events ≡ true
-    → (file page : ℕ) × (touched_after file page (touched file page) events ≡ true)
-some_touched touched before [] some stored = some stored
-some_touched touched before (Store f offset bytes ∷ events) some stored =
-    some_touched (λ file page. if eqb f file && eqb page (offset / 4096) then true else touched file page) true events
-    (λ _. (f, offset / 4096, cond-true (eqb f f && eqb (offset / 4096) (offset / 4096)) true (touched f (offset / 4096)) (and_from (eqb f f) (eqb (offset / 4096) (offset / 4096)) (eq-eqb f f refl) (eq-eqb (offset / 4096) (offset / 4096) refl)))) stored
-some_touched touched before (Mark number ∷ events) some stored = some_touched (λ file page. false) false events (λ never. absurd (both_ways false refl never)) stored
-some_touched touched before (Acknowledge number ∷ events) some stored = some_touched touched before events some stored
+-- where no length was set, a change that is in no mark yet touched some page
+some_changed : (events : List Event) → list_any is_change events ≡ true → list_any is_resize events ≡ false → (file page : ℕ) × (list_any (is_change_of file page) events ≡ true)
+some_changed [] some none = absurd (both_ways false refl some)
+some_changed (Store f offset bytes ∷ events) some none =
+    (f, offset / 4096, or_left (eqb f f && eqb (offset / 4096) (offset / 4096)) (list_any (is_change_of f (offset / 4096)) events) (and_from (eqb f f) (eqb (offset / 4096) (offset / 4096)) (eq-eqb f f refl) (eq-eqb (offset / 4096) (offset / 4096) refl)))
+some_changed (SetLength f from to ∷ events) some none = absurd (both_ways true none refl)
+some_changed (Mark number ∷ events) some none = some_changed events some none
+some_changed (Acknowledge number ∷ events) some none = some_changed events some none
+
+pub some_touched : (history : List Event) → has_resized history ≡ false → has_unmarked history ≡ true → (file page : ℕ) × (is_touched history file page ≡ true)
+some_touched history none some = some_changed (since_mark history) some none
 
 module _ (told : Told) (s : State) (p number : ℕ) (new : State) (mark : MarkMade s p number new) (touched : AreTouched told s) where
   -- those that got a store since the last mark
@@ -274,13 +322,13 @@ module _ (told : Told) (s : State) (p number : ℕ) (new : State) (mark : MarkMa
       (λ gathered. (touched owner).1 (dirty.0 gathered), λ stored. dirty.1 ((touched owner).0 stored))
 
   -- none, where there is no such store
-  pub gathers_nothing : (mark.pages ≡ []) ↔ (has_unmarked told.history ≡ false)
-  gathers_nothing = (
+  pub gathers_nothing : has_resized told.history ≡ false → (mark.pages ≡ []) ↔ (has_unmarked told.history ≡ false)
+  gathers_nothing unresized = (
     (λ none. false_from_ne_true (has_unmarked told.history) (λ stored.
-        let some = some_touched (λ file page. false) false told.history (λ never. absurd (both_ways false refl never)) stored in
+        let some = some_touched told.history unresized stored in
         let there = subst (λ (pages : List FilePage). Contains pages (record { file = some.0; page = some.1 })) none ((gathers_touched (record { file = some.0; page = some.1 })).1 some.2) in
         omega (arith, there.1))),
-    (λ none. empty mark.pages (λ owner gathered. both_ways (has_unmarked told.history) none (unmarked_by_touched owner.file owner.page false false told.history (λ never. never) ((gathers_touched owner).0 gathered)))),
+    (λ none. empty mark.pages (λ owner gathered. both_ways (has_unmarked told.history) none (unmarked_by_touched told.history owner.file owner.page ((gathers_touched owner).0 gathered)))),
   )
     where
       empty : (pages : List FilePage) → ((owner : FilePage) → Contains pages owner → ⊥) → pages ≡ []
@@ -305,18 +353,18 @@ part_as s x same owner contents bytes e =
     subst (λ (l : List ℕ). take (get_or l owner.file 0 - 4096 * owner.page) (contents (home_of x.table owner)) ≡ take (get_or l owner.file 0 - 4096 * owner.page) bytes) (sym same.lengths)
     (subst (λ (t : SuperValue). within_file s owner (contents (home_of t owner)) ≡ within_file s owner bytes) (sym same.table) e)
 
-pub parts_as : (s x : State) → SameFiles s x → (contents : ℕ → List ℕ) (memory : Memory) → HasParts s contents memory → HasParts x contents memory
-parts_as s x same contents memory parts owner is = part_as s x same owner contents (memory owner.file owner.page) (parts owner (in_file_as s x same owner is))
-
 -- contents after a prefix of a history are those after a prefix of a longer one
-pub contents_more : (files : List File) (history events : List Event) (s x : State) → SameFiles s x → (contents : ℕ → List ℕ) (prefix : List Event) → AreContentsOf files history s contents prefix → AreContentsOf files (history ++ events) x contents prefix
-contents_more files history events s x same contents prefix are = record {
-  rest = are.rest ++ events;
-  begins = begins_more prefix are.rest history events are.begins;
-  marked = are.marked;
-  whole = are.whole;
-  parts = parts_as s x same contents (after (memory_of files) prefix) are.parts;
-}
+pub contents_more : (files : List File) (history events : List Event) (s x : State) → SameFiles s x → (contents : ℕ → List ℕ) (prefix : List Event) → AreContentsOf files history s.table contents prefix → AreContentsOf files (history ++ events) x.table contents prefix
+contents_more files history events s x same contents prefix are =
+    subst (λ (t : SuperValue). AreContentsOf files (history ++ events) t contents prefix) (sym same.table) (record {
+      rest = are.rest ++ events;
+      begins = begins_more prefix are.rest history events are.begins;
+      marked = are.marked;
+      whole = are.whole;
+      fits = are.fits;
+      same_lengths = are.same_lengths;
+      parts = are.parts;
+    })
 
 -- ---- the write-outs, and what their records are, stay
 
@@ -372,7 +420,7 @@ module _ (files : List File) (told : Told) (s x : State) (old new : ℕ → List
   now = record told { history = told.history ++ events }
 
   -- with another Old
-  pub written_on : (other : ℕ → List ℕ) (before : List Event) → AreContentsOf files (told.history ++ events) x other before → HasAcknowledged before (told.history ++ events) → IsFresh x before → AreMarks (told.history ++ events) before w.marked x → IsWritten files now x other new
+  pub written_on : (other : ℕ → List ℕ) (before : List Event) → AreContentsOf files (told.history ++ events) x.table other before → HasAcknowledged before (told.history ++ events) → IsFresh x before → AreMarks (told.history ++ events) before w.marked x → IsWritten files now x other new
   written_on other before are acknowledged fresh only = record {
     before = before;
     old_are = are;
@@ -392,6 +440,7 @@ module _ (files : List File) (told : Told) (s x : State) (old new : ℕ → List
           part_as s x same owner new (after (memory_of files) (told.history ++ events) owner.file owner.page)
           (clean owner (in_file_as s x same owner is) still.before ∙ sym (ap (within_file s owner) still.same)))
     ];
+    same_lengths = ap (λ (t : SuperValue). lengths_in t new) same.table ∙ w.same_lengths ∙ sym same.lengths;
     frozen = frozen;
   }
 
@@ -409,10 +458,10 @@ written_as files told told' s old new same w =
     let moved : (P : List Event → Type 0) → P told.history → P told'.history = λ P p. subst P (sym same) p in
     record {
       before = w.before;
-      old_are = moved (λ h. AreContentsOf files h s old w.before) w.old_are;
+      old_are = moved (λ h. AreContentsOf files h s.table old w.before) w.old_are;
       acknowledged = moved (HasAcknowledged w.before) w.acknowledged;
       marked = w.marked;
-      new_are = moved (λ h. AreContentsOf files h s new w.marked) w.new_are;
+      new_are = moved (λ h. AreContentsOf files h s.table new w.marked) w.new_are;
       grown = moved (HasAcknowledged w.marked) w.grown;
       marks = w.marks;
       fresh = w.fresh;
@@ -420,6 +469,7 @@ written_as files told told' s old new same w =
       numbered = moved (λ h. (n : ℕ) → Contains h (Mark n) → n ≤ s.marks) w.numbered;
       ready = w.ready;
       clean = moved (λ h. IsLost s ⊎ ((owner : FilePage) → IsInFile s owner → is_touched h owner.file owner.page ≡ false → within_file s owner (new (home_of s.table owner)) ≡ within_file s owner (after (memory_of files) h owner.file owner.page))) w.clean;
+      same_lengths = w.same_lengths;
       frozen = w.frozen;
     }
 

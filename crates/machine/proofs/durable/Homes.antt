@@ -1,13 +1,13 @@
 -- Home blocks: they lie in the volume, and no two pages of files share one.
-use Rattle.machine.proofs.Names.{◌≡◌, ℕ, zero, suc, ◌+◌, ◌*◌, ◌<◌, ◌≤◌, List, [], ◌∷◌, length, map, take, get_or, ap}
+use Rattle.machine.proofs.Names.{◌≡◌, ℕ, zero, suc, ◌*◌, List, [], ◌∷◌, length, map, take, get_or, ap}
 use Rattle.machine.proofs.Names.{inl, inr, arith, ◌-◌, eqb, cond, false, ◌++◌, Option, Some, None, refl, sym, ◌∙◌}
 use Rattle.machine.proofs.Names.{subst, true, cond-true, cond-false, cases_Bool, cases_lt, both_ways, ne_eqb, eqb-true}
-use Rattle.machine.proofs.Names.{eqb-false, false_from_ne_true, FilePage, TableFile, File, IsHome, block_at, pages_of}
-use Rattle.machine.proofs.Names.{total_pages, geometry_of, State, home_of, length_of, cut_at_end, page_from, IsInFile}
+use Rattle.machine.proofs.Names.{eqb-false, false_from_ne_true, FilePage, File, IsHome, block_at}
+use Rattle.machine.proofs.Names.{geometry_of, State, home_of, length_of, cut_at_end, page_from, IsInFile}
 use Rattle.machine.proofs.Names.{within_file, IsSound, Contains, list_any, All, take_at, take_all, length-take}
 use Rattle.machine.proofs.Names.{append-nil, zeros, padded, zeros-nil, Frame, frame_at, bytes_of, page_of, Holds}
-use Rattle.machine.proofs.Names.{is_of_page, is_frozen, same_page, bytes_with, bytes_at_mark, total_pages-take_more}
-use Rattle.machine.proofs.Names.{total_pages-take_le, All-contains, is_in_memory, WriteOut, HasBlock, memory_of, after}
+use Rattle.machine.proofs.Names.{is_of_page, is_frozen, same_page, bytes_with, bytes_at_mark}
+use Rattle.machine.proofs.Names.{All-contains, is_in_memory, WriteOut, HasBlock, memory_of, after}
 use Rattle.machine.proofs.Names.{is_touched, Told, IsTracked}
 use Rattle.machine.proofs.sound.Homes.{home-below, same_home}
 use Rattle.machine.proofs.durable.Lists.{none_some, contains_head, contains_cons, contains_unmapped}

@@ -7,7 +7,7 @@ use Rattle.page_entry.specs.declared.refusal.Refusal.TheVariants.{Device}
 
 -- a list that recovers as another has its files
 recovers_as : (lists : List ℕ → Type 0) (c : List ℕ) (alike : RecoversAs lists c) (files : List File) → RecoversTo alike.0 files → RecoversTo c files
-recovers_as lists c alike files r = record { table = r.table; contents = r.contents; recovers = alike.2 r.table r.contents r.recovers; files_are = r.files_are }
+recovers_as lists c alike files r = record { table = r.table; contents = r.contents; recovers = alike.2 r.table r.contents r.recovers; lengths = r.lengths; files_are = r.files_are }
 
 -- By the laws of openings: what they leave recovers as what might be left before them, they give what was recovered to,
 -- and bytes that recover to files are refused for no reason of theirs.

@@ -1,6 +1,6 @@
 -- Lists and options: what is in them, and what isn't.
 use Rattle.machine.proofs.Names.{◌≡◌, ◌⊎◌, ℕ, zero, suc, List, [], ◌∷◌, ◌++◌, map, drop, Some, None, inl, inr, refl}
-use Rattle.machine.proofs.Names.{sym, ap, ◌∙◌, arith, append_assoc, Contains, flat_map, Contains-append_cases}
+use Rattle.machine.proofs.Names.{sym, ap, ◌∙◌, arith, append_assoc, Contains, flat_map}
 
 -- ---- options
 

@@ -12,8 +12,11 @@ use Rattle.machine.proofs.Names.{stands_begun, stands_other, Checkpoint, Spaces,
 use Rattle.machine.proofs.Names.{without_notes, Event, Memory, Mark, Acknowledge, memory_of, after, has_unmarked}
 use Rattle.machine.proofs.Names.{is_touched, State, home_of, cut_at_end, MarkMade, end_change, with_batch}
 use Rattle.machine.proofs.Names.{bytes_at_mark, IsSound, Told, change_in, HasParts, AreContentsOf, HasAcknowledged}
-use Rattle.machine.proofs.Names.{IsWaiting, IsWritten, IsLatest, AreTouched, IsInFile, within_file}
-use Rattle.machine.proofs.durable.Histories.{marked_by, after_mark, after_marked, only_itself, only_marked, unmarked_by_touched, in_history, acknowledged_more, some_touched, contents_more}
+use Rattle.machine.proofs.Names.{IsWaiting, IsWritten, IsLatest, AreTouched, IsInFile, within_file, part, HasLengths}
+use Rattle.machine.proofs.Names.{HasFiles, lengths_in, lengths_of, lengths_after, lengths_blocks, first_home}
+use Rattle.machine.proofs.Names.{lengths_in-same, has_lengths-same}
+use Rattle.machine.proofs.durable.Lists.{contains_unmapped}
+use Rattle.machine.proofs.durable.Histories.{marked_by, after_mark, after_marked, lengths_mark, only_itself, only_marked, unmarked_by_touched, in_history, acknowledged_more, some_touched, contents_more}
 use Rattle.machine.proofs.durable.Uncommitted.{committed_frozen, none_uncommitted, begun_early}
 use Rattle.machine.proofs.durable.Homes.{within_cut, overlaid, overlaid-other, overlaid-at, overlaid-elsewhere, bytes_at_mark-held}
 
@@ -27,7 +30,7 @@ pub record IsDurable (files : List File) (told : Told) (s : State) (seen : List 
 abbrev no_pages : List FilePage
 no_pages = []
 
-module _ (files : List File) (told : Told) (s : State) (p number : ℕ) (seen : List ℕ) (may : List ℕ → Type 0) (old new : ℕ → List ℕ) (sound : IsSound s) (latest : IsLatest files told s) (touched : AreTouched told s)
+module _ (files : List File) (told : Told) (s : State) (p number : ℕ) (seen : List ℕ) (may : List ℕ → Type 0) (old new : ℕ → List ℕ) (sound : IsSound s) (has_files : HasFiles files told.history s) (latest : IsLatest files told s) (touched : AreTouched told s)
     (stands : IsStanding s.table s.write_outs old new seen may) (w : IsWritten files told s old new) (next : number ≡ s.marks + 1) (lock : s.hardware.shootdown.lock ≡ Some (record { holder = p; change = Checkpoint })) where
   abbrev history : List Event
   history = told.history
@@ -107,6 +110,9 @@ module _ (files : List File) (told : Told) (s : State) (p number : ℕ) (seen : 
   same_made : (file page : ℕ) → after (memory_of files) made file page ≡ memory file page
   same_made file page = ap (λ (m : Memory). m file page) (after_mark (memory_of files) history number)
 
+  lengths_made : lengths_after (lengths_of files) made ≡ s.lengths
+  lengths_made = lengths_mark (lengths_of files) history number ∙ has_files.lengths
+
   same_longer : (file page : ℕ) → after (memory_of files) longer file page ≡ memory file page
   same_longer file page = ap (λ (m : Memory). m file page) (after_marked (memory_of files) history number)
 
@@ -118,20 +124,23 @@ module _ (files : List File) (told : Told) (s : State) (p number : ℕ) (seen : 
     in_file : (outs : WriteOutsValue) (owner : FilePage) → IsInFile (marked_with noted spaces outs) owner → IsInFile s owner
     in_file outs owner is = record { there = is.there; inside = is.inside }
 
-    -- contents that have the memory of now
-    made_contents : (outs : WriteOutsValue) (contents : ℕ → List ℕ) → HasParts s contents memory → AreContentsOf files longer (marked_with noted spaces outs) contents made
-    made_contents outs contents parts = record {
+    -- contents that have the memory and the lengths of now
+    made_contents : (contents : ℕ → List ℕ) → HasLengths s.table contents → lengths_in s.table contents ≡ s.lengths → HasParts s.table s.lengths contents memory → AreContentsOf files longer s.table contents made
+    made_contents contents fits lengths parts = record {
       rest = cond (has_unmarked history) [] (Acknowledge number ∷ []);
       begins = append_assoc history (Mark number ∷ []) (cond (has_unmarked history) [] (Acknowledge number ∷ []));
       marked = inr (history, number, refl);
       whole = λ file page. ap length (same_made file page) ∙ latest.whole file page;
-      parts = λ owner is. parts owner (in_file outs owner is) ∙ sym (ap (within_file s owner) (same_made owner.file owner.page));
+      fits = fits;
+      same_lengths = lengths ∙ sym lengths_made;
+      parts = subst (λ (l : List ℕ). HasParts s.table l contents (after (memory_of files) made)) (sym lengths_made)
+          (λ owner there inside. parts owner there inside ∙ sym (ap (part s.lengths owner) (same_made owner.file owner.page)));
     }
 
     -- such contents have what a page has that got no store
-    made_clean : (outs : WriteOutsValue) (contents : ℕ → List ℕ) → HasParts s contents memory → (owner : FilePage) → IsInFile (marked_with noted spaces outs) owner → is_touched longer owner.file owner.page ≡ false
+    made_clean : (outs : WriteOutsValue) (contents : ℕ → List ℕ) → HasParts s.table s.lengths contents memory → (owner : FilePage) → IsInFile (marked_with noted spaces outs) owner → is_touched longer owner.file owner.page ≡ false
         → within_file s owner (contents (home_of s.table owner)) ≡ within_file s owner (after (memory_of files) longer owner.file owner.page)
-    made_clean outs contents parts owner is untouched = parts owner (in_file outs owner is) ∙ sym (ap (within_file s owner) (same_longer owner.file owner.page))
+    made_clean outs contents parts owner is untouched = parts owner is.there is.inside ∙ sym (ap (within_file s owner) (same_longer owner.file owner.page))
 
     none_now : (change_in None ≡ Some Checkpoint) → ⊥
     none_now e = cc
@@ -153,7 +162,7 @@ module _ (files : List File) (told : Told) (s : State) (p number : ℕ) (seen : 
       -- so the mark is acknowledged at once
       unstored : has_unmarked history ≡ false
       unstored = false_from_ne_true (has_unmarked history) (λ stored.
-          let some = some_touched (λ file page. false) false history (λ never. absurd (both_ways false refl never)) stored in
+          let some = some_touched history has_files.resized stored in
           both_ways (is_touched history some.0 some.1) (untouched (record { file = some.0; page = some.1 })) some.2)
 
       all_acked : (n : ℕ) → Contains longer (Mark n) → Contains longer (Acknowledge n)
@@ -167,8 +176,8 @@ module _ (files : List File) (told : Told) (s : State) (p number : ℕ) (seen : 
       made_acked : (n : ℕ) → Contains made (Mark n) → Contains longer (Acknowledge n)
       made_acked n has = all_acked n (in_history made (cond (has_unmarked history) [] (Acknowledge number ∷ [])) longer (Mark n) (append_assoc history (Mark number ∷ []) (cond (has_unmarked history) [] (Acknowledge number ∷ []))) has)
 
-      all_parts : HasParts s new memory
-      all_parts owner is = clean owner is (untouched owner)
+      all_parts : HasParts s.table s.lengths new memory
+      all_parts owner there inside = clean owner (record { there = there; inside = inside }) (untouched owner)
 
       pub marked_nothing : IsDurable files now (marked_with noted spaces s.write_outs) seen may
       marked_nothing = record {
@@ -177,10 +186,10 @@ module _ (files : List File) (told : Told) (s : State) (p number : ℕ) (seen : 
         stands = stands_other s.table old new new s.write_outs seen may committed stands;
         written = record {
           before = made;
-          old_are = made_contents s.write_outs new all_parts;
+          old_are = made_contents new w.new_are.fits w.same_lengths all_parts;
           acknowledged = made_acknowledged;
           marked = made;
-          new_are = made_contents s.write_outs new all_parts;
+          new_are = made_contents new w.new_are.fits w.same_lengths all_parts;
           grown = made_acknowledged;
           marks = All-weaker (λ (x : WriteOut). Contains w.marked (Mark x.batch.mark)) (λ (x : WriteOut). Contains made (Mark x.batch.mark)) (λ x has. in_made (Mark x.batch.mark) has) s.write_outs.batches w.marks;
           fresh = λ y there early has. none_early y there early;
@@ -188,6 +197,7 @@ module _ (files : List File) (told : Told) (s : State) (p number : ℕ) (seen : 
           numbered = made_numbered;
           ready = λ broken held. absurd (none_now held);
           clean = inr (made_clean s.write_outs new all_parts);
+          same_lengths = w.same_lengths;
           frozen = subst (λ (pages : List FilePage). All (λ owner. new (home_of s.table owner) ≡ cut_at_end s owner (bytes_at_mark s.hardware.memory owner)) pages) (sym nothing_frozen) (λ k d lt. absurd (omega arith));
         };
       }
@@ -206,7 +216,7 @@ module _ (files : List File) (told : Told) (s : State) (p number : ℕ) (seen : 
 
       -- so the mark isn't acknowledged at once
       waits : (n : ℕ) → Contains (marked_by history number) (Acknowledge n) → ⊥
-      waits n has = both_ways (has_unmarked history) (only_itself history number n has).0 (unmarked_by_touched first.file first.page false false history (λ e. e) (is_stored first (0, omega arith, refl)))
+      waits n has = both_ways (has_unmarked history) (only_itself history number n has).0 (unmarked_by_touched history first.file first.page (is_stored first (0, omega arith, refl)))
 
       -- of a broken machine the mark is lost
       pub marked_lost : s.write_outs.broken ≡ true → IsDurable files now (marked_with noted spaces s.write_outs) seen may
@@ -233,6 +243,7 @@ module _ (files : List File) (told : Told) (s : State) (p number : ℕ) (seen : 
               numbered = made_numbered;
               ready = λ broken held. absurd (none_now held);
               clean = inl (record { broken = broken; no_mark = λ held. none_now held });
+              same_lengths = w.same_lengths;
               frozen = subst (λ (pages : List FilePage). All (λ owner. new (home_of s.table owner) ≡ cut_at_end s owner (bytes_at_mark s.hardware.memory owner)) pages) (sym (gathers.frozen ∙ cond-false (not s.write_outs.broken) pages [] (not_from_true s.write_outs.broken broken))) (λ k d lt. absurd (omega arith));
             };
           }
@@ -251,8 +262,20 @@ module _ (files : List File) (told : Told) (s : State) (p number : ℕ) (seen : 
       abbrev next_contents : ℕ → List ℕ
       next_contents = overlaid s pages new
 
-      next_parts : HasParts s next_contents memory
-      next_parts owner is = elim (cases_Bool (is_touched history owner.file owner.page)) [
+      -- the lengths are those that New had
+      same_block : 0 < lengths_blocks s.table.layout → next_contents (first_home s.table.layout s.table.slots) ≡ new (first_home s.table.layout s.table.slots)
+      same_block some = overlaid-other s pages new (first_home s.table.layout s.table.slots) (λ has.
+          let at = contains_unmapped (home_of s.table) pages (first_home s.table.layout s.table.slots) has in
+          let home = at.2 in absurd (omega (arith, home, some)))
+
+      next_lengths : lengths_in s.table next_contents ≡ s.lengths
+      next_lengths = lengths_in-same s.table next_contents new same_block ∙ w.same_lengths
+
+      next_fits : HasLengths s.table next_contents
+      next_fits = has_lengths-same s.table new next_contents (λ some. sym (same_block some)) w.new_are.fits
+
+      next_parts : HasParts s.table s.lengths next_contents memory
+      next_parts owner there inside = let is : IsInFile s owner = record { there = there; inside = inside } in elim (cases_Bool (is_touched history owner.file owner.page)) [
         | inl stored ↦
             (let has = is_gathered owner stored in
             ap (within_file s owner) (overlaid-at s sound new pages owner in_files has ∙ ap (cut_at_end s owner) (gathered_bytes owner has)) ∙ within_cut s owner (memory owner.file owner.page) (latest.whole owner.file owner.page))
@@ -289,7 +312,7 @@ module _ (files : List File) (told : Told) (s : State) (p number : ℕ) (seen : 
               old_are = contents_more files history (marked_by history number) s x (record { table = refl; lengths = refl }) new w.marked w.new_are;
               acknowledged = acknowledged_more w.marked history (marked_by history number) (λ n has. absurd (waits n has)) w.grown;
               marked = made;
-              new_are = made_contents outs next_contents next_parts;
+              new_are = made_contents next_contents next_fits next_lengths next_parts;
               grown = made_acknowledged;
               marks = All-push (λ (y : WriteOut). Contains made (Mark y.batch.mark)) s.write_outs.batches (begun_of (next_batch s.write_outs number homes))
                   (All-weaker (λ (y : WriteOut). Contains w.marked (Mark y.batch.mark)) (λ (y : WriteOut). Contains made (Mark y.batch.mark)) (λ y has. in_made (Mark y.batch.mark) has) s.write_outs.batches w.marks)
@@ -309,6 +332,7 @@ module _ (files : List File) (told : Told) (s : State) (p number : ℕ) (seen : 
               numbered = made_numbered;
               ready = λ broken held. absurd (none_now held);
               clean = inr (made_clean outs next_contents next_parts);
+              same_lengths = next_lengths;
               frozen = subst (λ (l : List FilePage). All (λ owner. next_contents (home_of s.table owner) ≡ cut_at_end s owner (bytes_at_mark s.hardware.memory owner)) l) (sym (gathers.frozen ∙ cond-true (not s.write_outs.broken) pages [] (not_from_false s.write_outs.broken whole)))
                   (λ k d lt. overlaid-at s sound new pages (get_or pages k d) in_files (Contains-get_or pages k d lt));
             };

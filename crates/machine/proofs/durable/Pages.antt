@@ -7,7 +7,7 @@ use Rattle.machine.proofs.Names.{FilePage, FramesState, Frame, frame_at, bytes_o
 use Rattle.machine.proofs.Names.{with_page, with_bytes, without_frame, page_of, with_copy, frame_at-free}
 use Rattle.machine.proofs.Names.{frame_at-with_page_same, frame_at-with_page_other, frame_at-with_bytes_same}
 use Rattle.machine.proofs.Names.{frame_at-without_frame_same, frame_at-without_frame_other, same_page-true}
-use Rattle.machine.proofs.Names.{same_page-refl, list_any-has_page, has_page-list_any, Holds, same_page, is_of_page}
+use Rattle.machine.proofs.Names.{same_page-refl, has_page-list_any, Holds, same_page, is_of_page}
 use Rattle.machine.proofs.Names.{freed_copy, is_copied, is_frozen, is_held, is_in_memory, Contains, list_any}
 use Rattle.machine.proofs.Names.{bytes_with, MayLeave, bytes_at_mark, All-contains, slice_get_within}
 use Rattle.machine.proofs.Names.{get_or_from_slice_get, HasBlock, State, home_of, IsSound}

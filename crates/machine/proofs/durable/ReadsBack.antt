@@ -11,7 +11,7 @@ use Rattle.machine.proofs.Names.{IsNew, StopsBefore, StopsWithin, StopsInStep, S
 use Rattle.machine.proofs.Names.{processor_at, IsUsable, Holds, is_held, page_at, MarkMade, IsInFile, HasPart}
 use Rattle.machine.proofs.Names.{AreFrozenProtected}
 use Rattle.journal.specs.WriteOuts.{current}
-use Rattle.machine.proofs.durable.FileParts.{files_have}
+use Rattle.machine.proofs.durable.FileParts.{prefix_has}
 use Rattle.machine.proofs.durable.Marks.{IsDurable, committed, clean}
 use Rattle.machine.proofs.durable.Uncommitted.{current_there, waiting_is_current, none_current}
 use Rattle.machine.proofs.durable.Lists.{some_same}
@@ -28,29 +28,29 @@ left_either v old new (Some Committing) c left = left
 left_either v old new o c left = inr left
 
 -- bytes that recover to the contents after a durable prefix read back so
-pub reads_contents : (files : List File) (history : List Event) (s : State) → IsSound s → HasFiles files s → (contents : ℕ → List ℕ) (prefix : List Event) → AreContentsOf files history s contents prefix → HasAcknowledged prefix history
+pub reads_contents : (files : List File) (history : List Event) (s : State) → IsSound s → HasFiles files history s → (contents : ℕ → List ℕ) (prefix : List Event) → AreContentsOf files history s.table contents prefix → HasAcknowledged prefix history
     → (c : List ℕ) → Recovers s.table contents c → ReadsBack files history c
 reads_contents files history s sound has contents prefix are acknowledged c recovers = record {
   prefix = prefix;
   durable = record { rest = are.rest; begins = are.begins; marked = are.marked; acknowledged = acknowledged };
-  recovers = record { table = s.table; contents = contents; recovers = recovers; files_are = files_have files s sound has contents (after (memory_of files) prefix) are.whole are.parts };
+  recovers = record { table = s.table; contents = contents; recovers = recovers; lengths = are.fits; files_are = prefix_has files s.table has.named history contents prefix are };
 }
 
-pub reads_within : (files : List File) (told : Told) (s : State) → IsSound s → HasFiles files s → (old new : ℕ → List ℕ) → IsWritten files told s old new → (c : List ℕ) → LeftWithin s.table old new (current_stage s.write_outs) c → ReadsBack files told.history c
+pub reads_within : (files : List File) (told : Told) (s : State) → IsSound s → HasFiles files told.history s → (old new : ℕ → List ℕ) → IsWritten files told s old new → (c : List ℕ) → LeftWithin s.table old new (current_stage s.write_outs) c → ReadsBack files told.history c
 reads_within files told s sound has old new w c left = elim (left_either s.table old new (current_stage s.write_outs) c left) [
   | inl is ↦ reads_contents files told.history s sound has old w.before w.old_are w.acknowledged c is
   | inr is ↦ reads_contents files told.history s sound has new w.marked w.new_are w.grown c is
 ]
 
 -- what a crash may leave now
-pub reads_now : (files : List File) (told : Told) (s : State) (seen : List ℕ) (may : List ℕ → Type 0) → IsSound s → HasFiles files s → IsDurable files told s seen may → (c : List ℕ) → may c → ReadsBack files told.history c
+pub reads_now : (files : List File) (told : Told) (s : State) (seen : List ℕ) (may : List ℕ → Type 0) → IsSound s → HasFiles files told.history s → IsDurable files told s seen may → (c : List ℕ) → may c → ReadsBack files told.history c
 reads_now files told s seen may sound has is c left = reads_within files told s sound has is.old is.new is.written c (stands_left s.table is.old is.new s.write_outs seen may is.stands c left)
 
 -- ---- what a crash leaves by the write-out whose step comes next
 
-module _ (files : List File) (told : Told) (s : State) (sound : IsSound s) (has : HasFiles files s) (old new : ℕ → List ℕ) (w : IsWritten files told s old new) (ordered : AreInOrder s.write_outs.batches) (c : List ℕ) where
-  recovers_to : (contents : ℕ → List ℕ) (prefix : List Event) → AreContentsOf files told.history s contents prefix → Recovers s.table contents c → RecoversTo c (files_after files prefix)
-  recovers_to contents prefix are recovers = record { table = s.table; contents = contents; recovers = recovers; files_are = files_have files s sound has contents (after (memory_of files) prefix) are.whole are.parts }
+module _ (files : List File) (told : Told) (s : State) (sound : IsSound s) (has : HasFiles files told.history s) (old new : ℕ → List ℕ) (w : IsWritten files told s old new) (ordered : AreInOrder s.write_outs.batches) (c : List ℕ) where
+  recovers_to : (contents : ℕ → List ℕ) (prefix : List Event) → AreContentsOf files told.history s.table contents prefix → Recovers s.table contents c → RecoversTo c (files_after files prefix)
+  recovers_to contents prefix are recovers = record { table = s.table; contents = contents; recovers = recovers; lengths = are.fits; files_are = prefix_has files s.table has.named told.history contents prefix are }
 
   -- where no batch waits, New is the files at the last acknowledged mark
   settled : ((n : ℕ) → IsWaiting s.write_outs.batches n → ⊥) → Recovers s.table new c → IsAcknowledged files told.history c
@@ -181,11 +181,11 @@ module _ (files : List File) (told : Told) (s : State) (seen : List ℕ) (may : 
   -- a page that isn't gathered at a mark has the bytes that each list that a crash may leave recovers to
   pub kept_page : (owner : FilePage) → IsInFile s owner → (Contains is.pages owner → ⊥) → (c : List ℕ) → may c → HasPart s owner (after (memory_of files) told.history owner.file owner.page) c
   kept_page owner in_file other c left =
-      let none = committed files told s p number seen may t.old t.new t.sound t.latest t.touched t.stands t.written is.next is.may.lock in
+      let none = committed files told s p number seen may t.old t.new t.sound t.files_are t.latest t.touched t.stands t.written is.next is.may.lock in
       let untouched : is_touched told.history owner.file owner.page ≡ false =
       false_from_ne_true (is_touched told.history owner.file owner.page) (λ stored. other ((is.gathered.gathered.dirty owner).1 ((t.touched owner).0 stored))) in
       record {
         contents = t.new;
         recovers = left_new s.table t.old t.new (current_stage s.write_outs) c (stage_committed s.write_outs.batches none) (stands_left s.table t.old t.new s.write_outs seen may t.stands c left);
-        same = clean files told s p number seen may t.old t.new t.sound t.latest t.touched t.stands t.written is.next is.may.lock owner in_file untouched;
+        same = clean files told s p number seen may t.old t.new t.sound t.files_are t.latest t.touched t.stands t.written is.next is.may.lock owner in_file untouched;
       }

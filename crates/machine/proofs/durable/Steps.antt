@@ -6,10 +6,10 @@ use Rattle.machine.proofs.Names.{SuperValue, geometry_of, AreHomes, without_note
 use Rattle.machine.proofs.Names.{TornFromWork, WriteOut, begun_of, WriteOutsValue, current_stage, next_answer}
 use Rattle.machine.proofs.Names.{next_batch, begun, outs_record, outs_after, LeftWithin, IsStanding, IsTied}
 use Rattle.machine.proofs.Names.{stands_left, Act, Reply, Step, Event, Memory, Acknowledge, memory_of, has_unmarked}
-use Rattle.machine.proofs.Names.{State, Whole, home_of, end_change, FlushMade, FlushFailed, MarkMade, with_batch}
+use Rattle.machine.proofs.Names.{State, Whole, home_of, end_change, FlushMade, HasStepped, FlushFailed, MarkMade, with_batch}
 use Rattle.machine.proofs.Names.{work_asked, reply_to, after_record, after_failure, Told, tell, ended_by, ReadsBack}
 use Rattle.machine.proofs.Names.{StepIsSafe, StopsInStep, step_work, StepMade, StepTaken, IsSound, IsArranged}
-use Rattle.machine.proofs.Names.{IsTracked, said_all, IsMoved, Performed, Moved, Marked, Failed}
+use Rattle.machine.proofs.Names.{lengths_of, IsTracked, said_all, IsMoved, Performed, Moved, Marked, Failed}
 use Rattle.page_entry.specs.declared.refusal.Refusal.TheVariants as refusals
 use Rattle.journal.specs.declared.flushed.Flushed.TheVariants as flushed
 use Rattle.machine.specs.declared.act.Act.TheVariants as acts
@@ -17,7 +17,7 @@ use Rattle.machine.specs.declared.act.Reply.TheVariants as replies
 use Rattle.machine.specs.inside.Moves.{Flushed as Stepped}
 use Rattle.machine.proofs.sound.Kept.{performed_sound}
 use Rattle.machine.proofs.acts.All.{performed}
-use Rattle.machine.proofs.durable.Histories.{written_as, marked_by, after_marked, AreQuiet, quiet_nothing, quiet_acknowledge, touched_mark, SameFiles}
+use Rattle.machine.proofs.durable.Histories.{written_as, marked_by, after_marked, lengths_marked, resized_mark, AreQuiet, quiet_nothing, quiet_acknowledge, touched_mark, SameFiles}
 use Rattle.machine.proofs.durable.Marks.{IsDurable, marked_durable}
 use Rattle.machine.proofs.durable.Flushes.{flush_within, flush_failed, flush_goes_on, flush_commits}
 use Rattle.machine.proofs.durable.ReadsBack.{reads_within, reads_now, stops_within}
@@ -174,7 +174,8 @@ module _ (files : List File) (told : Told) (s : State) (disk : List ℕ) (may : 
     marked_pages =
         let memory = after_marked (memory_of files) told.history number in
         subst (HasPages files marked) (sym made.done) (record {
-          files_are = files_kept files s _ (record { table = refl; lengths = refl }) has.files_are;
+          files_are = files_kept files told.history marked.history s _ (record { table = refl; lengths = refl }) (lengths_marked (lengths_of files) told.history number)
+              (resized_mark told.history number (has_unmarked told.history)) has.files_are;
           latest = record {
             whole = λ file page. ap (λ (m : Memory). length (m file page)) memory ∙ has.latest.whole file page;
             latest = λ frame owner holds. has.latest.latest frame owner holds ∙ ap (λ (m : Memory). m owner.file owner.page) (sym memory);
@@ -190,7 +191,7 @@ module _ (files : List File) (told : Told) (s : State) (disk : List ℕ) (may : 
     marking told_is work same_disk =
         outcome_as marked Nothing told_is work (tracked_of marked marked_arranged marked_pages
         (durable_as files (record told { history = told.history ++ marked_by told.history number }) marked new disk disk' may' refl same_disk
-        (marked_durable files told s p number disk may' t.old t.new t.sound t.latest t.touched (stands_less s.table s.write_outs t.old t.new disk may may' (left_by Nothing work) t.stands) t.written made.next made.may.lock new made (fits number made)))) left_now
+        (marked_durable files told s p number disk may' t.old t.new t.sound t.files_are t.latest t.touched (stands_less s.table s.write_outs t.old t.new disk may may' (left_by Nothing work) t.stands) t.written made.next made.may.lock new made (fits number made)))) left_now
 
   -- ---- a step of the write-outs
 
@@ -208,7 +209,7 @@ module _ (files : List File) (told : Told) (s : State) (disk : List ℕ) (may : 
       pages_quiet files told (with_events events) s x events refl quiet same has pages,
     )
 
-    stepped : FlushMade s disk p reply new disk' → IsAsTold new
+    stepped : FlushMade s disk p (next_answer s.write_outs) new disk' → IsAsTold new
     stepped made =
         subst IsAsTold (sym made.done)
         (elim (is_some (outs_record s.write_outs)) as (λ b. IsAsTold (record (cond b (after_record s) s) { write_outs = outs_after s.write_outs (next_answer s.write_outs) })) [
@@ -216,7 +217,7 @@ module _ (files : List File) (told : Told) (s : State) (disk : List ℕ) (may : 
           | false ↦ beside _ refl refl (record { table = refl; lengths = refl }) (record { frames = refl; dirty = λ frame. (λ d. d, λ d. d) })
         ])
 
-  module _ (made : FlushMade s disk p reply new disk') (work : step_work s act reply ≡ work_asked s) (sure_now : work_asked s ≡ Sync → Only may' disk) where
+  module _ (made : FlushMade s disk p (next_answer s.write_outs) new disk') (work : step_work s act reply ≡ work_asked s) (sure_now : work_asked s ≡ Sync → Only may' disk) where
     abbrev after_it : State
     after_it = record (cond (is_some (outs_record s.write_outs)) (after_record s) s) { write_outs = outs_after s.write_outs (next_answer s.write_outs) }
 
@@ -239,16 +240,16 @@ module _ (files : List File) (told : Told) (s : State) (disk : List ℕ) (may : 
     step_durable flushed.Device is goes = absurd goes
     step_durable flushed.Broken is goes = absurd goes
 
-  stepping : act ≡ acts.Flush → FlushMade s disk p reply new disk' → ((why : Refusal) → reply ≢ replies.Refused why) → Outcome
-  stepping act_is made fine =
+  stepping : act ≡ acts.Flush → HasStepped s disk p reply new disk' → ((why : Refusal) → reply ≢ replies.Refused why) → Outcome
+  stepping act_is by fine =
       let a = next_answer s.write_outs in
-      let goes = step_goes a reply made.answered fine in
-      let told_is = (λ i. tell told (record { p = p; act = act_is i }) (made.answered i)) ∙ step_told told p a in
-      let work = (λ i. step_work s (act_is i) (made.answered i)) ∙ step_asks s a goes in
-      let as_told = stepped (acknowledged_by a) (step_quiet told.history a) made in
+      let goes = step_goes a reply by.answered fine in
+      let told_is = (λ i. tell told (record { p = p; act = act_is i }) (by.answered i)) ∙ step_told told p a in
+      let work = (λ i. step_work s (act_is i) (by.answered i)) ∙ step_asks s a goes in
+      let as_told = stepped (acknowledged_by a) (step_quiet told.history a) by.made in
       outcome_as (with_events (acknowledged_by a)) (work_asked s) told_is work
-      (tracked_of (with_events (acknowledged_by a)) as_told.0 as_told.1 (step_durable made work (λ sync. sure (fine refusals.Device) (work ∙ sync)) a refl goes))
-      (flush_within files told s disk may t.old t.new t.sound t.stands t.written p made.allowed made.some)
+      (tracked_of (with_events (acknowledged_by a)) as_told.0 as_told.1 (step_durable by.made work (λ sync. sure (fine refusals.Device) (work ∙ sync)) a refl goes))
+      (flush_within files told s disk may t.old t.new t.sound t.stands t.written p by.made.allowed by.made.some)
 
   failing : act ≡ acts.Flush → reply ≡ replies.Refused refusals.Device → FlushFailed s disk p new disk' → Outcome
   failing act_is reply_is made =

@@ -1,6 +1,6 @@
 -- Batches that aren't committed: a step makes none of one that is.
 use Rattle.machine.proofs.Names.{◌≡◌, ◌≤◌, ◌+◌, ◌⊎◌, ℕ, zero, suc, true, false, not, List, [], ◌∷◌, Option, Some, None}
-use Rattle.machine.proofs.Names.{inl, inr, refl, sym, ap, ◌∙◌, subst, arith, map, drop, Contains, AllByRecursion}
+use Rattle.machine.proofs.Names.{inl, inr, refl, sym, ap, ◌∙◌, subst, arith, map, Contains, AllByRecursion}
 use Rattle.machine.proofs.Names.{option_map_or, cond-true, cond-false, cases_Bool, both_ways, or_from, not_from_true}
 use Rattle.machine.proofs.Names.{false_from_ne_true, Contains-append_right, Batch, Flushed, Going, Committed, Done}
 use Rattle.machine.proofs.Names.{Device, Broken, Stage, Recording, Describing, SyncingRecords, Opening, Committing}

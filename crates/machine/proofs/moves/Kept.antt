@@ -7,11 +7,12 @@ use Rattle.machine.proofs.Names.{finished, destroyed, destroy_refusal, IsShootdo
 use Rattle.machine.proofs.Names.{Coheres-begun, entry_at-remove_other, IsNoWider-remove, elsewhere}
 use Rattle.machine.proofs.Names.{IsShootdown-destroyed, current-destroyed, length-destroyed, Coheres-destroyed}
 use Rattle.machine.proofs.Names.{IsInSpace, AreBacked-remove, AreBacked-frozen, Hardware, State, page_from}
-use Rattle.machine.proofs.Names.{destroy_refusal_of, with_hardware, SpaceDestroyed, IsPrepared, IsSound, Saying}
+use Rattle.machine.proofs.Names.{reason_against, with_hardware, SpaceDestroyed, IsPrepared, IsSound, Saying}
 use Rattle.machine.proofs.Names.{BeginsChange, EndsChange, StoresBytes, Move, Moves, Replace, Remap, Destroy, Begin}
 use Rattle.machine.proofs.Names.{End, Store, Bring, Copy, Drop}
 use Rattle.std.specs.FinMap as maps
 use Rattle.page_entry.specs.declared.refusal.Refusal.TheVariants as refusals
+use Rattle.machine.specs.declared.act.Act.TheVariants as acts
 use Rattle.shootdown.specs.Shootdown.{begun}
 use Rattle.machine.proofs.sound.Lists.{kept_some}
 use Rattle.machine.proofs.sound.Admitted.{first_none, free_below, running_below, unlocked}
@@ -55,7 +56,7 @@ pub record MayDestroy (s : State) (p pcid : ℕ) : Type 0 where
   pub user : is_user_space s.hardware.spaces pcid ≡ true
   pub unused : is_current s.hardware.shootdown pcid ≡ false
 
-pub destroy_admitted : (s : State) (p pcid : ℕ) → destroy_refusal_of s p pcid ≡ None → MayDestroy s p pcid
+pub destroy_admitted : (s : State) (p pcid : ℕ) → reason_against s p (acts.Destroy pcid) ≡ None → MayDestroy s p pcid
 destroy_admitted s p pcid none =
     let space = destroy_refusal s.hardware.shootdown s.hardware.spaces pcid in
     let parts = first_none (not_free s.hardware.shootdown p) (space ∷ []) none in
@@ -68,12 +69,13 @@ destroy_admitted s p pcid none =
     by true true e = absurd (cc)
     by false current e = absurd (cc)
 
-destroyed_sound : (s : State) (p pcid : ℕ) (new : State) → SpaceDestroyed s p pcid new → IsSound s → IsSound new
-destroyed_sound s p pcid new rule sound =
+destroyed_sound : (s : State) (p pcid : ℕ) (new : State) → reason_against s p (acts.Destroy pcid) ≡ None
+    → SpaceDestroyed s pcid new → IsSound s → IsSound new
+destroyed_sound s p pcid new allowed rule sound =
     let old = s.hardware.spaces in
     let remaining = maps.remove old pcid in
     let sd = s.hardware.shootdown in
-    let may = destroy_admitted s p pcid rule.allowed in
+    let may = destroy_admitted s p pcid allowed in
     let free = (free_below sd p may.free).1 in
     let user = user_space old pcid may.user in
     let apart : (q : ℕ) → q < length sd.processors → current sd q ≢ pcid = λ q within. elsewhere sd.processors pcid may.unused q _ within in
@@ -117,7 +119,7 @@ pub move_sound : (disk : List ℕ) (s : State) (says : Saying) (new : State) →
     → IsSound new
 move_sound disk s says new (Replace is) sound = processor_sound s says new is sound
 move_sound disk s says new (Remap spaces is dirty) sound = spaces_sound s spaces says new is sound
-move_sound disk s says new (Destroy is) sound = destroyed_sound s is.p is.pcid new is.made sound
+move_sound disk s says new (Destroy is) sound = destroyed_sound s is.p is.pcid new is.allowed is.made sound
 move_sound disk s says new (Begin is) sound = begun_sound s says new is sound
 move_sound disk s says new (End is) sound = ended_sound s says new is sound
 move_sound disk s says new (Store is) sound = stored_sound s says new is sound

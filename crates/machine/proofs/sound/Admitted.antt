@@ -5,8 +5,9 @@ use Rattle.machine.proofs.Names.{ProcState, Active, Interrupted, Stalled, Initia
 use Rattle.machine.proofs.Names.{is_there, state_of, current, not_running, not_free, is_interrupted, interrupted}
 use Rattle.machine.proofs.Names.{not_there, wait_refusal, idle_refusal, switch_refusal, change_refusal, lock_refusal}
 use Rattle.machine.proofs.Names.{is_there_below, none_unless_some, admitted, running, place_of_fault, fault_refusal}
-use Rattle.machine.proofs.Names.{State, length_of, refuse_if, first_of, served_refusal, fix_refusal}
+use Rattle.machine.proofs.Names.{State, length_of, refuse_if, first_of, served_refusal, reason_against}
 use Rattle.page_entry.specs.declared.refusal.Refusal.TheVariants as refusals
+use Rattle.machine.specs.declared.act.Act.TheVariants as acts
 
 -- ---- none of several reasons
 
@@ -97,7 +98,7 @@ pub free_of : (s : State) (p : ℕ) (later : Option Refusal) → option_or (not_
 free_of s p later none = (both_none (not_free s.hardware.shootdown p) later none).0
 
 -- nothing is against the service of a fault that leads to a place
-pub served_at_fix : (s : State) (p va : ℕ) (write : Bool) (place : Place) → fix_refusal s p va write ≡ None → place_of_fault s.hardware.spaces (current s.hardware.shootdown p) va write ≡ Ok place
+pub served_at_fix : (s : State) (p va : ℕ) (write : Bool) (place : Place) → reason_against s p (acts.Fix va write) ≡ None → place_of_fault s.hardware.spaces (current s.hardware.shootdown p) va write ≡ Ok place
     → fault_refusal s.hardware.memory s.checkpoint s.write_outs.broken place (length_of s place.file) write ≡ None
 served_at_fix s p va write place none leads =
     (both_none (served_refusal s write (Ok place)) None

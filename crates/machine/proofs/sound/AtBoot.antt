@@ -1,5 +1,6 @@
 -- A fresh machine is sound.
-use Rattle.machine.proofs.Names.{ℕ, ◌≡◌, ◌≤◌, false, List, length, replicate, Option, None, refl, sym, ap, ◌∙◌, arith}
+use Rattle.machine.proofs.Names.{ℕ, zero, suc, ◌≡◌, ◌≤◌, false, List, [], ◌∷◌, length, map, get_or, slice_get, replicate, Option}
+use Rattle.machine.proofs.Names.{None, Some, TableFile, refl, sym, ap, ◌∙◌, arith}
 use Rattle.machine.proofs.Names.{false≢true, eq-eqb, length-replicate, get_or-replicate, FilePage, Frame, all_free}
 use Rattle.machine.proofs.Names.{page_of, SuperValue, Fits, first_spaces, has_space, has_space-first_spaces}
 use Rattle.machine.proofs.Names.{entry_at-first_spaces, place_at-first_spaces, AreSpaces-first_spaces, fresh_processor}
@@ -54,6 +55,17 @@ module _ (table : SuperValue) (lengths : List ℕ) (shape : Shape) (is : IsShape
 
   fresh_state_sound : Fits table → length lengths ≡ length table.files → ((file : ℕ) → length_of (fresh table lengths shape) file ≤ capacity_of (fresh table lengths shape) file) → IsSound (fresh table lengths shape)
   fresh_state_sound fits same within = record { fits = fits; lengths = same; within = within; spaces = fresh_spaces; memory = fresh_memory; write_outs = fresh_write_outs }
+
+-- each length is at most its file's capacity, and where there is no file both are 0
+pub lengths_within : (fs : List TableFile) (lengths : List ℕ) → length lengths ≡ length fs
+    → ((i n : ℕ) (f : TableFile) → slice_get fs i ≡ Some f → slice_get lengths i ≡ Some n → n ≤ f.capacity)
+    → (file : ℕ) → get_or lengths file 0 ≤ get_or (map (λ (f : TableFile). f.capacity) fs) file 0
+lengths_within [] [] count within file = omega arith
+lengths_within [] (n ∷ lengths) count within file = absurd (omega (arith, count))
+lengths_within (f ∷ fs) [] count within file = absurd (omega (arith, count))
+lengths_within (f ∷ fs) (n ∷ lengths) count within zero = within 0 n f refl refl
+lengths_within (f ∷ fs) (n ∷ lengths) count within (suc file) =
+    lengths_within fs lengths (omega (arith, count)) (λ i m g at size. within (suc i) m g at size) file
 
 pub fresh_sound : (s : State) → IsFresh s → Fits s.table → length s.lengths ≡ length s.table.files → ((file : ℕ) → length_of s file ≤ capacity_of s file) → IsSound s
 fresh_sound s is fits same within = unchanged_sound (fresh s.table s.lengths is.shape) s is.as_booted (fresh_state_sound s.table s.lengths is.shape is.fits fits same within)

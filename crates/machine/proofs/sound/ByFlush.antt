@@ -6,11 +6,12 @@ use Rattle.machine.proofs.Names.{Refusal, without_copies, GeometryValue, journal
 use Rattle.machine.proofs.Names.{answer_of, has_uncommitted, advanced, batches_after, outs_after, outs_record}
 use Rattle.machine.proofs.Names.{next_answer, is_busy, committed_parts, not_running, without_copy_of, released, thawed}
 use Rattle.machine.proofs.Names.{AreRising-drop, AreBacked-thawed, AreBacked-released, AreCopiesOfFrozen-release}
-use Rattle.machine.proofs.Names.{is_in_memory, Reply, State, home_of, refuse_if, flush_refusal, next_page, reply_to}
-use Rattle.machine.proofs.Names.{after_record, after_failure, FlushMade, AreOlderCommitted, IsSound}
+use Rattle.machine.proofs.Names.{is_in_memory, Reply, State, home_of, refuse_if, reason_against, next_page, reply_to}
+use Rattle.machine.proofs.Names.{after_record, after_failure, HasStepped, AreOlderCommitted, IsSound}
 use Rattle.page_entry.specs.declared.refusal.Refusal.TheVariants as refusals
 use Rattle.journal.specs.declared.flushed.Flushed.TheVariants as flushed
 use Rattle.journal.specs.WriteOuts.{current}
+use Rattle.machine.specs.declared.act.Act.TheVariants as acts
 use Rattle.machine.specs.declared.act.Reply.TheVariants as replies
 use Rattle.machine.proofs.sound.Admitted.{first_none, refuse_none}
 use Rattle.machine.proofs.sound.Groups.{still_sound, unchanged_sound, memory_same}
@@ -115,7 +116,7 @@ failed_sound s sound =
 
 -- ---- the act
 
-pub flush_admitted : (s : State) (p : ℕ) → flush_refusal s p ≡ None → (not_running s.hardware.shootdown p ≡ None) × (s.write_outs.broken ≡ false)
+pub flush_admitted : (s : State) (p : ℕ) → reason_against s p acts.Flush ≡ None → (not_running s.hardware.shootdown p ≡ None) × (s.write_outs.broken ≡ false)
 flush_admitted s p none =
     let broken = refuse_if s.write_outs.broken refusals.Broken in
     let parts = first_none (not_running s.hardware.shootdown p) (broken ∷ []) none in
@@ -153,7 +154,7 @@ module _ (s : State) (sound : IsSound s) where
   made_sound flushed.Device whole is fine = absurd (fine refusals.Device refl)
   made_sound flushed.Broken whole is fine = absurd (fine refusals.Broken refl)
 
-  pub flushed_sound : (disk : List ℕ) (p : ℕ) (reply : Reply) (new : State) (disk' : List ℕ) → FlushMade s disk p reply new disk' → ((why : Refusal) → reply ≢ replies.Refused why) → IsSound new
+  pub flushed_sound : (disk : List ℕ) (p : ℕ) (reply : Reply) (new : State) (disk' : List ℕ) → HasStepped s disk p reply new disk' → ((why : Refusal) → reply ≢ replies.Refused why) → IsSound new
   flushed_sound disk p reply new disk' rule fine =
-      unchanged_sound (after_answer (next_answer s.write_outs)) new rule.done
-      (made_sound (next_answer s.write_outs) (flush_admitted s p rule.allowed).1 refl (λ why is. fine why (rule.answered ∙ is)))
+      unchanged_sound (after_answer (next_answer s.write_outs)) new rule.made.done
+      (made_sound (next_answer s.write_outs) (flush_admitted s p rule.made.allowed).1 refl (λ why is. fine why (rule.answered ∙ is)))

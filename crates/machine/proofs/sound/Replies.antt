@@ -10,7 +10,7 @@ use Rattle.machine.proofs.Names.{is_busy, Lock, ProcState, ShootdownState, is_cu
 use Rattle.machine.proofs.Names.{interrupted, not_there, is_stalled, is_idle, wait_refusal, lock_refusal}
 use Rattle.machine.proofs.Names.{destroy_refusal, has_free, page_at, allowed_place, place_of_fault, is_in_memory}
 use Rattle.machine.proofs.Names.{copies_out, Act, Reply, Step, State, length_of, refuse_if, first_of, why_not}
-use Rattle.machine.proofs.Names.{pages_in_file, is_msync, mapping_refusal, served_refusal, IsRefused, WantsMemory, Acts}
+use Rattle.machine.proofs.Names.{pages_in_file, is_msync, mapping_refusal, served_refusal, WantsMemory, Acts}
 use Rattle.machine.proofs.Names.{Rules}
 use Rattle.page_entry.specs.declared.refusal.Refusal.TheVariants as refusals
 use Rattle.machine.specs.declared.act.Act.TheVariants as acts
@@ -148,20 +148,19 @@ abbrev IsSparing : State → List ℕ → ℕ → Act → State → List ℕ →
 IsSparing s disk p act new disk' =
     (Acts s disk p act (replies.Refused refusals.TraceFull) new disk' → ⊥) × (Acts s disk p act (replies.Refused refusals.OutOfMemory) new disk' → WantsMemory s p act)
 
-never : {reason : Option Refusal} {why : Refusal} {s new : State} → is_odd (Some why) ≡ true → IsFine reason
-    → IsRefused reason why s new → ⊥
-never odd fine refused = false≢true (sym fine.is ∙ ap is_odd refused.reason_is ∙ odd)
+never : {reason : Option Refusal} {why : Refusal} → is_odd (Some why) ≡ true → IsFine reason → reason ≡ Some why → ⊥
+never odd fine is = false≢true (sym fine.is ∙ ap is_odd is ∙ odd)
 
 module _ (s : State) (disk : List ℕ) (p : ℕ) (new : State) (disk' : List ℕ) where
   -- refused for these reasons alone
-  refused_for : {reason : Option Refusal} {Same : Type 0} → IsFine reason
-      → (IsRefused reason refusals.TraceFull s new × Same → ⊥) × (IsRefused reason refusals.OutOfMemory s new × Same → ⊥)
-  refused_for fine = (λ rule. never refl fine rule.0, λ rule. never refl fine rule.0)
+  refused_for : {reason : Option Refusal} {Same Wants : Type 0} → IsFine reason
+      → (((reason ≡ Some refusals.TraceFull) × (new ≡ s)) × Same → ⊥) × (((reason ≡ Some refusals.OutOfMemory) × (new ≡ s)) × Same → Wants)
+  refused_for fine = (λ rule. never refl fine rule.0.0, λ rule. absurd (never refl fine rule.0.0))
 
   -- or for want of memory
   refused_wanting : {reason : Option Refusal} {Same Wants : Type 0} → IsFine reason
-      → (IsRefused reason refusals.TraceFull s new × Same → ⊥) × ((Wants × (new ≡ s)) × Same → Wants)
-  refused_wanting fine = (λ rule. never refl fine rule.0, λ rule. rule.0.0)
+      → (((reason ≡ Some refusals.TraceFull) × (new ≡ s)) × Same → ⊥) × ((Wants × (new ≡ s)) × Same → Wants)
+  refused_wanting fine = (λ rule. never refl fine rule.0.0, λ rule. rule.0.0)
 
   -- after the processor and the lock
   abbrev free : Option Refusal
@@ -174,10 +173,10 @@ module _ (s : State) (disk : List ℕ) (p : ℕ) (new : State) (disk' : List ℕ
   last_fine reason fine = then_fine (first_of (reason ∷ [])) (or_fine reason None fine no_reason)
 
   sparing : (act : Act) → IsSparing s disk p act new disk'
-  sparing (acts.Load va count) = (λ rule. rule.0.1.0, λ rule. rule.0.1.0)
-  sparing (acts.Store va bytes) = (λ rule. rule.0.1.0, λ rule. rule.0.1.0)
-  sparing (acts.Fill page) = (λ rule. let other = rule.0.1.1 in cc, λ rule. let other = rule.0.1.1 in cc)
-  sparing (acts.Evict slot) = (λ rule. let other = rule.0.1.1 in cc, λ rule. let other = rule.0.1.1 in cc)
+  sparing (acts.Load va count) = (λ rule. rule.0.1.0, λ rule. absurd rule.0.1.0)
+  sparing (acts.Store va bytes) = (λ rule. rule.0.1.0, λ rule. absurd rule.0.1.0)
+  sparing (acts.Fill page) = (λ rule. let other = rule.0.1.1 in cc, λ rule. absurd (let other = rule.0.1.1 in cc))
+  sparing (acts.Evict slot) = (λ rule. let other = rule.0.1.1 in cc, λ rule. absurd (let other = rule.0.1.1 in cc))
   sparing (acts.Switch space keep) = refused_for (then_fine _ (unless_fine _ _ _ refl no_reason))
   sparing acts.Idle = refused_for (or_fine _ _ (running_fine s.hardware.shootdown p) (if_fine _ _ _ refl no_reason))
   sparing acts.Wake = refused_for (wait_fine is_idle s.hardware.shootdown p)

@@ -1,6 +1,6 @@
 -- Loads, stores and faults are answered by what was told.
 use Rattle.machine.proofs.Names.{ℕ, ◌≡◌, ◌/◌, ◌<◌, length, get_or, ap, ◌∙◌, arith, ◌*◌, ◌^◌, ◌≤◌, Bool, true, false}
-use Rattle.machine.proofs.Names.{not, ◌&&◌, ◌||◌, cond, leb, List, Option, Some, None, is_some, Result, Ok, Err, refl}
+use Rattle.machine.proofs.Names.{not, ◌&&◌, ◌||◌, is_none, is_absent, cond, leb, List, Option, Some, None, is_some, Result, Ok, Err, refl}
 use Rattle.machine.proofs.Names.{subst, inl, inr, ◌+◌, ◌%◌, take, drop, eqb, sym, [], ◌∷◌, Places, may_write, place_at}
 use Rattle.machine.proofs.Names.{Spaces, entry_at, current, is_there, state_of, processor_at, not_running, State}
 use Rattle.machine.proofs.Names.{length_of, Whole, Told, places_in, place_told, length_told, tell, IsArranged, IsLatest}
@@ -8,9 +8,9 @@ use Rattle.machine.proofs.Names.{option_or, not-true, leb-false, leb-true, ltb-f
 use Rattle.machine.proofs.Names.{and_right, eq-eqb, not_from_true, not_from_false, false≢true, Refusal, Place, has_free}
 use Rattle.machine.proofs.Names.{FramesState, frame_at, with_copy, page_of, is_running, admitted, is_there_below}
 use Rattle.machine.proofs.Names.{running, page_at, allowed_place, place_of_fault, is_in_memory, copies_out, Brings}
-use Rattle.machine.proofs.Names.{CopiesOut, fixed_entry, Act, Reply, served_refusal, fix_refusal, Acts, Fixes, FixMade}
-use Rattle.machine.proofs.Names.{LoadAnswers, StoreAnswers, Rules, AddressLaw, LeadsTo, IsInside, IsFreeToAct, LoadLaw}
-use Rattle.machine.proofs.Names.{StoreLaw, LoadsLatest, StoresAtPlace, IsAnswered, IsAccessOf, ServesNext}
+use Rattle.machine.proofs.Names.{CopiesOut, fixed_entry, Act, Reply, served_refusal, reason_against, Acts, Answers, FixMade}
+use Rattle.machine.proofs.Names.{Accesses, Rules, LeadsTo, IsInside, IsFreeToAct}
+use Rattle.machine.proofs.Names.{LoadsLatest, StoresAtPlace, IsAnswered, IsAccessOf, ServesNext}
 use Rattle.machine.proofs.Names.{FaultsAreServed, length-take, length-drop, get_or-set_same, File, Hardware, LoadMade}
 use Rattle.machine.proofs.Names.{StoreMade, IsAccess, AccessRefused, serves, walk, walked_to, translated, translated_by}
 use Rattle.machine.proofs.Names.{memory_of, after, IsSound, IsLawful, list_any, slice_get_within, Mapped, FilePage}
@@ -38,10 +38,10 @@ module _ {told : Told} {s : State} (a : IsArranged told s) where
 
 -- ---- faults are answered by where their address leads, as it is told
 
-module _ (told : Told) (s : State) (p va : ℕ) (write : Bool) (a : IsArranged told s) where
+module _ (files : List File) (told : Told) (s : State) (p va : ℕ) (write : Bool) (a : IsArranged told s) where
   -- the law of this refusal
   abbrev Law : Refusal → Type 0
-  Law why = AddressLaw told p (acts.Fix va write) (replies.Refused why)
+  Law why = IsLawful files told p (acts.Fix va write) (replies.Refused why)
 
   because : (why reason : Refusal) → Law reason → Some reason ≡ Some why → Law why
   because why reason law same = subst Law (some_same reason why same) law
@@ -134,30 +134,34 @@ module _ (told : Told) (s : State) (p va : ℕ) (write : Bool) (a : IsArranged t
   by_number true there why e = by_state there (is_running (state_of s.hardware.shootdown p)) refl why e
 
   -- a refused fault is refused for where its address leads, or for what comes before
-  pub refused_by : (why : Refusal) → fix_refusal s p va write ≡ Some why → Law why
+  pub refused_by : (why : Refusal) → reason_against s p (acts.Fix va write) ≡ Some why → Law why
   refused_by why e = by_number (is_there s.hardware.shootdown p) refl why e
 
   -- a fault against whose service nothing is leads to a place inside its file
-  pub led_by : (place : Place) → fix_refusal s p va write ≡ None → place_of_fault s.hardware.spaces (current s.hardware.shootdown p) va write ≡ Ok place → Led
+  pub led_by : (place : Place) → reason_against s p (acts.Fix va write) ≡ None → place_of_fault s.hardware.spaces (current s.hardware.shootdown p) va write ≡ Ok place → Led
   led_by place allowed led =
       let at = led_to s.hardware.spaces (current s.hardware.shootdown p) va write place led in
       let there = is_there_below s.hardware.shootdown p (admitted s.hardware.shootdown p (free_of s p _ allowed)).0 in
       let fit = servable s.hardware.memory s.checkpoint s.write_outs.broken place (length_of s place.file) write (served_at_fix s p va write place allowed led) in
       (place, leads place there at.mapped at.allowed, inside_told place fit.inside)
 
-module _ (told : Told) (s : State) (disk : List ℕ) (p : ℕ) (new : State) (disk' : List ℕ) (a : IsArranged told s) where
-  faults : (va : ℕ) (write : Bool) (reply : Reply) → Fixes s disk p va write reply new → AddressLaw told p (acts.Fix va write) reply
-  faults va write replies.Fixed made = led_by told s p va write a made.place made.allowed made.leads
-  faults va write (replies.Refused refusals.Device) rule = elim rule [
-    | inl refused ↦ refused_by told s p va write a refusals.Device refused.reason_is
-    | inr failed ↦ led_by told s p va write a failed.place failed.allowed failed.leads
-  ]
-  faults va write (replies.Refused why) rule = refused_by told s p va write a why rule.reason_is
-  faults va write reply rule = absurd rule
+module _ (files : List File) (told : Told) (s : State) (disk : List ℕ) (p : ℕ) (new : State) (disk' : List ℕ) (a : IsArranged told s) where
+  -- a fault whose page is read leads to a place inside its file
+  read_by : (va : ℕ) (write : Bool) (reason : Option Refusal) → reason_against s p (acts.Fix va write) ≡ reason
+      → (leads : Result Place Refusal) → place_of_fault s.hardware.spaces (current s.hardware.shootdown p) va write ≡ leads
+      → (is_none reason && is_absent s leads) ≡ true → IsLawful files told p (acts.Fix va write) (replies.Refused refusals.Device)
+  read_by va write None none (Ok place) leads e = led_by files told s p va write a place none leads
+  read_by va write None none (Err why) leads e = absurd (cc)
+  read_by va write (Some why) some leads is e = absurd (cc)
 
-  pub address_law : (act : Act) (reply : Reply) → Acts s disk p act reply new disk' → AddressLaw told p act reply
-  address_law (acts.Fix va write) reply rule = faults va write reply rule.0
-  address_law act reply rule = tt
+  faults : (va : ℕ) (write : Bool) (reply : Reply) → Answers s disk p (acts.Fix va write) reply new → IsLawful files told p (acts.Fix va write) reply
+  faults va write replies.Fixed made = led_by files told s p va write a made.1.place made.0 made.1.leads
+  faults va write (replies.Refused refusals.Device) rule = elim rule.0 [
+    | inl refused ↦ refused_by files told s p va write a refusals.Device refused
+    | inr reads ↦ read_by va write (reason_against s p (acts.Fix va write)) refl (place_of_fault s.hardware.spaces (current s.hardware.shootdown p) va write) refl reads
+  ]
+  faults va write (replies.Refused why) rule = refused_by files told s p va write a why rule.0
+  faults va write reply rule = absurd rule.1
 
 -- ---- loads, stores and faults are answered by what was told
 
@@ -182,10 +186,6 @@ module _ (files : List File) (told : Told) (s : State) (disk : List ℕ) (p : �
         latest = is;
       }
 
-  pub load_law : (act : Act) (reply : Reply) → Acts s disk p act reply new disk' → LoadLaw files told p act reply
-  load_law (acts.Load va count) (replies.Bytes bytes) rule = loads va count bytes rule.0.0 rule.0.1
-  load_law act reply rule = tt
-
   -- ---- stores
 
   stores : (va : ℕ) (bytes : List ℕ) (h : Hardware) → StoreMade s.hardware p va bytes h → StoresAtPlace told p va
@@ -200,17 +200,16 @@ module _ (files : List File) (told : Told) (s : State) (disk : List ℕ) (p : �
         inside = omega (arith, length_is a w.place.file, inside);
       }
 
-  pub store_law : (act : Act) (reply : Reply) → Acts s disk p act reply new disk' → StoreLaw told p act reply
-  store_law (acts.Store va bytes) replies.Stored rule = stores va bytes rule.0.0 rule.0.1
-  store_law act reply rule = tt
+  -- ---- each step is answered by what was told
 
--- each step is answered by what was told
+  pub lawful_act : (act : Act) (reply : Reply) → Acts s disk p act reply new disk' → IsLawful files told p act reply
+  lawful_act (acts.Load va count) (replies.Bytes bytes) rule = loads va count bytes rule.0.0 rule.0.1
+  lawful_act (acts.Store va bytes) replies.Stored rule = stores va bytes rule.0.0 rule.0.1
+  lawful_act (acts.Fix va write) reply rule = faults files told s disk p new disk' a va write reply rule.0
+  lawful_act act reply rule = tt
+
 pub lawful : (files : List File) (told : Told) (s : State) (disk : List ℕ) (p : ℕ) (act : Act) (reply : Reply) (new : State) (disk' : List ℕ) → IsSound s → IsArranged told s → IsLatest files told s → Acts s disk p act reply new disk' → IsLawful files told p act reply
-lawful files told s disk p act reply new disk' sound a latest rule = record {
-  load = load_law files told s disk p new disk' sound a latest act reply rule;
-  store = store_law files told s disk p new disk' sound a latest act reply rule;
-  address = address_law told s disk p new disk' a act reply rule;
-}
+lawful files told s disk p act reply new disk' sound a latest rule = lawful_act files told s disk p new disk' sound a latest act reply rule
 
 -- ---- a page that has an entry which allows the access is reached
 
@@ -285,8 +284,9 @@ not_held memory mid new c owner frame true is holds same copied =
     list_any-has_page copies owner copied.0 (ap page_of (get_or-set_same mid.copies copied.0 (frame_at mid frame) None (slice_get_within mid.copies copied.0 None copied.1)) ∙ holds) in
     ap (λ (m : FramesState). is_held m c owner) copied.2 ∙ and_right (is_frozen c owner) (not (is_copied (with_copy mid copied.0 frame) owner)) (not_from_true (is_copied (with_copy mid copied.0 frame) owner) copy)
 
-ready_after_fix : (s : State) (disk : List ℕ) (p va : ℕ) (write : Bool) (new : State) → FixMade s disk p va write new → IsReady new p va write
-ready_after_fix s disk p va write new made =
+ready_after_fix : (s : State) (disk : List ℕ) (p va : ℕ) (write : Bool) (new : State)
+    → reason_against s p (acts.Fix va write) ≡ None → FixMade s disk p va write new → IsReady new p va write
+ready_after_fix s disk p va write new allowed made =
     let pcid = current s.hardware.shootdown p in
     let owner = page_at made.place in
     let can = may_write made.place.rights && not (is_held made.memory s.checkpoint owner) in
@@ -298,7 +298,7 @@ ready_after_fix s disk p va write new made =
     (not_from_false (is_held made.memory s.checkpoint owner) (not_held s.hardware.memory made.served.mid made.memory s.checkpoint owner made.served.frame (copies_out s.hardware.memory s.checkpoint owner write)
     (ap (λ w. w && is_held s.hardware.memory s.checkpoint owner) is) mid.0 mid.1 made.served.copied)) in
     subst (λ (x : State). IsReady x p va write) (sym made.done) (record {
-      runs = (both_none (not_running s.hardware.shootdown p) _ (free_of s p _ made.allowed)).0;
+      runs = (both_none (not_running s.hardware.shootdown p) _ (free_of s p _ allowed)).0;
       entry = entry;
       present = ap (λ (m : Spaces). entry_at m pcid (va / 4096)) made.served.entry ∙ entry_at-with_entry s.hardware.spaces pcid (va / 4096) (Some entry) pcid (va / 4096)
           ∙ cond-true (eqb pcid pcid && eqb (va / 4096) (va / 4096)) (Some entry) _ (and_from (eqb pcid pcid) (eqb (va / 4096) (va / 4096)) (eq-eqb pcid pcid refl) (eq-eqb (va / 4096) (va / 4096) refl));
@@ -323,13 +323,13 @@ module _ (s : State) (disk : List ℕ) (p va : ℕ) (write : Bool) (new : State)
   not_refused_now at count refusals.Stalled access stalled = never refusals.Stalled stalled
   not_refused_now at count why access refused = refused
 
-  load_answers : (at count : ℕ) (reply : Reply) (h : Hardware) → IsAccess at count → at / 4096 ≡ va / 4096 → LoadAnswers s.hardware p at count reply h → IsAnswered (acts.Load at count) reply
+  load_answers : (at count : ℕ) (reply : Reply) (h : Hardware) → IsAccess at count → at / 4096 ≡ va / 4096 → Accesses s.hardware p (acts.Load at count) reply h → IsAnswered (acts.Load at count) reply
   load_answers at count (replies.Bytes bytes) h access same rule = tt
   load_answers at count (replies.Refused (refusals.Fault code)) h access same rule = translates s.hardware p (at / 4096) false ready.entry (there at same) (λ is. absurd (false≢true is)) code rule.fault
   load_answers at count (replies.Refused why) h access same rule = not_refused_now at count why access rule.0
   load_answers at count reply h access same rule = rule
 
-  store_answers : (at : ℕ) (bytes : List ℕ) (reply : Reply) (h : Hardware) → IsAccess at (length bytes) → at / 4096 ≡ va / 4096 → write ≡ true → StoreAnswers s.hardware p at bytes reply h → IsAnswered (acts.Store at bytes) reply
+  store_answers : (at : ℕ) (bytes : List ℕ) (reply : Reply) (h : Hardware) → IsAccess at (length bytes) → at / 4096 ≡ va / 4096 → write ≡ true → Accesses s.hardware p (acts.Store at bytes) reply h → IsAnswered (acts.Store at bytes) reply
   store_answers at bytes replies.Stored h access same is rule = tt
   store_answers at bytes (replies.Refused (refusals.Fault code)) h access same is rule = translates s.hardware p (at / 4096) true ready.entry (there at same) (λ _. ready.writable is) code rule.fault
   store_answers at bytes (replies.Refused why) h access same is rule = not_refused_now at (length bytes) why access rule.0
@@ -342,8 +342,8 @@ module _ (s : State) (disk : List ℕ) (p va : ℕ) (write : Bool) (new : State)
 
 -- a served fault, and then the same processor's access of that page
 pub access_answers : (s : State) (disk : List ℕ) (p va : ℕ) (write : Bool) (mid : State) (between : List ℕ) (act : Act) (reply : Reply) (new : State) (disk' : List ℕ)
-    → FixMade s disk p va write mid → IsAccessOf va write act → Acts mid between p act reply new disk' → IsAnswered act reply
-access_answers s disk p va write mid between act reply new disk' made access rule = answers mid between p va write new disk' (ready_after_fix s disk p va write mid made) act reply access rule
+    → Answers s disk p (acts.Fix va write) replies.Fixed mid → IsAccessOf va write act → Acts mid between p act reply new disk' → IsAnswered act reply
+access_answers s disk p va write mid between act reply new disk' made access rule = answers mid between p va write new disk' (ready_after_fix s disk p va write mid made.0 made.1) act reply access rule
 
 -- ---- of every run: the access of its page that follows a served fault at once answers
 

@@ -2,13 +2,13 @@
 use Rattle.machine.proofs.Names.{ℕ, ◌≡◌, ◌≢◌, ◌↔◌, ◌*◌, ◌-◌, false, List, ◌++◌, length, take, get_or, None, sym, ap}
 use Rattle.machine.proofs.Names.{◌∙◌, subst, inl, inr, ◌+◌, ◌%◌, ◌<◌, ◌≤◌, true, [], ◌∷◌, Some, refl, arith, cases_Bool}
 use Rattle.machine.proofs.Names.{cases_eq, FilePage, FramesState, bytes_of, frame_at, page_of, without_frame, overwrite}
-use Rattle.machine.proofs.Names.{with_bytes, File, SuperValue, lengths_in, padded, Holds, IsDirty, is_in_memory, Event}
+use Rattle.machine.proofs.Names.{with_bytes, File, SuperValue, lengths_of, lengths_after, has_resized, padded, Holds, IsDirty, is_in_memory, Event}
 use Rattle.machine.proofs.Names.{Memory, memory_of, after, is_touched, stored, State, cut_at_end, MayLeave}
 use Rattle.machine.proofs.Names.{with_hardware, IsInFile, Told, IsSound, IsMemory, HasFiles, IsLatest, AreTouched}
 use Rattle.machine.proofs.Names.{ArePlain, page_at, Hardware, page_of-with_bytes, frame_at-with_bytes_other}
 use Rattle.machine.specs.History.{Store}
 use Rattle.machine.proofs.durable.Lists.{some_same}
-use Rattle.machine.proofs.durable.Histories.{SameFiles, in_file_as, AreQuiet, after_store, stored_there, stored_elsewhere, length-stored, touched_there, touched_elsewhere}
+use Rattle.machine.proofs.durable.Histories.{SameFiles, in_file_as, AreQuiet, after_store, stored_there, stored_elsewhere, length-stored, touched_there, touched_elsewhere, lengths_store, resized_store}
 use Rattle.machine.proofs.sound.Frames.{held_in_memory, holds_still}
 use Rattle.machine.proofs.durable.Pages.{IsBrought, held_by_none, absent_before, held_without, cases_page, differ, bytes_of-with_bytes}
 use Rattle.machine.proofs.track.DirtyFrames.{clean_where_free}
@@ -16,7 +16,7 @@ use Rattle.machine.proofs.track.Translations.{HasStored}
 
 -- the machine has these files, and in its frames the memory of what was told
 pub record HasPages (files : List File) (told : Told) (s : State) : Type 0 where
-  pub files_are : HasFiles files s
+  pub files_are : HasFiles files told.history s
   pub latest : IsLatest files told s
   pub touched : AreTouched told s
   pub plain : ArePlain files told s
@@ -26,11 +26,12 @@ pub record SamePages (s new : State) : Type 0 where
   pub frames : new.hardware.memory.frames ≡ s.hardware.memory.frames
   pub dirty : (frame : ℕ) → IsDirty s.hardware.spaces s.checkpoint frame ↔ IsDirty new.hardware.spaces new.checkpoint frame
 
-pub files_kept : (files : List File) (s new : State) → SameFiles s new → HasFiles files s → HasFiles files new
-files_kept files s new same has = record {
+pub files_kept : (files : List File) (history longer : List Event) (s new : State) → SameFiles s new → lengths_after (lengths_of files) longer ≡ lengths_after (lengths_of files) history → has_resized longer ≡ false
+    → HasFiles files history s → HasFiles files longer new
+files_kept files history longer s new same lengths none has = record {
   named = has.named ∙ sym (ap (λ (t : SuperValue). t.files) same.table);
-  lengths = has.lengths ∙ sym same.lengths;
-  fixed = λ contents. ap (λ (t : SuperValue). lengths_in t contents) same.table ∙ has.fixed contents ∙ sym same.lengths;
+  lengths = lengths ∙ has.lengths ∙ sym same.lengths;
+  resized = none;
 }
 
 module _ (files : List File) (told now : Told) (s new : State) (same : SameFiles s new) where
@@ -73,7 +74,8 @@ module _ (files : List File) (told now : Told) (s new : State) (events : List Ev
       → ((owner : FilePage) → IsInFile s owner → is_in_memory new.hardware.memory owner ≡ false → latest_then owner ≡ cut_at_end s owner (latest_then owner))
       → HasPages files now new
   pages_by latest dirty plain = record {
-    files_are = files_kept files s new same has.files_are;
+    files_are = files_kept files told.history now.history s new same (ap (lengths_after (lengths_of files)) history ∙ quiet.lengths (lengths_of files))
+        (ap has_resized history ∙ quiet.resized ∙ has.files_are.resized) has.files_are;
     latest = record {
       whole = λ file page. ap (λ (m : Memory). length (m file page)) memory_same ∙ has.latest.whole file page;
       latest = λ frame owner holds. latest frame owner holds ∙ ap (λ (m : Memory). m owner.file owner.page) (sym memory_same);
@@ -240,7 +242,9 @@ module _ (files : List File) (told now : Told) (s : State) (p va : ℕ) (bytes :
 
   pub pages_stored : HasPages files now new
   pages_stored = record {
-    files_are = files_kept files s new (record { table = refl; lengths = refl }) has.files_are;
+    files_are = files_kept files told.history now.history s new (record { table = refl; lengths = refl })
+        (ap (lengths_after (lengths_of files)) history ∙ lengths_store (lengths_of files) told.history w.place.file (4096 * w.place.page + va % 4096) bytes)
+        (ap has_resized history ∙ resized_store told.history w.place.file (4096 * w.place.page + va % 4096) bytes ∙ has.files_are.resized) has.files_are;
     latest = latest_stored;
     touched = touched_stored;
     plain = plain_still files told now s new (record { table = refl; lengths = refl }) (λ o is gone.

@@ -1,5 +1,6 @@
 -- What one act of a machine's layers does, over any device.
-use Rattle.std.specs.Prelude.{ℕ, ◌≡◌, ◌≢◌, ◌↔◌, ◌+◌, ◌-◌, ◌^◌, ◌<◌, List, length}
+use Rattle.std.specs.Prelude.{ℕ, ◌≡◌, ◌≢◌, ◌↔◌, ◌+◌, ◌-◌, ◌^◌, ◌<◌, ◌&&◌, Bool, if◌then◌else◌, List, length}
+use Rattle.device.specs.Count.{raised}
 use Rattle.device.specs.Device.{Only, LeavesOnly}
 use Rattle.device.specs.declared.device.Device.{Ghosts}
 use Rattle.page_entry.specs.declared.refusal.Refusal.TheVariants as refusals
@@ -11,7 +12,7 @@ use Rattle.machine.specs.declared.act.Reply.TheVariants as replies
 use Rattle.machine.specs.declared.act.Step.{Step}
 use Rattle.machine.specs.declared.layers.Layers.{Layers}
 use Rattle.machine.specs.Rules.{Rules}
-use Rattle.machine.specs.Calls.{CallsOf}
+use Rattle.machine.specs.Calls.{CallsOf, has_failed}
 use Rattle.machine.specs.Steps.{step_work}
 use Rattle.machine.specs.inside.Layers.{state_in, AnswersBy, KeepsReserved}
 
@@ -38,3 +39,9 @@ pub record ActDone {D Z : Type 0} (disk : Ghosts D) (old : Layers D Z) (step : S
 abbrev pub IsMap : Act → Type 0
 IsMap (acts.Map space va len file offset prot access) = Unit {0}
 IsMap act = ⊥
+
+-- the counts before a fault was served and after it, where a page was read or wasn't
+abbrev pub FixCalls : Bool → Reply → ℕ → ℕ → ℕ → ℕ → Type 0
+FixCalls reads reply calls calls' faults faults' =
+    (calls' ≡ (if reads then raised calls else calls))
+    × (faults' ≡ (if reads && has_failed reply then raised faults else faults))

@@ -1,6 +1,6 @@
 -- The memory that a machine takes when it is made.
-use Rattle.std.specs.Prelude.{◌≡◌, ◌<◌, ◌≤◌, None}
-use Rattle.volume_codec.specs.Layout.{GeometryValue}
+use Rattle.std.specs.Prelude.{ℕ, ◌≡◌, ◌<◌, ◌≤◌, List, None}
+use Rattle.volume_codec.specs.Super.{SuperValue, geometry_of}
 use Rattle.frames.specs.Frames.{all_free}
 use Rattle.spaces.specs.Spaces.{first_spaces}
 use Rattle.shootdown.specs.Shootdown.{fresh_shootdown}
@@ -18,10 +18,11 @@ pub record IsFit (shape : Shape) : Type 0 where
   pub few_frames : shape.frames ≤ 1020
   pub few_copies : shape.copies ≤ 64
 
--- room of a machine that was just made
-pub record IsRoom {Z : Type 0} (g : GeometryValue) (shape : Shape) (room : Room Z) : Type 0 where
+-- room of a machine that was just made over a volume with this table and these lengths
+pub record IsRoom {Z : Type 0} (table : SuperValue) (lengths : List ℕ) (shape : Shape) (room : Room Z) : Type 0 where
+  pub lengths_are : room.lengths.items ≡ lengths
   pub shootdown : room.shootdown ≡ fresh_shootdown shape.cpus shape.tlb
   pub spaces : room.spaces ≡ record { map = first_spaces; prepared = None }
   pub frames : room.frames ≡ all_free shape.frames shape.copies
   pub checkpoint : room.checkpoint ≡ fresh_checkpoint shape.frames
-  pub write_outs : room.write_outs ≡ none_of g
+  pub write_outs : room.write_outs ≡ none_of (geometry_of table)

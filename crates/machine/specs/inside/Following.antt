@@ -6,9 +6,9 @@ use Rattle.machine.specs.declared.act.Reply.{Reply}
 use Rattle.machine.specs.declared.act.Step.{Step}
 use Rattle.machine.specs.State.{Whole}
 use Rattle.machine.specs.Told.{tell_all}
-use Rattle.machine.specs.Laws.{EachStep}
+use Rattle.machine.specs.Laws.{EachStep, IsLawful}
 use Rattle.machine.specs.Crashes.{Begins, StepIsSafe, Throughout}
-use Rattle.machine.specs.Steps.{IsLawful, told_first}
+use Rattle.machine.specs.Steps.{told_first}
 use Rattle.machine.specs.inside.Tracking.{IsTracked}
 
 -- the laws hold of a run so far, and its machine and device go with what it tells

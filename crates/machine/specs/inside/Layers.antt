@@ -1,30 +1,28 @@
 -- How the code keeps a machine: its layers, and what private calls promise of them.
-use Rattle.std.specs.Prelude.{ℕ, ◌≡◌, ◌*◌, ◌≤◌, ◌<◌, false, List, [], ◌∷◌, length, Option, Some, None, Result, Ok, Err}
+use Rattle.std.specs.Prelude.{ℕ, ◌≡◌, ◌*◌, ◌≤◌, ◌<◌, List, [], ◌∷◌, length, Option, Some, None, Result, Ok, Err}
 use Rattle.page_entry.specs.declared.refusal.Refusal.{Refusal}
 use Rattle.page_entry.specs.declared.numbers.FilePage.{FilePage}
 use Rattle.mappings.specs.declared.page_range.PageRange.{PageRange}
 use Rattle.mappings.specs.declared.place.Rights.{Rights}
-use Rattle.volume_codec.specs.Super.{SuperValue, block_count, capacities_in}
+use Rattle.volume_codec.specs.Super.{SuperValue, block_count}
 use Rattle.spaces.specs.declared.change.Change.{Change}
 use Rattle.spaces.specs.declared.change.Change.TheVariants.{Unmap, Protect}
 use Rattle.shootdown.specs.declared.lock.Lock.{Lock}
 use Rattle.machine.specs.declared.act.Reply.{Reply}
 use Rattle.machine.specs.declared.act.Reply.TheVariants as replies
 use Rattle.machine.specs.declared.layers.Layers.{Layers}
-use Rattle.std.specs.List.{AllByRecursion}
-use Rattle.volume_codec.specs.Descriptor.{AreHomes}
 use Rattle.frames.specs.Frames.{frame_at, bytes_of}
-use Rattle.journal.specs.WriteOuts.{WriteOutsValue, is_busy, begun, HasBlock}
+use Rattle.journal.specs.WriteOuts.{WriteOutsValue, begun, HasBlock}
 use Rattle.checkpoint.specs.Checkpoint.{IsDirty}
 use Rattle.machine.specs.State.{State, Whole, home_of, cut_at_end}
 use Rattle.machine.specs.Refusals.{pages_in_file}
 use Rattle.machine.specs.inside.Sound.{IsSound}
 
--- the state of a machine with these layers; in these layouts a file is as long as its capacity
+-- the state of a machine with these layers
 abbrev pub state_in : {D Z : Type 0} → Layers D Z → State
 state_in m = record {
   table = m.table;
-  lengths = capacities_in m.table;
+  lengths = m.lengths.items;
   hardware = record { shootdown = m.shootdown; spaces = m.spaces.map; memory = m.frames };
   checkpoint = m.checkpoint;
   write_outs = m.write_outs;
@@ -81,14 +79,6 @@ pub record KeepsReserved {D Z : Type 0} (old new : Layers D Z) : Type 0 where
 pub record AnswersBy (honest : Type 0) (rules : List ℕ → List ℕ → Type 0) (disk disk' : List ℕ) : Type 0 where
   pub some_disk : (d d' : List ℕ) × rules d d'
   pub own_disk : honest → rules disk disk'
-
--- a batch of these home blocks may begin under this mark
-pub record MayBegin (outs : WriteOutsValue) (mark : ℕ) (blocks : List ℕ) : Type 0 where
-  pub whole : outs.broken ≡ false
-  pub free : is_busy outs ≡ false
-  pub some_mark : 0 < mark
-  pub homes : AreHomes outs.geometry blocks
-  pub newest : AllByRecursion (λ w. w.batch.mark < mark) outs.batches
 
 -- with a batch of these home blocks, if there are any
 abbrev pub with_homes : WriteOutsValue → ℕ → List ℕ → WriteOutsValue

@@ -21,11 +21,15 @@ use Rattle.checkpoint.specs.Checkpoint.{CheckpointState, Holds, IsDirty, is_note
 use Rattle.checkpoint.specs.Backing.{AreBacked}
 use Rattle.fault.specs.Fault.{is_in_memory}
 use Rattle.journal.specs.Work.{Nothing}
+use Rattle.journal.specs.declared.flushed.Flushed.{Flushed as Answer}
+use Rattle.journal.specs.declared.flushed.Flushed.TheVariants as flushed
+use Rattle.journal.specs.WriteOuts.{next_answer}
 use Rattle.machine.specs.declared.act.Act.{Act}
 use Rattle.machine.specs.declared.act.Act.TheVariants as acts
 use Rattle.machine.specs.declared.act.Reply.{Reply}
 use Rattle.machine.specs.declared.act.Reply.TheVariants as replies
 use Rattle.machine.specs.State.{State, page_from}
+use Rattle.machine.specs.Refusals.{reason_against}
 use Rattle.machine.specs.Rules.{with_hardware, with_shootdown, with_spaces, begin_change, end_change, MayChange, MayLeave, SpaceDestroyed, MarkMade, FlushMade, FlushFailed}
 use Rattle.machine.specs.Durability.{IsInFile}
 use Rattle.machine.specs.Steps.{step_work}
@@ -133,7 +137,8 @@ pub record ReplacesSpaces (s : State) (spaces : Spaces) (says : Saying) (new : S
 pub record DestroysSpace (s : State) (says : Saying) (new : State) : Type 0 where
   pub p : ℕ
   pub pcid : ℕ
-  pub made : SpaceDestroyed s p pcid new
+  pub allowed : reason_against s p (acts.Destroy pcid) ≡ None
+  pub made : SpaceDestroyed s pcid new
   pub says_is : says ≡ Leaving pcid
 
 -- ---- changes
@@ -259,13 +264,27 @@ pub record IsMoved (s : State) (disk : List ℕ) (p : ℕ) (act : Act) (reply : 
   pub no_work : step_work s act reply ≡ Nothing
   pub same_disk : disk' ≡ disk
 
+-- the reply to what a step of the write-outs answers
+abbrev pub reply_to : Answer → Reply
+reply_to flushed.Going = replies.Going
+reply_to (flushed.Committed mark) = replies.Committed mark
+reply_to (flushed.Done mark) = replies.Done mark
+reply_to flushed.Device = replies.Refused refusals.Device
+reply_to flushed.Broken = replies.Refused refusals.Broken
+
+-- a step of the write-outs was made, and this is the reply to what it answers
+pub record HasStepped (s : State) (disk : List ℕ) (p : ℕ) (reply : Reply) (new : State) (disk' : List ℕ)
+    : Type 0 where
+  pub answered : reply ≡ reply_to (next_answer s.write_outs)
+  pub made : FlushMade s disk p (next_answer s.write_outs) new disk'
+
 -- what an act does: it moves, makes a mark, goes on with the write-outs, or meets a device call that fails there
 pub data Performed (s : State) (disk : List ℕ) (p : ℕ) (act : Act) (reply : Reply) (new : State) (disk' : List ℕ)
     : Type 0 where
   Moved : IsMoved s disk p act reply new disk' → Performed s disk p act reply new disk'
   Marked : (number : ℕ) → act ≡ acts.Change → reply ≡ replies.Marked number → MarkMade s p number new → disk' ≡ disk
       → Performed s disk p act reply new disk'
-  Flushed : act ≡ acts.Flush → FlushMade s disk p reply new disk' → ((why : Refusal) → reply ≢ replies.Refused why)
+  Flushed : act ≡ acts.Flush → HasStepped s disk p reply new disk' → ((why : Refusal) → reply ≢ replies.Refused why)
       → Performed s disk p act reply new disk'
   Failed : act ≡ acts.Flush → reply ≡ replies.Refused refusals.Device → FlushFailed s disk p new disk'
       → Performed s disk p act reply new disk'

@@ -1,11 +1,12 @@
 -- How a machine's state and its device go with what its run tells.
-use Rattle.std.specs.Prelude.{ℕ, ◌≡◌, ◌≢◌, ◌<◌, ◌≤◌, ◌↔◌, ◌⊎◌, true, false, List, ◌++◌, length, map, Option, Some, None, is_some, Contains, slice_index_or}
+use Rattle.std.specs.Prelude.{ℕ, ◌≡◌, ◌≢◌, ◌<◌, ◌≤◌, ◌↔◌, ◌⊎◌, ◌*◌, true, false, List, ◌++◌, length, map, Option, Some, None, is_some, Contains, slice_index_or}
 use Rattle.std.specs.List.{All}
 use Rattle.std.specs.FinMap as maps
 use Rattle.page_entry.specs.declared.numbers.FilePage.{FilePage}
 use Rattle.frames.specs.Frames.{frame_at, bytes_of}
 use Rattle.volume_codec.specs.Files.{File}
-use Rattle.volume_codec.specs.Recovery.{lengths_in}
+use Rattle.volume_codec.specs.Super.{SuperValue}
+use Rattle.volume_codec.specs.Lengths.{HasLengths, lengths_in}
 use Rattle.journal.specs.WriteOut.{WriteOut, has_committed}
 use Rattle.journal.specs.WriteOuts.{has_uncommitted}
 use Rattle.journal.specs.inside.Standing.{IsStanding}
@@ -17,8 +18,8 @@ use Rattle.shootdown.specs.Processors.{is_running}
 use Rattle.shootdown.specs.Shootdown.{state_of, current}
 use Rattle.checkpoint.specs.Checkpoint.{Holds, IsDirty}
 use Rattle.fault.specs.Fault.{is_in_memory}
-use Rattle.machine.specs.History.{Event, Memory, memory_of, after, is_touched, Mark, Acknowledge, IsMarked}
-use Rattle.machine.specs.State.{State, home_of, cut_at_end}
+use Rattle.machine.specs.History.{Event, Memory, memory_of, after, lengths_of, lengths_after, has_resized, is_touched, Mark, Acknowledge, IsMarked}
+use Rattle.machine.specs.State.{State, home_of, part, cut_at_end}
 use Rattle.machine.specs.Rules.{bytes_at_mark}
 use Rattle.machine.specs.Durability.{IsInFile, within_file}
 use Rattle.machine.specs.inside.Sound.{IsSound}
@@ -50,12 +51,12 @@ pub record IsArranged (told : Told) (s : State) : Type 0 where
   pub same_pending : told.pending ≡ pending_in (change_in s.hardware.shootdown.lock)
   pub same_lengths : told.lengths ≡ s.lengths
 
--- the machine's table has these files
-pub record HasFiles (files : List File) (s : State) : Type 0 where
+-- the machine's table has these files, and its lengths are those after the history
+pub record HasFiles (files : List File) (history : List Event) (s : State) : Type 0 where
   pub named : map (λ f. record { name = f.name; capacity = f.capacity }) files ≡ s.table.files
-  pub lengths : map (λ f. length f.bytes) files ≡ s.lengths
-  -- in these layouts a file's length is told by the table alone
-  pub fixed : (contents : ℕ → List ℕ) → lengths_in s.table contents ≡ s.lengths
+  pub lengths : lengths_after (lengths_of files) history ≡ s.lengths
+  -- no length was set since the last mark
+  pub resized : has_resized history ≡ false
 
 -- the memory after the history has whole pages, and frames have it
 pub record IsLatest (files : List File) (told : Told) (s : State) : Type 0 where
@@ -76,19 +77,22 @@ ArePlain files told s = (owner : FilePage) → IsInFile s owner → is_in_memory
 
 -- ---- what the device recovers to
 
--- the contents have the parts of the files in this memory
-abbrev pub HasParts : State → (ℕ → List ℕ) → Memory → Type 0
-HasParts s contents memory = (owner : FilePage) → IsInFile s owner
-    → within_file s owner (contents (home_of s.table owner)) ≡ within_file s owner (memory owner.file owner.page)
+-- the contents have the parts of the files of a table, with these lengths, in this memory
+abbrev pub HasParts : SuperValue → List ℕ → (ℕ → List ℕ) → Memory → Type 0
+HasParts table lengths contents memory = (owner : FilePage) → owner.file < length table.files
+    → 4096 * owner.page < slice_index_or lengths owner.file 0
+    → part lengths owner (contents (home_of table owner)) ≡ part lengths owner (memory owner.file owner.page)
 
--- the contents are those after a marked prefix of the history
-pub record AreContentsOf (files : List File) (history : List Event) (s : State) (contents : ℕ → List ℕ)
+-- the contents are those after a marked prefix of the history, with the lengths after that prefix
+pub record AreContentsOf (files : List File) (history : List Event) (table : SuperValue) (contents : ℕ → List ℕ)
     (prefix : List Event) : Type 0 where
   pub rest : List Event
   pub begins : prefix ++ rest ≡ history
   pub marked : IsMarked prefix
   pub whole : (file page : ℕ) → length (after (memory_of files) prefix file page) ≡ 4096
-  pub parts : HasParts s contents (after (memory_of files) prefix)
+  pub fits : HasLengths table contents
+  pub same_lengths : lengths_in table contents ≡ lengths_after (lengths_of files) prefix
+  pub parts : HasParts table (lengths_after (lengths_of files) prefix) contents (after (memory_of files) prefix)
 
 -- every mark that the history acknowledges is in the prefix
 abbrev pub HasAcknowledged : List Event → List Event → Type 0
@@ -119,10 +123,10 @@ pub record AreMarks (history before marked : List Event) (s : State) : Type 0 wh
 -- has every acknowledged mark. Where each batch is committed, the second alone count.
 pub record IsWritten (files : List File) (told : Told) (s : State) (old new : ℕ → List ℕ) : Type 0 where
   pub before : List Event
-  pub old_are : AreContentsOf files told.history s old before
+  pub old_are : AreContentsOf files told.history s.table old before
   pub acknowledged : HasAcknowledged before told.history
   pub marked : List Event
-  pub new_are : AreContentsOf files told.history s new marked
+  pub new_are : AreContentsOf files told.history s.table new marked
   pub grown : HasAcknowledged marked told.history
   -- what the uncommitted batch will acknowledge is in the second prefix
   pub marks : All (λ w. Contains marked (Mark w.batch.mark)) s.write_outs.batches
@@ -138,6 +142,8 @@ pub record IsWritten (files : List File) (told : Told) (s : State) (old new : �
   pub clean : IsLost s ⊎ ((owner : FilePage) → IsInFile s owner → is_touched told.history owner.file owner.page ≡ false
       → within_file s owner (new (home_of s.table owner))
       ≡ within_file s owner (after (memory_of files) told.history owner.file owner.page))
+  -- no length was set since the last mark
+  pub same_lengths : lengths_in s.table new ≡ s.lengths
   -- the records of frozen pages are what was gathered
   pub frozen : All (λ owner. new (home_of s.table owner)
       ≡ cut_at_end s owner (bytes_at_mark s.hardware.memory owner)) s.checkpoint.frozen
@@ -146,7 +152,7 @@ pub record IsWritten (files : List File) (told : Told) (s : State) (old new : �
 pub record IsTracked (files : List File) (told : Told) (s : State) (seen : List ℕ)
     (may_leave : List ℕ → Type 0) : Type 0 where
   pub sound : IsSound s
-  pub files_are : HasFiles files s
+  pub files_are : HasFiles files told.history s
   pub arranged : IsArranged told s
   pub latest : IsLatest files told s
   pub touched : AreTouched told s

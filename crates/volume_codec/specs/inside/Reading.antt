@@ -1,13 +1,9 @@
--- What blocks are read as: the numbers, names and entries at their places.
+-- What blocks are read as: the names and entries at their places.
 use Rattle.std.specs.Prelude.{ℕ, zero, suc, not, ◌==◌, List, [], ◌∷◌, take, drop, take_while}
-use Rattle.byteorder.specs.Endian.{big_number}
 use Rattle.page_entry.specs.declared.refusal.Refusal.{Refusal}
 use Rattle.page_entry.specs.declared.refusal.Refusal.TheVariants.{Damaged, BadShape}
 use Rattle.volume_codec.specs.Files.{TableFile}
-
--- the number in the first n bytes, the highest first (big-endian)
-unfoldable pub number_in : ℕ → List ℕ → ℕ
-number_in n bytes = big_number n bytes
+use Rattle.volume_codec.specs.Text.{number_in}
 
 -- the name in the first 32 bytes: what stands before the first zero
 abbrev pub name_in : List ℕ → List ℕ
@@ -21,11 +17,6 @@ file_in entry = record { name = name_in entry; capacity = number_in 8 (drop 32 e
 abbrev pub table_files_in : ℕ → List ℕ → List TableFile
 table_files_in zero entries = []
 table_files_in (suc n) entries = file_in entries ∷ table_files_in n (drop 48 entries)
-
--- the numbers of 4 bytes, so many of them
-abbrev pub numbers_in : ℕ → List ℕ → List ℕ
-numbers_in zero bytes = []
-numbers_in (suc n) bytes = number_in 4 bytes ∷ numbers_in n (drop 4 bytes)
 
 -- a block whose table breaks the rules is damaged
 abbrev pub damage_of : Refusal → Refusal

@@ -13,7 +13,7 @@ returns-then-not-make_portion g c =
     let within : c.loop-from.from + c.min-count.result ≤ length steps = omega (arith, i.2, c.min-count.ensures) in (
       i.0 ++ told.0,
       inr (stopped_then g.L.Listener.hears c.args.listener.now c.loop-from.listener c.make_portion.new.listener i.0 told.0 i.3 (told.2 refl)),
-      taken_portion g.D.Device c.args.machine.now c.loop-from.machine c.make_portion.new.machine steps _ c.loop-from.from c.min-count.result i.0 told.0 within (fetched steps c.loop-from.portion _ c.loop-from.from c.min-count.result within c.copy_from_slice.ensures.after) i.1 i.4 told.3,
+      taken_portion g.D.Device c.steps_after_steps.ensures c.args.machine.now c.loop-from.machine c.make_portion.new.machine steps _ c.loop-from.from c.min-count.result i.0 told.0 within (fetched steps c.loop-from.portion _ c.loop-from.from c.min-count.result within c.copy_from_slice.ensures.after) i.1 i.4 told.3,
     )
 
 pub loop-from-preserved : goal.loop-from-preserved
@@ -31,5 +31,5 @@ loop-from-preserved g c =
       count,
       within,
       heard_then g.L.Listener.hears c.args.listener.now c.loop-from.listener c.make_portion.new.listener i.0 told.0 i.3 heard.0,
-      subst P count (taken_portion g.D.Device c.args.machine.now c.loop-from.machine c.make_portion.new.machine steps _ c.loop-from.from c.min-count.result i.0 told.0 within same i.1 i.4 told.3),
+      subst P count (taken_portion g.D.Device c.steps_after_steps.ensures c.args.machine.now c.loop-from.machine c.make_portion.new.machine steps _ c.loop-from.from c.min-count.result i.0 told.0 within same i.1 i.4 told.3),
     )

@@ -1,8 +1,10 @@
-use Rattle.std.proofs.Common.{◌≡◌, ◌∙◌, Err, [], length, ap, sym, subst, arith}
+use Rattle.std.proofs.Common.{◌∙◌, Err, [], length, ap, sym, subst, arith}
 use Rattle.std.proofs.lemmas.List.{length-map}
 use Rattle.std.proofs.lemmas.Result.{err_from_is_err_and}
 use Rattle.volume_codec.specs.Layout.{GeometryValue}
 use Rattle.volume_codec.specs.Recovery.{contents_in}
+use Rattle.volume_codec.proofs.Layouts.{no_lengths_blocks}
+use Rattle.volume_codec.proofs.Lengths.{fixed_has_lengths}
 use Rattle.journal.specs.Finished.{HoldsVolume}
 use Rattle.recovery.specs.Opening.{HasOpened}
 use Rattle.recovery.specs.inside.Carrying.{AreShut}
@@ -23,7 +25,7 @@ returns-in_err-carry_out_all-clause-opens g c =
       kept = kept_then e.kept (kept_err c.from_residual-in_err-carry_out_all.result (p.1 ∙ ap Err p.2) f.kept);
       ended = λ honest. rw (p.1, p.2)
           (has_failed disk c.args.device.now c.judge.new.device table batches (e.volume honest) (e.unwritten honest) c.in_err-carry_out_all.field-0.0 c.carry_out_all.new.device
-          (length c.in_ok-table.found.items) (sym (length-map c.in_ok-table.found.items batch_of)) f.fault e.calls f.carries.most);
+          (length c.in_ok-table.found.items) (fixed_has_lengths table _ (no_lengths_blocks table.layout)) (sym (length-map c.in_ok-table.found.items batch_of)) f.fault e.calls f.carries.most);
       within = λ honest.
           left_within disk c.args.device.now c.judge.new.device table batches (e.volume honest) (e.unwritten honest) c.carry_out_all.new.device
           (f.carries.time table _ (sym c.geometry.ensures.value)
@@ -44,7 +46,7 @@ module _ (g : _) (c : goal.In_ok-carry_out_all g) (honest : g.D.Device.is_honest
       let e = c.in_ok-table.ensures in
       let f = c.in_ok-carry_out_all.ensures in
       has_opened disk c.args.device.now c.judge.new.device c.in_ok-table.table batches (e.volume honest) (e.unwritten honest) c.carry_out_all.new.device
-      (length c.in_ok-table.found.items) (sym (length-map c.in_ok-table.found.items batch_of)) (f.kept.len ∙ e.kept.len) held
+      (length c.in_ok-table.found.items) (fixed_has_lengths c.in_ok-table.table _ (no_lengths_blocks c.in_ok-table.table.layout)) (sym (length-map c.in_ok-table.found.items batch_of)) (f.kept.len ∙ e.kept.len) held
       (subst (λ (h : GeometryValue). AreShut h batches (disk.seen c.judge.new.device) (disk.seen c.carry_out_all.new.device)) c.geometry.ensures.value (f.carries.done.shut (e.kept.honest.1 honest)))
       e.calls f.carries.done.calls
 

@@ -1,7 +1,7 @@
 use Rattle.std.proofs.Common.{◌≡◌, ◌+◌, ◌-◌, ◌*◌, ◌++◌, drop}
-use Rattle.volume_codec.specs.inside.Reading.{numbers_in}
+use Rattle.volume_codec.specs.Text.{numbers_in}
 use Rattle.volume_codec.proofs.descriptor.homes_at.Given as goal
 
 abbrev pub invariant-loop-i : goal.invariant-loop-i
 invariant-loop-i g l =
-    l.homes.items ++ numbers_in (l.count - l.i) (drop (16 + 4 * l.i) l.block) ≡ numbers_in l.count (drop 16 l.block)
+    l.homes.items ++ numbers_in 4 (l.count - l.i) (drop (16 + 4 * l.i) l.block) ≡ numbers_in 4 l.count (drop 16 l.block)

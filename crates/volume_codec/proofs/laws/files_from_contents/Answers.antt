@@ -1,4 +1,5 @@
-use Rattle.volume_codec.proofs.Recovered.{files_in-same, file_in-at, length-lengths_in, lengths_in-le, blocks_from-device, get_or-blocks_from}
+use Rattle.volume_codec.proofs.Lengths.{length-lengths_in, lengths_in-le}
+use Rattle.volume_codec.proofs.Recovered.{files_in-same, file_in-at, blocks_from-device, get_or-blocks_from}
 use Rattle.volume_codec.proofs.laws.files_from_contents.Goals as goal
 
 pub returns : goal.returns

@@ -7,12 +7,15 @@ protect-requires-clause-prepared g c =
     c.requires.reserved (record { holder = c.args.p; change = Protect c.args.pcid c.args.range c.args.rights }) c.requires.held.1
 
 pub returns-clause-rules : goal.returns-clause-rules
-returns-clause-rules g c = record {
-  pcid = c.args.pcid;
-  range = c.args.range;
-  rights = c.args.rights;
-  may = may_change (state_in c.args.self.now) c.args.p _ c.requires.held;
-  spaces = c.protect.new.self.map;
-  rights_set = c.protect.ensures.rights;
-  done = ap (λ (s : ShootdownState). with_shootdown (with_spaces (state_in c.args.self.now) c.protect.new.self.map) s) c.finish.ensures.finished;
-}
+returns-clause-rules g c = λ disk. (
+  c.requires.held.0,
+  record {
+    pcid = c.args.pcid;
+    range = c.args.range;
+    rights = c.args.rights;
+    may = may_change (state_in c.args.self.now) c.args.p _ c.requires.held;
+    spaces = c.protect.new.self.map;
+    rights_set = c.protect.ensures.rights;
+    done = ap (λ (s : ShootdownState). with_shootdown (with_spaces (state_in c.args.self.now) c.protect.new.self.map) s) c.finish.ensures.finished;
+  },
+)

@@ -12,15 +12,18 @@ returns-clause-rules g c =
     let memory = c.requires.sound.memory in
     let leaves = c.in-Some.ensures.leaves in
     let same = c.clear.ensures.clean c.args.self.now.frames c.in-Some.frame memory.backed memory.memory.one_frame leaves.held leaves.clean in
-    record {
-      owner = c.args.page;
-      may = may_change s c.args.p _ c.requires.held;
-      frame = c.in-Some.frame;
-      leaves = leaves;
-      spaces = c.clear.new.spaces.map;
-      cleared = c.clear.ensures.cleared;
-      done = λ i. record s {
-        hardware = record { shootdown = c.finish-2.ensures.finished i; spaces = c.clear.new.spaces.map; memory = c.give.ensures i };
-        checkpoint = same i;
-      };
-    }
+    λ disk. (
+      c.requires.held.0,
+      record {
+        owner = c.args.page;
+        may = may_change s c.args.p _ c.requires.held;
+        frame = c.in-Some.frame;
+        leaves = leaves;
+        spaces = c.clear.new.spaces.map;
+        cleared = c.clear.ensures.cleared;
+        done = λ i. record s {
+          hardware = record { shootdown = c.finish-2.ensures.finished i; spaces = c.clear.new.spaces.map; memory = c.give.ensures i };
+          checkpoint = same i;
+        };
+      },
+    )

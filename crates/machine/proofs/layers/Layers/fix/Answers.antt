@@ -1,8 +1,9 @@
 use Rattle.machine.proofs.Names.{◌≡◌, Some, sym, ap, ◌∙◌, arith, false≢true, err_from_is_err_and, page_at}
-use Rattle.machine.proofs.Names.{place_of_fault, fix_refusal, state_in}
+use Rattle.machine.proofs.Names.{place_of_fault, reason_against, state_in}
 use Rattle.page_entry.specs.declared.refusal.Refusal.TheVariants as refusals
+use Rattle.machine.specs.declared.act.Act.TheVariants as acts
 use Rattle.machine.proofs.sound.Uses.{fault_file}
-use Rattle.machine.proofs.code.Fixes.{refused_by, refused_unread, fix_refusal-not_free, fix_refusal-leads, fix_refusal-past, fault_at, seen_same, same_reads, refused_fix, served_fix}
+use Rattle.machine.proofs.code.Fixes.{refused_by, refused_unread, fix-not_free, fix-leads, fix-past, fault_at, seen_same, same_reads, refused_fix, served_fix}
 use Rattle.machine.proofs.code.Marks.{page_there}
 use Rattle.machine.proofs.layers.Layers.fix.Goals as goal
 
@@ -10,22 +11,22 @@ pub returns-in_err-admit_free-clause-rules : goal.returns-in_err-admit_free-clau
 returns-in_err-admit_free-clause-rules g c =
     let s = state_in c.args.self.now in
     let p = err_from_is_err_and c.from_residual.result c.from_residual.ensures.1 in
-    rw (p.1, p.2) (refused_by _ s _ c.args.p c.args.va c.args.write _ (fix_refusal-not_free s c.args.p c.args.va c.args.write _ c.in_err-admit_free.ensures.err))
+    rw (p.1, p.2) (refused_by _ s _ c.args.p c.args.va c.args.write _ (fix-not_free s c.args.p c.args.va c.args.write _ c.in_err-admit_free.ensures.err))
 
 pub returns-in_err-place-clause-rules : goal.returns-in_err-place-clause-rules
 returns-in_err-place-clause-rules g c =
     let s = state_in c.args.self.now in
     let leads = ap (λ q. place_of_fault s.hardware.spaces q c.args.va c.args.write) (sym c.space-pcid.ensures.space) ∙ sym c.in_err-place.ensures in
     let p = err_from_is_err_and c.from_residual-in_err-place.result c.from_residual-in_err-place.ensures.1 in
-    rw (p.1, p.2) (refused_by _ s _ c.args.p c.args.va c.args.write _ (fix_refusal-leads s c.args.p c.args.va c.args.write _ c.in_ok-admit_free.ensures.ok leads))
+    rw (p.1, p.2) (refused_by _ s _ c.args.p c.args.va c.args.write _ (fix-leads s c.args.p c.args.va c.args.write _ c.in_ok-admit_free.ensures.ok leads))
 
 module _ (g : _) (c : goal.Then-length-from g) where
-  past : fix_refusal (state_in c.args.self.now) c.args.p c.args.va c.args.write ≡ Some refusals.BusAdrErr
+  past : reason_against (state_in c.args.self.now) c.args.p (acts.Fix c.args.va c.args.write) ≡ Some refusals.BusAdrErr
   past =
       let s = state_in c.args.self.now in
       let place = c.in_ok-place.place in
       let leads = ap (λ q. place_of_fault s.hardware.spaces q c.args.va c.args.write) (sym c.space-pcid.ensures.space) ∙ sym c.in_ok-place.ensures in
-      fix_refusal-past s c.args.p c.args.va c.args.write place c.in_ok-admit_free.ensures.ok leads (omega (arith, c.file_length-length.ensures, c.from.ensures, c.if-length-from.true))
+      fix-past s c.args.p c.args.va c.args.write place c.in_ok-admit_free.ensures.ok leads (omega (arith, c.file_length-length.ensures, c.from.ensures, c.if-length-from.true))
 
 pub returns-then-length-from-clause-rules : goal.returns-then-length-from-clause-rules
 returns-then-length-from-clause-rules g c = refused_by _ (state_in c.args.self.now) _ c.args.p c.args.va c.args.write refusals.BusAdrErr (past g c)

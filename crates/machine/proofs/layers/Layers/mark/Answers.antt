@@ -28,7 +28,7 @@ write_out-requires-clause-batch g c =
     (may_begin s c.requires.sound c.gather.new.self pages gathers (c.requires.sound.spaces.prepared (record { holder = c.args.p; change = Checkpoint }) c.requires.held.1).1)
 
 pub returns-clause-rules : goal.returns-clause-rules
-returns-clause-rules g c =
+returns-clause-rules g c = λ disk.
     let s = state_in c.args.self.now in
     let number = s.marks + 1 in
     let pages = c.gather.ensures.gathered.0 in
@@ -36,7 +36,7 @@ returns-clause-rules g c =
     let frozen = ap (λ (x : CheckpointState). x.frozen) c.protect_all.ensures.notes in
     let outs = ap (λ (owners : List FilePage). Rattle.machine.specs.inside.Layers.with_homes s.write_outs number (map (home_of s.table) owners)) frozen ∙ with_homes-batch s c.requires.sound c.gather.new.self pages gathers number in
     let shootdown = c.finish.ensures.finished ∙ ap (λ (w : Layers g.row.D.Denot g.row.A.Denot). finished w.shootdown c.args.p) c.write_out.ensures in
-    subst (λ (w : Layers g.row.D.Denot g.row.A.Denot). MarkMade s c.args.p w.marks (state_in (record w { shootdown = c.finish.new.self }))) (sym c.write_out.ensures)
+    let made = subst (λ (w : Layers g.row.D.Denot g.row.A.Denot). MarkMade s c.args.p w.marks (state_in (record w { shootdown = c.finish.new.self }))) (sym c.write_out.ensures)
     (record {
       may = may_change s c.args.p Checkpoint c.requires.held;
       next = refl;
@@ -51,4 +51,5 @@ returns-clause-rules g c =
         write_outs = outs i;
         marks = number;
       };
-    })
+    }) in
+    (c.requires.held.0, made)

@@ -7,8 +7,8 @@ pub bounds-frozen-0 : goal.bounds-frozen-0
 bounds-frozen-0 g c =
     subst (λ (pages : List FilePage). 0 < length pages) (sym c.frozen.ensures.frozen) (is_next_page (state_in c.args.self.now) c.requires.sound c.requires.record).some
 
-pub file_length-requires : goal.file_length-requires
-file_length-requires g c =
+pub file_length-requires-clause-there : goal.file_length-requires-clause-there
+file_length-requires-clause-there g c =
     subst (λ (pages : List FilePage). (get_or pages 0 (record { file = 0; page = 0 })).file < length c.args.self.now.table.files) (sym c.frozen.ensures.frozen) (is_next_page (state_in c.args.self.now) c.requires.sound c.requires.record).file.there
 
 pub overflow_mul-from : goal.overflow_mul-from
@@ -19,7 +19,7 @@ overflow_mul-from g c =
     let page = ap (λ (x : List FilePage). (first x).page) pages in
     let inside = (is_next_page (state_in c.args.self.now) c.requires.sound c.requires.record).file.inside in
     let length_is = c.file_length.ensures in
-    let same = ap (λ n. get_or (Rattle.volume_codec.specs.Super.capacities_in c.args.self.now.table) n 0) file in
+    let same = ap (λ n. get_or c.args.self.now.lengths.items n 0) file in
     omega (arith, c.from.ensures, page, inside, length_is, same, c.file_length.type_inv)
 
 pub bytes_at_mark-requires-clause-there : goal.bytes_at_mark-requires-clause-there
@@ -38,7 +38,7 @@ step_with-requires-clause-bytes g c =
     let file = ap (λ (x : List FilePage). (first x).file) pages in
     let page = ap (λ (x : List FilePage). (first x).page) pages in
     let length_is = c.file_length.ensures in
-    let same = ap (λ n. get_or (Rattle.volume_codec.specs.Super.capacities_in c.args.self.now.table) n 0) file in
+    let same = ap (λ n. get_or c.args.self.now.lengths.items n 0) file in
     let covered : 4096 ≤ length_of s (next_page s).file - 4096 * (next_page s).page = omega (arith, c.from.ensures, page, length_is, same, c.saturating_sub-left.ensures, c.if-left-ge-PAGE.true) in
     ap (λ (x : List FilePage). next_work s.write_outs (bytes_at_mark s.hardware.memory (first x))) pages
     ∙ ap (next_work s.write_outs) (whole_record s c.requires.sound (is_next_page s c.requires.sound c.requires.record).there covered)

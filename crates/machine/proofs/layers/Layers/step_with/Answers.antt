@@ -1,5 +1,5 @@
 use Rattle.machine.proofs.Names.{◌≡◌, Result, not, refl, sym, ap, ◌∙◌, subst, ⊎_elim, Did, did_as, Refusal, next_work}
-use Rattle.machine.proofs.Names.{Reply, Layers, State, Flushes, has_failed, step_work, state_in, AnswersBy}
+use Rattle.machine.proofs.Names.{Reply, Layers, State, Acts, has_failed, step_work, state_in, AnswersBy}
 use Rattle.machine.proofs.Names.{HasSmallMark, memory_after, checkpoint_after}
 use Rattle.machine.specs.declared.act.Act.TheVariants as acts
 use Rattle.machine.specs.inside.Layers.{reply_to as reply_by}
@@ -34,9 +34,9 @@ returns-clause-rules g c = λ p allowed.
       checkpoint = checkpoint_after answer (c.requires.record i) s.checkpoint;
       write_outs = c.step-answer.ensures.value i;
     } in
-    let replied = subst (λ (x : Result Reply Refusal). AnswersBy honest (λ d d'. Flushes s d p (reply_by x) (stepped s answer) d') disk (seen c.step-answer.new.device)) (sym c.reply_to_flush.ensures) made in
-    let there = subst (λ (n : State). AnswersBy honest (λ d d'. Flushes s d p (reply_by c.reply_to_flush.result) n d') disk (seen c.step-answer.new.device)) (sym state) replied in
-    subst (λ (w : Layers g.row.D.Denot g.row.A.Denot). AnswersBy honest (λ d d'. Flushes s d p (reply_by c.reply_to_flush.result) (state_in w) d') disk (seen w.device)) (sym c.settle.ensures) there
+    let replied = subst (λ (x : Result Reply Refusal). AnswersBy honest (λ d d'. Acts s d p acts.Flush (reply_by x) (stepped s answer) d') disk (seen c.step-answer.new.device)) (sym c.reply_to_flush.ensures) made in
+    let there = subst (λ (n : State). AnswersBy honest (λ d d'. Acts s d p acts.Flush (reply_by c.reply_to_flush.result) n d') disk (seen c.step-answer.new.device)) (sym state) replied in
+    subst (λ (w : Layers g.row.D.Denot g.row.A.Denot). AnswersBy honest (λ d d'. Acts s d p acts.Flush (reply_by c.reply_to_flush.result) (state_in w) d') disk (seen w.device)) (sym c.settle.ensures) there
 
 pub returns-clause-did : goal.returns-clause-did
 returns-clause-did g c =

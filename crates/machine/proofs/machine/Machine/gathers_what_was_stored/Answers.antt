@@ -11,4 +11,5 @@ returns-clause-pages g c = λ files start steps replies p number new mark owner 
 pub returns-clause-nothing : goal.returns-clause-nothing
 returns-clause-nothing g c = λ files start steps replies p number new mark on.
     let now = c.args.self.now in
-    gathers_nothing (tell_all (told_first files start.state) steps replies) now.state p number new mark (follows g.D.Device files start steps replies now on).tracked.touched
+    let tracked = (follows g.D.Device files start steps replies now on).tracked in
+    gathers_nothing (tell_all (told_first files start.state) steps replies) now.state p number new mark tracked.touched tracked.files_are.resized

@@ -1,0 +1,25 @@
+-- What the device calls that formatting is made of did.
+use Rattle.std.specs.Prelude.{◌≡◌, ◌⊎◌, ℕ, Bool, true, false, List, Result, OnOk}
+use Rattle.device.specs.Device.{Torn, TornFrom, LeavesOnly}
+use Rattle.device.specs.Did.{Did}
+use Rattle.device.specs.Work.{Work}
+use Rattle.device.specs.declared.device.Device.{Ghosts}
+use Rattle.page_entry.specs.declared.refusal.Refusal.{Refusal}
+use Rattle.recovery.specs.Counts.{Rises, RisesWithin, IsAccounted}
+
+-- of two works the second was asked where the first was done
+abbrev pub DidBoth : {D : Type 0} → Ghosts D → D → Work → Work → Bool → D → Type 0
+DidBoth {D} disk old first second done new =
+    ((done ≡ false) × Did disk old first false new)
+    ⊎ ((mid : D) × Did disk old first true mid × Did disk mid second done new)
+
+-- The n bytes from this offset on were written, piece by piece, by so many device calls, or by fewer of which the last
+-- failed. All other bytes are as before, also after a crash.
+pub record HasOverwritten {D X : Type 0} (disk : Ghosts D) (at n asked : ℕ) (old : D) (result : Result X Refusal) (new : D)
+    : Type 0 where
+  pub torn : disk.is_honest old → Torn at n (disk.seen old) (disk.seen new)
+  pub left : (c : List ℕ) → disk.may_leave new c → TornFrom at n (disk.may_leave old) c
+  pub time : LeavesOnly disk.moment disk.left_since old new (TornFrom at n (disk.may_leave old))
+  pub kept : IsAccounted disk old result new
+  pub calls : OnOk result (Rises asked (disk.calls_made old) (disk.calls_made new))
+  pub most : RisesWithin asked (disk.calls_made old) (disk.calls_made new)
