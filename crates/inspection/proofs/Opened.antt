@@ -3,7 +3,8 @@ use Rattle.std.proofs.Common.{◌≡◌, ◌⊎◌, ⊎_elim, ℕ, List, Result,
 use Rattle.device.specs.declared.device.Device.{Ghosts}
 use Rattle.volume_codec.specs.Layout.{block_at}
 use Rattle.volume_codec.specs.Super.{SuperValue, IsSuper, geometry_of}
-use Rattle.volume_codec.specs.Recovery.{IsVolume, Recovers, lengths_in}
+use Rattle.volume_codec.specs.Lengths.{lengths_in}
+use Rattle.volume_codec.specs.Recovery.{IsVolume, Recovers}
 use Rattle.volume_codec.proofs.Functional.{one_table}
 use Rattle.recovery.specs.Counts.{Rises}
 use Rattle.page_entry.specs.declared.refusal.Refusal.{Refusal}

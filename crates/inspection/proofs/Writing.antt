@@ -30,11 +30,17 @@ file_more old mid new v lengths i n is before this =
 
 -- one item more
 pub item_more : {X : Type 0} (f : X → List ℕ) (old mid new : Option (List ℕ)) (xs : List X) (i : ℕ) (d : X) → i < length xs → Appends old mid (flat_map f (take i xs)) → Appends mid new (f (get_or xs i d)) → Appends old new (flat_map f (take (i + 1) xs))
-item_more f old mid new xs i d below before this =
+item_more {X} f old mid new xs i d below before this =
     let P : List ℕ → Type 0 = λ text. Appends old new text in
-    let x = get_or xs i d in
+    let x : X = get_or xs i d in
     let text : flat_map f (take i xs) ++ f x ≡ flat_map f (take (i + 1) xs) = flat_map_more f [] (take i xs) x ∙ ap (flat_map f) (sym (take_more xs i d below)) in
     subst P text (appends_both old mid new (flat_map f (take i xs)) (f x) before this)
+
+-- this item more
+pub this_item_more : {X : Type 0} (f : X → List ℕ) (old mid new : Option (List ℕ)) (xs : List X) (i : ℕ) (x : X) → i < length xs → x ≡ get_or xs i x → Appends old mid (flat_map f (take i xs)) → Appends mid new (f x) → Appends old new (flat_map f (take (i + 1) xs))
+this_item_more {X} f old mid new xs i x below is before this =
+    let P : X → Type 0 = λ y. Appends mid new (f y) in
+    item_more f old mid new xs i x below before (subst P is this)
 
 -- one value more
 pub value_more : {X : Type 0} (f : X → Data) (old new : List Value) (xs : List X) (i : ℕ) (d : X) (value : Value) → i < length xs → new ≡ old ++ value ∷ [] → view value ≡ f (get_or xs i d) → map view old ≡ map f (take i xs) → map view new ≡ map f (take (i + 1) xs)

@@ -4,7 +4,8 @@ use Rattle.std.specs.Prelude.{ℕ, suc, ◌≡◌, ◌*◌, List, [], ◌∷◌,
 use Rattle.volume_codec.specs.Layout.{GeometryValue, gate_block, descriptor_block, journals_of, block_at}
 use Rattle.volume_codec.specs.Descriptor.{IsDescriptor}
 use Rattle.volume_codec.specs.Super.{geometry_of}
-use Rattle.volume_codec.specs.Recovery.{Batch, IsOpen, IsVolume, Recovers, lengths_in}
+use Rattle.volume_codec.specs.Lengths.{lengths_in}
+use Rattle.volume_codec.specs.Recovery.{Batch, IsOpen, IsVolume, Recovers}
 use Rattle.recovery.specs.Counts.{Rises}
 use Rattle.recovery.specs.Opening.{opening_calls}
 use Rattle.inspection.specs.declared.found.Journal.{Journal}

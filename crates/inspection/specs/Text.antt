@@ -27,7 +27,8 @@ abbrev pub file_name : List ℕ → List ℕ
 file_name name = codes "file " ++ name ++ codes ": "
 
 abbrev pub file_size : ℕ → ℕ → ℕ → List ℕ
-file_size n pages home = decimal n ++ codes " bytes, " ++ decimal pages ++ codes " pages, home " ++ decimal home
+file_size n pages home =
+    decimal n ++ (codes " bytes, " ++ (decimal pages ++ (codes " pages, home " ++ decimal home)))
 
 -- a file of n bytes, whose home blocks begin here
 abbrev pub file_text : List ℕ → ℕ → ℕ → ℕ → List ℕ
@@ -55,7 +56,8 @@ homes_text v homes = flat_map (home_text v) homes
 
 -- a descriptor: its mark, and how many home blocks it has, and which
 abbrev pub open_head : ℕ → ℕ → List ℕ
-open_head mark count = codes " open, mark " ++ decimal mark ++ codes ", " ++ decimal count ++ codes " blocks:"
+open_head mark count =
+    codes " open, mark " ++ (decimal mark ++ (codes ", " ++ (decimal count ++ codes " blocks:")))
 
 abbrev pub open_text : SuperValue → DescriptorValue → List ℕ
 open_text v d = open_head d.mark (length d.homes) ++ homes_text v d.homes ++ 10 ∷ []
@@ -64,11 +66,17 @@ abbrev pub state_text : SuperValue → Option DescriptorValue → List ℕ
 state_text v None = codes " closed\n"
 state_text v (Some d) = open_text v d
 
--- a journal: the byte of its gate in two hexadecimal digits, and what that opens
+abbrev pub journal_name : ℕ → List ℕ
+journal_name n = codes "journal " ++ decimal n ++ codes ": gate "
+
+-- the byte of a gate in two hexadecimal digits
+abbrev pub gate_text : ℕ → List ℕ
+gate_text gate = digit_glyph false (gate / 16) ∷ digit_glyph false (gate % 16) ∷ []
+
+-- a journal: the byte of its gate, and what that opens
 abbrev pub journal_line : {Z : Type 0} → SuperValue → Journal Z → List ℕ
 journal_line v journal =
-    codes "journal " ++ decimal journal.number ++ codes ": gate " ++ digit_glyph false (journal.gate / 16)
-    ∷ digit_glyph false (journal.gate % 16) ∷ state_text v journal.descriptor
+    journal_name journal.number ++ gate_text journal.gate ++ state_text v journal.descriptor
 
 abbrev pub journal_lines : {Z : Type 0} → SuperValue → List (Journal Z) → List ℕ
 journal_lines v journals = flat_map (journal_line v) journals

@@ -2,7 +2,7 @@
 ghost use Rattle.std.specs.Prelude.{◌≡◌, ◌<◌, ◌∷◌, [], OnOk, length, slice_get, slice_index, Some};
 ghost use Rattle.std.specs.Io.KnownBytes.{Appends};
 ghost use Rattle.volume_codec.specs.Super.{pages_of};
-ghost use Rattle.inspection.specs.Text.{volume_line, calls_line, capacity_text, file_name, file_size, file_line, file_lines, file_text, home_text, homes_text, open_head, open_text, journal_line, journal_lines, info_text};
+ghost use Rattle.inspection.specs.Text.{volume_line, calls_line, capacity_text, file_name, file_size, file_line, file_lines, file_text, home_text, homes_text, open_head, open_text, state_text, journal_name, gate_text, journal_line, journal_lines, info_text};
 
 use crate::file::{capacity_of, name_of};
 use crate::found::{Found, Journal};
@@ -141,10 +141,34 @@ fn write_journal<A: Allocator + Copy, W: io::Write>(
     ensures { OnOk result (Appends (W.contents out.old) (W.contents out.new)
         (journal_line table.now journal.now)) }
 {
-    let number = journal.number;
-    let gate = journal.gate;
-    write!(out, "journal {number}: gate {gate:02x}")?;
-    match &journal.descriptor {
+    write_journal_name(journal.number, out)?;
+    write_gate(journal.gate, out)?;
+    write_state(table, &journal.descriptor, out)
+}
+
+fn write_journal_name<W: io::Write>(number: u32, out: &mut W) -> io::Result<()>
+    ensures { OnOk result (Appends (W.contents out.old) (W.contents out.new) (journal_name number)) }
+{
+    write!(out, "journal {number}: gate ")
+}
+
+// The byte of a gate in two hexadecimal digits.
+fn write_gate<W: io::Write>(gate: u8, out: &mut W) -> io::Result<()>
+    ensures { OnOk result (Appends (W.contents out.old) (W.contents out.new) (gate_text gate)) }
+{
+    write!(out, "{gate:02x}")
+}
+
+// What the gate of a journal opens: nothing, or what this descriptor says.
+fn write_state<A: Allocator + Copy, W: io::Write>(
+    table: &Super<A>,
+    descriptor: &Option<Descriptor<A>>,
+    out: &mut W,
+) -> io::Result<()>
+    ensures { OnOk result (Appends (W.contents out.old) (W.contents out.new)
+        (state_text table.now descriptor.now)) }
+{
+    match descriptor {
         None => writeln!(out, " closed"),
         Some(descriptor) => write_descriptor(table, descriptor, out),
     }

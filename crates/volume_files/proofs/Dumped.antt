@@ -1,11 +1,12 @@
 -- What is written of a volume's files.
-use Rattle.std.proofs.Common.{◌≡◌, ◌<◌, ℕ, zero, suc, add-one, ◌+◌, List, [], ◌∷◌, ◌++◌, length, map, take, slice_get, Option, Some, Result, Ok, Err, OnOk, refl, sym, ◌∙◌, ap, subst, arith, append-nil}
+use Rattle.std.proofs.Common.{◌≡◌, ◌<◌, ◌≤◌, ℕ, zero, suc, add-one, ◌+◌, List, [], ◌∷◌, ◌++◌, length, map, take, slice_get, Option, Some, Result, Ok, Err, OnOk, refl, sym, ◌∙◌, ap, subst, arith, append-nil}
 use Rattle.std.proofs.lemmas.List.{length-map}
 use Rattle.std.proofs.lemmas.Grind.{flat_map-append}
 use Rattle.device.specs.declared.device.Device.{Ghosts}
 use Rattle.volume_codec.specs.Files.{File, TableFile}
 use Rattle.volume_codec.specs.Layout.{block_at, first_file_home}
 use Rattle.volume_codec.specs.Super.{pages_of, total_pages, names_in}
+use Rattle.volume_codec.specs.Lengths.{lengths_in}
 use Rattle.volume_codec.specs.Recovery.{files_from}
 use Rattle.volume_codec.proofs.Blocks.{length-block_at}
 use Rattle.volume_codec.proofs.Recovered.{length-file}
@@ -15,16 +16,20 @@ use Rattle.volume_files.specs.Dump.{file_text, dump_text}
 use Rattle.volume_files.specs.inside.Reading.{IsOnlyRead, AreFilesOf}
 use Rattle.volume_files.proofs.Appending.{appends_both}
 
-named_from : (contents : ℕ → List ℕ) (b : ℕ) (fs : List TableFile) → map (λ (f : File). f.name) (files_from contents b fs (map (λ (f : TableFile). f.capacity) fs)) ≡ map (λ (f : TableFile). f.name) fs
-named_from contents b [] = refl
-named_from contents b (f ∷ fs) = ap (λ rest. f.name ∷ rest) (named_from contents (b + pages_of f.capacity) fs)
+named_from : (contents : ℕ → List ℕ) (b : ℕ) (fs : List TableFile) (lengths : List ℕ) → length lengths ≡ length fs → map (λ (f : File). f.name) (files_from contents b fs lengths) ≡ map (λ (f : TableFile). f.name) fs
+named_from contents b [] lengths count = refl
+named_from contents b (f ∷ fs) [] count = absurd (omega (arith, count))
+named_from contents b (f ∷ fs) (n ∷ ns) count = ap (λ rest. f.name ∷ rest) (named_from contents (b + pages_of f.capacity) fs ns (omega (arith, count)))
 
-lengths_from : (contents : ℕ → List ℕ) (b : ℕ) (fs : List TableFile) → ((i : ℕ) → i < b + total_pages fs → length (contents i) ≡ 4096)
-    → map (λ (f : File). length f.bytes) (files_from contents b fs (map (λ (f : TableFile). f.capacity) fs)) ≡ map (λ (f : TableFile). f.capacity) fs
-lengths_from contents b [] whole = refl
-lengths_from contents b (f ∷ fs) whole =
-    let first = length-file contents b f.capacity f.capacity (λ i low high. whole i (omega arith)) (omega arith) in
-    let rest = lengths_from contents (b + pages_of f.capacity) fs (λ i high. whole i (omega arith)) in
+lengths_from : (contents : ℕ → List ℕ) (b : ℕ) (fs : List TableFile) (lengths : List ℕ) → length lengths ≡ length fs
+    → ((i n : ℕ) (f : TableFile) → slice_get fs i ≡ Some f → slice_get lengths i ≡ Some n → n ≤ f.capacity) → ((i : ℕ) → i < b + total_pages fs → length (contents i) ≡ 4096)
+    → map (λ (f : File). length f.bytes) (files_from contents b fs lengths) ≡ lengths
+lengths_from contents b [] [] count within whole = refl
+lengths_from contents b [] (n ∷ ns) count within whole = absurd (omega (arith, count))
+lengths_from contents b (f ∷ fs) [] count within whole = absurd (omega (arith, count))
+lengths_from contents b (f ∷ fs) (n ∷ ns) count within whole =
+    let first = length-file contents b n f.capacity (λ i low high. whole i (omega arith)) (within 0 n f refl refl) in
+    let rest = lengths_from contents (b + pages_of f.capacity) fs ns (omega (arith, count)) (λ i m g file size. within (suc i) m g file size) (λ i high. whole i (omega arith)) in
     λ i. first i ∷ rest i
 
 -- a volume as it was opened
@@ -35,8 +40,8 @@ files_of_settled disk volume settled honest =
     let rest = settled.at_rest honest in
     let whole : (i : ℕ) → i < b + total_pages volume.table.files → length (block_at bytes i) ≡ 4096 = λ i high. length-block_at bytes i (let long = settled.long in omega arith) in
     record {
-      names = named_from (block_at bytes) b volume.table.files;
-      lengths = lengths_from (block_at bytes) b volume.table.files whole ∙ sym rest.lengths_are;
+      names = named_from (block_at bytes) b volume.table.files (lengths_in volume.table (block_at bytes)) rest.lengths_fit.are.count;
+      lengths = lengths_from (block_at bytes) b volume.table.files (lengths_in volume.table (block_at bytes)) rest.lengths_fit.are.count rest.lengths_fit.are.within whole ∙ sym rest.lengths_are;
     }
 
 -- a volume that was only read has the same files

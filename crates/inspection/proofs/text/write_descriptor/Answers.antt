@@ -1,4 +1,4 @@
-use Rattle.std.proofs.Common.{rules, ◌++◌, ◌∷◌, [], length}
+use Rattle.std.proofs.Common.{rules, ◌≡◌, ℕ, List, ◌++◌, ◌∷◌, [], length, subst}
 use Rattle.std.specs.Io.KnownBytes.{Appends}
 use Rattle.inspection.specs.Text.{open_head, homes_text}
 use Rattle.inspection.proofs.Writing.{appends_both, ok_map}
@@ -15,7 +15,10 @@ returns g c =
     let end = contents c.write_line_end.new.out in
     let x = open_head d.mark (length d.homes) in
     let y = homes_text v d.homes in
-    let head : Appends start first x = search rules in
+    let mark : c.mark-mark.result ≡ d.mark = c.mark-mark.ensures in
+    let P : ℕ → Type 0 = λ m. Appends start first (open_head m (length c.homes-homes.result.now)) in
+    let Q : List ℕ → Type 0 = λ homes. Appends start first (open_head d.mark (length homes)) in
+    let head : Appends start first x = subst Q c.homes-homes.ensures (subst P mark c.in_ok-write_open_head.ensures) in
     let homes : Appends first second y = search rules in
     ok_map c.write_line_end.result
     (λ last. appends_both start second end (x ++ y) (10 ∷ []) (appends_both start first second x y head homes) last)
