@@ -130,7 +130,13 @@ fn journal_value<A: Allocator + Copy>(
         None => closed_value(global, journal.number, journal.gate),
         Some(descriptor) => {
             let blocks = homes_value(global, table, descriptor.homes())?;
-            open_value(global, journal.number, journal.gate, descriptor.mark(), blocks)
+            open_value(
+                global,
+                journal.number,
+                journal.gate,
+                descriptor.mark(),
+                blocks,
+            )
         }
     }
 }

@@ -41,7 +41,10 @@ fn write_volume<A: Allocator + Copy, W: io::Write>(table: &Super<A>, out: &mut W
     let slots = table.slots();
     let blocks = table.block_count();
     let bytes = PAGE * u64::from(blocks);
-    writeln!(out, "layout {layout}, {slots} slots, {blocks} blocks, {bytes} bytes")
+    writeln!(
+        out,
+        "layout {layout}, {slots} slots, {blocks} blocks, {bytes} bytes"
+    )
 }
 
 // The lines of the files, which have these lengths.
