@@ -267,7 +267,9 @@ fn dump_command<'a>(alloc: Global) -> Result<Command<'a>, AllocError> {
 
 fn info_command<'a>(alloc: Global) -> Result<Command<'a>, AllocError> {
     Command::new(alloc, "info")
-        .about("Prints what the bytes of a volume say: its shape, its files, its journals, and what opening would do")
+        .about(
+            "Prints what the bytes of a volume say: its shape, its files, its journals, and what opening would do",
+        )
         .arg(trust_option(alloc))?
         .arg(json_option(alloc))?
         .arg(word(alloc, "DISK", "The file that holds the volume"))
@@ -285,7 +287,9 @@ fn check_command<'a>(alloc: Global) -> Result<Command<'a>, AllocError> {
 
 fn export_command<'a>(alloc: Global) -> Result<Command<'a>, AllocError> {
     Command::new(alloc, "export")
-        .about("Copies a file of a volume, as it would be opened, to the file OUT, and leaves the volume as it is")
+        .about(
+            "Copies a file of a volume, as it would be opened, to the file OUT, and leaves the volume as it is",
+        )
         .arg(trust_option(alloc))?
         .arg(json_option(alloc))?
         .arg(word(alloc, "DISK", "The file that holds the volume"))?

@@ -5,8 +5,8 @@ ghost use Rattle.console.specs.Health.{health_status};
 use crate::failure::Failure;
 use device::OverlayDisk;
 use inspection::{
-    Found, Health, LineFault, damage_value, examine, found_value, health_value, inspect, write_file_lines,
-    write_found, write_line,
+    Found, Health, LineFault, damage_value, examine, found_value, health_value, inspect,
+    write_file_lines, write_found, write_line,
 };
 use page_entry::Refusal;
 use serde_json::Value;
