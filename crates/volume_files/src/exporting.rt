@@ -45,12 +45,13 @@ where
     let old = old_copy(rt, plan.out, &from, &to)?;
     let new = format!(in rt.alloc(); "{to}.new")?;
     let file = new_copy(rt, plan.out, &new)?;
-    let (count, _file) = match copied(alloc, plan, disk, old.as_ref(), file).and_then(
-        |(count, file)| match renamed(rt, plan.out, &new, &to, file) {
-            Ok(file) => Ok((count, file)),
-            Err(failure) => Err(failure),
-        },
-    ) {
+    let (count, _file) = match copied(alloc, plan, disk, old.as_ref(), file).and_then(|(
+        count,
+        file,
+    )| match renamed(rt, plan.out, &new, &to, file) {
+        Ok(file) => Ok((count, file)),
+        Err(failure) => Err(failure),
+    }) {
         Ok(done) => done,
         Err(failure) => {
             // Where it can't be taken away either, the next export says that it is there.
@@ -137,12 +138,7 @@ where
     if let Some(old) = old {
         take_after(&file, old).map_err(failed)?;
     }
-    match copy_file(
-        alloc,
-        OverlayDisk::new(alloc, disk),
-        plan.file,
-        &mut file,
-    ) {
+    match copy_file(alloc, OverlayDisk::new(alloc, disk), plan.file, &mut file) {
         Ok(Ok(count)) => {
             file.sync_all().map_err(failed)?;
             Ok((count, file))
