@@ -103,7 +103,8 @@ where
 }
 
 fn status_of(health: Health) -> u8
-    ensures { result ≡ health_status health }
+    ensures status { result ≡ health_status health }
+    ensures small { result ≤ 3 }
 {
     match health {
         Health::Clean => 0,

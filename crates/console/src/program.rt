@@ -123,7 +123,10 @@ where
             serve(rt, alloc, disk, trust, out, note)?;
             Ok(0)
         }
-        Job::Replay { disk, trace, trust } => replay(rt, alloc, disk, trace, trust, out, note),
+        Job::Replay { disk, trace, trust } => {
+            let status = replay(rt, alloc, disk, trace, trust, out, note)?;
+            Ok(status)
+        }
         Job::Dump(look) => {
             if look.json {
                 dump_lines(rt, alloc, look, out, note)?;
