@@ -1,6 +1,7 @@
 // The command line: what the words ask for.
 ghost use Rattle.std.specs.Prelude.{◌≡◌};
 
+use crate::crashes::Form;
 use crate::failure::Failure;
 use crate::words::{decimal, file_spec};
 use clap::error::ErrorKind;
@@ -47,6 +48,14 @@ pub enum Job<'a, A: Allocator + Copy> {
         trace: &'a str,
         trust: bool,
     },
+    /// Print what a crash within each device call of a script leaves, also of a volume that is marked as suspect where it
+    /// is trusted.
+    Crashes {
+        disk: &'a str,
+        script: &'a str,
+        trust: bool,
+        form: Form,
+    },
     /// Print this text: help, or the version.
     Show(String),
 }
@@ -88,6 +97,12 @@ fn job_of<'a, A: Allocator + Copy>(
             disk: text(words, "DISK"),
             trust: words.get_flag("trust"),
         }),
+        Some(("crashes", words)) => Ok(Job::Crashes {
+            disk: text(words, "DISK"),
+            script: text(words, "SCRIPT"),
+            trust: words.get_flag("trust"),
+            form: form_of(words),
+        }),
         Some((_, words)) => Ok(Job::Dump {
             disk: text(words, "DISK"),
             trust: words.get_flag("trust"),
@@ -119,6 +134,17 @@ fn format_job<'a, A: Allocator + Copy>(
     })
 }
 
+// How the crashes of a script are printed.
+fn form_of(words: &ArgMatches<'_>) -> Form {
+    if words.get_flag("json") {
+        Form::Json
+    } else if words.get_flag("html") {
+        Form::Html
+    } else {
+        Form::Text
+    }
+}
+
 // The value of a required argument.
 fn text<'a>(words: &ArgMatches<'a>, name: &str) -> &'a str {
     words.get_str(name).unwrap_or("")
@@ -136,7 +162,8 @@ fn program<'a>(alloc: Global) -> Result<Command<'a>, AllocError> {
         .subcommand(threads_command(alloc)?)?
         .subcommand(serve_command(alloc)?)?
         .subcommand(replay_command(alloc)?)?
-        .subcommand(dump_command(alloc)?)
+        .subcommand(dump_command(alloc)?)?
+        .subcommand(crashes_command(alloc)?)
 }
 
 fn format_command<'a>(alloc: Global) -> Result<Command<'a>, AllocError> {
@@ -225,6 +252,29 @@ fn dump_command<'a>(alloc: Global) -> Result<Command<'a>, AllocError> {
         .about("Prints the files of a volume as it would be opened, and leaves it as it is")
         .arg(trust_option(alloc))?
         .arg(word(alloc, "DISK", "The file that holds the volume"))
+}
+
+fn crashes_command<'a>(alloc: Global) -> Result<Command<'a>, AllocError> {
+    Command::new(alloc, "crashes")
+        .about(
+            "Prints what a crash within each device call of a script leaves of a copy of a volume",
+        )
+        .arg(trust_option(alloc))?
+        .arg(flag(alloc, "json", "Print a JSON object a line"))?
+        .arg(flag(alloc, "html", "Print an HTML page").conflicts_with("json")?)?
+        .arg(word(alloc, "DISK", "The file that holds the volume"))?
+        .arg(word(
+            alloc,
+            "SCRIPT",
+            "The file that holds the script, a JSON object",
+        ))
+}
+
+fn flag<'a>(alloc: Global, name: &'a str, help: &'a str) -> Arg<'a> {
+    Arg::new(alloc, name)
+        .long(name)
+        .action(ArgAction::SetTrue)
+        .help(help)
 }
 
 fn word<'a>(alloc: Global, name: &'a str, help: &'a str) -> Arg<'a> {

@@ -3,6 +3,7 @@ ghost use Rattle.std.specs.Prelude.{◌≡◌};
 ghost use Rattle.console.specs.Failure.{status_of};
 
 use crate::shape::ShapeCause;
+use crash_table::CrashFault;
 use page_entry::Refusal;
 use scripts::ScriptFault;
 use std::alloc::AllocError;
@@ -53,6 +54,9 @@ pub enum Failure<'a> {
     /// The trace isn't what the threads were answered.
     #[error("script {path:?}: {cause}: the trace isn't what the threads were answered")]
     Gather { path: &'a str, cause: Refusal },
+    /// The crashes of a run weren't made.
+    #[error("script {path:?}: {cause}")]
+    Crashes { path: &'a str, cause: CrashFault },
     /// A step of a session was answered that the device failed.
     #[error("disk {path:?}: the device failed")]
     Session { path: &'a str },

@@ -3,6 +3,9 @@
 #![tactic(auto)]
 
 mod command;
+mod crash_page;
+mod crash_text;
+mod crashes;
 mod failure;
 mod printer;
 mod program;

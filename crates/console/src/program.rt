@@ -2,6 +2,7 @@
 ghost use Rattle.std.specs.Prelude.{◌≤◌, IfOk};
 
 use crate::command::{Job, read_words};
+use crate::crashes::crashes;
 use crate::failure::Failure;
 use crate::replay::replay;
 use crate::run::run;
@@ -121,6 +122,15 @@ where
         Job::Replay { disk, trace, trust } => replay(rt, alloc, disk, trace, trust, out, note),
         Job::Dump { disk, trust } => {
             dump(rt, alloc, disk, trust, out, note)?;
+            Ok(0)
+        }
+        Job::Crashes {
+            disk,
+            script,
+            trust,
+            form,
+        } => {
+            crashes(rt, alloc, disk, script, trust, form, out, note)?;
             Ok(0)
         }
         Job::Show(text) => {

@@ -68,7 +68,8 @@ where
     Ok(disk)
 }
 
-fn read_script<'a, R, A>(rt: &R, alloc: A, path: &'a str) -> Result<Script<A>, Failure<'a>>
+/// The script in a file.
+pub fn read_script<'a, R, A>(rt: &R, alloc: A, path: &'a str) -> Result<Script<A>, Failure<'a>>
 where
     R: Files<File = File> + AllocGlobal,
     A: Allocator + Copy,

@@ -1,0 +1,19 @@
+//! What a crash leaves at each device call of a run: the run is made again on copies of the disk in memory, up to that
+//! call and within it, and what a crash leaves then is opened. Each opening finds the files at a mark of the run.
+#![tactic(auto)]
+
+mod call;
+mod choice;
+mod fault;
+mod files;
+mod found;
+mod make;
+mod part;
+mod row;
+mod trial;
+
+pub use call::{Call, CallKind};
+pub use fault::CrashFault;
+pub use part::{Part, Places};
+pub use row::{MOST_MIXTURES, Outcome, Row, Rows};
+pub use trial::Trial;

@@ -1,0 +1,122 @@
+// A run, made once to learn its calls, its replies and the files at its marks, and again for each crash.
+use crate::call::{Call, Listing};
+use crate::fault::CrashFault;
+use crate::files::{fault_of, open_files};
+use crate::found::{MarkFiles, Plan, files_at, newest};
+use crate::make::run_on;
+use device::{FailingDisk, MemDisk};
+use machine::{Reply, Shape, Step};
+use std::alloc::Allocator;
+
+/// A run on a copy of a disk: its replies, its device calls, and the files at its marks.
+#[derive(Drop)]
+pub struct Trial<'a, A: Allocator + Copy> {
+    alloc: A,
+    plan: Plan<'a>,
+    replies: Vec<Reply, A>,
+    /// How many device calls were made up to each reply, and with its step.
+    made: Vec<u64, A>,
+    /// How many device calls opened the volume.
+    opening: u64,
+    calls: Vec<Call<A>, A>,
+    marks: Vec<MarkFiles<A>, A>,
+}
+
+impl<'a, A: Allocator + Copy> Trial<'a, A> {
+    /// Makes a run on a copy of a disk that holds these bytes. `Refused` where `engine::start` refuses it.
+    pub fn new(
+        alloc: A,
+        image: &'a [u8],
+        shape: Shape,
+        steps: &'a [Step],
+    ) -> Result<Self, CrashFault> {
+        let plan = Plan {
+            image,
+            shape,
+            steps,
+        };
+        let disk = Listing::new(alloc, plan.copy(alloc)?);
+        let mut machine = match engine::start(alloc, disk, shape) {
+            Ok(machine) => machine,
+            Err((refusal, _)) => return Err(fault_of(refusal)),
+        };
+        let opening = machine.device().count();
+        let mut replies = Vec::new(alloc);
+        let mut made = Vec::new(alloc);
+        for step in steps {
+            replies.push(machine.enter(step))?;
+            made.push(machine.device().count())?;
+        }
+        let calls = machine.into_device().into_calls()?;
+        let marks = marks_of(alloc, plan, &replies)?;
+        Ok(Trial {
+            alloc,
+            plan,
+            replies,
+            made,
+            opening,
+            calls,
+            marks,
+        })
+    }
+
+    /// The device calls of the run, in order. The first ones open the volume.
+    pub fn calls(&self) -> &[Call<A>] {
+        &self.calls
+    }
+
+    /// What the disk holds before the run.
+    pub fn image(&self) -> &'a [u8] {
+        self.plan.image
+    }
+
+    /// The replies of the run.
+    pub fn replies(&self) -> &[Reply] {
+        &self.replies
+    }
+
+    /// How many replies come before the device call of this number, counted from 1.
+    pub fn replies_before(&self, call: u64) -> usize {
+        if call <= self.opening {
+            return 0;
+        }
+        let mut count = 0usize;
+        for made in &self.made {
+            if *made >= call {
+                return count;
+            }
+            count = count.saturating_add(1);
+        }
+        count
+    }
+
+    /// The run is made again, and its device call of this number, counted from 1, fails; where there is none, no call
+    /// fails. Then a crash leaves these bytes in the places that were written and not synced, and what is left is
+    /// opened. The answer is the number of the newest mark whose files are found; 0: those before the run.
+    pub fn crash(&self, fails: u64, choice: &[u8]) -> Result<u32, CrashFault> {
+        if choice.len() != self.plan.image.len() {
+            return Err(CrashFault::Otherwise);
+        }
+        let disk = FailingDisk::new(self.plan.copy(self.alloc)?, fails);
+        let (disk, replies) = run_on(self.alloc, disk, self.plan.shape, self.plan.steps)?;
+        let mut disk = disk.into_inner();
+        disk.stop(choice);
+        let found = open_files(self.alloc, disk)?;
+        newest(&self.marks, &self.replies, &replies, &found)
+    }
+}
+
+// The files at each mark that these replies tell.
+fn marks_of<A: Allocator + Copy>(
+    alloc: A,
+    plan: Plan<'_>,
+    replies: &[Reply],
+) -> Result<Vec<MarkFiles<A>, A>, CrashFault> {
+    let mut marks = Vec::new(alloc);
+    for at in 0..replies.len() {
+        if let Reply::Marked(number) = replies[at] {
+            marks.push(files_at(alloc, plan, replies, at, number)?)?;
+        }
+    }
+    Ok(marks)
+}
