@@ -1,7 +1,7 @@
 // The table of crashes as an HTML page.
 use crate::crash_text::{Touched, word_of};
 use crate::crashes::Printed;
-use crash_table::{Call, MOST_MIXTURES, Outcome, Places, Row};
+use crash_table::{Call, MOST_MIXTURES, Places, Row};
 use machine::Reply;
 use std::alloc::Allocator;
 use std::{fmt, io};
@@ -65,16 +65,25 @@ pub fn reply_on_page<W: io::Write>(reply: &Reply, out: &mut W) -> io::Result<()>
 
 // A text between tags.
 #[derive(Clone, Copy)]
-struct Shown<T>(T);
+struct Shown<'a>(&'a str);
 
-impl<T: fmt::Display> fmt::Display for Shown<T> {
+impl fmt::Display for Shown<'_> {
     fn fmt<W: fmt::Write>(&self, f: &mut fmt::Formatter<W>) -> fmt::Result {
-        write!(f, "{}", self.0)
+        for letter in self.0.chars() {
+            match letter {
+                '<' => f.write_str("&lt;")?,
+                '>' => f.write_str("&gt;")?,
+                '&' => f.write_str("&amp;")?,
+                _ => write!(f, "{letter}")?,
+            }
+        }
+        Ok(())
     }
 }
 
 /// A row for a call, or for the end of the run.
 pub fn row_on_page<A: Allocator + Copy, W: io::Write>(
+    alloc: A,
     places: &Places<A>,
     call: Option<&Call<A>>,
     row: &Row<A>,
@@ -84,10 +93,11 @@ pub fn row_on_page<A: Allocator + Copy, W: io::Write>(
         Some(call) => {
             let number = row.number;
             let word = word_of(call.kind);
-            let touched = Touched {
+            let touched = format!(in alloc; "{}", Touched {
                 places,
-                call,
-            };
+                call
+            })?;
+            let touched = Shown(touched.as_str());
             let bytes = call.len;
             write!(
                 out,
@@ -99,13 +109,15 @@ pub fn row_on_page<A: Allocator + Copy, W: io::Write>(
             "<tr><td class=\"n\">end</td><td colspan=\"3\">after the last call</td><td>"
         )?,
     }
-    for outcome in &row.outcomes {
-        let Outcome { mark, states } = *outcome;
-        let class = color_of(mark);
-        write!(
-            out,
-            "<span class=\"m m{class}\">mark {mark} &times;{states}</span>"
-        )?;
+    for mark in 0..=row.newest() {
+        let states = row.count(mark);
+        if states > 0 {
+            let class = color_of(mark);
+            write!(
+                out,
+                "<span class=\"m m{class}\">mark {mark} &times;{states}</span>"
+            )?;
+        }
     }
     writeln!(out, "</td></tr>")
 }

@@ -1,6 +1,6 @@
 // The table of crashes as text, and as JSON objects.
 use crate::crashes::Printed;
-use crash_table::{Call, CallKind, MOST_MIXTURES, Outcome, Part, Places, Row};
+use crash_table::{Call, CallKind, Found, MOST_MIXTURES, Part, Places, Row};
 use machine::Reply;
 use std::alloc::Allocator;
 use std::{fmt, io};
@@ -81,9 +81,11 @@ pub fn text_row<A: Allocator + Copy, W: io::Write>(
             write!(out, "{end:<42} ")?;
         }
     }
-    for outcome in &row.outcomes {
-        let Outcome { mark, states } = *outcome;
-        write!(out, "  mark {mark} x{states}")?;
+    for mark in 0..=row.newest() {
+        let states = row.count(mark);
+        if states > 0 {
+            write!(out, "  mark {mark} x{states}")?;
+        }
     }
     writeln!(out)
 }
@@ -137,21 +139,18 @@ pub fn json_row<A: Allocator + Copy, W: io::Write>(
         let comma = if i == 0 { "" } else { "," };
         write!(out, "{comma}\"{reply}\"")?;
     }
-    let Row {
-        unsynced,
-        states,
-        ..
-    } = row;
+    let unsynced = row.unsynced;
+    let states = row.found.len();
     write!(
         out,
         "],\"unsynced\":{unsynced},\"states\":{states},\"found\":["
     )?;
-    for (i, outcome) in row.outcomes.iter().enumerate() {
+    for (i, found) in row.found.iter().enumerate() {
         let comma = if i == 0 { "" } else { "," };
-        let Outcome { mark, states } = *outcome;
+        let Found { choice, mark } = *found;
         write!(
             out,
-            "{comma}{{\"mark\":{mark},\"states\":{states}}}"
+            "{comma}{{\"left\":\"{choice}\",\"mark\":{mark}}}"
         )?;
     }
     writeln!(out, "]}}")

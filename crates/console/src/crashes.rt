@@ -163,7 +163,7 @@ fn print_rows<'a, A: Allocator + Copy, W: io::Write>(
         told = before;
         let call = call_of(trial.calls(), row.number);
         print_row(alloc, places, call, replies, &row, form, out)?;
-        printed.states = printed.states.saturating_add(row.states);
+        printed.states = printed.states.saturating_add(row.found.len() as u64);
     }
     match form {
         Form::Text => text_end(printed, out)?,
@@ -204,7 +204,7 @@ fn print_row<A: Allocator + Copy, W: io::Write>(
             for reply in replies {
                 reply_on_page(reply, out)?;
             }
-            row_on_page(places, call, row, out)
+            row_on_page(alloc, places, call, row, out)
         }
     }
 }

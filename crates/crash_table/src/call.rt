@@ -1,4 +1,6 @@
 // Which device calls a run makes.
+ghost use Rattle.std.specs.Prelude.{◌≡◌};
+
 use device::{Device, DeviceFault};
 use std::alloc::{AllocError, Allocator};
 

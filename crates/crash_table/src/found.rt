@@ -1,10 +1,17 @@
 // The files at each mark of a run, and which mark's files an opening found.
-ghost use Rattle.std.specs.Prelude.{◌≡◌, ◌<◌, length};
+ghost use Rattle.std.specs.Prelude.{◌≡◌, ◌<◌, ◌≤◌, ◌+◌, ℕ, List, length, map, slice_get, Some, IfOk, IfSome, Contains};
+ghost use Rattle.machine.specs.declared.act.Reply.TheVariants.{Marked};
+ghost use Rattle.machine.specs.declared.act.Shape.{Shape};
+ghost use Rattle.machine.specs.declared.act.Step.{Step};
+ghost use Rattle.volume_codec.specs.Files.{File};
+ghost use Rattle.volume_codec.specs.Recovery.{RecoversTo};
+ghost use Rattle.crash_table.specs.inside.Kept.{bytes_at, IsKept, AreKept, IsNewest};
 
-use crate::fault::CrashFault;
+use crate::crash_fault::CrashFault;
 use crate::files::{Files, are_same, fault_of, open_files};
 use crate::make::{commit, has_unmarked, make};
-use device::MemDisk;
+use crate::same::are_same_replies;
+use device::{Device, MemDisk};
 use machine::{Reply, Shape, Step};
 use std::alloc::Allocator;
 
@@ -23,47 +30,42 @@ pub struct Plan<'a> {
     pub steps: &'a [Step],
 }
 
-impl Plan<'_> {
-    /// A copy of the disk.
-    pub fn copy<A: Allocator + Copy>(&self, alloc: A) -> Result<MemDisk<A>, CrashFault> {
-        Ok(MemDisk::from_bytes(alloc, Vec::from_slice(alloc, self.image)?)?)
-    }
-}
-
 /// The files at the mark that the step of an index made, where these are the replies up to it and with it. The run is
-/// made up to that step and written out until the mark is acknowledged; what an opening then finds has all of the mark
-/// and no store after it.
-pub fn files_at<A: Allocator + Copy>(
+/// made on a device up to that step and written out until the mark is acknowledged: what is found then has all of the
+/// mark and no store after it.
+pub fn files_at<D: Device + Drop, A: Allocator + Copy>(
     alloc: A,
-    plan: Plan<'_>,
+    device: D,
+    shape: Shape,
+    steps: &[Step],
     replies: &[Reply],
     at: usize,
     number: u32,
-) -> Result<MarkFiles<A>, CrashFault>
-    requires { at < length replies.now }
+) -> Result<Files<A>, CrashFault>
+    requires here { slice_get replies.now at ≡ Some (Marked number) }
+    requires made { at < length steps.now }
+    ensures { D.is_honest device → (files : List File) → RecoversTo (D.seen device) files → IfOk result (λ read.
+        map (λ v. v.items) read.items ≡ bytes_at files shape steps.now replies.now at number) }
 {
-    if at >= plan.steps.len() {
-        return Err(CrashFault::Otherwise);
-    }
-    let mut machine = match engine::start(alloc, plan.copy(alloc)?, plan.shape) {
+    let mut machine = match engine::start(alloc, device, shape) {
         Ok(machine) => machine,
         Err((refusal, _)) => return Err(fault_of(refusal)),
     };
-    let told = make(alloc, &mut machine, &plan.steps[..=at])?;
-    if told.as_slice() != &replies[..=at] {
+    let told = make(alloc, &mut machine, &steps[..=at])?;
+    if !are_same_replies(&told, &replies[..=at]) {
         return Err(CrashFault::Otherwise);
     }
     if has_unmarked(&replies[..at]) {
-        commit(&mut machine, plan.steps[at].p, number)?;
+        commit(&mut machine, steps[at].p, number)?;
     }
-    Ok(MarkFiles {
-        step: at,
-        files: open_files(alloc, machine.into_device())?,
-    })
+    machine.keeps_the_laws();
+    open_files(alloc, machine.into_device())
 }
 
 // The files that are kept of the mark that the step of an index made.
-fn kept_at<A: Allocator + Copy>(marks: &[MarkFiles<A>], at: usize) -> Option<&MarkFiles<A>> {
+fn kept_at<A: Allocator + Copy>(marks: &[MarkFiles<A>], at: usize) -> Option<&MarkFiles<A>>
+    ensures { IfSome result (λ mark. Contains marks.now mark.now × (mark.now.step ≡ at)) }
+{
     for mark in marks {
         if mark.step == at {
             return Some(mark);
@@ -73,27 +75,47 @@ fn kept_at<A: Allocator + Copy>(marks: &[MarkFiles<A>], at: usize) -> Option<&Ma
 }
 
 /// The newest mark among those that these replies tell whose files are the found ones, and 0 where there is none. The
-/// marks are those of a run with the replies `first`, and are theirs as far as these replies are the same.
+/// files that are kept are those at the marks of a run with the replies `first`, which are theirs as far as these
+/// replies are the same.
 pub fn newest<A: Allocator + Copy>(
     marks: &[MarkFiles<A>],
     first: &[Reply],
     replies: &[Reply],
     found: &[Vec<u8, A>],
-) -> Result<u32, CrashFault> {
+) -> Result<u32, CrashFault>
+    ensures { (files : List File) (shape : Shape) (steps : List Step) → AreKept files shape steps first.now marks.now
+        → IfOk result (IsNewest files shape steps replies.now (map (λ v. v.items) found.now)) }
+{
     let mut at = replies.len();
     while at > 0 {
         at -= 1;
         if let Reply::Marked(number) = replies[at] {
-            if at >= first.len() || &first[..=at] != &replies[..=at] {
-                return Err(CrashFault::Otherwise);
-            }
-            let Some(mark) = kept_at(marks, at) else {
-                return Err(CrashFault::Otherwise);
-            };
-            if are_same(&mark.files, found) {
+            let kept = kept_of(marks, first, replies, at)?;
+            if are_same(&kept.files, found) {
                 return Ok(number);
             }
         }
     }
     Ok(0)
+}
+
+// The files that are kept of the mark that the step of an index made, where the replies up to it are those of the run
+// whose files were kept.
+fn kept_of<'a, A: Allocator + Copy>(
+    marks: &'a [MarkFiles<A>],
+    first: &[Reply],
+    replies: &[Reply],
+    at: usize,
+) -> Result<&'a MarkFiles<A>, CrashFault>
+    requires { at < length replies.now }
+    ensures { (files : List File) (shape : Shape) (steps : List Step) → AreKept files shape steps first.now marks.now
+        → IfOk result (λ kept. IsKept files shape steps replies.now at kept.now) }
+{
+    if at >= first.len() || !are_same_replies(&first[..=at], &replies[..=at]) {
+        return Err(CrashFault::Otherwise);
+    }
+    match kept_at(marks, at) {
+        Some(kept) => Ok(kept),
+        None => Err(CrashFault::Otherwise),
+    }
 }

@@ -4,16 +4,18 @@
 
 mod call;
 mod choice;
-mod fault;
+mod crash_fault;
 mod files;
 mod found;
 mod make;
 mod part;
 mod row;
+mod same;
 mod trial;
 
 pub use call::{Call, CallKind};
-pub use fault::CrashFault;
+pub use choice::{Choice, MOST_MIXTURES};
+pub use crash_fault::CrashFault;
 pub use part::{Part, Places};
-pub use row::{MOST_MIXTURES, Outcome, Row, Rows};
+pub use row::{Found, Row, Rows};
 pub use trial::Trial;

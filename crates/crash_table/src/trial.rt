@@ -1,12 +1,21 @@
 // A run, made once to learn its calls, its replies and the files at its marks, and again for each crash.
+ghost use Rattle.std.specs.Prelude.{◌≡◌, ◌<◌, List, length, slice_get, Some, IfOk};
+ghost use Rattle.device.specs.Memory.{new_disk};
+ghost use Rattle.volume_codec.specs.Files.{File};
+ghost use Rattle.volume_codec.specs.Recovery.{RecoversTo};
+ghost use Rattle.machine.specs.declared.act.Reply.TheVariants.{Marked};
+ghost use Rattle.crash_table.specs.Crashes.{LeavesMark};
+ghost use Rattle.crash_table.specs.inside.Kept.{IsKept, AreKept};
+
 use crate::call::{Call, Listing};
-use crate::fault::CrashFault;
+use crate::crash_fault::CrashFault;
 use crate::files::{fault_of, open_files};
 use crate::found::{MarkFiles, Plan, files_at, newest};
 use crate::make::run_on;
 use device::{FailingDisk, MemDisk};
 use machine::{Reply, Shape, Step};
-use std::alloc::Allocator;
+use std::alloc::{AllocError, Allocator};
+use std::marker::Model;
 
 /// A run on a copy of a disk: its replies, its device calls, and the files at its marks.
 #[derive(Drop)]
@@ -22,6 +31,24 @@ pub struct Trial<'a, A: Allocator + Copy> {
     marks: Vec<MarkFiles<A>, A>,
 }
 
+impl<'a, A: Allocator + Copy> Model for Trial<'a, A> {
+    ghost use Rattle.crash_table.specs.Trials.{TrialValue};
+    ghost use Rattle.crash_table.specs.inside.Kept.{HasKept};
+
+    ghost Value = { TrialValue };
+
+    ghost view = { λ t. record { image = t.plan.image.now; shape = t.plan.shape; steps = t.plan.steps.now } };
+
+    ghost invariant = { λ t. HasKept t.plan.image.now t.plan.shape t.plan.steps.now t.replies.items t.marks.items };
+}
+
+// A copy of a disk that holds these bytes.
+fn copy_of<A: Allocator + Copy>(alloc: A, image: &[u8]) -> Result<MemDisk<A>, AllocError>
+    ensures { IfOk result (λ disk. disk ≡ new_disk image.now) }
+{
+    MemDisk::from_bytes(alloc, Vec::from_slice(alloc, image)?)
+}
+
 impl<'a, A: Allocator + Copy> Trial<'a, A> {
     /// Makes a run on a copy of a disk that holds these bytes. `Refused` where `engine::start` refuses it.
     pub fn new(
@@ -29,13 +56,16 @@ impl<'a, A: Allocator + Copy> Trial<'a, A> {
         image: &'a [u8],
         shape: Shape,
         steps: &'a [Step],
-    ) -> Result<Self, CrashFault> {
+    ) -> Result<Self, CrashFault>
+        ensures { IfOk result (λ trial. trial
+            ≡ record { image = image.now; shape = shape; steps = steps.now }) }
+    {
         let plan = Plan {
             image,
             shape,
             steps,
         };
-        let disk = Listing::new(alloc, plan.copy(alloc)?);
+        let disk = Listing::new(alloc, copy_of(alloc, image)?);
         let mut machine = match engine::start(alloc, disk, shape) {
             Ok(machine) => machine,
             Err((refusal, _)) => return Err(fault_of(refusal)),
@@ -48,7 +78,7 @@ impl<'a, A: Allocator + Copy> Trial<'a, A> {
             made.push(machine.device().count())?;
         }
         let calls = machine.into_device().into_calls()?;
-        let marks = marks_of(alloc, plan, &replies)?;
+        let marks = marks_of(alloc, &plan, &replies)?;
         Ok(Trial {
             alloc,
             plan,
@@ -66,7 +96,9 @@ impl<'a, A: Allocator + Copy> Trial<'a, A> {
     }
 
     /// What the disk holds before the run.
-    pub fn image(&self) -> &'a [u8] {
+    pub fn image(&self) -> &'a [u8]
+        ensures { result.now ≡ self.now.image }
+    {
         self.plan.image
     }
 
@@ -93,11 +125,13 @@ impl<'a, A: Allocator + Copy> Trial<'a, A> {
     /// The run is made again, and its device call of this number, counted from 1, fails; where there is none, no call
     /// fails. Then a crash leaves these bytes in the places that were written and not synced, and what is left is
     /// opened. The answer is the number of the newest mark whose files are found; 0: those before the run.
-    pub fn crash(&self, fails: u64, choice: &[u8]) -> Result<u32, CrashFault> {
+    pub fn crash(&self, fails: u64, choice: &[u8]) -> Result<u32, CrashFault>
+        ensures { IfOk result (LeavesMark self.now.image self.now.shape self.now.steps fails choice.now) }
+    {
         if choice.len() != self.plan.image.len() {
             return Err(CrashFault::Otherwise);
         }
-        let disk = FailingDisk::new(self.plan.copy(self.alloc)?, fails);
+        let disk = FailingDisk::new(copy_of(self.alloc, self.plan.image)?, fails);
         let (disk, replies) = run_on(self.alloc, disk, self.plan.shape, self.plan.steps)?;
         let mut disk = disk.into_inner();
         disk.stop(choice);
@@ -109,14 +143,39 @@ impl<'a, A: Allocator + Copy> Trial<'a, A> {
 // The files at each mark that these replies tell.
 fn marks_of<A: Allocator + Copy>(
     alloc: A,
-    plan: Plan<'_>,
+    plan: &Plan<'_>,
     replies: &[Reply],
-) -> Result<Vec<MarkFiles<A>, A>, CrashFault> {
+) -> Result<Vec<MarkFiles<A>, A>, CrashFault>
+    requires { length replies.now ≡ length plan.now.steps.now }
+    ensures { (files : List File) → RecoversTo plan.now.image.now files → IfOk result (λ marks.
+        AreKept files plan.now.shape plan.now.steps.now replies.now marks.items) }
+{
     let mut marks = Vec::new(alloc);
     for at in 0..replies.len() {
         if let Reply::Marked(number) = replies[at] {
-            marks.push(files_at(alloc, plan, replies, at, number)?)?;
+            marks.push(mark_of(alloc, plan, replies, at, number)?)?;
         }
     }
     Ok(marks)
+}
+
+// The files at the mark that the step of an index made.
+fn mark_of<A: Allocator + Copy>(
+    alloc: A,
+    plan: &Plan<'_>,
+    replies: &[Reply],
+    at: usize,
+    number: u32,
+) -> Result<MarkFiles<A>, CrashFault>
+    requires here { slice_get replies.now at ≡ Some (Marked number) }
+    requires made { at < length plan.now.steps.now }
+    ensures step { IfOk result (λ mark. mark.step ≡ at) }
+    ensures kept { (files : List File) → RecoversTo plan.now.image.now files → IfOk result (λ mark.
+        IsKept files plan.now.shape plan.now.steps.now replies.now at mark) }
+{
+    let disk = copy_of(alloc, plan.image)?;
+    Ok(MarkFiles {
+        step: at,
+        files: files_at(alloc, disk, plan.shape, plan.steps, replies, at, number)?,
+    })
 }

@@ -1,0 +1,4 @@
+pub mod Histories
+pub mod Marks
+pub mod Bytes
+pub mod Found
