@@ -24,11 +24,12 @@ use Rattle.machine.specs.Runs.{StepTaken, StepsTaken}
 use Rattle.machine.specs.State.{State, Whole}
 use Rattle.machine.specs.Steps.{told_first}
 use Rattle.machine.specs.Told.{Told, tell, tell_all, events_of}
-use Rattle.machine.proofs.Tracks.{follows}
+use Rattle.machine.proofs.Tracks.{follows, taken_then}
 use Rattle.engine.specs.Engine.{HasStarted}
+use Rattle.engine.proofs.Runs.{taken_kept}
 use Rattle.engine.proofs.Starts.{begins}
 use Rattle.crash_table.specs.Crashes.{history_of, EndsAt, IsAtMark}
-use Rattle.crash_table.specs.inside.Kept.{up_to_mark, bytes_at, unmarked_after}
+use Rattle.crash_table.specs.inside.Kept.{up_to_mark, bytes_at, unmarked_after, IsAcknowledged}
 use Rattle.crash_table.proofs.Histories.{mark_at, up_to_begins, history_grows, events_of_mark, tell_then, unmarked_told, nothing_in}
 
 -- ---- events up to a mark
@@ -273,3 +274,66 @@ module _ {D : Type 0} (disk : Ghosts D) where
         committed : (t : Told) (p : ℕ) (act : Act) → events_of t p act (replies.Committed n) ≡ Acknowledge n ∷ []
         committed t p (acts.Store va bytes) = refl
         committed t p act = refl
+
+-- ---- the files that are kept of a mark
+
+taken_length : {D : Type 0} (disk : Ghosts D) (old : Whole D) (steps : List Step) (answers : List Reply) (new : Whole D) → StepsTaken disk old steps answers new → length answers ≡ length steps
+taken_length disk old [] [] new taken = refl
+taken_length disk old (step ∷ steps) (reply ∷ answers) new (mid, first, taken) = ap suc (taken_length disk mid steps answers new taken)
+taken_length disk old [] (r ∷ answers) new taken = absurd taken
+taken_length disk old (x ∷ steps) [] new taken = absurd taken
+
+-- the reply that commits is no mark either
+no_mark_more : (going : List Reply) (n : ℕ) → ((i k : ℕ) → slice_get going i ≡ Some (replies.Marked k) → ⊥) → (i k : ℕ) → slice_get (going ++ replies.Committed n ∷ []) i ≡ Some (replies.Marked k) → ⊥
+no_mark_more [] n none zero k is = cc
+no_mark_more [] n none (suc i) k is = cc
+no_mark_more (r ∷ going) n none zero k is = none 0 k is
+no_mark_more (r ∷ going) n none (suc i) k is = no_mark_more going n (λ j m at. none (suc j) m at) i k is
+
+module _ {D : Type 0} (disk : Ghosts D) (seen_is_left : (device : D) → disk.is_honest device → disk.may_leave device (disk.seen device)) where
+  pub kept_at_mark : (before : D) (shape : Shape) (start : Whole D) → HasStarted disk before shape start → disk.is_honest before → (files : List File) → RecoversTo (disk.seen before) files
+      → (steps : List Step) (answers : List Reply) (at n : ℕ) → at < length steps → slice_get answers at ≡ Some (replies.Marked n)
+      → (told : List Reply) (marked now : Whole D) → StepsTaken disk start (take (length told) (take (at + 1) steps)) told marked → told ≡ take (at + 1) answers → IsAcknowledged disk marked (take at answers) n now
+      → ((files : List File) (start : Whole D) (steps : List Step) (replies : List Reply) (c : List ℕ) → IsOnTrack disk files start steps replies now → disk.may_leave now.device c → ReadsBack files (tell_all (told_first files start.state) steps replies).history c)
+      → (read : List (List ℕ)) (found : List File) → RecoversTo (disk.seen now.device) found → read ≡ map (λ (f : File). f.bytes) found → read ≡ bytes_at files shape steps answers at n
+  kept_at_mark before shape start started honest files recovered steps answers at n below here told marked now made same acknowledged left read found recovers bytes =
+      bytes ∙ ap (map (λ (f : File). f.bytes)) (by acknowledged)
+    where
+      long : length (take (suc at) answers) ≡ suc at
+      long = length-take-le (suc at) answers (let within = slice_get_within answers at (replies.Marked n) here in omega (arith, within))
+
+      next : at + 1 ≡ suc at
+      next = omega arith
+
+      count : length told ≡ suc at
+      count = ap length same ∙ ap (λ (i : ℕ). length (take i answers)) next ∙ long
+
+      first : StepsTaken disk start (take (suc at) steps) (take (suc at) answers) marked
+      first =
+          subst (λ (l : List Step). StepsTaken disk start l (take (suc at) answers) marked)
+          (ap (λ (i : ℕ). take i (take (at + 1) steps)) count ∙ ap (λ (i : ℕ). take (suc at) (take i steps)) next ∙ take-take (suc at) (suc at) steps (omega arith))
+          (subst (λ (l : List Reply). StepsTaken disk start (take (length told) (take (at + 1) steps)) l marked) (same ∙ ap (λ (i : ℕ). take i answers) next) made)
+
+      back : (all_steps : List Step) (all_answers : List Reply) → StepsTaken disk start all_steps all_answers now → ReadsBack files (tell_all (told_at_start files shape.cpus) all_steps all_answers).history (disk.seen now.device)
+      back all_steps all_answers taken =
+          let on = on_track disk before shape start started honest files recovered all_steps all_answers now taken in
+          let honest_now = (taken_kept disk start all_steps all_answers now taken).0.1 on.begins.honest in
+          subst (λ (t : Told). ReadsBack files (tell_all t all_steps all_answers).history (disk.seen now.device)) (told_is disk before shape start started files)
+          (left files start all_steps all_answers (disk.seen now.device) on (seen_is_left now.device honest_now))
+
+      by : IsAcknowledged disk marked (take at answers) n now → found ≡ files_after files (up_to_mark files shape steps answers at n)
+      by (inl c) =
+          let flushes = c.earlier ++ c.last ∷ [] in
+          let more = c.going ++ replies.Committed n ∷ [] in
+          let taken = taken_then disk start marked now (take (suc at) steps) (take (suc at) answers) flushes more first c.taken in
+          let counts : length c.going ≡ length c.earlier = (let l = taken_length disk marked flushes more now c.taken in omega (arith, l, length-append c.going (replies.Committed n ∷ []), length-append c.earlier (c.last ∷ []))) in
+          let none = no_mark_more c.going n c.unmarked in
+          at_the_mark disk before shape start started honest files recovered steps answers at n below here marked first flushes more none
+          (acked_by_commit disk before shape start started honest files recovered steps answers at n below here marked first flushes more none c.last c.earlier c.going refl refl counts)
+          (disk.seen now.device) (back (take (suc at) steps ++ flushes) (take (suc at) answers ++ more) taken) found recovers
+      by (inr (down, stays)) =
+          let none : (i k : ℕ) → slice_get [] i ≡ Some (replies.Marked k) → ⊥ = λ i k is. cc in
+          let taken = taken_then disk start marked now (take (suc at) steps) (take (suc at) answers) [] [] first stays in
+          at_the_mark disk before shape start started honest files recovered steps answers at n below here marked first [] [] none
+          (acked_at_once disk before shape start started honest files recovered steps answers at n below here marked first [] [] none refl refl down)
+          (disk.seen now.device) (back (take (suc at) steps ++ []) (take (suc at) answers ++ []) taken) found recovers

@@ -9,7 +9,7 @@ ghost use Rattle.crash_table.specs.inside.Kept.{bytes_at, IsKept, AreKept, IsNew
 
 use crate::crash_fault::CrashFault;
 use crate::files::{Files, are_same, fault_of, open_files};
-use crate::make::{commit, has_unmarked, make};
+use crate::make::{acknowledge, make};
 use crate::same::are_same_replies;
 use device::{Device, MemDisk};
 use machine::{Reply, Shape, Step};
@@ -55,9 +55,7 @@ pub fn files_at<D: Device + Drop, A: Allocator + Copy>(
     if !are_same_replies(&told, &replies[..=at]) {
         return Err(CrashFault::Otherwise);
     }
-    if has_unmarked(&replies[..at]) {
-        commit(&mut machine, steps[at].p, number)?;
-    }
+    acknowledge(&mut machine, steps[at].p, number, &replies[..at])?;
     machine.keeps_the_laws();
     open_files(alloc, machine.into_device())
 }

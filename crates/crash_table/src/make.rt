@@ -8,7 +8,7 @@ ghost use Rattle.machine.specs.declared.act.Step.{Step};
 ghost use Rattle.machine.specs.Laws.{ReadsBack};
 ghost use Rattle.machine.specs.Runs.{StepsTaken};
 ghost use Rattle.crash_table.specs.Crashes.{history_of, HasEnded};
-ghost use Rattle.crash_table.specs.inside.Kept.{unmarked_by, unmarked_after, HasCommitted};
+ghost use Rattle.crash_table.specs.inside.Kept.{unmarked_by, unmarked_after, HasCommitted, IsAcknowledged};
 
 use crate::crash_fault::CrashFault;
 use crate::files::fault_of;
@@ -72,8 +72,25 @@ pub fn run_on<D: Device + Drop, A: Allocator + Copy>(
 // The most steps that a write-out has up to the one that commits it, for a batch of 1,020 pages.
 const MOST_FLUSHES: u64 = 1_024;
 
-/// Writes a mark out, up to the step that commits it.
-pub fn commit<D: Device, A: Allocator + Copy>(
+/// Sees to it that a mark that was just made is acknowledged, where these are the replies before it: it is at once where
+/// no store was answered since the mark before it, and else it is written out by steps of this processor.
+pub fn acknowledge<D: Device, A: Allocator + Copy>(
+    machine: &mut Machine<D, A>,
+    p: ProcessorNumber,
+    number: u32,
+    before: &[Reply],
+) -> Result<(), CrashFault>
+    ensures { OnOk result (IsAcknowledged D.Device machine.old before.now number machine.new) }
+{
+    if has_unmarked(before) {
+        commit(machine, p, number)
+    } else {
+        Ok(())
+    }
+}
+
+// Writes a mark out, up to the step that commits it.
+fn commit<D: Device, A: Allocator + Copy>(
     machine: &mut Machine<D, A>,
     p: ProcessorNumber,
     number: u32,
@@ -95,8 +112,8 @@ pub fn commit<D: Device, A: Allocator + Copy>(
     Err(CrashFault::Otherwise)
 }
 
-/// Whether a store was answered that no mark has yet.
-pub fn has_unmarked(replies: &[Reply]) -> bool
+// Whether a store was answered that no mark has yet.
+fn has_unmarked(replies: &[Reply]) -> bool
     ensures { result ≡ unmarked_after false replies.now }
 {
     let mut has = false;

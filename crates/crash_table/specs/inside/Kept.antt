@@ -42,6 +42,11 @@ pub record HasCommitted {D : Type 0} (disk : Ghosts D) (old : Whole D) (number :
   pub taken : StepsTaken disk old (earlier ++ last ∷ []) (going ++ Committed number ∷ []) new
   pub unmarked : (i k : ℕ) → slice_get going i ≡ Some (Marked k) → ⊥
 
+-- A mark that was made after these replies is acknowledged: by steps that wrote it out, or at once.
+abbrev pub IsAcknowledged : {D : Type 0} → Ghosts D → Whole D → List Reply → ℕ → Whole D → Type 0
+IsAcknowledged disk old before number new = HasCommitted disk old number new
+    ⊎ ((unmarked_after false before ≡ false) × (new ≡ old))
+
 -- the files that are kept are those at the mark that the step of this index made in a run with these replies
 abbrev pub IsKept : {A : Type 0} → List File → Shape → List Step → List Reply → ℕ → MarkFiles A → Type 0
 IsKept files shape steps replies at kept = (number : ℕ) × (slice_get replies at ≡ Some (Marked number))
