@@ -93,10 +93,7 @@ pub fn row_on_page<A: Allocator + Copy, W: io::Write>(
         Some(call) => {
             let number = row.number;
             let word = word_of(call.kind);
-            let touched = format!(in alloc; "{}", Touched {
-                places,
-                call
-            })?;
+            let touched = format!(in alloc; "{}", Touched { places, call })?;
             let touched = Shown(touched.as_str());
             let bytes = call.len;
             write!(

@@ -65,16 +65,10 @@ pub fn text_row<A: Allocator + Copy, W: io::Write>(
         Some(call) => {
             let number = row.number;
             let word = word_of(call.kind);
-            let touched = format!(in alloc; "{}", Touched {
-                places,
-                call
-            })?;
+            let touched = format!(in alloc; "{}", Touched { places, call })?;
             let touched = touched.as_str();
             let bytes = call.len;
-            write!(
-                out,
-                "{number:>5} {word:<5} {touched:<24} {bytes:>5} "
-            )?;
+            write!(out, "{number:>5} {word:<5} {touched:<24} {bytes:>5} ")?;
         }
         None => {
             let end = "  end";
@@ -148,10 +142,7 @@ pub fn json_row<A: Allocator + Copy, W: io::Write>(
     for (i, found) in row.found.iter().enumerate() {
         let comma = if i == 0 { "" } else { "," };
         let Found { choice, mark } = *found;
-        write!(
-            out,
-            "{comma}{{\"left\":\"{choice}\",\"mark\":{mark}}}"
-        )?;
+        write!(out, "{comma}{{\"left\":\"{choice}\",\"mark\":{mark}}}")?;
     }
     writeln!(out, "]}}")
 }
@@ -181,10 +172,7 @@ fn json_part<A: Allocator + Copy, W: io::Write>(
         Some(Part::Home(block)) => write!(out, ",\"part\":\"home\",\"block\":{block}")?,
         Some(Part::Page { file, page }) if file < table.file_count() => {
             let name = Quoted(table.name(file));
-            write!(
-                out,
-                ",\"part\":\"page\",\"file\":{name},\"page\":{page}"
-            )?;
+            write!(out, ",\"part\":\"page\",\"file\":{name},\"page\":{page}")?;
         }
         Some(Part::Page { .. } | Part::Outside) => write!(out, ",\"part\":\"outside\"")?,
     }

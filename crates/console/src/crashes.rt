@@ -107,7 +107,10 @@ fn read_image<'a, D: Device, A: Allocator + Copy>(
     for piece in 0..len.div_ceil(PIECE) {
         let from = PIECE * piece;
         let to = len.min(from + PIECE);
-        if disk.read(from, &mut image[from as usize..to as usize]).is_err() {
+        if disk
+            .read(from, &mut image[from as usize..to as usize])
+            .is_err()
+        {
             return Err(unread(path));
         }
     }
@@ -124,9 +127,7 @@ fn read_places<'a, D: Device, A: Allocator + Copy>(
         return Err(unread(path));
     };
     match read_super(alloc, &block) {
-        Ok(table) => Ok(Places {
-            table,
-        }),
+        Ok(table) => Ok(Places { table }),
         Err(refusal) => Err(Failure::File(FileFailure::Disk {
             path,
             cause: refused_to_open(alloc, refusal, disk),

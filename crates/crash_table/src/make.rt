@@ -70,10 +70,7 @@ fn commit<D: Device, A: Allocator + Copy>(
     p: ProcessorNumber,
     number: u32,
 ) -> Result<(), CrashFault> {
-    let step = Step {
-        p,
-        act: Act::Flush,
-    };
+    let step = Step { p, act: Act::Flush };
     for _ in 0..MOST_FLUSHES {
         match machine.enter(&step) {
             Reply::Going => {}

@@ -107,14 +107,15 @@ impl<'a, A: Allocator + Copy> Trial<'a, A> {
     /// The run is made again, and its device call of this number, counted from 1, fails; where there is none, no call
     /// fails. Then a crash leaves these bytes in the places that were written and not synced, and what is left is
     /// opened. The answer is the number of the newest mark whose files are found; 0: those before the run. `AtNoMark`
-    /// where they are none of these, and `Otherwise` where memory was refused to a run and another answer came of that.
+    /// where they are none of these, and `Otherwise` where memory was refused to a run and another answer came of that,
+    /// or the choice isn't as long as the disk.
     pub fn crash(&self, fails: u64, choice: &[u8]) -> Result<u32, CrashFault> {
-        if choice.len() != self.plan.image.len() {
-            return Err(CrashFault::Otherwise);
-        }
         let disk = FailingDisk::new(copy_of(self.alloc, self.plan.image)?, fails);
         let (disk, replies) = run_on(self.alloc, disk, self.plan.shape, self.plan.steps)?;
         let mut disk = disk.into_inner();
+        if choice.len() != disk.bytes().len() {
+            return Err(CrashFault::Otherwise);
+        }
         disk.stop(choice);
         let found = open_files(self.alloc, disk)?;
         newest(&self.start, &self.marks, &self.replies, &replies, &found)
