@@ -105,16 +105,22 @@ fn read_image<'a, D: Device, A: Allocator + Copy>(
     let len = disk.len();
     let mut image = vec![in alloc; 0; len as usize]?;
     for piece in 0..len.div_ceil(PIECE) {
-        let from = PIECE * piece;
-        let to = len.min(from + PIECE);
-        if disk
-            .read(from, &mut image[from as usize..to as usize])
-            .is_err()
-        {
-            return Err(unread(path));
+        let from = PIECE.saturating_mul(piece);
+        let to = len.min(from.saturating_add(PIECE));
+        match image.get_mut(from as usize..to as usize) {
+            Some(part) if read_part(disk, from, part) => {}
+            _ => return Err(unread(path)),
         }
     }
     Ok(image)
+}
+
+// Reads a part of a device, and tells whether it is there and could be read.
+fn read_part<D: Device>(disk: &mut D, at: u64, part: &mut [u8]) -> bool {
+    match at.checked_add(part.len() as u64) {
+        Some(end) if end <= disk.len() => disk.read(at, part).is_ok(),
+        _ => false,
+    }
 }
 
 // Where the parts of the volume of a device are.
