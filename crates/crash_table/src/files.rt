@@ -1,5 +1,5 @@
 // The files that an opening of a device finds.
-ghost use Rattle.std.specs.Prelude.{◌≡◌, ◌<◌, ◌↔◌, List, length, map, take, slice_index_or, IfOk, IsTrue};
+ghost use Rattle.std.specs.Prelude.{◌≡◌, ◌<◌, ◌↔◌, List, Some, length, map, slice_get, IfOk, OnOk, IsTrue};
 ghost use Rattle.volume_codec.specs.Files.{File};
 ghost use Rattle.volume_codec.specs.Recovery.{RecoversTo};
 ghost use Rattle.recovery.specs.Volume.{IsSettled, files_of, bytes_of};
@@ -64,11 +64,30 @@ fn read_file<D: Device + Drop, A: Allocator + Copy>(
         bytes.items ≡ bytes_of (files_of volume.old.table (D.seen volume.old.device)) file) }
     ensures read { IsOnlyRead D.Device volume.old volume.new }
 {
-    let mut bytes = vec![in alloc; 0; volume.length(file) as usize]?;
-    match volume.read_file(file, 0, &mut bytes) {
+    let count = volume.length(file);
+    let mut bytes = vec![in alloc; 0; count as usize]?;
+    match read_whole(volume, file, count, &mut bytes) {
         Ok(()) => Ok(bytes),
         Err(refusal) => Err(fault_of(refusal)),
     }
+}
+
+// Reads a file of this length.
+fn read_whole<D: Device + Drop, A: Allocator + Copy>(
+    volume: &mut Volume<D, A>,
+    file: usize,
+    bytes: u64,
+    buffer: &mut [u8],
+) -> Result<(), Refusal>
+    requires there { file < length volume.old.table.files }
+    requires long { slice_get volume.old.lengths file ≡ Some bytes }
+    requires room { length buffer.old ≡ bytes }
+    requires files { D.is_honest volume.old.device → AreFilesOf volume.old (D.seen volume.old.device) }
+    ensures bytes { D.is_honest volume.old.device → OnOk result
+        (buffer.new ≡ bytes_of (files_of volume.old.table (D.seen volume.old.device)) file) }
+    ensures read { IsOnlyRead D.Device volume.old volume.new }
+{
+    volume.read_file(file, 0, buffer)
 }
 
 /// Whether these are the same bytes, file by file.
