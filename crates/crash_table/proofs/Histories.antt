@@ -112,12 +112,13 @@ up_to_begins told (step ∷ steps) (reply ∷ answers) zero n below here =
     let marked : reply ≡ replies.Marked n = cc in
     let later = history_grows (tell told step reply) steps answers in
     let tail : List Event = if has_unmarked told.history then [] else Acknowledge n ∷ [] in
-    let events : events_of told step.p step.act reply ≡ Mark n ∷ tail = ap (λ r. events_of told step.p step.act r) marked ∙ events_of_mark told step.p step.act n in
-    (tail ++ later.0,
-    append_assoc told.history (Mark n ∷ []) (tail ++ later.0)
-    ∙ sym (append_assoc told.history (Mark n ∷ tail) later.0)
-    ∙ ap (λ l. (told.history ++ l) ++ later.0) (sym events)
-    ∙ sym later.1)
+    let events : events_of told step.p step.act reply ≡ Mark n ∷ tail = ap (λ r. events_of told step.p step.act r) marked ∙ events_of_mark told step.p step.act n in (
+      tail ++ later.0,
+      append_assoc told.history (Mark n ∷ []) (tail ++ later.0)
+          ∙ sym (append_assoc told.history (Mark n ∷ tail) later.0)
+          ∙ ap (λ l. (told.history ++ l) ++ later.0) (sym events)
+          ∙ sym later.1,
+    )
 up_to_begins told (step ∷ steps) (reply ∷ answers) (suc at) n below here =
     up_to_begins (tell told step reply) steps answers at n (omega (arith, below)) here
 

@@ -46,16 +46,17 @@ no_later told steps answers early m late n order below here there =
           let both : m ≡ n = (let at_late : slice_get answers late ≡ Some (replies.Marked m) = ap (slice_get answers) (sym same) ∙ here in cc) in
           ([], append-nil (up_to told steps answers early m) ∙ ap (λ i. up_to told steps answers i m) same ∙ ap (λ k. up_to told steps answers late k) both))
       | inr other ↦ elim other [
-          | inl less ↦ (
-              let cut : length (take late steps) ≡ late = length-take-le late steps (omega (arith, below)) in
-              let found = up_to_begins told (take late steps) (take late answers) early m (omega (arith, less, cut)) (slice_get_take answers early late less ∙ here) in
-              (found.0 ++ Mark n ∷ [],
+        | inl less ↦ (
+            let cut : length (take late steps) ≡ late = length-take-le late steps (omega (arith, below)) in
+            let found = up_to_begins told (take late steps) (take late answers) early m (omega (arith, less, cut)) (slice_get_take answers early late less ∙ here) in (
+              found.0 ++ Mark n ∷ [],
               sym (append_assoc (up_to told steps answers early m) found.0 (Mark n ∷ []))
-              ∙ ap (λ (l : List Event). l ++ Mark n ∷ []) (ap (λ (l : List Step). ((tell_all told l (take early answers)).history ++ Mark m ∷ []) ++ found.0) (sym (take-take early late steps (omega (arith, less))))
-              ∙ ap (λ (l : List Reply). ((tell_all told (take early (take late steps)) l).history ++ Mark m ∷ []) ++ found.0) (sym (take-take early late answers (omega (arith, less))))
-              ∙ found.1)))
-          | inr more ↦ absurd (omega (arith, order, more))
-        ]
+                  ∙ ap (λ (l : List Event). l ++ Mark n ∷ []) (ap (λ (l : List Step). ((tell_all told l (take early answers)).history ++ Mark m ∷ []) ++ found.0) (sym (take-take early late steps (omega (arith, less))))
+                  ∙ ap (λ (l : List Reply). ((tell_all told (take early (take late steps)) l).history ++ Mark m ∷ []) ++ found.0) (sym (take-take early late answers (omega (arith, less))))
+                  ∙ found.1),
+            ))
+        | inr more ↦ absurd (omega (arith, order, more))
+      ]
     ]
   where
     slice_get_take : {X : Type 0} (xs : List X) (i n : ℕ) → i < n → slice_get (take n xs) i ≡ slice_get xs i
@@ -183,9 +184,9 @@ module _ {D : Type 0} (disk : Ghosts D) where
                   let given : slice_get all_answers at ≡ Some (replies.Marked n) = get_left (take (suc at) answers) more at (omega (arith, answers_long)) ∙ get_take answers at (suc at) (omega arith) ∙ here in cc) in
                   s.is ∙ ap (λ i. up_to told all_steps all_answers i s.n) same ∙ same_up_to at s.n (omega arith) ∙ ap (up_to told steps answers at) k_is)
               | inr other ↦ elim other [
-                  | inl less ↦ absurd (earlier less)
-                  | inr later ↦ absurd (unmarked (s.at - suc at) s.n (get_right (take (suc at) answers) more s.at (suc at) answers_long (omega (arith, later)) ∙ s.here))
-                ]
+                | inl less ↦ absurd (earlier less)
+                | inr later ↦ absurd (unmarked (s.at - suc at) s.n (get_right (take (suc at) answers) more s.at (suc at) answers_long (omega (arith, later)) ∙ s.here))
+              ]
             ]
           where
             get_left : {X : Type 0} (xs ys : List X) (i : ℕ) → i < length xs → slice_get (xs ++ ys) i ≡ slice_get xs i

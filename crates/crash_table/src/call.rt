@@ -70,13 +70,7 @@ impl<D: Device, A: Allocator + Copy> Listing<D, A> {
         }
     }
 
-    fn list(
-        &mut self,
-        kind: CallKind,
-        at: u64,
-        len: u64,
-        written: &[u8],
-    ) -> Result<(), AllocError>
+    fn list(&mut self, kind: CallKind, at: u64, len: u64, written: &[u8]) -> Result<(), AllocError>
         ensures { self.new.inner ≡ self.old.inner }
     {
         self.calls.push(Call {

@@ -97,10 +97,7 @@ fn commit<D: Device, A: Allocator + Copy>(
 ) -> Result<(), CrashFault>
     ensures { OnOk result (HasCommitted D.Device machine.old number machine.new) }
 {
-    let step = Step {
-        p,
-        act: Act::Flush,
-    };
+    let step = Step { p, act: Act::Flush };
     for _ in 0..MOST_FLUSHES {
         match machine.enter(&step) {
             Reply::Going => {}

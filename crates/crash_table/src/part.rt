@@ -9,17 +9,11 @@ pub enum Part {
     Super,
     Gate(u32),
     Descriptor(u32),
-    Record {
-        journal: u32,
-        slot: u32,
-    },
+    Record { journal: u32, slot: u32 },
     /// A home block that is of no file.
     Home(u32),
     /// The home block of a file's page.
-    Page {
-        file: usize,
-        page: u32,
-    },
+    Page { file: usize, page: u32 },
     /// Past the volume.
     Outside,
 }

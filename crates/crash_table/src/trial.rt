@@ -128,12 +128,12 @@ impl<'a, A: Allocator + Copy> Trial<'a, A> {
     pub fn crash(&self, fails: u64, choice: &[u8]) -> Result<u32, CrashFault>
         ensures { IfOk result (LeavesMark self.now.image self.now.shape self.now.steps fails choice.now) }
     {
-        if choice.len() != self.plan.image.len() {
-            return Err(CrashFault::Otherwise);
-        }
         let disk = FailingDisk::new(copy_of(self.alloc, self.plan.image)?, fails);
         let (disk, replies) = run_on(self.alloc, disk, self.plan.shape, self.plan.steps)?;
         let mut disk = disk.into_inner();
+        if choice.len() != disk.bytes().len() {
+            return Err(CrashFault::Otherwise);
+        }
         disk.stop(choice);
         let found = open_files(self.alloc, disk)?;
         newest(&self.marks, &self.replies, &replies, &found)
