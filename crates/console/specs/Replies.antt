@@ -1,6 +1,7 @@
 -- What is printed of a run: a line for each reply; and the first of them that says that the device failed.
-use Rattle.std.specs.Prelude.{ℕ, ◌≡◌, ◌⊎◌, ◌+◌, ◌<◌, ◌^◌, Bool, true, false, if◌then◌else◌, List, [], ◌∷◌, ◌++◌, length, Option, Some, None, IsSome}
-use Rattle.std.specs.List.{flat_map}
+use Rattle.std.specs.Prelude.{ℕ, ◌≡◌, ◌⊎◌, ◌+◌, ◌<◌, ◌^◌, Bool, true, false, List, [], ◌∷◌, ◌++◌, length, Option, Some, None, IsSome}
+use Rattle.std.specs.List.{flat_map, position_from}
+use Rattle.std.specs.Option.{option_or}
 use Rattle.std.specs.Io.KnownBytes.{Appends}
 use Rattle.machine.specs.declared.act.Reply.{Reply}
 use Rattle.machine.specs.declared.act.Reply.TheVariants.{Refused}
@@ -23,19 +24,16 @@ abbrev pub tells_failure : Reply → Bool
 tells_failure (Refused refusal) = is_device refusal
 tells_failure _ = false
 
--- the number of the first reply that tells it, counted from n + 1, where none before it did
-abbrev pub failure_after : ℕ → Option ℕ → List Reply → Option ℕ
-failure_after n found [] = found
-failure_after n None (reply ∷ replies) =
-    failure_after (n + 1) (if tells_failure reply then Some (n + 1) else None) replies
-failure_after n (Some first) (reply ∷ replies) = Some first
+-- the number of the first of these replies that tells it, where the first of all is reply n + 1
+abbrev pub first_failure : ℕ → List Reply → Option ℕ
+first_failure n replies = position_from tells_failure (n + 1) replies
 
 -- Its line was printed and counted, and the first failure remembered.
 pub record IsPrinted {W : Type 0} (contents : W → Option (List ℕ)) (old : Printer W) (reply : Reply)
     (new : Printer W) : Type 0 where
   pub line : Appends (contents old.out) (contents new.out) (line_of reply)
   pub counted : old.count + 1 < 2 ^ 64 → new.count ≡ old.count + 1
-  pub failure : old.count + 1 < 2 ^ 64 → new.failure ≡ failure_after old.count old.failure (reply ∷ [])
+  pub failure : old.count + 1 < 2 ^ 64 → new.failure ≡ option_or old.failure (first_failure old.count (reply ∷ []))
   pub no_fault : new.fault ≡ old.fault
 
 -- a printer is told a reply: it prints it and goes on, or its output fails and it stops
@@ -47,7 +45,8 @@ Prints contents old reply false new = IsSome new.fault
 pub record ArePrinted {W : Type 0} (contents : W → Option (List ℕ)) (old : Printer W) (replies : List Reply)
     (new : Printer W) : Type 0 where
   pub lines : Appends (contents old.out) (contents new.out) (flat_map line_of replies)
-  pub failure : old.count + length replies < 2 ^ 64 → new.failure ≡ failure_after old.count old.failure replies
+  pub failure : old.count + length replies < 2 ^ 64
+      → new.failure ≡ option_or old.failure (first_failure old.count replies)
   pub no_fault : new.fault ≡ old.fault
 
 -- The output failed at the line of the last of these replies, after those of the others.

@@ -1,7 +1,7 @@
 // Printing the replies of a run as they come.
 ghost use Rattle.std.specs.Prelude.{◌≡◌, ◌+◌, ◌<◌, ◌^◌, [], ◌∷◌, OnOk, OnErr, Some, None};
 ghost use Rattle.std.specs.Io.KnownBytes.{Appends};
-ghost use Rattle.console.specs.Replies.{line_of, tells_failure, failure_after, Prints};
+ghost use Rattle.console.specs.Replies.{line_of, tells_failure, Prints};
 
 use engine::Listener;
 use machine::Reply;
