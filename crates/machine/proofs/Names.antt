@@ -65,7 +65,7 @@ pub use Rattle.machine.specs.Laws.{LeadsTo, LoadsLatest, ReadsBack, ServesNext, 
 pub use Rattle.machine.specs.Laws.{told_at_start}
 pub use Rattle.machine.specs.OnTrack.{IsOnTrack}
 pub use Rattle.machine.specs.Refusals.{first_of, is_absent, is_msync, mapping_refusal, pages_in_file, reads_page}
-pub use Rattle.machine.specs.Refusals.{reason_against, refuse_if, served_refusal, why_not}
+pub use Rattle.machine.specs.Refusals.{reason_against, reasons_when_free, refuse_if, served_refusal, why_not}
 pub use Rattle.machine.specs.Rules.{Accesses, Acts, Answers, FixMade, FlushFailed, FlushMade, MarkMade, MayChange}
 pub use Rattle.machine.specs.Rules.{MayLeave, ProtectMade, ReclaimKept, ReclaimMade, Refuses, Rules}
 pub use Rattle.machine.specs.Rules.{SpaceDestroyed, UnmapMade, WantsMemory}

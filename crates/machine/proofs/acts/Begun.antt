@@ -1,14 +1,14 @@
 -- The moves of changes that begin.
-use Rattle.machine.proofs.Names.{ℕ, ◌≡◌, ◌+◌, ◌-◌, ◌<◌, ◌^◌, ◌||◌, not, leb, true, false, List, [], ◌∷◌, length, Some}
+use Rattle.machine.proofs.Names.{ℕ, ◌≡◌, ◌+◌, ◌-◌, ◌<◌, ◌^◌, ◌||◌, leb, true, false, List, ◌∷◌, length, Some}
 use Rattle.machine.proofs.Names.{None, Ok, refl, arith, or_parts, leb-false, Rights, PageRange, FilePage, is_busy}
-use Rattle.machine.proofs.Names.{Change, maps_each, judged_range, judged_protection, judged_range-ok}
-use Rattle.machine.proofs.Names.{judged_protection-ok, not_free, current, is_in_memory, State, refuse_if, why_not}
-use Rattle.machine.proofs.Names.{pages_in_file, is_msync, reason_against}
+use Rattle.machine.proofs.Names.{Change, judged_range, judged_protection, judged_range-ok}
+use Rattle.machine.proofs.Names.{judged_protection-ok, not_free, is_in_memory, State}
+use Rattle.machine.proofs.Names.{pages_in_file, reason_against, reasons_when_free}
 use Rattle.machine.proofs.Names.{begin_change, IsPrepared, pending_in, Beginning, Move, Begin}
 use Rattle.page_entry.specs.declared.refusal.Refusal.TheVariants as refusals
 use Rattle.machine.specs.declared.act.Act.TheVariants as acts
 use Rattle.spaces.specs.declared.change.Change.TheVariants as changes
-use Rattle.machine.proofs.sound.Admitted.{first_none, refuse_none}
+use Rattle.machine.proofs.sound.Admitted.{all_none, free_of, refuse_none}
 
 module _ {disk : List ℕ} (s : State) (p : ℕ) {new : State} where
   begins : (change : Change) → not_free s.hardware.shootdown p ≡ None → IsPrepared s change
@@ -22,7 +22,7 @@ module _ {disk : List ℕ} (s : State) (p : ℕ) {new : State} where
       → new ≡ begin_change s p (changes.Unmap pcid range)
       → Move disk s (Beginning p (pending_in (Some (changes.Unmap pcid range)))) new
   unmap_moves pcid va len range none judged is =
-      begins (changes.Unmap pcid range) (first_none (not_free s.hardware.shootdown p) (why_not (judged_range s.hardware.spaces pcid va len) ∷ []) none).0
+      begins (changes.Unmap pcid range) (free_of s p _ none)
       (judged_range-ok s.hardware.spaces pcid va len range judged) (λ e. cc) is
 
   pub protect_moves : (pcid va len : ℕ) (prot : Rights) (range : PageRange)
@@ -32,31 +32,23 @@ module _ {disk : List ℕ} (s : State) (p : ℕ) {new : State} where
   protect_moves pcid va len prot range none judged is =
       let fit = judged_protection-ok s.hardware.spaces pcid va len prot range judged in
       let user = judged_range-ok s.hardware.spaces pcid va len range fit.0 in
-      begins (changes.Protect pcid range prot) (first_none (not_free s.hardware.shootdown p) (why_not (judged_protection s.hardware.spaces pcid va len prot) ∷ []) none).0
+      begins (changes.Protect pcid range prot) (free_of s p _ none)
       (user.0, user.1, fit.1) (λ e. cc) is
 
   pub reclaim_moves : (owner : FilePage) → reason_against s p (acts.Reclaim owner.file owner.page) ≡ None
       → is_in_memory s.hardware.memory owner ≡ true
       → new ≡ begin_change s p (changes.Reclaim owner) → Move disk s (Beginning p None) new
   reclaim_moves owner none there is =
-      let no_file = refuse_if (leb (length s.table.files) owner.file) refusals.NoFile in
-      let no_page = refuse_if (leb (pages_in_file s.table.files owner.file) owner.page) refusals.Einval in
-      let parts = first_none (not_free s.hardware.shootdown p) (no_file ∷ no_page ∷ []) none in
-      let two = first_none no_file (no_page ∷ []) parts.1 in
-      let file = leb-false (length s.table.files) owner.file (refuse_none (leb (length s.table.files) owner.file) refusals.NoFile two.0) in
-      let page = leb-false (pages_in_file s.table.files owner.file) owner.page (refuse_none (leb (pages_in_file s.table.files owner.file) owner.page) refusals.Einval (first_none no_page [] two.1).0) in
+      let parts = all_none (not_free s.hardware.shootdown p ∷ reasons_when_free s p (acts.Reclaim owner.file owner.page)) none in
+      let file = leb-false (length s.table.files) owner.file (refuse_none (leb (length s.table.files) owner.file) refusals.NoFile parts.1.0) in
+      let page = leb-false (pages_in_file s.table.files owner.file) owner.page (refuse_none (leb (pages_in_file s.table.files owner.file) owner.page) refusals.Einval parts.1.1.0) in
       begins (changes.Reclaim owner) parts.0 (file, page, there) (λ e. cc) is
 
   pub msync_moves : (va len flags : ℕ) → reason_against s p (acts.Msync va len flags) ≡ None
       → new ≡ begin_change s p changes.Checkpoint → Move disk s (Beginning p None) new
   msync_moves va len flags none is =
-      let invalid = refuse_if (not (is_msync va len flags)) refusals.Einval in
-      let unmapped = refuse_if (not (maps_each s.hardware.spaces (current s.hardware.shootdown p) va len)) refusals.Enomem in
-      let broken = refuse_if s.write_outs.broken refusals.Broken in
+      let parts = all_none (not_free s.hardware.shootdown p ∷ reasons_when_free s p (acts.Msync va len flags)) none in
       let is_full = is_busy s.write_outs || leb (2 ^ 32 - 1) s.marks in
-      let busy = refuse_if is_full refusals.Busy in
-      let parts = first_none (not_free s.hardware.shootdown p) (invalid ∷ unmapped ∷ broken ∷ busy ∷ []) none in
-      let later = first_none broken (busy ∷ []) (first_none unmapped (broken ∷ busy ∷ []) (first_none invalid (unmapped ∷ broken ∷ busy ∷ []) parts.1).1).1 in
-      let two = or_parts (is_busy s.write_outs) (leb (2 ^ 32 - 1) s.marks) (refuse_none is_full refusals.Busy (first_none busy [] later.1).0) in
+      let two = or_parts (is_busy s.write_outs) (leb (2 ^ 32 - 1) s.marks) (refuse_none is_full refusals.Busy parts.1.1.1.1.0) in
       let few : s.marks + 1 < 2 ^ 32 = omega (arith, leb-false (2 ^ 32 - 1) s.marks two.1) in
-      begins changes.Checkpoint parts.0 (few, λ whole. two.0) (λ e. refuse_none s.write_outs.broken refusals.Broken later.0) is
+      begins changes.Checkpoint parts.0 (few, λ whole. two.0) (λ e. refuse_none s.write_outs.broken refusals.Broken parts.1.1.1.0) is

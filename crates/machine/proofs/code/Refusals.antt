@@ -1,11 +1,12 @@
 -- Why an act is refused: the first of several reasons.
 use Rattle.machine.proofs.Names.{ℕ, ◌≡◌, ◌<◌, ◌≤◌, Bool, true, false, nat_le, List, [], ◌∷◌, Option, Some, None, refl}
-use Rattle.machine.proofs.Names.{ap, ◌∙◌, arith, le-leb, nat_tests, option_or, Refusal, refuse_if, first_of, cond}
-use Rattle.machine.proofs.Names.{length, not, unwrap_or, Ok, sym, subst, Place, Rights, PageRange, Places, allows}
-use Rattle.machine.proofs.Names.{any_mapped, is_mappable, add_refusal, space_at, judged_mapping, not_free, State}
+use Rattle.machine.proofs.Names.{ap, ◌∙◌, arith, le-leb, nat_tests, option_or, Refusal, refuse_if, first_of}
+use Rattle.machine.proofs.Names.{length, unwrap_or, Ok, sym, subst, false≢true, Place, Rights, PageRange}
+use Rattle.machine.proofs.Names.{add_refusal, space_at, judged_mapping, not_free, State}
 use Rattle.machine.proofs.Names.{mapping_refusal, reason_against, Refuses, FilePage, pages_in_file}
 use Rattle.page_entry.specs.declared.refusal.Refusal.TheVariants as refusals
 use Rattle.machine.specs.declared.act.Act.TheVariants as acts
+use Rattle.machine.proofs.sound.Replies.{IsFine, add_fine}
 
 -- ---- the first of several reasons
 
@@ -36,27 +37,10 @@ above a b is = grind (arith, nat_tests)
 
 -- ---- why a mapping is refused
 
--- any refusal but that memory was refused
-abbrev IsJudged : Refusal → Type 0
-IsJudged refusals.OutOfMemory = ⊥
-IsJudged why = Unit {0}
-
-judged_as : (known why : Refusal) → IsJudged known → ◌≡◌ {A = Option Refusal} (Some known) (Some why) → IsJudged why
-judged_as known why judged e = let same : known ≡ why = cc in subst IsJudged same judged
-
-judged-add : (places : Places) (range : PageRange) (place : Place) (why : Refusal) → add_refusal places range place ≡ Some why → IsJudged why
-judged-add places range place why is = by (is_mappable range place.page) (allows place.access place.rights) (any_mapped places range.first range.count) is
-  where
-    by : (a b c : Bool) → cond (not a) (Some refusals.Einval) (cond (not b) (Some refusals.Eacces) (cond c (Some refusals.Overlap) None)) ≡ Some why → IsJudged why
-    by false b c e = judged_as refusals.Einval why tt e
-    by true false c e = judged_as refusals.Eacces why tt e
-    by true true true e = judged_as refusals.Overlap why tt e
-    by true true false e = absurd (cc)
-
-maps-judged : (s : State) (p pcid va len file offset : ℕ) (prot access : Rights) (why : Refusal) → IsJudged why → reason_against s p (acts.Map pcid va len file offset prot access) ≡ Some why
+maps-judged : (s : State) (p pcid va len file offset : ℕ) (prot access : Rights) (why : Refusal) → IsFine (Some why) → reason_against s p (acts.Map pcid va len file offset prot access) ≡ Some why
     → Refuses s p (acts.Map pcid va len file offset prot access) why
-maps-judged s p pcid va len file offset prot access refusals.OutOfMemory judged some = absurd judged
-maps-judged s p pcid va len file offset prot access why judged some = some
+maps-judged s p pcid va len file offset prot access refusals.OutOfMemory fine some = absurd (false≢true (sym fine.is))
+maps-judged s p pcid va len file offset prot access why fine some = some
 
 -- why these pages of a file that is there may not be added
 abbrev adding : State → ℕ → ℕ → Rights → Rights → PageRange × ℕ → Option Refusal
@@ -96,7 +80,7 @@ maps-unadded s p pcid va len file offset prot access pages why free judged below
     by None e = (map-adding s p pcid va len file offset prot access pages None free judged below e, tt)
     by (Some x) e =
         maps-judged s p pcid va len file offset prot access x
-        (judged-add (space_at s.hardware.spaces pcid).places pages.0 (record { file = file; page = pages.1; rights = prot; access = access }) x e)
+        (subst IsFine e (add_fine (space_at s.hardware.spaces pcid).places pages.0 (record { file = file; page = pages.1; rights = prot; access = access })))
         (map-adding s p pcid va len file offset prot access pages (Some x) free judged below e)
 
 -- ---- why a reclaim is refused

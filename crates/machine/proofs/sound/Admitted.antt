@@ -18,6 +18,15 @@ both_none (Some why) b e = absurd (cc)
 pub first_none : (reason : Option Refusal) (reasons : List (Option Refusal)) → first_of (reason ∷ reasons) ≡ None → (reason ≡ None) × (first_of reasons ≡ None)
 first_none reason reasons e = both_none reason (first_of reasons) e
 
+-- none of these holds
+abbrev pub AreNone : List (Option Refusal) → Type 0
+AreNone [] = Unit {0}
+AreNone (reason ∷ reasons) = (reason ≡ None) × AreNone reasons
+
+pub all_none : (reasons : List (Option Refusal)) → first_of reasons ≡ None → AreNone reasons
+all_none [] none = tt
+all_none (reason ∷ reasons) none = let parts = both_none reason (first_of reasons) none in (parts.0, all_none reasons parts.1)
+
 pub refuse_none : (b : Bool) (why : Refusal) → refuse_if b why ≡ None → b ≡ false
 refuse_none true why e = absurd (cc)
 refuse_none false why e = refl

@@ -18,14 +18,14 @@ use Rattle.machine.specs.declared.act.Reply.TheVariants as replies
 
 -- ---- reasons that aren't these two
 
-abbrev is_odd : Option Refusal → Bool
+abbrev pub is_odd : Option Refusal → Bool
 is_odd (Some refusals.TraceFull) = true
 is_odd (Some refusals.OutOfMemory) = true
 is_odd reason = false
 
 -- a reason that is neither of them, or none
-record IsFine (reason : Option Refusal) : Type 0 where
-  is : is_odd reason ≡ false
+pub record IsFine (reason : Option Refusal) : Type 0 where
+  pub is : is_odd reason ≡ false
 
 no_reason : IsFine None
 no_reason = record { is = refl }
@@ -87,7 +87,7 @@ bytes_fine va len = why_unless (va % 4096 == 0 && is_user_range (pages_holding v
 range_fine : (spaces : Spaces) (pcid va len : ℕ) → IsFine (why_not (judged_range spaces pcid va len))
 range_fine spaces pcid va len = why_unless (is_user_space spaces pcid) (range_of_bytes va len) refusals.Einval (bytes_fine va len) refl
 
-add_fine : (places : Places) (range : PageRange) (place : Place) → IsFine (add_refusal places range place)
+pub add_fine : (places : Places) (range : PageRange) (place : Place) → IsFine (add_refusal places range place)
 add_fine places range place =
     if_fine (not (is_mappable range place.page)) refusals.Einval _ refl
     (if_fine (not (allows place.access place.rights)) refusals.Eacces _ refl (if_fine (any_mapped places range.first range.count) refusals.Overlap None refl no_reason))
