@@ -9,12 +9,15 @@ ghost use Rattle.machine.specs.declared.act.Shape.{Shape};
 ghost use Rattle.machine.specs.declared.act.Step.{Step};
 ghost use Rattle.machine.specs.Runs.{StepsTaken};
 ghost use Rattle.machine.specs.State.{Whole};
+ghost use Rattle.recovery.specs.Openings.{IsLater, IsMade};
 ghost use Rattle.engine.specs.Engine.{HasNotStarted, HasRun, HasStarted};
+ghost use Rattle.engine.specs.Survival.{Survives};
 
 use device::Device;
 use machine::{Machine, opened_later};
-use recovery::crashed_since_opening;
+use recovery::{crashed_since_opening, opened_again};
 use std::alloc::Allocator;
+use volume_codec::one_reading;
 
 /// The steps that were taken of a machine since it was started are a run, whoever took them: with `Machine::enter`, one
 /// at a time, or with `Machine::run`.
@@ -26,6 +29,20 @@ pub fn ran_since_start<D: Device, A: Allocator + Copy>(machine: &Machine<D, A>)
     machine.keeps_the_laws();
     opened_later(machine.device());
     crashed_since_opening(machine.device());
+}
+
+/// A run over a device that was made a volume with some files, by formatting or by migrating, and was opened any number of
+/// times since, each with a crash or none within it or after it, begins with exactly these files: what survives it is what
+/// it stored in them.
+pub fn ran_after_making<D: Device>(device: &D)
+    ensures { (n : ℕ) (files : List File) (made before after : D) (shape : Shape) (steps : List Step)
+        (replies : List Reply) → IsMade D.Device files made → IsLater D.Device n made before
+        → (run : HasRun D.Device before shape steps replies after)
+        → Survives D.Device files before run.start steps replies run.last }
+{
+    opened_later(device);
+    opened_again(device);
+    one_reading();
 }
 
 /// Where nothing is run, a crash since the opening began leaves what recovers to the same files as before.

@@ -4,10 +4,10 @@ use Rattle.std.specs.Prelude.{IsSome}
 use Rattle.std.specs.List.{AllByRecursion}
 use Rattle.std.proofs.lemmas.Bool.{both_ways, cases_lt, cond_both, eqb-true, eqb-false, or_parts}
 use Rattle.volume_codec.specs.declared.layout.Layout.{Layout}
-use Rattle.volume_codec.specs.declared.layout.Layout.TheVariants.{One, Two}
 use Rattle.volume_codec.specs.Layout.{GeometryValue, journals_of}
 use Rattle.volume_codec.specs.Descriptor.{AreHomes}
 use Rattle.volume_codec.specs.Recovery.{Batch}
+use Rattle.volume_codec.proofs.Layouts.{few_journals}
 use Rattle.journal.specs.declared.stage.Stage.{Stage}
 use Rattle.journal.specs.declared.stage.Stage.TheVariants.{Recording, Describing, SyncingRecords, Opening, Committing, Applying, SyncingHomes, Closing, Finishing}
 use Rattle.journal.specs.Stage.{is_committed}
@@ -127,12 +127,14 @@ following_there layout j lt =
 -- with fewer batches than journals, no batch has the journal whose turn it is
 pub turn_free : (layout : Layout) (next : ℕ) (batches : List WriteOut) → IsTurn layout next batches → length batches < journals_of layout → AllByRecursion (λ (w : WriteOut). w.batch.journal ≢ next) batches
 turn_free layout next [] turn few = tt
-turn_free One next (w ∷ newer) turn few = absurd (omega arith)
-turn_free Two next (w ∷ []) turn few = (λ e. apart w.batch.journal (e ∙ turn), tt)
+turn_free layout next (w ∷ []) turn few = (λ e. apart w.batch.journal (e ∙ turn), tt)
   where
-    apart : (j : ℕ) → j ≡ following Two j → ⊥
-    apart j = cond_both (j + 1 == 2) 0 (j + 1) (λ k. j ≡ k → ⊥) (λ is e. absurd (omega (arith, eqb-true (j + 1) 2 is))) (λ is e. absurd (omega arith))
-turn_free Two next (w ∷ x ∷ newer) turn few = absurd (omega arith)
+    more : 1 < journals_of layout
+    more = omega (arith, few)
+
+    apart : (j : ℕ) → j ≡ following layout j → ⊥
+    apart j = cond_both (j + 1 == journals_of layout) 0 (j + 1) (λ k. j ≡ k → ⊥) (λ is e. absurd (omega (arith, more, eqb-true (j + 1) (journals_of layout) is))) (λ is e. absurd (omega arith))
+turn_free layout next (w ∷ x ∷ newer) turn few = absurd (omega (arith, few, (few_journals layout).1))
 
 -- ---- a batch begins
 

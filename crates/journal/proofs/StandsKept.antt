@@ -8,11 +8,11 @@ use Rattle.device.specs.Device.{Only}
 use Rattle.device.specs.declared.device.Device.{Ghosts}
 use Rattle.device.proofs.Done.{done_seen}
 use Rattle.volume_codec.specs.declared.layout.Layout.{Layout}
-use Rattle.volume_codec.specs.declared.layout.Layout.TheVariants.{One, Two}
 use Rattle.volume_codec.specs.Layout.{GeometryValue, IsGeometry, IsHome, journals_of, block_at, record_block}
 use Rattle.volume_codec.specs.Descriptor.{AreHomes}
 use Rattle.volume_codec.specs.Super.{SuperValue, geometry_of}
 use Rattle.volume_codec.specs.Recovery.{Batch, IsOpen, IsVolume, Recovers, standing_block}
+use Rattle.volume_codec.proofs.Layouts.{few_journals}
 use Rattle.volume_codec.proofs.Places.{fits_geometry}
 use Rattle.journal.specs.declared.stage.Stage.{Stage}
 use Rattle.journal.specs.declared.stage.Stage.TheVariants.{Recording, Describing, SyncingRecords, Opening, Committing, Applying, SyncingHomes, Closing, Finishing}
@@ -225,15 +225,11 @@ module _ (v : SuperValue) (old new : ℕ → List ℕ) where
 pub stands_first : (v : SuperValue) (seen : List ℕ) (may : List ℕ → Type 0) → IsGeometry (geometry_of v) → IsVolume v [] seen → Only may seen → IsStanding v (none_of (geometry_of v)) (block_at seen) (block_at seen) seen may
 stands_first v seen may is_geometry volume only =
     stands_going v (block_at seen) (block_at seen) (none_of (geometry_of v)) seen may refl
-    (record { geometry = is_geometry; there = first_journal v.layout; few = omega arith; each = tt; ordered = tt; turn = tt }) refl
+    (record { geometry = is_geometry; there = (few_journals v.layout).0; few = omega arith; each = tt; ordered = tt; turn = tt }) refl
     (record {
       seen_is = record { recovers = record { volume = volume; contents_are = λ b home. refl }; each = tt; outside = λ w e not_committed b none. refl };
       left_are = only;
     })
-  where
-    first_journal : (layout : Layout) → 0 < journals_of layout
-    first_journal One = omega arith
-    first_journal Two = omega arith
 
 -- ---- a batch begins
 

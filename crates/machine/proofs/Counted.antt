@@ -9,7 +9,7 @@ use Rattle.machine.proofs.Names.{Nothing, work_at, calls_of, WriteOut, next_stag
 use Rattle.machine.proofs.Names.{answer_of, calls_in_steps, WriteOutsValue, has_uncommitted, advanced, outs_after}
 use Rattle.machine.proofs.Names.{outs_record, next_answer, next_batch, begun, IsAt, stage_is, early_calls, all_calls}
 use Rattle.machine.proofs.Names.{current-oldest, Act, Reply, Step, State, Whole, home_of, Acts, MarkMade}
-use Rattle.machine.proofs.Names.{with_batch, after_record, reply_to, step_work, StepTaken, StepsTaken, listed_work}
+use Rattle.machine.proofs.Names.{with_batch, mark_homes, is_page_next, after_record, reply_to, step_work, StepTaken, StepsTaken, listed_work}
 use Rattle.machine.proofs.Names.{asked_for, AskFor, IsOnTrack, IsSound, Performed, Moved, Marked, Failed}
 use Rattle.journal.specs.declared.flushed.Flushed.TheVariants as flushed
 use Rattle.journal.specs.WriteOuts.{current}
@@ -228,17 +228,17 @@ module _ (n : ℕ) (batch : Batch) (its : batch.mark ≡ n) (g : GeometryValue) 
   Stands outs works = (outs.broken ≡ true) ⊎ Tells outs.batches works
 
   module _ (s : State) (works : List Work) where
-    marked : (number : ℕ) (pages : List FilePage) → number ≢ n → Stands s.write_outs works → Stands (with_batch s number pages) works
+    marked : (number : ℕ) (homes : List ℕ) → number ≢ n → Stands s.write_outs works → Stands (with_batch s number homes) works
     marked number [] other st = st
-    marked number (page ∷ pages) other st = by s.write_outs.broken st
+    marked number (home ∷ homes) other st = by s.write_outs.broken st
       where
-        by : (b : Bool) → Stands s.write_outs works → Stands (cond b s.write_outs (begun s.write_outs number (map (home_of s.table) (page ∷ pages)))) works
+        by : (b : Bool) → Stands s.write_outs works → Stands (cond b s.write_outs (begun s.write_outs number (home ∷ homes))) works
         by true st = st
         by false (inl broken) = inl broken
-        by false (inr (inl none)) = inr (inl (none_push n s.write_outs.batches (begun_of (next_batch s.write_outs number (map (home_of s.table) (page ∷ pages)))) none other))
+        by false (inr (inl none)) = inr (inl (none_push n s.write_outs.batches (begun_of (next_batch s.write_outs number (home ∷ homes))) none other))
         by false (inr (inr u)) = inr (inr (record {
           m = u.m;
-          one = one_push n batch its u.m s.write_outs.batches (begun_of (next_batch s.write_outs number (map (home_of s.table) (page ∷ pages)))) u.one other;
+          one = one_push n batch its u.m s.write_outs.batches (begun_of (next_batch s.write_outs number (home ∷ homes))) u.one other;
           count = u.count;
           calls = u.calls;
         }))
@@ -257,7 +257,7 @@ module _ (n : ℕ) (batch : Batch) (its : batch.mark ≡ n) (g : GeometryValue) 
     more_marks : Performed s disk p act reply new disk' → n ≤ s.marks → n ≤ new.marks
     more_marks (Moved by) le = omega (arith, le, (moves_leave disk s by.says new sound by.moves).1)
     more_marks (Marked number act_is reply_is made same_disk) le = let same : new.marks ≡ number = ap (λ (x : State). x.marks) made.done in omega (arith, le, same, made.next)
-    more_marks (Stepped act_is by fine) le = let same = ap (λ (x : State). x.marks) by.made.done ∙ either (is_some (outs_record s.write_outs)) in omega (arith, le, same)
+    more_marks (Stepped act_is by fine) le = let same = ap (λ (x : State). x.marks) by.made.done ∙ either (is_page_next s) in omega (arith, le, same)
       where
         either : (b : Bool) → (cond b (after_record s) s).marks ≡ s.marks
         either true = refl
@@ -272,8 +272,8 @@ module _ (n : ℕ) (batch : Batch) (its : batch.mark ≡ n) (g : GeometryValue) 
     stands_next : Performed s disk p act reply new disk' → n ≤ s.marks → (works : List Work) → Stands s.write_outs works → Stands new.write_outs (works ++ asked_for n s act reply)
     stands_next (Moved by) le works st = idles s.write_outs works (moves_leave disk s by.says new sound by.moves).0 by.no_work st
     stands_next (Marked number act_is reply_is made same_disk) le works st =
-        idles (with_batch s number made.pages) works (ap (λ (x : State). x.write_outs) made.done) (λ i. step_work s (act_is i) (reply_is i))
-        (marked s works number made.pages (λ same. absurd (omega (arith, le, made.next, same))) st)
+        idles (with_batch s number (mark_homes s made.pages)) works (ap (λ (x : State). x.write_outs) made.done) (λ i. step_work s (act_is i) (reply_is i))
+        (marked s works number (mark_homes s made.pages) (λ same. absurd (omega (arith, le, made.next, same))) st)
     stands_next (Stepped act_is by fine) le works st =
         let goes = step_goes (next_answer s.write_outs) reply by.answered fine in
         let whole = whole_answer s.write_outs goes in
@@ -364,7 +364,7 @@ module _ {D : Type 0} (disk : Ghosts D) (files : List File) (start old marked la
   s = old.state
 
   abbrev its_batch : Batch
-  its_batch = next_batch s.write_outs number (map (home_of s.table) mark.pages)
+  its_batch = next_batch s.write_outs number (mark_homes s mark.pages)
 
   abbrev g : GeometryValue
   g = s.write_outs.geometry
@@ -376,15 +376,15 @@ module _ {D : Type 0} (disk : Ghosts D) (files : List File) (start old marked la
   none_before = recursion_from_All (λ (w : WriteOut). w.batch.mark ≢ number) s.write_outs.batches
       (All-weaker (λ (w : WriteOut). (0 < w.batch.mark) × (w.batch.mark ≤ s.marks)) (λ (w : WriteOut). w.batch.mark ≢ number) (λ w is same. absurd (omega (arith, is.1, same, mark.next))) s.write_outs.batches sound.write_outs.marked)
 
-  begins : (pages : List FilePage) → Stands number (next_batch s.write_outs number (map (home_of s.table) pages)) refl g (with_batch s number pages) []
+  begins : (homes : List ℕ) → Stands number (next_batch s.write_outs number homes) refl g (with_batch s number homes) []
   begins [] = inr (inl none_before)
-  begins (page ∷ pages) = elim s.write_outs.broken as (λ b. s.write_outs.broken ≡ b → Stands number batch refl g (cond b s.write_outs (begun s.write_outs number homes)) []) [
+  begins (home ∷ others) = elim s.write_outs.broken as (λ b. s.write_outs.broken ≡ b → Stands number batch refl g (cond b s.write_outs (begun s.write_outs number homes)) []) [
     | true ↦ λ broken. inl broken
     | false ↦ λ whole. inr (inr (record { m = 0; one = one_begun number batch refl s.write_outs.batches none_before; count = refl; calls = refl }))
   ] refl
     where
       homes : List ℕ
-      homes = map (home_of s.table) (page ∷ pages)
+      homes = home ∷ others
 
       batch : Batch
       batch = next_batch s.write_outs number homes
@@ -398,30 +398,29 @@ module _ {D : Type 0} (disk : Ghosts D) (files : List File) (start old marked la
   counted answer goes tells is_step here =
       let reply = reply_to answer in
       let marks : marked.state.marks ≡ number = ap (λ (x : State). x.marks) mark.done in
-      let st = subst (λ o. Stands number its_batch refl g o []) (sym (ap (λ (x : State). x.write_outs) mark.done)) (begins mark.pages) in
+      let st = subst (λ o. Stands number its_batch refl g o []) (sym (ap (λ (x : State). x.write_outs) mark.done)) (begins (mark_homes s mark.pages)) in
       let asked = run number its_batch refl g disk last new step reply here steps answers marked [] (marked_sound s p number marked.state mark sound) (omega (arith, marks)) taken st in
       let flush = is_step here.answered.0 here.answered.1 here.answered.2 in
       let end = ends number its_batch refl g disk last new step reply here answer goes tells asked.works flush.0 (ap reply_to (sym flush.1)) flush.1 asked.stands in
       (end.0, end.1, (asked.works ++ asked_for number last.state step.act reply, asked.asks, end.2, end.3))
 
   pub committed_count : StepTaken disk last step (replies.Committed number) new
-      → (works : List Work) × AskFor disk number marked (steps ++ step ∷ []) (answers ++ replies.Committed number ∷ []) new works × (length works ≡ length mark.pages + 4) × (sum_by calls_of works ≡ length mark.pages + 4)
+      → (works : List Work) × AskFor disk number marked (steps ++ step ∷ []) (answers ++ replies.Committed number ∷ []) new works × (length works ≡ length (mark_homes s mark.pages) + 4) × (sum_by calls_of works ≡ length (mark_homes s mark.pages) + 4)
   committed_count here =
       let found = counted (flushed.Committed number) tt (λ w e. (answered_at w g (flushed.Committed number) e).0)
       (λ d d'. (steps_alone last.state d step.p new.state d' number step.act).0) here in
       let at = (answered_at (record { batch = its_batch; steps = found.0 }) g (flushed.Committed number) found.1).1 in
-      let count : suc found.0 ≡ length mark.pages + 4 = omega (arith, at, length-map mark.pages (home_of s.table)) in
+      let count : suc found.0 ≡ length (mark_homes s mark.pages) + 4 = omega (arith, at) in
       let few : suc found.0 ≤ length its_batch.homes + 4 = omega (arith, at) in
       (found.2.0, found.2.1, found.2.2 ∙ count, found.2.3 ∙ early_calls g its_batch (suc found.0) few ∙ count)
 
   pub done_count : StepTaken disk last step (replies.Done number) new
-      → (works : List Work) × AskFor disk number marked (steps ++ step ∷ []) (answers ++ replies.Done number ∷ []) new works × (length works ≡ 2 * length mark.pages + 7) × (sum_by calls_of works ≡ 3 * length mark.pages + 7)
+      → (works : List Work) × AskFor disk number marked (steps ++ step ∷ []) (answers ++ replies.Done number ∷ []) new works × (length works ≡ 2 * length (mark_homes s mark.pages) + 7) × (sum_by calls_of works ≡ 3 * length (mark_homes s mark.pages) + 7)
   done_count here =
       let found = counted (flushed.Done number) tt (λ w e. (answered_at w g (flushed.Done number) e).0)
       (λ d d'. (steps_alone last.state d step.p new.state d' number step.act).1) here in
       let at = (answered_at (record { batch = its_batch; steps = found.0 }) g (flushed.Done number) found.1).1 in
-      let pages = length-map mark.pages (home_of s.table) in
       let count : suc found.0 ≡ 2 * length its_batch.homes + 7 = omega (arith, at) in
-      let steps_are : suc found.0 ≡ 2 * length mark.pages + 7 = omega (arith, at, pages) in
-      let calls_are : 3 * length its_batch.homes + 7 ≡ 3 * length mark.pages + 7 = omega (arith, pages) in
+      let steps_are : suc found.0 ≡ 2 * length (mark_homes s mark.pages) + 7 = omega (arith, at) in
+      let calls_are : 3 * length its_batch.homes + 7 ≡ 3 * length (mark_homes s mark.pages) + 7 = refl in
       (found.2.0, found.2.1, found.2.2 ∙ steps_are, found.2.3 ∙ ap (calls_in_steps g its_batch) count ∙ all_calls g its_batch ∙ calls_are)

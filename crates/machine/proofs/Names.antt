@@ -54,7 +54,8 @@ pub use Rattle.journal.specs.inside.Standing.{IsStanding}
 pub use Rattle.journal.specs.inside.Tied.{IsTied}
 pub use Rattle.machine.specs.Calls.{CallsOf, Counts, has_failed}
 pub use Rattle.machine.specs.Crashes.{Begins, StepIsSafe, Throughout}
-pub use Rattle.machine.specs.Durability.{AreFrozenProtected, HasPart, IsInFile, frozen_homes, waiting_homes}
+pub use Rattle.machine.specs.Durability.{AreFrozenProtected, HasPart, IsInFile, file_homes, frozen_homes}
+pub use Rattle.machine.specs.Durability.{waiting_homes}
 pub use Rattle.machine.specs.Durability.{within_file}
 pub use Rattle.machine.specs.Fresh.{IsFresh, IsShape, fresh}
 pub use Rattle.machine.specs.History.{Acknowledge, Event, Mark, Memory, after, bytes_of_pages, file_bytes, files_after}
@@ -73,7 +74,7 @@ pub use Rattle.machine.specs.Rules.{MayLeave, ProtectMade, ReclaimKept, ReclaimM
 pub use Rattle.machine.specs.Rules.{SpaceDestroyed, UnmapMade, WantsMemory}
 pub use Rattle.machine.specs.Rules.{after_failure, after_record, begin_change, bytes_at_mark, bytes_with, end_change}
 pub use Rattle.machine.specs.Rules.{next_page, with_batch, with_hardware, with_shootdown, with_spaces}
-pub use Rattle.machine.specs.Rules.{work_asked}
+pub use Rattle.machine.specs.Rules.{is_page_next, mark_homes, work_asked}
 pub use Rattle.machine.specs.Runs.{StepTaken, StepsTaken}
 pub use Rattle.machine.specs.State.{State, Whole, cut_at_end, home_of, length_of, page_from, part}
 pub use Rattle.machine.specs.Steps.{StepMade, step_work, told_first}
@@ -100,7 +101,7 @@ pub use Rattle.machine.specs.inside.Moves.{Performed, Remap, Replace, ReplacesPr
 pub use Rattle.machine.specs.inside.Moves.{HasStepped, SameDirty, Saying, Silent, Store, StoresBytes, Storing, effect_of}
 pub use Rattle.machine.specs.inside.Moves.{ending_of, reply_to, said, said_all}
 pub use Rattle.machine.specs.inside.Sound.{AreOlderCommitted, AreSpacesSound, AreWriteOutsSound, IsMemory}
-pub use Rattle.machine.specs.inside.Sound.{IsMemorySound, IsPrepared, IsSound, capacity_of}
+pub use Rattle.machine.specs.inside.Sound.{IsMemorySound, IsPrepared, IsSound, IsSource, capacity_of}
 pub use Rattle.machine.specs.inside.Tracking.{AreContentsOf, AreMarks, ArePlain, AreTouched}
 pub use Rattle.machine.specs.inside.Tracking.{HasAcknowledged, HasFiles}
 pub use Rattle.machine.specs.inside.Tracking.{HasParts, IsArranged, IsLatest, IsLost, IsTracked, IsWaiting, IsWritten}
@@ -193,6 +194,7 @@ pub use Rattle.std.proofs.lemmas.List.{flat_map_more, get_or-drop, get_or-map, g
 pub use Rattle.std.proofs.lemmas.List.{get_or-set_same, get_or_default, get_or_past, length-append, length-drop}
 pub use Rattle.std.proofs.lemmas.List.{length-map, length-replicate, length-set, length-take, length-take-le}
 pub use Rattle.std.proofs.lemmas.List.{set-get_or, take-append-le, take-take, take_all, take_at}
+pub use Rattle.std.proofs.lemmas.List.Elements.{All-cons}
 pub use Rattle.std.proofs.lemmas.List.Elements.{All-contains, All-drop, All-head, All-map, All-push, All-tail}
 pub use Rattle.std.proofs.lemmas.List.Elements.{All-weaker, Contains-append_cases, Contains-append_left}
 pub use Rattle.std.proofs.lemmas.List.Elements.{Contains-append_right, Contains-get_or, Contains-push}
@@ -202,20 +204,20 @@ pub use Rattle.std.proofs.lemmas.List.Sums.{count_by-le-length, fold-append, sum
 pub use Rattle.std.proofs.lemmas.Option.{get_or_from_slice_get, slice_get_within}
 pub use Rattle.std.proofs.lemmas.Result.{err_from_is_err_and}
 pub use Rattle.std.specs.Cmp.{nat_cmp_total, unsigned_tied}
-pub use Rattle.std.specs.List.{All, AllByRecursion, Contains, count_by, flat_map, fold, list_any}
+pub use Rattle.std.specs.List.{All, AllByRecursion, Contains, count_by, filter, flat_map, fold, list_any}
 pub use Rattle.std.specs.Option.{IfNone, IfSome, option_and_then, option_map, option_map_or, option_or}
 pub use Rattle.std.specs.Ordering.{nat_cmp}
 pub use Rattle.std.specs.Prelude.{IfErr, IfOk, IsTrue, MatchBool, min, nat_lt}
 pub use Rattle.volume_codec.proofs.Public.{blocks_from-device, fits_geometry, length-block_at, length-file}
 pub use Rattle.volume_codec.proofs.Public.{has_lengths-same, length-lengths_in, length-padded, length-zeros, lengths_in-same}
-pub use Rattle.volume_codec.proofs.Public.{take-past}
+pub use Rattle.volume_codec.proofs.Public.{length-number_text, reads_lengths, said_lengths, take-past}
 pub use Rattle.volume_codec.proofs.Public.{total_pages-take_le, total_pages-take_more, zeros-nil}
 pub use Rattle.volume_codec.specs.Descriptor.{AreHomes, RiseWithin}
 pub use Rattle.volume_codec.specs.Files.{File, TableFile}
 pub use Rattle.volume_codec.specs.Layout.{GeometryValue, IsHome, block_at, first_file_home, first_home, journals_of}
 pub use Rattle.volume_codec.specs.Layout.{lengths_blocks}
 pub use Rattle.volume_codec.specs.Recovery.{Batch, IsDamaged, IsNotAVolume, IsVolume, Recovers, RecoversTo, blocks_from}
-pub use Rattle.volume_codec.specs.Lengths.{AreLengths, HasLengths, lengths_in}
+pub use Rattle.volume_codec.specs.Lengths.{AreLengths, HasLengths, lengths_in, lengths_text}
 pub use Rattle.volume_codec.specs.Recovery.{files_from, files_in}
 pub use Rattle.volume_codec.specs.Super.{Fits, SuperValue, block_count, geometry_of, pages_of, total_pages}
-pub use Rattle.volume_codec.specs.Text.{padded, zeros}
+pub use Rattle.volume_codec.specs.Text.{number_text, padded, zeros}

@@ -1,6 +1,6 @@
 -- The laws hold on the track of a run: each step of a tracked machine keeps it tracked.
 use Rattle.machine.proofs.Names.{ℕ, ◌≡◌, List, [], ◌∷◌, ◌++◌, length, map, get_or, refl, sym, ap, ◌∙◌, subst, arith}
-use Rattle.machine.proofs.Names.{AreLengths, Ghosts, File, Act, Reply, Step, Whole}
+use Rattle.machine.proofs.Names.{State, AreLengths, Ghosts, File, Act, Reply, Step, Whole}
 use Rattle.machine.proofs.Names.{Told, tell, tell_all, EachStep, IsLawful, told_first, StepTaken, StepsTaken}
 use Rattle.machine.proofs.Names.{Follows, Begins, StepIsSafe, Throughout, IsTracked, append-nil}
 use Rattle.machine.proofs.Names.{append_assoc, IsOnTrack}
@@ -44,7 +44,7 @@ module _ {D : Type 0} (disk : Ghosts D) (files : List File) (start : Whole D) wh
       let are : AreLengths s.table s.lengths = subst (AreLengths s.table) (sym begins.lengths_are) begins.fit.are in
       let sound = fresh_sound s begins.fresh begins.volume.super_block.fits are.count
       (lengths_within s.table.files s.lengths are.count are.within) in
-      let has = files_at_start files s (disk.seen start.device) sound begins.volume begins.files_are begins.lengths_are in
+      let has = files_at_start files s (disk.seen start.device) sound (ap (λ (x : State). x.resized) begins.fresh.as_booted) begins.volume begins.files_are begins.lengths_are in
       let pages = pages_at_start files s begins.fresh has in
       let d = durable_at_start disk files start sound begins in
       record {

@@ -1,4 +1,5 @@
 pub mod Lists
+pub mod Sources
 pub mod Groups
 pub mod Admitted
 pub mod Frames

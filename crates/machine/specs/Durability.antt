@@ -1,8 +1,10 @@
 -- What keeps stores from a page that is being written out, and what the pages have that a mark doesn't gather.
-use Rattle.std.specs.Prelude.{ℕ, ◌≡◌, ◌*◌, ◌<◌, true, false, List, [], length, map, drop, Some, if◌then◌else◌}
-use Rattle.std.specs.List.{All, flat_map}
+use Rattle.std.specs.Prelude.{ℕ, nat_le, ◌≡◌, ◌*◌, ◌<◌, true, false, List, [], length, map, drop, Some, if◌then◌else◌}
+use Rattle.std.specs.List.{All, flat_map, filter}
 use Rattle.page_entry.specs.Entry.{Mapped}
 use Rattle.page_entry.specs.declared.numbers.FilePage.{FilePage}
+use Rattle.volume_codec.specs.Layout.{first_file_home}
+use Rattle.volume_codec.specs.Super.{SuperValue}
 use Rattle.volume_codec.specs.Recovery.{Recovers}
 use Rattle.journal.specs.WriteOuts.{WriteOutsValue}
 use Rattle.spaces.specs.Spaces.{entry_at}
@@ -15,9 +17,13 @@ use Rattle.machine.specs.State.{State, home_of, length_of, part}
 abbrev pub waiting_homes : WriteOutsValue → List ℕ
 waiting_homes outs = flat_map (λ w. drop w.steps w.batch.homes) outs.batches
 
+-- those of pages among them: the others hold lengths
+abbrev pub file_homes : SuperValue → List ℕ → List ℕ
+file_homes table homes = filter (nat_le (first_file_home table.layout table.slots)) homes
+
 -- the home blocks of the frozen pages are those that wait for their records; a broken machine freezes none
 abbrev pub frozen_homes : State → List ℕ
-frozen_homes s = if s.write_outs.broken then [] else waiting_homes s.write_outs
+frozen_homes s = if s.write_outs.broken then [] else file_homes s.table (waiting_homes s.write_outs)
 
 -- No entry of the page is writable in any table, and none that a processor has cached and may still use.
 pub record IsProtected (s : State) (owner : FilePage) : Type 0 where

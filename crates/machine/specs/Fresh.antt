@@ -1,5 +1,5 @@
 -- A machine as boot leaves it, and the shapes that it can have.
-use Rattle.std.specs.Prelude.{ℕ, ◌≡◌, ◌≤◌, List}
+use Rattle.std.specs.Prelude.{ℕ, ◌≡◌, ◌≤◌, false, List}
 use Rattle.frames.specs.Frames.{all_free}
 use Rattle.volume_codec.specs.Layout.{max_frames}
 use Rattle.volume_codec.specs.Super.{SuperValue, geometry_of}
@@ -34,6 +34,7 @@ fresh table lengths shape = record {
   checkpoint = fresh_checkpoint shape.frames;
   write_outs = none_of (geometry_of table);
   marks = 0;
+  resized = false;
 }
 
 -- the machine is as boot leaves it, of some shape that it can have over its volume

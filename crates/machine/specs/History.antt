@@ -41,15 +41,13 @@ files_from_memory file files lengths memory = []
 abbrev pub lengths_of : List File → List ℕ
 lengths_of files = map (λ f. length f.bytes) files
 
--- what a run does to memory, to lengths and to the promise of durability
+-- What a run does to memory, to lengths and to the promise of durability: bytes were stored at this offset of a file; the
+-- length of a file became another, and bytes from the smaller one on are zeros; all stores and lengths so far belong to
+-- this mark; this mark is durable.
 pub data Event : Type 0 where
-  -- bytes were stored at this offset of a file
   Store : (file offset : ℕ) (bytes : List ℕ) → Event
-  -- the length of a file became another: bytes from the smaller one on are zeros
   SetLength : (file from to : ℕ) → Event
-  -- all stores and lengths so far belong to this mark
   Mark : (number : ℕ) → Event
-  -- this mark is durable
   Acknowledge : (number : ℕ) → Event
 
 -- the memory after one store; a store lies inside one page

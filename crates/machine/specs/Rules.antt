@@ -3,7 +3,8 @@
 -- where one of its calls fails, also where that call is a read; which free frame or copy frame is taken; and whether a
 -- growth of memory is refused. Sources: POSIX.1-2024 (mmap, munmap, mprotect, msync), Intel SDM volume 3 (4-level
 -- paging, TLBs, PCIDs), Black and others 1989 (shootdown), Park, Kelly and Shen 2013 (failure-atomic msync).
-use Rattle.std.specs.Prelude.{ℕ, ◌≡◌, ◌≢◌, ◌+◌, ◌/◌, ◌<◌, ◌⊎◌, Bool, true, false, not, List, [], ◌∷◌, map, Option, Some, None, is_some, Ok, Err, slice_index_or, if◌then◌else◌}
+use Rattle.std.specs.Prelude.{ℕ, ◌≡◌, ◌≢◌, ◌+◌, ◌/◌, ◌<◌, ◌⊎◌, nat_le, Bool, true, false, not, List, [], ◌∷◌, ◌++◌, map, Option, Some, None, Ok, Err, slice_index_or, if◌then◌else◌}
+use Rattle.std.specs.Option.{option_map_or}
 use Rattle.std.specs.FinMap as maps
 use Rattle.page_entry.specs.declared.numbers.FilePage.{FilePage}
 use Rattle.page_entry.specs.declared.refusal.Refusal.{Refusal}
@@ -12,11 +13,13 @@ use Rattle.mappings.specs.Places.{splits}
 use Rattle.mappings.specs.declared.place.Place.{Place}
 use Rattle.mappings.specs.declared.place.Rights.{Rights}
 use Rattle.mappings.specs.declared.page_range.PageRange.{PageRange}
+use Rattle.volume_codec.specs.Layout.{first_home, first_file_home}
+use Rattle.volume_codec.specs.Lengths.{lengths_text}
 use Rattle.frames.specs.Frames.{FramesState, Frame, frame_at, bytes_of, without_frame, without_copies}
 use Rattle.journal.specs.declared.flushed.Flushed.{Flushed}
 use Rattle.journal.specs.declared.flushed.Flushed.TheVariants as flushed
 use Rattle.journal.specs.Work.{Work, worked, TornByWork}
-use Rattle.journal.specs.WriteOuts.{WriteOutsValue, begun as outs_begun, next_work, next_answer, outs_after, outs_record, HasBlock}
+use Rattle.journal.specs.WriteOuts.{WriteOutsValue, begun as outs_begun, next_work, next_answer, outs_after, outs_home, HasBlock}
 use Rattle.spaces.specs.declared.change.Change.{Change}
 use Rattle.spaces.specs.declared.change.Change.TheVariants as changes
 use Rattle.spaces.specs.Changes.{without_entries_of}
@@ -107,12 +110,11 @@ Refuses s p act why = reason_against s p act ≡ Some why
 
 -- ---- spaces
 
--- a space was taken away, with its mappings and its entries
+-- a space was taken away, with its mappings and its entries; a dirty entry that goes with it is noted at its frame, and
+-- whoever may cache the PCID is told
 pub record SpaceDestroyed (s : State) (pcid : ℕ) (new : State) : Type 0 where
-  -- a dirty entry that goes with the space is noted at its frame
   pub checkpoint : CheckpointState
   pub noted : NotesTaken s.hardware.spaces (IsInSpace pcid) s.checkpoint checkpoint
-  -- whoever may cache the PCID is told
   pub done : new ≡ record s {
     hardware = record s.hardware {
       shootdown = destroyed s.hardware.shootdown pcid;
@@ -141,12 +143,12 @@ end_change s p spaces memory checkpoint = record s {
   checkpoint = checkpoint;
 }
 
--- processor p made the unmap that it had begun: the pages aren't mapped any more, and their entries are gone
+-- processor p made the unmap that it had begun: the pages aren't mapped any more, and their entries are gone; a dirty one
+-- is noted at its frame
 pub record UnmapMade (s : State) (p : ℕ) (new : State) : Type 0 where
   pub pcid : ℕ
   pub range : PageRange
   pub may : MayChange s p (changes.Unmap pcid range)
-  -- a dirty entry that goes is noted at its frame
   pub checkpoint : CheckpointState
   pub noted : NotesTaken s.hardware.spaces (IsInRange pcid range) s.checkpoint checkpoint
   pub done : new ≡ end_change s p (without_mapping s.hardware.spaces pcid range) s.hardware.memory checkpoint
@@ -172,13 +174,13 @@ pub record MayLeave (s : State) (owner : FilePage) (frame : ℕ) : Type 0 where
       ≡ cut_at_end s owner (bytes_of (frame_at s.hardware.memory frame))
   pub whole : s.write_outs.broken ≡ false
 
--- processor p made the reclaim that it had begun: the page isn't in memory any more
+-- processor p made the reclaim that it had begun: the page isn't in memory any more, its entries are gone, and its frame
+-- is free
 pub record ReclaimMade (s : State) (p : ℕ) (new : State) : Type 0 where
   pub owner : FilePage
   pub may : MayChange s p (changes.Reclaim owner)
   pub frame : ℕ
   pub leaves : MayLeave s owner frame
-  -- its entries go, and its frame is free
   pub spaces : Spaces
   pub cleared : EditsEntries (without_entries_of owner s.hardware.spaces) s.hardware.spaces spaces
   pub done : new ≡ end_change s p spaces (without_frame s.hardware.memory frame) s.checkpoint
@@ -190,14 +192,20 @@ pub record ReclaimKept (s : State) (p : ℕ) (new : State) : Type 0 where
   pub stays : (frame : ℕ) → MayLeave s owner frame → ⊥
   pub done : new ≡ end_change s p s.hardware.spaces s.hardware.memory s.checkpoint
 
--- the batches after a mark of these pages: one more, unless there is nothing to write or the machine is broken
-abbrev pub with_batch : State → ℕ → List FilePage → WriteOutsValue
+-- the home blocks that a mark of these pages writes: the one of the lengths first, if a length was set since the last
+-- mark
+abbrev pub mark_homes : State → List FilePage → List ℕ
+mark_homes s pages =
+    (if s.resized then first_home s.table.layout s.table.slots ∷ [] else []) ++ map (home_of s.table) pages
+
+-- the batches after a mark of these home blocks: one more, unless there is nothing to write or the machine is broken
+abbrev pub with_batch : State → ℕ → List ℕ → WriteOutsValue
 with_batch s mark [] = s.write_outs
-with_batch s mark (owner ∷ owners) =
-    if s.write_outs.broken then s.write_outs else outs_begun s.write_outs mark (map (home_of s.table) (owner ∷ owners))
+with_batch s mark (home ∷ homes) =
+    if s.write_outs.broken then s.write_outs else outs_begun s.write_outs mark (home ∷ homes)
 
 -- processor p made the mark of the commit that it had begun: the dirty pages are gathered and their entries protected,
--- and a batch of them begins if there are any and the machine isn't broken
+-- and a batch of them, and of the lengths if one was set, begins if there is any and the machine isn't broken
 pub record MarkMade (s : State) (p number : ℕ) (new : State) : Type 0 where
   pub may : MayChange s p changes.Checkpoint
   -- marks are counted from 1
@@ -210,8 +218,9 @@ pub record MarkMade (s : State) (p number : ℕ) (new : State) : Type 0 where
   pub spaces : Spaces
   pub protected : ProtectsNoted noted s.hardware.spaces spaces
   pub done : new ≡ record (end_change s p spaces s.hardware.memory (without_notes noted)) {
-    write_outs = with_batch s number pages;
+    write_outs = with_batch s number (mark_homes s pages);
     marks = number;
+    resized = false;
   }
 
 -- ---- faults
@@ -244,15 +253,22 @@ bytes_with owner (Some frame ∷ frames) other =
 abbrev pub bytes_at_mark : FramesState → FilePage → List ℕ
 bytes_at_mark memory owner = bytes_with owner memory.copies (bytes_with owner memory.frames [])
 
--- its record: these bytes up to the file's end, then zeros
+-- whether the record that comes next is a page's, and not that of the lengths
+abbrev pub is_page_next : State → Bool
+is_page_next s =
+    option_map_or (nat_le (first_file_home s.table.layout s.table.slots)) (outs_home s.write_outs) false
+
+-- it is the lengths, or has the page's bytes up to the file's end, then zeros
 abbrev pub next_record : State → List ℕ
-next_record s = cut_at_end s (next_page s) (bytes_at_mark s.hardware.memory (next_page s))
+next_record s =
+    if is_page_next s then cut_at_end s (next_page s) (bytes_at_mark s.hardware.memory (next_page s))
+    else lengths_text s.lengths
 
 -- what the next step of the write-outs asks of the device
 abbrev pub work_asked : State → Work
 work_asked s = next_work s.write_outs (next_record s)
 
--- a record was written: its page is released, and its copy frame is free
+-- the record of a page was written: the page is released, and its copy frame is free
 abbrev pub after_record : State → State
 after_record s = record s {
   hardware = record s.hardware { memory = without_copy_of s.hardware.memory (next_page s) };
@@ -273,7 +289,7 @@ pub record FlushMade (s : State) (disk : List ℕ) (p : ℕ) (answer : Flushed) 
   pub allowed : reason_against s p acts.Flush ≡ None
   pub some : s.write_outs.batches ≢ []
   pub answered : next_answer s.write_outs ≡ answer
-  pub done : new ≡ record (if is_some (outs_record s.write_outs) then after_record s else s)
+  pub done : new ≡ record (if is_page_next s then after_record s else s)
       { write_outs = outs_after s.write_outs (next_answer s.write_outs) }
   pub disk_done : disk' ≡ worked disk (work_asked s)
 

@@ -1,5 +1,5 @@
 -- What contracts see of a machine: the states of its layers.
-use Rattle.std.specs.Prelude.{ℕ, ◌-◌, ◌*◌, ◌+◌, List, take, slice_index_or}
+use Rattle.std.specs.Prelude.{ℕ, Bool, ◌-◌, ◌*◌, ◌+◌, List, take, slice_index_or}
 use Rattle.page_entry.specs.declared.numbers.FilePage.{FilePage}
 use Rattle.volume_codec.specs.Super.{SuperValue, first_home_of}
 use Rattle.volume_codec.specs.Text.{padded}
@@ -8,19 +8,17 @@ use Rattle.cpu.specs.Access.{Hardware}
 use Rattle.checkpoint.specs.Checkpoint.{CheckpointState}
 use Rattle.journal.specs.WriteOuts.{WriteOutsValue}
 
--- a machine without its device
+-- A machine without its device: the volume's table of files, and the length of each in bytes; the processors with
+-- their TLBs and the lock, the address spaces and the frames; which pages are dirty by notes, and which are frozen; the
+-- batches that aren't done; how many marks were made since boot; and whether a length was set since the last mark.
 pub record State : Type 0 where
-  -- the volume's table of files, and the length of each in bytes
   pub table : SuperValue
   pub lengths : List ℕ
-  -- the processors with their TLBs and the lock, the address spaces, and the frames
   pub hardware : Hardware
-  -- which pages are dirty by notes, and which are frozen
   pub checkpoint : CheckpointState
-  -- the batches that aren't done
   pub write_outs : WriteOutsValue
-  -- how many marks were made since boot
   pub marks : ℕ
+  pub resized : Bool
 
 -- a machine and its device
 pub record Whole (D : Type 0) : Type 0 where

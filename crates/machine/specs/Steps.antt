@@ -23,18 +23,17 @@ step_work s acts.Flush (replies.Done number) = work_asked s
 step_work s acts.Flush (replies.Refused refusals.Device) = work_asked s
 step_work s act reply = Nothing
 
--- One step of a machine over an honest device.
+-- One step of a machine over an honest device: the rules, and what a crash may leave after it and within it. Where of a
+-- block that was to be copied the read alone was made, and failed, nothing was written.
 pub record StepMade {D : Type 0} (disk : Ghosts D) (old : Whole D) (step : Step) (reply : Reply) (new : Whole D)
     : Type 0 where
   pub answered : Rules old.state (disk.seen old.device) step reply new.state (disk.seen new.device)
-  -- what a crash may leave after it, and within it
   pub left : (c : List ℕ) → disk.may_leave new.device c
       → TornFromWork (step_work old.state step.act reply) (disk.may_leave old.device) c
   pub sure : reply ≢ replies.Refused refusals.Device → step_work old.state step.act reply ≡ Sync
       → Only (disk.may_leave new.device) (disk.seen old.device)
   pub within : LeavesOnly disk.moment disk.left_since old.device new.device
       (TornFromWork (step_work old.state step.act reply) (disk.may_leave old.device))
-  -- of a block that was to be copied the read alone was made, and failed: nothing was written
   pub unread : (from to : ℕ) → reply ≡ replies.Refused refusals.Device
       → step_work old.state step.act reply ≡ CopyBlock from to → disk.calls_made old.device < 2 ^ 64 - 2
       → disk.calls_made new.device ≡ disk.calls_made old.device + 1 → disk.seen new.device ≡ disk.seen old.device

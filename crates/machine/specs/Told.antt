@@ -21,18 +21,15 @@ pub data Pending : Type 0 where
   Unmapping : (space : ℕ) (range : PageRange) → Pending
   Protecting : (space : ℕ) (range : PageRange) (rights : Rights) → Pending
 
--- what the steps and replies of a run have told so far
+-- What the steps and replies of a run have told so far: the place of each mapped page of each space that there is; the
+-- current space of each processor; of each processor, whether it goes on with loads and stores (from when it resumes,
+-- wakes or ends a change until it stalls, idles or begins one); whether the lock is held (from when a change is begun
+-- until it is made); the length of each file in bytes; the change that is begun; and the history.
 pub record Told : Type 0 where
-  -- the place of each mapped page of each space that there is
   pub spaces : maps.FinMap nat_cmp Places
-  -- the current space of each processor
   pub current : List ℕ
-  -- of each processor, whether it goes on with loads and stores: from when it resumes, wakes or ends a change until it
-  -- stalls, idles or begins one
   pub running : List Bool
-  -- whether the lock is held: from when a change is begun until it is made
   pub locked : Bool
-  -- the length of each file in bytes
   pub lengths : List ℕ
   pub pending : Option Pending
   pub history : List Event

@@ -1,16 +1,15 @@
 // Steps of write-outs.
-ghost use Rattle.std.specs.Prelude.{◌≡◌, ◌≢◌, ◌*◌, ◌≤◌, ◌<◌, ℕ, List, [], length, IsSome, is_some, true, false, not, None, Err};
+ghost use Rattle.std.specs.Prelude.{◌≡◌, ◌≢◌, ◌*◌, ◌≤◌, ◌<◌, ℕ, List, [], length, true, false, not, None, Err};
 ghost use Rattle.device.specs.Did.{Did};
 ghost use Rattle.volume_codec.specs.Super.{block_count};
-ghost use Rattle.volume_codec.specs.Text.{zeros};
-ghost use Rattle.journal.specs.WriteOuts.{next_work, outs_record};
+ghost use Rattle.journal.specs.WriteOuts.{next_work};
 ghost use Rattle.checkpoint.specs.Checkpoint.{AreCopiesOfFrozen};
 ghost use Rattle.fault.specs.Fault.{is_in_memory};
 ghost use Rattle.machine.specs.declared.act.Act.TheVariants.{Flush};
 ghost use Rattle.machine.specs.Calls.{has_failed};
 ghost use Rattle.machine.specs.Refusals.{reason_against};
 ghost use Rattle.machine.specs.inside.Sound.{IsMemory, IsSound};
-ghost use Rattle.machine.specs.Rules.{bytes_at_mark, work_asked, Acts};
+ghost use Rattle.machine.specs.Rules.{bytes_at_mark, is_page_next, work_asked, Acts};
 ghost use Rattle.machine.specs.Steps.{step_work};
 ghost use Rattle.machine.specs.inside.Layers.{state_in, reply_to, AnswersBy, KeepsReserved};
 ghost use Rattle.machine.specs.inside.Flushing.{HasSmallMark, IsThere, bytes_from, reply_of_flush, memory_after, checkpoint_after};
@@ -23,6 +22,7 @@ use frames::Frames;
 use journal::Flushed;
 use page_entry::{FilePage, PAGE, ProcessorNumber, Refusal};
 use std::alloc::Allocator;
+use volume_codec::write_lengths;
 
 // What a step of a write-out is answered.
 fn reply_to_flush(answer: Flushed) -> Result<Reply, Refusal>
@@ -37,9 +37,6 @@ fn reply_to_flush(answer: Flushed) -> Result<Reply, Refusal>
         Flushed::Broken => Err(Refusal::Broken),
     }
 }
-
-// A block of zeros.
-const BLANK: [u8; 4096] = [0; 4096];
 
 // Where the bytes for a step are: in a block, or in memory, those of a page as they were at its mark.
 #[derive(Clone, Copy)]
@@ -93,9 +90,20 @@ impl<D: Device, A: Allocator + Copy> Layers<D, A> {
         }
     }
 
-    // The next step of the write-outs, of which some aren't done. If it writes a record, it is given its bytes.
+    // Whether the next step of the write-outs writes the record of a page.
+    fn is_page_next(&self) -> bool
+        ensures { result ≡ is_page_next (state_in self.now) }
+    {
+        match self.write_outs.next_home() {
+            Some(home) => home >= self.table.geometry().first_file_home(),
+            None => false,
+        }
+    }
+
+    // The next step of the write-outs, of which some aren't done. If it writes a record, it is given its bytes;
+    // `writes_record` says whether that is a page's.
     fn step_with(&mut self, writes_record: bool, source: Source) -> Result<Reply, Refusal>
-        requires record { writes_record ≡ is_some (outs_record self.old.write_outs) }
+        requires record { writes_record ≡ is_page_next (state_in self.old) }
         requires there { IsThere self.old.frames source }
         requires bytes { next_work self.old.write_outs (bytes_from self.old.frames source)
             ≡ work_asked (state_in self.old) }
@@ -119,7 +127,7 @@ impl<D: Device, A: Allocator + Copy> Layers<D, A> {
     // The next step of the write-outs, which writes the record of the first frozen page: its bytes at its mark up to
     // the file's end, then zeros. A page that ends before the file does is written from where it lies.
     fn step_record(&mut self) -> Result<Reply, Refusal>
-        requires record { IsSome (outs_record self.old.write_outs) }
+        requires record { is_page_next (state_in self.old) ≡ true }
         requires sound { IsSound (state_in self.old) }
         requires long { 4096 * block_count self.old.table ≤ length (D.seen self.old.device) }
         requires whole { self.old.write_outs.broken ≡ false }
@@ -156,11 +164,12 @@ impl<D: Device, A: Allocator + Copy> Layers<D, A> {
             (not (has_failed (reply_to result))) self.new.device }
         ensures kept { KeepsReserved self.old self.new }
     {
-        if self.write_outs.next_record().is_some() {
-            self.step_record()
-        } else {
-            self.step_with(false, Source::Block(&BLANK))
+        if self.is_page_next() {
+            return self.step_record();
         }
+        // Any other record is that of the lengths, and a step that writes none may be given any bytes.
+        let block = write_lengths(&self.lengths);
+        self.step_with(false, Source::Block(&block))
     }
 
     // The next step of the write-outs, if there are any.

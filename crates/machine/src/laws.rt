@@ -8,7 +8,7 @@ ghost use Rattle.machine.specs.declared.act.Reply.{Reply};
 ghost use Rattle.machine.specs.declared.act.Reply.TheVariants.{Committed, Done};
 ghost use Rattle.machine.specs.declared.act.Step.{Step};
 ghost use Rattle.machine.specs.State.{Whole};
-ghost use Rattle.machine.specs.Rules.{MarkMade};
+ghost use Rattle.machine.specs.Rules.{MarkMade, mark_homes};
 ghost use Rattle.machine.specs.History.{Event, files_after};
 ghost use Rattle.machine.specs.Laws.{ReadsBack};
 ghost use Rattle.machine.specs.Later.{AreDurable, Finds, FindsDurable};
@@ -55,9 +55,9 @@ pub fn calls_of_steps<D: Device>(device: &D)
         → StepsTaken D.Device old steps replies new → CallsAddUp D.Device old steps replies new }
 {}
 
-/// The count of each write-out of a run. After a mark that gathered k pages, the steps up to the one that answers that
-/// the mark is committed make k + 4 device calls for its write-out, one each; those up to the one that answers that it
-/// is done make 3k + 7, in 2k + 7 steps of it. Whatever other steps stand between them, also another write-out's.
+/// The count of each write-out of a run. After a mark that writes k home blocks, the steps up to the one that answers
+/// that the mark is committed make k + 4 device calls for its write-out, one each; those up to the one that answers that
+/// it is done make 3k + 7, in 2k + 7 steps of it. Whatever other steps stand between them, also another write-out's.
 pub fn counts_of_a_write_out<D: Device>(device: &D)
     ensures committed { (files : List File) (start old marked last new : Whole D) (earlier steps : List Step)
         (told replies : List Reply) (p number : ℕ) (mark : MarkMade old.state p number marked.state) (step : Step)
@@ -65,14 +65,16 @@ pub fn counts_of_a_write_out<D: Device>(device: &D)
         → StepsTaken D.Device marked steps replies last → StepTaken D.Device last step (Committed number) new
         → (works : List Work)
         × AskFor D.Device number marked (steps ++ step ∷ []) (replies ++ Committed number ∷ []) new works
-        × (length works ≡ length mark.pages + 4) × (sum_by calls_of works ≡ length mark.pages + 4) }
+        × (length works ≡ length (mark_homes old.state mark.pages) + 4)
+        × (sum_by calls_of works ≡ length (mark_homes old.state mark.pages) + 4) }
     ensures done { (files : List File) (start old marked last new : Whole D) (earlier steps : List Step)
         (told replies : List Reply) (p number : ℕ) (mark : MarkMade old.state p number marked.state) (step : Step)
         → IsOnTrack D.Device files start earlier told old
         → StepsTaken D.Device marked steps replies last → StepTaken D.Device last step (Done number) new
         → (works : List Work)
         × AskFor D.Device number marked (steps ++ step ∷ []) (replies ++ Done number ∷ []) new works
-        × (length works ≡ 2 * length mark.pages + 7) × (sum_by calls_of works ≡ 3 * length mark.pages + 7) }
+        × (length works ≡ 2 * length (mark_homes old.state mark.pages) + 7)
+        × (sum_by calls_of works ≡ 3 * length (mark_homes old.state mark.pages) + 7) }
 {}
 
 /// Where nothing was stored, the files are as they were: a history without events leaves them (`files`), and they are

@@ -9,7 +9,7 @@ ghost use Rattle.machine.specs.declared.act.Reply.{Reply};
 ghost use Rattle.machine.specs.declared.act.Step.{Step};
 ghost use Rattle.volume_codec.specs.Files.{File};
 ghost use Rattle.machine.specs.State.{State, Whole};
-ghost use Rattle.machine.specs.Rules.{MarkMade, WantsMemory};
+ghost use Rattle.machine.specs.Rules.{MarkMade, WantsMemory, mark_homes};
 ghost use Rattle.machine.specs.Durability.{AreFrozenProtected, HasPart, IsInFile};
 ghost use Rattle.machine.specs.Crashes.{Begins, StepIsSafe, Throughout};
 ghost use Rattle.machine.specs.History.{after, has_unmarked, is_touched, memory_of};
@@ -115,8 +115,8 @@ impl<D: Device, A: Allocator + Copy> Machine<D, A> {
     {}
 
     /// On the track of a run, the pages that a mark gathers are those that got a store since the mark before it, or
-    /// since the start, and no other (`pages`). So it gathers nothing exactly where the history has no store since then
-    /// (`nothing`).
+    /// since the start, and no other (`pages`). It writes nothing exactly where the history has no store and no change
+    /// of a length since then (`nothing`).
     pub fn gathers_what_was_stored(&self)
         ensures pages { (files : List File) (start : Whole D) (steps : List Step) (replies : List Reply)
             (p number : ℕ) (new : State) (mark : MarkMade self.now.state p number new) (owner : FilePage)
@@ -126,7 +126,7 @@ impl<D: Device, A: Allocator + Copy> Machine<D, A> {
         ensures nothing { (files : List File) (start : Whole D) (steps : List Step) (replies : List Reply)
             (p number : ℕ) (new : State) (mark : MarkMade self.now.state p number new)
             → IsOnTrack D.Device files start steps replies self.now
-            → (mark.pages ≡ []) ↔ (has_unmarked
+            → (mark_homes self.now.state mark.pages ≡ []) ↔ (has_unmarked
             (tell_all (told_first files start.state) steps replies).history ≡ false) }
     {}
 

@@ -1,5 +1,5 @@
 -- The open batches are carried out one after another, the oldest first.
-use Rattle.std.proofs.Common.{◌≡◌, ◌≢◌, ◌≤◌, ◌⊎◌, inl, inr, ℕ, ◌+◌, ◌-◌, ◌*◌, ◌^◌, ltb, List, [], ◌∷◌, ◌++◌, length, get_or, Result, Ok, Err, refl, sym, ap, ◌∙◌, subst, arith}
+use Rattle.std.proofs.Common.{◌≡◌, ◌≢◌, ◌≤◌, ◌⊎◌, inl, inr, ℕ, ◌+◌, ◌*◌, List, [], ◌∷◌, ◌++◌, length, get_or, Result, Ok, Err, refl, sym, ap, ◌∙◌, subst, arith}
 use Rattle.std.specs.List.{AllByRecursion}
 use Rattle.std.proofs.lemmas.Bool.{cases_eq}
 use Rattle.std.proofs.lemmas.List.Sums.{sum_by-append}
@@ -15,7 +15,7 @@ use Rattle.volume_codec.proofs.Layouts.{gate_block-low}
 use Rattle.journal.specs.WriteOut.{IsBatch}
 use Rattle.journal.specs.Finished.{IsOutside, gate_byte, HoldsVolume, RecoversSame, Finishes}
 use Rattle.journal.proofs.Recorded.{recovers_of}
-use Rattle.recovery.specs.Counts.{Rises, HasCause, IsAccounted}
+use Rattle.recovery.specs.Counts.{HasCause, IsAccounted}
 use Rattle.recovery.specs.inside.Carrying.{AreShut, IsCarrying, CarriesOut}
 use Rattle.recovery.specs.inside.Reading.{carry_calls}
 use Rattle.recovery.proofs.Writing.{raised_rises}

@@ -1,5 +1,5 @@
 -- Where the bytes of a file lie on a device.
-use Rattle.std.proofs.Common.{◌≡◌, ◌<◌, ◌≤◌, ℕ, zero, suc, ◌+◌, ◌-◌, ◌*◌, List, [], ◌∷◌, length, take, drop, map, slice_get, slice_index, slice_range, Some, refl, sym, ◌∙◌, ap, subst, arith}
+use Rattle.std.proofs.Common.{◌≡◌, ◌<◌, ◌≤◌, ℕ, zero, suc, ◌+◌, ◌-◌, ◌*◌, List, [], ◌∷◌, length, take, drop, map, slice_get, slice_index, slice_range, Some, refl, sym, ◌∙◌, ap, subst, arith, length-take, length-drop}
 use Rattle.std.proofs.lemmas.List.{drop-drop, take-take}
 use Rattle.volume_codec.specs.Files.{File, TableFile}
 use Rattle.volume_codec.specs.Layout.{block_at}
@@ -38,6 +38,37 @@ asked_within {D} v w file at n same there within =
     let P : VolumeState D → Type 0 = λ u. (file < length u.table.files) × (at + n ≤ slice_index u.lengths file) in
     subst P (sym same) (there, within)
 
+-- a file ends before the next one
+pub file_end : (table : SuperValue) (lengths : List ℕ) → AreLengths table lengths → (file : ℕ) → file < length table.files
+    → 4096 * first_home_of table file + slice_index lengths file ≤ 4096 * first_home_of table (file + 1)
+file_end table lengths are file there =
+    let f = some_at table.files file there in
+    let le = are.within file (slice_index lengths file) f.0 f.1 (index_at lengths file (omega (arith, are.count))) in
+    omega (arith, first_home_of-next table file there, le, capacity_of table.files file f.0 f.1)
+
+-- the bytes of a file, where they lie
+pub file_bytes : (table : SuperValue) (lengths : List ℕ) → AreLengths table lengths → (bytes : List ℕ) (file : ℕ) → file < length table.files → lengths ≡ lengths_in table (block_at bytes)
+    → bytes_of (files_of table bytes) file ≡ take (slice_index lengths file) (drop (4096 * first_home_of table file) bytes)
+file_bytes table lengths are bytes file there same =
+    let size = slice_index lengths file in
+    let f = some_at table.files file there in
+    let at_length = index_at lengths file (omega (arith, are.count)) in
+    let le = are.within file size f.0 f.1 at_length in
+    let found = file_in-at table (block_at bytes) file size f.0 f.1 (ap (λ (l : List ℕ). slice_get l file) (sym same) ∙ at_length) in
+    bytes_at (files_of table bytes) file _ found
+    ∙ ap (take size) (blocks_from-device bytes (first_home_of table file) (pages_of f.0.capacity))
+    ∙ take-take size (4096 * pages_of f.0.capacity) (drop (4096 * first_home_of table file) bytes) (omega (arith, le))
+
+-- as many as its length
+pub length_of_bytes : (table : SuperValue) (lengths : List ℕ) → AreLengths table lengths → (bytes : List ℕ) (file : ℕ) → file < length table.files → lengths ≡ lengths_in table (block_at bytes) → 4096 * block_count table ≤ length bytes
+    → length (bytes_of (files_of table bytes) file) ≡ slice_index lengths file
+length_of_bytes table lengths are bytes file there same long =
+    let at = 4096 * first_home_of table file in
+    let ends = file_end table lengths are file there in
+    let last = first_home_of-le table (file + 1) in
+    ap length (file_bytes table lengths are bytes file there same)
+    ∙ omega (arith, length-take (slice_index lengths file) (drop at bytes), length-drop at bytes, ends, last, long)
+
 module _ (table : SuperValue) (lengths : List ℕ) (are : AreLengths table lengths) (file at n : ℕ) (there : file < length table.files) (within : at + n ≤ slice_index lengths file) where
   -- a part of a file lies within the volume
   pub file_room : (size : ℕ) → 4096 * block_count table ≤ size → 4096 * first_home_of table file + at + n ≤ size
@@ -53,17 +84,10 @@ module _ (table : SuperValue) (lengths : List ℕ) (are : AreLengths table lengt
       → slice_range bytes (4096 * home + at) (4096 * home + at + n) ≡ slice_range (bytes_of (files_of table bytes) file) at (at + n)
   read_part bytes home is same =
       let size = slice_index lengths file in
-      let f = some_at table.files file there in
-      let at_length = index_at lengths file (omega (arith, are.count)) in
-      let le = are.within file size f.0 f.1 at_length in
-      let found = file_in-at table (block_at bytes) file size f.0 f.1 (ap (λ (l : List ℕ). slice_get l file) (sym same) ∙ at_length) in
       let part : 4096 * home + at + n - (4096 * home + at) ≡ n = omega arith in
       let rest : at + n - at ≡ n = omega arith in
       let whole : bytes_of (files_of table bytes) file ≡ take size (drop (4096 * home) bytes) =
-      bytes_at (files_of table bytes) file _ found
-      ∙ ap (take size) (blocks_from-device bytes (first_home_of table file) (pages_of f.0.capacity))
-      ∙ take-take size (4096 * pages_of f.0.capacity) (drop (4096 * first_home_of table file) bytes) (omega (arith, le))
-      ∙ ap (λ h. take size (drop (4096 * h) bytes)) (sym is) in
+      file_bytes table lengths are bytes file there same ∙ ap (λ h. take size (drop (4096 * h) bytes)) (sym is) in
       ap (λ k. take k (drop (4096 * home + at) bytes)) part
       ∙ ap (take n) (sym (drop-drop at (4096 * home) bytes))
       ∙ sym (range-take at n size (drop (4096 * home) bytes) within)

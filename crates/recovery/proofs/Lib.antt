@@ -7,6 +7,9 @@ pub mod Kept
 pub mod FoundJournals
 pub mod Opened
 pub mod Reopened
+pub mod StandingLengths
 pub mod Blank
 pub mod Carrying
+pub mod Copied
+pub mod Migrated
 pub mod Writing

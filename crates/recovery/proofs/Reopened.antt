@@ -17,7 +17,7 @@ use Rattle.recovery.specs.Openings.{IsRestarted, FollowsOpening, IsLater, Recove
 use Rattle.recovery.proofs.Judged.{magic_at}
 
 -- the contents that its batches give
-own_contents : (table : SuperValue) (batches : List Batch) (old : List ℕ) → IsVolume table batches old → Recovers table (contents_in table.slots batches old) old
+pub own_contents : (table : SuperValue) (batches : List Batch) (old : List ℕ) → IsVolume table batches old → Recovers table (contents_in table.slots batches old) old
 own_contents table batches old volume = record { batches = batches; volume = volume; contents_are = λ b home. refl }
 
 -- what a crash leaves while they are carried out recovers to whatever was recovered to

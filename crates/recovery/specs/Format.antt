@@ -4,25 +4,30 @@ use Rattle.device.specs.Device.{Torn, Only}
 use Rattle.device.specs.declared.device.Device.{Ghosts}
 use Rattle.page_entry.specs.declared.refusal.Refusal.{Refusal}
 use Rattle.page_entry.specs.declared.refusal.Refusal.TheVariants.{Device, OutOfMemory, BadShape}
-use Rattle.volume_codec.specs.Files.{File, AskedFile}
-use Rattle.volume_codec.specs.Layout.{IsHome, journals_of, gate_block, first_home, block_at}
+use Rattle.volume_codec.specs.Files.{File, AskedFile, lengths_asked}
+use Rattle.volume_codec.specs.Layout.{journals_of, lengths_blocks, gate_block, first_home, first_file_home, block_at}
+use Rattle.volume_codec.specs.Lengths.{lengths_text}
 use Rattle.volume_codec.specs.Text.{zeros}
-use Rattle.volume_codec.specs.Super.{SuperValue, IsSuper, IsAsked, geometry_of, block_count}
+use Rattle.volume_codec.specs.Super.{SuperValue, IsSuper, IsAsked, block_count}
 
 -- the files that are asked for, with all their bytes zero
 abbrev pub zero_files : List AskedFile → List File
 zero_files files = map (λ f. record { name = f.name; bytes = replicate f.length 0; capacity = f.capacity }) files
 
--- all of a volume but its block 0, as formatting makes it: each gate byte 0, each home block zeros
-pub record IsEmptied (table : SuperValue) (bytes : List ℕ) : Type 0 where
+-- all of a volume but its block 0, as formatting makes it: each gate byte 0, these lengths in the lengths block, where
+-- there is one, and each home block of a file zeros
+pub record IsEmptied (table : SuperValue) (lengths : List ℕ) (bytes : List ℕ) : Type 0 where
   pub long : 4096 * block_count table ≤ length bytes
   pub gates : (j : ℕ) → j < journals_of table.layout → slice_index bytes (4096 * gate_block table.slots j) ≡ 0
-  pub homes : (b : ℕ) → IsHome (geometry_of table) b → block_at bytes b ≡ zeros 4096
+  pub lengths_block : 0 < lengths_blocks table.layout
+      → block_at bytes (first_home table.layout table.slots) ≡ lengths_text lengths
+  pub homes : (b : ℕ) → first_file_home table.layout table.slots ≤ b → b < block_count table
+      → block_at bytes b ≡ zeros 4096
 
--- a volume as formatting makes it: its table in block 0, and the rest emptied
-pub record IsBlank (table : SuperValue) (bytes : List ℕ) : Type 0 where
+-- a volume as formatting makes it: its table in block 0, and the rest emptied, with these lengths
+pub record IsBlank (table : SuperValue) (lengths : List ℕ) (bytes : List ℕ) : Type 0 where
   pub super_block : IsSuper table (block_at bytes 0)
-  pub rest : IsEmptied table bytes
+  pub rest : IsEmptied table lengths bytes
 
 -- the table that is asked for, and a device of so many bytes is long enough for it
 pub record HasShape (layout : ℕ) (files : List AskedFile) (slots bytes : ℕ) (table : SuperValue) : Type 0 where
@@ -31,30 +36,33 @@ pub record HasShape (layout : ℕ) (files : List AskedFile) (slots bytes : ℕ) 
 
 -- What a crash leaves of a volume that is being made on a device that might have been left as one of these lists: such
 -- a list, with other bytes in the volume's blocks alone. Block 0 is as it was, or else all the rest is emptied.
-pub record IsPartlyFormatted (table : SuperValue) (lists : List ℕ → Type 0) (c : List ℕ) : Type 0 where
+pub record IsPartlyFormatted (table : SuperValue) (lengths : List ℕ) (lists : List ℕ → Type 0) (c : List ℕ)
+    : Type 0 where
   pub before : List ℕ
   pub left : lists before
   pub within : Torn 0 (4096 * block_count table) before c
-  pub first : (block_at c 0 ≡ block_at before 0) ⊎ IsEmptied table c
+  pub first : (block_at c 0 ≡ block_at before 0) ⊎ IsEmptied table lengths c
 
 -- what a crash leaves of formatting: what it might have left before it, or a volume that is being made
 abbrev pub LeftByFormat : {D : Type 0} → Ghosts D → ℕ → List AskedFile → ℕ → D → List ℕ → Type 0
 LeftByFormat disk layout files slots old c = disk.may_leave old c
     ⊎ ((table : SuperValue) × HasShape layout files slots (length (disk.seen old)) table
-    × IsPartlyFormatted table (disk.may_leave old) c)
+    × IsPartlyFormatted table (lengths_asked files) (disk.may_leave old) c)
 
--- how many device calls formatting makes: it writes zeros over 8 home blocks at a time, closes each gate, syncs, writes
--- block 0 and syncs
+-- how many device calls formatting makes: it writes zeros over 8 home blocks at a time, and the lengths block where
+-- there is one, closes each gate, syncs, writes block 0 and syncs
 abbrev pub format_calls : SuperValue → ℕ
-format_calls table = (block_count table - first_home table.layout table.slots + 7) / 8 + journals_of table.layout + 3
+format_calls table =
+    (block_count table - first_home table.layout table.slots + 7) / 8 + lengths_blocks table.layout
+    + journals_of table.layout + 3
 
--- an honest device was formatted: it is a volume with the table that was asked for and nothing in its files, all of
--- it is synced, and what lies past the volume is as before
+-- an honest device was formatted: it is a volume with the table and the lengths that were asked for and zeros in its
+-- files, all of it is synced, and what lies past the volume is as before
 pub record HasFormatted {D : Type 0} (disk : Ghosts D) (layout : ℕ) (files : List AskedFile) (slots : ℕ) (old new : D)
     : Type 0 where
   pub table : SuperValue
   pub shape : HasShape layout files slots (length (disk.seen old)) table
-  pub blank : IsBlank table (disk.seen new)
+  pub blank : IsBlank table (lengths_asked files) (disk.seen new)
   pub synced : Only (disk.may_leave new) (disk.seen new)
   pub past : (i : ℕ) → 4096 * block_count table ≤ i → slice_index (disk.seen new) i ≡ slice_index (disk.seen old) i
 

@@ -3,4 +3,5 @@ pub mod Volume
 pub mod Format
 pub mod Opening
 pub mod Openings
+pub mod Migration
 pub mod inside

@@ -5,7 +5,7 @@ use Rattle.device.specs.Device.{Only, LeavesOnly}
 use Rattle.device.specs.declared.device.Device.{Ghosts}
 use Rattle.page_entry.specs.declared.refusal.Refusal.{Refusal}
 use Rattle.page_entry.specs.declared.refusal.Refusal.TheVariants.{Device, OutOfMemory, NotAVolume, Damaged}
-use Rattle.volume_codec.specs.Layout.{GeometryValue, IsHome, journals_of, block_at}
+use Rattle.volume_codec.specs.Layout.{GeometryValue, IsHome, journals_of, lengths_blocks, block_at}
 use Rattle.volume_codec.specs.Super.{SuperValue, IsSuper, geometry_of}
 use Rattle.volume_codec.specs.Lengths.{HasLengths}
 use Rattle.volume_codec.specs.Recovery.{Batch, contents_in, IsVolume, IsNotAVolume, IsDamaged}
@@ -36,10 +36,11 @@ LeftByOpening disk before c = disk.may_leave before c
     ⊎ ((table : SuperValue) × (batches : List Batch) × IsVolume table batches (disk.seen before)
     × RecoversSame table (contents_in table.slots batches (disk.seen before)) (disk.seen before) c)
 
--- how many device calls an opening makes: it reads block 0, syncs and reads each gate byte; for each open batch it
--- reads the descriptor, reads and writes each record, syncs, closes the gate and syncs
+-- how many device calls an opening makes: it reads block 0, syncs, reads each gate byte, and the lengths where a block
+-- has them; for each open batch it reads the descriptor, reads and writes each record, syncs, closes the gate and syncs
 abbrev pub opening_calls : SuperValue → List Batch → ℕ
-opening_calls table batches = 2 + journals_of table.layout + sum_by (λ batch. 2 * length batch.homes + 4) batches
+opening_calls table batches =
+    2 + journals_of table.layout + lengths_blocks table.layout + sum_by (λ batch. 2 * length batch.homes + 4) batches
 
 -- a device that held a volume with this table was opened: its files had lengths, its open batches were carried out, and
 -- all of it is synced
@@ -69,14 +70,15 @@ RefusesOpening bytes Device = Unit {0}
 RefusesOpening bytes OutOfMemory = Unit {0}
 RefusesOpening bytes _ = ⊥
 
--- how many device calls it takes at most to find the open batches of a device with these bytes: one reads block 0;
--- where a table is there, one syncs, and for each journal one reads the gate and one the descriptor
+-- how many device calls it takes at most to find the open batches and the lengths of a device with these bytes: one
+-- reads block 0; where a table is there, one syncs, for each journal one reads the gate and one the descriptor, and one
+-- reads the lengths where a block has them
 abbrev pub FindsWithin : List ℕ → ℕ → ℕ → Type 0
 FindsWithin bytes old new = RisesWithin 1 old new
     ⊎ ((table : SuperValue) × IsSuper table (block_at bytes 0)
-    × RisesWithin (2 + 2 * journals_of table.layout) old new)
+    × RisesWithin (2 + 2 * journals_of table.layout + lengths_blocks table.layout) old new)
 
--- an opening was refused while it looked for open batches: nothing was written
+-- an opening was refused while it looked for open batches and lengths: nothing was written
 pub record HasNotBegun {D : Type 0} (disk : Ghosts D) (before after : D) : Type 0 where
   pub unwritten : IsUnwritten disk before after
   pub calls : FindsWithin (disk.seen before) (disk.calls_made before) (disk.calls_made after)

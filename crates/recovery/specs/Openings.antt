@@ -16,6 +16,12 @@ pub record IsRestarted {D : Type 0} (disk : Ghosts D) (lists : List ℕ → Type
   pub only : Only (disk.may_leave device) (disk.seen device)
   pub honest : disk.is_honest device
 
+-- an honest device that was made a volume with these files: it recovers to them, and all of it is synced
+pub record IsMade {D : Type 0} (disk : Ghosts D) (files : List File) (device : D) : Type 0 where
+  pub honest : disk.is_honest device
+  pub synced : Only (disk.may_leave device) (disk.seen device)
+  pub recovers : RecoversTo (disk.seen device) files
+
 -- the device that an opening of this one gave back, or one after a crash at some moment since that opening began
 pub record FollowsOpening {D : Type 0} (disk : Ghosts D) (before device : D) : Type 0 where
   pub result : Result SuperValue Refusal

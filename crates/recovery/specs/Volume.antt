@@ -3,8 +3,8 @@ use Rattle.std.specs.Prelude.{◌≡◌, ℕ, ◌*◌, ◌≤◌, List, [], map,
 use Rattle.device.specs.Device.{Only}
 use Rattle.device.specs.declared.device.Device.{Ghosts}
 use Rattle.volume_codec.specs.Files.{File}
-use Rattle.volume_codec.specs.Layout.{block_at}
-use Rattle.volume_codec.specs.Super.{SuperValue, Fits, block_count}
+use Rattle.volume_codec.specs.Layout.{lengths_blocks, block_at}
+use Rattle.volume_codec.specs.Super.{SuperValue, Fits, block_count, capacities_in}
 use Rattle.volume_codec.specs.Lengths.{AreLengths, HasLengths, lengths_in}
 use Rattle.volume_codec.specs.Recovery.{IsVolume, files_in}
 
@@ -22,11 +22,13 @@ pub record IsAtRest {D : Type 0} (disk : Ghosts D) (volume : VolumeState D) : Ty
   pub lengths_are : volume.lengths ≡ lengths_in volume.table (block_at (disk.seen volume.device))
   pub synced : Only (disk.may_leave volume.device) (disk.seen volume.device)
 
--- the device is long enough for a volume with this table and these lengths, and an honest one is at rest
+-- the device is long enough for a volume with this table and these lengths, which are the capacities in a layout without
+-- a lengths block, and an honest one is at rest
 pub record IsSettled {D : Type 0} (disk : Ghosts D) (volume : VolumeState D) : Type 0 where
   pub fits : Fits volume.table
   pub long : 4096 * block_count volume.table ≤ length (disk.seen volume.device)
   pub lengths : AreLengths volume.table volume.lengths
+  pub fixed : lengths_blocks volume.table.layout ≡ 0 → volume.lengths ≡ capacities_in volume.table
   pub at_rest : disk.is_honest volume.device → IsAtRest disk volume
 
 -- the files of a volume whose gates are closed, where its device has these bytes

@@ -3,3 +3,4 @@ pub mod Carrying
 pub mod Reading
 pub mod Erasing
 pub mod Writing
+pub mod Copying

@@ -1,14 +1,15 @@
 // A volume is made on a device.
 ghost use Rattle.std.specs.Prelude.{◌≡◌, ◌⊎◌, ◌+◌, ◌-◌, ◌*◌, ◌/◌, ◌<◌, ◌≤◌, ℕ, length, slice_index, IfOk, IfErr, OnOk};
 ghost use Rattle.device.specs.Device.{Only, LeavesOnly};
-ghost use Rattle.volume_codec.specs.Files.{asked_by, asked_by_pairs};
-ghost use Rattle.volume_codec.specs.Layout.{GeometryValue, IsGeometry, journals_of, gate_block, first_home, block_at};
+ghost use Rattle.volume_codec.specs.Files.{asked_by, asked_by_pairs, lengths_asked};
+ghost use Rattle.volume_codec.specs.Layout.{GeometryValue, IsGeometry, journals_of, lengths_blocks, gate_block, first_home, block_at};
+ghost use Rattle.volume_codec.specs.Lengths.{lengths_text};
 ghost use Rattle.volume_codec.specs.Text.{zeros};
-ghost use Rattle.volume_codec.specs.Super.{SuperValue, IsAsked, Fits, block_count, geometry_of};
+ghost use Rattle.volume_codec.specs.Super.{SuperValue, IsAsked, Fits, super_text, block_count, geometry_of};
 ghost use Rattle.recovery.specs.Counts.{Rises, RisesWithin, IsAccounted};
-ghost use Rattle.recovery.specs.Format.{IsBlank, IsPartlyFormatted, HasFormatted, LeftByFormat, RefusesFormat, format_calls};
-ghost use Rattle.recovery.specs.inside.Erasing.{IsErased, AreClosed};
-ghost use Rattle.recovery.specs.inside.Writing.{HasOverwritten};
+ghost use Rattle.recovery.specs.Format.{HasShape, IsEmptied, IsBlank, IsPartlyFormatted, HasFormatted, LeftByFormat, RefusesFormat, format_calls};
+ghost use Rattle.recovery.specs.inside.Erasing.{IsErased, AreClosed, AreEmptied};
+ghost use Rattle.recovery.specs.inside.Writing.{HasOverwritten, HasFinished, laying_calls};
 
 use crate::calls::{sync, write, write_synced};
 use device::Device;
@@ -16,10 +17,11 @@ use page_entry::{PAGE, Refusal};
 use std::alloc::Allocator;
 use volume_codec::{
     CLOSED_GATE, FileSpec, Geometry, MAX_FILES, Super, block_count_as, block_count_of, specs_of,
+    write_lengths_of,
 };
 
 /// How many bytes are erased by one device call.
-const PIECE: usize = 32_768;
+pub(crate) const PIECE: usize = 32_768;
 
 /// The number of blocks of a volume in the layout of this number, with these files and with so many record slots for
 /// each journal. `BadShape` where no volume has them. Takes no memory.
@@ -44,7 +46,7 @@ pub fn blocks(files: &[(&str, u64)], slots: u64) -> Result<u64, Refusal>
 }
 
 /// As many zeros as one device call erases.
-fn zero_piece() -> [u8; PIECE]
+pub(crate) fn zero_piece() -> [u8; PIECE]
     ensures { result ≡ zeros PIECE }
 {
     [0; PIECE]
@@ -69,6 +71,50 @@ fn erase<D: Device>(device: &mut D, from: u64, to: u64) -> Result<(), Refusal>
     Ok(())
 }
 
+/// Writes the lengths of these files into their block, where the layout has one.
+fn put_lengths<D: Device>(
+    device: &mut D,
+    geometry: &Geometry,
+    files: &[FileSpec],
+) -> Result<(), Refusal>
+    requires long { 4096 * geometry.now.blocks ≤ length (D.seen device.old) }
+    requires few { length files.now ≤ 64 }
+    ensures said { D.is_honest device.old → OnOk result (0 < lengths_blocks geometry.now.layout
+        → block_at (D.seen device.new) (first_home geometry.now.layout geometry.now.slots)
+        ≡ lengths_text (lengths_asked (asked_by files.now))) }
+    ensures overwrites { HasOverwritten D.Device (4096 * first_home geometry.now.layout geometry.now.slots)
+        (4096 * lengths_blocks geometry.now.layout) (lengths_blocks geometry.now.layout) device.old result device.new }
+    ensures fault { IfErr result (λ refusal. refusal ≡ Refusal.Device) }
+    ensures geometry { IsGeometry geometry.now }
+{
+    let home = geometry.first_home();
+    if geometry.layout().lengths_blocks() == 0 {
+        return Ok(());
+    }
+    write(device, PAGE * u64::from(home), &write_lengths_of(files))
+}
+
+/// Writes the home blocks of a volume with these files: their lengths, where a block has them, and zeros.
+fn empty_homes<D: Device>(
+    device: &mut D,
+    geometry: &Geometry,
+    files: &[FileSpec],
+) -> Result<(), Refusal>
+    requires long { 4096 * geometry.now.blocks ≤ length (D.seen device.old) }
+    requires few { length files.now ≤ 64 }
+    ensures emptied { D.is_honest device.old → OnOk result (AreEmptied geometry.now
+        (lengths_asked (asked_by files.now)) (D.seen device.old) (D.seen device.new)) }
+    ensures overwrites { HasOverwritten D.Device (4096 * first_home geometry.now.layout geometry.now.slots)
+        (4096 * geometry.now.blocks - 4096 * first_home geometry.now.layout geometry.now.slots)
+        ((geometry.now.blocks - first_home geometry.now.layout geometry.now.slots + 7) / 8
+        + lengths_blocks geometry.now.layout) device.old result device.new }
+    ensures fault { IfErr result (λ refusal. refusal ≡ Refusal.Device) }
+{
+    let homes = PAGE * u64::from(geometry.first_home());
+    erase(device, homes, PAGE * u64::from(geometry.block_count()))?;
+    put_lengths(device, geometry, files)
+}
+
 /// Closes the gates of all journals.
 fn close_gates<D: Device>(device: &mut D, geometry: &Geometry) -> Result<(), Refusal>
     requires { 4096 * geometry.now.blocks ≤ length (D.seen device.old) }
@@ -85,41 +131,97 @@ fn close_gates<D: Device>(device: &mut D, geometry: &Geometry) -> Result<(), Ref
     Ok(())
 }
 
-/// Writes a table over a device that is long enough: zeros in all home blocks and the gates closed, both synced
-/// before the super block is written.
-fn write_table<D: Device, A: Allocator + Copy>(
+/// Lays out a volume over a device that is long enough: the home blocks, with the lengths of these files and zeros, and
+/// the gates closed. Block 0 stays, so it is no volume with this table before `finish`.
+pub(crate) fn lay_out<D: Device, A: Allocator + Copy>(
+    device: &mut D,
+    table: &Super<A>,
+    files: &[FileSpec],
+) -> Result<(), Refusal>
+    requires long { 4096 * block_count table.now ≤ length (D.seen device.old) }
+    requires few { length files.now ≤ 64 }
+    ensures emptied { D.is_honest device.old → OnOk result
+        (IsEmptied table.now (lengths_asked (asked_by files.now)) (D.seen device.new)) }
+    ensures overwrites { HasOverwritten D.Device 4096 (4096 * block_count table.now - 4096) (laying_calls table.now)
+        device.old result device.new }
+    ensures fault { IfErr result (λ refusal. refusal ≡ Refusal.Device) }
+{
+    let geometry = table.geometry();
+    empty_homes(device, &geometry, files)?;
+    close_gates(device, &geometry)
+}
+
+/// Finishes a volume that was laid out: what was written is synced, and then the table is written to block 0 and synced.
+pub(crate) fn finish<D: Device, A: Allocator + Copy>(
     device: &mut D,
     table: &Super<A>,
 ) -> Result<(), Refusal>
-    requires { 4096 * block_count table.now ≤ length (D.seen device.old) }
-    ensures blank { D.is_honest device.old → OnOk result (IsBlank table.now (D.seen device.new)) }
+    requires long { 4096 ≤ length (D.seen device.old) }
+    requires fits { Fits table.now }
+    ensures finishes { HasFinished D.Device (super_text table.now) device.old result device.new }
+    ensures fault { IfErr result (λ refusal. refusal ≡ Refusal.Device) }
+{
+    sync(device)?;
+    write_synced(device, 0, &table.to_block())
+}
+
+/// Writes a table over a device that is long enough: the home blocks, with the lengths of these files, and the gates
+/// closed, both synced before the super block is written.
+fn write_table<D: Device, A: Allocator + Copy>(
+    device: &mut D,
+    table: &Super<A>,
+    files: &[FileSpec],
+) -> Result<(), Refusal>
+    requires long { 4096 * block_count table.now ≤ length (D.seen device.old) }
+    requires few { length files.now ≤ 64 }
+    requires fits { Fits table.now }
+    ensures blank { D.is_honest device.old → OnOk result
+        (IsBlank table.now (lengths_asked (asked_by files.now)) (D.seen device.new)) }
     ensures synced { D.is_honest device.old → OnOk result (Only (D.may_leave device.new) (D.seen device.new)) }
     ensures past { D.is_honest device.old → (i : ℕ) → 4096 * block_count table.now ≤ i
         → slice_index (D.seen device.new) i ≡ slice_index (D.seen device.old) i }
     ensures crash { D.is_honest device.old → LeavesOnly D.moment D.left_since device.old device.new
-        (IsPartlyFormatted table.now (D.may_leave device.old)) }
+        (IsPartlyFormatted table.now (lengths_asked (asked_by files.now)) (D.may_leave device.old)) }
     ensures kept { IsAccounted D.Device device.old result device.new }
     ensures fault { IfErr result (λ refusal. refusal ≡ Refusal.Device) }
     ensures calls { OnOk result
         (Rises (format_calls table.now) (D.calls_made device.old) (D.calls_made device.new)) }
     ensures most { RisesWithin (format_calls table.now) (D.calls_made device.old) (D.calls_made device.new) }
 {
-    let geometry = table.geometry();
-    let homes = PAGE * u64::from(geometry.first_home());
-    erase(device, homes, PAGE * u64::from(geometry.block_count()))?;
-    close_gates(device, &geometry)?;
-    sync(device)?;
-    write_synced(device, 0, &table.to_block())
+    lay_out(device, table, files)?;
+    finish(device, table)
 }
 
-/// Makes a volume in the layout of this number, with these files, all their bytes zero, and with so many record slots
-/// for each journal. `BadShape`, before any memory is taken and any device call is made, where no volume has them or
-/// the device is shorter than its blocks. `Device` where a device call failed. What lies past the volume stays, also
-/// then.
+/// The table of these files on a device of so many bytes, in the layout of this number and with so many record slots
+/// for each journal. `BadShape`, before any memory is taken, where no volume has them or the device is shorter than its
+/// blocks.
+pub(crate) fn shape<A: Allocator + Copy>(
+    alloc: A,
+    bytes: u64,
+    layout: u64,
+    files: &[FileSpec],
+    slots: u64,
+) -> Result<Super<A>, Refusal>
+    ensures ok { IfOk result (HasShape layout (asked_by files.now) slots bytes) }
+    ensures refused { IfErr result (RefusesFormat layout (asked_by files.now) slots bytes) }
+    ensures early { IfErr result (λ refusal. (refusal ≡ Refusal.BadShape) ⊎ (refusal ≡ Refusal.OutOfMemory)) }
+{
+    let blocks = block_count_as(layout, files, slots)?;
+    if bytes < PAGE * blocks {
+        return Err(Refusal::BadShape);
+    }
+    Super::new(alloc, layout, files, slots)
+}
+
+/// Makes a volume in the layout of this number, with these files, as long as asked and all their bytes zero, and with
+/// so many record slots for each journal. `BadShape`, before any memory is taken and any device call is made, where no
+/// volume has them or the device is shorter than its blocks. `Device` where a device call failed. What lies past the
+/// volume stays, also then.
 ///
-/// It writes zeros over all home blocks, 32,768 bytes at a time, closes each gate, syncs, writes the super block and
-/// syncs. A crash meanwhile leaves block 0 as it was, or any bytes in it and all the rest of the volume empty: home
-/// blocks of zeros, and closed gates. Where it is refused it makes no more device calls than where it is not.
+/// It writes zeros over all home blocks, 32,768 bytes at a time, then the lengths block where the layout has one,
+/// closes each gate, syncs, writes the super block and syncs. A crash meanwhile leaves block 0 as it was, or any bytes
+/// in it and all the rest of the volume empty: the lengths that were asked for, home blocks of zeros, and closed gates.
+/// Where it is refused it makes no more device calls than where it is not.
 pub fn format_as<D: Device, A: Allocator + Copy>(
     alloc: A,
     device: &mut D,
@@ -142,12 +244,8 @@ pub fn format_as<D: Device, A: Allocator + Copy>(
     ensures unchanged { IfErr result (λ refusal. (refusal ≡ Refusal.Device) ⊎ (device.new ≡ device.old)) }
     ensures kept { IsAccounted D.Device device.old result device.new }
 {
-    let blocks = block_count_as(layout, files, slots)?;
-    if device.len() < PAGE * blocks {
-        return Err(Refusal::BadShape);
-    }
-    let table = Super::new(alloc, layout, files, slots)?;
-    write_table(device, &table)
+    let table = shape(alloc, device.len(), layout, files, slots)?;
+    write_table(device, &table, files)
 }
 
 /// Makes a volume in layout 1 with these files, each with its name and its length in bytes, all their bytes zero, and

@@ -5,10 +5,11 @@ ghost use Rattle.volume_codec.specs.Files.{File, AskedFile};
 ghost use Rattle.volume_codec.specs.Layout.{block_at};
 ghost use Rattle.volume_codec.specs.Super.{SuperValue, IsAsked};
 ghost use Rattle.volume_codec.specs.Recovery.{Recovers, RecoversTo, IsNotAVolume, IsDamaged};
-ghost use Rattle.recovery.specs.Volume.{files_of};
+ghost use Rattle.recovery.specs.Migration.{HasMigrated};
+ghost use Rattle.recovery.specs.Volume.{VolumeState, files_of};
 ghost use Rattle.recovery.specs.Format.{zero_files, HasFormatted};
 ghost use Rattle.recovery.specs.Opening.{HasOpened, Opens};
-ghost use Rattle.recovery.specs.Openings.{IsLater, RecoversAs, AllRecover, FindsAmong};
+ghost use Rattle.recovery.specs.Openings.{IsMade, IsLater, RecoversAs, AllRecover, FindsAmong};
 
 use device::Device;
 
@@ -64,5 +65,28 @@ pub fn opened_after_formatting<D: Device>(device: &D)
         → IsLater D.Device n new later → Opens D.Device later result after
         → MatchResult result
         (λ table. IsAsked layout files slots table × (files_of table (D.seen after) ≡ zero_files files))
+        (λ refusal. (refusal ≡ Refusal.Device) ⊎ (refusal ≡ Refusal.OutOfMemory)) }
+{}
+
+/// What formatting makes of an honest device is a volume that was made with the files that were asked for, all their
+/// bytes zero.
+pub fn made_by_formatting<D: Device>(device: &D)
+    ensures { (layout slots : ℕ) (files : List AskedFile) (old new : D) → D.is_honest new
+        → HasFormatted D.Device layout files slots old new → IsMade D.Device (zero_files files) new }
+{}
+
+/// What migrating a volume makes of an honest device is a volume that was made with that volume's files.
+pub fn made_by_migrating<D: Device, E: Device>(device: &D, other: &E)
+    ensures { (slots : ℕ) (volume : VolumeState D) (before after : E) → E.is_honest after
+        → HasMigrated D.Device E.Device slots volume before after
+        → IsMade E.Device (files_of volume.table (D.seen volume.device)) after }
+{}
+
+/// After a device was made a volume with some files, each later opening, to any depth, finds these files, or meets a
+/// device call that failed, or no memory.
+pub fn opened_after_making<D: Device>(device: &D)
+    ensures { (n : ℕ) (files : List File) (made later after : D) (result : Result SuperValue Refusal)
+        → IsMade D.Device files made → IsLater D.Device n made later → Opens D.Device later result after
+        → MatchResult result (λ table. files_of table (D.seen after) ≡ files)
         (λ refusal. (refusal ≡ Refusal.Device) ⊎ (refusal ≡ Refusal.OutOfMemory)) }
 {}

@@ -4,13 +4,15 @@
 mod calls;
 mod formatting;
 mod laws;
+mod migration;
 mod opening;
 mod volume;
 
 pub use formatting::{blocks, blocks_as, format, format_as};
 pub use laws::{
-    crashed_since_opening, kinds_of_bytes, opened_after_formatting, opened_again,
-    opened_as_recovered,
+    crashed_since_opening, kinds_of_bytes, made_by_formatting, made_by_migrating,
+    opened_after_formatting, opened_after_making, opened_again, opened_as_recovered,
 };
+pub use migration::{migrate, migrated_blocks};
 pub use opening::open;
 pub use volume::Volume;

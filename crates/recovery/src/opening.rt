@@ -1,18 +1,19 @@
 // A volume is opened, whatever a crash left of it: the batches of open journals are carried out first.
-ghost use Rattle.std.specs.Prelude.{◌≡◌, ◌↔◌, ◌+◌, ◌*◌, ◌≤◌, ◌<◌, List, [], ◌∷◌, ℕ, true, false, length, slice_index_or, IfOk, IfErr, OnOk};
+ghost use Rattle.std.specs.Prelude.{◌≡◌, ◌↔◌, ◌+◌, ◌*◌, ◌≤◌, ◌<◌, List, [], ◌∷◌, ℕ, true, false, length, slice_index, slice_index_or, IsTrue, IfOk, IfErr, OnOk};
 ghost use Rattle.std.specs.List.{AllByRecursion};
 ghost use Rattle.device.specs.Device.{Only};
-ghost use Rattle.volume_codec.specs.Layout.{IsGeometry, journals_of, descriptor_block, block_at};
+ghost use Rattle.volume_codec.specs.Layout.{IsGeometry, journals_of, lengths_blocks, descriptor_block, first_home, block_at};
 ghost use Rattle.volume_codec.specs.Super.{IsSuper, Fits, block_count, geometry_of, capacities_in};
 ghost use Rattle.volume_codec.specs.Descriptor.{IsDescribed, IsDescriptor};
-ghost use Rattle.volume_codec.specs.Recovery.{AreFalling, AreOpen, IsOpen, IsVolume};
+ghost use Rattle.volume_codec.specs.Lengths.{AreLengths, IsLengths};
+ghost use Rattle.volume_codec.specs.Recovery.{AreFalling, AreOpen, IsOpen, IsVolume, standing_block};
 ghost use Rattle.journal.specs.Finished.{Finishes};
 ghost use Rattle.journal.specs.WriteOut.{IsBatch};
 ghost use Rattle.recovery.specs.Counts.{Rises, RisesWithin, IsAccounted};
 ghost use Rattle.recovery.specs.Opening.{IsUnwritten, FindsWithin, RefusesOpening, Opens, opened_table, device_after};
 ghost use Rattle.recovery.specs.Volume.{IsSettled};
 ghost use Rattle.recovery.specs.inside.Carrying.{CarriesOut};
-ghost use Rattle.recovery.specs.inside.Reading.{batch_of, batches_of, AreRead, RefusesJournal, RefusesJournals, IsOrdered, HaveOneMark};
+ghost use Rattle.recovery.specs.inside.Reading.{batch_of, batches_of, AreRead, RefusesJournal, RefusesJournals, RefusesStored, AreFound, JudgesWithin, IsOrdered, HaveOneMark, table_found};
 
 use crate::Volume;
 use crate::calls::{read, read_block, sync};
@@ -20,7 +21,9 @@ use device::Device;
 use journal::finish;
 use page_entry::{PAGE, Refusal};
 use std::alloc::Allocator;
-use volume_codec::{Descriptor, Geometry, OPEN_GATE, Super, read_descriptor, read_super};
+use volume_codec::{
+    Descriptor, Geometry, OPEN_GATE, Super, capacities, read_descriptor, read_lengths, read_super,
+};
 
 /// A journal whose gate is open, counted from 0, and what its descriptor says.
 #[derive(Drop)]
@@ -217,7 +220,7 @@ fn read_open<D: Device, A: Allocator + Copy>(
 }
 
 /// The table of a device's volume, and its open journals, the newest first. What was written before is made sure of.
-/// Nothing is written, and all memory that an opening needs is taken.
+/// Nothing is written.
 fn judge<D: Device, A: Allocator + Copy>(
     alloc: A,
     device: &mut D,
@@ -234,13 +237,127 @@ fn judge<D: Device, A: Allocator + Copy>(
     ensures kept { IsAccounted D.Device device.old result device.new }
     ensures calls { IfOk result (λ judged. Rises (2 + journals_of judged.0.layout + length judged.1.items)
         (D.calls_made device.old) (D.calls_made device.new)) }
+    ensures within { IfOk result (λ judged. RisesWithin (2 + 2 * journals_of judged.0.layout)
+        (D.calls_made device.old) (D.calls_made device.new)) }
     ensures most { D.is_honest device.old
-        → FindsWithin (D.seen device.old) (D.calls_made device.old) (D.calls_made device.new) }
+        → JudgesWithin (D.seen device.old) (D.calls_made device.old) (D.calls_made device.new) }
 {
     let table = read_table(alloc, device)?;
     sync(device)?;
     let found = read_open(alloc, device, &table.geometry())?;
     Ok((table, found))
+}
+
+/// Whether the first record of an open journal is for this home block.
+fn begins_with<A: Allocator + Copy>(journal: &OpenJournal<A>, home: u32) -> bool
+    requires { 0 < length journal.now.descriptor.homes }
+    ensures { IsTrue result ↔ slice_index journal.now.descriptor.homes 0 ≡ home }
+{
+    journal.descriptor.homes()[0] == home
+}
+
+/// The block that has the recovered bytes of the first home block, where these journals are open, the newest first. A
+/// record for that block is the first of its journal, as records are in the order of their home blocks.
+fn standing_first<A: Allocator + Copy>(geometry: &Geometry, found: &[OpenJournal<A>]) -> u32
+    requires { AllByRecursion (IsBatch geometry.now) (batches_of found.now) }
+    ensures value { result ≡ standing_block geometry.now.slots (batches_of found.now)
+        (first_home geometry.now.layout geometry.now.slots) }
+    ensures within { result < geometry.now.blocks }
+{
+    let home = geometry.first_home();
+    for newest in found {
+        if begins_with(newest, home) {
+            return geometry.record_block(newest.journal, 0);
+        }
+    }
+    home
+}
+
+/// The lengths that this block of a device says. `Damaged` where it breaks the grammar.
+fn read_lengths_at<D: Device, A: Allocator + Copy>(
+    alloc: A,
+    device: &mut D,
+    table: &Super<A>,
+    at: u32,
+) -> Result<Vec<u64, A>, Refusal>
+    requires { 4096 * at + 4096 ≤ length (D.seen device.old) }
+    ensures said { D.is_honest device.old → IfOk result
+        (λ lengths. IsLengths table.now lengths.items (block_at (D.seen device.old) at)) }
+    ensures are { IfOk result (λ lengths. AreLengths table.now lengths.items) }
+    ensures refused { D.is_honest device.old → IfErr result
+        (RefusesStored table.now (block_at (D.seen device.old) at)) }
+    ensures unwritten { D.is_honest device.old → IsUnwritten D.Device device.old device.new }
+    ensures kept { IsAccounted D.Device device.old result device.new }
+    ensures calls { Rises 1 (D.calls_made device.old) (D.calls_made device.new) }
+{
+    let block = read_block(device, at)?;
+    read_lengths(alloc, table, &block)
+}
+
+/// The lengths of the files, each in bytes, as the volume recovers to, where these journals are open, the newest first.
+/// `Damaged` where a block has them and breaks the grammar.
+fn find_lengths<D: Device, A: Allocator + Copy>(
+    alloc: A,
+    device: &mut D,
+    table: &Super<A>,
+    found: &[OpenJournal<A>],
+) -> Result<Vec<u64, A>, Refusal>
+    requires long { 4096 * block_count table.now ≤ length (D.seen device.old) }
+    requires carry { AllByRecursion (IsBatch (geometry_of table.now)) (batches_of found.now) }
+    ensures lengths { D.is_honest device.old
+        → IfOk result (λ lengths. AreFound table.now (batches_of found.now) (D.seen device.old) lengths.items) }
+    ensures are { IfOk result (λ lengths. AreLengths table.now lengths.items) }
+    ensures fixed { IfOk result (λ lengths.
+        lengths_blocks table.now.layout ≡ 0 → lengths.items ≡ capacities_in table.now) }
+    ensures refused { D.is_honest device.old → IsVolume table.now (batches_of found.now) (D.seen device.old)
+        → IfErr result (RefusesOpening (D.seen device.old)) }
+    ensures unwritten { D.is_honest device.old → IsUnwritten D.Device device.old device.new }
+    ensures kept { IsAccounted D.Device device.old result device.new }
+    ensures calls { OnOk result
+        (Rises (lengths_blocks table.now.layout) (D.calls_made device.old) (D.calls_made device.new)) }
+    ensures most { RisesWithin (lengths_blocks table.now.layout) (D.calls_made device.old) (D.calls_made device.new) }
+{
+    let geometry = table.geometry();
+    if geometry.layout().lengths_blocks() == 0 {
+        let Ok(lengths) = capacities(alloc, table) else {
+            return Err(Refusal::OutOfMemory);
+        };
+        return Ok(lengths);
+    }
+    let lengths = read_lengths_at(alloc, device, table, standing_first(&geometry, found))?;
+    Ok(lengths)
+}
+
+/// The table of a device's volume, its open journals, the newest first, and the lengths of its files. What was written
+/// before is made sure of. Nothing is written, and all memory that an opening needs is taken.
+fn judge_all<D: Device, A: Allocator + Copy>(
+    alloc: A,
+    device: &mut D,
+) -> Result<(Super<A>, Vec<OpenJournal<A>, A>, Vec<u64, A>), Refusal>
+    ensures volume { D.is_honest device.old
+        → IfOk result (λ judged. IsVolume judged.0 (batches_of judged.1.items) (D.seen device.old)) }
+    ensures lengths { D.is_honest device.old → IfOk result
+        (λ judged. AreFound judged.0 (batches_of judged.1.items) (D.seen device.old) judged.2.items) }
+    ensures are { IfOk result (λ judged. AreLengths judged.0 judged.2.items) }
+    ensures fixed { IfOk result (λ judged.
+        lengths_blocks judged.0.layout ≡ 0 → judged.2.items ≡ capacities_in judged.0) }
+    ensures synced { D.is_honest device.old → OnOk result (Only (D.may_leave device.new) (D.seen device.new)) }
+    ensures fits { IfOk result (λ judged. Fits judged.0) }
+    ensures long { IfOk result (λ judged. 4096 * block_count judged.0 ≤ length (D.seen device.old)) }
+    ensures carry { IfOk result (λ judged.
+        AllByRecursion (IsBatch (geometry_of judged.0)) (batches_of judged.1.items)) }
+    ensures refused { D.is_honest device.old → IfErr result (RefusesOpening (D.seen device.old)) }
+    ensures unwritten { D.is_honest device.old → IsUnwritten D.Device device.old device.new }
+    ensures kept { IsAccounted D.Device device.old result device.new }
+    ensures calls { IfOk result (λ judged.
+        Rises (2 + journals_of judged.0.layout + lengths_blocks judged.0.layout + length judged.1.items)
+        (D.calls_made device.old) (D.calls_made device.new)) }
+    ensures most { D.is_honest device.old
+        → FindsWithin (D.seen device.old) (D.calls_made device.old) (D.calls_made device.new) }
+{
+    let (table, found) = judge(alloc, device)?;
+    let lengths = find_lengths(alloc, device, &table, &found)?;
+    Ok((table, found, lengths))
 }
 
 /// Finishes the batch of an open journal, the oldest one: its records are written to their home blocks, which are
@@ -285,27 +402,32 @@ fn carry_out_all<D: Device, A: Allocator + Copy>(
     Ok(())
 }
 
-/// Makes a device ready, and gives its table: the rules of `open`.
-fn recover<D: Device, A: Allocator + Copy>(alloc: A, device: &mut D) -> Result<Super<A>, Refusal>
-    ensures opens { Opens D.Device device.old result device.new }
-    ensures settled { IfOk result (λ table.
-        IsSettled D.Device (record { table = table; lengths = capacities_in table; device = device.new })) }
+/// Makes a device ready, and gives its table and the lengths of its files: the rules of `open`.
+fn recover<D: Device, A: Allocator + Copy>(
+    alloc: A,
+    device: &mut D,
+) -> Result<(Super<A>, Vec<u64, A>), Refusal>
+    ensures opens { Opens D.Device device.old (table_found result) device.new }
+    ensures settled { IfOk result (λ found.
+        IsSettled D.Device (record { table = found.0; lengths = found.1.items; device = device.new })) }
 {
-    let (table, found) = judge(alloc, device)?;
+    let (table, found, lengths) = judge_all(alloc, device)?;
     carry_out_all(device, &table.geometry(), found)?;
-    Ok(table)
+    Ok((table, lengths))
 }
 
 /// Opens the volume of a device. The device's length and its block 0 are judged; what was written before is made sure
-/// of; the gate of each journal is read, and the descriptors of the open ones are judged. Then each open journal, the
-/// one with the lower mark first, is carried out: its records are written to their home blocks and synced, its gate
-/// is closed and synced. `NotAVolume` where the device is shorter than a block or begins with no layout's magic;
-/// `Damaged` where its super block or the descriptor of an open journal breaks the grammar, two open journals have
-/// one mark, or the device is shorter than its volume; nothing is written then. `Device` where a device call failed.
+/// of; the gate of each journal is read, and the descriptors of the open ones are judged. Where the layout has a lengths
+/// block, the block that it recovers to is judged: the newest open journal's record of it, else the block itself. Then
+/// each open journal, the one with the lower mark first, is carried out: its records are written to their home blocks
+/// and synced, its gate is closed and synced. `NotAVolume` where the device is shorter than a block or begins with no
+/// layout's magic; `Damaged` where its super block, the descriptor of an open journal or the lengths break the grammar,
+/// two open journals have one mark, or the device is shorter than its volume; nothing is written then. `Device` where a
+/// device call failed.
 /// `OutOfMemory` may come in the place of these, and nothing is written then either. An `Err` hands the device back.
-/// With no open journal it makes 3 device calls in layout 1 and 4 in layout 2, and 2k + 4 more for each open journal
-/// of k records. Where it is refused it makes no more than that; one where block 0 holds no table, and where nothing
-/// is written 4 in layout 1 and 6 in layout 2.
+/// With no open journal it makes 3 device calls in layout 1, 4 in layout 2 and 5 in layout 3, and 2k + 4 more for each
+/// open journal of k records. Where it is refused it makes no more than that; one where block 0 holds no table, and where
+/// nothing is written 4 in layout 1, 6 in layout 2 and 7 in layout 3.
 pub fn open<D: Device, A: Allocator + Copy>(
     alloc: A,
     mut device: D,
@@ -314,7 +436,7 @@ pub fn open<D: Device, A: Allocator + Copy>(
     ensures settled { IfOk result (λ volume. IsSettled D.Device volume) }
 {
     match recover(alloc, &mut device) {
-        Ok(table) => Ok(Volume::new(table, device)),
+        Ok((table, lengths)) => Ok(Volume::new(table, lengths, device)),
         Err(refusal) => Err((refusal, device)),
     }
 }

@@ -17,29 +17,32 @@ use volume_codec::{Layout, Super};
 #[derive(Drop)]
 pub struct Volume<D: Device, A: Allocator + Copy> {
     table: Super<A>,
+    lengths: Vec<u64, A>,
     device: D,
 }
 
 impl<D: Device, A: Allocator + Copy> Model for Volume<D, A> {
-    ghost use Rattle.volume_codec.specs.Super.{capacities_in};
     ghost use Rattle.recovery.specs.Volume.{VolumeState, IsSettled};
 
     ghost Value = { VolumeState D };
 
-    // In these layouts a file is as long as its capacity.
-    ghost view = { λ v. record { table = v.table; lengths = capacities_in v.table; device = v.device } };
+    ghost view = { λ v. record { table = v.table; lengths = v.lengths.items; device = v.device } };
 
     ghost invariant = { λ v.
-        IsSettled D.Device (record { table = v.table; lengths = capacities_in v.table; device = v.device }) };
+        IsSettled D.Device (record { table = v.table; lengths = v.lengths.items; device = v.device }) };
 }
 
 impl<D: Device, A: Allocator + Copy> Volume<D, A> {
-    /// The volume of a device that was made ready.
-    pub(crate) fn new(table: Super<A>, device: D) -> Self
-        requires { IsSettled D.Device (record { table = table; lengths = capacities_in table; device = device }) }
-        ensures { result ≡ record { table = table; lengths = capacities_in table; device = device } }
+    /// The volume of a device that was made ready, with the length of each file in bytes.
+    pub(crate) fn new(table: Super<A>, lengths: Vec<u64, A>, device: D) -> Self
+        requires { IsSettled D.Device (record { table = table; lengths = lengths.items; device = device }) }
+        ensures { result ≡ record { table = table; lengths = lengths.items; device = device } }
     {
-        Volume { table, device }
+        Volume {
+            table,
+            lengths,
+            device,
+        }
     }
 
     /// The volume's layout.
@@ -70,9 +73,15 @@ impl<D: Device, A: Allocator + Copy> Volume<D, A> {
         requires { file < length self.now.table.files }
         ensures { slice_get self.now.lengths file ≡ Some result }
     {
-        // In these layouts a file is as long as its capacity.
-        let table = &self.table;
-        table.capacity(file)
+        self.lengths[file]
+    }
+
+    /// The length of each file in bytes, in the table's order.
+    pub fn lengths(&self) -> &[u64]
+        ensures lengths { result.now ≡ self.now.lengths }
+        ensures settled { IsSettled D.Device self.now }
+    {
+        &self.lengths
     }
 
     /// The number of bytes to which a file may grow, from 1.
@@ -123,8 +132,13 @@ impl<D: Device, A: Allocator + Copy> Volume<D, A> {
         ensures device { result ≡ self.device }
         ensures settled { IsSettled D.Device self }
     {
-        let Volume { table, device } = self;
+        let Volume {
+            table,
+            lengths,
+            device,
+        } = self;
         drop(table);
+        drop(lengths);
         device
     }
 
@@ -134,7 +148,12 @@ impl<D: Device, A: Allocator + Copy> Volume<D, A> {
         ensures device { result.1 ≡ self.device }
         ensures settled { IsSettled D.Device self }
     {
-        let Volume { table, device } = self;
+        let Volume {
+            table,
+            lengths,
+            device,
+        } = self;
+        drop(lengths);
         (table, device)
     }
 }

@@ -1,11 +1,15 @@
 // The bytes of a small volume in each layout, and the limits. Which blocks are refused is in the runs as text.
-use crate::sample::{FILES, SPECS, many_files, put, put_super_one, put_super_two};
+use crate::sample::{
+    FILES, GROWING, SPECS, many_files, put, put_lengths, put_super_one, put_super_three,
+    put_super_two,
+};
 use page_entry::Refusal;
 use std::alloc::Global;
 use std::process::Abort;
 use volume_codec::{
-    FileSpec, Geometry, Layout, Super, block_count_as, block_count_of, read_descriptor, read_super,
-    write_descriptor, write_super, write_super_as,
+    FileSpec, Geometry, Layout, Super, block_count_as, block_count_of, capacities, read_descriptor,
+    read_lengths, read_super, write_descriptor, write_lengths, write_lengths_of, write_super,
+    write_super_as,
 };
 
 // The sample's super block in layout 1.
@@ -19,6 +23,13 @@ fn sample_one() -> [u8; 4096] {
 fn sample_two() -> [u8; 4096] {
     let mut block = [0; 4096];
     put_super_two(&mut block);
+    block
+}
+
+// The sample's super block in layout 3.
+fn sample_three() -> [u8; 4096] {
+    let mut block = [0; 4096];
+    put_super_three(&mut block);
     block
 }
 
@@ -164,6 +175,83 @@ fn layout_2_is_written_and_read(rt: HostRuntime) {
     assert!(rt; is_sample_two(&geometry_of(&rt, &block)));
 }
 
+// Whether the block of the two files' table in layout 3, where one of them may grow, is this one.
+fn is_written_three(alloc: Global, block: &[u8; 4096]) -> bool {
+    match write_super_as(alloc, 3, &GROWING, 4) {
+        Ok(written) => written == *block,
+        Err(_) => false,
+    }
+}
+
+fn is_sample_three(geometry: &Geometry) -> bool {
+    geometry.layout() == Layout::Three
+        && (geometry.journals(), geometry.slots()) == (2, 4)
+        && journal(geometry, 1, 3) == Some((7, 8, 12))
+        && (geometry.first_home(), geometry.first_file_home()) == (13, 14)
+        && (geometry.block_count(), geometry.max_frames()) == (18, 3)
+}
+
+#[test]
+fn layout_3_is_written_and_read(rt: HostRuntime) {
+    let block = sample_three();
+    assert!(rt; is_written_three(rt.alloc(), &block));
+    assert!(rt; counts(&rt, &block) == (Layout::Three, 2, 4, 18));
+    assert!(rt; has_file(&rt, &block, 0, ("a", 12_288, 3, 14)));
+    assert!(rt; has_file(&rt, &block, 1, ("b", 4096, 1, 17)));
+    assert!(rt; is_sample_three(&geometry_of(&rt, &block)));
+}
+
+// A block of the lengths 5,000 and 4,096.
+fn sample_lengths() -> [u8; 4096] {
+    let mut block = [0; 4096];
+    put_lengths(&mut block, 0);
+    block
+}
+
+// Whether a block says these lengths of the two files.
+fn has_lengths<R: Abort + AllocGlobal>(rt: &R, block: &[u8; 4096], wanted: &[u64]) -> bool {
+    match read_lengths(rt.alloc(), &table_of(rt, &sample_three()), block) {
+        Ok(lengths) => lengths.as_slice() == wanted,
+        Err(_) => false,
+    }
+}
+
+// Whether a block with one byte more at a place says no lengths.
+fn is_damaged<R: Abort + AllocGlobal>(rt: &R, at: usize, byte: u8) -> bool {
+    let mut block = sample_lengths();
+    put(&mut block, at, &[byte]);
+    match read_lengths(rt.alloc(), &table_of(rt, &sample_three()), &block) {
+        Ok(_) => false,
+        Err(refusal) => refusal == Refusal::Damaged,
+    }
+}
+
+#[test]
+fn lengths_are_written_and_read(rt: HostRuntime) {
+    let block = sample_lengths();
+    assert!(rt; write_lengths(&[5000, 4096]) == block);
+    assert!(rt; write_lengths_of(&GROWING) == block);
+    assert!(rt; has_lengths(&rt, &block, &[5000, 4096]));
+    assert!(rt; has_lengths(&rt, &[0; 4096], &[0, 0]));
+    // 12,680 and 2^63 + 5,000 are above the capacity of `a`, and 4,097 is above that of `b`; no byte may follow.
+    for (at, byte) in [(6, 0x31), (0, 0x80), (15, 1), (16, 1), (4095, 1)] {
+        assert!(rt; is_damaged(&rt, at, byte), "byte {at}");
+    }
+}
+
+// Whether these are the capacities of the two files where one may grow.
+fn are_capacities<R: Abort + AllocGlobal>(rt: &R, wanted: &[u64]) -> bool {
+    match capacities(rt.alloc(), &table_of(rt, &sample_three())) {
+        Ok(found) => found.as_slice() == wanted,
+        Err(_) => false,
+    }
+}
+
+#[test]
+fn capacities_are_listed(rt: HostRuntime) {
+    assert!(rt; are_capacities(&rt, &[12_288, 4096]));
+}
+
 // Whether a layout has this number, and is the one that has it, and the one of its magic.
 fn is_numbered(layout: Layout, number: u64) -> bool {
     Layout::from_number(number) == Some(layout)
@@ -175,7 +263,8 @@ fn is_numbered(layout: Layout, number: u64) -> bool {
 fn layouts_have_numbers(rt: HostRuntime) {
     assert!(rt; is_numbered(Layout::One, 1));
     assert!(rt; is_numbered(Layout::Two, 2));
-    for number in [0, 3, u64::MAX] {
+    assert!(rt; is_numbered(Layout::Three, 3));
+    for number in [0, 4, u64::MAX] {
         assert!(rt; Layout::from_number(number) == None);
     }
     assert!(rt; Layout::from_magic(*b"FAMSYNC5") == None);
@@ -188,7 +277,8 @@ fn tables_outside_the_rules(rt: HostRuntime) {
         (1, Ok(10)),
         (2, Ok(16)),
         (0, Err(Refusal::BadShape)),
-        (3, Err(Refusal::BadShape)),
+        (3, Ok(17)),
+        (4, Err(Refusal::BadShape)),
     ] {
         assert!(rt; block_count_as(layout, &SPECS, 4) == blocks);
     }
@@ -212,6 +302,23 @@ fn tables_outside_the_rules(rt: HostRuntime) {
     }];
     for layout in [1, 2] {
         assert!(rt; write_super_as(rt.alloc(), layout, &growing, 4) == Err(Refusal::BadShape));
+    }
+}
+
+// A file of this length and capacity.
+fn file_of(length: u64, capacity: u64) -> [FileSpec<'static>; 1] {
+    [FileSpec {
+        name: "a",
+        length,
+        capacity,
+    }]
+}
+
+#[test]
+fn tables_of_layout_3_outside_the_rules(rt: HostRuntime) {
+    assert!(rt; block_count_as(3, &file_of(0, 1), 2) == Ok(11));
+    for (length, capacity, slots) in [(0, 0, 4), (2, 1, 4), (1, 1, 0), (1, 1, 1), (1, 1, 1021)] {
+        assert!(rt; block_count_as(3, &file_of(length, capacity), slots) == Err(Refusal::BadShape));
     }
 }
 

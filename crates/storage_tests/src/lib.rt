@@ -7,6 +7,8 @@ mod codec;
 #[cfg(test)]
 mod disks;
 #[cfg(test)]
+mod migrations;
+#[cfg(test)]
 mod sample;
 #[cfg(test)]
 mod volumes;

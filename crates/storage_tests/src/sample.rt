@@ -21,11 +21,28 @@ pub(crate) const SPECS: [FileSpec; 2] = [
     },
 ];
 
+/// The same files in layout 3, where `a` may grow to 12,288 bytes.
+pub(crate) const GROWING: [FileSpec; 2] = [
+    FileSpec {
+        name: "a",
+        length: 5000,
+        capacity: 12_288,
+    },
+    FileSpec {
+        name: "b",
+        length: 4096,
+        capacity: 4096,
+    },
+];
+
 /// The volume has 10 blocks in layout 1, and 16 in layout 2.
 pub(crate) const LENGTH_ONE: usize = 40_960;
 
 /// How many bytes it has in layout 2.
 pub(crate) const LENGTH_TWO: usize = 65_536;
+
+/// How many bytes it has in layout 3, where `a` may grow: 18 blocks.
+pub(crate) const LENGTH_THREE: usize = 73_728;
 
 /// Writes bytes into a block or an image, with the rest left as it was.
 pub(crate) fn put(image: &mut [u8], at: usize, bytes: &[u8]) {
@@ -36,7 +53,7 @@ pub(crate) fn put(image: &mut [u8], at: usize, bytes: &[u8]) {
     }
 }
 
-// What both layouts have of the super block of the two files and 4 slots, without blocks and first home blocks.
+// What layouts 1 and 2 have of the super block of the two files and 4 slots, without blocks and first home blocks.
 const TABLE: [(usize, &[u8]); 5] = [
     (8, b"\0\0\0\x02\0\0\0\x04"),
     (32, b"a"),
@@ -64,6 +81,18 @@ pub(crate) fn put_super_one(image: &mut [u8]) {
 /// Writes the volume's super block in layout 2: homes 13 and 14, and 15.
 pub(crate) fn put_super_two(image: &mut [u8]) {
     put_super(image, b"FAMSYNC2", 16, 13, 15);
+}
+
+/// Writes the volume's super block in layout 3: the lengths in block 13, homes 14 to 16, and 17.
+pub(crate) fn put_super_three(image: &mut [u8]) {
+    put_super(image, b"FAMSYNC3", 18, 14, 17);
+    put(image, 64, b"\0\0\0\0\0\0\x30\0");
+    put(image, 79, &[3]);
+}
+
+/// Writes the lengths 5,000 and 4,096 as a lengths block has them.
+pub(crate) fn put_lengths(image: &mut [u8], at: usize) {
+    put(image, at, b"\0\0\0\0\0\0\x13\x88\0\0\0\0\0\0\x10\0");
 }
 
 // Names of one character each.

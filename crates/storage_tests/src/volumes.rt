@@ -3,11 +3,12 @@
 ghost use Rattle.std.specs.Prelude.{◌≡◌, length};
 
 use crate::sample::{
-    FILES, LENGTH_ONE, LENGTH_TWO, SPECS, put, put_super_one, put_super_two, volume_of,
+    FILES, GROWING, LENGTH_ONE, LENGTH_THREE, LENGTH_TWO, SPECS, put, put_lengths, put_super_one,
+    put_super_three, put_super_two, volume_of,
 };
 use device::{Device, MemDisk};
 use page_entry::Refusal;
-use recovery::{Volume, blocks, blocks_as, format, format_as};
+use recovery::{Volume, blocks, blocks_as, format, format_as, open};
 use std::alloc::Global;
 use std::process::Abort;
 use volume_codec::{FileSpec, Layout};
@@ -83,7 +84,8 @@ fn blocks_are_counted(rt: HostRuntime) {
         (1, Ok(10)),
         (2, Ok(16)),
         (0, Err(Refusal::BadShape)),
-        (3, Err(Refusal::BadShape)),
+        (3, Ok(17)),
+        (4, Err(Refusal::BadShape)),
     ] {
         assert!(rt; blocks_as(layout, &SPECS, 4) == count, "layout {layout}");
     }
@@ -130,7 +132,8 @@ fn refuses_shapes(alloc: Global, disk: &mut Disk) -> bool {
     let refused = Err(Refusal::BadShape);
     format_as(alloc, disk, 0, &SPECS, 4) == refused
         && format_as(alloc, disk, 2, &SPECS, 4) == refused
-        && format_as(alloc, disk, 3, &SPECS, 4) == refused
+        && format_as(alloc, disk, 4, &SPECS, 4) == refused
+        && format_as(alloc, disk, 3, &growing, 1) == refused
         && format_as(alloc, disk, 2, &growing, 1) == refused
 }
 
@@ -175,4 +178,176 @@ fn a_volume_tells_its_files(rt: HostRuntime) {
     assert!(rt; has_file(&rt, &image, 0, ("a", 5000, 5000)));
     assert!(rt; has_file(&rt, &image, 1, ("b", 4096, 4096)));
     assert!(rt; parts_of(&rt, &image) == ([0, 7, 8, 0], [9], 6, true));
+}
+
+// A volume in layout 3, as it is formatted.
+fn image_three() -> [u8; LENGTH_THREE] {
+    let mut image = [0; LENGTH_THREE];
+    put_super_three(&mut image);
+    put_lengths(&mut image, 53_248);
+    image
+}
+
+// Whether a disk that isn't zeros becomes these bytes when it is formatted in layout 3, the records left.
+fn is_formatted_three<R: Abort + AllocGlobal>(rt: &R, wanted: &[u8]) -> bool {
+    let mut disk = zeros(rt, wanted.len() as u64);
+    format_as(rt.alloc(), &mut disk, 3, &GROWING, 4).is_ok()
+        && disk.bytes() == wanted
+        && disk.calls() == 7
+}
+
+#[test]
+fn a_disk_is_formatted_in_layout_3(rt: HostRuntime) {
+    assert!(rt; blocks_as(3, &GROWING, 4) == Ok(18));
+    assert!(rt; is_formatted_three(&rt, &image_three()));
+}
+
+// What an opening of an image answers: the lengths of the two files and the device calls, or why it is refused, and that
+// the image is as it was.
+fn lengths_of<R: Abort + AllocGlobal>(rt: &R, image: &[u8]) -> Result<(u64, u64, u64), Refusal> {
+    match open(rt.alloc(), disk_of(rt, image)) {
+        Ok(volume) => match volume.lengths() {
+            [first, second] => {
+                let lengths = (*first, *second);
+                Ok((lengths.0, lengths.1, volume.into_device().calls()))
+            }
+            _ => panic!(rt; "two files"),
+        },
+        Err((refusal, disk)) => {
+            assert!(rt; disk.bytes() == image, "a refused image is left as it was");
+            Err(refusal)
+        }
+    }
+}
+
+// An image of layout 3 with these bytes at a place.
+fn changed(at: usize, bytes: &[u8]) -> [u8; LENGTH_THREE] {
+    let mut image = image_three();
+    put(&mut image, at, bytes);
+    image
+}
+
+#[test]
+fn a_volume_in_layout_3_tells_its_files(rt: HostRuntime) {
+    let image = image_three();
+    assert!(rt; counts(&rt, &image) == (Layout::Three, 2, 18, 3));
+    assert!(rt; has_file(&rt, &image, 0, ("a", 5000, 12_288)));
+    assert!(rt; has_file(&rt, &image, 1, ("b", 4096, 4096)));
+    assert!(rt; lengths_of(&rt, &image) == Ok((5000, 4096, 5)));
+    // A length may be 0, and the capacity.
+    assert!(rt; lengths_of(&rt, &changed(53_248, &[0; 8])) == Ok((0, 4096, 5)));
+    assert!(rt; lengths_of(&rt, &changed(53_254, &[0x30, 0])) == Ok((12_288, 4096, 5)));
+}
+
+// One byte that makes an image of layout 3 a damaged one: the table's, those of a table's rules that layout 3 has alone,
+// and those of the lengths block, which is block 13.
+#[test]
+fn images_of_layout_3_are_refused(rt: HostRuntime) {
+    for (at, byte) in [
+        (7, b'1'),
+        (7, b'2'),
+        (11, 0),
+        (11, 65),
+        (15, 0),
+        (15, 1),
+        (15, 5),
+        (14, 4),
+        (19, 17),
+        (19, 19),
+        (20, 1),
+        (80, b'a'),
+        (34, b'a'),
+        (32, b' '),
+        (70, 0),
+        (70, 0x20),
+        (71, 1),
+        (75, 13),
+        (79, 2),
+        (4095, 1),
+        (53_248, 0x80),
+        (53_254, 0x31),
+        (53_263, 1),
+        (53_264, 1),
+        (57_343, 1),
+    ] {
+        let refused = lengths_of(&rt, &changed(at, &[byte]));
+        assert!(rt; refused == Err(Refusal::Damaged), "byte {at} is {byte}");
+    }
+    assert!(rt; lengths_of(&rt, &changed(7, b"5")) == Err(Refusal::NotAVolume));
+}
+
+// Opens a journal, counted from 0: its gate, and a descriptor of this mark and of one home block, this one. Its record is
+// the lengths block with this byte in place of the second last of the length of `a`.
+fn put_batch(image: &mut [u8], journal: usize, mark: u8, home: u8, byte: u8) {
+    if journal > 1 {
+        return;
+    }
+    let gate = 4096 * (1 + 6 * journal);
+    put(image, gate, &[0xA7]);
+    put(image, gate + 4096 + 7, &[mark]);
+    put(image, gate + 4096 + 11, &[1]);
+    put(image, gate + 4096 + 19, &[home]);
+    put_lengths(image, gate + 8192);
+    put(image, gate + 8192 + 6, &[byte]);
+}
+
+// The lengths block of an image that has this byte there at home, and in the records of journals A and B, each with its
+// mark; a mark of 0 leaves the journal closed.
+fn standing<R: Abort + AllocGlobal>(
+    rt: &R,
+    home: u8,
+    first: (u8, u8),
+    second: (u8, u8),
+) -> Result<(u64, u64, u64), Refusal> {
+    let mut image = changed(53_254, &[home]);
+    for (journal, (mark, byte)) in [first, second].into_iter().enumerate() {
+        if mark > 0 {
+            put_batch(&mut image, journal, mark, 13, byte);
+        }
+    }
+    lengths_of(rt, &image)
+}
+
+// 0x31 makes the length 12,680, above the capacity; 0x20 and 0x10 make it 8,328 and 4,232.
+#[test]
+fn the_lengths_that_stand_are_judged(rt: HostRuntime) {
+    let damaged = Err(Refusal::Damaged);
+    assert!(rt; standing(&rt, 0x31, (0, 0), (0, 0)) == damaged);
+    assert!(rt; standing(&rt, 0x31, (1, 0x20), (0, 0)) == Ok((8328, 4096, 11)));
+    assert!(rt; standing(&rt, 0x10, (1, 0x31), (0, 0)) == damaged);
+    assert!(rt; standing(&rt, 0x31, (2, 0x20), (1, 0x31)) == Ok((8328, 4096, 17)));
+    assert!(rt; standing(&rt, 0x31, (1, 0x31), (2, 0x20)) == Ok((8328, 4096, 17)));
+    assert!(rt; standing(&rt, 0x10, (2, 0x31), (1, 0x20)) == damaged);
+    assert!(rt; standing(&rt, 0x10, (1, 0x20), (2, 0x31)) == damaged);
+    assert!(rt; standing(&rt, 0x10, (1, 0x20), (1, 0x20)) == damaged);
+}
+
+// An image of layout 3 with a batch of mark 1 in journal A for this home block.
+fn with_batch(mark: u8, home: u8) -> [u8; LENGTH_THREE] {
+    let mut image = image_three();
+    put_batch(&mut image, 0, mark, home, 0x20);
+    image
+}
+
+#[test]
+fn home_blocks_of_layout_3(rt: HostRuntime) {
+    // A record of a file's home block leaves the lengths.
+    assert!(rt; lengths_of(&rt, &with_batch(1, 14)) == Ok((5000, 4096, 11)));
+    assert!(rt; lengths_of(&rt, &with_batch(1, 17)) == Ok((5000, 4096, 11)));
+    for (mark, home) in [(1, 12), (1, 18), (0, 13)] {
+        assert!(rt; lengths_of(&rt, &with_batch(mark, home)) == Err(Refusal::Damaged));
+    }
+}
+
+#[test]
+fn a_cut_image_of_layout_3_is_refused(rt: HostRuntime) {
+    let image = image_three();
+    for len in [0, 1, 4095] {
+        let part = image.get(..len).expect(&rt, "a part");
+        assert!(rt; lengths_of(&rt, part) == Err(Refusal::NotAVolume));
+    }
+    for len in [4096, 4097, 53_248, 57_344, 73_727] {
+        let part = image.get(..len).expect(&rt, "a part");
+        assert!(rt; lengths_of(&rt, part) == Err(Refusal::Damaged));
+    }
 }

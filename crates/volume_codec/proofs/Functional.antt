@@ -17,7 +17,7 @@ use Rattle.volume_codec.proofs.Layouts.{magic_of-injective, length-magic_of}
 use Rattle.volume_codec.proofs.Padding.{length-zeros, length-padded, drop-past}
 use Rattle.volume_codec.proofs.ReadingLemmas.{length-numbers_in}
 use Rattle.volume_codec.proofs.Spelling.{length-number_text, length-entry_text}
-use Rattle.volume_codec.proofs.TableLemmas.{table_asked}
+use Rattle.volume_codec.proofs.TableLemmas.{table_asked, full_have}
 
 -- a number is read back
 pub number_in-text : (n x : ℕ) (rest : List ℕ) → x < 256 ^ n → number_in n (number_text n x ++ rest) ≡ x
@@ -150,7 +150,7 @@ pub refuses_table : (layout : Layout) (number : ℕ) (block : List ℕ) (files :
     → ((v : SuperValue) → IsSuper v block → table_of layout files slots ≡ v) → ((v : SuperValue) → IsAsked number (asked_by files) slots v → ⊥) → (v : SuperValue) → IsSuper v block → ⊥
 refuses_table layout number block files slots numbered full same none v is =
     let P : SuperValue → Type 0 = λ w. Fits w in
-    none (table_of layout files slots) (table_asked layout number files slots numbered full (subst P (sym (same v is)) is.fits))
+    none (table_of layout files slots) (table_asked layout number files slots numbered (full_have layout files full) (subst P (sym (same v is)) is.fits))
 
 -- a block that isn't the spelling of the value that it reads as says no value
 pub refuses_spelling : (block spelled : List ℕ) (table : SuperValue) → ((v : SuperValue) → IsSuper v block → table ≡ v) → spelled ≡ super_text table → (spelled ≡ block → ⊥)

@@ -3,32 +3,43 @@ use Rattle.std.proofs.Common.{◌≡◌, ◌≢◌, inl, inr, ℕ, suc, ◌+◌,
 use Rattle.std.proofs.lemmas.Bool.{cases_lt}
 use Rattle.std.proofs.lemmas.Nat.{mul-le}
 use Rattle.volume_codec.specs.declared.layout.Layout.{Layout}
-use Rattle.volume_codec.specs.declared.layout.Layout.TheVariants.{One, Two}
+use Rattle.volume_codec.specs.declared.layout.Layout.TheVariants.{One, Two, Three}
 use Rattle.volume_codec.specs.Layout.{GeometryValue, IsGeometry, number_of, magic_of, journals_of, gate_block, descriptor_block, record_block, first_home, lengths_blocks, first_file_home}
 
 -- no two layouts have one number
 pub number_of-injective : (a b : Layout) → number_of a ≡ number_of b → a ≡ b
 number_of-injective One One h = refl
 number_of-injective One Two h = absurd (omega arith)
+number_of-injective One Three h = absurd (omega arith)
 number_of-injective Two One h = absurd (omega arith)
 number_of-injective Two Two h = refl
+number_of-injective Two Three h = absurd (omega arith)
+number_of-injective Three One h = absurd (omega arith)
+number_of-injective Three Two h = absurd (omega arith)
+number_of-injective Three Three h = refl
 
--- nor one magic
+-- nor one magic: its last byte is the digit of the number
+last_of_magic : (layout : Layout) → get_or (magic_of layout) 7 0 ≡ 48 + number_of layout
+last_of_magic One = refl
+last_of_magic Two = refl
+last_of_magic Three = refl
+
 pub magic_of-injective : (a b : Layout) → magic_of a ≡ magic_of b → a ≡ b
-magic_of-injective One One h = refl
-magic_of-injective One Two h = let e : ◌≡◌ {A = ℕ} 49 50 = ap (λ (bytes : List ℕ). get_or bytes 7 0) h in absurd (omega (arith, e))
-magic_of-injective Two One h = let e : ◌≡◌ {A = ℕ} 50 49 = ap (λ (bytes : List ℕ). get_or bytes 7 0) h in absurd (omega (arith, e))
-magic_of-injective Two Two h = refl
+magic_of-injective a b h =
+    let last = ap (λ (bytes : List ℕ). get_or bytes 7 0) h in
+    number_of-injective a b (omega (arith, last, last_of_magic a, last_of_magic b))
 
 -- a magic has eight bytes
 pub length-magic_of : (layout : Layout) → length (magic_of layout) ≡ 8
 length-magic_of One = refl
 length-magic_of Two = refl
+length-magic_of Three = refl
 
--- in these layouts no block holds lengths
-pub no_lengths_blocks : (layout : Layout) → lengths_blocks layout ≡ 0
-no_lengths_blocks One = refl
-no_lengths_blocks Two = refl
+-- a volume has one journal or two
+pub few_journals : (layout : Layout) → (0 < journals_of layout) × (journals_of layout ≤ 2)
+few_journals One = (omega arith, omega arith)
+few_journals Two = (omega arith, omega arith)
+few_journals Three = (omega arith, omega arith)
 
 -- the blocks of a journal end before those of the next
 next_journal : (j k w : ℕ) → j < k → j * w + w ≤ k * w

@@ -1,8 +1,9 @@
 -- What is read of what was spelled.
-use Rattle.std.proofs.Common.{◌≡◌, ℕ, zero, suc, ◌+◌, ◌-◌, ◌*◌, ◌<◌, ◌≤◌, Bool, true, not, List, [], ◌∷◌, ◌++◌, length, drop, Result, Ok, Err, bytes_eq, MatchResult, IsUtf8, IsAscii, refl, sym, ap, subst, ◌∙◌, arith, append_assoc}
+use Rattle.std.proofs.Common.{◌≡◌, ℕ, zero, suc, ◌+◌, ◌-◌, ◌*◌, ◌<◌, ◌≤◌, Bool, true, false, not, List, [], ◌∷◌, ◌++◌, length, drop, Result, Ok, Err, bytes_eq, MatchResult, IsUtf8, IsAscii, refl, sym, ap, subst, ◌∙◌, arith, append_assoc}
 use Rattle.std.specs.Borrow.{Bor}
 use Rattle.std.specs.Result.{result_unwrap_or}
 use Rattle.std.specs.List.{AllByRecursion}
+use Rattle.std.proofs.lemmas.Bool.{both_ways}
 use Rattle.std.proofs.lemmas.Slice.Eq.{bytes_eq-Decides}
 use Rattle.std.proofs.lemmas.Str.{IsUtf8-from_ascii}
 use Rattle.std.proofs.lemmas.List.{drop-drop, map_push, append-nil}
@@ -68,6 +69,13 @@ full_push (f ∷ files) file full is = (full.0, full_push files file full.1 is)
 
 pub other_by_ne : (r : Bool) (xs ys : List ℕ) → r ≡ not (bytes_eq xs ys) → r ≡ true → xs ≡ ys → ⊥
 other_by_ne r xs ys is t same = let e = (bytes_eq-Decides xs ys).1 same in let n = ap not e in cc
+
+pub same_by_ne : (r : Bool) (xs ys : List ℕ) → r ≡ not (bytes_eq xs ys) → r ≡ false → xs ≡ ys
+same_by_ne r xs ys is f = (bytes_eq-Decides xs ys).0 (by (bytes_eq xs ys) (sym is ∙ f))
+  where
+    by : (b : Bool) → not b ≡ false → b ≡ true
+    by true e = refl
+    by false e = absurd (both_ways true e refl)
 
 -- the next of the numbers
 pub numbers_in-more : (size count i from : ℕ) (bytes : List ℕ) → i < count

@@ -7,8 +7,8 @@ use Rattle.volume_codec.specs.declared.file_spec.FileSpec.{FileSpec}
 use Rattle.volume_codec.specs.declared.layout.Layout.{Layout}
 use Rattle.volume_codec.specs.Files.{TableFile, AskedFile, asked_by}
 use Rattle.volume_codec.specs.Layout.{number_of, lengths_blocks}
-use Rattle.volume_codec.specs.Super.{SuperValue, IsName, IsTableFile, AreDistinct, Fits, IsAsked, block_count}
-use Rattle.volume_codec.specs.inside.Tables.{files_asked_for, names_of, table_of, AreFull}
+use Rattle.volume_codec.specs.Super.{SuperValue, IsName, IsTableFile, AreDistinct, Fits, IsLengthIn, IsAsked, block_count}
+use Rattle.volume_codec.specs.inside.Tables.{files_asked_for, names_of, table_of, AreFull, HaveLengths}
 use Rattle.volume_codec.proofs.Layouts.{number_of-injective}
 
 -- a fact of each image is a fact of each element
@@ -60,7 +60,7 @@ length-files_of files = length-map files (λ f. let r : TableFile = record { nam
 
 -- a table whose parts keep the rules
 pub table_fits : (layout : Layout) (files : List FileSpec) (slots : ℕ) → 0 < length files → length files ≤ 64
-    → All (λ f. IsName f.name.now × (0 < f.capacity) × (f.length ≡ f.capacity)) files
+    → All (λ f. IsName f.name.now × (0 < f.capacity) × IsLengthIn layout f.length f.capacity) files
     → AreDistinct (names_of files) → lengths_blocks layout < slots → slots ≤ 1020 → block_count (table_of layout files slots) < 2 ^ 32 → Fits (table_of layout files slots)
 table_fits layout files slots some few each distinct some_slots few_slots blocks =
     let n = length-files_of files in
@@ -74,15 +74,15 @@ table_fits layout files slots some few each distinct some_slots few_slots blocks
       few_blocks = blocks;
     }
 
-pub files_full : (files : List FileSpec) → All (λ f. IsName f.name.now × (0 < f.capacity) × (f.length ≡ f.capacity)) files → AreFull files
-files_full files each = recursion_from_All (λ f. f.length ≡ f.capacity) files (λ k d h. (each k d h).2)
+pub files_have : (layout : Layout) (files : List FileSpec) → All (λ f. IsName f.name.now × (0 < f.capacity) × IsLengthIn layout f.length f.capacity) files → HaveLengths layout files
+files_have layout files each = recursion_from_All (λ f. IsLengthIn layout f.length f.capacity) files (λ k d h. (each k d h).2)
 
 -- the parts of a table that keeps the rules
-pub files_fit : (layout : Layout) (files : List FileSpec) (slots : ℕ) → AreFull files → Fits (table_of layout files slots)
-    → All (λ f. IsName f.name.now × (0 < f.capacity) × (f.length ≡ f.capacity)) files
+pub files_fit : (layout : Layout) (files : List FileSpec) (slots : ℕ) → HaveLengths layout files → Fits (table_of layout files slots)
+    → All (λ f. IsName f.name.now × (0 < f.capacity) × IsLengthIn layout f.length f.capacity) files
 files_fit layout files slots full fits k d h =
     let each = All-from_recursion (λ f. IsTableFile (record { name = f.name.now; capacity = f.capacity })) files (each-from_map IsTableFile _ files fits.each) k d h in
-    (each.named, each.some, All-from_recursion (λ f. f.length ≡ f.capacity) files full k d h)
+    (each.named, each.some, All-from_recursion (λ f. IsLengthIn layout f.length f.capacity) files full k d h)
 
 pub names_fit : (layout : Layout) (files : List FileSpec) (slots : ℕ) → Fits (table_of layout files slots) → AreDistinct (names_of files)
 names_fit layout files slots fits = subst AreDistinct (names_of-files_of files) fits.distinct
@@ -92,18 +92,23 @@ files_asked : (files : List FileSpec) → files_asked_for files ≡ map (λ (f :
 files_asked [] = refl
 files_asked (f ∷ files) = ap (λ r. (let g : TableFile = record { name = f.name.now; capacity = f.capacity } in g) ∷ r) (files_asked files)
 
-full_asked : (files : List FileSpec) → AreFull files → AllByRecursion (λ (f : AskedFile). f.length ≡ f.capacity) (asked_by files)
-full_asked [] full = tt
-full_asked (f ∷ files) full = (full.0, full_asked files full.1)
+lengths_asked : (layout : Layout) (files : List FileSpec) → HaveLengths layout files → AllByRecursion (λ (f : AskedFile). IsLengthIn layout f.length f.capacity) (asked_by files)
+lengths_asked layout [] have = tt
+lengths_asked layout (f ∷ files) have = (have.0, lengths_asked layout files have.1)
 
-asked_full : (files : List FileSpec) → AllByRecursion (λ (f : AskedFile). f.length ≡ f.capacity) (asked_by files) → AreFull files
-asked_full [] full = tt
-asked_full (f ∷ files) full = (full.0, asked_full files full.1)
+asked_lengths : (layout : Layout) (files : List FileSpec) → AllByRecursion (λ (f : AskedFile). IsLengthIn layout f.length f.capacity) (asked_by files) → HaveLengths layout files
+asked_lengths layout [] have = tt
+asked_lengths layout (f ∷ files) have = (have.0, asked_lengths layout files have.1)
+
+-- files that are as long as their capacities have lengths in every layout
+pub full_have : (layout : Layout) (files : List FileSpec) → AreFull files → HaveLengths layout files
+full_have layout [] full = tt
+full_have layout (f ∷ files) full = ((omega (arith, full.0), λ none. full.0), full_have layout files full.1)
 
 -- a table that keeps the rules is asked for
-pub table_asked : (layout : Layout) (number : ℕ) (files : List FileSpec) (slots : ℕ) → number_of layout ≡ number → AreFull files → Fits (table_of layout files slots)
+pub table_asked : (layout : Layout) (number : ℕ) (files : List FileSpec) (slots : ℕ) → number_of layout ≡ number → HaveLengths layout files → Fits (table_of layout files slots)
     → IsAsked number (asked_by files) slots (table_of layout files slots)
-table_asked layout number files slots numbered full fits = record { layout_is = numbered; files_are = files_asked files; slots_are = refl; lengths = full_asked files full; fits = fits }
+table_asked layout number files slots numbered full fits = record { layout_is = numbered; files_are = files_asked files; slots_are = refl; lengths = lengths_asked layout files full; fits = fits }
 
 -- and no other
 pub asked_table : (layout : Layout) (number : ℕ) (files : List FileSpec) (slots : ℕ) (v : SuperValue) → number_of layout ≡ number → IsAsked number (asked_by files) slots v
@@ -116,10 +121,12 @@ asked_table layout number files slots v numbered asked =
 
 -- so it keeps the rules
 pub asked_fits : (layout : Layout) (number : ℕ) (files : List FileSpec) (slots : ℕ) (v : SuperValue) → number_of layout ≡ number → IsAsked number (asked_by files) slots v
-    → AreFull files × Fits (table_of layout files slots)
+    → HaveLengths layout files × Fits (table_of layout files slots)
 asked_fits layout number files slots v numbered asked =
     let P : SuperValue → Type 0 = λ w. Fits w in
-    (asked_full files asked.lengths, subst P (asked_table layout number files slots v numbered asked) asked.fits)
+    let Q : Layout → Type 0 = λ l. AllByRecursion (λ (f : AskedFile). IsLengthIn l f.length f.capacity) (asked_by files) in
+    let same = number_of-injective v.layout layout (asked.layout_is ∙ sym numbered) in
+    (asked_lengths layout files (subst Q same asked.lengths), subst P (asked_table layout number files slots v numbered asked) asked.fits)
 
 -- at most one table is asked for
 pub one_asked : (number : ℕ) (files : List AskedFile) (slots : ℕ) (v w : SuperValue) → IsAsked number files slots v → IsAsked number files slots w → v ≡ w

@@ -24,6 +24,10 @@ pub record AskedFile : Type 0 where
 abbrev pub asked_by : List FileSpec → List AskedFile
 asked_by files = map (λ f. record { name = f.name.now; length = f.length; capacity = f.capacity }) files
 
+-- the lengths that are asked for
+abbrev pub lengths_asked : List AskedFile → List ℕ
+lengths_asked files = map (λ f. f.length) files
+
 -- the files that a caller asks for by names and lengths: each may not grow
 abbrev pub asked_by_pairs : List (Bor (List ℕ) × ℕ) → List AskedFile
 asked_by_pairs files = map (λ f. record { name = f.0.now; length = f.1; capacity = f.1 }) files

@@ -2,22 +2,25 @@
 -- block. Each journal follows with a gate block, a descriptor block and its record slots, then come the home blocks.
 use Rattle.std.specs.Prelude.{ℕ, ◌+◌, ◌-◌, ◌*◌, ◌<◌, ◌≤◌, ◌^◌, List, codes, take, drop}
 use Rattle.volume_codec.specs.declared.layout.Layout.{Layout}
-use Rattle.volume_codec.specs.declared.layout.Layout.TheVariants.{One, Two}
+use Rattle.volume_codec.specs.declared.layout.Layout.TheVariants.{One, Two, Three}
 
 -- the number by which a layout is asked for
 abbrev pub number_of : Layout → ℕ
 number_of One = 1
 number_of Two = 2
+number_of Three = 3
 
 -- the eight bytes that its super blocks begin with
 abbrev pub magic_of : Layout → List ℕ
 magic_of One = codes "FAMSYNC1"
 magic_of Two = codes "FAMSYNC2"
+magic_of Three = codes "FAMSYNC3"
 
 -- how many journals it has, counted from 0
 abbrev pub journals_of : Layout → ℕ
 journals_of One = 1
 journals_of Two = 2
+journals_of Three = 2
 
 -- the gate block of journal j, where each journal has so many slots
 abbrev pub gate_block : ℕ → ℕ → ℕ
@@ -35,10 +38,11 @@ record_block slots j i = 3 + j * (2 + slots) + i
 abbrev pub first_home : Layout → ℕ → ℕ
 first_home layout slots = 1 + journals_of layout * (2 + slots)
 
--- how many home blocks, the first ones, hold the lengths of the files; in these layouts none does
+-- how many home blocks, the first ones, hold the lengths of the files: without one, a file is as long as its capacity
 abbrev pub lengths_blocks : Layout → ℕ
 lengths_blocks One = 0
 lengths_blocks Two = 0
+lengths_blocks Three = 1
 
 -- the first home block of the files
 abbrev pub first_file_home : Layout → ℕ → ℕ

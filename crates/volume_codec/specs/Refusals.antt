@@ -7,6 +7,7 @@ use Rattle.volume_codec.specs.Files.{AskedFile}
 use Rattle.volume_codec.specs.Layout.{GeometryValue, magic_of}
 use Rattle.volume_codec.specs.Super.{SuperValue, IsSuper, IsAsked}
 use Rattle.volume_codec.specs.Descriptor.{DescriptorValue, IsDescriptor}
+use Rattle.volume_codec.specs.Lengths.{IsLengths}
 
 -- What is asked for has a bad shape where no table is that. Memory is taken only for a table that there is.
 abbrev pub RefusesTable : ℕ → List AskedFile → ℕ → Refusal → Type 0
@@ -28,3 +29,9 @@ abbrev pub RefusesDescriptor : GeometryValue → List ℕ → Refusal → Type 0
 RefusesDescriptor g block Damaged = (d : DescriptorValue) → IsDescriptor g d block → ⊥
 RefusesDescriptor g block OutOfMemory = Unit {0}
 RefusesDescriptor g block _ = ⊥
+
+-- A block that says no lengths in a volume with this table is damaged. Memory may be refused for any block.
+abbrev pub RefusesLengths : SuperValue → List ℕ → Refusal → Type 0
+RefusesLengths v block Damaged = (lengths : List ℕ) → IsLengths v lengths block → ⊥
+RefusesLengths v block OutOfMemory = Unit {0}
+RefusesLengths v block _ = ⊥

@@ -97,11 +97,15 @@ pub record IsSuper (v : SuperValue) (block : List ℕ) : Type 0 where
   pub fits : Fits v
   pub spelled : block ≡ super_text v
 
+-- a file may have this length in a layout: it is at most the capacity, and the capacity itself where no block holds
+-- lengths
+abbrev pub IsLengthIn : Layout → ℕ → ℕ → Type 0
+IsLengthIn layout n capacity = (n ≤ capacity) × (lengths_blocks layout ≡ 0 → n ≡ capacity)
+
 -- the table that is asked for by the number of its layout, its files and its slots
 pub record IsAsked (layout : ℕ) (files : List AskedFile) (slots : ℕ) (v : SuperValue) : Type 0 where
   pub layout_is : number_of v.layout ≡ layout
   pub files_are : v.files ≡ map (λ f. record { name = f.name; capacity = f.capacity }) files
   pub slots_are : v.slots ≡ slots
-  -- in these layouts a file is as long as its capacity
-  pub lengths : AllByRecursion (λ f. f.length ≡ f.capacity) files
+  pub lengths : AllByRecursion (λ f. IsLengthIn v.layout f.length f.capacity) files
   pub fits : Fits v

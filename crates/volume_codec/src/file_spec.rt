@@ -5,7 +5,7 @@
 pub struct FileSpec<'a> {
     /// 1 to 32 printable ASCII characters, none of them a space.
     pub name: &'a str,
-    /// In bytes, from 1. In these layouts it is the capacity.
+    /// In bytes, up to the capacity; the capacity itself in a layout without a lengths block.
     pub length: u64,
     /// In bytes, from 1.
     pub capacity: u64,

@@ -1,9 +1,9 @@
 // What follows of the definitions alone.
 ghost use Rattle.std.specs.Prelude.{◌≡◌, ◌≢◌, ℕ, ◌+◌, ◌*◌, ◌/◌, ◌%◌, ◌<◌, ◌≤◌, List, ◌∷◌, length, take, drop, slice_index, slice_get, Some};
 ghost use Rattle.std.specs.List.{AllByRecursion};
-ghost use Rattle.volume_codec.specs.declared.layout.Layout.TheVariants.{One, Two};
+ghost use Rattle.volume_codec.specs.declared.layout.Layout.TheVariants.{One, Two, Three};
 ghost use Rattle.volume_codec.specs.Files.{File, TableFile};
-ghost use Rattle.volume_codec.specs.Layout.{GeometryValue, IsGeometry, IsHome, journals_of, gate_block, descriptor_block, record_block, first_home, block_at};
+ghost use Rattle.volume_codec.specs.Layout.{GeometryValue, IsGeometry, IsHome, journals_of, gate_block, descriptor_block, record_block, first_home, first_file_home, block_at};
 ghost use Rattle.volume_codec.specs.Super.{SuperValue, Fits, IsSuper, pages_of, first_home_of, block_count, geometry_of};
 ghost use Rattle.volume_codec.specs.Descriptor.{DescriptorValue, RiseWithin, IsDescriptor};
 ghost use Rattle.volume_codec.specs.Lengths.{IsLengths, HasLengths, lengths_in};
@@ -27,9 +27,10 @@ pub fn one_reading()
         → files ≡ others }
 {}
 
-/// Where layouts 1 and 2 have their parts. Journal 0 has its gate in block 1, its descriptor in block 2 and record i in
-/// block 3 + i. With J slots, journal 1 has its gate in block 3 + J, its descriptor in block 4 + J and record i in
-/// block 5 + J + i. Home blocks follow from 3 + J and from 5 + 2J on. In every volume the parts of its journals lie
+/// Where the layouts have their parts. Journal 0 has its gate in block 1, its descriptor in block 2 and record i in
+/// block 3 + i. With J slots, journal 1 of layouts 2 and 3 has its gate in block 3 + J, its descriptor in block 4 + J and
+/// record i in block 5 + J + i. Home blocks follow from 3 + J in layout 1 and from 5 + 2J in the others; in layout 3
+/// block 5 + 2J holds the lengths, and the home blocks of files follow from 6 + 2J. In every volume the parts of its journals lie
 /// before the home blocks, and apart.
 pub fn parts_of_layouts()
     ensures first_journal { (slots i : ℕ)
@@ -37,7 +38,10 @@ pub fn parts_of_layouts()
     ensures second_journal { (slots i : ℕ)
         → (gate_block slots 1 ≡ 3 + slots) × (descriptor_block slots 1 ≡ 4 + slots)
         × (record_block slots 1 i ≡ 5 + slots + i) }
-    ensures homes { (slots : ℕ) → (first_home One slots ≡ 3 + slots) × (first_home Two slots ≡ 5 + 2 * slots) }
+    ensures homes { (slots : ℕ) → (first_home One slots ≡ 3 + slots) × (first_home Two slots ≡ 5 + 2 * slots)
+        × (first_home Three slots ≡ 5 + 2 * slots) }
+    ensures file_homes { (slots : ℕ) → (first_file_home One slots ≡ 3 + slots)
+        × (first_file_home Two slots ≡ 5 + 2 * slots) × (first_file_home Three slots ≡ 6 + 2 * slots) }
     ensures in_order { (g : GeometryValue) (j i : ℕ) → j < journals_of g.layout → i < g.slots
         → (gate_block g.slots j < descriptor_block g.slots j) × (descriptor_block g.slots j < record_block g.slots j i)
         × (record_block g.slots j i < first_home g.layout g.slots) }

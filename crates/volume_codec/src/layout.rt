@@ -8,13 +8,16 @@ pub const OPEN_GATE: u8 = 0xA7;
 /// The byte that is written to close a gate.
 pub const CLOSED_GATE: u8 = 0;
 
-/// How a volume is laid out: which magic its super block begins with, and how many journals it has.
+/// How a volume is laid out: which magic its super block begins with, how many journals it has, and whether a block
+/// holds the lengths of its files.
 #[derive(Clone, Copy, PartialEq, Eq, Debug)]
 pub enum Layout {
     /// One journal.
     One,
     /// Two journals, so that a batch may be committed while the one before it is still applied.
     Two,
+    /// Two journals, and a block that holds the lengths of the files, so that a file may be shorter than its capacity.
+    Three,
 }
 
 impl Layout {
@@ -28,6 +31,7 @@ impl Layout {
         match number {
             1 => Some(Layout::One),
             2 => Some(Layout::Two),
+            3 => Some(Layout::Three),
             _ => None,
         }
     }
@@ -43,6 +47,9 @@ impl Layout {
         if magic == Layout::Two.magic() {
             return Some(Layout::Two);
         }
+        if magic == Layout::Three.magic() {
+            return Some(Layout::Three);
+        }
         None
     }
 
@@ -53,6 +60,7 @@ impl Layout {
         match self {
             Layout::One => 1,
             Layout::Two => 2,
+            Layout::Three => 3,
         }
     }
 
@@ -63,6 +71,7 @@ impl Layout {
         match self {
             Layout::One => *b"FAMSYNC1",
             Layout::Two => *b"FAMSYNC2",
+            Layout::Three => *b"FAMSYNC3",
         }
     }
 
@@ -73,6 +82,7 @@ impl Layout {
         match self {
             Layout::One => 1,
             Layout::Two => 2,
+            Layout::Three => 2,
         }
     }
 
@@ -84,6 +94,7 @@ impl Layout {
         match self {
             Layout::One => 0,
             Layout::Two => 0,
+            Layout::Three => 1,
         }
     }
 }

@@ -1,8 +1,8 @@
 // The rules of a volume's table: which files and how many record slots a volume may have.
 ghost use Rattle.std.specs.Prelude.{◌≡◌, ◌≢◌, ◌↔◌, ◌<◌, ◌≤◌, ◌^◌, IsTrue, IfOk, IfErr, All, ℕ, List, length, take};
 ghost use Rattle.volume_codec.specs.Files.{asked_by, asked_by_pairs};
-ghost use Rattle.volume_codec.specs.Super.{SuperValue, Fits, IsName, IsAsked, AreDistinct, pages_of as pages, total_pages, block_count};
-ghost use Rattle.volume_codec.specs.inside.Tables.{files_asked_for, names_of, table_of, AreFull};
+ghost use Rattle.volume_codec.specs.Super.{SuperValue, Fits, IsName, IsLengthIn, IsAsked, AreDistinct, pages_of as pages, total_pages, block_count};
+ghost use Rattle.volume_codec.specs.inside.Tables.{files_asked_for, names_of, table_of, HaveLengths};
 
 use crate::file_spec::FileSpec;
 use crate::geometry::first_file_home_block;
@@ -33,11 +33,27 @@ fn is_name(name: &str) -> bool
     !name.is_empty() && name.len() <= MAX_NAME && name.bytes().all(|b| b.is_ascii_graphic())
 }
 
-/// Whether each file has a name, room for at least one byte, and its capacity for its length.
-fn are_files(files: &[FileSpec]) -> bool
-    ensures { IsTrue result ↔ All (λ f. IsName f.name.now × (0 < f.capacity) × (f.length ≡ f.capacity)) files.now }
+/// Whether a file of this capacity may have this length in a layout.
+fn is_length_in(layout: Layout, length: u64, capacity: u64) -> bool
+    ensures { IsTrue result ↔ IsLengthIn layout length capacity }
 {
-    files.iter().all(|file| is_name(file.name) && file.capacity > 0 && file.length == file.capacity)
+    length == capacity || layout.lengths_blocks() > 0 && length < capacity
+}
+
+/// Whether a file may be asked for in a layout: it has a name, room for at least one byte, and a length.
+fn is_file(layout: Layout, file: &FileSpec) -> bool
+    ensures { IsTrue result
+        ↔ (IsName file.now.name.now × (0 < file.now.capacity) × IsLengthIn layout file.now.length file.now.capacity) }
+{
+    is_name(file.name) && file.capacity > 0 && is_length_in(layout, file.length, file.capacity)
+}
+
+/// Whether each of the files may be asked for in a layout.
+fn are_files(layout: Layout, files: &[FileSpec]) -> bool
+    ensures { IsTrue result
+        ↔ All (λ f. IsName f.name.now × (0 < f.capacity) × IsLengthIn layout f.length f.capacity) files.now }
+{
+    files.iter().all(|file| is_file(layout, file))
 }
 
 /// Whether none of the files has this name.
@@ -72,11 +88,11 @@ fn home_blocks(files: &[FileSpec]) -> u64
 
 /// The number of blocks of a volume in this layout, by the rules of `block_count_as`.
 pub(crate) fn count_blocks(layout: Layout, files: &[FileSpec], slots: u64) -> Result<u64, Refusal>
-    ensures full { IfOk result (λ _. AreFull files.now) }
+    ensures lengths { IfOk result (λ _. HaveLengths layout files.now) }
     ensures fits { IfOk result (λ _. Fits (table_of layout files.now slots)) }
     ensures count { IfOk result (λ blocks. blocks ≡ block_count (table_of layout files.now slots)) }
     ensures err { IfErr result (λ refusal. (refusal ≡ Refusal.BadShape)
-        × (AreFull files.now → Fits (table_of layout files.now slots) → ⊥)) }
+        × (HaveLengths layout files.now → Fits (table_of layout files.now slots) → ⊥)) }
 {
     if files.is_empty() || files.len() > MAX_FILES {
         return Err(Refusal::BadShape);
@@ -84,7 +100,7 @@ pub(crate) fn count_blocks(layout: Layout, files: &[FileSpec], slots: u64) -> Re
     if slots <= u64::from(layout.lengths_blocks()) || slots > MAX_SLOTS {
         return Err(Refusal::BadShape);
     }
-    if !are_files(files) || !are_distinct(files) {
+    if !are_files(layout, files) || !are_distinct(files) {
         return Err(Refusal::BadShape);
     }
     let blocks = u64::from(first_file_home_block(layout, slots as u32)) + home_blocks(files);
@@ -96,8 +112,9 @@ pub(crate) fn count_blocks(layout: Layout, files: &[FileSpec], slots: u64) -> Re
 
 /// The number of blocks of a volume in the layout of this number, with these files and with so many record slots for
 /// each journal. `BadShape` where no volume has them: a layout that there is, 1 to 64 files of distinct names, names of
-/// 1 to 32 bytes from 0x21 to 0x7E, capacities from 1 that are the lengths, 1 to 1,020 slots, and a block count of at
-/// most 2^32 - 1. Takes no memory.
+/// 1 to 32 bytes from 0x21 to 0x7E, capacities from 1, lengths up to the capacity (the capacity itself where the layout
+/// has no lengths block), slots for the lengths and a page at least and 1,020 at most, and a block count of at most
+/// 2^32 - 1. Takes no memory.
 pub fn block_count_as(layout: u64, files: &[FileSpec], slots: u64) -> Result<u64, Refusal>
     ensures ok { IfOk result (λ blocks. (v : SuperValue) × IsAsked layout (asked_by files.now) slots v
         × (blocks ≡ block_count v)) }

@@ -2,7 +2,7 @@
 use Rattle.machine.proofs.Names.{ℕ, ◌≡◌, ◌≢◌, ◌⊎◌, Bool, true, false, not, cond, List, [], Option, Some, None, is_some}
 use Rattle.machine.proofs.Names.{refl, sym, ap, subst, ⊎_elim, MatchBool, Torn, Ghosts, Did, did_nothing, Refusal}
 use Rattle.machine.proofs.Names.{Flushed, Work, WriteAt, CopyBlock, Sync, Nothing, worked, TornByWork, has_done}
-use Rattle.machine.proofs.Names.{WriteOutsValue, next_answer, outs_after, outs_record, is_running, ShootdownState}
+use Rattle.machine.proofs.Names.{WriteOutsValue, is_page_next, next_answer, outs_after, is_running, ShootdownState}
 use Rattle.machine.proofs.Names.{is_there, state_of, not_running, State, reason_against, after_record}
 use Rattle.machine.proofs.Names.{work_asked, FlushMade, Acts, has_failed, step_work, AnswersBy, reply_of_flush}
 use Rattle.machine.proofs.Names.{memory_after, checkpoint_after, released_memory, released_pages}
@@ -15,8 +15,8 @@ use Rattle.machine.specs.inside.Layers.{reply_to as reply_by}
 -- the state after a step that the journal answers so
 abbrev pub stepped : State → Flushed → State
 stepped s answer = record s {
-  hardware = record s.hardware { memory = memory_after answer (is_some (outs_record s.write_outs)) s.checkpoint s.hardware.memory };
-  checkpoint = checkpoint_after answer (is_some (outs_record s.write_outs)) s.checkpoint;
+  hardware = record s.hardware { memory = memory_after answer (is_page_next s) s.checkpoint s.hardware.memory };
+  checkpoint = checkpoint_after answer (is_page_next s) s.checkpoint;
   write_outs = outs_after s.write_outs answer;
 }
 
@@ -38,7 +38,7 @@ nothing_torn Nothing = refl
 
 module _ (honest : Type 0) (s : State) (disk disk' : List ℕ) (p : ℕ) (allowed : reason_against s p acts.Flush ≡ None) (some : s.write_outs.batches ≢ []) where
   made : (answer : Flushed) (new : State) → answer ≡ next_answer s.write_outs
-      → new ≡ record (cond (is_some (outs_record s.write_outs)) (after_record s) s) { write_outs = outs_after s.write_outs (next_answer s.write_outs) }
+      → new ≡ record (cond (is_page_next s) (after_record s) s) { write_outs = outs_after s.write_outs (next_answer s.write_outs) }
       → (d : List ℕ) → FlushMade s d p answer new (worked d (work_asked s))
   made answer new is done d = record { allowed = allowed; some = some; answered = sym is; done = done; disk_done = refl }
 
@@ -51,17 +51,17 @@ module _ (honest : Type 0) (s : State) (disk disk' : List ℕ) (p : ℕ) (allowe
       → AnswersBy honest (λ d d'. Acts s d p acts.Flush (reply_by (reply_of_flush answer)) (stepped s answer) d') disk disk'
   flushes_by flushed.Going answered whole seen =
       let is : flushed.Going ≡ next_answer s.write_outs = ⊎_elim (λ e. e) (λ e. absurd (cc)) answered in
-      let all = made flushed.Going (stepped s flushed.Going) is (with_record s (is_some (outs_record s.write_outs)) _ _ (ap (outs_after s.write_outs) is)) in
+      let all = made flushed.Going (stepped s flushed.Going) is (with_record s (is_page_next s) _ _ (ap (outs_after s.write_outs) is)) in
       record { some_disk = ([], worked [] (work_asked s), all []); own_disk = λ h. own flushed.Going (stepped s flushed.Going) all (seen h) }
   flushes_by (flushed.Committed mark) answered whole seen =
       let is : flushed.Committed mark ≡ next_answer s.write_outs = ⊎_elim (λ e. e) (λ e. absurd (cc)) answered in
       let new = stepped s (flushed.Committed mark) in
-      let all = made (flushed.Committed mark) new is (with_record s (is_some (outs_record s.write_outs)) _ _ (ap (outs_after s.write_outs) is)) in
+      let all = made (flushed.Committed mark) new is (with_record s (is_page_next s) _ _ (ap (outs_after s.write_outs) is)) in
       record { some_disk = ([], worked [] (work_asked s), all []); own_disk = λ h. own (flushed.Committed mark) new all (seen h) }
   flushes_by (flushed.Done mark) answered whole seen =
       let is : flushed.Done mark ≡ next_answer s.write_outs = ⊎_elim (λ e. e) (λ e. absurd (cc)) answered in
       let new = stepped s (flushed.Done mark) in
-      let all = made (flushed.Done mark) new is (with_record s (is_some (outs_record s.write_outs)) _ _ (ap (outs_after s.write_outs) is)) in
+      let all = made (flushed.Done mark) new is (with_record s (is_page_next s) _ _ (ap (outs_after s.write_outs) is)) in
       record { some_disk = ([], worked [] (work_asked s), all []); own_disk = λ h. own (flushed.Done mark) new all (seen h) }
   flushes_by flushed.Device answered whole seen = record {
     some_disk = ([], [], record { allowed = allowed; some = some; done = refl; disk_torn = nothing_torn (work_asked s) });

@@ -98,6 +98,7 @@ fresh_by_look s sound fits look =
         checkpoint = checkpoint i;
         write_outs = write_outs i;
         marks = look.marks i;
+        resized = look.resized i;
       };
     }
 
@@ -121,6 +122,7 @@ look_fresh table lengths shape some =
       checkpoint = ap fresh_checkpoint (sym (length-replicate shape.frames false));
       write_outs = refl;
       marks = refl;
+      resized = refl;
     }
 
 pub look_of_fresh : (s : State) → IsFresh s → IsShape s.table (shape_of s) × LooksFresh s

@@ -55,17 +55,17 @@ module _ (s : State) (sound : IsSound s) (noted : CheckpointState) (pages : List
         newest = newest_mark s sound;
       }
 
-  pub with_homes-batch : (mark : ℕ) → with_homes s.write_outs mark (map (home_of s.table) noted.frozen) ≡ with_batch s mark pages
+  pub with_homes-batch : (mark : ℕ) → with_homes s.write_outs mark (map (home_of s.table) noted.frozen) ≡ with_batch s mark (map (home_of s.table) pages)
   with_homes-batch mark = by s.write_outs.broken refl
     where
-      none : (owners : List FilePage) → s.write_outs.broken ≡ true → s.write_outs ≡ with_batch s mark owners
+      none : (homes : List ℕ) → s.write_outs.broken ≡ true → s.write_outs ≡ with_batch s mark homes
       none [] is = refl
-      none (owner ∷ owners) is = ap (λ b. cond b s.write_outs (begun s.write_outs mark (map (home_of s.table) (owner ∷ owners)))) (sym is)
+      none (home ∷ homes) is = ap (λ b. cond b s.write_outs (begun s.write_outs mark (home ∷ homes))) (sym is)
 
-      all : (owners : List FilePage) → s.write_outs.broken ≡ false → with_homes s.write_outs mark (map (home_of s.table) owners) ≡ with_batch s mark owners
+      all : (homes : List ℕ) → s.write_outs.broken ≡ false → with_homes s.write_outs mark homes ≡ with_batch s mark homes
       all [] is = refl
-      all (owner ∷ owners) is = ap (λ b. cond b s.write_outs (begun s.write_outs mark (map (home_of s.table) (owner ∷ owners)))) (sym is)
+      all (home ∷ homes) is = ap (λ b. cond b s.write_outs (begun s.write_outs mark (home ∷ homes))) (sym is)
 
-      by : (broken : Bool) → s.write_outs.broken ≡ broken → with_homes s.write_outs mark (map (home_of s.table) noted.frozen) ≡ with_batch s mark pages
-      by true is = ap (λ (owners : List FilePage). with_homes s.write_outs mark (map (home_of s.table) owners)) (frozen_if true is) ∙ none pages is
-      by false is = ap (λ (owners : List FilePage). with_homes s.write_outs mark (map (home_of s.table) owners)) (frozen_if false is) ∙ all pages is
+      by : (broken : Bool) → s.write_outs.broken ≡ broken → with_homes s.write_outs mark (map (home_of s.table) noted.frozen) ≡ with_batch s mark (map (home_of s.table) pages)
+      by true is = ap (λ (owners : List FilePage). with_homes s.write_outs mark (map (home_of s.table) owners)) (frozen_if true is) ∙ none (map (home_of s.table) pages) is
+      by false is = ap (λ (owners : List FilePage). with_homes s.write_outs mark (map (home_of s.table) owners)) (frozen_if false is) ∙ all (map (home_of s.table) pages) is

@@ -6,10 +6,9 @@ use Rattle.machine.proofs.Names.{padded, zeros-nil, Stage, Recording, Committing
 use Rattle.machine.proofs.Names.{work_at, WriteOut, next_stage, record_at, work_of, answer_of, WriteOutsValue}
 use Rattle.machine.proofs.Names.{has_uncommitted, outs_record, next_work, next_answer, is_in_memory, State, length_of}
 use Rattle.machine.proofs.Names.{IsInFile, IsSound, next_page, bytes_at_mark, HasSmallMark}
-use Rattle.journal.specs.WriteOut.{next_record as record_of}
 use Rattle.journal.specs.WriteOuts.{current}
+use Rattle.machine.proofs.Names.{is_page_next, cond-true, cond-false, cut_at_end, lengths_text}
 use Rattle.machine.specs.Rules.{next_record}
-use Rattle.machine.proofs.sound.Lists.{some_from}
 use Rattle.machine.proofs.sound.Frames.{held_in_memory}
 use Rattle.machine.proofs.sound.Records.{next_recorded, size_at_mark}
 
@@ -19,47 +18,30 @@ pub record IsNextPage (s : State) : Type 0 where
   pub there : is_in_memory s.hardware.memory (next_page s) ≡ true
   pub file : IsInFile s (next_page s)
 
-pub is_next_page : (s : State) → IsSound s → IsSome (outs_record s.write_outs) → IsNextPage s
-is_next_page s sound some =
-    let place = some_from (outs_record s.write_outs) some in
-    let is = next_recorded s place.0 sound place.1 in
+pub is_next_page : (s : State) → IsSound s → is_page_next s ≡ true → IsNextPage s
+is_next_page s sound page =
+    let is = next_recorded s sound page in
     let held = held_in_memory s.hardware.memory (next_page s) is.there in
     record { some = is.some; there = is.there; file = sound.memory.in_files held.0 (next_page s) held.1 }
 
+-- the record of a page, and any other
+pub page_record : (s : State) → is_page_next s ≡ true → next_record s ≡ cut_at_end s (next_page s) (bytes_at_mark s.hardware.memory (next_page s))
+page_record s page = cond-true (is_page_next s) (cut_at_end s (next_page s) (bytes_at_mark s.hardware.memory (next_page s))) (lengths_text s.lengths) page
+
+pub other_record : (s : State) → is_page_next s ≡ false → next_record s ≡ lengths_text s.lengths
+other_record s other = cond-false (is_page_next s) (cut_at_end s (next_page s) (bytes_at_mark s.hardware.memory (next_page s))) (lengths_text s.lengths) other
+
 -- a page that ends before its file does is its own record
-pub whole_record : (s : State) → IsSound s → is_in_memory s.hardware.memory (next_page s) ≡ true → 4096 ≤ length_of s (next_page s).file - 4096 * (next_page s).page
+pub whole_record : (s : State) → IsSound s → is_page_next s ≡ true → is_in_memory s.hardware.memory (next_page s) ≡ true → 4096 ≤ length_of s (next_page s).file - 4096 * (next_page s).page
     → bytes_at_mark s.hardware.memory (next_page s) ≡ next_record s
-whole_record s sound there covered =
+whole_record s sound page there covered =
     let bytes : List ℕ = bytes_at_mark s.hardware.memory (next_page s) in
     let left : ℕ = length_of s (next_page s).file - 4096 * (next_page s).page in
     let size : length bytes ≡ 4096 = size_at_mark s.hardware.memory (next_page s) sound.memory.memory there in
     let all : take left bytes ≡ bytes = take_all left bytes (omega (arith, size, covered)) in
     let none : 4096 - length bytes ≡ 0 = omega (arith, size) in
     sym (ap (padded 4096) all ∙ ap (λ k. bytes ++ zeros k) none ∙ ap (λ (z : List ℕ). bytes ++ z) zeros-nil ∙ append-nil bytes)
-
--- ---- a step that writes no record asks the same whatever bytes it is given
-
-no_record_at : (g : GeometryValue) (batch : Batch) (a b : List ℕ) (stage : Stage) → is_some (record_at stage) ≡ false → work_at g batch a stage ≡ work_at g batch b stage
-no_record_at g batch a b (Recording i) none = absurd (cc)
-no_record_at g batch a b stage none = refl
-
-no_record_of : (g : GeometryValue) (batch : Batch) (a b : List ℕ) (stage : Option Stage) → is_some (option_and_then record_at stage) ≡ false
-    → option_map_or (work_at g batch a) stage Nothing ≡ option_map_or (work_at g batch b) stage Nothing
-no_record_of g batch a b None none = refl
-no_record_of g batch a b (Some stage) none = no_record_at g batch a b stage none
-
-no_record_in : (g : GeometryValue) (a b : List ℕ) (w : Option WriteOut) → is_some (option_and_then record_of w) ≡ false
-    → option_map_or (work_of g a) w Nothing ≡ option_map_or (work_of g b) w Nothing
-no_record_in g a b None none = refl
-no_record_in g a b (Some w) none = no_record_of g w.batch a b (next_stage w) none
-
-pub without_record : (outs : WriteOutsValue) (a b : List ℕ) → is_some (outs_record outs) ≡ false → next_work outs a ≡ next_work outs b
-without_record outs a b none = by outs.broken none
-  where
-    by : (broken : Bool) → is_some (cond broken None (option_and_then record_of (current outs.batches))) ≡ false
-        → cond broken Nothing (option_map_or (work_of outs.geometry a) (current outs.batches) Nothing) ≡ cond broken Nothing (option_map_or (work_of outs.geometry b) (current outs.batches) Nothing)
-    by true none = refl
-    by false none = no_record_in outs.geometry a b (current outs.batches) none
+    ∙ sym (page_record s page)
 
 -- ---- marks have 32 bits
 

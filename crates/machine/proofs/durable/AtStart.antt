@@ -139,15 +139,15 @@ lengths_from contents b (f ∷ fs) (n ∷ lengths) size within whole =
     let rest = lengths_from contents (b + pages_of f.capacity) fs lengths (omega (arith, size)) (λ i. within (suc i)) (λ i high. whole i (omega arith)) in
     λ i. first i ∷ rest i
 
-pub files_at_start : (files : List File) (s : State) (disk : List ℕ) → IsSound s → IsVolume s.table [] disk → files ≡ files_in s.table (block_at disk) → s.lengths ≡ lengths_in s.table (block_at disk) → HasFiles files [] s
-files_at_start files s disk sound volume files_are lengths_are =
+pub files_at_start : (files : List File) (s : State) (disk : List ℕ) → IsSound s → s.resized ≡ false → IsVolume s.table [] disk → files ≡ files_in s.table (block_at disk) → s.lengths ≡ lengths_in s.table (block_at disk) → HasFiles files [] s
+files_at_start files s disk sound unset volume files_are lengths_are =
     let b = first_file_home s.table.layout s.table.slots in
     let whole : (i : ℕ) → i < b + total_pages s.table.files → length (block_at disk i) ≡ 4096 = λ i high. length-block_at disk i (let long = volume.long in omega arith) in
     let files_of : files ≡ files_from (block_at disk) b s.table.files s.lengths = files_are ∙ ap (files_from (block_at disk) b s.table.files) (sym lengths_are) in
     record {
       named = ap (map (λ (f : File). let t : TableFile = record { name = f.name; capacity = f.capacity } in t)) files_of ∙ named_from (block_at disk) b s.table.files s.lengths sound.lengths;
       lengths = ap (map (λ (f : File). length f.bytes)) files_of ∙ lengths_from (block_at disk) b s.table.files s.lengths sound.lengths sound.within whole;
-      resized = refl;
+      resized = sym unset;
     }
 
 -- ---- the bytes of a file in the blocks of a volume
@@ -235,7 +235,7 @@ durable_at_start ghosts files start sound begins =
     let disk = ghosts.seen start.device in
     let outs : s.write_outs ≡ none_of (geometry_of s.table) = ap (λ (x : State). x.write_outs) begins.fresh.as_booted in
     let parts = first_parts s sound disk files begins.volume begins.files_are begins.lengths_are in
-    let has = files_at_start files s disk sound begins.volume begins.files_are begins.lengths_are in
+    let has = files_at_start files s disk sound (ap (λ (x : State). x.resized) begins.fresh.as_booted) begins.volume begins.files_are begins.lengths_are in
     let are : AreContentsOf files [] s.table (block_at disk) [] = record {
       rest = [];
       begins = refl;
@@ -263,7 +263,7 @@ durable_at_start ghosts files start sound begins =
         numbered = λ n has. absurd (contains_none (Mark n) has);
         ready = λ broken held. ap (λ (o : WriteOutsValue). has_uncommitted o.batches) outs;
         clean = inr (λ owner is untouched. parts owner is.there is.inside);
-        same_lengths = sym begins.lengths_are;
+        same_lengths = λ none. sym begins.lengths_are;
         frozen = subst (λ (c : CheckpointState). All (λ owner. block_at disk (home_of s.table owner) ≡ cut_at_end s owner (bytes_at_mark s.hardware.memory owner)) c.frozen) (sym (ap (λ (x : State). x.checkpoint) begins.fresh.as_booted)) (λ k d lt. absurd (omega arith));
       };
     }

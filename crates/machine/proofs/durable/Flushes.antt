@@ -23,99 +23,39 @@ use Rattle.machine.specs.Rules.{next_record as record_asked}
 use Rattle.journal.specs.declared.flushed.Flushed.TheVariants as flushed
 use Rattle.page_entry.specs.declared.refusal.Refusal.TheVariants as refusals
 use Rattle.machine.proofs.sound.Waiting.{waiting-none}
-use Rattle.machine.proofs.durable.Lists.{only_one, some_same, none_some, flat_map-append}
+use Rattle.machine.proofs.durable.Lists.{only_one, some_same, none_some, contains_none}
 use Rattle.machine.proofs.durable.Pages.{bytes_with-freed}
-use Rattle.machine.proofs.durable.Uncommitted.{whole_frozen, none_uncommitted, uncommitted_before, waits_after}
+use Rattle.machine.proofs.durable.Uncommitted.{current_there, none_uncommitted, uncommitted_before, waits_after}
 use Rattle.machine.proofs.durable.Histories.{calm_of, quiet_nothing, quiet_acknowledge, IsFresh, written_same, written_new, AreFrozenRecords, SameFiles, record_as, acknowledge_same, acknowledge_no_mark, marks_more}
 use Rattle.machine.proofs.durable.Marks.{IsDurable}
 use Rattle.machine.proofs.sound.Admitted.{second_not_refused}
-use Rattle.machine.proofs.sound.Records.{few_at_mark}
+use Rattle.machine.proofs.sound.Records.{few_at_mark, next_recorded, coming, page_next}
+use Rattle.machine.proofs.sound.Sources.{of_file}
+use Rattle.machine.proofs.code.Records.{page_record, other_record}
+use Rattle.machine.proofs.Names.{cond_both, leb, false_from_ne_true, length-append, length-number_text, number_text}
+use Rattle.machine.proofs.Names.{lengths_text, lengths_in, HasLengths, IsSource, is_page_next, first_file_home}
 
 -- ---- the size of a record
 
 pub size_at_mark : (s : State) → IsSound s → (owner : FilePage) → length (bytes_at_mark s.hardware.memory owner) ≤ 4096
 size_at_mark s sound owner = few_at_mark s.hardware.memory owner sound.memory.memory
 
+lengths_size : (lengths : List ℕ) → length (flat_map (number_text 8) lengths) ≡ 8 * length lengths
+lengths_size [] = refl
+lengths_size (n ∷ lengths) = omega (arith, length-append (number_text 8 n) (flat_map (number_text 8) lengths), length-number_text 8 n, lengths_size lengths)
+
 pub size_of_record : (s : State) → IsSound s → length (record_asked s) ≡ 4096
 size_of_record s sound =
     let few = size_at_mark s sound (next_page s) in
-    length-padded 4096 (take (length_of s (next_page s).file - 4096 * (next_page s).page) (bytes_at_mark s.hardware.memory (next_page s))) (omega (arith, few, length-take (length_of s (next_page s).file - 4096 * (next_page s).page) (bytes_at_mark s.hardware.memory (next_page s))))
+    cond_both (is_page_next s) (cut_at_end s (next_page s) (bytes_at_mark s.hardware.memory (next_page s))) (lengths_text s.lengths) (λ (l : List ℕ). length l ≡ 4096)
+    (λ page. length-padded 4096 (take (length_of s (next_page s).file - 4096 * (next_page s).page) (bytes_at_mark s.hardware.memory (next_page s))) (omega (arith, few, length-take (length_of s (next_page s).file - 4096 * (next_page s).page) (bytes_at_mark s.hardware.memory (next_page s)))))
+    (λ other. length-padded 4096 (flat_map (number_text 8) s.lengths) (omega (arith, lengths_size s.lengths, sound.lengths, sound.fits.few_files)))
 
--- ---- the page whose record comes next
-
--- a stage that writes a record
-record_stage : (o : Option Stage) (i : ℕ) → option_and_then record_at o ≡ Some i → o ≡ Some (Recording i)
-record_stage (Some (Recording k)) i e = ap (λ n. Some (Recording n)) (some_same k i e)
-record_stage o i e = absurd (none_some i e)
-
--- the place of a record in its batch, and the batch
-pub record IsRecording (batches : List WriteOut) (i : ℕ) : Type 0 where
-  pub w : WriteOut
-  pub is : current batches ≡ Some w
-  pub at : next_stage w ≡ Some (Recording i)
-
-recording : (batches : List WriteOut) (i : ℕ) → option_and_then next_record (current batches) ≡ Some i → IsRecording batches i
-recording batches i e = by (current batches) refl e
-  where
-    by : (o : Option WriteOut) → current batches ≡ o → option_and_then next_record o ≡ Some i → IsRecording batches i
-    by None is e = absurd (none_some i e)
-    by (Some w) is e = record { w = w; is = is; at = record_stage (next_stage w) i e }
-
--- its home block is the first that waits
-pub record IsFirst (batches : List WriteOut) (i : ℕ) : Type 0 where
-  pub w : WriteOut
-  pub is : current batches ≡ Some w
-  pub at : next_stage w ≡ Some (Recording i)
-  pub rest : List ℕ
-  pub first : flat_map (λ (x : WriteOut). drop x.steps x.batch.homes) batches ≡ get_or w.batch.homes i 0 ∷ rest
-
-first_waiting : (batches : List WriteOut) (i : ℕ) → AreInOrder batches → IsRecording batches i → IsFirst batches i
-first_waiting batches i ordered r = elim (cases_Bool (has_uncommitted batches)) [
-  | inr none ↦ absurd (both_ways (has_committed r.w) (committed-at r.w (Recording i) r.at) (current_committed batches r.w none r.is))
-  | inl has ↦
-      (let n = newest_of batches ordered has in
-      let is : current batches ≡ Some n.newest = ap current n.are ∙ current-newest n.others n.newest n.uncommitted in
-      let same : r.w ≡ n.newest = some_same r.w n.newest (sym r.is ∙ is) in
-      let place = stage_at-is (length r.w.batch.homes) r.w.steps r.at in
-      let behind : drop r.w.steps r.w.batch.homes ≡ get_or r.w.batch.homes i 0 ∷ drop (r.w.steps + 1) r.w.batch.homes =
-      drop_more r.w.batch.homes r.w.steps 0 (omega (arith, place.0, place.1)) ∙ ap (λ k. get_or r.w.batch.homes k 0 ∷ drop (r.w.steps + 1) r.w.batch.homes) place.0 in
-      let found : IsFirst batches i = record {
-        w = r.w;
-        is = r.is;
-        at = r.at;
-        rest = drop (r.w.steps + 1) r.w.batch.homes;
-        first = ap (flat_map (λ (x : WriteOut). drop x.steps x.batch.homes)) n.are
-            ∙ flat_map-append (λ (x : WriteOut). drop x.steps x.batch.homes) n.others (n.newest ∷ [])
-            ∙ ap (λ (l : List ℕ). l ++ flat_map (λ (x : WriteOut). drop x.steps x.batch.homes) (n.newest ∷ [])) (waiting-none n.others (older_committed n.others n.newest n.older))
-            ∙ append-nil (drop n.newest.steps n.newest.batch.homes)
-            ∙ ap (λ (x : WriteOut). drop x.steps x.batch.homes) (sym same) ∙ behind;
-      } in found)
-]
-
-pub record IsNext (s : State) (i : ℕ) : Type 0 where
-  pub w : WriteOut
-  pub is : current s.write_outs.batches ≡ Some w
-  pub at : next_stage w ≡ Some (Recording i)
-  pub some : 0 < length s.checkpoint.frozen
-  pub home : home_of s.table (next_page s) ≡ get_or w.batch.homes i 0
-
-first_page : (f : FilePage → ℕ) (pages : List FilePage) (d : FilePage) (home : ℕ) (rest : List ℕ) → map f pages ≡ home ∷ rest → (0 < length pages) × (f (get_or pages 0 d) ≡ home)
-first_page f [] d home rest e = cc
-first_page f (x ∷ xs) d home rest e = (omega arith, ap (λ (l : List ℕ). get_or l 0 0) e)
-
-pub next_of : (s : State) → IsSound s → AreInOrder s.write_outs.batches → s.write_outs.broken ≡ false → (i : ℕ) → outs_record s.write_outs ≡ Some i → IsNext s i
-next_of s sound ordered whole i e =
-    let some : option_and_then next_record (current s.write_outs.batches) ≡ Some i = sym (cond-false s.write_outs.broken None (option_and_then next_record (current s.write_outs.batches)) whole) ∙ e in
-    let first = first_waiting s.write_outs.batches i ordered (recording s.write_outs.batches i some) in
-    let page = first_page (home_of s.table) s.checkpoint.frozen (record { file = 0; page = 0 }) (get_or first.w.batch.homes i 0) first.rest (whole_frozen s sound whole ∙ first.first) in
-    record { w = first.w; is = first.is; at = first.at; some = page.0; home = page.1 }
+-- ---- the record that is asked for
 
 -- the place of the record whose home block comes next
-home_record : (outs : WriteOutsValue) (home : ℕ) → outs.broken ≡ false → outs_home outs ≡ Some home → (i : ℕ) × (outs_record outs ≡ Some i)
-home_record outs home whole e =
-    let some : option_and_then next_home (current outs.batches) ≡ Some home = sym (cond-false outs.broken None (option_and_then next_home (current outs.batches)) whole) ∙ e in
-    let found = by (current outs.batches) some in
-    (found.0, cond-false outs.broken None (option_and_then next_record (current outs.batches)) whole ∙ found.1)
+home_record : (batches : List WriteOut) (home : ℕ) → option_and_then next_home (current batches) ≡ Some home → (i : ℕ) × (option_and_then next_record (current batches) ≡ Some i)
+home_record batches home e = by (current batches) e
   where
     mapped : (f : ℕ → ℕ) (o : Option ℕ) → option_map f o ≡ Some home → (i : ℕ) × (o ≡ Some i)
     mapped f None e = absurd (none_some home e)
@@ -125,18 +65,26 @@ home_record outs home whole e =
     by None e = absurd (none_some home e)
     by (Some w) e = mapped (λ k. get_or w.batch.homes k 0) (next_record w) e
 
-home_at : (outs : WriteOutsValue) (w : WriteOut) (i home : ℕ) → outs.broken ≡ false → current outs.batches ≡ Some w → next_stage w ≡ Some (Recording i) → outs_home outs ≡ Some home → get_or w.batch.homes i 0 ≡ home
-home_at outs w i home whole is at e =
-    some_same (get_or w.batch.homes i 0) home
-    (sym (cond-false outs.broken None (option_and_then next_home (current outs.batches)) whole
-    ∙ ap (option_and_then next_home) is ∙ ap (λ (o : Option Stage). option_map (λ k. get_or w.batch.homes k 0) (option_and_then record_at o)) at) ∙ e)
-
--- the record that is asked for is New
-pub record_is_new : (s : State) (new : ℕ → List ℕ) → IsSound s → AreInOrder s.write_outs.batches → s.write_outs.broken ≡ false → AreFrozenRecords s new → (home : ℕ) → outs_home s.write_outs ≡ Some home → record_asked s ≡ new home
-record_is_new s new sound ordered whole frozen home e =
-    let r = home_record s.write_outs home whole e in
-    let next = next_of s sound ordered whole r.0 r.1 in
-    sym (frozen 0 (record { file = 0; page = 0 }) next.some) ∙ ap new (next.home ∙ home_at s.write_outs next.w r.0 home whole next.is next.at e)
+-- it is New
+pub record_is_new : (s : State) (new : ℕ → List ℕ) → IsSound s → s.write_outs.broken ≡ false → HasLengths s.table new → (s.resized ≡ false → lengths_in s.table new ≡ s.lengths) → AreFrozenRecords s new → (home : ℕ) → outs_home s.write_outs ≡ Some home → record_asked s ≡ new home
+record_is_new s new sound whole fits lengths frozen home e = elim (cases_Bool (is_page_next s)) [
+  | inl page ↦
+      (let next = next_recorded s sound page in
+      page_record s page ∙ sym (frozen 0 (record { file = 0; page = 0 }) next.some) ∙ ap new (some_same (home_of s.table (next_page s)) home (sym next.home ∙ e)))
+  | inr other ↦
+      (let at = home_record s.write_outs.batches home (sym (cond-false s.write_outs.broken None (option_and_then next_home (current s.write_outs.batches)) whole) ∙ e) in
+      let c = coming s sound whole at.0 at.1 in
+      let there = current_there s.write_outs.batches c.w c.current_is in
+      let source = All-contains (IsSource s.table s.hardware.memory) c.w.batch.homes c.home
+      (All-contains (λ (w : WriteOut). All (IsSource s.table s.hardware.memory) w.batch.homes) s.write_outs.batches c.w sound.write_outs.sources there) c.among in
+      let unset : s.resized ≡ false = false_from_ne_true s.resized (λ set. contains_none c.w (subst (λ (l : List WriteOut). Contains l c.w) (sound.write_outs.settled set).0 there)) in
+      let not_page : leb (first_file_home s.table.layout s.table.slots) c.home ≡ false = sym (page_next s c.home c.is) ∙ other in
+      other_record s other ∙ ap lengths_text (sym (lengths unset)) ∙ by c.home not_page source ∙ ap new (some_same c.home home (sym c.is ∙ e)))
+]
+  where
+    by : (at : ℕ) → leb (first_file_home s.table.layout s.table.slots) at ≡ false → IsSource s.table s.hardware.memory at → lengths_text (lengths_in s.table new) ≡ new at
+    by at not_page (inl block) = sym (fits.spelled block.0) ∙ ap new (sym block.1)
+    by at not_page (inr page) = absurd (both_ways (leb (first_file_home s.table.layout s.table.slots) at) not_page (ap (leb (first_file_home s.table.layout s.table.slots)) page.1 ∙ of_file s.table page.0))
 
 -- ---- a batch is committed
 
@@ -215,6 +163,10 @@ module _ (s : State) (outs : WriteOutsValue) where
   same_files true = record { table = refl; lengths = refl }
   same_files false = record { table = refl; lengths = refl }
 
+  same_unset : (records : Bool) → (stepped s records outs).resized ≡ false → s.resized ≡ false
+  same_unset true none = none
+  same_unset false none = none
+
   same_number : (records : Bool) → (stepped s records outs).marks ≡ s.marks
   same_number true = refl
   same_number false = refl
@@ -238,7 +190,7 @@ module _ (files : List File) (told : Told) (s : State) (seen : List ℕ) (may : 
   flush_whole = second_not_refused (not_running s.hardware.shootdown p) s.write_outs.broken refusals.Broken [] allowed
 
   is_new : (home : ℕ) → outs_home s.write_outs ≡ Some home → record_asked s ≡ new home
-  is_new home e = record_is_new s new sound stands.sound.ordered flush_whole w.frozen home e
+  is_new home e = record_is_new s new sound flush_whole w.new_are.fits w.same_lengths w.frozen home e
 
   -- what a crash within it leaves
   pub flush_within : (c : List ℕ) → TornFromWork (work_asked s) may c → LeftWithin s.table old new (current_stage s.write_outs) c
@@ -263,7 +215,7 @@ module _ (files : List File) (told : Told) (s : State) (seen : List ℕ) (may : 
     old = old;
     new = new;
     stands = stands_failed s.table old new s.write_outs seen may (record_asked s) (size_of_record s sound) stands flush_whole some is_new seen' may' left;
-    written = written_same files told s (after_failure s) old new w [] (calm_of files told.history [] (quiet_nothing told.history)) (record { table = refl; lengths = refl }) (λ n has. absurd (omega (arith, has.1))) w.marks (λ broken held. not_busy held) never_lost (λ k d lt. absurd (omega arith))
+    written = written_same files told s (after_failure s) old new w [] (calm_of files told.history [] (quiet_nothing told.history)) (record { table = refl; lengths = refl }) (λ none. none) (λ n has. absurd (omega (arith, has.1))) w.marks (λ broken held. not_busy held) never_lost (λ k d lt. absurd (omega arith))
         (λ n has. absurd (omega (arith, has.1))) refl (marks_more w.before w.marked told.history [] s (after_failure s) (λ n has. absurd (omega (arith, has.1))) (λ n wait. inr wait) never_lost w.only) (λ n has. absurd (omega (arith, has.1))) w.fresh;
   })
 
@@ -306,7 +258,7 @@ module _ (files : List File) (told : Told) (s : State) (seen : List ℕ) (may : 
       old = old;
       new = new;
       stands = stands_as old stands_now;
-      written = written_same files told s after_it old new w [] (calm_of files told.history [] (quiet_nothing told.history)) (same_files s outs records) (λ n has. absurd (omega (arith, has.1))) marks_now (ready_now other) never_lost (stepped_records s outs records new sound w.frozen)
+      written = written_same files told s after_it old new w [] (calm_of files told.history [] (quiet_nothing told.history)) (same_files s outs records) (same_unset s outs records) (λ n has. absurd (omega (arith, has.1))) marks_now (ready_now other) never_lost (stepped_records s outs records new sound w.frozen)
           (λ n has. absurd (omega (arith, has.1))) (same_number s outs records)
           (marks_more w.before w.marked told.history [] s after_it (λ n has. absurd (omega (arith, has.1))) (λ n wait. elim (waits_now n wait) [ inl still ↦ inr still | inr e ↦ absurd (uncommitting n e) ]) never_lost w.only) (λ n has. absurd (omega (arith, has.1))) fresh_still;
     }
@@ -322,7 +274,7 @@ module _ (files : List File) (told : Told) (s : State) (seen : List ℕ) (may : 
           old = new;
           new = new;
           stands = stands_as new (stands_other s.table old new new outs (worked seen (work_asked s)) may' none stands_now);
-          written = written_new files told s after_it old new w (Acknowledge number ∷ []) (calm_of files told.history (Acknowledge number ∷ []) (quiet_acknowledge told.history number)) (same_files s outs records) (acknowledges in_new) marks_now (ready_now (λ e. never number (sym is ∙ e))) never_lost (stepped_records s outs records new sound w.frozen)
+          written = written_new files told s after_it old new w (Acknowledge number ∷ []) (calm_of files told.history (Acknowledge number ∷ []) (quiet_acknowledge told.history number)) (same_files s outs records) (same_unset s outs records) (acknowledges in_new) marks_now (ready_now (λ e. never number (sym is ∙ e))) never_lost (stepped_records s outs records new sound w.frozen)
               (acknowledge_no_mark number) (same_number s outs records)
               (marks_more w.before w.marked told.history (Acknowledge number ∷ []) s after_it (acknowledge_no_mark number) (λ n wait. elim (waits_now n wait) [ inl still ↦ inr still | inr e ↦ inl (this_acked n (sym is ∙ e)) ]) never_lost w.only)
               (λ y there early has. none_uncommitted outs.batches y none there early) (λ n wait. none_uncommitted outs.batches wait.w none wait.there wait.early);

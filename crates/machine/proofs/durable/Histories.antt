@@ -13,7 +13,9 @@ use Rattle.machine.proofs.Names.{IsWaiting, AreMarks, AreTouched, change_in, Are
 use Rattle.machine.proofs.Names.{home_of, cut_at_end, FilePage, MarkMade, bytes_at_mark, Told, SuperValue, WriteOut}
 use Rattle.machine.proofs.Names.{has_committed, WriteOutsValue, has_uncommitted, Checkpoint, IsInFile, within_file}
 use Rattle.machine.specs.History.{Store, SetLength}
+use Rattle.machine.proofs.Names.{map, first_home, mark_homes}
 use Rattle.machine.proofs.durable.Lists.{contains_none, first_or, only_one}
+use Rattle.machine.proofs.sound.Sources.{none_written}
 
 -- ---- memory
 
@@ -145,6 +147,16 @@ change_of_some file page (Acknowledge number) is = is
 -- a page that was touched after the last mark is a change after it
 pub unmarked_by_touched : (history : List Event) (file page : ℕ) → is_touched history file page ≡ true → has_unmarked history ≡ true
 unmarked_by_touched history file page is = any_weaker (is_change_of file page) is_change (since_mark history) (change_of_some file page) is
+
+-- so is a length that was set
+resize_of_some : (event : Event) → is_resize event ≡ true → is_change event ≡ true
+resize_of_some (Store f offset bytes) is = refl
+resize_of_some (SetLength f from to) is = refl
+resize_of_some (Mark number) is = is
+resize_of_some (Acknowledge number) is = is
+
+pub unmarked_by_resized : (history : List Event) → has_resized history ≡ true → has_unmarked history ≡ true
+unmarked_by_resized history is = any_weaker is_resize is_change (since_mark history) resize_of_some is
 
 -- ---- a mark, and what comes with it
 
@@ -321,14 +333,17 @@ module _ (told : Told) (s : State) (p number : ℕ) (new : State) (mark : MarkMa
       let dirty = mark.gathered.gathered.dirty owner in
       (λ gathered. (touched owner).1 (dirty.0 gathered), λ stored. dirty.1 ((touched owner).0 stored))
 
-  -- none, where there is no such store
-  pub gathers_nothing : has_resized told.history ≡ false → (mark.pages ≡ []) ↔ (has_unmarked told.history ≡ false)
-  gathers_nothing unresized = (
-    (λ none. false_from_ne_true (has_unmarked told.history) (λ stored.
-        let some = some_touched told.history unresized stored in
-        let there = subst (λ (pages : List FilePage). Contains pages (record { file = some.0; page = some.1 })) none ((gathers_touched (record { file = some.0; page = some.1 })).1 some.2) in
+  -- it writes nothing, where nothing was stored and no length was set
+  pub gathers_nothing : has_resized told.history ≡ s.resized → (mark_homes s mark.pages ≡ []) ↔ (has_unmarked told.history ≡ false)
+  gathers_nothing resized = (
+    (λ none. let parts = none_written s mark.pages none in false_from_ne_true (has_unmarked told.history) (λ stored.
+        let some = some_touched told.history (resized ∙ parts.0) stored in
+        let there = subst (λ (pages : List FilePage). Contains pages (record { file = some.0; page = some.1 })) parts.1 ((gathers_touched (record { file = some.0; page = some.1 })).1 some.2) in
         omega (arith, there.1))),
-    (λ none. empty mark.pages (λ owner gathered. both_ways (has_unmarked told.history) none (unmarked_by_touched told.history owner.file owner.page ((gathers_touched owner).0 gathered)))),
+    (λ none.
+        let unset : s.resized ≡ false = false_from_ne_true s.resized (λ set. both_ways (has_unmarked told.history) none (unmarked_by_resized told.history (resized ∙ set))) in
+        let no_pages : mark.pages ≡ [] = empty mark.pages (λ owner gathered. both_ways (has_unmarked told.history) none (unmarked_by_touched told.history owner.file owner.page ((gathers_touched owner).0 gathered))) in
+        λ i. cond (unset i) (first_home s.table.layout s.table.slots ∷ []) [] ++ map (home_of s.table) (no_pages i)),
   )
     where
       empty : (pages : List FilePage) → ((owner : FilePage) → Contains pages owner → ⊥) → pages ≡ []
@@ -374,6 +389,7 @@ pub record Leaves (s x : State) : Type 0 where
   pub marks : x.marks ≡ s.marks
   -- no checkpoint is begun of a broken machine
   pub lock : s.write_outs.broken ≡ true → change_in x.hardware.shootdown.lock ≡ Some Checkpoint → change_in s.hardware.shootdown.lock ≡ Some Checkpoint
+  pub resized : x.resized ≡ s.resized
   pub frozen : x.checkpoint.frozen ≡ s.checkpoint.frozen
   pub bytes : (owner : FilePage) → Contains s.checkpoint.frozen owner → bytes_at_mark x.hardware.memory owner ≡ bytes_at_mark s.hardware.memory owner
 
@@ -412,7 +428,7 @@ calm_of files history events quiet file page is = record {
 abbrev pub IsFresh : State → List Event → Type 0
 IsFresh x before = (y : WriteOut) → Contains x.write_outs.batches y → has_committed y ≡ false → Contains before (Mark y.batch.mark) → ⊥
 
-module _ (files : List File) (told : Told) (s x : State) (old new : ℕ → List ℕ) (w : IsWritten files told s old new) (events : List Event) (calm : AreCalm files told.history events) (same : SameFiles s x)
+module _ (files : List File) (told : Told) (s x : State) (old new : ℕ → List ℕ) (w : IsWritten files told s old new) (events : List Event) (calm : AreCalm files told.history events) (same : SameFiles s x) (unset : x.resized ≡ false → s.resized ≡ false)
     (acks : (n : ℕ) → Contains events (Acknowledge n) → Contains w.marked (Mark n)) (marks : All (λ (y : WriteOut). Contains w.marked (Mark y.batch.mark)) x.write_outs.batches)
     (ready : x.write_outs.broken ≡ true → change_in x.hardware.shootdown.lock ≡ Some Checkpoint → has_uncommitted x.write_outs.batches ≡ false) (lost_as : IsLost s → IsLost x) (frozen : AreFrozenRecords x new)
     (unmarked : (n : ℕ) → Contains events (Mark n) → ⊥) (same_marks : x.marks ≡ s.marks) (only : AreMarks (told.history ++ events) w.before w.marked x) where
@@ -440,7 +456,7 @@ module _ (files : List File) (told : Told) (s x : State) (old new : ℕ → List
           part_as s x same owner new (after (memory_of files) (told.history ++ events) owner.file owner.page)
           (clean owner (in_file_as s x same owner is) still.before ∙ sym (ap (within_file s owner) still.same)))
     ];
-    same_lengths = ap (λ (t : SuperValue). lengths_in t new) same.table ∙ w.same_lengths ∙ sym same.lengths;
+    same_lengths = λ none. ap (λ (t : SuperValue). lengths_in t new) same.table ∙ w.same_lengths (unset none) ∙ sym same.lengths;
     frozen = frozen;
   }
 
@@ -481,7 +497,7 @@ written_left files told told' events s x old new grows quiet leaves w =
     let outs = leaves.write_outs in
     let lost_as : IsLost s → IsLost x = λ lost. record { broken = ap (λ (o : WriteOutsValue). o.broken) outs ∙ lost.broken; no_mark = λ held. lost.no_mark (leaves.lock lost.broken held) } in
     written_as files (record told { history = told.history ++ events }) told' x old new grows
-    (written_same files told s x old new w events (λ file page is. quiet_untouched (memory_of files) told.history events file page quiet is) leaves.files (λ n has. acks n w.marked has)
+    (written_same files told s x old new w events (λ file page is. quiet_untouched (memory_of files) told.history events file page quiet is) leaves.files (λ none. sym leaves.resized ∙ none) (λ n has. acks n w.marked has)
     (subst (λ (o : WriteOutsValue). All (λ batch. Contains w.marked (Mark batch.batch.mark)) o.batches) (sym outs) w.marks)
     (λ broken held.
     let was = sym (ap (λ (o : WriteOutsValue). o.broken) outs) ∙ broken in

@@ -9,6 +9,8 @@ use Rattle.machine.proofs.Names.{append-nil, zeros, padded, zeros-nil, Frame, fr
 use Rattle.machine.proofs.Names.{is_of_page, is_frozen, same_page, bytes_with, bytes_at_mark}
 use Rattle.machine.proofs.Names.{All-contains, is_in_memory, WriteOut, HasBlock, memory_of, after}
 use Rattle.machine.proofs.Names.{is_touched, Told, IsTracked}
+use Rattle.machine.proofs.Names.{IsSource, first_home, lengths_text, eqb-true, ◌&&◌, and_right, and_from, eq-eqb, mark_homes}
+use Rattle.machine.proofs.Names.{lengths_blocks, Bool, false≢true}
 use Rattle.machine.proofs.sound.Homes.{home-below, same_home}
 use Rattle.machine.proofs.durable.Lists.{none_some, contains_head, contains_cons, contains_unmapped}
 use Rattle.machine.proofs.durable.Pages.{holder, bytes_with-held}
@@ -76,6 +78,37 @@ module _ (s : State) (sound : IsSound s) (new : ℕ → List ℕ) where
       let at = contains_unmapped (home_of s.table) pages (home_of s.table owner) has in
       none (subst (Contains pages) (same_home s sound.within at.0 owner (in_files at.0 at.1) is at.2) at.1))
 
+-- ---- the contents with the lengths, where one was set
+
+abbrev pub laid : State → (ℕ → List ℕ) → ℕ → List ℕ
+laid s contents b = cond (s.resized && eqb b (first_home s.table.layout s.table.slots)) (lengths_text s.lengths) (contents b)
+
+module _ (s : State) (sound : IsSound s) (contents : ℕ → List ℕ) where
+  -- every other block stays
+  pub laid-other : (b : ℕ) → (s.resized ≡ true → b ≡ first_home s.table.layout s.table.slots → ⊥) → laid s contents b ≡ contents b
+  laid-other b other = by s.resized other
+    where
+      by : (set : Bool) → (set ≡ true → b ≡ first_home s.table.layout s.table.slots → ⊥) → cond (set && eqb b (first_home s.table.layout s.table.slots)) (lengths_text s.lengths) (contents b) ≡ contents b
+      by true other = cond-false (eqb b (first_home s.table.layout s.table.slots)) (lengths_text s.lengths) (contents b) (ne_eqb b (first_home s.table.layout s.table.slots) (other refl))
+      by false other = refl
+
+  -- those of pages do
+  pub laid-page : (owner : FilePage) → laid s contents (home_of s.table owner) ≡ contents (home_of s.table owner)
+  laid-page owner = laid-other (home_of s.table owner) (λ set at. let some = (sound.write_outs.settled set).2 in let home = at in omega (arith, some, home))
+
+  pub laid-lengths : s.resized ≡ true → laid s contents (first_home s.table.layout s.table.slots) ≡ lengths_text s.lengths
+  laid-lengths set =
+      let home = first_home s.table.layout s.table.slots in
+      cond-true (s.resized && eqb home home) (lengths_text s.lengths) (contents home) (and_from s.resized (eqb home home) set (eq-eqb home home refl))
+
+-- what a mark writes nothing to
+pub unwritten : (s : State) (pages : List FilePage) (b : ℕ) → (Contains (mark_homes s pages) b → ⊥) → (s.resized ≡ true → b ≡ first_home s.table.layout s.table.slots → ⊥) × (Contains (map (home_of s.table) pages) b → ⊥)
+unwritten s pages b none = by s.resized none
+  where
+    by : (set : Bool) → (Contains (cond set (first_home s.table.layout s.table.slots ∷ []) [] ++ map (home_of s.table) pages) b → ⊥) → (set ≡ true → b ≡ first_home s.table.layout s.table.slots → ⊥) × (Contains (map (home_of s.table) pages) b → ⊥)
+    by true none = (λ set at. none (0, omega arith, sym at), λ has. none (contains_cons (first_home s.table.layout s.table.slots) (map (home_of s.table) pages) b has))
+    by false none = (λ set at. false≢true set, none)
+
 -- ---- the bytes of a page at its mark, where none is frozen
 
 pub nothing_copied : (s : State) → IsSound s → s.checkpoint.frozen ≡ [] → (owner : FilePage) → list_any (is_of_page owner) s.hardware.memory.copies ≡ false
@@ -98,11 +131,15 @@ bytes_at_mark-held s sound none frame owner held =
 pub no_batch : (s : State) → IsSound s → (owner : FilePage) → IsInFile s owner → is_in_memory s.hardware.memory owner ≡ false → HasBlock s.write_outs (home_of s.table owner) → ⊥
 no_batch s sound owner is absent has =
     let w = has.0 in
-    let homes = All-contains (λ (x : WriteOut). All (λ home. (o : FilePage) × (home ≡ home_of s.table o) × (is_in_memory s.hardware.memory o ≡ true)) x.batch.homes) s.write_outs.batches w sound.write_outs.in_memory has.1 in
-    let page = All-contains (λ home. (o : FilePage) × (home ≡ home_of s.table o) × (is_in_memory s.hardware.memory o ≡ true)) w.batch.homes (home_of s.table owner) homes has.2 in
-    let at = held_in_memory s.hardware.memory page.0 page.2 in
-    let same : owner ≡ page.0 = same_home s sound.within owner page.0 is (sound.memory.in_files at.0 page.0 at.1) page.1 in
-    both_ways (is_in_memory s.hardware.memory owner) absent (ap (is_in_memory s.hardware.memory) same ∙ page.2)
+    let homes = All-contains (λ (x : WriteOut). All (IsSource s.table s.hardware.memory) x.batch.homes) s.write_outs.batches w sound.write_outs.sources has.1 in
+    by (All-contains (IsSource s.table s.hardware.memory) w.batch.homes (home_of s.table owner) homes has.2)
+  where
+    by : IsSource s.table s.hardware.memory (home_of s.table owner) → ⊥
+    by (inl lengths) = let home = lengths.1 in omega (arith, home, lengths.0)
+    by (inr page) =
+        let at = held_in_memory s.hardware.memory page.0 page.2 in
+        let same : owner ≡ page.0 = same_home s sound.within owner page.0 is (sound.memory.in_files at.0 page.0 at.1) page.1 in
+        both_ways (is_in_memory s.hardware.memory owner) absent (ap (is_in_memory s.hardware.memory) same ∙ page.2)
 
 module _ (files : List File) (told : Told) (s : State) (seen : List ℕ) (may : List ℕ → Type 0) (t : IsTracked files told s seen may) where
   -- nor is it touched

@@ -14,11 +14,13 @@ use Rattle.machine.proofs.Names.{is_touched, State, home_of, cut_at_end, MarkMad
 use Rattle.machine.proofs.Names.{bytes_at_mark, IsSound, Told, change_in, HasParts, AreContentsOf, HasAcknowledged}
 use Rattle.machine.proofs.Names.{IsWaiting, IsWritten, IsLatest, AreTouched, IsInFile, within_file, part, HasLengths}
 use Rattle.machine.proofs.Names.{HasFiles, lengths_in, lengths_of, lengths_after, lengths_blocks, first_home}
-use Rattle.machine.proofs.Names.{lengths_in-same, has_lengths-same}
-use Rattle.machine.proofs.durable.Lists.{contains_unmapped}
-use Rattle.machine.proofs.durable.Histories.{marked_by, after_mark, after_marked, lengths_mark, only_itself, only_marked, unmarked_by_touched, in_history, acknowledged_more, some_touched, contents_more}
+use Rattle.machine.proofs.Names.{lengths_in-same, has_lengths-same, said_lengths, reads_lengths, AreLengths, TableFile}
+use Rattle.machine.proofs.Names.{zero, suc, slice_get, lengths_text, mark_homes}
+use Rattle.machine.proofs.sound.Sources.{none_written}
+use Rattle.machine.proofs.durable.Lists.{contains_unmapped, some_same}
+use Rattle.machine.proofs.durable.Histories.{marked_by, after_mark, after_marked, lengths_mark, only_itself, only_marked, unmarked_by_touched, unmarked_by_resized, in_history, acknowledged_more, some_touched, contents_more}
 use Rattle.machine.proofs.durable.Uncommitted.{committed_frozen, none_uncommitted, begun_early}
-use Rattle.machine.proofs.durable.Homes.{within_cut, overlaid, overlaid-other, overlaid-at, overlaid-elsewhere, bytes_at_mark-held}
+use Rattle.machine.proofs.durable.Homes.{laid, laid-other, laid-page, laid-lengths, unwritten, within_cut, overlaid, overlaid-other, overlaid-at, overlaid-elsewhere, bytes_at_mark-held}
 
 -- what the device recovers to goes with what is told
 pub record IsDurable (files : List File) (told : Told) (s : State) (seen : List ℕ) (may_leave : List ℕ → Type 0) : Type 0 where
@@ -29,6 +31,17 @@ pub record IsDurable (files : List File) (told : Told) (s : State) (seen : List 
 
 abbrev no_pages : List FilePage
 no_pages = []
+
+-- what is known of lengths by their numbers, of each file and its length
+lengths_at : (fs : List TableFile) (lengths : List ℕ) → ((file : ℕ) → get_or lengths file 0 ≤ get_or (map (λ (f : TableFile). f.capacity) fs) file 0)
+    → (i n : ℕ) (f : TableFile) → slice_get fs i ≡ Some f → slice_get lengths i ≡ Some n → n ≤ f.capacity
+lengths_at [] lengths within i n f file size = absurd (cc)
+lengths_at (g ∷ fs) [] within i n f file size = absurd (cc)
+lengths_at (g ∷ fs) (m ∷ lengths) within zero n f file size =
+    let capacity : g.capacity ≡ f.capacity = ap (λ (x : TableFile). x.capacity) (some_same g f file) in
+    let length_is : m ≡ n = some_same m n size in
+    let le : m ≤ g.capacity = within 0 in omega (arith, capacity, length_is, le)
+lengths_at (g ∷ fs) (m ∷ lengths) within (suc i) n f file size = lengths_at fs lengths (λ k. within (suc k)) i n f file size
 
 module _ (files : List File) (told : Told) (s : State) (p number : ℕ) (seen : List ℕ) (may : List ℕ → Type 0) (old new : ℕ → List ℕ) (sound : IsSound s) (has_files : HasFiles files told.history s) (latest : IsLatest files told s) (touched : AreTouched told s)
     (stands : IsStanding s.table s.write_outs old new seen may) (w : IsWritten files told s old new) (next : number ≡ s.marks + 1) (lock : s.hardware.shootdown.lock ≡ Some (record { holder = p; change = Checkpoint })) where
@@ -118,7 +131,7 @@ module _ (files : List File) (told : Told) (s : State) (p number : ℕ) (seen : 
 
   -- the state after it, with these write-outs
   abbrev marked_with : CheckpointState → Spaces → WriteOutsValue → State
-  marked_with noted spaces outs = record (end_change s p spaces s.hardware.memory (without_notes noted)) { write_outs = outs; marks = number }
+  marked_with noted spaces outs = record (end_change s p spaces s.hardware.memory (without_notes noted)) { write_outs = outs; marks = number; resized = false }
 
   module _ (noted : CheckpointState) (spaces : Spaces) where
     in_file : (outs : WriteOutsValue) (owner : FilePage) → IsInFile (marked_with noted spaces outs) owner → IsInFile s owner
@@ -145,9 +158,9 @@ module _ (files : List File) (told : Told) (s : State) (p number : ℕ) (seen : 
     none_now : (change_in None ≡ Some Checkpoint) → ⊥
     none_now e = cc
 
-    -- ---- nothing was stored
+    -- ---- nothing was stored, and no length was set
 
-    module _ (gathers : Gathers s.hardware.spaces s.hardware.memory s.checkpoint noted (not s.write_outs.broken) []) where
+    module _ (gathers : Gathers s.hardware.spaces s.hardware.memory s.checkpoint noted (not s.write_outs.broken) []) (unset : s.resized ≡ false) where
       untouched : (owner : FilePage) → is_touched history owner.file owner.page ≡ false
       untouched owner = false_from_ne_true (is_touched history owner.file owner.page) (λ is.
           let there = (gathers.gathered.dirty owner).1 ((touched owner).0 is) in absurd (omega (arith, there.1)))
@@ -162,7 +175,7 @@ module _ (files : List File) (told : Told) (s : State) (p number : ℕ) (seen : 
       -- so the mark is acknowledged at once
       unstored : has_unmarked history ≡ false
       unstored = false_from_ne_true (has_unmarked history) (λ stored.
-          let some = some_touched history has_files.resized stored in
+          let some = some_touched history (has_files.resized ∙ unset) stored in
           both_ways (is_touched history some.0 some.1) (untouched (record { file = some.0; page = some.1 })) some.2)
 
       all_acked : (n : ℕ) → Contains longer (Mark n) → Contains longer (Acknowledge n)
@@ -186,10 +199,10 @@ module _ (files : List File) (told : Told) (s : State) (p number : ℕ) (seen : 
         stands = stands_other s.table old new new s.write_outs seen may committed stands;
         written = record {
           before = made;
-          old_are = made_contents new w.new_are.fits w.same_lengths all_parts;
+          old_are = made_contents new w.new_are.fits (w.same_lengths unset) all_parts;
           acknowledged = made_acknowledged;
           marked = made;
-          new_are = made_contents new w.new_are.fits w.same_lengths all_parts;
+          new_are = made_contents new w.new_are.fits (w.same_lengths unset) all_parts;
           grown = made_acknowledged;
           marks = All-weaker (λ (x : WriteOut). Contains w.marked (Mark x.batch.mark)) (λ (x : WriteOut). Contains made (Mark x.batch.mark)) (λ x has. in_made (Mark x.batch.mark) has) s.write_outs.batches w.marks;
           fresh = λ y there early has. none_early y there early;
@@ -197,17 +210,14 @@ module _ (files : List File) (told : Told) (s : State) (p number : ℕ) (seen : 
           numbered = made_numbered;
           ready = λ broken held. absurd (none_now held);
           clean = inr (made_clean s.write_outs new all_parts);
-          same_lengths = w.same_lengths;
+          same_lengths = λ none. w.same_lengths unset;
           frozen = subst (λ (pages : List FilePage). All (λ owner. new (home_of s.table owner) ≡ cut_at_end s owner (bytes_at_mark s.hardware.memory owner)) pages) (sym nothing_frozen) (λ k d lt. absurd (omega arith));
         };
       }
 
     -- ---- something was
 
-    module _ (first : FilePage) (others : List FilePage) (gathers : Gathers s.hardware.spaces s.hardware.memory s.checkpoint noted (not s.write_outs.broken) (first ∷ others)) where
-      abbrev pages : List FilePage
-      pages = first ∷ others
-
+    module _ (pages : List FilePage) (gathers : Gathers s.hardware.spaces s.hardware.memory s.checkpoint noted (not s.write_outs.broken) pages) (unmarked : has_unmarked history ≡ true) where
       is_stored : (owner : FilePage) → Contains pages owner → is_touched history owner.file owner.page ≡ true
       is_stored owner has = (touched owner).1 ((gathers.gathered.dirty owner).0 has)
 
@@ -216,7 +226,7 @@ module _ (files : List File) (told : Told) (s : State) (p number : ℕ) (seen : 
 
       -- so the mark isn't acknowledged at once
       waits : (n : ℕ) → Contains (marked_by history number) (Acknowledge n) → ⊥
-      waits n has = both_ways (has_unmarked history) (only_itself history number n has).0 (unmarked_by_touched history first.file first.page (is_stored first (0, omega arith, refl)))
+      waits n has = both_ways (has_unmarked history) (only_itself history number n has).0 unmarked
 
       -- of a broken machine the mark is lost
       pub marked_lost : s.write_outs.broken ≡ true → IsDurable files now (marked_with noted spaces s.write_outs) seen may
@@ -228,10 +238,10 @@ module _ (files : List File) (told : Told) (s : State) (p number : ℕ) (seen : 
             stands = stands;
             written = record {
               before = w.before;
-              old_are = contents_more files history (marked_by history number) s x (record { table = refl; lengths = refl }) old w.before w.old_are;
+              old_are = contents_more files history (marked_by history number) s s (record { table = refl; lengths = refl }) old w.before w.old_are;
               acknowledged = acknowledged_more w.before history (marked_by history number) (λ n has. absurd (waits n has)) w.acknowledged;
               marked = w.marked;
-              new_are = contents_more files history (marked_by history number) s x (record { table = refl; lengths = refl }) new w.marked w.new_are;
+              new_are = contents_more files history (marked_by history number) s s (record { table = refl; lengths = refl }) new w.marked w.new_are;
               grown = acknowledged_more w.marked history (marked_by history number) (λ n has. absurd (waits n has)) w.grown;
               marks = w.marks;
               fresh = λ y there early has. none_early y there early;
@@ -243,7 +253,7 @@ module _ (files : List File) (told : Told) (s : State) (p number : ℕ) (seen : 
               numbered = made_numbered;
               ready = λ broken held. absurd (none_now held);
               clean = inl (record { broken = broken; no_mark = λ held. none_now held });
-              same_lengths = w.same_lengths;
+              same_lengths = λ none. w.same_lengths (false_from_ne_true s.resized (λ set. both_ways s.write_outs.broken (sound.write_outs.settled set).1 broken));
               frozen = subst (λ (pages : List FilePage). All (λ owner. new (home_of s.table owner) ≡ cut_at_end s owner (bytes_at_mark s.hardware.memory owner)) pages) (sym (gathers.frozen ∙ cond-false (not s.write_outs.broken) pages [] (not_from_true s.write_outs.broken broken))) (λ k d lt. absurd (omega arith));
             };
           }
@@ -260,27 +270,56 @@ module _ (files : List File) (told : Told) (s : State) (p number : ℕ) (seen : 
           bytes_at_mark-held s sound none_frozen dirty.0 owner dirty.1 ∙ latest.latest dirty.0 owner dirty.1
 
       abbrev next_contents : ℕ → List ℕ
-      next_contents = overlaid s pages new
+      next_contents = laid s (overlaid s pages new)
 
-      -- the lengths are those that New had
-      same_block : 0 < lengths_blocks s.table.layout → next_contents (first_home s.table.layout s.table.slots) ≡ new (first_home s.table.layout s.table.slots)
-      same_block some = overlaid-other s pages new (first_home s.table.layout s.table.slots) (λ has.
-          let at = contains_unmapped (home_of s.table) pages (first_home s.table.layout s.table.slots) has in
+      abbrev lengths_home : ℕ
+      lengths_home = first_home s.table.layout s.table.slots
+
+      -- the lengths are those that New had, or those of the machine
+      same_block : s.resized ≡ false → 0 < lengths_blocks s.table.layout → next_contents lengths_home ≡ new lengths_home
+      same_block unset some =
+          laid-other s sound (overlaid s pages new) lengths_home (λ set at. both_ways s.resized unset set)
+          ∙ overlaid-other s pages new lengths_home (λ has.
+          let at = contains_unmapped (home_of s.table) pages lengths_home has in
           let home = at.2 in absurd (omega (arith, home, some)))
 
+      lengths_fit : AreLengths s.table s.lengths
+      lengths_fit = record { count = sound.lengths; within = lengths_at s.table.files s.lengths sound.within }
+
+      set_lengths : s.resized ≡ true → lengths_in s.table next_contents ≡ s.lengths
+      set_lengths set =
+          said_lengths s.table next_contents (sound.write_outs.settled set).2
+          ∙ reads_lengths s.table s.lengths (next_contents lengths_home) sound.fits (record { are = lengths_fit; spelled = laid-lengths s sound (overlaid s pages new) set })
+
       next_lengths : lengths_in s.table next_contents ≡ s.lengths
-      next_lengths = lengths_in-same s.table next_contents new same_block ∙ w.same_lengths
+      next_lengths = elim (cases_Bool s.resized) [
+        | inl set ↦ set_lengths set
+        | inr unset ↦ lengths_in-same s.table next_contents new (same_block unset) ∙ w.same_lengths unset
+      ]
 
       next_fits : HasLengths s.table next_contents
-      next_fits = has_lengths-same s.table new next_contents (λ some. sym (same_block some)) w.new_are.fits
+      next_fits = elim (cases_Bool s.resized) [
+        | inl set ↦ record {
+          are = subst (AreLengths s.table) (sym next_lengths) lengths_fit;
+          spelled = λ some. laid-lengths s sound (overlaid s pages new) set ∙ ap lengths_text (sym next_lengths);
+        }
+        | inr unset ↦ has_lengths-same s.table new next_contents (λ some. sym (same_block unset some)) w.new_are.fits
+      ]
+
+      -- a page's block
+      next_page : (owner : FilePage) → next_contents (home_of s.table owner) ≡ overlaid s pages new (home_of s.table owner)
+      next_page owner = laid-page s sound (overlaid s pages new) owner
+
+      next_other : (b : ℕ) → (Contains (mark_homes s pages) b → ⊥) → next_contents b ≡ new b
+      next_other b none = let parts = unwritten s pages b none in laid-other s sound (overlaid s pages new) b parts.0 ∙ overlaid-other s pages new b parts.1
 
       next_parts : HasParts s.table s.lengths next_contents memory
       next_parts owner there inside = let is : IsInFile s owner = record { there = there; inside = inside } in elim (cases_Bool (is_touched history owner.file owner.page)) [
         | inl stored ↦
             (let has = is_gathered owner stored in
-            ap (within_file s owner) (overlaid-at s sound new pages owner in_files has ∙ ap (cut_at_end s owner) (gathered_bytes owner has)) ∙ within_cut s owner (memory owner.file owner.page) (latest.whole owner.file owner.page))
+            ap (within_file s owner) (next_page owner ∙ overlaid-at s sound new pages owner in_files has ∙ ap (cut_at_end s owner) (gathered_bytes owner has)) ∙ within_cut s owner (memory owner.file owner.page) (latest.whole owner.file owner.page))
         | inr untouched ↦
-            ap (within_file s owner) (overlaid-elsewhere s sound new pages owner in_files is (λ has. both_ways (is_touched history owner.file owner.page) untouched (is_stored owner has)))
+            ap (within_file s owner) (next_page owner ∙ overlaid-elsewhere s sound new pages owner in_files is (λ has. both_ways (is_touched history owner.file owner.page) untouched (is_stored owner has)))
             ∙ clean owner is untouched
       ]
 
@@ -292,24 +331,24 @@ module _ (files : List File) (told : Told) (s : State) (p number : ℕ) (seen : 
           recursion_from_All (λ (x : WriteOut). x.batch.mark < number) s.write_outs.batches
           (All-weaker (λ (x : WriteOut). (0 < x.batch.mark) × (x.batch.mark ≤ s.marks)) (λ (x : WriteOut). x.batch.mark < number) (λ x is. omega (arith, is.1)) s.write_outs.batches sound.write_outs.marked)
 
-      waits_now : (n : ℕ) → number ≡ n → IsWaiting (begun s.write_outs number (map (home_of s.table) pages)).batches n
+      waits_now : (n : ℕ) → number ≡ n → IsWaiting (begun s.write_outs number (mark_homes s pages)).batches n
       waits_now n same =
-          let batch = next_batch s.write_outs number (map (home_of s.table) pages) in
+          let batch = next_batch s.write_outs number (mark_homes s pages) in
           record { w = begun_of batch; there = Contains-push s.write_outs.batches (begun_of batch); early = begun_early batch; mark = same }
 
-      pub marked_pages : s.write_outs.broken ≡ false → AreHomes (geometry_of s.table) (map (home_of s.table) pages) → IsDurable files now (marked_with noted spaces (begun s.write_outs number (map (home_of s.table) pages))) seen may
+      pub marked_pages : s.write_outs.broken ≡ false → AreHomes (geometry_of s.table) (mark_homes s pages) → IsDurable files now (marked_with noted spaces (begun s.write_outs number (mark_homes s pages))) seen may
       marked_pages whole fits =
-          let homes = map (home_of s.table) pages in
+          let homes = mark_homes s pages in
           let outs = begun s.write_outs number homes in
           let x = marked_with noted spaces outs in
           record {
             old = new;
             new = next_contents;
             stands = stands_begun s.table s.write_outs old new next_contents number homes seen may whole (prepared.1 whole) (omega arith) small_mark
-                (subst (λ (g : GeometryValue). AreHomes g homes) (sym sound.write_outs.geometry) fits) below (λ b none. overlaid-other s pages new b none) stands;
+                (subst (λ (g : GeometryValue). AreHomes g homes) (sym sound.write_outs.geometry) fits) below (λ b none. next_other b none) stands;
             written = record {
               before = w.marked;
-              old_are = contents_more files history (marked_by history number) s x (record { table = refl; lengths = refl }) new w.marked w.new_are;
+              old_are = contents_more files history (marked_by history number) s s (record { table = refl; lengths = refl }) new w.marked w.new_are;
               acknowledged = acknowledged_more w.marked history (marked_by history number) (λ n has. absurd (waits n has)) w.grown;
               marked = made;
               new_are = made_contents next_contents next_fits next_lengths next_parts;
@@ -332,25 +371,42 @@ module _ (files : List File) (told : Told) (s : State) (p number : ℕ) (seen : 
               numbered = made_numbered;
               ready = λ broken held. absurd (none_now held);
               clean = inr (made_clean outs next_contents next_parts);
-              same_lengths = next_lengths;
+              same_lengths = λ none. next_lengths;
               frozen = subst (λ (l : List FilePage). All (λ owner. next_contents (home_of s.table owner) ≡ cut_at_end s owner (bytes_at_mark s.hardware.memory owner)) l) (sym (gathers.frozen ∙ cond-true (not s.write_outs.broken) pages [] (not_from_false s.write_outs.broken whole)))
-                  (λ k d lt. overlaid-at s sound new pages (get_or pages k d) in_files (Contains-get_or pages k d lt));
+                  (λ k d lt. next_page (get_or pages k d) ∙ overlaid-at s sound new pages (get_or pages k d) in_files (Contains-get_or pages k d lt));
             };
           }
 
     -- whatever was gathered
-    by_pages : (pages : List FilePage) → Gathers s.hardware.spaces s.hardware.memory s.checkpoint noted (not s.write_outs.broken) pages → (s.write_outs.broken ≡ false → 0 < length pages → AreHomes (geometry_of s.table) (map (home_of s.table) pages))
-        → IsDurable files now (marked_with noted spaces (with_batch s number pages)) seen may
-    by_pages [] gathers fits = marked_nothing gathers
-    by_pages (first ∷ others) gathers fits = elim (cases_Bool s.write_outs.broken) [
-      | inl broken ↦
-          subst (λ (outs : WriteOutsValue). IsDurable files now (marked_with noted spaces outs) seen may) (sym (cond-true s.write_outs.broken s.write_outs (begun s.write_outs number (map (home_of s.table) (first ∷ others))) broken))
-          (marked_lost first others gathers broken)
-      | inr whole ↦
-          subst (λ (outs : WriteOutsValue). IsDurable files now (marked_with noted spaces outs) seen may) (sym (cond-false s.write_outs.broken s.write_outs (begun s.write_outs number (map (home_of s.table) (first ∷ others))) whole))
-          (marked_pages first others gathers whole (fits whole (omega arith)))
-    ]
+    module _ (pages : List FilePage) (gathers : Gathers s.hardware.spaces s.hardware.memory s.checkpoint noted (not s.write_outs.broken) pages) where
+      -- what is written was stored, or a length was set
+      unmarked_by_homes : (home : ℕ) (homes : List ℕ) → mark_homes s pages ≡ home ∷ homes → has_unmarked history ≡ true
+      unmarked_by_homes home homes is = elim (cases_Bool s.resized) [
+        | inl set ↦ unmarked_by_resized history (has_files.resized ∙ set)
+        | inr unset ↦ by_first pages (λ owner has. (touched owner).1 ((gathers.gathered.dirty owner).0 has)) (ap (λ b. cond b (first_home s.table.layout s.table.slots ∷ []) [] ++ map (home_of s.table) pages) (sym unset) ∙ is)
+      ]
+        where
+          by_first : (owners : List FilePage) → ((owner : FilePage) → Contains owners owner → is_touched history owner.file owner.page ≡ true) → map (home_of s.table) owners ≡ home ∷ homes → has_unmarked history ≡ true
+          by_first [] stored is = absurd (cc)
+          by_first (first ∷ owners) stored is = unmarked_by_touched history first.file first.page (stored first (0, omega arith, refl))
+
+      by_homes : (s.write_outs.broken ≡ false → 0 < length (mark_homes s pages) → AreHomes (geometry_of s.table) (mark_homes s pages)) → IsDurable files now (marked_with noted spaces (with_batch s number (mark_homes s pages))) seen may
+      by_homes fits = by (mark_homes s pages) refl
+        where
+          by : (homes : List ℕ) → mark_homes s pages ≡ homes → IsDurable files now (marked_with noted spaces (with_batch s number homes)) seen may
+          by [] is =
+              let none = none_written s pages is in
+              marked_nothing (subst (λ (l : List FilePage). Gathers s.hardware.spaces s.hardware.memory s.checkpoint noted (not s.write_outs.broken) l) none.1 gathers) none.0
+          by (home ∷ homes) is = elim (cases_Bool s.write_outs.broken) [
+            | inl broken ↦
+                subst (λ (outs : WriteOutsValue). IsDurable files now (marked_with noted spaces outs) seen may) (sym (cond-true s.write_outs.broken s.write_outs (begun s.write_outs number (home ∷ homes)) broken))
+                (marked_lost pages gathers (unmarked_by_homes home homes is) broken)
+            | inr whole ↦
+                subst (λ (outs : WriteOutsValue). IsDurable files now (marked_with noted spaces outs) seen may) (sym (cond-false s.write_outs.broken s.write_outs (begun s.write_outs number (home ∷ homes)) whole))
+                (subst (λ (l : List ℕ). IsDurable files now (marked_with noted spaces (begun s.write_outs number l)) seen may) is
+                (marked_pages pages gathers (unmarked_by_homes home homes is) whole (fits whole (omega (arith, ap length is)))))
+          ]
 
   -- after a mark; that a batch's home blocks fit is a fact of the state after it
-  pub marked_durable : (new_state : State) (is : MarkMade s p number new_state) → (s.write_outs.broken ≡ false → 0 < length is.pages → AreHomes (geometry_of s.table) (map (home_of s.table) is.pages)) → IsDurable files now new_state seen may
-  marked_durable new_state is fits = subst (λ (x : State). IsDurable files now x seen may) (sym is.done) (by_pages is.noted is.spaces is.pages is.gathered fits)
+  pub marked_durable : (new_state : State) (is : MarkMade s p number new_state) → (s.write_outs.broken ≡ false → 0 < length (mark_homes s is.pages) → AreHomes (geometry_of s.table) (mark_homes s is.pages)) → IsDurable files now new_state seen may
+  marked_durable new_state is fits = subst (λ (x : State). IsDurable files now x seen may) (sym is.done) (by_homes is.noted is.spaces is.pages is.gathered fits)

@@ -9,7 +9,7 @@ use Rattle.machine.proofs.Names.{stands_left, Act, Reply, Step, Event, Memory, A
 use Rattle.machine.proofs.Names.{State, Whole, home_of, end_change, FlushMade, HasStepped, FlushFailed, MarkMade, with_batch}
 use Rattle.machine.proofs.Names.{work_asked, reply_to, after_record, after_failure, Told, tell, ended_by, ReadsBack}
 use Rattle.machine.proofs.Names.{StepIsSafe, StopsInStep, step_work, StepMade, StepTaken, IsSound, IsArranged}
-use Rattle.machine.proofs.Names.{lengths_of, IsTracked, said_all, IsMoved, Performed, Moved, Marked, Failed}
+use Rattle.machine.proofs.Names.{lengths_of, mark_homes, is_page_next, IsTracked, said_all, IsMoved, Performed, Moved, Marked, Failed}
 use Rattle.page_entry.specs.declared.refusal.Refusal.TheVariants as refusals
 use Rattle.journal.specs.declared.flushed.Flushed.TheVariants as flushed
 use Rattle.machine.specs.declared.act.Act.TheVariants as acts
@@ -145,13 +145,13 @@ module _ (files : List File) (told : Told) (s : State) (disk : List ℕ) (may : 
   -- ---- a mark
 
   -- the home blocks of what was gathered fit a batch
-  fits : (number : ℕ) (is : MarkMade s p number new) → s.write_outs.broken ≡ false → 0 < length is.pages → AreHomes (geometry_of s.table) (map (home_of s.table) is.pages)
-  fits number is whole some = by is.pages some is.done
+  fits : (number : ℕ) (is : MarkMade s p number new) → s.write_outs.broken ≡ false → 0 < length (mark_homes s is.pages) → AreHomes (geometry_of s.table) (mark_homes s is.pages)
+  fits number is whole some = by (mark_homes s is.pages) some is.done
     where
-      by : (pages : List FilePage) → 0 < length pages → new ≡ record (end_change s p is.spaces s.hardware.memory (without_notes is.noted)) { write_outs = with_batch s number pages; marks = number } → AreHomes (geometry_of s.table) (map (home_of s.table) pages)
+      by : (homes : List ℕ) → 0 < length homes → new ≡ record (end_change s p is.spaces s.hardware.memory (without_notes is.noted)) { write_outs = with_batch s number homes; marks = number; resized = false } → AreHomes (geometry_of s.table) homes
       by [] some done = absurd (omega arith)
-      by (first ∷ others) some done =
-          let homes = map (home_of s.table) (first ∷ others) in
+      by (home ∷ others) some done =
+          let homes : List ℕ = home ∷ others in
           let outs : new.write_outs ≡ begun s.write_outs number homes = ap (λ (x : State). x.write_outs) done ∙ cond-false s.write_outs.broken s.write_outs (begun s.write_outs number homes) whole in
           let table : new.table ≡ s.table = ap (λ (x : State). x.table) done in
           let there : Contains new.write_outs.batches (begun_of (next_batch s.write_outs number homes)) =
@@ -203,23 +203,23 @@ module _ (files : List File) (told : Told) (s : State) (disk : List ℕ) (may : 
     abbrev IsAsTold : State → Type 0
     IsAsTold x = IsArranged (with_events events) x × HasPages files (with_events events) x
 
-    beside : (x : State) → x.hardware.shootdown ≡ s.hardware.shootdown → x.hardware.spaces ≡ s.hardware.spaces → SameFiles s x → SamePages s x → IsAsTold x
-    beside x shootdown spaces same pages = (
+    beside : (x : State) → x.hardware.shootdown ≡ s.hardware.shootdown → x.hardware.spaces ≡ s.hardware.spaces → SameFiles s x → x.resized ≡ s.resized → SamePages s x → IsAsTold x
+    beside x shootdown spaces same set pages = (
       arranged_beside (with_events events) s x (with_history (told.history ++ events) t.arranged) shootdown spaces same.lengths,
-      pages_quiet files told (with_events events) s x events refl quiet same has pages,
+      pages_quiet files told (with_events events) s x events refl quiet same set has pages,
     )
 
     stepped : FlushMade s disk p (next_answer s.write_outs) new disk' → IsAsTold new
     stepped made =
         subst IsAsTold (sym made.done)
-        (elim (is_some (outs_record s.write_outs)) as (λ b. IsAsTold (record (cond b (after_record s) s) { write_outs = outs_after s.write_outs (next_answer s.write_outs) })) [
-          | true ↦ beside _ refl refl (record { table = refl; lengths = refl }) (record { frames = refl; dirty = λ frame. (λ d. d, λ d. d) })
-          | false ↦ beside _ refl refl (record { table = refl; lengths = refl }) (record { frames = refl; dirty = λ frame. (λ d. d, λ d. d) })
+        (elim (is_page_next s) as (λ b. IsAsTold (record (cond b (after_record s) s) { write_outs = outs_after s.write_outs (next_answer s.write_outs) })) [
+          | true ↦ beside _ refl refl (record { table = refl; lengths = refl }) refl (record { frames = refl; dirty = λ frame. (λ d. d, λ d. d) })
+          | false ↦ beside _ refl refl (record { table = refl; lengths = refl }) refl (record { frames = refl; dirty = λ frame. (λ d. d, λ d. d) })
         ])
 
   module _ (made : FlushMade s disk p (next_answer s.write_outs) new disk') (work : step_work s act reply ≡ work_asked s) (sure_now : work_asked s ≡ Sync → Only may' disk) where
     abbrev after_it : State
-    after_it = record (cond (is_some (outs_record s.write_outs)) (after_record s) s) { write_outs = outs_after s.write_outs (next_answer s.write_outs) }
+    after_it = record (cond (is_page_next s) (after_record s) s) { write_outs = outs_after s.write_outs (next_answer s.write_outs) }
 
     landed : (events : List Event) → IsDurable files (with_events events) after_it (worked disk (work_asked s)) may' → IsDurable files (with_events events) new disk' may'
     landed events is =
@@ -228,13 +228,13 @@ module _ (files : List File) (told : Told) (s : State) (disk : List ℕ) (may : 
 
     goes_on : (next_answer s.write_outs ≡ flushed.Device → ⊥) → ((n : ℕ) → next_answer s.write_outs ≡ flushed.Committed n → ⊥) → IsDurable files (with_events []) new disk' may'
     goes_on other uncommitting =
-        landed [] (flush_goes_on files told s disk may t.old t.new t.sound t.stands t.written p made.allowed made.some (is_some (outs_record s.write_outs)) may' (left_by (work_asked s) work) sure_now other uncommitting)
+        landed [] (flush_goes_on files told s disk may t.old t.new t.sound t.stands t.written p made.allowed made.some (is_page_next s) may' (left_by (work_asked s) work) sure_now other uncommitting)
 
     step_durable : (a : Flushed) → next_answer s.write_outs ≡ a → GoesOn a → IsDurable files (with_events (acknowledged_by a)) new disk' may'
     step_durable flushed.Going is goes = goes_on (λ d. let never : flushed.Going ≡ flushed.Device = sym is ∙ d in cc) (λ n c. let never : flushed.Going ≡ flushed.Committed n = sym is ∙ c in cc)
     step_durable (flushed.Committed number) is goes =
         landed (Acknowledge number ∷ [])
-        (flush_commits files told s disk may t.old t.new t.sound t.stands t.written p made.allowed made.some (is_some (outs_record s.write_outs)) may' (left_by (work_asked s) work) sure_now number is)
+        (flush_commits files told s disk may t.old t.new t.sound t.stands t.written p made.allowed made.some (is_page_next s) may' (left_by (work_asked s) work) sure_now number is)
     step_durable (flushed.Done number) is goes =
         goes_on (λ d. let never : flushed.Done number ≡ flushed.Device = sym is ∙ d in cc) (λ n c. let never : flushed.Done number ≡ flushed.Committed n = sym is ∙ c in cc)
     step_durable flushed.Device is goes = absurd goes
@@ -255,7 +255,7 @@ module _ (files : List File) (told : Told) (s : State) (disk : List ℕ) (may : 
   failing act_is reply_is made =
       let work : step_work s act reply ≡ work_asked s = λ i. step_work s (act_is i) (reply_is i) in
       let as_told : IsAsTold [] (quiet_nothing told.history) new =
-      subst (IsAsTold [] (quiet_nothing told.history)) (sym made.done) (beside [] (quiet_nothing told.history) (after_failure s) refl refl (record { table = refl; lengths = refl }) (record { frames = refl; dirty = λ frame. (λ d. d, λ d. d) })) in
+      subst (IsAsTold [] (quiet_nothing told.history)) (sym made.done) (beside [] (quiet_nothing told.history) (after_failure s) refl refl (record { table = refl; lengths = refl }) refl (record { frames = refl; dirty = λ frame. (λ d. d, λ d. d) })) in
       outcome_as (with_events []) (work_asked s) (λ i. tell told (record { p = p; act = act_is i }) (reply_is i)) work
       (tracked_of (with_events []) as_told.0 as_told.1 (flush_failed files told s disk may t.old t.new t.sound t.stands t.written p made.allowed made.some new disk' may' made.done (left_by (work_asked s) work)))
       (flush_within files told s disk may t.old t.new t.sound t.stands t.written p made.allowed made.some)

@@ -7,7 +7,7 @@ use Rattle.machine.proofs.Names.{Device, Broken, Stage, Recording, Describing, S
 use Rattle.machine.proofs.Names.{is_committed, answer_at, WriteOut, begun_of, next_stage, has_committed, advanced_of}
 use Rattle.machine.proofs.Names.{answer_of, has_uncommitted, advanced, batches_after, HasBlock, IsOlder, AreInOrder}
 use Rattle.machine.proofs.Names.{IsAt, stage_is, committed_parts, done_committed, IsWaiting, FilePage, State, home_of}
-use Rattle.machine.proofs.Names.{IsSound, waiting_homes}
+use Rattle.machine.proofs.Names.{IsSound, waiting_homes, file_homes}
 use Rattle.journal.specs.WriteOuts.{current}
 use Rattle.machine.proofs.sound.Waiting.{waiting-none, blocks, committed_steps, committed_still}
 use Rattle.machine.proofs.durable.Lists.{first_or, some_same, none_some, nothing_mapped}
@@ -178,10 +178,10 @@ none_current (x ∷ newer) is w there = elim (cases_Bool (has_uncommitted newer)
 
 module _ (s : State) (sound : IsSound s) where
   pub broken_frozen : s.write_outs.broken ≡ true → s.checkpoint.frozen ≡ []
-  broken_frozen broken = nothing_mapped (home_of s.table) s.checkpoint.frozen (sound.write_outs.frozen ∙ cond-true s.write_outs.broken [] (waiting_homes s.write_outs) broken)
+  broken_frozen broken = nothing_mapped (home_of s.table) s.checkpoint.frozen (sound.write_outs.frozen ∙ cond-true s.write_outs.broken [] (file_homes s.table (waiting_homes s.write_outs)) broken)
 
-  pub whole_frozen : s.write_outs.broken ≡ false → map (home_of s.table) s.checkpoint.frozen ≡ waiting_homes s.write_outs
-  whole_frozen whole = sound.write_outs.frozen ∙ cond-false s.write_outs.broken [] (waiting_homes s.write_outs) whole
+  pub whole_frozen : s.write_outs.broken ≡ false → map (home_of s.table) s.checkpoint.frozen ≡ file_homes s.table (waiting_homes s.write_outs)
+  whole_frozen whole = sound.write_outs.frozen ∙ cond-false s.write_outs.broken [] (file_homes s.table (waiting_homes s.write_outs)) whole
 
   -- the home block of a frozen page belongs to a batch
   pub frozen_block : (owner : FilePage) → Contains s.checkpoint.frozen owner → HasBlock s.write_outs (home_of s.table owner)
@@ -194,5 +194,5 @@ module _ (s : State) (sound : IsSound s) where
 pub committed_frozen : (s : State) → IsSound s → has_uncommitted s.write_outs.batches ≡ false → s.checkpoint.frozen ≡ []
 committed_frozen s sound none = elim (cases_Bool s.write_outs.broken) [
   | inl broken ↦ broken_frozen s sound broken
-  | inr whole ↦ nothing_mapped (home_of s.table) s.checkpoint.frozen (whole_frozen s sound whole ∙ waiting-none s.write_outs.batches none)
+  | inr whole ↦ nothing_mapped (home_of s.table) s.checkpoint.frozen (whole_frozen s sound whole ∙ ap (file_homes s.table) (waiting-none s.write_outs.batches none))
 ]

@@ -44,7 +44,7 @@ ended_sound : (s : State) (says : Saying) (new : State) → EndsChange s says ne
 ended_sound s says new is sound =
     let memory = s.hardware.memory in
     unchanged_sound _ new is.done (still_sound sound refl refl
-    (ended_spaces s is.p is.change is.spaces memory is.checkpoint s.write_outs s.marks is.may is.only is.wider is.are_spaces is.same_spaces is.in_table sound)
+    (ended_spaces s is.p is.change is.spaces memory is.checkpoint s.write_outs s.marks s.resized is.may is.only is.wider is.are_spaces is.same_spaces is.in_table sound)
     (memory_beside s (finished s.hardware.shootdown is.p) is.spaces is.checkpoint s.write_outs s.marks is.same_frozen is.same_notes is.noted is.backed sound.memory)
     (write_outs_moved s (record { shootdown = finished s.hardware.shootdown is.p; spaces = is.spaces; memory = memory }) is.checkpoint is.same_frozen
     (λ owner there. there) sound.write_outs))

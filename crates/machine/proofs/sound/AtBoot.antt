@@ -47,9 +47,10 @@ module _ (table : SuperValue) (lengths : List ℕ) (shape : Shape) (is : IsShape
     few_batches = omega arith;
     older = tt;
     homes = λ k d within. absurd (omega arith);
-    in_memory = λ k d within. absurd (omega arith);
+    sources = λ k d within. absurd (omega arith);
     marked = λ k d within. absurd (omega arith);
     few_marks = omega arith;
+    settled = λ set. absurd (false≢true set);
     frozen = refl;
   }
 

@@ -6,7 +6,8 @@ use Rattle.machine.proofs.Names.{ChangesOnlyAffected, Contains-map, in_flat_map,
 use Rattle.machine.proofs.Names.{IsUnused, IsNoWider, at-with_processor, IsShootdown-finished, IsUnused-from_Coheres}
 use Rattle.machine.proofs.Names.{Coheres-finished, Coheres-changed, CheckpointState, State, home_of, not_there}
 use Rattle.machine.proofs.Names.{lock_refusal, MayChange, end_change, IsPrepared, AreSpacesSound, AreWriteOutsSound}
-use Rattle.machine.proofs.Names.{IsSound, waiting_homes}
+use Rattle.machine.proofs.Names.{IsSound, waiting_homes, file_homes, leb, first_file_home}
+use Rattle.machine.proofs.sound.Sources.{filter_contains}
 use Rattle.std.proofs.Common.{Contains}
 use Rattle.page_entry.specs.declared.refusal.Refusal.TheVariants as refusals
 use Rattle.machine.proofs.durable.Lists.{contains_drop}
@@ -47,11 +48,11 @@ unused_change s p change sound may =
 
 -- ---- processors and page tables after the change
 
-pub ended_spaces : (s : State) (p : ℕ) (change : Change) (spaces : Spaces) (memory : FramesState) (checkpoint : CheckpointState) (outs : WriteOutsValue) (marks : ℕ) → MayChange s p change
+pub ended_spaces : (s : State) (p : ℕ) (change : Change) (spaces : Spaces) (memory : FramesState) (checkpoint : CheckpointState) (outs : WriteOutsValue) (marks : ℕ) (resized : Bool) → MayChange s p change
     → ChangesOnlyAffected change s.hardware.spaces spaces → IsNoWider change s.hardware.spaces spaces → AreSpaces spaces → ((q : ℕ) → has_space spaces q ≡ has_space s.hardware.spaces q)
     → ((pcid page : ℕ) (place : Place) → place_at spaces pcid page ≡ Some place → place.file < length s.table.files)
-    → IsSound s → AreSpacesSound (record (end_change s p spaces memory checkpoint) { write_outs = outs; marks = marks })
-ended_spaces s p change spaces memory checkpoint outs marks may only wider are same in_table sound =
+    → IsSound s → AreSpacesSound (record (end_change s p spaces memory checkpoint) { write_outs = outs; marks = marks; resized = resized })
+ended_spaces s p change spaces memory checkpoint outs marks resized may only wider are same in_table sound =
     let sd = s.hardware.shootdown in
     let is = holder s p change may in
     let its_change : (lock : Lock) → sd.lock ≡ Some lock → change ≡ lock.change = λ lock held. one lock (sym is.held ∙ held) in
@@ -81,6 +82,7 @@ waiting_has_block outs home there =
 -- the home block of a frozen page is one of a batch
 pub frozen_has_block : (s : State) (owner : FilePage) → AreWriteOutsSound s → s.write_outs.broken ≡ false → Contains s.checkpoint.frozen owner → HasBlock s.write_outs (home_of s.table owner)
 frozen_has_block s owner is whole there =
-    let homes : map (home_of s.table) s.checkpoint.frozen ≡ waiting_homes s.write_outs = is.frozen ∙ ap (λ b. cond b [] (waiting_homes s.write_outs)) whole in
+    let homes : map (home_of s.table) s.checkpoint.frozen ≡ file_homes s.table (waiting_homes s.write_outs) = is.frozen ∙ ap (λ b. cond b [] (file_homes s.table (waiting_homes s.write_outs))) whole in
     waiting_has_block s.write_outs (home_of s.table owner)
-    (subst (λ (l : List ℕ). Contains l (home_of s.table owner)) homes (Contains-map (home_of s.table) s.checkpoint.frozen owner there))
+    (filter_contains (leb (first_file_home s.table.layout s.table.slots)) (waiting_homes s.write_outs) (home_of s.table owner)
+    (subst (λ (l : List ℕ). Contains l (home_of s.table owner)) homes (Contains-map (home_of s.table) s.checkpoint.frozen owner there)))

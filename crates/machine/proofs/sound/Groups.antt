@@ -7,6 +7,7 @@ use Rattle.machine.proofs.Names.{is_user_space, Lock, ShootdownState, IsShootdow
 use Rattle.machine.proofs.Names.{is_noted, same_page, AreRising, AreBacked, frame_at, is_in_memory, Hardware, State}
 use Rattle.machine.proofs.Names.{home_of, pages_in_file, with_shootdown, IsPrepared, IsMemorySound, AreWriteOutsSound}
 use Rattle.machine.proofs.Names.{IsSound}
+use Rattle.machine.proofs.sound.Sources.{source_stays}
 use Rattle.std.proofs.Common.{Contains}
 
 pub unchanged_sound : (s new : State) → new ≡ s → IsSound s → IsSound new
@@ -60,14 +61,14 @@ write_outs_kept s hardware checkpoint same stays is = record {
   few_batches = is.few_batches;
   older = is.older;
   homes = is.homes;
-  in_memory = λ k d within i e below.
-      let was = is.in_memory k d within i e below in
+  sources = λ k d within i e below.
       let w = get_or s.write_outs.batches k d in
-      let has : HasBlock s.write_outs (home_of s.table was.0) =
-      (w, Contains-get_or s.write_outs.batches k d within, subst (Contains w.batch.homes) was.1 (Contains-get_or w.batch.homes i e below)) in
-      (was.0, was.1, stays was.0 has was.2);
+      source_stays s.table s.hardware.memory hardware.memory (get_or w.batch.homes i e)
+      (λ owner at there. stays owner (w, Contains-get_or s.write_outs.batches k d within, subst (Contains w.batch.homes) at (Contains-get_or w.batch.homes i e below)) there)
+      (is.sources k d within i e below);
   marked = is.marked;
   few_marks = is.few_marks;
+  settled = is.settled;
   frozen = ap (map (home_of s.table)) same ∙ is.frozen;
 }
 

@@ -7,6 +7,7 @@ use Rattle.machine.proofs.Names.{block_count, geometry_of, RiseWithin, AreHomes,
 use Rattle.machine.proofs.Names.{total_pages-take_le, Frame, IsBefore, page_of, is_of_page, AreRising}
 use Rattle.machine.proofs.Names.{has_page-list_any, list_any-has_page, AreRising-tail, before_each, is_in_memory, State}
 use Rattle.machine.proofs.Names.{home_of, length_of, IsInFile, capacity_of, IsSound, sum_by-set, count_by-le-length}
+use Rattle.machine.proofs.Names.{Bool, false, ◌++◌, lengths_blocks, mark_homes}
 use Rattle.machine.proofs.sound.Lists.{held_frame, same_some}
 
 -- ---- where files lie
@@ -102,3 +103,21 @@ gathered_homes s pages sound rising some in_files there = record {
   few = omega (arith, pages_few pages s.hardware.memory.frames rising there, count_by-le-length is_some s.hardware.memory.frames, sound.memory.few_frames, length-map pages (home_of s.table));
   rising = rising_homes s sound.within pages (first_home s.table.layout s.table.slots) rising in_files (λ owner rest same. omega arith);
 }
+
+-- with that of the lengths, if one was set
+pub mark_homes_are : (s : State) (pages : List FilePage) → IsSound s → AreRising pages → 0 < length (mark_homes s pages) → All (IsInFile s) pages → All (λ owner. is_in_memory s.hardware.memory owner ≡ true) pages → AreHomes (geometry_of s.table) (mark_homes s pages)
+mark_homes_are s pages sound rising some in_files there = by s.resized (λ set. (sound.write_outs.settled set).2) some
+  where
+    lengths_home : ℕ
+    lengths_home = first_home s.table.layout s.table.slots
+
+    few : length pages ≤ length s.hardware.memory.frames
+    few = omega (arith, pages_few pages s.hardware.memory.frames rising there, count_by-le-length is_some s.hardware.memory.frames)
+
+    by : (set : Bool) → (set ≡ true → 0 < lengths_blocks s.table.layout) → 0 < length (cond set (lengths_home ∷ []) [] ++ map (home_of s.table) pages) → AreHomes (geometry_of s.table) (cond set (lengths_home ∷ []) [] ++ map (home_of s.table) pages)
+    by true has some = record {
+      some = some;
+      few = omega (arith, has refl, few, sound.memory.few_frames, sound.fits.some_slots, length-map pages (home_of s.table));
+      rising = (omega arith, omega (arith, has refl), rising_homes s sound.within pages (lengths_home + 1) rising in_files (λ owner rest same. omega (arith, has refl)));
+    }
+    by false has some = gathered_homes s pages sound rising (omega (arith, some, length-map pages (home_of s.table))) in_files there

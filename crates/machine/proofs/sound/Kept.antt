@@ -13,7 +13,7 @@ module _ {s : State} {disk : List ℕ} {p : ℕ} {act : Act} {reply : Reply} {ne
   performed_sound (Moved by) = moves_sound disk s by.says new by.moves sound
   performed_sound (Marked number act_is reply_is made same) = marked_sound s p number new made sound
   performed_sound (Flushed act_is made fine) = flushed_sound s sound disk p reply new disk' made fine
-  performed_sound (Failed act_is reply_is made) = unchanged_sound (after_failure s) new made.done (failed_sound s sound)
+  performed_sound (Failed act_is reply_is made) = unchanged_sound (after_failure s) new made.done (failed_sound s sound made.some)
 
 pub sound_kept : (s : State) (disk : List ℕ) (step : Step) (reply : Reply) (new : State) (disk' : List ℕ) → IsSound s
     → Rules s disk step reply new disk' → IsSound new

@@ -9,6 +9,9 @@ use Rattle.machine.proofs.Names.{next_page, bytes_with, bytes_at_mark, IsMemory,
 use Rattle.journal.specs.WriteOut.{next_record as record_of}
 use Rattle.journal.specs.WriteOuts.{current}
 use Rattle.machine.proofs.sound.Lists.{AreOnce, held_frame, once_frames, once_copies}
+use Rattle.machine.proofs.Names.{◌+◌, drop, drop_more, leb, option_map_or, false≢true, Contains, Contains-get_or}
+use Rattle.machine.proofs.Names.{WriteOut, advanced}
+use Rattle.machine.proofs.Names.{first_file_home, file_homes, is_page_next}
 use Rattle.machine.proofs.sound.Waiting.{waits_of, waiting, recorded}
 use Rattle.machine.proofs.sound.Frames.{held_in_memory}
 
@@ -20,30 +23,83 @@ pub record IsRecorded (s : State) : Type 0 where
   pub there : is_in_memory s.hardware.memory (next_page s) ≡ true
   pub home : outs_home s.write_outs ≡ Some (home_of s.table (next_page s))
 
-whole_record : (s : State) (i : ℕ) → outs_record s.write_outs ≡ Some i → (s.write_outs.broken ≡ false) × (option_and_then record_of (current s.write_outs.batches) ≡ Some i)
-whole_record s i is = by s.write_outs.broken is
-  where
-    by : (b : Bool) → cond b None (option_and_then record_of (current s.write_outs.batches)) ≡ Some i → (b ≡ false) × (option_and_then record_of (current s.write_outs.batches) ≡ Some i)
-    by true e = absurd (cc)
-    by false e = (refl, e)
+-- the block whose record comes next is the first that waits, and the others wait after it
+pub record IsComing (s : State) : Type 0 where
+  pub home : ℕ
+  pub is : outs_home s.write_outs ≡ Some home
+  pub w : WriteOut
+  pub current_is : current s.write_outs.batches ≡ Some w
+  pub among : Contains w.batch.homes home
+  pub rest : List ℕ
+  pub waits : waiting s.write_outs.batches ≡ home ∷ rest
+  pub after : waiting (advanced s.write_outs.batches) ≡ rest
 
-pub next_recorded : (s : State) (i : ℕ) → IsSound s → outs_record s.write_outs ≡ Some i → IsRecorded s
-next_recorded s i sound is =
-    let parts = whole_record s i is in
-    let made = recorded s.write_outs.batches i sound.write_outs.older parts.1 in
+pub coming : (s : State) → IsSound s → s.write_outs.broken ≡ false → (i : ℕ) → option_and_then record_of (current s.write_outs.batches) ≡ Some i → IsComing s
+coming s sound whole i is =
+    let made = recorded s.write_outs.batches i sound.write_outs.older is in
     let w = made.w in
-    let homes : map (home_of s.table) s.checkpoint.frozen ≡ waits_of w = sound.write_outs.frozen ∙ cond-false s.write_outs.broken [] (waiting s.write_outs.batches) parts.0 ∙ made.before in
     let few : w.steps < length w.batch.homes = omega (arith, made.steps, made.within) in
-    let some : 0 < length s.checkpoint.frozen = omega (arith, length-map s.checkpoint.frozen (home_of s.table), ap length homes, length-drop w.steps w.batch.homes, few) in
-    let its_record : record_of w ≡ Some i = sym (ap (option_and_then record_of) made.is) ∙ parts.1 in
-    let at : home_of s.table (next_page s) ≡ slice_index w.batch.homes i =
-    sym (get_or-map (home_of s.table) s.checkpoint.frozen 0 (record { file = 0; page = 0 }) 0 some) ∙ ap (λ (l : List ℕ). get_or l 0 0) homes ∙ get_or-drop w.steps w.batch.homes 0 0
-    ∙ ap (λ n. get_or w.batch.homes n 0) (omega (arith, made.steps)) in
+    let its_record : record_of w ≡ Some i = sym (ap (option_and_then record_of) made.is) ∙ is in
+    let left : waits_of w ≡ get_or w.batch.homes w.steps 0 ∷ drop (w.steps + 1) w.batch.homes = drop_more w.batch.homes w.steps 0 few in
+    let at : ◌≡◌ {A = ℕ} (slice_index w.batch.homes i) (get_or w.batch.homes w.steps 0) = ap (λ n. get_or w.batch.homes n 0) (sym made.steps) in
+    record {
+      home = get_or w.batch.homes w.steps 0;
+      is = cond-false s.write_outs.broken None (option_and_then next_home (current s.write_outs.batches)) whole
+          ∙ ap (option_and_then next_home) made.is ∙ ap (option_map (slice_index w.batch.homes)) its_record ∙ ap (λ n. Some n) at;
+      w = w;
+      current_is = made.is;
+      among = Contains-get_or w.batch.homes w.steps 0 few;
+      rest = drop (w.steps + 1) w.batch.homes;
+      waits = made.before ∙ left;
+      after = made.after ∙ ap (drop 1) left;
+    }
+
+-- whether it is a page's
+pub page_next : (s : State) (home : ℕ) → outs_home s.write_outs ≡ Some home → is_page_next s ≡ leb (first_file_home s.table.layout s.table.slots) home
+page_next s home is = ap (λ (o : Option ℕ). option_map_or (leb (first_file_home s.table.layout s.table.slots)) o false) is
+
+no_home : (w : Option WriteOut) → option_and_then record_of w ≡ None → option_and_then next_home w ≡ None
+no_home None none = refl
+no_home (Some w) none = ap (option_map (slice_index w.batch.homes)) none
+
+-- no page's record comes where none does
+pub no_page_next : (s : State) → s.write_outs.broken ≡ false → option_and_then record_of (current s.write_outs.batches) ≡ None → is_page_next s ≡ false
+no_page_next s whole none =
+    ap (λ (o : Option ℕ). option_map_or (leb (first_file_home s.table.layout s.table.slots)) o false)
+    (cond-false s.write_outs.broken None (option_and_then next_home (current s.write_outs.batches)) whole ∙ no_home (current s.write_outs.batches) none)
+
+-- a page comes next only where a record does, of a machine that isn't broken
+pub record IsPageNext (s : State) : Type 0 where
+  pub whole : s.write_outs.broken ≡ false
+  pub place : ℕ
+  pub record_is : option_and_then record_of (current s.write_outs.batches) ≡ Some place
+
+pub page_comes : (s : State) → is_page_next s ≡ true → IsPageNext s
+page_comes s page = by s.write_outs.broken refl page
+  where
+    some : (whole : s.write_outs.broken ≡ false) (o : Option ℕ) → option_and_then record_of (current s.write_outs.batches) ≡ o → IsPageNext s
+    some whole None none = absurd (false≢true (sym (no_page_next s whole none) ∙ page))
+    some whole (Some i) is = record { whole = whole; place = i; record_is = is }
+
+    by : (b : Bool) → s.write_outs.broken ≡ b → option_map_or (leb (first_file_home s.table.layout s.table.slots)) (cond b None (option_and_then next_home (current s.write_outs.batches))) false ≡ true → IsPageNext s
+    by true broken e = absurd (false≢true e)
+    by false whole e = some whole (option_and_then record_of (current s.write_outs.batches)) refl
+
+pub next_recorded : (s : State) → IsSound s → is_page_next s ≡ true → IsRecorded s
+next_recorded s sound page =
+    let p = page_comes s page in
+    let c = coming s sound p.whole p.place p.record_is in
+    let of_page : leb (first_file_home s.table.layout s.table.slots) c.home ≡ true = sym (page_next s c.home c.is) ∙ page in
+    let homes : map (home_of s.table) s.checkpoint.frozen ≡ c.home ∷ file_homes s.table c.rest =
+    sound.write_outs.frozen ∙ cond-false s.write_outs.broken [] (file_homes s.table (waiting s.write_outs.batches)) p.whole ∙ ap (file_homes s.table) c.waits
+    ∙ cond-true (leb (first_file_home s.table.layout s.table.slots) c.home) (c.home ∷ file_homes s.table c.rest) (file_homes s.table c.rest) of_page in
+    let some : 0 < length s.checkpoint.frozen = omega (arith, length-map s.checkpoint.frozen (home_of s.table), ap length homes) in
+    let at : home_of s.table (next_page s) ≡ c.home =
+    sym (get_or-map (home_of s.table) s.checkpoint.frozen 0 (record { file = 0; page = 0 }) 0 some) ∙ ap (λ (l : List ℕ). get_or l 0 0) homes in
     record {
       some = some;
       there = sound.memory.frozen 0 (record { file = 0; page = 0 }) some;
-      home = cond-false s.write_outs.broken None (option_and_then next_home (current s.write_outs.batches)) parts.0
-          ∙ ap (option_and_then next_home) made.is ∙ ap (option_map (slice_index w.batch.homes)) its_record ∙ ap (λ n. Some n) (sym at);
+      home = c.is ∙ ap (λ n. Some n) (sym at);
     }
 
 -- ---- its bytes

@@ -12,6 +12,8 @@ use Rattle.journal.specs.declared.flushed.Flushed.TheVariants as flushed
 use Rattle.journal.specs.WriteOuts.{current}
 use Rattle.machine.proofs.sound.Lists.{once_frames, once_copies, memory_from, AreOnce-fewer, AreOnce-none}
 use Rattle.machine.proofs.sound.Groups.{prepared_moved}
+use Rattle.machine.proofs.sound.Sources.{source_stays}
+use Rattle.machine.proofs.Names.{IsSource, file_homes}
 use Rattle.machine.proofs.sound.Waiting.{waiting, length-advanced, committed-advanced, current_uncommitted, all_after, committed_no_record}
 
 -- ---- what a step leaves of processors and write-outs
@@ -20,24 +22,33 @@ module _ (s : State) (sound : IsSound s) where
   -- the write-outs, where frames keep their pages
   pub stepped_write_outs : (answer : Flushed) (broken : Bool) (hardware : Hardware) (checkpoint : CheckpointState) → hardware.memory.frames ≡ s.hardware.memory.frames
       → AreOlderCommitted (batches_after answer s.write_outs.batches) → length (batches_after answer s.write_outs.batches) ≤ length s.write_outs.batches
-      → map (home_of s.table) checkpoint.frozen ≡ cond broken [] (waiting (batches_after answer s.write_outs.batches))
+      → (s.resized ≡ true → broken ≡ false)
+      → map (home_of s.table) checkpoint.frozen ≡ cond broken [] (file_homes s.table (waiting (batches_after answer s.write_outs.batches)))
       → AreWriteOutsSound (record s { hardware = hardware; checkpoint = checkpoint; write_outs = record s.write_outs { batches = batches_after answer s.write_outs.batches; broken = broken } })
-  stepped_write_outs answer broken hardware checkpoint same older few frozen =
+  stepped_write_outs answer broken hardware checkpoint same older few unset frozen =
       let is = sound.write_outs in
       let batches = s.write_outs.batches in
-      let in_mem : ℕ → Type 0 = λ home. (owner : FilePage) × (home ≡ home_of s.table owner) × (is_in_memory hardware.memory owner ≡ true) in
-      let still : All (λ (w : WriteOut). All in_mem w.batch.homes) batches = λ k d within i e below.
-      let was = is.in_memory k d within i e below in (was.0, was.1, ap (λ (frames : List (Option Frame)). list_any (is_of_page was.0) frames) same ∙ was.2) in
+      let source : ℕ → Type 0 = IsSource s.table hardware.memory in
+      let still : All (λ (w : WriteOut). All source w.batch.homes) batches = λ k d within i e below.
+      source_stays s.table s.hardware.memory hardware.memory (get_or (get_or batches k d).batch.homes i e)
+      (λ owner at there. ap (λ (frames : List (Option Frame)). list_any (is_of_page owner) frames) same ∙ there) (is.sources k d within i e below) in
       record {
         geometry = is.geometry;
         few_batches = omega (arith, few, is.few_batches);
         older = older;
         homes = all_after (λ (b : Batch). AreHomes (geometry_of s.table) b.homes) answer batches is.homes;
-        in_memory = all_after (λ (b : Batch). All in_mem b.homes) answer batches still;
+        sources = all_after (λ (b : Batch). All source b.homes) answer batches still;
         marked = all_after (λ (b : Batch). (0 < b.mark) × (b.mark ≤ s.marks)) answer batches is.marked;
         few_marks = is.few_marks;
+        settled = λ set. (ap (batches_after answer) (is.settled set).0 ∙ none_after answer, unset set, (is.settled set).2);
         frozen = frozen;
       }
+    where
+      none_after : (answer : Flushed) → batches_after answer [] ≡ []
+      none_after flushed.Device = refl
+      none_after flushed.Broken = refl
+      none_after (flushed.Done mark) = refl
+      none_after answer = refl
 
   -- the processors and the page tables
   pub stepped_spaces : (memory : FramesState) (checkpoint : CheckpointState) (outs : WriteOutsValue) → memory.frames ≡ s.hardware.memory.frames

@@ -53,7 +53,7 @@ module _ (s : State) where
   leaves_with : (h : Hardware) (c : CheckpointState) (new : State) → c.frozen ≡ s.checkpoint.frozen → KeepsLock h
       → ((owner : FilePage) → Contains s.checkpoint.frozen owner → bytes_at_mark h.memory owner ≡ bytes_at_mark s.hardware.memory owner)
       → new ≡ record s { hardware = h; checkpoint = c } → Leaves s new
-  leaves_with h c new frozen lock bytes done = subst (Leaves s) (sym done) (record { files = record { table = refl; lengths = refl }; write_outs = refl; marks = refl; lock = lock; frozen = frozen; bytes = bytes })
+  leaves_with h c new frozen lock bytes done = subst (Leaves s) (sym done) (record { files = record { table = refl; lengths = refl }; write_outs = refl; marks = refl; lock = lock; resized = refl; frozen = frozen; bytes = bytes })
 
   pub leaves_moved : (disk : List ℕ) (says : Saying) (new : State) → IsSound s → Move disk s says new → Leaves s new
   leaves_moved disk says new sound (Replace is) = leaves_with _ s.checkpoint new refl (λ broken held. held) (λ owner has. refl) is.done
@@ -91,7 +91,7 @@ module _ (files : List File) (told : Told) (s : State) (seen : List ℕ) (may : 
       → ((frame : ℕ) → IsDirty s.hardware.spaces s.checkpoint frame ↔ IsDirty h.spaces c frame) → HasPages files now new
   same_pages h c done none frames dirty =
       subst (HasPages files now) (sym done)
-      (pages_quiet files told now s (new_of h c) [] (history_as [] none) (quiet_nothing told.history) (record { table = refl; lengths = refl }) has (record { frames = frames; dirty = dirty }))
+      (pages_quiet files told now s (new_of h c) [] (history_as [] none) (quiet_nothing told.history) (record { table = refl; lengths = refl }) refl has (record { frames = frames; dirty = dirty }))
 
   stored : StoresBytes s says new → HasPages files now new
   stored is =
@@ -126,13 +126,13 @@ module _ (files : List File) (told : Told) (s : State) (seen : List ℕ) (may : 
   pages_moved (Bring is) =
       let bytes = page_from s seen is.owner in
       subst (HasPages files now) (sym is.done)
-      (pages_fixed files told now s _ [] (history_as [] (ap (adds told) is.says_is)) (quiet_nothing told.history) (record { table = refl; lengths = refl }) has t.sound is.owner bytes
+      (pages_fixed files told now s _ [] (history_as [] (ap (adds told) is.says_is)) (quiet_nothing told.history) (record { table = refl; lengths = refl }) refl has t.sound is.owner bytes
       (is_brought s.hardware.memory is.owner bytes is.frame is.absent is.free) (λ frame. (λ d. d, λ d. d))
       (λ absent. page_read files told s seen may t is.owner is.in_file absent is.whole))
   pages_moved (Copy is) = same_pages _ s.checkpoint is.done (ap (adds told) is.says_is) refl (λ frame. (λ d. d, λ d. d))
   pages_moved (Drop is) =
       subst (HasPages files now) (sym is.done)
-      (pages_left files told now s _ [] (history_as [] (ap (adds told) is.says_is)) (quiet_nothing told.history) (record { table = refl; lengths = refl }) has is.owner is.frame is.leaves refl (λ frame. (λ d. d, λ d. d)))
+      (pages_left files told now s _ [] (history_as [] (ap (adds told) is.says_is)) (quiet_nothing told.history) (record { table = refl; lengths = refl }) refl has is.owner is.frame is.leaves refl (λ frame. (λ d. d, λ d. d)))
 
   -- ---- all that is tracked
 

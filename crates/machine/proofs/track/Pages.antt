@@ -26,12 +26,12 @@ pub record SamePages (s new : State) : Type 0 where
   pub frames : new.hardware.memory.frames ≡ s.hardware.memory.frames
   pub dirty : (frame : ℕ) → IsDirty s.hardware.spaces s.checkpoint frame ↔ IsDirty new.hardware.spaces new.checkpoint frame
 
-pub files_kept : (files : List File) (history longer : List Event) (s new : State) → SameFiles s new → lengths_after (lengths_of files) longer ≡ lengths_after (lengths_of files) history → has_resized longer ≡ false
+pub files_kept : (files : List File) (history longer : List Event) (s new : State) → SameFiles s new → lengths_after (lengths_of files) longer ≡ lengths_after (lengths_of files) history → has_resized longer ≡ new.resized
     → HasFiles files history s → HasFiles files longer new
-files_kept files history longer s new same lengths none has = record {
+files_kept files history longer s new same lengths set has = record {
   named = has.named ∙ sym (ap (λ (t : SuperValue). t.files) same.table);
   lengths = lengths ∙ has.lengths ∙ sym same.lengths;
-  resized = none;
+  resized = set;
 }
 
 module _ (files : List File) (told now : Told) (s new : State) (same : SameFiles s new) where
@@ -57,7 +57,7 @@ abbrev HasDirty : State → FilePage → Type 0
 HasDirty s owner = (frame : ℕ) × Holds s.hardware.memory frame owner × IsDirty s.hardware.spaces s.checkpoint frame
 
 module _ (files : List File) (told now : Told) (s new : State) (events : List Event)
-    (history : now.history ≡ told.history ++ events) (quiet : AreQuiet told.history events) (same : SameFiles s new)
+    (history : now.history ≡ told.history ++ events) (quiet : AreQuiet told.history events) (same : SameFiles s new) (set : new.resized ≡ s.resized)
     (has : HasPages files told s) where
   memory_same : after (memory_of files) now.history ≡ after (memory_of files) told.history
   memory_same = ap (after (memory_of files)) history ∙ quiet.memory (memory_of files)
@@ -75,7 +75,7 @@ module _ (files : List File) (told now : Told) (s new : State) (events : List Ev
       → HasPages files now new
   pages_by latest dirty plain = record {
     files_are = files_kept files told.history now.history s new same (ap (lengths_after (lengths_of files)) history ∙ quiet.lengths (lengths_of files))
-        (ap has_resized history ∙ quiet.resized ∙ has.files_are.resized) has.files_are;
+        (ap has_resized history ∙ quiet.resized ∙ has.files_are.resized ∙ sym set) has.files_are;
     latest = record {
       whole = λ file page. ap (λ (m : Memory). length (m file page)) memory_same ∙ has.latest.whole file page;
       latest = λ frame owner holds. latest frame owner holds ∙ ap (λ (m : Memory). m owner.file owner.page) (sym memory_same);

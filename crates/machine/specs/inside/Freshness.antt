@@ -1,5 +1,5 @@
 -- What tells a machine that was just made.
-use Rattle.std.specs.Prelude.{◌≡◌, true, not, ◌&&◌, length}
+use Rattle.std.specs.Prelude.{◌≡◌, true, false, not, ◌&&◌, length}
 use Rattle.std.specs.List.{All}
 use Rattle.std.specs.FinMap as maps
 use Rattle.frames.specs.Frames.{has_used}
@@ -27,3 +27,4 @@ pub record LooksFresh (s : State) : Type 0 where
   pub checkpoint : s.checkpoint ≡ fresh_checkpoint (length s.checkpoint.notes)
   pub write_outs : s.write_outs ≡ none_of s.write_outs.geometry
   pub marks : s.marks ≡ 0
+  pub resized : s.resized ≡ false

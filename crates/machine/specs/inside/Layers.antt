@@ -1,5 +1,5 @@
 -- How the code keeps a machine: its layers, and what private calls promise of them.
-use Rattle.std.specs.Prelude.{ℕ, ◌≡◌, ◌*◌, ◌≤◌, ◌<◌, List, [], ◌∷◌, length, Option, Some, None, Result, Ok, Err}
+use Rattle.std.specs.Prelude.{ℕ, ◌≡◌, ◌*◌, ◌≤◌, ◌<◌, false, List, [], ◌∷◌, length, Option, Some, None, Result, Ok, Err}
 use Rattle.page_entry.specs.declared.refusal.Refusal.{Refusal}
 use Rattle.page_entry.specs.declared.numbers.FilePage.{FilePage}
 use Rattle.mappings.specs.declared.page_range.PageRange.{PageRange}
@@ -18,7 +18,7 @@ use Rattle.machine.specs.State.{State, Whole, home_of, cut_at_end}
 use Rattle.machine.specs.Refusals.{pages_in_file}
 use Rattle.machine.specs.inside.Sound.{IsSound}
 
--- the state of a machine with these layers
+-- the state of a machine with these layers; no act sets a length yet
 abbrev pub state_in : {D Z : Type 0} → Layers D Z → State
 state_in m = record {
   table = m.table;
@@ -27,6 +27,7 @@ state_in m = record {
   checkpoint = m.checkpoint;
   write_outs = m.write_outs;
   marks = m.marks;
+  resized = false;
 }
 
 abbrev pub whole_in : {D Z : Type 0} → Layers D Z → Whole D

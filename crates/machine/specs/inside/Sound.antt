@@ -1,12 +1,12 @@
 -- What holds of every machine's state: the facts of its layers, and those that tie them to each other.
-use Rattle.std.specs.Prelude.{ℕ, ◌≡◌, ◌+◌, ◌^◌, ◌<◌, ◌≤◌, true, false, List, [], ◌∷◌, length, map, Some, None, IsSome, slice_index_or}
+use Rattle.std.specs.Prelude.{ℕ, ◌≡◌, ◌+◌, ◌^◌, ◌<◌, ◌≤◌, ◌⊎◌, true, false, List, [], ◌∷◌, length, map, Some, None, IsSome, slice_index_or}
 use Rattle.std.specs.List.{All}
 use Rattle.page_entry.specs.declared.numbers.FilePage.{FilePage}
 use Rattle.mappings.specs.declared.place.Place.{Place}
 use Rattle.mappings.specs.Judgement.{is_user_range, protect_refusal}
 use Rattle.frames.specs.Frames.{FramesState, Frame, frame_at, bytes_of}
-use Rattle.volume_codec.specs.Layout.{max_frames, journals_of}
-use Rattle.volume_codec.specs.Super.{Fits, geometry_of}
+use Rattle.volume_codec.specs.Layout.{max_frames, journals_of, lengths_blocks, first_home}
+use Rattle.volume_codec.specs.Super.{SuperValue, Fits, geometry_of}
 use Rattle.volume_codec.specs.Descriptor.{AreHomes}
 use Rattle.journal.specs.WriteOut.{WriteOut, has_committed}
 use Rattle.journal.specs.WriteOuts.{is_busy}
@@ -85,6 +85,12 @@ pub record IsMemorySound (s : State) : Type 0 where
   pub copied : (copy : ℕ) (kept : Frame) → slice_index_or s.hardware.memory.copies copy None ≡ Some kept
       → is_frozen s.checkpoint kept.page ≡ true
 
+-- the home block of the lengths, or that of a page in memory
+abbrev pub IsSource : SuperValue → FramesState → ℕ → Type 0
+IsSource table memory home =
+    ((0 < lengths_blocks table.layout) × (home ≡ first_home table.layout table.slots))
+    ⊎ ((owner : FilePage) × (home ≡ home_of table owner) × (is_in_memory memory owner ≡ true))
+
 -- ---- facts that depend on the write-outs
 pub record AreWriteOutsSound (s : State) : Type 0 where
   pub geometry : s.write_outs.geometry ≡ geometry_of s.table
@@ -92,11 +98,13 @@ pub record AreWriteOutsSound (s : State) : Type 0 where
   pub few_batches : length s.write_outs.batches ≤ journals_of s.table.layout
   pub older : AreOlderCommitted s.write_outs.batches
   pub homes : All (λ w. AreHomes (geometry_of s.table) w.batch.homes) s.write_outs.batches
-  -- their pages are in memory
-  pub in_memory : All (λ w. All (λ home. (owner : FilePage) × (home ≡ home_of s.table owner)
-      × (is_in_memory s.hardware.memory owner ≡ true)) w.batch.homes) s.write_outs.batches
+  -- they are of lengths or of pages in memory
+  pub sources : All (λ w. All (IsSource s.table s.hardware.memory) w.batch.homes) s.write_outs.batches
   pub marked : All (λ w. (0 < w.batch.mark) × (w.batch.mark ≤ s.marks)) s.write_outs.batches
   pub few_marks : s.marks < 2 ^ 32
+  -- lengths are set only where each batch is done, of a machine that isn't broken, in a layout with a block for them
+  pub settled : s.resized ≡ true
+      → (s.write_outs.batches ≡ []) × (s.write_outs.broken ≡ false) × (0 < lengths_blocks s.table.layout)
   pub frozen : map (home_of s.table) s.checkpoint.frozen ≡ frozen_homes s
 
 pub record IsSound (s : State) : Type 0 where

@@ -63,8 +63,8 @@ has_resized history = list_any is_resize (since_mark history)
 pub record HasFiles (files : List File) (history : List Event) (s : State) : Type 0 where
   pub named : map (λ f. record { name = f.name; capacity = f.capacity }) files ≡ s.table.files
   pub lengths : lengths_after (lengths_of files) history ≡ s.lengths
-  -- no length was set since the last mark
-  pub resized : has_resized history ≡ false
+  -- and it knows whether one was set since the last mark
+  pub resized : has_resized history ≡ s.resized
 
 -- the memory after the history has whole pages, and frames have it
 pub record IsLatest (files : List File) (told : Told) (s : State) : Type 0 where
@@ -150,8 +150,8 @@ pub record IsWritten (files : List File) (told : Told) (s : State) (old new : �
   pub clean : IsLost s ⊎ ((owner : FilePage) → IsInFile s owner → is_touched told.history owner.file owner.page ≡ false
       → within_file s owner (new (home_of s.table owner))
       ≡ within_file s owner (after (memory_of files) told.history owner.file owner.page))
-  -- no length was set since the last mark
-  pub same_lengths : lengths_in s.table new ≡ s.lengths
+  -- where no length was set since the last mark, the lengths there are the machine's
+  pub same_lengths : s.resized ≡ false → lengths_in s.table new ≡ s.lengths
   -- the records of frozen pages are what was gathered
   pub frozen : All (λ owner. new (home_of s.table owner)
       ≡ cut_at_end s owner (bytes_at_mark s.hardware.memory owner)) s.checkpoint.frozen

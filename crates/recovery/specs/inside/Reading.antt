@@ -1,11 +1,14 @@
--- How the code's list of open journals reads as batches, and what reading them finds.
-use Rattle.std.specs.Prelude.{◌≡◌, ◌⊎◌, ◌+◌, ◌*◌, ◌<◌, ◌≤◌, ℕ, true, List, [], ◌∷◌, map, length, sum_by}
+-- How the code's list of open journals reads as batches, and what reading them and the lengths finds.
+use Rattle.std.specs.Prelude.{◌≡◌, ◌⊎◌, ◌+◌, ◌*◌, ◌<◌, ◌≤◌, ℕ, true, List, [], ◌∷◌, map, length, sum_by, Result, Ok, Err}
 use Rattle.std.specs.List.{AllByRecursion}
 use Rattle.page_entry.specs.declared.refusal.Refusal.{Refusal}
 use Rattle.page_entry.specs.declared.refusal.Refusal.TheVariants.{Device, OutOfMemory, Damaged}
-use Rattle.volume_codec.specs.Layout.{GeometryValue}
+use Rattle.volume_codec.specs.Layout.{GeometryValue, journals_of, block_at}
+use Rattle.volume_codec.specs.Super.{SuperValue, IsSuper}
 use Rattle.volume_codec.specs.Descriptor.{DescriptorValue, IsDescriptor}
-use Rattle.volume_codec.specs.Recovery.{Batch, IsOpenBatch, IsOpen, has_journal, AreOpen}
+use Rattle.volume_codec.specs.Lengths.{IsLengths, HasLengths, lengths_in}
+use Rattle.volume_codec.specs.Recovery.{Batch, IsOpenBatch, IsOpen, has_journal, AreOpen, contents_in}
+use Rattle.recovery.specs.Counts.{RisesWithin}
 use Rattle.recovery.specs.declared.opening.OpenJournal.{OpenJournal}
 
 -- the batch of an open journal
@@ -55,3 +58,26 @@ IsOrdered old new = (new ≡ old) ⊎ ((x : Batch) × (y : Batch) × (old ≡ x 
 abbrev pub HaveOneMark : List Batch → Type 0
 HaveOneMark (x ∷ y ∷ []) = x.mark ≡ y.mark
 HaveOneMark batches = ⊥
+
+-- a block of lengths is damaged where it says none
+abbrev pub RefusesStored : SuperValue → List ℕ → Refusal → Type 0
+RefusesStored table block Damaged = (lengths : List ℕ) → IsLengths table lengths block → ⊥
+RefusesStored table block Device = Unit {0}
+RefusesStored table block OutOfMemory = Unit {0}
+RefusesStored table block _ = ⊥
+
+-- these are the lengths of the files in what these bytes recover to, where these are the open batches
+pub record AreFound (table : SuperValue) (batches : List Batch) (bytes : List ℕ) (lengths : List ℕ) : Type 0 where
+  pub fit : HasLengths table (contents_in table.slots batches bytes)
+  pub are : lengths ≡ lengths_in table (contents_in table.slots batches bytes)
+
+-- how many device calls it takes at most to find the open batches of a device with these bytes
+abbrev pub JudgesWithin : List ℕ → ℕ → ℕ → Type 0
+JudgesWithin bytes old new = RisesWithin 1 old new
+    ⊎ ((table : SuperValue) × IsSuper table (block_at bytes 0)
+    × RisesWithin (2 + 2 * journals_of table.layout) old new)
+
+-- the table of what an opening found
+abbrev pub table_found : {X : Type 0} → Result (SuperValue × X) Refusal → Result SuperValue Refusal
+table_found (Ok found) = Ok found.0
+table_found (Err refusal) = Err refusal

@@ -1,10 +1,12 @@
 -- What the device calls that formatting is made of did.
-use Rattle.std.specs.Prelude.{◌≡◌, ◌⊎◌, ℕ, Bool, true, false, List, Result, OnOk}
-use Rattle.device.specs.Device.{Torn, TornFrom, LeavesOnly}
+use Rattle.std.specs.Prelude.{◌≡◌, ◌⊎◌, ℕ, ◌+◌, ◌-◌, ◌/◌, Bool, true, false, List, Result, OnOk}
+use Rattle.device.specs.Device.{written, Torn, TornFrom, Only, LeavesOnly}
 use Rattle.device.specs.Did.{Did}
 use Rattle.device.specs.Work.{Work}
 use Rattle.device.specs.declared.device.Device.{Ghosts}
 use Rattle.page_entry.specs.declared.refusal.Refusal.{Refusal}
+use Rattle.volume_codec.specs.Layout.{journals_of, lengths_blocks, first_home}
+use Rattle.volume_codec.specs.Super.{SuperValue, block_count}
 use Rattle.recovery.specs.Counts.{Rises, RisesWithin, IsAccounted}
 
 -- of two works the second was asked where the first was done
@@ -23,3 +25,23 @@ pub record HasOverwritten {D X : Type 0} (disk : Ghosts D) (at n asked : ℕ) (o
   pub kept : IsAccounted disk old result new
   pub calls : OnOk result (Rises asked (disk.calls_made old) (disk.calls_made new))
   pub most : RisesWithin asked (disk.calls_made old) (disk.calls_made new)
+
+-- how many device calls lay a volume out
+abbrev pub laying_calls : SuperValue → ℕ
+laying_calls table =
+    (block_count table - first_home table.layout table.slots + 7) / 8 + lengths_blocks table.layout
+    + journals_of table.layout
+
+-- What was written was synced, and then block 0 was written and synced; or one of these calls failed, and none of the
+-- later ones was made.
+pub record HasFinished {D X : Type 0} (disk : Ghosts D) (block : List ℕ) (old : D) (result : Result X Refusal) (new : D)
+    : Type 0 where
+  pub done : disk.is_honest old → OnOk result (disk.seen new ≡ written (disk.seen old) 0 block)
+  pub synced : disk.is_honest old → OnOk result (Only (disk.may_leave new) (disk.seen new))
+  pub torn : disk.is_honest old → Torn 0 4096 (disk.seen old) (disk.seen new)
+  -- block 0 is torn only once all else is synced
+  pub time : disk.is_honest old → LeavesOnly disk.moment disk.left_since old new
+      (λ c. disk.may_leave old c ⊎ (disk.may_leave old (disk.seen old) × Torn 0 4096 (disk.seen old) c))
+  pub kept : IsAccounted disk old result new
+  pub calls : OnOk result (Rises 3 (disk.calls_made old) (disk.calls_made new))
+  pub most : RisesWithin 3 (disk.calls_made old) (disk.calls_made new)

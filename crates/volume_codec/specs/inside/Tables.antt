@@ -8,7 +8,7 @@ use Rattle.volume_codec.specs.declared.layout.Layout.{Layout}
 use Rattle.volume_codec.specs.declared.super_block.Place.{Place}
 use Rattle.volume_codec.specs.Files.{TableFile}
 use Rattle.volume_codec.specs.Layout.{first_file_home}
-use Rattle.volume_codec.specs.Super.{SuperValue, Fits, pages_of, block_count}
+use Rattle.volume_codec.specs.Super.{SuperValue, Fits, IsLengthIn, pages_of, block_count}
 
 -- the files of the table that is asked for
 abbrev pub files_asked_for : List FileSpec → List TableFile
@@ -21,6 +21,10 @@ names_of files = map (λ f. f.name.now) files
 -- the table that is asked for, in a layout that there is
 abbrev pub table_of : Layout → List FileSpec → ℕ → SuperValue
 table_of layout files slots = record { layout = layout; files = files_asked_for files; slots = slots }
+
+-- each file that is asked for has a length that the layout has
+abbrev pub HaveLengths : Layout → List FileSpec → Type 0
+HaveLengths layout files = AllByRecursion (λ f. IsLengthIn layout f.length f.capacity) files
 
 -- each file that is asked for is as long as its capacity
 abbrev pub AreFull : List FileSpec → Type 0

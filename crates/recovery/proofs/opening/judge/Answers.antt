@@ -84,3 +84,8 @@ returns-clause-most g c = λ honest. inr (
       let journals = ap (λ (h : GeometryValue). journals_of h.layout) c.geometry.ensures.value in
       omega (arith, small, journals, c.in_ok-table.ensures.calls, sync_calls _ c.sync.ensures.did, c.read_open.ensures.most),
 )
+
+pub returns-clause-within : goal.returns-clause-within
+returns-clause-within g c = λ small.
+    let journals = ap (λ (h : GeometryValue). journals_of h.layout) c.geometry.ensures.value in
+    omega (arith, small, journals, c.in_ok-table.ensures.calls, sync_calls _ c.sync.ensures.did, c.read_open.ensures.most)

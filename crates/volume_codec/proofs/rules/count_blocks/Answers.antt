@@ -1,7 +1,7 @@
 use Rattle.std.proofs.Common.{◌≡◌, ◌+◌, refl, arith, rules}
 use Rattle.volume_codec.specs.Super.{block_count}
 use Rattle.volume_codec.specs.inside.Tables.{table_of}
-use Rattle.volume_codec.proofs.TableLemmas.{table_fits, files_full, files_fit, names_fit}
+use Rattle.volume_codec.proofs.TableLemmas.{table_fits, files_have, files_fit, names_fit}
 use Rattle.volume_codec.proofs.rules.count_blocks.Goals as goal
 use Rattle.volume_codec.proofs.rules.count_blocks.Goals.{then-not-are_files-via-then-not-are_files, then-not-are_files-via-else-not-are_files+then-not-are_distinct}
 
@@ -17,8 +17,8 @@ returns-then-not-are_files-clause-err c = (
       ],
 )
 
-pub returns-clause-full : goal.returns-clause-full
-returns-clause-full c = files_full _ (c.are_files.ensures.0 c.if-not-are_files.false)
+pub returns-clause-lengths : goal.returns-clause-lengths
+returns-clause-lengths c = files_have _ _ (c.are_files.ensures.0 c.if-not-are_files.false)
 
 pub returns-clause-fits : goal.returns-clause-fits
 returns-clause-fits c =

@@ -11,7 +11,7 @@ use Rattle.volume_codec.specs.Refusals.{RefusesTable, RefusesSuper}
 use Rattle.volume_codec.specs.inside.Reading.{table_files_in, damage_of}
 use Rattle.volume_codec.specs.inside.Tables.{files_asked_for, table_of}
 use Rattle.volume_codec.proofs.Functional.{reads_block, read_value, refuses_table, refuses_spelling}
-use Rattle.volume_codec.proofs.ReadingLemmas.{other_by_ne}
+use Rattle.volume_codec.proofs.ReadingLemmas.{other_by_ne, same_by_ne}
 use Rattle.volume_codec.proofs.TableLemmas.{asked_table}
 use Rattle.volume_codec.proofs.super_block.read_super.Goals as goal
 
@@ -71,3 +71,9 @@ returns-then-ne-clause-refused g c =
           (c.to_block.ensures ∙ ap super_text same)
           (other_by_ne _ _ _ c.ne.ensures c.if-ne.true),
     )
+
+pub returns-clause-ok : goal.returns-clause-ok
+returns-clause-ok g c = record {
+  fits = c.in-Ok.ensures.ok.fits;
+  spelled = sym (same_by_ne _ _ _ c.ne.ensures c.if-ne.false) ∙ c.to_block.ensures;
+}

@@ -1,4 +1,4 @@
-use Rattle.machine.proofs.Names.{◌<◌, ◌≤◌, ◌+◌, not, List, length, map, refl, sym, ap, ◌∙◌, subst, All, FilePage}
+use Rattle.machine.proofs.Names.{◌<◌, ◌≤◌, ◌+◌, false, not, List, length, map, refl, sym, ap, ◌∙◌, subst, All, FilePage}
 use Rattle.machine.proofs.Names.{Checkpoint, finished, CheckpointState, Gathers, Layers, home_of, MarkMade, state_in}
 use Rattle.machine.proofs.Names.{IsPageOf, MayBegin}
 use Rattle.machine.proofs.code.Parts.{may_change}
@@ -50,6 +50,7 @@ returns-clause-rules g c = λ disk.
         checkpoint = c.protect_all.ensures.notes i;
         write_outs = outs i;
         marks = number;
+        resized = false;
       };
     }) in
     (c.requires.held.0, made)

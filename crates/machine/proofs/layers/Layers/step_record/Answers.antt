@@ -41,4 +41,4 @@ step_with-requires-clause-bytes g c =
     let same = ap (λ n. get_or c.args.self.now.lengths.items n 0) file in
     let covered : 4096 ≤ length_of s (next_page s).file - 4096 * (next_page s).page = omega (arith, c.from.ensures, page, length_is, same, c.saturating_sub-left.ensures, c.if-left-ge-PAGE.true) in
     ap (λ (x : List FilePage). next_work s.write_outs (bytes_at_mark s.hardware.memory (first x))) pages
-    ∙ ap (next_work s.write_outs) (whole_record s c.requires.sound (is_next_page s c.requires.sound c.requires.record).there covered)
+    ∙ ap (next_work s.write_outs) (whole_record s c.requires.sound c.requires.record (is_next_page s c.requires.sound c.requires.record).there covered)

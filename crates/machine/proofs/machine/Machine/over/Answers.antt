@@ -1,4 +1,4 @@
-use Rattle.machine.proofs.Names.{sym, ap, subst, AreLengths, ShootdownState}
+use Rattle.machine.proofs.Names.{false, sym, ap, subst, AreLengths, ShootdownState}
 use Rattle.machine.proofs.machine.Machine.over.Goals as goal
 use Rattle.machine.proofs.sound.AtBoot.{fresh_sound, lengths_within}
 use Rattle.machine.proofs.code.Parts.{reserved_free}
@@ -20,6 +20,7 @@ invariant_of-result g c =
           checkpoint = room.checkpoint i;
           write_outs = room.write_outs i;
           marks = 0;
+          resized = false;
         };
       }) settled.fits are.count (lengths_within table.files _ are.count are.within);
       long = settled.long;

@@ -1,0 +1,262 @@
+-- A device that was laid out, to which the files of a volume were copied and whose table was written is migrated.
+use Rattle.std.proofs.Common.{◌≡◌, ◌≤◌, ◌<◌, ◌⊎◌, inl, inr, ℕ, zero, suc, ◌+◌, ◌-◌, ◌*◌, ◌/◌, ◌%◌, List, [], ◌∷◌, ◌++◌, length, take, drop, get_or, map, set, slice_get, slice_index, Some, refl, sym, ◌∙◌, ap, subst, add-one, arith}
+use Rattle.std.proofs.lemmas.Bool.{cases_lt, cases_eq}
+use Rattle.std.proofs.lemmas.List.{take-take, take_all, take_more_set, map_push, drop-drop}
+use Rattle.device.specs.Device.{written, Torn, Only}
+use Rattle.device.specs.declared.device.Device.{Ghosts}
+use Rattle.device.proofs.Ranges.{torn_before, torn_after}
+use Rattle.volume_codec.specs.declared.file_spec.FileSpec.{FileSpec}
+use Rattle.volume_codec.specs.Files.{File, TableFile, AskedFile, asked_by, lengths_asked}
+use Rattle.volume_codec.specs.Layout.{gate_block, first_home, first_file_home, lengths_blocks, block_at}
+use Rattle.volume_codec.specs.Lengths.{AreLengths, lengths_in, lengths_text}
+use Rattle.volume_codec.specs.Text.{zeros}
+use Rattle.volume_codec.specs.Super.{SuperValue, Fits, IsAsked, super_text, pages_of, total_pages, first_home_of, block_count}
+use Rattle.volume_codec.specs.Recovery.{IsVolume, blocks_from, files_from}
+use Rattle.volume_codec.proofs.Blocks.{get_or-block_at}
+use Rattle.volume_codec.proofs.Layouts.{gate_block-low}
+use Rattle.volume_codec.proofs.Lengths.{table_file, asked_are, asked_lengths_in, asked_has_lengths, index_is, there_is}
+use Rattle.volume_codec.proofs.Places.{first_home_of-le}
+use Rattle.volume_codec.proofs.Recovered.{blocks_from-device}
+use Rattle.volume_codec.proofs.TableLemmas.{one_asked}
+use Rattle.recovery.specs.Format.{HasShape, IsEmptied}
+use Rattle.recovery.specs.Migration.{asked_again, asked_of, AreZeroPast, HasMigrated}
+use Rattle.recovery.specs.Openings.{IsMade}
+use Rattle.recovery.specs.Volume.{VolumeState, IsSettled, files_of, bytes_of}
+use Rattle.recovery.specs.inside.Copying.{AreCopied}
+use Rattle.recovery.proofs.BlockRanges.{block_at-before, block_at-after}
+use Rattle.recovery.proofs.Copied.{home_of-mono}
+use Rattle.recovery.proofs.Erased.{get_or-zeros}
+use Rattle.recovery.proofs.FileBytes.{file_end, file_bytes}
+use Rattle.recovery.proofs.Formatted.{first_block}
+
+-- the table and the lengths that are asked for again
+pub again_files : (fs : List TableFile) (lengths : List ℕ) → length lengths ≡ length fs → map table_file (asked_again fs lengths) ≡ fs
+again_files [] lengths count = refl
+again_files (f ∷ fs) [] count = absurd (omega (arith, count))
+again_files (f ∷ fs) (n ∷ lengths) count = ap (λ (r : List TableFile). f ∷ r) (again_files fs lengths (omega (arith, count)))
+
+pub again_lengths : (fs : List TableFile) (lengths : List ℕ) → length lengths ≡ length fs → lengths_asked (asked_again fs lengths) ≡ lengths
+again_lengths [] [] count = refl
+again_lengths [] (n ∷ lengths) count = absurd (omega (arith, count))
+again_lengths (f ∷ fs) [] count = absurd (omega (arith, count))
+again_lengths (f ∷ fs) (n ∷ lengths) count = ap (λ (r : List ℕ). n ∷ r) (again_lengths fs lengths (omega (arith, count)))
+
+pub length-again : (fs : List TableFile) (lengths : List ℕ) → length lengths ≡ length fs → length (asked_again fs lengths) ≡ length fs
+length-again [] lengths count = refl
+length-again (f ∷ fs) [] count = absurd (omega (arith, count))
+length-again (f ∷ fs) (n ∷ lengths) count = omega (arith, length-again fs lengths (omega (arith, count)))
+
+-- one file more
+again_suc : (fs : List TableFile) (lengths name : List ℕ) (i n k : ℕ) → slice_get (map (λ (f : TableFile). f.name) fs) i ≡ Some name → slice_get lengths i ≡ Some n → slice_get (map (λ (f : TableFile). f.capacity) fs) i ≡ Some k
+    → take (suc i) (asked_again fs lengths) ≡ take i (asked_again fs lengths) ++ (let f : AskedFile = record { name = name; length = n; capacity = k } in f) ∷ []
+again_suc [] lengths name i n k named long sized = cc
+again_suc (f ∷ fs) [] name i n k named long sized = cc
+again_suc (f ∷ fs) (m ∷ lengths) name zero n k named long sized =
+    let e : f.name ≡ name = cc in
+    let l : m ≡ n = cc in
+    let s : f.capacity ≡ k = cc in
+    ap (λ (x : List ℕ). (let r : AskedFile = record { name = x; length = m; capacity = f.capacity } in r) ∷ []) e
+    ∙ ap (λ (x : ℕ). (let r : AskedFile = record { name = name; length = x; capacity = f.capacity } in r) ∷ []) l
+    ∙ ap (λ (x : ℕ). (let r : AskedFile = record { name = name; length = n; capacity = x } in r) ∷ []) s
+again_suc (f ∷ fs) (m ∷ lengths) name (suc i) n k named long sized =
+    ap (λ (r : List AskedFile). (let x : AskedFile = record { name = f.name; length = m; capacity = f.capacity } in x) ∷ r) (again_suc fs lengths name i n k named long sized)
+
+pub again_more : (fs : List TableFile) (lengths name : List ℕ) (i n k : ℕ) → slice_get (map (λ (f : TableFile). f.name) fs) i ≡ Some name → slice_get lengths i ≡ Some n → slice_get (map (λ (f : TableFile). f.capacity) fs) i ≡ Some k
+    → take (i + 1) (asked_again fs lengths) ≡ take i (asked_again fs lengths) ++ (let f : AskedFile = record { name = name; length = n; capacity = k } in f) ∷ []
+again_more fs lengths name i n k named long sized = ap (λ j. take j (asked_again fs lengths)) (add-one i) ∙ again_suc fs lengths name i n k named long sized
+
+-- files of the same bytes, each at its place
+pub files_from-each : (f g : ℕ → List ℕ) (a b : ℕ) (fs : List TableFile) (lengths : List ℕ)
+    → ((i n : ℕ) (s : TableFile) → slice_get fs i ≡ Some s → slice_get lengths i ≡ Some n → take n (blocks_from f (a + total_pages (take i fs)) (pages_of s.capacity)) ≡ take n (blocks_from g (b + total_pages (take i fs)) (pages_of s.capacity)))
+    → files_from f a fs lengths ≡ files_from g b fs lengths
+files_from-each f g a b [] lengths each = refl
+files_from-each f g a b (s ∷ fs) [] each = refl
+files_from-each f g a b (s ∷ fs) (n ∷ lengths) each =
+    let at_a : a + 0 ≡ a = omega arith in
+    let at_b : b + 0 ≡ b = omega arith in
+    let first : take n (blocks_from f a (pages_of s.capacity)) ≡ take n (blocks_from g b (pages_of s.capacity)) =
+    ap (λ x. take n (blocks_from f x (pages_of s.capacity))) (sym at_a) ∙ each 0 n s refl refl ∙ ap (λ x. take n (blocks_from g x (pages_of s.capacity))) at_b in
+    let rest = files_from-each f g (a + pages_of s.capacity) (b + pages_of s.capacity) fs lengths (λ i m t file size.
+    let on_a : a + pages_of s.capacity + total_pages (take i fs) ≡ a + total_pages (take (suc i) (s ∷ fs)) = omega arith in
+    let on_b : b + total_pages (take (suc i) (s ∷ fs)) ≡ b + pages_of s.capacity + total_pages (take i fs) = omega arith in
+    ap (λ x. take m (blocks_from f x (pages_of t.capacity))) on_a ∙ each (suc i) m t file size ∙ ap (λ x. take m (blocks_from g x (pages_of t.capacity))) on_b) in
+    ap (λ (x : List ℕ). let r : File = record { name = s.name; bytes = x; capacity = s.capacity } in r ∷ files_from f (a + pages_of s.capacity) fs lengths) first
+    ∙ ap (λ (r : List File). (let x : File = record { name = s.name; bytes = take n (blocks_from g b (pages_of s.capacity)); capacity = s.capacity } in x) ∷ r) rest
+
+-- volumes of the same files and lengths, each of whose files has the same bytes, have the same files
+pub same_files : (table other : SuperValue) (lengths bytes others : List ℕ) → AreLengths table lengths → table.files ≡ other.files → lengths ≡ lengths_in table (block_at bytes) → lengths ≡ lengths_in other (block_at others)
+    → ((file : ℕ) → file < length table.files → take (slice_index lengths file) (drop (4096 * first_home_of table file) bytes) ≡ take (slice_index lengths file) (drop (4096 * first_home_of other file) others))
+    → files_of table bytes ≡ files_of other others
+same_files table other lengths bytes others are same has have each =
+    ap (files_from (block_at bytes) (first_file_home table.layout table.slots) table.files) (sym has)
+    ∙ files_from-each (block_at bytes) (block_at others) (first_file_home table.layout table.slots) (first_file_home other.layout other.slots) table.files lengths at
+    ∙ ap (λ (fs : List TableFile). files_from (block_at others) (first_file_home other.layout other.slots) fs lengths) same
+    ∙ ap (files_from (block_at others) (first_file_home other.layout other.slots) other.files) have
+  where
+    -- the first bytes of blocks
+    part : (xs : List ℕ) (b n : ℕ) (s : TableFile) → n ≤ s.capacity → take n (blocks_from (block_at xs) b (pages_of s.capacity)) ≡ take n (drop (4096 * b) xs)
+    part xs b n s le = ap (take n) (blocks_from-device xs b (pages_of s.capacity)) ∙ take-take n (4096 * pages_of s.capacity) (drop (4096 * b) xs) (omega (arith, le))
+
+    at : (i n : ℕ) (s : TableFile) → slice_get table.files i ≡ Some s → slice_get lengths i ≡ Some n
+        → take n (blocks_from (block_at bytes) (first_file_home table.layout table.slots + total_pages (take i table.files)) (pages_of s.capacity))
+        ≡ take n (blocks_from (block_at others) (first_file_home other.layout other.slots + total_pages (take i table.files)) (pages_of s.capacity))
+    at i n s file size =
+        let le = are.within i n s file size in
+        let here = index_is lengths i n size in
+        let there = there_is lengths i n size in
+        let home = first_file_home other.layout other.slots in
+        part bytes (first_home_of table i) n s le
+        ∙ ap (λ k. take k (drop (4096 * first_home_of table i) bytes)) (sym here)
+        ∙ each i (omega (arith, there, are.count))
+        ∙ ap (λ (fs : List TableFile). take (slice_index lengths i) (drop (4096 * (home + total_pages (take i fs))) others)) (sym same)
+        ∙ ap (λ k. take k (drop (4096 * (home + total_pages (take i table.files))) others)) here
+        ∙ sym (part others (home + total_pages (take i table.files)) n s le)
+
+-- a byte of a block of zeros
+pub zero_byte : (bytes : List ℕ) (i : ℕ) → block_at bytes (i / 4096) ≡ zeros 4096 → get_or bytes i 0 ≡ 0
+zero_byte bytes i blank =
+    let place : 4096 * (i / 4096) + i % 4096 ≡ i = omega arith in
+    ap (λ k. get_or bytes k 0) (sym place) ∙ sym (get_or-block_at bytes (i / 4096) (i % 4096) 0 (omega arith))
+    ∙ ap (λ (block : List ℕ). get_or block (i % 4096) 0) blank ∙ get_or-zeros 4096 (i % 4096)
+
+-- files were copied to what was laid out, and then block 0 was written
+module _ (table : SuperValue) (lengths laid copied final : List ℕ) (fits : Fits table) (are : AreLengths table lengths) (rest : IsEmptied table lengths laid)
+    (torn : Torn (4096 * first_file_home table.layout table.slots) (4096 * total_pages table.files) laid copied) (is : final ≡ written copied 0 (super_text table)) where
+  first : Torn 0 4096 copied final
+  first = (first_block table copied final fits (omega (arith, rest.long, torn.same_length)) is).1
+
+  pub held : IsVolume table [] final
+  held = record {
+    super_block = (first_block table copied final fits (omega (arith, rest.long, torn.same_length)) is).0;
+    long = omega (arith, rest.long, torn.same_length, first.same_length);
+    journals = record {
+      each = tt;
+      all = λ j there opens.
+          let low = gate_block-low table.layout table.slots j there in
+          let shut : get_or final (4096 * gate_block table.slots j) 0 ≡ 0 =
+          torn_after first (4096 * gate_block table.slots j) (omega arith) ∙ torn_before torn (4096 * gate_block table.slots j) (omega (arith, low)) ∙ rest.gates j there in
+          absurd (omega (arith, shut, opens));
+      falling = tt;
+    };
+  }
+
+  pub says_lengths : 0 < lengths_blocks table.layout → block_at final (first_home table.layout table.slots) ≡ lengths_text lengths
+  says_lengths some =
+      block_at-after first (first_home table.layout table.slots) (omega arith)
+      ∙ block_at-before torn (first_home table.layout table.slots) (omega (arith, some))
+      ∙ rest.lengths_block some
+
+  pub part_there : (bytes : ℕ → List ℕ) → AreCopied table lengths bytes (length table.files) laid copied → (file : ℕ) → file < length table.files
+      → take (slice_index lengths file) (drop (4096 * first_home_of table file) final) ≡ bytes file
+  part_there bytes each file there =
+      part_after (4096 * first_home_of table file) (slice_index lengths file) (omega arith) ∙ each.each file there
+    where
+      part_after : (from size : ℕ) → 4096 ≤ from → take size (drop from final) ≡ take size (drop from copied)
+      part_after from size past =
+          let place : 0 + 4096 + (from - 4096) ≡ from = omega arith in
+          let rest : drop from final ≡ drop from copied =
+          ap (λ k. drop k final) (sym place) ∙ sym (drop-drop (from - 4096) (0 + 4096) final) ∙ ap (drop (from - 4096)) first.after
+          ∙ drop-drop (from - 4096) (0 + 4096) copied ∙ ap (λ k. drop k copied) place in
+          ap (take size) rest
+
+  pub tails : (bytes : ℕ → List ℕ) → AreCopied table lengths bytes (length table.files) laid copied → AreZeroPast table lengths final
+  tails bytes each file i there low high =
+      torn_after first i (omega (arith, low)) ∙ each.others i out
+      ∙ zero_byte laid i (rest.homes (i / 4096) (omega (arith, low)) (omega (arith, high, first_home_of-le table (file + 1))))
+    where
+      out : (other : ℕ) → other < length table.files → (i < 4096 * first_home_of table other) ⊎ (4096 * first_home_of table other + slice_index lengths other ≤ i)
+      out other h = elim (cases_lt other file) [
+        | inl before ↦ inr (omega (arith, file_end table lengths are other h, home_of-mono table (other + 1) file (omega (arith, before)), low))
+        | inr from ↦ elim (cases_eq other file) [
+          | inl same ↦ inr (subst (λ k. 4096 * first_home_of table k + slice_index lengths k ≤ i) (sym same) low)
+          | inr apart ↦ inl (omega (arith, high, home_of-mono table (file + 1) other (omega (arith, from, apart))))
+        ]
+      ]
+
+-- what is asked for of a volume
+module _ {D : Type 0} (disk : Ghosts D) (volume : VolumeState D) (settled : IsSettled disk volume) (slots : ℕ) (table : SuperValue) (asked : IsAsked 3 (asked_of volume) slots table) where
+  pub asked_files : table.files ≡ volume.table.files
+  asked_files = asked.files_are ∙ again_files volume.table.files volume.lengths settled.lengths.count
+
+  pub asked_lengths : lengths_asked (asked_of volume) ≡ volume.lengths
+  asked_lengths = again_lengths volume.table.files volume.lengths settled.lengths.count
+
+  pub asked_lengths_are : AreLengths table volume.lengths
+  asked_lengths_are = let P : List ℕ → Type 0 = λ l. AreLengths table l in subst P asked_lengths (asked_are 3 slots (asked_of volume) table asked)
+
+pub migrated : {D E : Type 0} (disk : Ghosts D) (other : Ghosts E) (slots : ℕ) (volume : VolumeState D) (before laid copied after : E) (table : SuperValue) → HasShape 3 (asked_of volume) slots (length (other.seen before)) table
+    → IsSettled disk volume → disk.is_honest volume.device → IsEmptied table volume.lengths (other.seen laid) → Torn 4096 (4096 * block_count table - 4096) (other.seen before) (other.seen laid)
+    → Torn (4096 * first_file_home table.layout table.slots) (4096 * total_pages table.files) (other.seen laid) (other.seen copied)
+    → AreCopied table volume.lengths (bytes_of (files_of volume.table (disk.seen volume.device))) (length table.files) (other.seen laid) (other.seen copied)
+    → other.seen after ≡ written (other.seen copied) 0 (super_text table) → Only (other.may_leave after) (other.seen after) → HasMigrated disk other slots volume before after
+migrated disk other slots volume before laid copied after table shape settled honest rest laying torn each is only = record {
+  table = table;
+  shape = shape;
+  holds = holds;
+  lengths_fit = asked_has_lengths 3 slots (asked_of volume) table (block_at (other.seen after)) shape.asked spelled;
+  files = same_files table volume.table volume.lengths (other.seen after) (disk.seen volume.device) are named
+      (sym (asked_lengths_in 3 slots (asked_of volume) table (block_at (other.seen after)) shape.asked spelled ∙ asked_lengths disk volume settled slots table shape.asked))
+      (settled.at_rest honest).lengths_are
+      (λ file there. part_there table volume.lengths (other.seen laid) (other.seen copied) (other.seen after) shape.asked.fits are rest torn is _ each file there
+      ∙ file_bytes volume.table volume.lengths settled.lengths (disk.seen volume.device) file (omega (arith, there, ap length named)) (settled.at_rest honest).lengths_are);
+  tails = tails table volume.lengths (other.seen laid) (other.seen copied) (other.seen after) shape.asked.fits are rest torn is _ each;
+  synced = only;
+  past = λ i past.
+      torn_after (first table volume.lengths (other.seen laid) (other.seen copied) (other.seen after) shape.asked.fits are rest torn is) i (omega (arith, past)) ∙ torn_after torn i (omega (arith, past)) ∙ torn_after laying i (omega (arith, past));
+}
+  where
+    named : table.files ≡ volume.table.files
+    named = asked_files disk volume settled slots table shape.asked
+
+    are : AreLengths table volume.lengths
+    are = asked_lengths_are disk volume settled slots table shape.asked
+
+    holds : IsVolume table [] (other.seen after)
+    holds = held table volume.lengths (other.seen laid) (other.seen copied) (other.seen after) shape.asked.fits are rest torn is
+
+    spelled : 0 < lengths_blocks table.layout → block_at (other.seen after) (first_home table.layout table.slots) ≡ lengths_text (lengths_asked (asked_of volume))
+    spelled some =
+        says_lengths table volume.lengths (other.seen laid) (other.seen copied) (other.seen after) shape.asked.fits are rest torn is some
+        ∙ ap lengths_text (sym (asked_lengths disk volume settled slots table shape.asked))
+
+-- what was migrated was made
+pub migrated_made : {D E : Type 0} (disk : Ghosts D) (other : Ghosts E) (slots : ℕ) (volume : VolumeState D) (before after : E) → other.is_honest after → HasMigrated disk other slots volume before after
+    → IsMade other (files_of volume.table (disk.seen volume.device)) after
+migrated_made disk other slots volume before after honest has = record {
+  honest = honest;
+  synced = has.synced;
+  recovers = record {
+    table = has.table;
+    contents = block_at (other.seen after);
+    recovers = record { batches = []; volume = has.holds; contents_are = λ b home. refl };
+    lengths = has.lengths_fit;
+    files_are = sym has.files;
+  };
+}
+
+-- one file more is asked for
+pub specs_more : (files : List FileSpec) (fs : List TableFile) (lengths : List ℕ) (i : ℕ) (f : FileSpec) → i < length files → asked_by (take i files) ≡ take i (asked_again fs lengths)
+    → slice_get (map (λ (f : TableFile). f.name) fs) i ≡ Some f.name.now → slice_get lengths i ≡ Some f.length → slice_get (map (λ (f : TableFile). f.capacity) fs) i ≡ Some f.capacity
+    → asked_by (take (i + 1) (set files i f)) ≡ take (i + 1) (asked_again fs lengths)
+specs_more files fs lengths i f there was named long sized =
+    ap (λ (r : List FileSpec). asked_by r) (take_more_set files i f there)
+    ∙ map_push (λ (f : FileSpec). let r : AskedFile = record { name = f.name.now; length = f.length; capacity = f.capacity } in r) (take i files) f
+    ∙ ap (λ (r : List AskedFile). r ++ (let x : AskedFile = record { name = f.name.now; length = f.length; capacity = f.capacity } in x) ∷ []) was
+    ∙ sym (again_more fs lengths f.name.now i f.length f.capacity named long sized)
+
+-- all of them
+pub specs_all : (files : List FileSpec) (fs : List TableFile) (lengths : List ℕ) (i : ℕ) → length lengths ≡ length fs → i ≡ length fs → asked_by (take i files) ≡ take i (asked_again fs lengths) → asked_by (take (length fs) files) ≡ asked_again fs lengths
+specs_all files fs lengths i count all was =
+    ap (λ n. asked_by (take n files)) (sym all) ∙ was ∙ take_all i (asked_again fs lengths) (omega (arith, length-again fs lengths count, all))
+
+-- what was asked for again is one table, on which the lengths are laid out
+pub one_again : (slots : ℕ) (asked others : List AskedFile) (table other : SuperValue) → asked ≡ others → IsAsked 3 asked slots table → IsAsked 3 others slots other → table ≡ other
+one_again slots asked others table other same is is_other = let P : List AskedFile → Type 0 = λ files. IsAsked 3 files slots table in one_asked 3 others slots table other (subst P same is) is_other
+
+pub shape_again : (slots bytes size : ℕ) (asked others : List AskedFile) (table : SuperValue) → asked ≡ others → bytes ≡ size → HasShape 3 asked slots bytes table → HasShape 3 others slots size table
+shape_again slots bytes size asked others table same long shape = let P : List AskedFile → Type 0 = λ files. IsAsked 3 files slots table in record { asked = subst P same shape.asked; long = omega (arith, long, shape.long) }
+
+pub laid_again : {D : Type 0} (disk : Ghosts D) (volume : VolumeState D) → IsSettled disk volume → (asked : List AskedFile) (table : SuperValue) (bytes : List ℕ) → asked ≡ asked_of volume → IsEmptied table (lengths_asked asked) bytes → IsEmptied table volume.lengths bytes
+laid_again disk volume settled asked table bytes same laid =
+    let P : List ℕ → Type 0 = λ lengths. IsEmptied table lengths bytes in
+    subst P (ap (λ (files : List AskedFile). lengths_asked files) same ∙ again_lengths volume.table.files volume.lengths settled.lengths.count) laid

@@ -1,0 +1,188 @@
+// A volume becomes one whose files can grow, on another device.
+ghost use Rattle.std.specs.Prelude.{◌≡◌, ◌⊎◌, ◌+◌, ◌-◌, ◌*◌, ◌^◌, ◌<◌, ◌≤◌, ℕ, length, take, slice_index, slice_range, IfOk, IfErr, OnOk};
+ghost use Rattle.device.specs.Device.{written, Torn};
+ghost use Rattle.volume_codec.specs.Files.{asked_by};
+ghost use Rattle.volume_codec.specs.Layout.{first_file_home};
+ghost use Rattle.volume_codec.specs.Super.{SuperValue, IsAsked, Fits, block_count, total_pages};
+ghost use Rattle.volume_codec.specs.Lengths.{AreLengths};
+ghost use Rattle.recovery.specs.Counts.{IsAccounted};
+ghost use Rattle.recovery.specs.Format.{HasShape, IsEmptied, RefusesFormat};
+ghost use Rattle.recovery.specs.Migration.{asked_of, AreAccounted, HasMigrated};
+ghost use Rattle.recovery.specs.Opening.{IsUnwritten};
+ghost use Rattle.recovery.specs.Volume.{IsSettled, files_of, bytes_of};
+ghost use Rattle.recovery.specs.inside.Copying.{Copies, AreCopied};
+
+use crate::calls::write;
+use crate::formatting::{PIECE, finish, lay_out, shape, zero_piece};
+use crate::volume::Volume;
+use device::Device;
+use page_entry::{PAGE, Refusal};
+use std::alloc::Allocator;
+use volume_codec::{FileSpec, Super, block_count_as};
+
+/// The files of a volume as they are asked for, in the first places.
+fn specs_of<D: Device, A: Allocator + Copy>(volume: &Volume<D, A>) -> [FileSpec<'_>; 64]
+    ensures specs { asked_by (take (length volume.now.table.files) result) ≡ asked_of volume.now }
+    ensures settled { IsSettled D.Device volume.now }
+{
+    let mut specs = [FileSpec {
+        name: "",
+        length: 0,
+        capacity: 0,
+    }; 64];
+    for file in 0..volume.file_count() {
+        specs[file] = FileSpec {
+            name: volume.name(file),
+            length: volume.length(file),
+            capacity: volume.capacity(file),
+        };
+    }
+    specs
+}
+
+/// The number of blocks of the volume that `migrate` makes of this one with so many record slots for each journal.
+/// `BadShape` where there is none. Takes no memory.
+pub fn migrated_blocks<D: Device, A: Allocator + Copy>(
+    volume: &Volume<D, A>,
+    slots: u64,
+) -> Result<u64, Refusal>
+    ensures ok { IfOk result (λ blocks.
+        (v : SuperValue) × IsAsked 3 (asked_of volume.now) slots v × (blocks ≡ block_count v)) }
+    ensures err { IfErr result (λ refusal.
+        (refusal ≡ Refusal.BadShape) × ((v : SuperValue) → IsAsked 3 (asked_of volume.now) slots v → ⊥)) }
+{
+    let specs = specs_of(volume);
+    block_count_as(3, &specs[..volume.file_count()], slots)
+}
+
+/// Lays out, on a device, the volume of layout 3 that has the files of another volume.
+fn begin<D: Device, E: Device, A: Allocator + Copy>(
+    alloc: A,
+    old: &Volume<D, A>,
+    new: &mut E,
+    slots: u64,
+) -> Result<Super<A>, Refusal>
+    ensures ok { IfOk result (HasShape 3 (asked_of old.now) slots (length (E.seen new.old))) }
+    ensures settled { IsSettled D.Device old.now }
+    ensures emptied { E.is_honest new.old → IfOk result (λ table. IsEmptied table old.now.lengths (E.seen new.new)) }
+    ensures torn { E.is_honest new.old → (table : SuperValue) → IsAsked 3 (asked_of old.now) slots table
+        → Torn 4096 (4096 * block_count table - 4096) (E.seen new.old) (E.seen new.new) }
+    ensures kept { IsAccounted E.Device new.old result new.new }
+    ensures refused { IfErr result (RefusesFormat 3 (asked_of old.now) slots (length (E.seen new.old))) }
+    ensures unchanged { IfErr result (λ refusal. (refusal ≡ Refusal.Device) ⊎ (new.new ≡ new.old)) }
+{
+    let specs = specs_of(old);
+    let files = &specs[..old.file_count()];
+    let table = shape(alloc, new.len(), 3, files, slots)?;
+    lay_out(new, &table, files)?;
+    Ok(table)
+}
+
+/// Copies so many bytes of a file, from one offset on, to an offset of another device.
+fn copy_piece<D: Device, E: Device, A: Allocator + Copy>(
+    old: &mut Volume<D, A>,
+    new: &mut E,
+    file: usize,
+    at: u64,
+    size: u64,
+    to: u64,
+) -> Result<(), Refusal>
+    requires there { file < length old.old.table.files }
+    requires within { at + size ≤ slice_index old.old.lengths file }
+    requires few { size ≤ PIECE }
+    requires room { to + size ≤ length (E.seen new.old) }
+    ensures copied { D.is_honest old.old.device → E.is_honest new.old → OnOk result (E.seen new.new
+        ≡ written (E.seen new.old) to (slice_range
+        (bytes_of (files_of old.old.table (D.seen old.old.device)) file) at (at + size))) }
+    ensures copies { Copies D.Device E.Device to size old.old new.old result old.new new.new }
+    ensures fault { IfErr result (λ refusal. refusal ≡ Refusal.Device) }
+{
+    let mut piece = zero_piece();
+    let part = &mut piece[..size as usize];
+    old.read_file(file, at, part)?;
+    write(new, to, part)
+}
+
+/// Copies the bytes of a file to an offset of another device.
+fn copy_file<D: Device, E: Device, A: Allocator + Copy>(
+    old: &mut Volume<D, A>,
+    new: &mut E,
+    file: usize,
+    to: u64,
+) -> Result<(), Refusal>
+    requires there { file < length old.old.table.files }
+    requires small { to + slice_index old.old.lengths file < 2 ^ 64 }
+    requires room { to + slice_index old.old.lengths file ≤ length (E.seen new.old) }
+    ensures copied { D.is_honest old.old.device → E.is_honest new.old → OnOk result (E.seen new.new
+        ≡ written (E.seen new.old) to (bytes_of (files_of old.old.table (D.seen old.old.device)) file)) }
+    ensures copies { Copies D.Device E.Device to (slice_index old.old.lengths file)
+        old.old new.old result old.new new.new }
+    ensures fault { IfErr result (λ refusal. refusal ≡ Refusal.Device) }
+{
+    let size = old.lengths()[file];
+    let mut at = 0;
+    while at < size {
+        let piece = (size - at).min(PIECE as u64);
+        copy_piece(old, new, file, at, piece, to + at)?;
+        at += piece;
+    }
+    Ok(())
+}
+
+/// Copies the bytes of all files to their home blocks on another device.
+fn copy_files<D: Device, E: Device, A: Allocator + Copy>(
+    old: &mut Volume<D, A>,
+    new: &mut E,
+    table: &Super<A>,
+) -> Result<(), Refusal>
+    requires same { length table.now.files ≡ length old.old.table.files }
+    requires lengths { AreLengths table.now old.old.lengths }
+    requires fits { Fits table.now }
+    requires long { 4096 * block_count table.now ≤ length (E.seen new.old) }
+    ensures copied { D.is_honest old.old.device → E.is_honest new.old → OnOk result (AreCopied table.now old.old.lengths
+        (bytes_of (files_of old.old.table (D.seen old.old.device))) (length table.now.files)
+        (E.seen new.old) (E.seen new.new)) }
+    ensures copies { Copies D.Device E.Device (4096 * first_file_home table.now.layout table.now.slots)
+        (4096 * total_pages table.now.files) old.old new.old result old.new new.new }
+    ensures fault { IfErr result (λ refusal. refusal ≡ Refusal.Device) }
+{
+    for file in 0..old.file_count() {
+        let home = u64::from(table.first_home(file));
+        copy_file(old, new, file, PAGE * home)?;
+    }
+    Ok(())
+}
+
+/// Makes, on another device, a volume of layout 3 with the files of this one, the same names, lengths, capacities and
+/// bytes, and with so many record slots for each journal. `BadShape`, before any memory is taken and any device call is
+/// made, where no volume has them or the other device is shorter than its blocks. `OutOfMemory` before any device call.
+/// `Device` where a call of one of the two devices failed.
+///
+/// The volume isn't written at any moment, whatever the other device is and whatever is answered. What lies past the new
+/// volume stays. The new volume is laid out as `format_as` does it, then the files are copied, 32,768 bytes at a time
+/// and each up to its length, and both are synced before the super block is written and synced.
+pub fn migrate<D: Device, E: Device, A: Allocator + Copy>(
+    alloc: A,
+    old: &mut Volume<D, A>,
+    new: &mut E,
+    slots: u64,
+) -> Result<(), Refusal>
+    ensures migrated { D.is_honest old.old.device → E.is_honest new.old
+        → OnOk result (HasMigrated D.Device E.Device slots old.old new.old new.new) }
+
+    // The volume stays, and nothing of it is written, at no moment.
+    ensures table { old.new.table ≡ old.old.table }
+    ensures lengths { old.new.lengths ≡ old.old.lengths }
+    ensures unwritten { D.is_honest old.old.device → IsUnwritten D.Device old.old.device old.new.device }
+
+    ensures past { E.is_honest new.old → (table : SuperValue) (i : ℕ) → IsAsked 3 (asked_of old.old) slots table
+        → 4096 * block_count table ≤ i → slice_index (E.seen new.new) i ≡ slice_index (E.seen new.old) i }
+    ensures refused { IfErr result (RefusesFormat 3 (asked_of old.old) slots (length (E.seen new.old))) }
+    ensures unchanged { IfErr result (λ refusal. (refusal ≡ Refusal.Device)
+        ⊎ ((new.new ≡ new.old) × (old.new ≡ old.old))) }
+    ensures kept { AreAccounted D.Device E.Device old.old.device new.old result old.new.device new.new }
+{
+    let table = begin(alloc, old, new, slots)?;
+    copy_files(old, new, &table)?;
+    finish(new, &table)
+}
