@@ -6,11 +6,12 @@ use serde_json::Value;
 use std::alloc::Global;
 use volume_codec::FileSpec;
 
-/// A file of a volume, as long as its capacity.
+/// A file of a volume.
 #[derive(Drop)]
 pub struct File {
     pub name: String,
     pub length: u64,
+    pub capacity: u64,
 }
 
 /// Bytes, written so often one after the other from an offset on.
@@ -71,7 +72,7 @@ pub fn read_puts(alloc: Global, items: &[Value]) -> Result<Vec<Put>, Failure> {
     Ok(puts)
 }
 
-/// The files of a list of names and lengths.
+/// The files of a list of names and lengths, and of capacities where those are others.
 pub fn read_files(alloc: Global, items: &[Value]) -> Result<Vec<File>, Failure> {
     let mut files = Vec::new(alloc);
     for item in items {
@@ -82,12 +83,18 @@ pub fn read_files(alloc: Global, items: &[Value]) -> Result<Vec<File>, Failure> 
 
 fn read_file(alloc: Global, items: &[Value]) -> Result<File, Failure> {
     match items {
-        [name, length] => Ok(File {
-            name: String::from_str(alloc, text(alloc, name, "the name")?)?,
-            length: number(alloc, length, "the length")?,
-        }),
-        _ => Err(Failure::line(alloc, "a file is a name and a length")),
+        [name, length] => file_of(alloc, name, length, length),
+        [name, length, capacity] => file_of(alloc, name, length, capacity),
+        _ => Err(Failure::line(alloc, "a file is a name, a length and a capacity")),
     }
+}
+
+fn file_of(alloc: Global, name: &Value, length: &Value, capacity: &Value) -> Result<File, Failure> {
+    Ok(File {
+        name: String::from_str(alloc, text(alloc, name, "the name")?)?,
+        length: number(alloc, length, "the length")?,
+        capacity: number(alloc, capacity, "the capacity")?,
+    })
 }
 
 /// A volume of these files that is made on a disk: the number of its layout, its record slots, how long the disk is,
@@ -108,7 +115,7 @@ pub fn formatted(alloc: Global, plan: Plan<'_>) -> Result<Vec<u8>, Failure> {
         specs.push(FileSpec {
             name: file.name.as_str(),
             length: file.length,
-            capacity: file.length,
+            capacity: file.capacity,
         })?;
     }
     let blocks = match recovery::blocks_as(plan.layout, &specs, plan.slots) {

@@ -432,7 +432,7 @@ fn first_byte(alloc: Global, value: &Value, name: &str) -> Result<u8, Failure> {
 fn gates(alloc: Global, layout: u64, slots: u64) -> Result<Vec<u64>, Failure> {
     let mut gates = Vec::new(alloc);
     gates.push(4096)?;
-    if layout == 2 {
+    if matches!(layout, 2 | 3) {
         gates.push(slots.saturating_add(3).saturating_mul(4096))?;
     }
     Ok(gates)

@@ -1,4 +1,5 @@
 mod Appending
+mod Copied
 mod DumpRows
 mod Dumped
 mod Pages

@@ -25,10 +25,13 @@ impl fmt::Display for Refused<'_> {
 /// What was found, and what is allowed.
 #[derive(Clone, Copy, Debug, Error)]
 pub enum Cause<'a> {
-    #[error("LAYOUT is {0}, and 1 and 2 are served")]
+    #[error("LAYOUT is {0}, and 1 to 3 are served")]
     Layout(u64),
-    #[error("SLOTS is {0}, and 1 to 1020 are allowed")]
-    Slots(u64),
+    #[error("SLOTS is {found}, and {least} to 1020 are allowed")]
+    Slots {
+        found: u64,
+        least: u64,
+    },
     #[error("{0} files are asked for, and 1 to 64 are allowed")]
     FileCount(usize),
     #[error("the name {0:?} isn't 1 to 32 characters from ! to ~")]
@@ -37,18 +40,31 @@ pub enum Cause<'a> {
     SameName(&'a str),
     #[error("the length of {0:?} is 0, and lengths begin at 1")]
     NoLength(&'a str),
+    #[error("the capacity of {0:?} is 0, and capacities begin at 1")]
+    NoCapacity(&'a str),
+    #[error("the length of {name:?} is {length}, and its capacity is {capacity}")]
+    TooLong {
+        name: &'a str,
+        length: u64,
+        capacity: u64,
+    },
     #[error("the volume would have more than 4294967295 blocks")]
     TooManyBlocks,
     #[error("the file has {0} bytes, and a volume has 4096 at least")]
     TooShort(u64),
-    #[error("the file doesn't begin with FAMSYNC1 or FAMSYNC2")]
+    #[error("the file doesn't begin with FAMSYNC1, FAMSYNC2 or FAMSYNC3")]
     Magic,
     #[error("the super block breaks the format")]
     SuperBlock,
     #[error("the file has {found} bytes, and its super block says {wanted}")]
-    CutOff { found: u64, wanted: u64 },
+    CutOff {
+        found: u64,
+        wanted: u64,
+    },
     #[error("the descriptor of an open journal breaks the format, or two journals have one mark")]
     Journal,
+    #[error("the descriptor of an open journal or the lengths break the format, or two journals have one mark")]
+    JournalOrLengths,
     #[error("a read, a write or a sync of the file failed")]
     Call,
 }
@@ -68,13 +84,32 @@ pub fn refused_to_format<'a>(
     Refused { refusal, cause }
 }
 
+/// Why no volume of layout 3 with so many slots is made of the files of another.
+pub fn refused_to_migrate<'a>(refusal: Refusal, slots: u64) -> Refused<'a> {
+    let cause = match refusal {
+        Refusal::BadShape if !(2..=1_020).contains(&slots) => Some(Cause::Slots {
+            found: slots,
+            least: 2,
+        }),
+        Refusal::BadShape => Some(Cause::TooManyBlocks),
+        Refusal::Device => Some(Cause::Call),
+        _ => None,
+    };
+    Refused { refusal, cause }
+}
+
 // What is outside the limits of volumes.
 fn cause_in_files<'a>(layout: u64, files: &[FileSpec<'a>], slots: u64) -> Cause<'a> {
-    if !matches!(layout, 1 | 2) {
+    if !matches!(layout, 1 | 2 | 3) {
         return Cause::Layout(layout);
     }
-    if !(1..=1_020).contains(&slots) {
-        return Cause::Slots(slots);
+    // A batch of layout 3 may have the lengths besides a page.
+    let least = if layout == 3 { 2 } else { 1 };
+    if !(least..=1_020).contains(&slots) {
+        return Cause::Slots {
+            found: slots,
+            least,
+        };
     }
     if !(1..=64).contains(&files.len()) {
         return Cause::FileCount(files.len());
@@ -86,11 +121,31 @@ fn cause_in_files<'a>(layout: u64, files: &[FileSpec<'a>], slots: u64) -> Cause<
         if files[..i].iter().any(|other| other.name == file.name) {
             return Cause::SameName(file.name);
         }
-        if file.length == 0 {
-            return Cause::NoLength(file.name);
+        if let Some(cause) = cause_in_extent(layout, file) {
+            return cause;
         }
     }
     Cause::TooManyBlocks
+}
+
+// What is outside the limits of a file's length and capacity.
+fn cause_in_extent<'a>(layout: u64, file: &FileSpec<'a>) -> Option<Cause<'a>> {
+    let name = file.name;
+    let length = file.length;
+    let capacity = file.capacity;
+    if capacity == 0 && layout == 3 {
+        Some(Cause::NoCapacity(name))
+    } else if capacity == 0 {
+        Some(Cause::NoLength(name))
+    } else if length > capacity {
+        Some(Cause::TooLong {
+            name,
+            length,
+            capacity,
+        })
+    } else {
+        None
+    }
 }
 
 // Whether a file of a volume may have this name.
@@ -135,8 +190,10 @@ fn cause_of_damage<A: Allocator + Copy>(
             let wanted = PAGE * u64::from(table.block_count());
             if found < wanted {
                 Some(Cause::CutOff { found, wanted })
-            } else {
+            } else if table.geometry().layout().lengths_blocks() == 0 {
                 Some(Cause::Journal)
+            } else {
+                Some(Cause::JournalOrLengths)
             }
         }
         Err(Refusal::OutOfMemory) => None,

@@ -51,6 +51,27 @@ where
     }
 }
 
+/// Opens the file of a volume at a place to write to it. One that is trusted isn't marked as suspect any more.
+pub fn open_to_write<'a, 'b, R>(
+    rt: &'b R,
+    path: &'a str,
+    place: &'b str,
+    trust: bool,
+    note: &mut SyncNote,
+) -> Result<VolumeDisk<'b, R>, FileFailure<'a>>
+where
+    R: Files<File = File> + AllocGlobal,
+{
+    let disk = open_disk(rt, path, place, Access::Write, trust, note)?;
+    if trust {
+        // It could be synced, so what is read of it from here on is on the disk.
+        Mark::of(rt, place)?
+            .remove()
+            .map_err(|cause| FileFailure::File { path, cause })?;
+    }
+    Ok(disk)
+}
+
 /// Prints the files of a volume, as it would be opened, and leaves its file as it is. What opening writes is kept in
 /// memory.
 pub fn dump<'a, R, A, W>(
@@ -71,20 +92,36 @@ where
     match print_volume(alloc, OverlayDisk::new(alloc, disk), out) {
         Ok(Ok(())) => Ok(()),
         Ok(Err(DumpFault::Output(fault))) => Err(FileFailure::Output(fault)),
-        Ok(Err(DumpFault::Unreadable(refusal))) => Err(FileFailure::Disk {
-            path,
-            cause: Refused {
-                refusal,
-                cause: Some(Cause::Call),
-            },
-        }),
-        Err((Refusal::Device, disk)) if disk.was_refused_memory() => Err(FileFailure::Memory(
-            AllocError,
-        )),
-        Err((refusal, mut disk)) => Err(FileFailure::Disk {
-            path,
-            cause: refused_to_open(alloc, refusal, &mut disk),
-        }),
+        Ok(Err(DumpFault::Unreadable(refusal))) => Err(unreadable(path, refusal)),
+        Err((refusal, mut copy)) => {
+            let was_refused_memory = copy.was_refused_memory();
+            let cause = refused_to_open(alloc, refusal, &mut copy);
+            Err(refused_on_copy(path, was_refused_memory, cause))
+        }
+    }
+}
+
+/// Why a file of the volume at a path couldn't be read.
+pub fn unreadable(path: &str, refusal: Refusal) -> FileFailure<'_> {
+    FileFailure::Disk {
+        path,
+        cause: Refused {
+            refusal,
+            cause: Some(Cause::Call),
+        },
+    }
+}
+
+/// Why the volume at a path wasn't opened on a copy that keeps in memory what is written.
+pub fn refused_on_copy<'a>(
+    path: &'a str,
+    was_refused_memory: bool,
+    cause: Refused<'a>,
+) -> FileFailure<'a> {
+    if was_refused_memory && cause.refusal == Refusal::Device {
+        FileFailure::Memory(AllocError)
+    } else {
+        FileFailure::Disk { path, cause }
     }
 }
 

@@ -28,6 +28,21 @@ pub enum FileFailure<'a> {
     /// The file in which a new volume is made is there already.
     #[error("disk {path:?}: {new:?} is there already: if no other format is at work, remove it")]
     NewIsThere { path: &'a str, new: String },
+    /// The volume has no file of this name.
+    #[error("disk {path:?}: it has no file {file:?}")]
+    NoFile { path: &'a str, file: &'a str },
+    /// A copy would replace something else than a regular file.
+    #[error("file {path:?}: it is {kind}, and a copy replaces a regular file alone")]
+    NotReplaced { path: &'a str, kind: &'static str },
+    /// A copy would replace the file of the volume.
+    #[error("file {path:?}: it is the file of the volume")]
+    SameFile { path: &'a str },
+    /// Another process has the file locked that a copy would replace.
+    #[error("file {path:?}: in use by another process")]
+    CopyInUse { path: &'a str },
+    /// The file in which a copy is made is there already.
+    #[error("file {path:?}: {new:?} is there already: if no other export is at work, remove it")]
+    CopyIsThere { path: &'a str, new: String },
     /// The volume is marked: a sync of its file failed.
     #[error("disk {path:?}: {mark:?} says that a sync of it failed, so what is read of it may not be on the disk: compare it with a copy, and give --trust or format it")]
     Suspect { path: &'a str, mark: String },

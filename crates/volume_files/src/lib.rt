@@ -1,21 +1,28 @@
-//! Volumes in real files: found, locked and marked, made, opened and printed.
+//! Volumes in real files: found, locked and marked, made, opened, printed, migrated, and a file of one copied out.
 #![tactic(auto)]
 
 mod cause;
+mod copying;
 mod disk;
+mod exporting;
 mod failure;
 mod listing;
 mod making;
 mod mark;
+mod migrating;
 mod noted_file;
 mod volume_file;
 mod watched_file;
 
 pub use cause::{Cause, Refused, first_block, refused_to_open};
-pub use disk::{VolumeDisk, dump, open_disk, read_file};
+pub use disk::{
+    VolumeDisk, dump, open_disk, open_to_write, read_file, refused_on_copy, unreadable,
+};
+pub use exporting::{ExportPlan, export};
 pub use failure::FileFailure;
 pub use making::{Plan, format};
 pub use mark::Mark;
+pub use migrating::{MigrationPlan, migrate};
 pub use noted_file::{NotedFile, ThreadDisk, for_threads};
 pub use volume_file::{Access, place};
 pub use watched_file::{SyncNote, WatchedFile};

@@ -131,8 +131,8 @@ fn write_rows<D: Device + Drop, A: Allocator + Copy, W: io::Write>(
     Ok(())
 }
 
-// Reads a page of a file of this length, or what there is of it.
-fn read_page<D: Device + Drop, A: Allocator + Copy>(
+/// Reads a page of a file of this length, or what there is of it.
+pub fn read_page<D: Device + Drop, A: Allocator + Copy>(
     volume: &mut Volume<D, A>,
     file: usize,
     bytes: u64,

@@ -7,7 +7,7 @@ use device::FileDisk;
 use page_entry::{PAGE, Refusal};
 use std::alloc::Allocator;
 use std::fs::{File, Files, OpenOptions, Permissions};
-use std::io::{ErrorKind, Write};
+use std::io::ErrorKind;
 use std::os::unix::fs::{FileExt, MetadataExt, PermissionsExt, fchown};
 use std::{fs, io};
 use volume_codec::FileSpec;
@@ -33,17 +33,15 @@ impl<'a> Plan<'a, '_> {
 /// Makes or replaces the file at a path by the volume of a plan, and says how many blocks it has. The volume is made in
 /// another file beside it, `.new`, which takes its name once all of it is on the disk: where this fails before or is cut
 /// off, the old file is as it was.
-pub fn format<'a, R, A, W>(
+pub fn format<'a, R, A>(
     rt: &R,
     alloc: A,
     path: &'a str,
     plan: Plan<'a, '_>,
-    out: &mut W,
-) -> Result<(), FileFailure<'a>>
+) -> Result<u64, FileFailure<'a>>
 where
     R: Files<File = File> + AllocGlobal,
     A: Allocator + Copy,
-    W: Write,
 {
     let blocks = match recovery::blocks_as(plan.layout, plan.files, plan.slots) {
         Ok(blocks) => blocks,
@@ -54,25 +52,45 @@ where
     // Both files are locked until the end.
     let old = old_file(rt, path, &place)?;
     let file = new_file(rt, path, &new)?;
-    let _file = match made(rt, alloc, path, &place, plan, blocks, old.as_ref(), file).and_then(
-        |file| renamed(rt, path, &new, &place, file),
-    ) {
-        Ok(file) => file,
-        Err(failure) => {
-            // Where it can't be taken away either, the next format says that it is there.
-            let _ = fs::remove_file(rt, new.as_str());
-            return Err(failure);
-        }
-    };
-    let failed = |cause| FileFailure::File { path, cause };
-    sync_folder_of(rt, &place).map_err(failed)?;
-    Mark::of(rt, &place)?.remove().map_err(failed)?;
-    writeln!(out, "formatted {blocks} blocks")?;
-    Ok(())
+    let volume = made(rt, alloc, path, &place, plan, blocks, old.as_ref(), file);
+    let _file = named(rt, path, &new, &place, volume)?;
+    settle(rt, path, &place)?;
+    Ok(blocks)
 }
 
-// The file that is to be replaced, locked, if there is one.
-fn old_file<'a, R>(rt: &R, path: &'a str, place: &str) -> Result<Option<File>, FileFailure<'a>>
+/// Gives the new file, in which all of a volume is on the disk, the name of the old one. Where it wasn't made, or can't
+/// have the name, it is taken away. Where that can't be done either, the next one that is made says that it is there.
+pub fn named<'a, R>(
+    rt: &R,
+    path: &'a str,
+    new: &str,
+    place: &str,
+    made: Result<File, FileFailure<'a>>,
+) -> Result<File, FileFailure<'a>>
+where
+    R: Files<File = File>,
+{
+    match made.and_then(|file| renamed(rt, path, new, place, file)) {
+        Ok(file) => Ok(file),
+        Err(failure) => {
+            let _ = fs::remove_file(rt, new);
+            Err(failure)
+        }
+    }
+}
+
+/// Makes sure that the name of a new volume is on the disk, and that it isn't marked as suspect.
+pub fn settle<'a, R>(rt: &R, path: &'a str, place: &str) -> Result<(), FileFailure<'a>>
+where
+    R: Files<File = File> + AllocGlobal,
+{
+    let failed = |cause| FileFailure::File { path, cause };
+    sync_folder_of(rt, place).map_err(failed)?;
+    Mark::of(rt, place)?.remove().map_err(failed)
+}
+
+/// The file that is to be replaced, locked, if there is one.
+pub fn old_file<'a, R>(rt: &R, path: &'a str, place: &str) -> Result<Option<File>, FileFailure<'a>>
 where
     R: Files<File = File>,
 {
@@ -83,8 +101,8 @@ where
     }
 }
 
-// An empty file in which the volume is made.
-fn new_file<'a, R>(rt: &R, path: &'a str, new: &String) -> Result<File, FileFailure<'a>>
+/// An empty file in which a volume is made.
+pub fn new_file<'a, R>(rt: &R, path: &'a str, new: &String) -> Result<File, FileFailure<'a>>
 where
     R: Files<File = File>,
 {
@@ -122,6 +140,28 @@ where
     R: Files<File = File>,
     A: Allocator + Copy,
 {
+    let mut disk = ready(rt, alloc, path, place, blocks, old, file)?;
+    match recovery::format_as(alloc, &mut disk, plan.layout, plan.files, plan.slots) {
+        Ok(()) => Ok(disk.into_file()),
+        Err(refusal) => Err(plan.refused(path, refusal)),
+    }
+}
+
+/// A disk over a new file of so many blocks, all zeros, which is to replace an old one, if there is one. `path` names it
+/// in a failure.
+pub fn ready<'a, R, A>(
+    rt: &R,
+    alloc: A,
+    path: &'a str,
+    place: &str,
+    blocks: u64,
+    old: Option<&File>,
+    file: File,
+) -> Result<FileDisk<File>, FileFailure<'a>>
+where
+    R: Files<File = File>,
+    A: Allocator + Copy,
+{
     lock(path, &file, Access::Write)?;
     match old {
         Some(old) => take_after(&file, old).map_err(|cause| FileFailure::File { path, cause })?,
@@ -130,18 +170,14 @@ where
         None => {}
     }
     fill(alloc, path, &file, blocks)?;
-    let mut disk = match FileDisk::over(file) {
-        Ok(disk) => disk,
-        Err((cause, _)) => return Err(FileFailure::File { path, cause }),
-    };
-    match recovery::format_as(alloc, &mut disk, plan.layout, plan.files, plan.slots) {
-        Ok(()) => Ok(disk.into_file()),
-        Err(refusal) => Err(plan.refused(path, refusal)),
+    match FileDisk::over(file) {
+        Ok(disk) => Ok(disk),
+        Err((cause, _)) => Err(FileFailure::File { path, cause }),
     }
 }
 
-// Gives a new file the mode of an old one, and its group and owner where the system allows that.
-fn take_after(new: &File, old: &File) -> io::Result<()> {
+/// Gives a new file the mode of an old one, and its group and owner where the system allows that.
+pub fn take_after(new: &File, old: &File) -> io::Result<()> {
     let was = old.metadata()?;
     unless_denied(fchown(new, None, Some(was.gid())))?;
     unless_denied(fchown(new, Some(was.uid()), None))?;
@@ -175,8 +211,8 @@ where
     Ok(())
 }
 
-// Gives the new file the name of the old one.
-fn renamed<'a, R>(
+/// Gives the new file the name of the old one.
+pub fn renamed<'a, R>(
     rt: &R,
     path: &'a str,
     new: &str,

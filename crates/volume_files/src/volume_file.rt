@@ -121,8 +121,8 @@ fn judge_kind<'a>(path: &'a str, found: &Metadata) -> Result<(), FileFailure<'a>
     }
 }
 
-// What a file is that isn't a regular one.
-fn other_kind(found: &Metadata) -> Option<&'static str> {
+/// What a file is that isn't a regular one.
+pub fn other_kind(found: &Metadata) -> Option<&'static str> {
     let kind = found.file_type();
     if kind.is_file() {
         None

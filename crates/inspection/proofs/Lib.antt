@@ -1,0 +1,5 @@
+mod Healthy
+mod Journals
+mod Opened
+mod Places
+mod Writing

@@ -1,0 +1,7 @@
+use Rattle.std.proofs.Common.{[], sym}
+use Rattle.std.proofs.lemmas.Option.{get_or_from_slice_get}
+use Rattle.volume_codec.specs.Super.{names_in}
+use Rattle.inspection.proofs.file.name_of.Goals as goal
+
+pub returns : goal.returns
+returns g c = sym (get_or_from_slice_get (names_in c.args.table.now) c.args.file c.name.result.now [] c.name.ensures)

@@ -1,0 +1,19 @@
+//! What the bytes of a volume say: its table, its journals, what opening would carry out, and whether it is damaged;
+//! printed as text and as JSON. Nothing is written to the volume.
+#![tactic(auto)]
+
+mod file;
+mod found;
+mod health;
+mod json;
+mod lines;
+mod place;
+mod reading;
+mod text;
+
+pub use found::{Found, Journal, inspect};
+pub use health::{Health, examine};
+pub use json::{damage_value, found_value, health_value};
+pub use lines::{LineFault, write_file_lines, write_line};
+pub use place::{Place, pages_have_places, place_of};
+pub use text::write_found;

@@ -1,0 +1,164 @@
+// Migrating a volume: its files go into a new one whose files can grow, which is made in a file of its own as `format`
+// makes one.
+use crate::cause::{Refused, refused_to_migrate, refused_to_open};
+use crate::disk::{VolumeDisk, open_to_write};
+use crate::failure::FileFailure;
+use crate::making::{named, new_file, old_file, ready, settle};
+use crate::volume_file::place;
+use crate::watched_file::SyncNote;
+use device::{Device, FileDisk};
+use page_entry::Refusal;
+use recovery::Volume;
+use std::alloc::{AllocError, Allocator};
+use std::fs;
+use std::fs::{File, Files};
+use std::io::ErrorKind;
+use std::os::unix::fs::MetadataExt;
+
+/// Which volume is migrated, and where to: the paths of the two files, and the record slots of each journal of the new
+/// volume.
+#[derive(Clone, Copy)]
+pub struct MigrationPlan<'a> {
+    pub old: &'a str,
+    pub new: &'a str,
+    pub slots: u64,
+}
+
+impl<'a> MigrationPlan<'a> {
+    // Why the new volume wasn't made. Of a device that failed it is the new one's, if a call of that failed.
+    fn refused(&self, refusal: Refusal, new_failed: bool) -> FileFailure<'a> {
+        let path = match refusal {
+            Refusal::OutOfMemory => return FileFailure::Memory(AllocError),
+            Refusal::Device if !new_failed => self.old,
+            _ => self.new,
+        };
+        FileFailure::Disk {
+            path,
+            cause: refused_to_migrate(refusal, self.slots),
+        }
+    }
+}
+
+/// Opens a volume, makes or replaces the file at another path by one in layout 3 with the same files, and says how many
+/// blocks that has. The old volume is written to by its opening alone. The new one is made in another file beside its
+/// place, `.new`, which takes its name once all of it is on the disk: where this fails before or is cut off, a file that
+/// had the name is as it was. Two paths of one file are refused before anything is touched.
+pub fn migrate<'a, R, A>(
+    rt: &R,
+    alloc: A,
+    plan: MigrationPlan<'a>,
+    trust: bool,
+    note: &mut SyncNote,
+) -> Result<u64, FileFailure<'a>>
+where
+    R: Files<File = File> + AllocGlobal,
+    A: Allocator + Copy,
+{
+    let from = place(rt, plan.old)?;
+    let to = place(rt, plan.new)?;
+    judge_apart(rt, plan, &from, &to)?;
+    let disk = open_to_write(rt, plan.old, &from, trust, note)?;
+    match recovery::open(alloc, disk) {
+        Ok(mut volume) => {
+            let blocks = made_of(rt, alloc, plan, &to, &mut volume);
+            *note = volume.into_device().into_file().into_note();
+            blocks
+        }
+        Err((refusal, mut disk)) => {
+            let cause = refused_to_open(alloc, refusal, &mut disk);
+            *note = disk.into_file().into_note();
+            Err(not_opened(plan.old, cause))
+        }
+    }
+}
+
+// Why the old volume wasn't opened.
+fn not_opened<'a>(path: &'a str, cause: Refused<'a>) -> FileFailure<'a> {
+    match cause.refusal {
+        Refusal::OutOfMemory => FileFailure::Memory(AllocError),
+        _ => FileFailure::Disk { path, cause },
+    }
+}
+
+// Whether the two paths lead to two files.
+fn judge_apart<'a, R>(
+    rt: &R,
+    plan: MigrationPlan<'a>,
+    from: &str,
+    to: &str,
+) -> Result<(), FileFailure<'a>>
+where
+    R: Files<File = File>,
+{
+    let new = match fs::metadata(rt, to) {
+        Ok(new) => new,
+        Err(fault) if fault.kind() == ErrorKind::NotFound => return Ok(()),
+        Err(cause) => {
+            return Err(FileFailure::File {
+                path: plan.new,
+                cause,
+            });
+        }
+    };
+    match fs::metadata(rt, from) {
+        Ok(old) if new.dev() == old.dev() && new.ino() == old.ino() => Err(FileFailure::SameFile {
+            path: plan.new,
+        }),
+        Ok(_) => Ok(()),
+        Err(cause) => Err(FileFailure::File {
+            path: plan.old,
+            cause,
+        }),
+    }
+}
+
+// Makes the new volume at a place, where its shape is accepted, and says how many blocks it has.
+fn made_of<'a, R, A>(
+    rt: &R,
+    alloc: A,
+    plan: MigrationPlan<'a>,
+    to: &str,
+    volume: &mut Volume<VolumeDisk<'_, R>, A>,
+) -> Result<u64, FileFailure<'a>>
+where
+    R: Files<File = File> + AllocGlobal,
+    A: Allocator + Copy,
+{
+    let path = plan.new;
+    let blocks = match recovery::migrated_blocks(volume, plan.slots) {
+        Ok(blocks) => blocks,
+        Err(refusal) => return Err(plan.refused(refusal, false)),
+    };
+    let new = format!(in rt.alloc(); "{to}.new")?;
+    // Both files are locked until the end.
+    let old = old_file(rt, path, to)?;
+    let file = new_file(rt, path, &new)?;
+    let made = match ready(rt, alloc, path, to, blocks, old.as_ref(), file) {
+        Ok(disk) => copied(alloc, plan, volume, disk),
+        Err(failure) => Err(failure),
+    };
+    let _file = named(rt, path, &new, to, made)?;
+    settle(rt, path, to)?;
+    Ok(blocks)
+}
+
+// Copies the volume on to a disk over a new file, and hands the file back, all of it on the disk.
+fn copied<'a, R, A>(
+    alloc: A,
+    plan: MigrationPlan<'a>,
+    volume: &mut Volume<VolumeDisk<'_, R>, A>,
+    disk: FileDisk<File>,
+) -> Result<File, FileFailure<'a>>
+where
+    R: Files<File = File> + AllocGlobal,
+    A: Allocator + Copy,
+{
+    let mut disk = disk;
+    match recovery::migrate(alloc, volume, &mut disk, plan.slots) {
+        Ok(()) => Ok(disk.into_file()),
+        Err(refusal) => {
+            let new_failed = disk.faults() > 0;
+            Err(plan.refused(refusal, new_failed))
+        }
+    }
+}
