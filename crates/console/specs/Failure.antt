@@ -1,7 +1,7 @@
 -- The program's status, and the failure that names a step.
 use Rattle.std.specs.Prelude.{ℕ}
 use Rattle.console.specs.declared.failure.Failure.{Failure}
-use Rattle.console.specs.declared.failure.Failure.TheVariants.{CommandLine, Layout, Slots, FileSpec, Script, Trace, File, Shape, Step, Entry, Act, Wait, Gather, Session, Input, Output, Memory}
+use Rattle.console.specs.declared.failure.Failure.TheVariants.{CommandLine, Layout, Slots, FileSpec, Script, Trace, File, Shape, Step, Entry, Act, Wait, Gather, Crashes, Session, Input, Output, Memory}
 
 -- 1 for a script or a trace that is refused, 2 for a bad command line, 3 for everything else
 abbrev pub status_of : Failure → ℕ
@@ -18,6 +18,7 @@ status_of (Entry path entry) = 3
 status_of (Act path entry) = 3
 status_of (Wait path) = 3
 status_of (Gather path cause) = 3
+status_of (Crashes path cause) = 3
 status_of (Session path) = 3
 status_of (Input cause) = 3
 status_of (Output cause) = 3

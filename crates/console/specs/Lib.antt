@@ -1,4 +1,5 @@
 pub mod Failure
+pub mod Health
 pub mod Replies
 pub mod Words
 pub mod inside

@@ -1,13 +1,19 @@
 // The command line: what the words ask for.
 ghost use Rattle.std.specs.Prelude.{◌≡◌};
 
+use crate::crashes::Form;
 use crate::failure::Failure;
+use crate::look::Look;
 use crate::words::{decimal, file_spec};
 use clap::error::ErrorKind;
 use clap::{Arg, ArgAction, ArgMatches, Command, Error};
 use std::alloc::{AllocError, Allocator, Global};
 use std::convert::AsStr;
 use volume_codec::FileSpec;
+use volume_files::{ExportPlan, MigrationPlan};
+
+/// The layout whose files may grow, so that a capacity may be given for one.
+const LAYOUT_THREE: u64 = 3;
 
 /// What the words ask for.
 #[derive(Drop)]
@@ -18,6 +24,7 @@ pub enum Job<'a, A: Allocator + Copy> {
         disk: &'a str,
         slots: u64,
         files: Vec<FileSpec<'a>, A>,
+        json: bool,
     },
     /// Run a script on a volume, also on one that is marked as suspect where it is trusted.
     Run {
@@ -37,9 +44,19 @@ pub enum Job<'a, A: Allocator + Copy> {
         trust: bool,
     },
     /// Print the files of a volume, also of one that is marked as suspect where it is trusted.
-    Dump {
-        disk: &'a str,
+    Dump(Look<'a>),
+    /// Print what the bytes of a volume say, also of one that is marked as suspect where it is trusted.
+    Info(Look<'a>),
+    /// Print whether a volume is clean, needs opening, or is damaged, also of one that is marked as suspect where it is
+    /// trusted.
+    Check(Look<'a>),
+    /// Copy a file out of a volume, also of one that is marked as suspect where it is trusted.
+    Export(Wanted<'a>),
+    /// Make a volume whose files can grow of another, also of one that is marked as suspect where it is trusted.
+    Migrate {
+        plan: MigrationPlan<'a>,
         trust: bool,
+        json: bool,
     },
     /// Run a trace again on a copy of a volume, also of one that is marked as suspect where it is trusted.
     Replay {
@@ -47,8 +64,24 @@ pub enum Job<'a, A: Allocator + Copy> {
         trace: &'a str,
         trust: bool,
     },
+    /// Print what a crash within each device call of a script leaves, also of a volume that is marked as suspect where it
+    /// is trusted.
+    Crashes {
+        disk: &'a str,
+        script: &'a str,
+        trust: bool,
+        form: Form,
+    },
     /// Print this text: help, or the version.
     Show(String),
+}
+
+/// What a copy is asked for by.
+#[derive(Clone, Copy)]
+pub struct Wanted<'a> {
+    pub plan: ExportPlan<'a>,
+    pub trust: bool,
+    pub json: bool,
 }
 
 /// Reads the words, of which the first is the program's name.
@@ -88,14 +121,38 @@ fn job_of<'a, A: Allocator + Copy>(
             disk: text(words, "DISK"),
             trust: words.get_flag("trust"),
         }),
-        Some((_, words)) => Ok(Job::Dump {
+        Some(("crashes", words)) => Ok(Job::Crashes {
             disk: text(words, "DISK"),
+            script: text(words, "SCRIPT"),
             trust: words.get_flag("trust"),
+            form: form_of(words),
         }),
-        None => Ok(Job::Dump {
+        Some(("migrate", words)) => migrate_job(words),
+        Some(("info", words)) => Ok(Job::Info(look_at(words))),
+        Some(("check", words)) => Ok(Job::Check(look_at(words))),
+        Some(("export", words)) => Ok(Job::Export(Wanted {
+            plan: ExportPlan {
+                disk: text(words, "DISK"),
+                file: text(words, "FILE"),
+                out: text(words, "OUT"),
+            },
+            trust: words.get_flag("trust"),
+            json: words.get_flag("json"),
+        })),
+        Some((_, words)) => Ok(Job::Dump(look_at(words))),
+        None => Ok(Job::Dump(Look {
             disk: "",
             trust: false,
-        }),
+            json: false,
+        })),
+    }
+}
+
+fn look_at<'a>(words: &ArgMatches<'a>) -> Look<'a> {
+    Look {
+        disk: text(words, "DISK"),
+        trust: words.get_flag("trust"),
+        json: words.get_flag("json"),
     }
 }
 
@@ -109,14 +166,41 @@ fn format_job<'a, A: Allocator + Copy>(
     let slots = decimal(slots).ok_or(Failure::Slots(slots))?;
     let mut files = Vec::new(alloc);
     for word in words.get_strs("FILE").unwrap_or(&[]) {
-        files.push(file_spec(word).ok_or(Failure::FileSpec(word))?)?;
+        let file = file_spec(word, layout == LAYOUT_THREE);
+        files.push(file.ok_or(Failure::FileSpec(word))?)?;
     }
     Ok(Job::Format {
         layout,
         disk: text(words, "DISK"),
         slots,
         files,
+        json: words.get_flag("json"),
     })
+}
+
+fn migrate_job<'a, A: Allocator + Copy>(words: &ArgMatches<'a>) -> Result<Job<'a, A>, Failure<'a>> {
+    let slots = text(words, "SLOTS");
+    let slots = decimal(slots).ok_or(Failure::Slots(slots))?;
+    Ok(Job::Migrate {
+        plan: MigrationPlan {
+            old: text(words, "OLD"),
+            new: text(words, "NEW"),
+            slots,
+        },
+        trust: words.get_flag("trust"),
+        json: words.get_flag("json"),
+    })
+}
+
+// How the crashes of a script are printed.
+fn form_of(words: &ArgMatches<'_>) -> Form {
+    if words.get_flag("json") {
+        Form::Json
+    } else if words.get_flag("html") {
+        Form::Html
+    } else {
+        Form::Text
+    }
 }
 
 // The value of a required argument.
@@ -132,32 +216,58 @@ fn program<'a>(alloc: Global) -> Result<Command<'a>, AllocError> {
         )
         .subcommand_required(true)
         .subcommand(format_command(alloc)?)?
+        .subcommand(migrate_command(alloc)?)?
         .subcommand(run_command(alloc)?)?
         .subcommand(threads_command(alloc)?)?
         .subcommand(serve_command(alloc)?)?
         .subcommand(replay_command(alloc)?)?
-        .subcommand(dump_command(alloc)?)
+        .subcommand(dump_command(alloc)?)?
+        .subcommand(info_command(alloc)?)?
+        .subcommand(check_command(alloc)?)?
+        .subcommand(export_command(alloc)?)?
+        .subcommand(crashes_command(alloc)?)
 }
 
 fn format_command<'a>(alloc: Global) -> Result<Command<'a>, AllocError> {
     Command::new(alloc, "format")
         .about("Makes or replaces the file DISK by a volume whose files are all zeros")
         .arg(layout_option(alloc))?
+        .arg(json_option(alloc))?
         .arg(word(alloc, "DISK", "The file to make"))?
         .arg(word(
             alloc,
             "SLOTS",
-            "Record slots of each journal, 1 to 1020: the most pages that one commit can have",
+            "Record slots of each journal, 1 to 1020, in layout 3 from 2 on: the most blocks that one commit can have",
         ))?
         .arg(
             word(
                 alloc,
                 "FILE",
-                "A file of the volume, as NAME=LENGTH in bytes",
+                "A file of the volume, as NAME=LENGTH in bytes, in layout 3 also as NAME=LENGTH/CAPACITY",
             )
             .action(ArgAction::Append)
             .num_args(1..),
         )
+}
+
+fn migrate_command<'a>(alloc: Global) -> Result<Command<'a>, AllocError> {
+    Command::new(alloc, "migrate")
+        .about(
+            "Makes or replaces the file NEW by a volume in layout 3 with the files of the volume in OLD",
+        )
+        .arg(trust_option(alloc))?
+        .arg(json_option(alloc))?
+        .arg(word(
+            alloc,
+            "OLD",
+            "The file that holds the volume, which is opened",
+        ))?
+        .arg(word(alloc, "NEW", "The file to make"))?
+        .arg(word(
+            alloc,
+            "SLOTS",
+            "Record slots of each journal of the new volume, 2 to 1020",
+        ))
 }
 
 fn layout_option<'a>(alloc: Global) -> Arg<'a> {
@@ -165,7 +275,9 @@ fn layout_option<'a>(alloc: Global) -> Arg<'a> {
         .long("layout")
         .value_name("LAYOUT")
         .default_value("1")
-        .help("The number of the volume's layout: 1 has one journal, 2 has two")
+        .help(
+            "The number of the volume's layout: 1 has one journal, 2 has two, and 3 has two and files that may grow",
+        )
 }
 
 fn trust_option<'a>(alloc: Global) -> Arg<'a> {
@@ -224,7 +336,67 @@ fn dump_command<'a>(alloc: Global) -> Result<Command<'a>, AllocError> {
     Command::new(alloc, "dump")
         .about("Prints the files of a volume as it would be opened, and leaves it as it is")
         .arg(trust_option(alloc))?
+        .arg(json_option(alloc))?
         .arg(word(alloc, "DISK", "The file that holds the volume"))
+}
+
+fn info_command<'a>(alloc: Global) -> Result<Command<'a>, AllocError> {
+    Command::new(alloc, "info")
+        .about(
+            "Prints what the bytes of a volume say: its shape, its files, its journals, and what opening would do",
+        )
+        .arg(trust_option(alloc))?
+        .arg(json_option(alloc))?
+        .arg(word(alloc, "DISK", "The file that holds the volume"))
+}
+
+fn check_command<'a>(alloc: Global) -> Result<Command<'a>, AllocError> {
+    Command::new(alloc, "check")
+        .about(
+            "Prints whether a volume is clean, needs opening or is damaged, with status 0, 1 or 3",
+        )
+        .arg(trust_option(alloc))?
+        .arg(json_option(alloc))?
+        .arg(word(alloc, "DISK", "The file that holds the volume"))
+}
+
+fn export_command<'a>(alloc: Global) -> Result<Command<'a>, AllocError> {
+    Command::new(alloc, "export")
+        .about(
+            "Copies a file of a volume, as it would be opened, to the file OUT, and leaves the volume as it is",
+        )
+        .arg(trust_option(alloc))?
+        .arg(json_option(alloc))?
+        .arg(word(alloc, "DISK", "The file that holds the volume"))?
+        .arg(word(alloc, "FILE", "The name of the file in the volume"))?
+        .arg(word(alloc, "OUT", "The file to make or replace"))
+}
+
+fn crashes_command<'a>(alloc: Global) -> Result<Command<'a>, AllocError> {
+    Command::new(alloc, "crashes")
+        .about(
+            "Prints what a crash within each device call of a script leaves of a copy of a volume",
+        )
+        .arg(trust_option(alloc))?
+        .arg(flag(alloc, "json", "Print a JSON object a line, faults too"))?
+        .arg(flag(alloc, "html", "Print an HTML page").conflicts_with("json")?)?
+        .arg(word(alloc, "DISK", "The file that holds the volume"))?
+        .arg(word(
+            alloc,
+            "SCRIPT",
+            "The file that holds the script, a JSON object",
+        ))
+}
+
+fn json_option<'a>(alloc: Global) -> Arg<'a> {
+    flag(alloc, "json", "Print JSON, faults too")
+}
+
+fn flag<'a>(alloc: Global, name: &'a str, help: &'a str) -> Arg<'a> {
+    Arg::new(alloc, name)
+        .long(name)
+        .action(ArgAction::SetTrue)
+        .help(help)
 }
 
 fn word<'a>(alloc: Global, name: &'a str, help: &'a str) -> Arg<'a> {

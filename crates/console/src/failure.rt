@@ -3,6 +3,7 @@ ghost use Rattle.std.specs.Prelude.{◌≡◌};
 ghost use Rattle.console.specs.Failure.{status_of};
 
 use crate::shape::ShapeCause;
+use crash_table::CrashFault;
 use page_entry::Refusal;
 use scripts::ScriptFault;
 use std::alloc::AllocError;
@@ -24,7 +25,7 @@ pub enum Failure<'a> {
     #[error("SLOTS is {0:?}, which isn't a decimal number up to 2^64 - 1")]
     Slots(&'a str),
     /// A word for a file isn't a name with a length.
-    #[error("FILE is {0:?}, which isn't a name, `=` and a decimal length up to 2^64 - 1")]
+    #[error("FILE is {0:?}, which isn't a name, `=` and a decimal length up to 2^64 - 1, in layout 3 also with `/` and a capacity")]
     FileSpec(&'a str),
     /// The script was refused, before anything was opened.
     #[error("script {path:?}: {cause}")]
@@ -53,6 +54,9 @@ pub enum Failure<'a> {
     /// The trace isn't what the threads were answered.
     #[error("script {path:?}: {cause}: the trace isn't what the threads were answered")]
     Gather { path: &'a str, cause: Refusal },
+    /// The crashes of a run weren't made.
+    #[error("script {path:?}: {cause}")]
+    Crashes { path: &'a str, cause: CrashFault },
     /// A step of a session was answered that the device failed.
     #[error("disk {path:?}: the device failed")]
     Session { path: &'a str },

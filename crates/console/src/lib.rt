@@ -1,9 +1,13 @@
 //! What the program `famsync` does, from its words to its status: it makes volumes, runs scripts and programs on a
-//! machine that maps their files, and prints the files.
+//! machine that maps their files, prints the files, says how a volume is, and copies files out of it.
 #![tactic(auto)]
 
 mod command;
+mod crash_page;
+mod crash_text;
+mod crashes;
 mod failure;
+mod look;
 mod printer;
 mod program;
 mod replay;
@@ -12,6 +16,7 @@ mod scripted;
 mod serve;
 mod shape;
 mod threads;
+mod told;
 mod words;
 
 pub use program::perform;

@@ -2,11 +2,14 @@
 ghost use Rattle.std.specs.Prelude.{◌≤◌, IfOk};
 
 use crate::command::{Job, read_words};
+use crate::crashes::crashes;
 use crate::failure::Failure;
+use crate::look::{check, dump_lines, info};
 use crate::replay::replay;
 use crate::run::run;
 use crate::serve::serve;
 use crate::threads::threads;
+use crate::told::{asks_for_json, tell_export, tell_failure, tell_format, tell_migrate};
 use std::alloc::Allocator;
 use std::convert::AsStr;
 use std::fs::File;
@@ -15,15 +18,16 @@ use std::marker::Sync;
 use std::rt::Files;
 use std::sync::Wait;
 use std::thread::Threads;
-use volume_files::{Plan, SyncNote, dump, format};
+use volume_files::{Plan, SyncNote, dump, export, format, migrate};
 
 /// Does what the words ask for, of which the first is the program's name. What it prints goes to `out`, and where
 /// something is wrong, one line to `err`.
 ///
-/// The status is 0; 1 where a script or a trace is refused, or a trace that is run again is answered otherwise; 2 where
-/// the words aren't of the forms that the help shows; and 3 where a volume or a machine is refused, a step is answered
-/// that the device failed, a thread waited for others in vain, a file can't be made, opened or read, `out` can't be
-/// written, or memory is refused. Where the status is 1 or 2, no file was changed.
+/// The status is 0; 1 where a script or a trace is refused, a trace that is run again is answered otherwise, or a
+/// volume that is checked needs opening; 2 where the words aren't of the forms that the help shows; and 3 where a volume
+/// or a machine is refused, a step is answered that the device failed, a thread waited for others in vain, a file can't
+/// be made, opened or read, `out` can't be written, or memory is refused. Where the status is 1 or 2, no file was
+/// changed.
 ///
 /// For the command `threads` it holds if the call returns, since its threads wait for one another.
 pub fn perform<R, A, S, O, E>(rt: &R, alloc: A, words: &[S], out: &mut O, err: &mut E) -> u8
@@ -40,7 +44,7 @@ where
         Ok(status) => status,
         Err(failure) => {
             // Where this can't be written either, the status is all that is left to say.
-            let _ = writeln!(err, "famsync: {failure}{note}");
+            let _ = tell_failure(rt.alloc(), asks_for_json(words), &failure, &note, err);
             let _ = err.flush();
             failure.status()
         }
@@ -60,7 +64,7 @@ where
     A: Allocator + Copy,
     S: AsStr,
     O: io::Write,
-    ensures { IfOk result (λ status. status ≤ 1) }
+    ensures { IfOk result (λ status. status ≤ 3) }
 {
     let done = obey(rt, alloc, words, out, note);
     let flushed = out.flush();
@@ -81,7 +85,7 @@ where
     A: Allocator + Copy,
     S: AsStr,
     O: io::Write,
-    ensures { IfOk result (λ status. status ≤ 1) }
+    ensures { IfOk result (λ status. status ≤ 3) }
 {
     match read_words(rt.alloc(), alloc, words)? {
         Job::Format {
@@ -89,13 +93,20 @@ where
             disk,
             slots,
             files,
+            json,
         } => {
             let plan = Plan {
                 layout,
                 files: &files,
                 slots,
             };
-            format(rt, alloc, disk, plan, out)?;
+            let blocks = format(rt, alloc, disk, plan)?;
+            tell_format(rt.alloc(), json, blocks, out)?;
+            Ok(0)
+        }
+        Job::Migrate { plan, trust, json } => {
+            let blocks = migrate(rt, alloc, plan, trust, note)?;
+            tell_migrate(rt.alloc(), json, blocks, out)?;
             Ok(0)
         }
         Job::Run {
@@ -118,9 +129,35 @@ where
             serve(rt, alloc, disk, trust, out, note)?;
             Ok(0)
         }
-        Job::Replay { disk, trace, trust } => replay(rt, alloc, disk, trace, trust, out, note),
-        Job::Dump { disk, trust } => {
-            dump(rt, alloc, disk, trust, out, note)?;
+        Job::Replay { disk, trace, trust } => {
+            let status = replay(rt, alloc, disk, trace, trust, out, note)?;
+            Ok(status)
+        }
+        Job::Dump(look) => {
+            if look.json {
+                dump_lines(rt, alloc, look, out, note)?;
+            } else {
+                dump(rt, alloc, look.disk, look.trust, out, note)?;
+            }
+            Ok(0)
+        }
+        Job::Info(look) => {
+            info(rt, alloc, look, out, note)?;
+            Ok(0)
+        }
+        Job::Check(look) => check(rt, alloc, look, out, note),
+        Job::Export(wanted) => {
+            let bytes = export(rt, alloc, wanted.plan, wanted.trust, note)?;
+            tell_export(rt.alloc(), wanted.json, bytes, out)?;
+            Ok(0)
+        }
+        Job::Crashes {
+            disk,
+            script,
+            trust,
+            form,
+        } => {
+            crashes(rt, alloc, disk, script, trust, form, out, note)?;
             Ok(0)
         }
         Job::Show(text) => {

@@ -11,7 +11,7 @@ use std::alloc::Allocator;
 use std::fs::File;
 use std::io;
 use std::rt::Files;
-use volume_files::{Access, FileFailure, Mark, SyncNote, VolumeDisk, open_disk, place, read_file};
+use volume_files::{SyncNote, open_to_write, place, read_file};
 
 /// Runs a script on the volume in a file, and prints the reply of each step before the next one is made. The script is
 /// read whole before the disk is opened; `path` and `script` are the names of the two files. `note` gets what is to be
@@ -47,28 +47,8 @@ where
     }
 }
 
-/// Opens the file of a volume at a place to write to it. One that is trusted isn't marked as suspect any more.
-pub fn open_to_write<'a, 'b, R>(
-    rt: &'b R,
-    path: &'a str,
-    place: &'b str,
-    trust: bool,
-    note: &mut SyncNote,
-) -> Result<VolumeDisk<'b, R>, FileFailure<'a>>
-where
-    R: Files<File = File> + AllocGlobal,
-{
-    let disk = open_disk(rt, path, place, Access::Write, trust, note)?;
-    if trust {
-        // It could be synced, so what is read of it from here on is on the disk.
-        Mark::of(rt, place)?
-            .remove()
-            .map_err(|cause| FileFailure::File { path, cause })?;
-    }
-    Ok(disk)
-}
-
-fn read_script<'a, R, A>(rt: &R, alloc: A, path: &'a str) -> Result<Script<A>, Failure<'a>>
+/// The script in a file.
+pub fn read_script<'a, R, A>(rt: &R, alloc: A, path: &'a str) -> Result<Script<A>, Failure<'a>>
 where
     R: Files<File = File> + AllocGlobal,
     A: Allocator + Copy,

@@ -1,7 +1,6 @@
 // A session on the volume in a file: requests are read from the input, and answered on the output.
 
 use crate::failure::Failure;
-use crate::run::open_to_write;
 use crate::shape::refused_to_run;
 use device::Device;
 use machine::Shape;
@@ -12,7 +11,7 @@ use std::fs::File;
 use std::io;
 use std::io::{BufRead, BufReader};
 use std::rt::Files;
-use volume_files::{SyncNote, place};
+use volume_files::{SyncNote, open_to_write, place};
 
 /// The name of the input in what is said of its first line.
 const INPUT: &str = "-";

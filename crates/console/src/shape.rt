@@ -17,6 +17,8 @@ pub enum ShapeCause {
     Tlb(u64),
     #[error("frames is {found}, and 1 to {most} are served, as the volume has {most} record slots")]
     Frames { found: u64, most: u64 },
+    #[error("frames is {found}, and 1 to {most} are served, as the volume has {most} record slots and one for the lengths")]
+    FramesBesideLengths { found: u64, most: u64 },
     #[error("copies is {0}, and 0 to 64 are served")]
     Copies(u64),
     #[error("trace is {0}, and 1 to 1000000 are served")]
@@ -85,8 +87,12 @@ fn cause_in_shape<D: Device, A: Allocator + Copy>(
         return Some(ShapeCause::Copies(shape.copies));
     }
     let table = read_super(alloc, &first_block(device)?).ok()?;
-    Some(ShapeCause::Frames {
-        found: shape.frames,
-        most: u64::from(table.geometry().max_frames()),
-    })
+    let geometry = table.geometry();
+    let found = shape.frames;
+    let most = u64::from(geometry.max_frames());
+    if geometry.layout().lengths_blocks() == 0 {
+        Some(ShapeCause::Frames { found, most })
+    } else {
+        Some(ShapeCause::FramesBesideLengths { found, most })
+    }
 }

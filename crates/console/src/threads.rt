@@ -2,7 +2,6 @@
 
 use crate::failure::Failure;
 use crate::printer::is_failure;
-use crate::run::open_to_write;
 use crate::shape::{NotBooted, ShapeCause, refused_to_run};
 use driver::{NotRun, Ran, run_programs};
 use page_entry::Refusal;
@@ -16,7 +15,7 @@ use std::rt::Files;
 use std::sync::Wait;
 use std::thread::Threads;
 use traces::{write_entry, write_shape};
-use volume_files::{Mark, SyncNote, ThreadDisk, for_threads, place, read_file};
+use volume_files::{Mark, SyncNote, ThreadDisk, for_threads, open_to_write, place, read_file};
 
 /// How often a thread that waits looks whether another got on, before it gives up.
 const TURNS: u64 = 100_000_000;

@@ -2,8 +2,11 @@
 #![tactic(auto)]
 
 #[cfg(test)]
-mod replays;
+mod crashes;
 #[cfg(test)]
+mod looks;
+#[cfg(test)]
+mod replays;
 #[cfg(test)]
 mod tests;
 #[cfg(test)]

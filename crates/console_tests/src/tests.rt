@@ -139,7 +139,7 @@ pub fn writes<R: Host>(rt: &R, path: &str, parts: &[&str]) -> bool {
 
 // An image of the volume of the files `a` of 5,000 bytes and `b` of 4,096, with 4 record slots and with these bytes at
 // these offsets changed.
-fn image(alloc: Global, changes: &[(usize, u8)]) -> Result<Vec<u8>, AllocError> {
+pub fn image(alloc: Global, changes: &[(usize, u8)]) -> Result<Vec<u8>, AllocError> {
     let mut image = vec![in alloc; 0; 40_960]?;
     put(&mut image, 0, b"FAMSYNC1");
     put(&mut image, 8, &[0, 0, 0, 2, 0, 0, 0, 4, 0, 0, 0, 10]);
@@ -180,7 +180,7 @@ pub fn removes<R: Host>(rt: &R, paths: &[&str]) -> bool {
 }
 
 // Whether a file has these bytes.
-fn holds<R: Host>(rt: &R, path: &str, bytes: &[u8]) -> bool {
+pub fn holds<R: Host>(rt: &R, path: &str, bytes: &[u8]) -> bool {
     match fs::read(rt, path) {
         Ok(found) => found.as_slice() == bytes,
         Err(_) => false,
@@ -498,6 +498,10 @@ const BAD_WORDS: &[(&str, &str)] = &[
     ("format|bad.img|4|a=", "FILE is \"a=\""),
     ("format|bad.img|4|a=1|b=+1", "FILE is \"b=+1\""),
     ("format|bad.img|4|a=5000/9000", "FILE is \"a=5000/9000\""),
+    ("format|--layout|2|bad.img|4|a=5/5", "FILE is \"a=5/5\""),
+    ("format|--layout|3|bad.img|4|a=5/6/7", "FILE is \"a=5/6/7\""),
+    ("format|--layout|3|bad.img|4|a=5/", "FILE is \"a=5/\""),
+    ("format|--layout|3|bad.img|4|a=/5", "FILE is \"a=/5\""),
     (
         "run|bad.img",
         "the following required arguments were not provided: <SCRIPT>",
@@ -528,6 +532,18 @@ const FAULTS: &[(&str, &str)] = &[
         "disk \"none.img\": badshape: SLOTS is 1021, and 1 to 1020 are allowed\n",
     ),
     (
+        "format|--layout|3|none.img|1|a=1",
+        "disk \"none.img\": badshape: SLOTS is 1, and 2 to 1020 are allowed\n",
+    ),
+    (
+        "format|--layout|3|none.img|4|a=0",
+        "disk \"none.img\": badshape: the capacity of \"a\" is 0, and capacities begin at 1\n",
+    ),
+    (
+        "format|--layout|3|none.img|4|a=6/5",
+        "disk \"none.img\": badshape: the length of \"a\" is 6, and its capacity is 5\n",
+    ),
+    (
         "format|none.img|4|a=0",
         "disk \"none.img\": badshape: the length of \"a\" is 0, and lengths begin at 1\n",
     ),
@@ -552,12 +568,12 @@ const FAULTS: &[(&str, &str)] = &[
         "disk \"none.img\": badshape: the volume would have more than 4294967295 blocks\n",
     ),
     (
-        "format|--layout|3|none.img|4|a=1",
-        "disk \"none.img\": badshape: LAYOUT is 3, and 1 and 2 are served\n",
+        "format|--layout|4|none.img|4|a=1",
+        "disk \"none.img\": badshape: LAYOUT is 4, and 1 to 3 are served\n",
     ),
     (
         "format|--layout=0|none.img|4|a=1",
-        "disk \"none.img\": badshape: LAYOUT is 0, and 1 and 2 are served\n",
+        "disk \"none.img\": badshape: LAYOUT is 0, and 1 to 3 are served\n",
     ),
     ("format|none/x.img|4|a=1", "file \"none/x.img.new\": "),
     ("format|none/x\n.img|4|a=1", "file \"none/x\\n.img.new\": "),
@@ -924,7 +940,7 @@ fn refuses_image<R: Host>(rt: &R, changes: &[(usize, u8)], len: usize, cause: &s
     }
 }
 
-const FOREIGN: &str = "notavolume: the file doesn't begin with FAMSYNC1 or FAMSYNC2";
+const FOREIGN: &str = "notavolume: the file doesn't begin with FAMSYNC1, FAMSYNC2 or FAMSYNC3";
 
 const SPOILT: &str = "damaged: the super block breaks the format";
 

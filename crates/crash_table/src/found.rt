@@ -1,0 +1,109 @@
+// The files at each mark of a run, and which mark's files an opening found.
+ghost use Rattle.std.specs.Prelude.{◌<◌, length};
+
+use crate::crash_fault::CrashFault;
+use crate::files::{Files, are_same, fault_of, open_files};
+use crate::make::{acknowledge, make};
+use crate::same::are_same_replies;
+use device::Device;
+use machine::{Reply, Shape, Step};
+use std::alloc::Allocator;
+
+/// The files at a mark, and the index of the step that made it.
+#[derive(Drop)]
+pub struct MarkFiles<A: Allocator + Copy> {
+    pub step: usize,
+    pub files: Files<A>,
+}
+
+/// A run that is made on copies of a disk: what the disk holds, the shape of the machine, and the steps.
+#[derive(Clone, Copy)]
+pub struct Plan<'a> {
+    pub image: &'a [u8],
+    pub shape: Shape,
+    pub steps: &'a [Step],
+}
+
+/// The files at the mark that the step of an index made, where these are the replies up to it and with it. The run is
+/// made on a device up to that step and written out until the mark is acknowledged: what is found then has all of the
+/// mark and no store after it.
+pub fn files_at<D: Device + Drop, A: Allocator + Copy>(
+    alloc: A,
+    device: D,
+    shape: Shape,
+    steps: &[Step],
+    replies: &[Reply],
+    at: usize,
+    number: u32,
+) -> Result<Files<A>, CrashFault>
+    requires { at < length replies.now }
+{
+    if at >= steps.len() {
+        return Err(CrashFault::Otherwise);
+    }
+    let mut machine = match engine::start(alloc, device, shape) {
+        Ok(machine) => machine,
+        Err((refusal, _)) => return Err(fault_of(refusal)),
+    };
+    let told = make(alloc, &mut machine, &steps[..=at])?;
+    if !are_same_replies(&told, &replies[..=at]) {
+        return Err(CrashFault::Otherwise);
+    }
+    acknowledge(&mut machine, steps[at].p, number, &replies[..at])?;
+    open_files(alloc, machine.into_device())
+}
+
+// The files that are kept of the mark that the step of an index made.
+fn kept_at<A: Allocator + Copy>(marks: &[MarkFiles<A>], at: usize) -> Option<&MarkFiles<A>> {
+    for mark in marks {
+        if mark.step == at {
+            return Some(mark);
+        }
+    }
+    None
+}
+
+/// The newest mark among those that these replies tell whose files are the found ones; 0 where these are the files at
+/// the start. The files that are kept are those at the marks of a run with the replies `first`, which are theirs as far
+/// as these replies are the same. `AtNoMark` where they are neither.
+pub fn newest<A: Allocator + Copy>(
+    start: &[Vec<u8, A>],
+    marks: &[MarkFiles<A>],
+    first: &[Reply],
+    replies: &[Reply],
+    found: &[Vec<u8, A>],
+) -> Result<u32, CrashFault> {
+    for before in 0..replies.len() {
+        let at = replies.len() - 1 - before;
+        if let Reply::Marked(number) = replies[at] {
+            let kept = kept_of(marks, first, replies, at)?;
+            if are_same(&kept.files, found) {
+                return Ok(number);
+            }
+        }
+    }
+    if are_same(start, found) {
+        Ok(0)
+    } else {
+        Err(CrashFault::AtNoMark)
+    }
+}
+
+// The files that are kept of the mark that the step of an index made, where the replies up to it are those of the run
+// whose files were kept.
+fn kept_of<'a, A: Allocator + Copy>(
+    marks: &'a [MarkFiles<A>],
+    first: &[Reply],
+    replies: &[Reply],
+    at: usize,
+) -> Result<&'a MarkFiles<A>, CrashFault>
+    requires { at < length replies.now }
+{
+    if at >= first.len() || !are_same_replies(&first[..=at], &replies[..=at]) {
+        return Err(CrashFault::Otherwise);
+    }
+    match kept_at(marks, at) {
+        Some(kept) => Ok(kept),
+        None => Err(CrashFault::Otherwise),
+    }
+}

@@ -1,0 +1,101 @@
+// Making steps, and noting what they are answered.
+use crate::crash_fault::CrashFault;
+use crate::files::fault_of;
+use device::Device;
+use machine::{Act, Machine, Reply, Shape, Step};
+use page_entry::{ProcessorNumber, Refusal};
+use std::alloc::{AllocError, Allocator};
+
+/// Makes steps one at a time, up to one that is answered that the device failed.
+pub fn make<D: Device, A: Allocator + Copy>(
+    alloc: A,
+    machine: &mut Machine<D, A>,
+    steps: &[Step],
+) -> Result<Vec<Reply, A>, AllocError> {
+    let mut replies = Vec::new(alloc);
+    for step in steps {
+        let reply = machine.enter(step);
+        replies.push(reply)?;
+        if is_failure(&reply) {
+            return Ok(replies);
+        }
+    }
+    Ok(replies)
+}
+
+// Whether a reply says that the device failed.
+fn is_failure(reply: &Reply) -> bool {
+    matches!(reply, Reply::Refused(Refusal::Device))
+}
+
+/// Makes a run on a device, up to a step that is answered that the device failed. The device, and the replies; there
+/// are none where the device failed as it was opened.
+pub fn run_on<D: Device + Drop, A: Allocator + Copy>(
+    alloc: A,
+    device: D,
+    shape: Shape,
+    steps: &[Step],
+) -> Result<(D, Vec<Reply, A>), CrashFault> {
+    match engine::start(alloc, device, shape) {
+        Ok(mut machine) => {
+            let replies = make(alloc, &mut machine, steps)?;
+            Ok((machine.into_device(), replies))
+        }
+        Err((Refusal::Device, device)) => Ok((device, Vec::new(alloc))),
+        Err((refusal, _)) => Err(fault_of(refusal)),
+    }
+}
+
+// The most steps that a write-out has up to the one that commits it, for a batch of 1,020 pages.
+const MOST_FLUSHES: u64 = 1_024;
+
+/// Sees to it that a mark that was just made is acknowledged, where these are the replies before it: it is at once where
+/// no store was answered since the mark before it, and else it is written out by steps of this processor.
+pub fn acknowledge<D: Device, A: Allocator + Copy>(
+    machine: &mut Machine<D, A>,
+    p: ProcessorNumber,
+    number: u32,
+    before: &[Reply],
+) -> Result<(), CrashFault> {
+    if has_unmarked(before) {
+        commit(machine, p, number)
+    } else {
+        Ok(())
+    }
+}
+
+// Writes a mark out, up to the step that commits it.
+fn commit<D: Device, A: Allocator + Copy>(
+    machine: &mut Machine<D, A>,
+    p: ProcessorNumber,
+    number: u32,
+) -> Result<(), CrashFault> {
+    let step = Step { p, act: Act::Flush };
+    for _ in 0..MOST_FLUSHES {
+        match machine.enter(&step) {
+            Reply::Going => {}
+            Reply::Committed(mark) if mark == number => return Ok(()),
+            Reply::Refused(refusal) => return Err(fault_of(refusal)),
+            _ => return Err(CrashFault::Otherwise),
+        }
+    }
+    Err(CrashFault::Otherwise)
+}
+
+// Whether a store was answered that no mark has yet.
+fn has_unmarked(replies: &[Reply]) -> bool {
+    let mut has = false;
+    for reply in replies {
+        has = is_unmarked(has, reply);
+    }
+    has
+}
+
+// The same after one reply more.
+fn is_unmarked(before: bool, reply: &Reply) -> bool {
+    match reply {
+        Reply::Stored => true,
+        Reply::Marked(_) => false,
+        _ => before,
+    }
+}

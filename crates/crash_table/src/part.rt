@@ -1,0 +1,73 @@
+// Which part of a volume a device call touches.
+use page_entry::PAGE;
+use std::alloc::Allocator;
+use volume_codec::Super;
+
+/// A part of a volume. Journals and their record slots are counted from 0.
+#[derive(Clone, Copy, Debug, PartialEq, Eq)]
+pub enum Part {
+    Super,
+    Gate(u32),
+    Descriptor(u32),
+    Record { journal: u32, slot: u32 },
+    /// A home block that is of no file.
+    Home(u32),
+    /// The home block of a file's page.
+    Page { file: usize, page: u32 },
+    /// Past the volume.
+    Outside,
+}
+
+/// Where the parts of a volume are.
+#[derive(Drop)]
+pub struct Places<A: Allocator + Copy> {
+    pub table: Super<A>,
+}
+
+impl<A: Allocator + Copy> Places<A> {
+    /// The part that has a byte.
+    pub fn part_of(&self, at: u64) -> Part {
+        let block = at / PAGE;
+        if block >= u64::from(self.table.block_count()) {
+            return Part::Outside;
+        }
+        self.part_of_block(block as u32)
+    }
+
+    fn part_of_block(&self, block: u32) -> Part {
+        let geometry = self.table.geometry();
+        if block == 0 {
+            return Part::Super;
+        }
+        for journal in 0..geometry.journals() {
+            let gate = geometry.gate_block(journal);
+            let descriptor = geometry.descriptor_block(journal);
+            if block == gate {
+                return Part::Gate(journal);
+            }
+            if block == descriptor {
+                return Part::Descriptor(journal);
+            }
+            if block > descriptor && block - descriptor <= geometry.slots() {
+                return Part::Record {
+                    journal,
+                    slot: block - descriptor - 1,
+                };
+            }
+        }
+        self.home_of(block)
+    }
+
+    fn home_of(&self, block: u32) -> Part {
+        for file in 0..self.table.file_count() {
+            let first = self.table.first_home(file);
+            if block >= first && block - first < self.table.pages(file) {
+                return Part::Page {
+                    file,
+                    page: block - first,
+                };
+            }
+        }
+        Part::Home(block)
+    }
+}

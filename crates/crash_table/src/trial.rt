@@ -1,0 +1,175 @@
+// A run, made once to learn its calls, its replies and the files at its marks, and again for each crash.
+ghost use Rattle.std.specs.Prelude.{◌≡◌, ◌<◌, length, IfOk};
+ghost use Rattle.device.specs.Memory.{new_disk};
+
+use crate::call::{Call, Listing};
+use crate::crash_fault::CrashFault;
+use crate::files::{Files, fault_of, open_files};
+use crate::found::{MarkFiles, Plan, files_at, newest};
+use crate::make::run_on;
+use crate::same::are_same_replies;
+use device::{Device, FailingDisk, MemDisk};
+use machine::{Reply, Shape, Step};
+use std::alloc::{AllocError, Allocator};
+
+/// A run on a copy of a disk: its replies, its device calls, and the files at its marks.
+#[derive(Drop)]
+pub struct Trial<'a, A: Allocator + Copy> {
+    alloc: A,
+    plan: Plan<'a>,
+    replies: Vec<Reply, A>,
+    /// How many device calls were made up to each reply, and with its step.
+    made: Vec<u64, A>,
+    /// How many device calls opened the volume.
+    opening: u64,
+    calls: Vec<Call<A>, A>,
+    /// The files before the run.
+    start: Files<A>,
+    marks: Vec<MarkFiles<A>, A>,
+}
+
+// A copy of a disk that holds these bytes.
+fn copy_of<A: Allocator + Copy>(alloc: A, image: &[u8]) -> Result<MemDisk<A>, AllocError>
+    ensures { IfOk result (λ disk. disk ≡ new_disk image.now) }
+{
+    MemDisk::from_bytes(alloc, Vec::from_slice(alloc, image)?)
+}
+
+impl<'a, A: Allocator + Copy> Trial<'a, A> {
+    /// Makes a run on a copy of a disk that holds these bytes. `Refused` where `engine::start` refuses it.
+    pub fn new(
+        alloc: A,
+        image: &'a [u8],
+        shape: Shape,
+        steps: &'a [Step],
+    ) -> Result<Self, CrashFault> {
+        let plan = Plan {
+            image,
+            shape,
+            steps,
+        };
+        let disk = Listing::new(alloc, copy_of(alloc, image)?);
+        let mut machine = match engine::start(alloc, disk, shape) {
+            Ok(machine) => machine,
+            Err((refusal, _)) => return Err(fault_of(refusal)),
+        };
+        let opening = machine.device().count();
+        let mut replies = Vec::new(alloc);
+        let mut made = Vec::new(alloc);
+        for step in steps {
+            replies.push(machine.enter(step))?;
+            made.push(machine.device().count())?;
+        }
+        if machine.device().faults() > 0 {
+            return Err(CrashFault::Memory(AllocError));
+        }
+        let calls = machine.into_device().into_calls()?;
+        let start = open_files(alloc, copy_of(alloc, image)?)?;
+        let marks = marks_of(alloc, &plan, &replies)?;
+        Ok(Trial {
+            alloc,
+            plan,
+            replies,
+            made,
+            opening,
+            calls,
+            start,
+            marks,
+        })
+    }
+
+    /// The device calls of the run, in order. The first ones open the volume.
+    pub fn calls(&self) -> &[Call<A>] {
+        &self.calls
+    }
+
+    /// What the disk holds before the run.
+    pub fn image(&self) -> &'a [u8] {
+        self.plan.image
+    }
+
+    /// The replies of the run.
+    pub fn replies(&self) -> &[Reply] {
+        &self.replies
+    }
+
+    /// How many replies come before the device call of this number, counted from 1.
+    pub fn replies_before(&self, call: u64) -> usize {
+        if call <= self.opening {
+            return 0;
+        }
+        let mut count = 0usize;
+        for made in &self.made {
+            if *made >= call {
+                return count;
+            }
+            count = count.saturating_add(1);
+        }
+        count
+    }
+
+    /// The run is made again, and its device call of this number, counted from 1, fails; where there is none, no call
+    /// fails. Then a crash leaves these bytes in the places that were written and not synced, and what is left is
+    /// opened. The answer is the number of the newest mark whose files are found; 0: those before the run. `AtNoMark`
+    /// where they are none of these, and `Otherwise` where memory was refused to a run and another answer came of that,
+    /// or the choice isn't as long as the disk.
+    pub fn crash(&self, fails: u64, choice: &[u8]) -> Result<u32, CrashFault> {
+        let disk = FailingDisk::new(copy_of(self.alloc, self.plan.image)?, fails);
+        let (disk, replies) = run_on(self.alloc, disk, self.plan.shape, self.plan.steps)?;
+        let failed = disk.faults() > 0;
+        let mut disk = disk.into_inner();
+        if disk.faults() > 0 {
+            // A disk in memory fails where memory is refused, and for no other reason.
+            return Err(CrashFault::Memory(AllocError));
+        }
+        if choice.len() != disk.bytes().len() || !self.is_run_up_to(fails, failed, &replies) {
+            return Err(CrashFault::Otherwise);
+        }
+        disk.stop(choice);
+        let found = open_files(self.alloc, disk)?;
+        newest(&self.start, &self.marks, &self.replies, &replies, &found)
+    }
+
+    // Whether a run with these replies is the first one up to the device call of this number, which fails, where there
+    // is one.
+    fn is_run_up_to(&self, fails: u64, failed: bool, replies: &[Reply]) -> bool {
+        let before = self.replies_before(fails);
+        let due = fails <= self.calls.len() as u64;
+        match (self.replies.get(0..before), replies.get(0..before)) {
+            (Some(first), Some(again)) => failed == due && are_same_replies(first, again),
+            _ => false,
+        }
+    }
+}
+
+// The files at each mark that these replies tell.
+fn marks_of<A: Allocator + Copy>(
+    alloc: A,
+    plan: &Plan<'_>,
+    replies: &[Reply],
+) -> Result<Vec<MarkFiles<A>, A>, CrashFault> {
+    let mut marks = Vec::new(alloc);
+    for at in 0..replies.len() {
+        if let Reply::Marked(number) = replies[at] {
+            marks.push(mark_of(alloc, plan, replies, at, number)?)?;
+        }
+    }
+    Ok(marks)
+}
+
+// The files at the mark that the step of an index made.
+fn mark_of<A: Allocator + Copy>(
+    alloc: A,
+    plan: &Plan<'_>,
+    replies: &[Reply],
+    at: usize,
+    number: u32,
+) -> Result<MarkFiles<A>, CrashFault>
+    requires { at < length replies.now }
+{
+    let disk = copy_of(alloc, plan.image)?;
+    Ok(MarkFiles {
+        step: at,
+        files: files_at(alloc, disk, plan.shape, plan.steps, replies, at, number)?,
+    })
+}
