@@ -1,19 +1,21 @@
 # Completion of famsync for bash: source it, or put it into a folder of bash-completion as `famsync`.
 # tests/help compares these words with --help.
-# words: format run threads serve replay dump help --help --version --layout --trust
+# words: format migrate run threads serve replay dump info check export crashes help --help --version --layout --trust --json --html
 
 _famsync() {
     local word=${COMP_WORDS[COMP_CWORD]} command=${COMP_WORDS[1]:-} words=
     if [ "$COMP_CWORD" -eq 1 ]; then
-        words='format run threads serve replay dump help --help --version'
+        words='format migrate run threads serve replay dump info check export crashes help --help --version'
     elif [ "$command" = help ]; then
-        words='format run threads serve replay dump'
+        words='format migrate run threads serve replay dump info check export crashes'
     elif [ "${COMP_WORDS[COMP_CWORD - 1]}" = --layout ]; then
-        words='1 2'
+        words='1 2 3'
     elif [[ $word == -* ]]; then
         case $command in
-        format) words='--layout --help' ;;
-        run | threads | serve | replay | dump) words='--trust --help' ;;
+        format) words='--layout --json --help' ;;
+        run | threads | serve | replay) words='--trust --help' ;;
+        migrate | dump | info | check | export) words='--trust --json --help' ;;
+        crashes) words='--trust --json --html --help' ;;
         esac
     fi
     if [ -n "$words" ]; then
