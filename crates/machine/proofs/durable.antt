@@ -2,6 +2,7 @@ pub mod Lists
 pub mod Histories
 pub mod Pages
 pub mod Homes
+pub mod Cuts
 pub mod Uncommitted
 pub mod Marks
 pub mod Flushes
