@@ -1,6 +1,6 @@
 -- Why an act is refused: of the reasons that hold, the first in this order is answered (POSIX.1-2024 for the calls on
 -- mappings; the order is this project's own). The reasons of processors and of the lock are those of the shootdown.
-use Rattle.std.specs.Prelude.{ℕ, ◌+◌, ◌-◌, ◌/◌, ◌%◌, ◌^◌, ◌==◌, ◌&&◌, ◌||◌, not, nat_lt, nat_le, Bool, true, false, List, [], ◌∷◌, is_empty, count_by, length, Option, Some, None, is_none, Result, Ok, Err, if◌then◌else◌}
+use Rattle.std.specs.Prelude.{ℕ, ◌+◌, ◌-◌, ◌/◌, ◌%◌, ◌^◌, ◌==◌, ◌&&◌, ◌||◌, not, nat_lt, nat_le, Bool, true, false, List, [], ◌∷◌, count_by, length, Option, Some, None, is_none, Result, Ok, Err, if◌then◌else◌}
 use Rattle.std.specs.Option.{option_or}
 use Rattle.page_entry.specs.declared.refusal.Refusal.{Refusal}
 use Rattle.page_entry.specs.declared.refusal.Refusal.TheVariants as refusals
@@ -80,7 +80,7 @@ lacks_frames s file to =
 abbrev pub resize_refusal : State → ℕ → ℕ → Option Refusal
 resize_refusal s file to =
     first_of (refuse_if s.write_outs.broken refusals.Broken
-    ∷ refuse_if (not (is_empty s.write_outs.batches)) refusals.Busy
+    ∷ refuse_if (nat_lt 0 (length s.write_outs.batches)) refusals.Busy
     ∷ refuse_if (lacks_last_page s file to) refusals.NotResident
     ∷ refuse_if (lacks_frames s file to) refusals.NoFrame ∷ [])
 
