@@ -9,3 +9,4 @@ pub use Rattle.spaces.proofs.ChangeLaws.{Grows-create, Grows-with_mapping, Grows
 pub use Rattle.spaces.proofs.RequestLaws.{judged_mapping-ok, judged_range-ok, judged_protection-ok}
 pub use Rattle.spaces.proofs.ListedLaws.{in_pcids, Contains-pcids}
 pub use Rattle.spaces.proofs.Members.{Contains-map, in_flat_map}
+pub use Rattle.spaces.proofs.Past.{ClearsPast-refl, ClearsPast-more, EditsEntries-without_past}

@@ -1,6 +1,6 @@
 -- The five changes that need a shootdown, and what each affects (Black, Rashid, Golub, Hill and Baron 1989: the
 -- processors that may use a mapping are stopped before it changes).
-use Rattle.std.specs.Prelude.{ℕ, ◌≡◌, ◌*◌, ◌==◌, ◌&&◌, nat_le, Bool, true, false, is_some, if◌then◌else◌, List, map, filter, Option, Some, None}
+use Rattle.std.specs.Prelude.{ℕ, ◌≡◌, ◌⊎◌, ◌*◌, ◌==◌, ◌&&◌, nat_le, Bool, true, false, is_some, if◌then◌else◌, List, map, filter, Option, Some, None}
 use Rattle.std.specs.List.{list_any, flat_map}
 use Rattle.std.specs.Ordering.{nat_cmp}
 use Rattle.std.specs.FinMap as maps
@@ -10,7 +10,7 @@ use Rattle.mappings.specs.declared.place.Place.{Place}
 use Rattle.mappings.specs.Places.{is_among, pages_mapping}
 use Rattle.spaces.specs.declared.change.Change.{Change}
 use Rattle.spaces.specs.declared.change.Change.TheVariants.{Unmap, Protect, Reclaim, SetLength, Checkpoint}
-use Rattle.spaces.specs.Spaces.{AddressSpace, Spaces, space_at, entry_at, place_at}
+use Rattle.spaces.specs.Spaces.{AddressSpace, Spaces, has_space, space_at, entry_at, place_at}
 
 -- whether a place is in this page of a file
 abbrev pub is_place_of : FilePage → Option Place → Bool
@@ -81,12 +81,19 @@ protected_where noted (Some entry) = if noted entry.frame then protected_of (Som
 abbrev pub without_entries_of : FilePage → Spaces → ℕ → ℕ → Option Mapped → Option Mapped
 without_entries_of owner spaces pcid page entry = if is_place_of owner (place_at spaces pcid page) then None else entry
 
--- whether a place is in a page of this file that begins at or past this length
+-- whether a place is in a page of this file that begins at or past this length, in bytes
 abbrev pub is_place_past : ℕ → ℕ → Option Place → Bool
 is_place_past file length None = false
 is_place_past file length (Some place) = place.file == file && nat_le length (4096 * place.page)
 
--- the entries of every page that maps such a page are taken away; every other stays
+-- the entries of every page that maps such a page of the file are taken away; every other stays
 abbrev pub without_past : ℕ → ℕ → Spaces → ℕ → ℕ → Option Mapped → Option Mapped
 without_past file length spaces pcid page entry =
     if is_place_past file length (place_at spaces pcid page) then None else entry
+
+-- Of the entries of such pages, some are taken away; every other entry stays.
+pub record ClearsPast (file length : ℕ) (old new : Spaces) : Type 0 where
+  pub same_spaces : (pcid : ℕ) → has_space new pcid ≡ has_space old pcid
+  pub same_places : (pcid : ℕ) → (space_at new pcid).places ≡ (space_at old pcid).places
+  pub entries : (pcid page : ℕ) → (entry_at new pcid page ≡ entry_at old pcid page)
+      ⊎ ((entry_at new pcid page ≡ None) × (is_place_past file length (place_at old pcid page) ≡ true))
