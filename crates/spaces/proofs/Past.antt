@@ -1,5 +1,5 @@
 -- Entries of pages past a length of their file, which are taken away page by page.
-use Rattle.std.proofs.Common.{◌≡◌, ◌⊎◌, ℕ, ◌*◌, ◌≤◌, inl, inr, Bool, true, false, cond, ◌==◌, ◌&&◌, nat_le, Option, Some, None, refl, sym, ap, ◌∙◌}
+use Rattle.std.proofs.Common.{◌≡◌, ◌⊎◌, ℕ, ◌*◌, ◌≤◌, inl, inr, Bool, true, false, cond, ◌==◌, ◌&&◌, nat_le, Option, Some, None, refl, sym, ap, ◌∙◌, arith}
 use Rattle.std.specs.FinMap as maps
 use Rattle.std.proofs.lemmas.Bool.{false≢true, and_parts, and_from, eqb-true, eq-eqb, le-leb}
 use Rattle.page_entry.specs.Entry.{Mapped}
@@ -19,7 +19,7 @@ is_past_of owner length None past is = absurd (false≢true is)
 is_past_of owner length (Some place) past is =
     let parts = and_parts (place.file == owner.file) (place.page == owner.page) is in
     let same : place.page ≡ owner.page = eqb-true place.page owner.page parts.1 in
-    and_from (place.file == owner.file) (nat_le length (4096 * place.page)) parts.0 (le-leb length (4096 * place.page) (omega (same, past)))
+    and_from (place.file == owner.file) (nat_le length (4096 * place.page)) parts.0 (le-leb length (4096 * place.page) (omega (arith, same, past)))
 
 -- those of one page past the length are taken away, too
 pub ClearsPast-more : (file length : ℕ) (old now new : Spaces) (owner : FilePage) → owner.file ≡ file → length ≤ 4096 * owner.page
