@@ -119,6 +119,8 @@ impl<D: Device, A: Allocator + Copy> Layers<D, A> {
                 rights,
             } => Ok(self.end_protect(p, pcid, range, rights)),
             Change::Reclaim { page } => Ok(self.end_reclaim(p, page)),
+            // No act begins it yet.
+            Change::SetLength { .. } => unreachable!(),
             Change::Checkpoint => Ok(self.mark(p)),
         }
     }

@@ -9,6 +9,7 @@ use Rattle.machine.proofs.Names.{home_of, pages_in_file, with_shootdown, IsPrepa
 use Rattle.machine.proofs.Names.{IsSound}
 use Rattle.machine.proofs.sound.Sources.{source_stays}
 use Rattle.std.proofs.Common.{Contains}
+use Rattle.spaces.specs.declared.change.Change.TheVariants as changes
 
 pub unchanged_sound : (s new : State) → new ≡ s → IsSound s → IsSound new
 unchanged_sound s new same sound = subst IsSound (sym same) sound
@@ -102,6 +103,7 @@ prepared_moved s new (Reclaim owner) stays is = (
   subst (λ (table : SuperValue). owner.page < pages_in_file table.files owner.file) (sym stays.table) is.1,
   stays.in_memory owner is.2,
 )
+prepared_moved s new (changes.SetLength file length) stays is = absurd is
 prepared_moved s new Checkpoint stays is = (subst (λ n. n + 1 < 2 ^ 32) (sym stays.marks) is.0, stays.free is.1)
 
 -- ---- processors

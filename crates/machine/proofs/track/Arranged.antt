@@ -8,6 +8,7 @@ use Rattle.machine.proofs.Names.{change_in, Saying, Silent, Running, Entering, M
 use Rattle.machine.proofs.Names.{said, IsProcessorTold, effect_of, ending_of, EndsChange, Move, Replace, Remap, Destroy}
 use Rattle.machine.proofs.Names.{Begin, End, Store, Bring, Copy, Drop}
 use Rattle.machine.specs.inside.Moves.{AreSpacesTold as AreSaid}
+use Rattle.spaces.specs.declared.change.Change.TheVariants as changes
 use Rattle.machine.proofs.sound.Admitted.{there_at_change}
 use Rattle.machine.proofs.track.Translations.{has_stored}
 use Rattle.machine.proofs.track.ToldSpaces.{AreProcessorsTold, told_still, told_running, told_switched, told_begun, told_destroyed, ToldSpaces, AreSpacesTold, spaces_still, spaces_with, spaces_without}
@@ -127,6 +128,7 @@ module _ (told : Told) (s : State) (a : IsArranged told s) where
     by_change (Unmap pcid range) same t = takes (Unmap pcid range) same (with _ t)
     by_change (Protect pcid range rights) same t = takes (Protect pcid range rights) same (with _ t)
     by_change (Reclaim owner) same t = with told.spaces t
+    by_change (changes.SetLength file length) same t = with told.spaces t
     by_change Checkpoint same t = with told.spaces t
 
     arranged_ended : IsArranged (said told (ending_of is.p is.change)) new

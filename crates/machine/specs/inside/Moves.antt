@@ -9,7 +9,7 @@ use Rattle.mappings.specs.declared.place.Place.{Place}
 use Rattle.mappings.specs.Places.{Places, without_range, with_rights}
 use Rattle.frames.specs.Frames.{frame_at, with_page, with_copy, without_frame}
 use Rattle.spaces.specs.declared.change.Change.{Change}
-use Rattle.spaces.specs.declared.change.Change.TheVariants.{Unmap, Protect, Reclaim, Checkpoint}
+use Rattle.spaces.specs.declared.change.Change.TheVariants.{Unmap, Protect, Reclaim, SetLength, Checkpoint}
 use Rattle.spaces.specs.Changes.{ChangesOnlyAffected}
 use Rattle.spaces.specs.Spaces.{Spaces, AreSpaces, has_space, space_at, place_at, entry_at}
 use Rattle.shootdown.specs.declared.lock.Lock.{Lock}
@@ -158,12 +158,16 @@ abbrev pub effect_of : Change → Saying
 effect_of (Unmap pcid range) = Mapping pcid (λ places. without_range places range.first range.count)
 effect_of (Protect pcid range rights) = Mapping pcid (λ places. with_rights places range.first range.count rights)
 effect_of (Reclaim owner) = Silent
+-- no act begins it yet
+effect_of (SetLength file length) = Silent
 effect_of Checkpoint = Silent
 
 abbrev pub ending_of : ℕ → Change → Saying
 ending_of p (Unmap pcid range) = Changing p
 ending_of p (Protect pcid range rights) = Changing p
 ending_of p (Reclaim owner) = Ending p
+-- no act begins it yet
+ending_of p (SetLength file length) = Ending p
 ending_of p Checkpoint = Ending p
 
 -- a change ends, and with it entries change that it affects; frames stay

@@ -11,7 +11,7 @@ use Rattle.volume_codec.specs.Descriptor.{AreHomes}
 use Rattle.journal.specs.WriteOut.{WriteOut, has_committed}
 use Rattle.journal.specs.WriteOuts.{is_busy}
 use Rattle.spaces.specs.declared.change.Change.{Change}
-use Rattle.spaces.specs.declared.change.Change.TheVariants.{Unmap, Protect, Reclaim, Checkpoint}
+use Rattle.spaces.specs.declared.change.Change.TheVariants.{Unmap, Protect, Reclaim, SetLength, Checkpoint}
 use Rattle.spaces.specs.Spaces.{AreSpaces, has_space, space_at, place_at}
 use Rattle.spaces.specs.Requests.{is_user_space}
 use Rattle.shootdown.specs.declared.lock.Lock.{Lock}
@@ -52,6 +52,8 @@ IsPrepared s (Protect pcid range rights) =
 IsPrepared s (Reclaim owner) =
     (owner.file < length s.table.files) × (owner.page < pages_in_file s.table.files owner.file)
     × (is_in_memory s.hardware.memory owner ≡ true)
+-- no act begins it yet
+IsPrepared s (SetLength file length) = ⊥
 IsPrepared s Checkpoint = (s.marks + 1 < 2 ^ 32) × (s.write_outs.broken ≡ false → is_busy s.write_outs ≡ false)
 
 -- ---- facts that depend on the processors and the page tables

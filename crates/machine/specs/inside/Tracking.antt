@@ -12,6 +12,7 @@ use Rattle.journal.specs.WriteOuts.{has_uncommitted}
 use Rattle.journal.specs.inside.Standing.{IsStanding}
 use Rattle.spaces.specs.declared.change.Change.{Change}
 use Rattle.spaces.specs.declared.change.Change.TheVariants.{Unmap, Protect, Reclaim, Checkpoint}
+use Rattle.spaces.specs.declared.change.Change.TheVariants as changes
 use Rattle.spaces.specs.Spaces.{has_space, space_at}
 use Rattle.shootdown.specs.declared.lock.Lock.{Lock}
 use Rattle.shootdown.specs.Processors.{is_running}
@@ -31,6 +32,8 @@ pending_in None = None
 pending_in (Some (Unmap pcid range)) = Some (Unmapping pcid range)
 pending_in (Some (Protect pcid range rights)) = Some (Protecting pcid range rights)
 pending_in (Some (Reclaim owner)) = None
+-- no act begins it yet
+pending_in (Some (changes.SetLength file length)) = None
 pending_in (Some Checkpoint) = None
 
 abbrev pub change_in : Option Lock → Option Change
