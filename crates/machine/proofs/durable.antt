@@ -11,3 +11,4 @@ pub mod ReadsBack
 pub mod Steps
 pub mod AtStart
 pub mod Later
+pub mod Resized
