@@ -1,7 +1,7 @@
 -- Pages that are cut, and histories to which a change of a file's length is added.
-use Rattle.machine.proofs.Names.{◌≡◌, ◌≢◌, ℕ, ◌+◌, ◌-◌, ◌*◌, ◌/◌, ◌<◌, ◌≤◌, Bool, true, false, ◌&&◌, ◌||◌, cond, eqb}
+use Rattle.machine.proofs.Names.{◌≡◌, ◌≢◌, ℕ, ◌+◌, ◌-◌, ◌*◌, ◌/◌, ◌<◌, ◌≤◌, Bool, true, false, ◌&&◌, ◌||◌, eqb}
 use Rattle.machine.proofs.Names.{leb, List, [], ◌∷◌, ◌++◌, length, take, set, refl, sym, ap, ◌∙◌, inl, inr, arith}
-use Rattle.machine.proofs.Names.{append_assoc, min, cond-true, cond-false, cond_both, cases_lt, cases_eq, cases_Bool}
+use Rattle.machine.proofs.Names.{append_assoc, min, cond-true, cond-false, cond_both, cases_lt, cases_Bool}
 use Rattle.machine.proofs.Names.{and_from, and_parts, or_left, or_right, or_parts, or_from, eq-eqb, eqb-true, ne_eqb}
 use Rattle.machine.proofs.Names.{length-append, length-take, take_all, take_at, length-padded, length-zeros, take-past}
 use Rattle.machine.proofs.Names.{padded, pages_of, Event, Memory, after, lengths_after, since_mark, is_touched}

@@ -1,11 +1,11 @@
 -- A change of a file's length: what the device recovers to stays, and goes with the longer history.
-use Rattle.machine.proofs.Names.{◌≡◌, ◌≢◌, ◌⊎◌, ℕ, ◌-◌, ◌*◌, ◌/◌, ◌<◌, ◌≤◌, true, false, List, [], ◌∷◌, ◌++◌, length, take, drop}
-use Rattle.machine.proofs.Names.{get_or, Some, refl, sym, ap, ◌∙◌, subst, inl, inr, arith, min, cases_eq, cases_lt}
+use Rattle.machine.proofs.Names.{◌≡◌, ◌≢◌, ℕ, ◌-◌, ◌*◌, ◌/◌, ◌<◌, ◌≤◌, false, List, [], ◌∷◌, ◌++◌, length, take, drop}
+use Rattle.machine.proofs.Names.{sym, ap, ◌∙◌, subst, inl, inr, arith, min, cases_eq, cases_lt}
 use Rattle.machine.proofs.Names.{both_ways, false≢true, length-take, take_all, take-take, Contains}
-use Rattle.machine.proofs.Names.{Contains-append_cases, FilePage, File, SuperValue, HasBlock, block_at, IsStanding}
+use Rattle.machine.proofs.Names.{Contains-append_cases, FilePage, File, block_at}
 use Rattle.machine.proofs.Names.{Event, Memory, Mark, Acknowledge, memory_of, after, is_touched, cut_file, State, length_of}
 use Rattle.machine.proofs.Names.{home_of, ResizeMade, IsInFile, within_file, Told, IsSound, IsLost, AreContentsOf}
-use Rattle.machine.proofs.Names.{HasAcknowledged, AreMarks, IsWritten, WriteOut}
+use Rattle.machine.proofs.Names.{HasAcknowledged, IsWritten, WriteOut}
 use Rattle.machine.specs.History.{SetLength}
 use Rattle.machine.proofs.durable.Lists.{contains_none}
 use Rattle.machine.proofs.durable.Cuts as cuts

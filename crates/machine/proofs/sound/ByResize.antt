@@ -1,18 +1,18 @@
 -- A change of a file's length keeps a machine sound.
-use Rattle.machine.proofs.Names.{◌≡◌, ◌≢◌, ℕ, ◌*◌, ◌<◌, ◌≤◌, true, false, cond, Bool, List, [], length, map, drop, set, get_or}
-use Rattle.machine.proofs.Names.{Option, Some, None, IsSome, refl, sym, ap, ◌∙◌, subst, inl, inr, arith, cases_eq, flat_map}
-use Rattle.machine.proofs.Names.{false≢true, get_or-set_same, get_or-set_other, length-set, FilePage, FramesState}
-use Rattle.machine.proofs.Names.{Mapped, WriteOut, frame_at, Holds, is_noted, is_frozen, same_page, list_any, AreBacked}
-use Rattle.machine.proofs.Names.{Spaces, AreSpaces-EditsEntries, ChangesOnlyAffected, State, length_of, home_of}
-use Rattle.machine.proofs.Names.{capacity_of, end_change, ResizeMade, IsInFile, IsPrepared, IsResizable, IsSound}
-use Rattle.machine.proofs.Names.{AreSpacesSound, IsMemorySound, AreWriteOutsSound, file_homes, IsNoWider, Place}
-use Rattle.machine.proofs.Names.{place_at, place_at-EditsEntries, page_of, AreRising}
+use Rattle.machine.proofs.Names.{◌≡◌, ◌≢◌, ℕ, ◌<◌, ◌≤◌, true, false, cond, Bool, [], length, map, drop, set, get_or}
+use Rattle.machine.proofs.Names.{Option, None, refl, sym, ap, ◌∙◌, subst, inl, inr, arith, cases_eq, flat_map}
+use Rattle.machine.proofs.Names.{false≢true, get_or-set_same, get_or-set_other, length-set, FilePage}
+use Rattle.machine.proofs.Names.{Mapped, WriteOut, frame_at, Holds, same_page, list_any}
+use Rattle.machine.proofs.Names.{AreSpaces-EditsEntries, ChangesOnlyAffected, State, length_of, home_of}
+use Rattle.machine.proofs.Names.{capacity_of, end_change, ResizeMade, IsInFile, IsResizable, IsSound}
+use Rattle.machine.proofs.Names.{AreSpacesSound, IsMemorySound, AreWriteOutsSound, file_homes, IsNoWider}
+use Rattle.machine.proofs.Names.{place_at, place_at-EditsEntries, AreRising}
 use Rattle.spaces.specs.declared.change.Change.TheVariants as changes
 use Rattle.spaces.specs.Changes.{is_place_past, without_past}
 use Rattle.machine.proofs.durable.Lists.{nothing_mapped}
 use Rattle.machine.proofs.sound.Ended.{prepared_change, ended_spaces}
 use Rattle.machine.proofs.sound.Frames.{in_use}
-use Rattle.machine.proofs.sound.ResizedPages.{before_stays, held_cases, HeldStill, HeldNow, IsMemory-resized, AreBacked-resized}
+use Rattle.machine.proofs.sound.ResizedPages.{before_stays, held_cases, IsMemory-resized, AreBacked-resized}
 
 -- ---- what the change relies on
 

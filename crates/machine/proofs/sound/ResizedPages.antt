@@ -1,12 +1,12 @@
 -- What a change of a file's length leaves of frames, entries and notes, one by one.
-use Rattle.machine.proofs.Names.{◌≡◌, ◌≢◌, ◌⊎◌, ◌↔◌, ℕ, ◌-◌, ◌*◌, ◌<◌, ◌≤◌, Bool, true, false, cond, eqb, leb, List, length}
-use Rattle.machine.proofs.Names.{get_or, ◌++◌, Option, Some, None, IsSome, refl, sym, ap, ◌∙◌, subst, inl, inr, arith, min}
+use Rattle.machine.proofs.Names.{◌≡◌, ◌⊎◌, ℕ, ◌-◌, ◌*◌, ◌<◌, Bool, true, false, cond, eqb, leb, List, length}
+use Rattle.machine.proofs.Names.{get_or, ◌++◌, Option, Some, None, refl, sym, ap, ◌∙◌, subst, inl, inr, arith, min}
 use Rattle.machine.proofs.Names.{cases_Bool, cases_lt, both_ways, false_from_ne_true, cond-false, cond-true, and_parts}
 use Rattle.machine.proofs.Names.{and_from, eq-eqb, eqb-true, le-leb, leb-true, list_any, not, ◌&&◌, length-take, Mapped}
 use Rattle.machine.proofs.Names.{FilePage, FramesState, Frame, frame_at, bytes_of, page_of, Spaces, entry_at, place_at}
-use Rattle.machine.proofs.Names.{place_at-EditsEntries, CheckpointState, Holds, is_held, is_copied, is_frozen, is_of_page}
-use Rattle.machine.proofs.Names.{same_page, AreBacked, page_at, cut_file, IsMemory, length-zeros, padded, take}
-use Rattle.machine.proofs.Names.{IsAdded, PagesResized, cut_frame, cut_page, is_past, Place}
+use Rattle.machine.proofs.Names.{place_at-EditsEntries, CheckpointState, Holds, is_held, is_of_page}
+use Rattle.machine.proofs.Names.{same_page, AreBacked, page_at, cut_file, IsMemory, length-zeros, take}
+use Rattle.machine.proofs.Names.{IsAdded, PagesResized, cut_frame, cut_page, is_past}
 use Rattle.frames.specs.Frames.{zero_page, blank_bytes}
 use Rattle.volume_codec.specs.Text.{zeros}
 use Rattle.spaces.specs.Changes.{is_place_past, without_past}

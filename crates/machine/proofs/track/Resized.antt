@@ -1,11 +1,11 @@
 -- A change of a file's length: frames have the memory of what is told still, and the pages that a growth has are dirty.
-use Rattle.machine.proofs.Names.{◌≡◌, ◌≢◌, ◌⊎◌, ◌↔◌, ℕ, ◌-◌, ◌*◌, ◌/◌, ◌%◌, ◌<◌, ◌≤◌, ◌&&◌, Bool, true, false, cond, eqb, not, List, []}
-use Rattle.machine.proofs.Names.{◌∷◌, ◌++◌, length, take, set, get_or, Some, None, refl, sym, ap, ◌∙◌, subst, inl, inr, arith}
+use Rattle.machine.proofs.Names.{◌≡◌, ◌≢◌, ◌⊎◌, ℕ, ◌-◌, ◌*◌, ◌/◌, ◌%◌, ◌<◌, ◌&&◌, true, false, cond, eqb, not, List, []}
+use Rattle.machine.proofs.Names.{◌∷◌, ◌++◌, length, set, Some, sym, ap, ◌∙◌, subst, inl, inr, arith}
 use Rattle.machine.proofs.Names.{min, cases_eq, cases_lt, cases_Bool, both_ways, and_from, not_from_false, ne_eqb, lt-ltb}
-use Rattle.machine.proofs.Names.{FilePage, FramesState, frame_at, bytes_of, page_of, Mapped, padded, zeros, pages_of, File}
-use Rattle.machine.proofs.Names.{Event, Memory, memory_of, after, lengths_of, lengths_after, is_touched, has_resized}
+use Rattle.machine.proofs.Names.{FilePage, frame_at, page_of, File}
+use Rattle.machine.proofs.Names.{Memory, memory_of, after, lengths_of, lengths_after, is_touched, has_resized}
 use Rattle.machine.proofs.Names.{cut_file, State, length_of, cut_at_end, ResizeMade, IsInFile, Told, IsSound, HasFiles}
-use Rattle.machine.proofs.Names.{IsLatest, AreTouched, ArePlain, Holds, IsDirty, is_noted, page_at, is_in_memory, IsGrown}
+use Rattle.machine.proofs.Names.{IsLatest, AreTouched, ArePlain, Holds, IsDirty, page_at, is_in_memory, IsGrown}
 use Rattle.machine.proofs.Names.{IsAdded, is_past, place_at}
 use Rattle.machine.specs.History.{SetLength}
 use Rattle.spaces.specs.Changes.{is_place_past}
@@ -14,7 +14,7 @@ use Rattle.machine.proofs.durable.Lists.{some_same}
 use Rattle.machine.proofs.durable.Cuts as cuts
 use Rattle.machine.proofs.durable.Cuts.{cut, cut-none, cut-later, cut_file-there, cut_file-other, length-cut_file}
 use Rattle.machine.proofs.durable.Pages.{held_by_none, not_in_memory}
-use Rattle.machine.proofs.sound.Frames.{in_use, in_memory_held, held_in_memory}
+use Rattle.machine.proofs.sound.Frames.{in_use, held_in_memory}
 use Rattle.machine.proofs.sound.ResizedPages.{zero_is_zeros, stays_before, held_cases, held_after, entry_was, entry_stays}
 use Rattle.machine.proofs.sound.ByResize.{resizable, after_it, in_file_now, length_there, length_elsewhere}
 use Rattle.machine.proofs.track.DirtyFrames.{dirty_at}
