@@ -1,7 +1,7 @@
 -- A change of a file's length: frames have the memory of what is told still, and the pages that a growth has are dirty.
 use Rattle.machine.proofs.Names.{◌≡◌, ◌≢◌, ◌⊎◌, ℕ, ◌-◌, ◌*◌, ◌/◌, ◌%◌, ◌<◌, ◌&&◌, true, false, cond, eqb, not, List, []}
 use Rattle.machine.proofs.Names.{◌∷◌, ◌++◌, length, set, Some, sym, ap, ◌∙◌, subst, inl, inr, arith}
-use Rattle.machine.proofs.Names.{min, cases_eq, cases_lt, cases_Bool, both_ways, and_from, not_from_false, ne_eqb, lt-ltb}
+use Rattle.machine.proofs.Names.{min, cases_eq, cases_lt, cases_Bool, both_ways, false≢true, and_from, not_from_false, ne_eqb, lt-ltb}
 use Rattle.machine.proofs.Names.{FilePage, frame_at, page_of, File}
 use Rattle.machine.proofs.Names.{Memory, memory_of, after, lengths_of, lengths_after, is_touched, has_resized}
 use Rattle.machine.proofs.Names.{cut_file, State, length_of, cut_at_end, ResizeMade, IsInFile, Told, IsSound, HasFiles}
@@ -139,7 +139,7 @@ module _ (files : List File) (told now : Told) (s : State) (p : ℕ) (new : Stat
       elim (cuts.touched_cases told.history made.file from made.to owner.file owner.page (sym (ap (λ h. is_touched h owner.file owner.page) history) ∙ touched)) [
         | inl was ↦ elim (in_file_before owner is) [
             | inl inside ↦
-                (let d = (has.touched owner).0 (inside, was) in
+                (let d = (has.touched.each owner).0 (inside, was) in
                 let stays = stays_inside owner is in
                 (d.0, held_after made.pages sound.memory.memory d.0 owner d.1 stays, dirty_still d.0 owner d.1 stays d.2))
             | inr added ↦ grown_dirty owner added.0 (record { grows = omega (arith, added.1.past, added.1.before); from = omega (arith, added.1.past); before = added.1.before })
@@ -168,20 +168,23 @@ module _ (files : List File) (told now : Told) (s : State) (p : ℕ) (new : Stat
     where
       by : Holds s.hardware.memory k owner → IsDirty made.spaces made.checkpoint k → is_touched now.history owner.file owner.page ≡ true
       by held (inl noted) = elim ((made.pages.noted k).0 noted) [
-        | inl was ↦ touched_longer owner.file owner.page ((has.touched owner).1 (k, held, inl was.0)).1
+        | inl was ↦ touched_longer owner.file owner.page ((has.touched.each owner).1 (k, held, inl was.0)).1
         | inr grown ↦
             (let here : record { file = made.file; page = grown.0 } ≡ owner = some_same _ owner (sym grown.2 ∙ holds) in
             touched_in_growth owner.file owner.page (sym (ap (λ (o : FilePage). o.file) here)) (subst (IsGrown from made.to) (ap (λ (o : FilePage). o.page) here) grown.1))
       ]
       by held (inr d) =
           let was = entry_was made.pages sound.memory.memory d.pcid d.page d.entry d.present in
-          touched_longer owner.file owner.page ((has.touched owner).1 (k, held, dirty_at s.hardware.spaces s.checkpoint d.pcid d.page k d.entry was.0 d.same_frame d.dirty)).1
+          touched_longer owner.file owner.page ((has.touched.each owner).1 (k, held, dirty_at s.hardware.spaces s.checkpoint d.pcid d.page k d.entry was.0 d.same_frame d.dirty)).1
 
   touched_now : AreTouched now x
-  touched_now owner = (
-    λ is. dirty_by_touched owner is.0 is.1,
-    λ d. (in_file_now s p new made sound d.0 owner d.1, touched_by_dirty owner d.0 d.1 d.2),
-  )
+  touched_now = record {
+    each = λ owner. (
+      λ is. dirty_by_touched owner is.0 is.1,
+      λ d. (in_file_now s p new made sound d.0 owner d.1, touched_by_dirty owner d.0 d.1 d.2),
+    );
+    inside = λ unset owner is. absurd (false≢true (sym unset));
+  }
 
   -- ---- pages that aren't in memory
 
