@@ -179,7 +179,7 @@ pub use Rattle.spaces.specs.declared.change.Change.{Change}
 pub use Rattle.spaces.specs.declared.change.Change.TheVariants.{Checkpoint, Protect, Reclaim, Unmap}
 pub use Rattle.std.proofs.Common.{Bool, Err, IsSome, List, MatchResult, None, Ok, Option, Result, Some, [], ap}
 pub use Rattle.std.proofs.Common.{append_assoc, arith, cond, drop, eqb, false, get_or, if◌then◌else◌, inl, inr, is_err}
-pub use Rattle.std.proofs.Common.{is_none, is_some, leb, length, map, nat_le, not, refl, replicate, set, slice_get}
+pub use Rattle.std.proofs.Common.{is_none, is_some, leb, ltb, length, map, nat_le, not, refl, replicate, set, slice_get}
 pub use Rattle.std.proofs.Common.{slice_index, subst, suc, sum_by, sym, take, true, unwrap_or, zero, ℕ, ⊎_elim, ◌%◌}
 pub use Rattle.std.proofs.Common.{◌&&◌, ◌*◌, ◌++◌, ◌+◌, ◌-◌, ◌/◌, ◌<◌, ◌==◌, ◌^◌, ◌||◌, ◌↔◌, ◌∙◌, ◌∷◌, ◌≡◌, ◌≢◌, ◌≤◌}
 pub use Rattle.std.proofs.Common.{◌⊎◌}

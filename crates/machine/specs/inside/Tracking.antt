@@ -73,10 +73,13 @@ pub record IsLatest (files : List File) (told : Told) (s : State) : Type 0 where
   pub latest : (frame : ℕ) (owner : FilePage) → Holds s.hardware.memory frame owner
       → bytes_of (frame_at s.hardware.memory frame) ≡ after (memory_of files) told.history owner.file owner.page
 
--- the dirty pages are those of files that were touched since the last mark; what a file lost isn't in memory
-abbrev pub AreTouched : Told → State → Type 0
-AreTouched told s = (owner : FilePage) → (IsInFile s owner × (is_touched told.history owner.file owner.page ≡ true))
-    ↔ ((frame : ℕ) × Holds s.hardware.memory frame owner × IsDirty s.hardware.spaces s.checkpoint frame)
+-- the dirty pages are those of files that were touched since the last mark; a file loses pages only by a change of its
+-- length
+pub record AreTouched (told : Told) (s : State) : Type 0 where
+  pub each : (owner : FilePage) → (IsInFile s owner × (is_touched told.history owner.file owner.page ≡ true))
+      ↔ ((frame : ℕ) × Holds s.hardware.memory frame owner × IsDirty s.hardware.spaces s.checkpoint frame)
+  pub inside : s.resized ≡ false → (owner : FilePage) → is_touched told.history owner.file owner.page ≡ true
+      → IsInFile s owner
 
 -- a page that isn't in memory has zeros past its file's end
 abbrev pub ArePlain : List File → Told → State → Type 0
