@@ -66,11 +66,14 @@ pub(crate) fn drop_past<A: Allocator + Copy>(
     ensures cleared { (c : CheckpointState) → AreBacked frames.old c spaces.old.map
         → EditsEntries (without_past file end spaces.old.map) spaces.old.map spaces.new.map }
 {
-    let first = pages_in(end);
-    if first >= 1 << 32 {
+    let whole = pages_in(end);
+    if whole >= 1 << 32 {
         return;
     }
-    let first = FilePage { file, page: first as u32 };
+    let first = FilePage {
+        file,
+        page: whole as u32,
+    };
     'pages: while let Some(frame) = frames.find_from(first) {
         drop_page(notes, spaces, frames, frame);
     }
@@ -161,9 +164,11 @@ pub(crate) fn resize_pages<A: Allocator + Copy>(
 {
     drop_past(notes, spaces, frames, file, to);
     cut_file(frames, file, old.min(to));
+    let _count = frames.count();
     if old < to {
         let end = pages_in(to);
         add_pages(frames, file, pages_in(old), end);
+        let _grown = frames.count();
         note_pages(notes, frames, file, old / PAGE, end);
     }
 }
