@@ -1,5 +1,5 @@
 -- Pages of zeros that come into free frames one after the other, and the pages whose frames are noted.
-use Rattle.std.proofs.Common.{ℕ, ◌≡◌, ◌≢◌, ◌⊎◌, ◌+◌, ◌<◌, ◌≤◌, true, false, List, Bool, length, get_or, set, Option, Some, None, is_none, count_by, slice_get, refl, sym, ap, subst, ◌∙◌, inl, inr, ⊎_elim, arith}
+use Rattle.std.proofs.Common.{ℕ, ◌≡◌, ◌≢◌, ◌⊎◌, ◌+◌, ◌<◌, ◌≤◌, true, false, List, Bool, length, set, Option, Some, None, is_none, count_by, slice_get, refl, sym, ap, ◌∙◌, inl, inr, ⊎_elim, arith}
 use Rattle.std.proofs.lemmas.Bool.{cases_lt, cases_eq, lt-ltb}
 use Rattle.std.proofs.lemmas.List.{get_or-set_same, get_or-set_other, length-set}
 use Rattle.page_entry.specs.declared.numbers.FilePage.{FilePage}
@@ -7,8 +7,8 @@ use Rattle.frames.specs.Frames.{FramesState, Frame, frame_at, page_of, zero_page
 use Rattle.frames.proofs.Public.{has_free-counted, frame_at-free, frame_at-with_page_same, frame_at-with_page_other}
 use Rattle.checkpoint.specs.Checkpoint.{Holds}
 use Rattle.checkpoint.specs.inside.Notes.{noted_in}
-use Rattle.checkpoint.specs.inside.Resized.{AddsPages, NotesPages, HoldsAmong, zero_frame}
-use Rattle.checkpoint.proofs.BackingLaws.{Holds-with_page, Holds-within}
+use Rattle.checkpoint.specs.inside.Resized.{AddsPages, NotesPages, HoldsAmong}
+use Rattle.checkpoint.proofs.BackingLaws.{Holds-with_page}
 
 abbrev pub page_in : ℕ → ℕ → FilePage
 page_in file page = record { file = file; page = page }

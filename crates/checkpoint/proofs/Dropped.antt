@@ -1,6 +1,6 @@
 -- Frames whose pages are past the end of their file, which become free one after the other.
-use Rattle.std.proofs.Common.{ℕ, ◌≡◌, ◌≢◌, ◌⊎◌, ◌+◌, ◌*◌, ◌/◌, ◌<◌, ◌≤◌, ◌&&◌, Bool, true, false, eqb, leb, List, length, get_or, set, Option, Some, None, IsSome, refl, sym, ap, subst, ◌∙◌, inl, inr, ⊎_elim, arith}
-use Rattle.std.proofs.lemmas.Bool.{cases_lt, cases_eq, and_from, and_parts, eqb-true, eq-eqb, le-leb, leb-true, cond-true, false_from_ne_true}
+use Rattle.std.proofs.Common.{ℕ, ◌≡◌, ◌≢◌, ◌⊎◌, ◌*◌, ◌<◌, ◌≤◌, Bool, true, false, eqb, leb, List, length, set, Option, Some, None, refl, sym, ap, subst, ◌∙◌, inl, inr, ⊎_elim, arith}
+use Rattle.std.proofs.lemmas.Bool.{cases_eq, and_from, and_parts, eqb-true, eq-eqb, le-leb, leb-true, cond-true, false_from_ne_true}
 use Rattle.std.proofs.lemmas.List.{get_or-set_same, get_or-set_other, length-set}
 use Rattle.std.specs.FinMap as maps
 use Rattle.page_entry.specs.Entry.{Mapped}
@@ -14,7 +14,6 @@ use Rattle.spaces.proofs.Public.{ClearsPast-refl, ClearsPast-more, EditsEntries-
 use Rattle.checkpoint.specs.Checkpoint.{CheckpointState, Holds}
 use Rattle.checkpoint.specs.Backing.{AreBacked, page_at}
 use Rattle.checkpoint.specs.Resizing.{pages, is_past}
-use Rattle.checkpoint.specs.inside.Notes.{noted_in}
 use Rattle.checkpoint.specs.inside.Resized.{BeginBefore, DropsPast, IsKeptFrame, IsDropped}
 use Rattle.checkpoint.proofs.BackingLaws.{AreBacked-without_frame}
 use Rattle.checkpoint.proofs.SpacesLaws.{AreBacked-cleared}

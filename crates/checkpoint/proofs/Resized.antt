@@ -1,5 +1,5 @@
 -- A change of a file's length, of its parts.
-use Rattle.std.proofs.Common.{ℕ, suc, ◌≡◌, ◌≢◌, ◌⊎◌, ◌↔◌, ◌+◌, ◌-◌, ◌*◌, ◌/◌, ◌<◌, ◌≤◌, min, Bool, true, false, cond, eqb, List, [], ◌∷◌, length, get_or, Option, Some, None, is_some, is_none, IsSome, count_by, refl, sym, ap, subst, ◌∙◌, inl, inr, ⊎_elim, arith}
+use Rattle.std.proofs.Common.{ℕ, suc, ◌≡◌, ◌⊎◌, ◌↔◌, ◌+◌, ◌-◌, ◌*◌, ◌/◌, ◌<◌, ◌≤◌, min, Bool, true, false, cond, eqb, List, [], ◌∷◌, length, get_or, Option, Some, None, is_some, is_none, IsSome, count_by, refl, sym, ap, subst, ◌∙◌, inl, inr, ⊎_elim, arith}
 use Rattle.std.specs.Option.{option_map}
 use Rattle.std.proofs.lemmas.Bool.{cond-true, cond-false, false≢true}
 use Rattle.std.proofs.lemmas.List.Sums.{sum_by-cons}
@@ -7,7 +7,7 @@ use Rattle.page_entry.specs.declared.numbers.FilePage.{FilePage}
 use Rattle.frames.specs.Frames.{FramesState, Frame, frame_at, page_of, HasNoneFrom}
 use Rattle.spaces.specs.Spaces.{Spaces, EditsEntries}
 use Rattle.spaces.specs.Changes.{without_past}
-use Rattle.checkpoint.specs.Checkpoint.{CheckpointState, Holds, is_noted}
+use Rattle.checkpoint.specs.Checkpoint.{CheckpointState, Holds}
 use Rattle.checkpoint.specs.Backing.{HoldsEachOnce}
 use Rattle.checkpoint.specs.Resizing.{PagesResized, IsAdded, IsGrown, pages, is_past, cut_frame, cut_page}
 use Rattle.checkpoint.specs.inside.Notes.{noted_in}

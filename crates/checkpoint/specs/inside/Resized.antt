@@ -1,9 +1,8 @@
 -- The parts of a change of a file's length, one after the other.
-use Rattle.std.specs.Prelude.{ℕ, ◌≡◌, ◌⊎◌, ◌↔◌, ◌*◌, ◌<◌, ◌≤◌, Bool, true, false, List, length, Option, Some, None, IsSome, if◌then◌else◌}
+use Rattle.std.specs.Prelude.{ℕ, ◌≡◌, ◌⊎◌, ◌↔◌, ◌*◌, ◌<◌, ◌≤◌, Bool, true, false, List, length, Some, None, if◌then◌else◌}
 use Rattle.std.specs.Option.{option_map}
 use Rattle.page_entry.specs.declared.numbers.FilePage.{FilePage}
 use Rattle.frames.specs.Frames.{FramesState, Frame, frame_at, zero_page}
-use Rattle.spaces.specs.Spaces.{Spaces}
 use Rattle.checkpoint.specs.Checkpoint.{Holds, same_page}
 use Rattle.checkpoint.specs.Resizing.{is_past, cut_page, cut_frame}
 use Rattle.checkpoint.specs.inside.Notes.{noted_in}

@@ -1,5 +1,4 @@
 use Rattle.std.proofs.Common.{arith}
-use Rattle.checkpoint.specs.inside.Resized.{NotesPages}
 use Rattle.checkpoint.proofs.BackingLaws.{Holds-within}
 use Rattle.checkpoint.proofs.Added.{NotesPages-none, NotesPages-more}
 use Rattle.checkpoint.proofs.resizing.note_pages.Goals as goal
