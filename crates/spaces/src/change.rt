@@ -21,8 +21,8 @@ pub enum Change {
     Reclaim {
         page: FilePage,
     },
-    /// The length of a file becomes this many bytes: pages past it leave memory, and every entry that maps one of them
-    /// goes (`ftruncate`).
+    /// The length of a file becomes this many bytes (`ftruncate`). Pages that begin at or past it leave memory, and
+    /// every entry that maps one of them goes.
     SetLength {
         file: FileNumber,
         length: u64,
