@@ -16,7 +16,7 @@ use Rattle.journal.specs.WriteOuts.{current}
 use Rattle.machine.specs.declared.act.Act.TheVariants as acts
 use Rattle.machine.specs.declared.act.Reply.TheVariants as replies
 use Rattle.machine.specs.Rules.{next_record}
-use Rattle.machine.specs.inside.Moves.{Flushed as Stepped}
+use Rattle.machine.specs.inside.Moves.{Flushed as Stepped, Resized}
 use Rattle.machine.proofs.sound.ByMark.{marked_sound}
 use Rattle.machine.proofs.sound.Waiting.{blocks}
 use Rattle.machine.proofs.durable.Uncommitted.{none_when_done}

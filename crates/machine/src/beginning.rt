@@ -122,8 +122,14 @@ impl<D: Device, A: Allocator + Copy> Layers<D, A> {
         ensures { result ≡ lacks_last_page (state_in self.now) file length }
     {
         let old = self.file_length(file);
+        if length <= old {
+            return false;
+        }
+        if old % PAGE == 0 {
+            return false;
+        }
         let page = (old / PAGE) as u32;
-        old < length && old % PAGE != 0 && self.frames.find(FilePage { file, page }).is_none()
+        self.frames.find(FilePage { file, page }).is_none()
     }
 
     // Whether fewer frames are free than a file's growth adds pages.
