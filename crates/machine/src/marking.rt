@@ -53,17 +53,19 @@ impl<D: Device, A: Allocator + Copy> Layers<D, A> {
         } }
     {
         let pages = self.checkpoint.frozen();
-        let others = usize::from(self.resized);
-        let count = others + pages.len();
-        if count == 0 {
+        if self.resized {
+            let mut homes = homes_of(&self.table, 1, pages);
+            homes[0] = self.table.geometry().first_home();
+            self.write_outs
+                .begin(u64::from(self.marks), &homes[..1 + pages.len()]);
             return;
         }
-        let mut homes = homes_of(&self.table, others, pages);
-        if self.resized {
-            homes[0] = self.table.geometry().first_home();
+        if pages.is_empty() {
+            return;
         }
+        let homes = homes_of(&self.table, 0, pages);
         self.write_outs
-            .begin(u64::from(self.marks), &homes[..count]);
+            .begin(u64::from(self.marks), &homes[..pages.len()]);
     }
 
     // All stores so far belong to the next mark. The dirty pages are gathered, and can't be stored to until their
