@@ -27,7 +27,10 @@ pub enum Job<'a, A: Allocator + Copy> {
         trust: bool,
     },
     /// Answer requests on a volume, also on one that is marked as suspect where it is trusted.
-    Serve { disk: &'a str, trust: bool },
+    Serve {
+        disk: &'a str,
+        trust: bool,
+    },
     /// Print the files of a volume.
     Dump(Look<'a>),
     /// Print what the bytes of a volume say.

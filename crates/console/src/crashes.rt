@@ -5,7 +5,8 @@ use crate::run::read_script;
 use crate::shape::refused_to_run;
 use command_line::Form;
 use crash_report::{
-    Printed, begin_page, end_page, json_end, json_row, reply_on_page, row_on_page, text_end, text_reply, text_row,
+    Printed, begin_page, end_page, json_end, json_row, reply_on_page, row_on_page, text_end,
+    text_reply, text_row,
 };
 use crash_table::{Call, CrashFault, Places, Row, Rows, Trial};
 use device::Device;
