@@ -1,14 +1,12 @@
 -- The program's status, and the failure that names a step.
 use Rattle.std.specs.Prelude.{ℕ}
+use Rattle.command_line.specs.Faults.{word_status}
 use Rattle.console.specs.declared.failure.Failure.{Failure}
-use Rattle.console.specs.declared.failure.Failure.TheVariants.{CommandLine, Layout, Slots, FileSpec, Script, Trace, File, Shape, Step, Entry, Act, Wait, Gather, Crashes, Session, Input, Output, Memory}
+use Rattle.console.specs.declared.failure.Failure.TheVariants.{Words, Script, Trace, File, Shape, Step, Entry, Act, Wait, Gather, Crashes, Session, Input, Output, Memory}
 
 -- 1 for a script or a trace that is refused, 2 for a bad command line, 3 for everything else
 abbrev pub status_of : Failure → ℕ
-status_of (CommandLine text) = 2
-status_of (Layout word) = 2
-status_of (Slots word) = 2
-status_of (FileSpec word) = 2
+status_of (Words fault) = word_status fault
 status_of (Script path cause) = 1
 status_of (Trace path cause) = 1
 status_of (File cause) = 3

@@ -1,10 +1,13 @@
 // What a crash within each device call of a script leaves.
-use crate::crash_page::{begin_page, end_page, reply_on_page, row_on_page};
-use crate::crash_text::{json_end, json_row, text_end, text_reply, text_row};
 use crate::failure::Failure;
 use crate::look::refused;
 use crate::run::read_script;
 use crate::shape::refused_to_run;
+use command_line::Form;
+use crash_report::{
+    Printed, begin_page, end_page, json_end, json_row, reply_on_page, row_on_page, text_end,
+    text_reply, text_row,
+};
 use crash_table::{Call, CrashFault, Places, Row, Rows, Trial};
 use device::Device;
 use machine::Reply;
@@ -17,24 +20,6 @@ use volume_codec::{Super, read_super};
 use volume_files::{
     Access, Cause, FileFailure, Refused, SyncNote, first_block, open_disk, place, refused_to_open,
 };
-
-/// How the table is printed.
-#[derive(Clone, Copy, Debug, PartialEq, Eq)]
-pub enum Form {
-    /// A line for each call and for each reply.
-    Text,
-    /// A JSON object a line.
-    Json,
-    /// An HTML page.
-    Html,
-}
-
-/// How many rows and crash states were printed.
-#[derive(Clone, Copy, Debug, PartialEq, Eq)]
-pub struct Printed {
-    pub calls: u64,
-    pub states: u64,
-}
 
 /// Makes the run of a script on copies of the volume in a file, in memory: once for each state that a crash within one
 /// of its device calls is to leave, and prints whose mark's files an opening then finds. The file is only read. The

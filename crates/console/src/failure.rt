@@ -3,6 +3,7 @@ ghost use Rattle.std.specs.Prelude.{◌≡◌};
 ghost use Rattle.console.specs.Failure.{status_of};
 
 use crate::shape::ShapeCause;
+use command_line::WordFault;
 use crash_table::CrashFault;
 use page_entry::Refusal;
 use scripts::ScriptFault;
@@ -15,18 +16,9 @@ use volume_files::FileFailure;
 /// Why a run of the program doesn't end with status 0. Its text is one line.
 #[derive(Debug, Drop, Error)]
 pub enum Failure<'a> {
-    /// The words aren't of the forms that the help shows.
+    /// The words ask for nothing.
     #[error("{0}")]
-    CommandLine(String),
-    /// The word for the layout is no number.
-    #[error("LAYOUT is {0:?}, which isn't a decimal number up to 2^64 - 1")]
-    Layout(&'a str),
-    /// The word for the number of record slots is no number.
-    #[error("SLOTS is {0:?}, which isn't a decimal number up to 2^64 - 1")]
-    Slots(&'a str),
-    /// A word for a file isn't a name with a length.
-    #[error("FILE is {0:?}, which isn't a name, `=` and a decimal length up to 2^64 - 1, in layout 3 also with `/` and a capacity")]
-    FileSpec(&'a str),
+    Words(#[from] WordFault<'a>),
     /// The script was refused, before anything was opened.
     #[error("script {path:?}: {cause}")]
     Script { path: &'a str, cause: ScriptFault },
@@ -79,10 +71,7 @@ impl Failure<'_> {
     {
         match self {
             Failure::Script { .. } | Failure::Trace { .. } => 1,
-            Failure::CommandLine(_)
-            | Failure::Layout(_)
-            | Failure::Slots(_)
-            | Failure::FileSpec(_) => 2,
+            Failure::Words(fault) => fault.status(),
             _ => 3,
         }
     }

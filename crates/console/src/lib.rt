@@ -2,9 +2,6 @@
 //! machine that maps their files, prints the files, says how a volume is, and copies files out of it.
 #![tactic(auto)]
 
-mod command;
-mod crash_page;
-mod crash_text;
 mod crashes;
 mod failure;
 mod look;
@@ -17,6 +14,5 @@ mod serve;
 mod shape;
 mod threads;
 mod told;
-mod words;
 
 pub use program::perform;

@@ -3,6 +3,7 @@ ghost use Rattle.std.specs.Prelude.{◌≡◌, ◌≤◌, length, IfOk};
 ghost use Rattle.console.specs.Health.{health_status};
 
 use crate::failure::Failure;
+use command_line::Look;
 use device::OverlayDisk;
 use inspection::{
     Found, Health, LineFault, damage_value, examine, found_value, health_value, inspect,
@@ -18,15 +19,6 @@ use volume_files::{
     Access, FileFailure, Refused, SyncNote, VolumeDisk, open_disk, place, refused_on_copy,
     refused_to_open, unreadable,
 };
-
-/// A volume that is looked at: the path of its file, whether it is trusted though it may be marked as suspect, and
-/// whether what is printed is JSON.
-#[derive(Clone, Copy)]
-pub struct Look<'a> {
-    pub disk: &'a str,
-    pub trust: bool,
-    pub json: bool,
-}
 
 /// Prints what the bytes of a volume say. `note` gets what is to be said of a sync that failed.
 pub fn info<'a, R, A, W>(

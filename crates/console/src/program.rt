@@ -1,7 +1,6 @@
 // What the program does, from its words to its status.
 ghost use Rattle.std.specs.Prelude.{◌≤◌, IfOk};
 
-use crate::command::{Job, read_words};
 use crate::crashes::crashes;
 use crate::failure::Failure;
 use crate::look::{check, dump_lines, info};
@@ -10,6 +9,7 @@ use crate::run::run;
 use crate::serve::serve;
 use crate::threads::threads;
 use crate::told::{asks_for_json, tell_export, tell_failure, tell_format, tell_migrate};
+use command_line::{Job, read_words};
 use std::alloc::Allocator;
 use std::convert::AsStr;
 use std::fs::File;
@@ -18,7 +18,7 @@ use std::marker::Sync;
 use std::rt::Files;
 use std::sync::Wait;
 use std::thread::Threads;
-use volume_files::{Plan, SyncNote, dump, export, format, migrate};
+use volume_files::{ExportPlan, MigrationPlan, Plan, SyncNote, dump, export, format, migrate};
 
 /// Does what the words ask for, of which the first is the program's name. What it prints goes to `out`, and where
 /// something is wrong, one line to `err`.
@@ -104,9 +104,14 @@ where
             tell_format(rt.alloc(), json, blocks, out)?;
             Ok(0)
         }
-        Job::Migrate { plan, trust, json } => {
-            let blocks = migrate(rt, alloc, plan, trust, note)?;
-            tell_migrate(rt.alloc(), json, blocks, out)?;
+        Job::Migrate(asked) => {
+            let plan = MigrationPlan {
+                old: asked.old,
+                new: asked.new,
+                slots: asked.slots,
+            };
+            let blocks = migrate(rt, alloc, plan, asked.trust, note)?;
+            tell_migrate(rt.alloc(), asked.json, blocks, out)?;
             Ok(0)
         }
         Job::Run {
@@ -146,9 +151,14 @@ where
             Ok(0)
         }
         Job::Check(look) => check(rt, alloc, look, out, note),
-        Job::Export(wanted) => {
-            let bytes = export(rt, alloc, wanted.plan, wanted.trust, note)?;
-            tell_export(rt.alloc(), wanted.json, bytes, out)?;
+        Job::Export(asked) => {
+            let plan = ExportPlan {
+                disk: asked.disk,
+                file: asked.file,
+                out: asked.out,
+            };
+            let bytes = export(rt, alloc, plan, asked.trust, note)?;
+            tell_export(rt.alloc(), asked.json, bytes, out)?;
             Ok(0)
         }
         Job::Crashes {

@@ -3,7 +3,7 @@ use Rattle.std.proofs.Common.{ℕ, List, ◌++◌, take, drop, Option, Some, Non
 use Rattle.std.proofs.lemmas.List.{take-append-drop}
 use Rattle.std.proofs.lemmas.Str.Pattern.{NoCharPasses-char, drop_at_char}
 use Rattle.std.specs.Str.Pattern.{RFindsChar, SplitsAroundMatch}
-use Rattle.console.specs.Words.{Lacks, IsLastCut}
+use Rattle.command_line.specs.Words.{Lacks, IsLastCut}
 
 -- what `rsplit_once` gives at an ASCII character
 pub last_cut : (c : ℕ) (word : List ℕ) (r : Option (Bor (List ℕ) × Bor (List ℕ))) → c < 128 → MatchOption r (RFindsChar c word None) (λ x. SplitsAroundMatch (RFindsChar c) word x.0.now x.1.now)

@@ -1,7 +1,7 @@
 use Rattle.std.proofs.Common.{inl, inr, Some, None, lit<}
-use Rattle.console.specs.Words.{IsLastCut}
-use Rattle.console.proofs.Cuts.{last_cut}
-use Rattle.console.proofs.words.file_spec.Goals as goal
+use Rattle.command_line.specs.Words.{IsLastCut}
+use Rattle.command_line.proofs.Cuts.{last_cut}
+use Rattle.command_line.proofs.words.file_spec.Goals as goal
 
 pub returns-in_err-name : goal.returns-in_err-name
 returns-in_err-name c = rw c.from_residual.ensures (inl (last_cut 61 c.args.word.now None (lit< tt) c.in_err-name.ensures.cases))

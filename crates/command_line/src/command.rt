@@ -1,95 +1,21 @@
 // The command line: what the words ask for.
-ghost use Rattle.std.specs.Prelude.{◌≡◌};
-
-use crate::crashes::Form;
-use crate::failure::Failure;
-use crate::look::Look;
+use crate::job::{Export, Form, Job, Look, Migration};
+use crate::word_fault::WordFault;
 use crate::words::{decimal, file_spec};
 use clap::error::ErrorKind;
 use clap::{Arg, ArgAction, ArgMatches, Command, Error};
 use std::alloc::{AllocError, Allocator, Global};
 use std::convert::AsStr;
-use volume_codec::FileSpec;
-use volume_files::{ExportPlan, MigrationPlan};
 
 /// The layout whose files may grow, so that a capacity may be given for one.
 const LAYOUT_THREE: u64 = 3;
 
-/// What the words ask for.
-#[derive(Drop)]
-pub enum Job<'a, A: Allocator + Copy> {
-    /// Make a volume in the layout of this number, with these files.
-    Format {
-        layout: u64,
-        disk: &'a str,
-        slots: u64,
-        files: Vec<FileSpec<'a>, A>,
-        json: bool,
-    },
-    /// Run a script on a volume, also on one that is marked as suspect where it is trusted.
-    Run {
-        disk: &'a str,
-        script: &'a str,
-        trust: bool,
-    },
-    /// Run a script's programs in threads on a volume, also on one that is marked as suspect where it is trusted.
-    Threads {
-        disk: &'a str,
-        script: &'a str,
-        trust: bool,
-    },
-    /// Answer requests on a volume, also on one that is marked as suspect where it is trusted.
-    Serve {
-        disk: &'a str,
-        trust: bool,
-    },
-    /// Print the files of a volume, also of one that is marked as suspect where it is trusted.
-    Dump(Look<'a>),
-    /// Print what the bytes of a volume say, also of one that is marked as suspect where it is trusted.
-    Info(Look<'a>),
-    /// Print whether a volume is clean, needs opening, or is damaged, also of one that is marked as suspect where it is
-    /// trusted.
-    Check(Look<'a>),
-    /// Copy a file out of a volume, also of one that is marked as suspect where it is trusted.
-    Export(Wanted<'a>),
-    /// Make a volume whose files can grow of another, also of one that is marked as suspect where it is trusted.
-    Migrate {
-        plan: MigrationPlan<'a>,
-        trust: bool,
-        json: bool,
-    },
-    /// Run a trace again on a copy of a volume, also of one that is marked as suspect where it is trusted.
-    Replay {
-        disk: &'a str,
-        trace: &'a str,
-        trust: bool,
-    },
-    /// Print what a crash within each device call of a script leaves, also of a volume that is marked as suspect where it
-    /// is trusted.
-    Crashes {
-        disk: &'a str,
-        script: &'a str,
-        trust: bool,
-        form: Form,
-    },
-    /// Print this text: help, or the version.
-    Show(String),
-}
-
-/// What a copy is asked for by.
-#[derive(Clone, Copy)]
-pub struct Wanted<'a> {
-    pub plan: ExportPlan<'a>,
-    pub trust: bool,
-    pub json: bool,
-}
-
-/// Reads the words, of which the first is the program's name.
+/// Reads the words of a command line, of which the first is the program's name.
 pub fn read_words<'a, A: Allocator + Copy, S: AsStr>(
     global: Global,
     alloc: A,
     words: &'a [S],
-) -> Result<Job<'a, A>, Failure<'a>> {
+) -> Result<Job<'a, A>, WordFault<'a>> {
     match program(global)?.try_get_matches_from(words) {
         Ok(matches) => job_of(alloc, &matches),
         Err(error) => no_job(global, &error),
@@ -99,7 +25,7 @@ pub fn read_words<'a, A: Allocator + Copy, S: AsStr>(
 fn job_of<'a, A: Allocator + Copy>(
     alloc: A,
     matches: &ArgMatches<'a>,
-) -> Result<Job<'a, A>, Failure<'a>> {
+) -> Result<Job<'a, A>, WordFault<'a>> {
     match matches.subcommand() {
         Some(("format", words)) => format_job(alloc, words),
         Some(("run", words)) => Ok(Job::Run {
@@ -130,12 +56,10 @@ fn job_of<'a, A: Allocator + Copy>(
         Some(("migrate", words)) => migrate_job(words),
         Some(("info", words)) => Ok(Job::Info(look_at(words))),
         Some(("check", words)) => Ok(Job::Check(look_at(words))),
-        Some(("export", words)) => Ok(Job::Export(Wanted {
-            plan: ExportPlan {
-                disk: text(words, "DISK"),
-                file: text(words, "FILE"),
-                out: text(words, "OUT"),
-            },
+        Some(("export", words)) => Ok(Job::Export(Export {
+            disk: text(words, "DISK"),
+            file: text(words, "FILE"),
+            out: text(words, "OUT"),
             trust: words.get_flag("trust"),
             json: words.get_flag("json"),
         })),
@@ -159,15 +83,15 @@ fn look_at<'a>(words: &ArgMatches<'a>) -> Look<'a> {
 fn format_job<'a, A: Allocator + Copy>(
     alloc: A,
     words: &ArgMatches<'a>,
-) -> Result<Job<'a, A>, Failure<'a>> {
+) -> Result<Job<'a, A>, WordFault<'a>> {
     let layout = text(words, "layout");
-    let layout = decimal(layout).ok_or(Failure::Layout(layout))?;
+    let layout = decimal(layout).ok_or(WordFault::Layout(layout))?;
     let slots = text(words, "SLOTS");
-    let slots = decimal(slots).ok_or(Failure::Slots(slots))?;
+    let slots = decimal(slots).ok_or(WordFault::Slots(slots))?;
     let mut files = Vec::new(alloc);
     for word in words.get_strs("FILE").unwrap_or(&[]) {
         let file = file_spec(word, layout == LAYOUT_THREE);
-        files.push(file.ok_or(Failure::FileSpec(word))?)?;
+        files.push(file.ok_or(WordFault::FileSpec(word))?)?;
     }
     Ok(Job::Format {
         layout,
@@ -178,18 +102,18 @@ fn format_job<'a, A: Allocator + Copy>(
     })
 }
 
-fn migrate_job<'a, A: Allocator + Copy>(words: &ArgMatches<'a>) -> Result<Job<'a, A>, Failure<'a>> {
+fn migrate_job<'a, A: Allocator + Copy>(
+    words: &ArgMatches<'a>,
+) -> Result<Job<'a, A>, WordFault<'a>> {
     let slots = text(words, "SLOTS");
-    let slots = decimal(slots).ok_or(Failure::Slots(slots))?;
-    Ok(Job::Migrate {
-        plan: MigrationPlan {
-            old: text(words, "OLD"),
-            new: text(words, "NEW"),
-            slots,
-        },
+    let slots = decimal(slots).ok_or(WordFault::Slots(slots))?;
+    Ok(Job::Migrate(Migration {
+        old: text(words, "OLD"),
+        new: text(words, "NEW"),
+        slots,
         trust: words.get_flag("trust"),
         json: words.get_flag("json"),
-    })
+    }))
 }
 
 // How the crashes of a script are printed.
@@ -407,13 +331,13 @@ fn word<'a>(alloc: Global, name: &'a str, help: &'a str) -> Arg<'a> {
 fn no_job<'a, A: Allocator + Copy>(
     global: Global,
     error: &Error,
-) -> Result<Job<'a, A>, Failure<'a>> {
+) -> Result<Job<'a, A>, WordFault<'a>> {
     match error.kind() {
-        ErrorKind::OutOfMemory => Err(Failure::Memory(AllocError)),
+        ErrorKind::OutOfMemory => Err(WordFault::Memory(AllocError)),
         ErrorKind::DisplayHelp | ErrorKind::DisplayVersion => Ok(Job::Show(error.to_string(
             global,
         )?)),
-        _ => Err(Failure::CommandLine(first_paragraph(global, error)?)),
+        _ => Err(WordFault::CommandLine(first_paragraph(global, error)?)),
     }
 }
 

@@ -1,7 +1,7 @@
 use Rattle.std.proofs.Common.{rules, ◌≡◌, true, inl, inr, Some, None, lit<}
-use Rattle.console.specs.Words.{IsLastCut}
-use Rattle.console.proofs.Cuts.{last_cut}
-use Rattle.console.proofs.words.sizes.Goals as goal
+use Rattle.command_line.specs.Words.{IsLastCut}
+use Rattle.command_line.proofs.Cuts.{last_cut}
+use Rattle.command_line.proofs.words.sizes.Goals as goal
 
 pub returns-in_err-length : goal.returns-in_err-length
 returns-in_err-length c =

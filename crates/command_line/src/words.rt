@@ -1,7 +1,7 @@
 // Numbers and files, as words of the command line.
 ghost use Rattle.std.specs.Prelude.{◌≡◌, SomeIff, MatchOption};
 ghost use Rattle.std.specs.Str.Parse.{digits_value};
-ghost use Rattle.console.specs.Words.{IsDecimal, IsFile, IsNoFile, AreSizes, AreNoSizes};
+ghost use Rattle.command_line.specs.Words.{IsDecimal, IsFile, IsNoFile, AreSizes, AreNoSizes};
 
 use volume_codec::FileSpec;
 

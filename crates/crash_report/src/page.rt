@@ -1,6 +1,6 @@
 // The table of crashes as an HTML page.
-use crate::crash_text::{Touched, word_of};
-use crate::crashes::Printed;
+use crate::printed::Printed;
+use crate::text::{Touched, word_of};
 use crash_table::{Call, MOST_MIXTURES, Places, Row};
 use machine::Reply;
 use std::alloc::Allocator;

@@ -1,0 +1,12 @@
+-- The program's status where its words ask for nothing.
+use Rattle.std.specs.Prelude.{ℕ}
+use Rattle.command_line.specs.declared.word_fault.WordFault.{WordFault}
+use Rattle.command_line.specs.declared.word_fault.WordFault.TheVariants.{CommandLine, Layout, Slots, FileSpec, Memory}
+
+-- 2 for words of another form, 3 where memory is refused
+abbrev pub word_status : WordFault → ℕ
+word_status (CommandLine text) = 2
+word_status (Layout word) = 2
+word_status (Slots word) = 2
+word_status (FileSpec word) = 2
+word_status (Memory cause) = 3

@@ -1,0 +1,12 @@
+//! What the words of the command line ask for.
+#![tactic(auto)]
+
+mod command;
+mod job;
+mod word_fault;
+mod words;
+
+pub use command::read_words;
+pub use job::{Export, Form, Job, Look, Migration};
+pub use word_fault::WordFault;
+pub use words::{decimal, file_spec};
