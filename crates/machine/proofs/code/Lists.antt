@@ -4,17 +4,23 @@ use Rattle.machine.proofs.Names.{get_or, refl, sym, ap, ◌∙◌, arith, length
 use Rattle.std.proofs.lemmas.List.{take_more, map-append}
 use Rattle.std.proofs.lemmas.Grind.{take-set_at}
 
-drop-set_after : (k n h : ℕ) (xs : List ℕ) → drop k (set xs (k + n) h) ≡ set (drop k xs) n h
-drop-set_after zero n h xs = refl
-drop-set_after (suc k) n h [] = refl
-drop-set_after (suc k) n h (x ∷ xs) = drop-set_after k n h xs
+drop-set_after : (k m n h : ℕ) (xs : List ℕ) → m ≡ k + n → drop k (set xs m h) ≡ set (drop k xs) n h
+drop-set_after zero m n h xs is = ap (λ i. set xs i h) (omega (arith, is))
+drop-set_after (suc k) m n h [] is = refl
+drop-set_after (suc k) zero n h (x ∷ xs) is = absurd (omega (arith, is))
+drop-set_after (suc k) (suc m) n h (x ∷ xs) is = drop-set_after k m n h xs (omega (arith, is))
+
+-- a first one before the others
+pub first_then : (n home : ℕ) (xs : List ℕ) → 0 < length xs → take (1 + n) (set xs 0 home) ≡ home ∷ take n (drop 1 xs)
+first_then n home [] some = absurd (omega (arith, some))
+first_then n home (x ∷ xs) some = ap (λ k. take k (home ∷ xs)) (omega arith)
 
 pub next_home : (home_of : FilePage → ℕ) (others place home : ℕ) (homes : List ℕ) (pages : List FilePage) (other : FilePage)
     → others + length pages ≤ length homes → place < length pages → home ≡ home_of (get_or pages place other)
     → take place (drop others homes) ≡ map home_of (take place pages)
     → take (place + 1) (drop others (set homes (others + place) home)) ≡ map home_of (take (place + 1) pages)
 next_home home_of others place home homes pages other few below is before =
-    ap (take (place + 1)) (drop-set_after others place home homes)
+    ap (take (place + 1)) (drop-set_after others (others + place) place home homes refl)
     ∙ take-set_at (drop others homes) place (place + 1) home refl (omega (arith, few, below, length-drop others homes))
     ∙ ap (λ l. l ++ home ∷ []) before ∙ ap (λ h. map home_of (take place pages) ++ h ∷ []) is
     ∙ sym (map-append home_of (take place pages) (get_or pages place other ∷ []))

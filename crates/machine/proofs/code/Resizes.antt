@@ -39,9 +39,9 @@ lacks_by s file to old page found is page_is grows inside some none =
     none_is (Some n) = refl
 
     both : (grows whole last : Bool) → grows ≡ true → whole ≡ false → (grows && not whole && last) ≡ last
-    both true false last is no = refl
-    both true true last is no = absurd (cc)
-    both false whole last is no = absurd (cc)
+    both true false last first second = refl
+    both true true last first second = absurd (cc)
+    both false whole last first second = absurd (cc)
 
 -- ---- the change of the length that a processor began
 

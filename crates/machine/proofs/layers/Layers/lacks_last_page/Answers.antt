@@ -8,4 +8,4 @@ overflow_cast-page g c = omega (arith, c.file_length-old.ensures, small_page (st
 pub returns : goal.returns
 returns g c =
     lacks_by (state_in c.args.self.now) c.args.file c.args.length c.file_length-old.result (c.file_length-old.result / 4096) c.find.result c.file_length-old.ensures refl
-    (omega (arith, c.if-length-old.false)) c.if-old-0.false c.find.ensures.found c.find.ensures.none
+    (omega (arith, c.if-length-old.false)) c.if-old-eq0.false c.find.ensures.found c.find.ensures.none
