@@ -45,6 +45,7 @@ HasNoFrame-next file first page memory now none from adds frame holds = by_old (
           let one : given.0 ≡ page = ap (λ (p : FilePage). p.page) (inside _ _ same) in
           absurd (omega (arith, one, given.2))
     ]
+
 -- it comes into a free frame
 pub AddsPages-more : (file first page : ℕ) (memory now : FramesState) (frame : ℕ) → first ≤ page → slice_get now.frames frame ≡ Some None → AddsPages file first page memory now → AddsPages file first (page + 1) memory (with_page now frame (page_in file page) zero_page)
 AddsPages-more file first page memory now frame from free adds = record {

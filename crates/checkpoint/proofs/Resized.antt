@@ -120,12 +120,12 @@ module _ (file old to low : ℕ) (m0 m1 m2 : FramesState) (n0 n1 : List Bool) (i
         | inr among ↦ inr (among.0, (are_grown among.0).1 (among.1, among.2), among.3)
       ],
       λ h. (notes.noted frame).1 (⊎_elim
-      (λ was. elim (drops.frames frame) [
-        | inl kept ↦ inl (kept.same_note ∙ was.0)
-        | inr gone ↦ absurd (false≢true (sym (ap is_some (stays_free frame gone)) ∙ was.1))
-      ])
-      (λ grown. let range = (are_grown grown.0).0 grown.1 in inr (grown.0, range.0, range.1, grown.2))
-      h),
+          (λ was. elim (drops.frames frame) [
+            | inl kept ↦ inl (kept.same_note ∙ was.0)
+            | inr gone ↦ absurd (false≢true (sym (ap is_some (stays_free frame gone)) ∙ was.1))
+          ])
+          (λ grown. let range = (are_grown grown.0).0 grown.1 in inr (grown.0, range.0, range.1, grown.2))
+          h),
     )
 
 pub PagesResized-parts : (spaces new : Spaces) (c : CheckpointState) (file old to low : ℕ) (m0 m1 m2 m3 : FramesState) (n0 n1 n3 : List Bool) (first from end : ℕ) → c.notes ≡ n0 → BeginBefore m0 file old → ((frame : ℕ) → noted_in n0 frame ≡ true → IsSome (frame_at m0 frame))

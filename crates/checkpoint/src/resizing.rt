@@ -99,7 +99,10 @@ pub(crate) fn cut_file<A: Allocator + Copy>(frames: &mut Frames<A>, file: FileNu
     let _count = frames.count();
     let at = end % PAGE;
     if at > 0 {
-        let page = FilePage { file, page: (end / PAGE) as u32 };
+        let page = FilePage {
+            file,
+            page: (end / PAGE) as u32,
+        };
         cut_page(frames, page, at as usize);
     }
 }
@@ -118,7 +121,10 @@ pub(crate) fn add_pages<A: Allocator + Copy>(
     ensures { AddsPages file first end frames.old frames.new }
 {
     for page in first..end {
-        let Ok(_frame) = frames.take(FilePage { file, page: page as u32 }) else {
+        let Ok(_frame) = frames.take(FilePage {
+            file,
+            page: page as u32,
+        }) else {
             unreachable!()
         };
     }
@@ -138,7 +144,10 @@ pub(crate) fn note_pages<A: Allocator + Copy>(
     ensures { NotesPages frames.now file first end notes.old notes.new }
 {
     for page in first..end {
-        if let Some(frame) = frames.find(FilePage { file, page: page as u32 }) {
+        if let Some(frame) = frames.find(FilePage {
+            file,
+            page: page as u32,
+        }) {
             notes[frame as usize] = true;
         }
     }
