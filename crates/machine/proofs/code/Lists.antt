@@ -10,11 +10,6 @@ drop-set_after (suc k) m n h [] is = refl
 drop-set_after (suc k) zero n h (x ∷ xs) is = absurd (omega (arith, is))
 drop-set_after (suc k) (suc m) n h (x ∷ xs) is = drop-set_after k m n h xs (omega (arith, is))
 
--- a first one before the others
-pub first_then : (n home : ℕ) (xs : List ℕ) → 0 < length xs → take (1 + n) (set xs 0 home) ≡ home ∷ take n (drop 1 xs)
-first_then n home [] some = absurd (omega (arith, some))
-first_then n home (x ∷ xs) some = ap (λ k. take k (home ∷ xs)) (omega arith)
-
 pub next_home : (home_of : FilePage → ℕ) (others place home : ℕ) (homes : List ℕ) (pages : List FilePage) (other : FilePage)
     → others + length pages ≤ length homes → place < length pages → home ≡ home_of (get_or pages place other)
     → take place (drop others homes) ≡ map home_of (take place pages)

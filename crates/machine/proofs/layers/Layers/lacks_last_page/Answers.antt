@@ -1,4 +1,4 @@
-use Rattle.machine.proofs.Names.{◌/◌, refl, arith, state_in}
+use Rattle.machine.proofs.Names.{◌/◌, ◌∙◌, refl, arith, state_in}
 use Rattle.machine.proofs.code.Resizes.{small_page, lacks_by}
 use Rattle.machine.proofs.layers.Layers.lacks_last_page.Goals as goal
 
@@ -7,5 +7,5 @@ overflow_cast-page g c = omega (arith, c.file_length-old.ensures, small_page (st
 
 pub returns : goal.returns
 returns g c =
-    lacks_by (state_in c.args.self.now) c.args.file c.args.length c.file_length-old.result (c.file_length-old.result / 4096) c.find.result c.file_length-old.ensures refl
+    c.is_none.ensures ∙ lacks_by (state_in c.args.self.now) c.args.file c.args.length c.file_length-old.result (c.file_length-old.result / 4096) c.find.result c.file_length-old.ensures refl
     (omega (arith, c.if-length-old.false)) c.if-old-eq0.false c.find.ensures.found c.find.ensures.none
