@@ -18,5 +18,5 @@ pub unreachable-requires : goal.unreachable-requires
 unreachable-requires g c =
     let change = changes.SetLength c.in-SetLength.file c.in-SetLength.length in
     let held : HandsOut c.args.self.now.shootdown c.args.p (Ok (Some change)) =
-        subst (λ (x : Option Change). HandsOut c.args.self.now.shootdown c.args.p (Ok x)) (c.in-Some.is ∙ ap Some c.in-SetLength.is) c.in_ok-change.ensures.handed_out in
+    subst (λ (x : Option Change). HandsOut c.args.self.now.shootdown c.args.p (Ok x)) (c.in-Some.is ∙ ap Some c.in-SetLength.is) c.in_ok-change.ensures.handed_out in
     c.requires.sound.spaces.prepared (record { holder = c.args.p; change = change }) held.1
