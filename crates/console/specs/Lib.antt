@@ -1,4 +1,3 @@
 pub mod Failure
-pub mod Health
 pub mod Replies
 pub mod inside
