@@ -150,6 +150,7 @@ acknowledged_more flag events n follows = λ down.
     list_any-append is_change events (Acknowledge n ∷ []) ∙ ap (λ b. b || false) (follows down)
 
 follows_step : (told : Told) (p : ℕ) (act : Act) (reply : Reply) (flag : Bool) (before : List Event) → FollowsFlag flag before → FollowsFlag (unmarked_by flag reply) (fold with_event before (events_of told p act reply))
+follows_step told p (acts.Store va bytes) replies.Stored flag before follows = λ down. absurd (let up : true ≡ false = down in cc)
 follows_step told p act replies.Stored flag before follows = λ down. absurd (let up : true ≡ false = down in cc)
 follows_step told p act (replies.Marked n) flag before follows =
     λ down. ap (λ (l : List Event). list_any is_change (fold with_event before l)) (events_of_mark told p act n) ∙ by (has_unmarked told.history)

@@ -83,8 +83,8 @@ stands told steps answers prefix rest none whole (inr (front, n, is)) =
 -- ---- a mark's number is new
 
 marks_next : (s : State) (d d' : List ℕ) (p : ℕ) (act : Act) (n : ℕ) (new : State) → Acts s d p act (replies.Marked n) new d' → n ≡ s.marks + 1
-marks_next s d d' p acts.Change n new rule = rule.0.next
-marks_next s d d' p act n new rule = absurd rule.0
+marks_next s d d' p acts.Change n new rule = rule.0.1.next
+marks_next s d d' p act n new rule = absurd rule.0.1
 
 module _ {D : Type 0} (disk : Ghosts D) where
   -- the step that made a mark, and the run before it

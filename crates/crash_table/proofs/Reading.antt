@@ -1,5 +1,5 @@
 -- The files of a volume that was opened, and is only read since.
-use Rattle.std.proofs.Common.{◌≡◌, ◌<◌, ◌≤◌, ℕ, zero, suc, ◌+◌, ◌-◌, List, [], ◌∷◌, ◌++◌, length, map, take, get_or, slice_get, slice_range, Some, refl, sym, ◌∙◌, ap, arith}
+use Rattle.std.proofs.Common.{◌≡◌, ◌<◌, ◌≤◌, ℕ, zero, suc, add-one, ◌+◌, ◌-◌, List, [], ◌∷◌, ◌++◌, length, map, take, get_or, slice_get, slice_range, Some, refl, sym, ◌∙◌, ap, arith}
 use Rattle.std.proofs.lemmas.List.{length-map, take_all, take_more}
 use Rattle.device.specs.declared.device.Device.{Ghosts}
 use Rattle.volume_codec.specs.Files.{File, TableFile}
@@ -78,10 +78,13 @@ all_bytes files i past = take_all i (contents_of files) (omega (arith, past, len
 
 -- ---- lists of lists, element by element
 
+next_items : {V : Type 0} (items : V → List ℕ) (xs : List V) (i : ℕ) (x : V) → i < length xs → x ≡ get_or xs i x → take (suc i) (map items xs) ≡ take i (map items xs) ++ items x ∷ []
+next_items {V} items [] i x below is = absurd (omega (arith, below))
+next_items {V} items (y ∷ xs) zero x below is = ap (λ (v : V). items v ∷ []) (sym is)
+next_items {V} items (y ∷ xs) (suc i) x below is = ap (λ (l : List (List ℕ)). items y ∷ l) (next_items items xs i x (omega (arith, below)) is)
+
 items_more : {V : Type 0} (items : V → List ℕ) (xs : List V) (i : ℕ) (x : V) → i < length xs → x ≡ get_or xs i x → take (i + 1) (map items xs) ≡ take i (map items xs) ++ items x ∷ []
-items_more {V} items [] i x below is = absurd (omega (arith, below))
-items_more {V} items (y ∷ xs) zero x below is = ap (λ (v : V). items v ∷ []) (sym is)
-items_more {V} items (y ∷ xs) (suc i) x below is = ap (λ (l : List (List ℕ)). items y ∷ l) (items_more items xs i x (omega (arith, below)) is)
+items_more {V} items xs i x below is = ap (λ (n : ℕ). take n (map items xs)) (add-one i) ∙ next_items items xs i x below is
 
 pub same_more : {V : Type 0} (items : V → List ℕ) (xs ys : List V) (i : ℕ) (x y : V) → i < length xs → i < length ys → x ≡ get_or xs i x → y ≡ get_or ys i y → take i (map items xs) ≡ take i (map items ys) → items x ≡ items y → take (i + 1) (map items xs) ≡ take (i + 1) (map items ys)
 same_more {V} items xs ys i x y left right x_is y_is same both =

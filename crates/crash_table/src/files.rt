@@ -24,7 +24,10 @@ pub fn open_files<D: Device + Drop, A: Allocator + Copy>(
 {
     opened_as_recovered(&device);
     match recovery::open(alloc, device) {
-        Ok(volume) => read_files(alloc, volume),
+        Ok(volume) => {
+            let mut volume = volume;
+            read_files(alloc, &mut volume)
+        }
         Err((refusal, _)) => Err(fault_of(refusal)),
     }
 }
@@ -39,16 +42,16 @@ pub fn fault_of(refusal: Refusal) -> CrashFault {
 
 fn read_files<D: Device + Drop, A: Allocator + Copy>(
     alloc: A,
-    volume: Volume<D, A>,
+    volume: &mut Volume<D, A>,
 ) -> Result<Files<A>, CrashFault>
-    requires { IsSettled D.Device volume }
-    ensures { D.is_honest volume.device → IfOk result (λ read.
-        map (λ v. v.items) read.items ≡ map (λ f. f.bytes) (files_of volume.table (D.seen volume.device))) }
+    requires { IsSettled D.Device volume.old }
+    ensures { D.is_honest volume.old.device → IfOk result (λ read.
+        map (λ v. v.items) read.items
+        ≡ map (λ f. f.bytes) (files_of volume.old.table (D.seen volume.old.device))) }
 {
-    let mut volume = volume;
     let mut files = Vec::new(alloc);
     for file in 0..volume.file_count() {
-        files.push(read_file(alloc, &mut volume, file)?)?;
+        files.push(read_file(alloc, volume, file)?)?;
     }
     Ok(files)
 }
@@ -98,9 +101,15 @@ pub fn are_same<A: Allocator + Copy>(left: &[Vec<u8, A>], right: &[Vec<u8, A>]) 
         return false;
     }
     for i in 0..left.len() {
-        if left[i].as_slice() != right[i].as_slice() {
+        if !is_same(left[i].as_slice(), right[i].as_slice()) {
             return false;
         }
     }
     true
+}
+
+fn is_same(left: &[u8], right: &[u8]) -> bool
+    ensures { IsTrue result ↔ (left.now ≡ right.now) }
+{
+    left == right
 }

@@ -1,4 +1,4 @@
-use Rattle.std.proofs.Common.{◌≡◌, ◌<◌, ◌≤◌, ℕ, List, [], ◌∷◌, ◌++◌, length, map, take, ap, sym, ◌∙◌, arith}
+use Rattle.std.proofs.Common.{rules, ◌≡◌, ◌<◌, ◌≤◌, ℕ, List, [], ◌∷◌, ◌++◌, length, map, take, ap, sym, ◌∙◌, arith}
 use Rattle.std.proofs.lemmas.List.{map-append}
 use Rattle.volume_codec.specs.Files.{File}
 use Rattle.recovery.specs.Volume.{files_of, bytes_of}
@@ -10,11 +10,11 @@ pub read_file-requires-clause-files : goal.read_file-requires-clause-files
 read_file-requires-clause-files g c = λ honest.
     let before = c.loop-file.invariant in
     let first = before.0.honest.0 honest in
-    lengths_after_reading g.D.Device c.args.volume c.loop-file.volume before.0 first (lengths_of_settled g.D.Device c.args.volume c.requires first)
+    lengths_after_reading g.D.Device c.args.volume.now c.loop-file.volume before.0 first (lengths_of_settled g.D.Device c.args.volume.now c.requires first)
 
 pub loop-file-preserved : goal.loop-file-preserved
 loop-file-preserved g c =
-    let old = c.args.volume in
+    let old = c.args.volume.now in
     let mid = c.loop-file.volume in
     let before = c.loop-file.invariant in
     let i = c.loop-file.file in (
@@ -33,7 +33,7 @@ loop-file-preserved g c =
 
 pub returns : goal.returns
 returns g c = λ honest.
-    let old = c.args.volume in
+    let old = c.args.volume.now in
     let files = files_of old.table (g.D.Device.seen old.device) in
     let past : length old.table.files ≤ c.loop-file.file = search rules in
     c.loop-file.invariant.1 honest ∙ all_bytes files c.loop-file.file (omega (arith, past, as_many_files g.D.Device old c.requires honest))
