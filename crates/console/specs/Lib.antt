@@ -1,5 +1,4 @@
 pub mod Failure
-pub mod Health
 pub mod Replies
 pub mod Words
 pub mod inside

@@ -1,6 +1,6 @@
 // Telling what the bytes of the volume in a file say, and printing its files as JSON. The file is only read.
 ghost use Rattle.std.specs.Prelude.{◌≡◌, ◌≤◌, length, IfOk};
-ghost use Rattle.console.specs.Health.{health_status};
+ghost use Rattle.console.specs.inside.Health.{health_status};
 
 use crate::failure::Failure;
 use device::OverlayDisk;

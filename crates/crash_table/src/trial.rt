@@ -4,7 +4,7 @@ ghost use Rattle.device.specs.Memory.{new_disk};
 
 use crate::call::{Call, Listing};
 use crate::crash_fault::CrashFault;
-use crate::files::{Files, fault_of, open_files};
+use crate::files::{Files, are_same, fault_of, open_files};
 use crate::found::{MarkFiles, Plan, files_at, newest};
 use crate::make::run_on;
 use crate::same::are_same_replies;
@@ -127,7 +127,11 @@ impl<'a, A: Allocator + Copy> Trial<'a, A> {
         }
         disk.stop(choice);
         let found = open_files(self.alloc, disk)?;
-        newest(&self.start, &self.marks, &self.replies, &replies, &found)
+        let mark = newest(&self.marks, &self.replies, &replies, &found)?;
+        if mark == 0 && !are_same(&self.start, &found) {
+            return Err(CrashFault::AtNoMark);
+        }
+        Ok(mark)
     }
 
     // Whether a run with these replies is the first one up to the device call of this number, which fails, where there

@@ -1,0 +1,3 @@
+-- What private code does.
+pub mod Kept
+pub mod Reading
