@@ -140,13 +140,13 @@ module _ (history : List Event) (file from to : ℕ) where
   touched_cases f page is = elim (cases_Bool (is_touched history f page)) [
     | inl was ↦ inl was
     | inr new ↦ elim (cases_Bool (grows_in f page)) [
-        | inl here ↦
-            (let a = and_parts (eqb file f && ltb from to && leb (from / 4096) page) (ltb page (pages_of to)) here in
-            let b = and_parts (eqb file f && ltb from to) (leb (from / 4096) page) a.0 in
-            let c = and_parts (eqb file f) (ltb from to) b.0 in
-            inr (record { file_is = sym (eqb-true file f c.0); grows = ltb-true from to c.1; low = leb-true (from / 4096) page b.1; high = ltb-true page (pages_of to) a.1 }))
-        | inr other ↦ absurd (false≢true (sym (or_from (is_touched history f page) (grows_in f page || false) new (or_from (grows_in f page) false other refl)) ∙ sym (touched_now f page) ∙ is))
-      ]
+      | inl here ↦
+          (let a = and_parts (eqb file f && ltb from to && leb (from / 4096) page) (ltb page (pages_of to)) here in
+          let b = and_parts (eqb file f && ltb from to) (leb (from / 4096) page) a.0 in
+          let c = and_parts (eqb file f) (ltb from to) b.0 in
+          inr (record { file_is = sym (eqb-true file f c.0); grows = ltb-true from to c.1; low = leb-true (from / 4096) page b.1; high = ltb-true page (pages_of to) a.1 }))
+      | inr other ↦ absurd (false≢true (sym (or_from (is_touched history f page) (grows_in f page || false) new (or_from (grows_in f page) false other refl)) ∙ sym (touched_now f page) ∙ is))
+    ]
   ]
 
   -- it marks and acknowledges nothing

@@ -76,7 +76,7 @@ module _ (files : List File) (told : Told) (s : State) (p : ℕ) (disk : List �
   short_home owner is =
       let home = home_of s.table owner in
       let read : block_at disk home ≡ d.new home = d.stands.reads (resizable s p new made sound).whole home (home_is s sound owner is) (λ block.
-          contains_none block.0 (subst (λ (l : List WriteOut). Contains l block.0) (resizable s p new made sound).done block.1)) in
+      contains_none block.0 (subst (λ (l : List WriteOut). Contains l block.0) (resizable s p new made sound).done block.1)) in
       omega (arith, ap length (sym read), length-take 4096 (drop (4096 * home) disk))
 
   -- it has the page's part, where the page was in its file and wasn't touched

@@ -50,9 +50,9 @@ module _ (s : State) (p : ℕ) (new : State) (made : ResizeMade s p new) (sound 
       let only : ChangesOnlyAffected (changes.SetLength made.file made.to) s.hardware.spaces made.spaces = λ q at apart. absurd (false≢true (sym apart)) in
       let wider : IsNoWider (changes.SetLength made.file made.to) s.hardware.spaces made.spaces = record { affected = λ q at now. refl; touched = λ q now. refl } in
       let are = AreSpaces-EditsEntries (without_past made.file made.to s.hardware.spaces) s.hardware.spaces made.spaces sound.spaces.spaces edits
-          (λ q at. none_stays (is_place_past made.file made.to (place_at s.hardware.spaces q at))) in
+      (λ q at. none_stays (is_place_past made.file made.to (place_at s.hardware.spaces q at))) in
       let is = ended_spaces s p (changes.SetLength made.file made.to) made.spaces made.memory made.checkpoint s.write_outs s.marks s.resized made.may only wider are edits.same_spaces
-          (λ q at place there. sound.spaces.in_table q at place (sym (place_at-EditsEntries (without_past made.file made.to s.hardware.spaces) s.hardware.spaces made.spaces edits q at) ∙ there)) sound in
+      (λ q at place there. sound.spaces.in_table q at place (sym (place_at-EditsEntries (without_past made.file made.to s.hardware.spaces) s.hardware.spaces made.spaces edits q at) ∙ there)) sound in
       record {
         spaces = is.spaces;
         shootdown = is.shootdown;

@@ -138,12 +138,12 @@ module _ (files : List File) (told now : Told) (s : State) (p : ℕ) (new : Stat
   dirty_by_touched owner is touched =
       elim (cuts.touched_cases told.history made.file from made.to owner.file owner.page (sym (ap (λ h. is_touched h owner.file owner.page) history) ∙ touched)) [
         | inl was ↦ elim (in_file_before owner is) [
-            | inl inside ↦
-                (let d = (has.touched.each owner).0 (inside, was) in
-                let stays = stays_inside owner is in
-                (d.0, held_after made.pages sound.memory.memory d.0 owner d.1 stays, dirty_still d.0 owner d.1 stays d.2))
-            | inr added ↦ grown_dirty owner added.0 (record { grows = omega (arith, added.1.past, added.1.before); from = omega (arith, added.1.past); before = added.1.before })
-          ]
+          | inl inside ↦
+              (let d = (has.touched.each owner).0 (inside, was) in
+              let stays = stays_inside owner is in
+              (d.0, held_after made.pages sound.memory.memory d.0 owner d.1 stays, dirty_still d.0 owner d.1 stays d.2))
+          | inr added ↦ grown_dirty owner added.0 (record { grows = omega (arith, added.1.past, added.1.before); from = omega (arith, added.1.past); before = added.1.before })
+        ]
         | inr grown ↦
             (let long : length_of x owner.file ≡ made.to = ap (length_of x) grown.file_is ∙ length_there s p new made sound in
             grown_dirty owner grown.file_is (record { grows = grown.grows; from = grown.low; before = omega (arith, is.inside, long) }))

@@ -34,8 +34,7 @@ index_mut-requires g c =
 
 pub returns-clause-rules : goal.returns-clause-rules
 returns-clause-rules g c = λ disk.
-    let s = state_in c.args.self.now in
-    (
+    let s = state_in c.args.self.now in (
       c.requires.held.0,
       record {
         file = c.args.file;
