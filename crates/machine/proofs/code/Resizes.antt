@@ -23,6 +23,13 @@ small_capacity s sound file there = omega (arith, total_pages-within s.table.fil
 pub small_page : (s : State) → IsSound s → (file : ℕ) → file < length s.table.files → length_of s file / 4096 < 2 ^ 32
 small_page s sound file there = omega (arith, sound.within file, total_pages-within s.table.files file there, sound.fits.few_blocks)
 
+-- what `is_none` answers, said by its contract
+pub none_answered : (found : Option ℕ) (answer : Bool) → is_some found ≡ not answer → answer ≡ is_none found
+none_answered None true same = refl
+none_answered None false same = absurd (cc)
+none_answered (Some n) false same = refl
+none_answered (Some n) true same = absurd (cc)
+
 -- a growth from inside a page lacks it exactly where no frame is found for it
 pub lacks_by : (s : State) (file to old page : ℕ) (found : Option ℕ) → old ≡ length_of s file → page ≡ old / 4096 → old < to → (old % 4096 ≡ 0 → ⊥)
     → IfSome found (λ frame. page_of (frame_at s.hardware.memory frame) ≡ Some (record { file = file; page = page })) → IfNone found (HasNoFrame s.hardware.memory (record { file = file; page = page }))
