@@ -10,4 +10,8 @@ pub mod ReleaseLaws
 pub mod SpacesLaws
 pub mod Dirtiness
 pub mod Fresh
+pub mod Dropped
+pub mod Cuts
+pub mod Added
+pub mod Resized
 pub mod Public

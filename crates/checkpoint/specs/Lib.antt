@@ -1,3 +1,4 @@
 pub mod Checkpoint
+pub mod Resizing
 pub mod Backing
 pub mod inside

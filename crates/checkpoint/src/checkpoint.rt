@@ -1,22 +1,24 @@
 // The dirty and the frozen pages of a machine.
-ghost use Rattle.std.specs.Prelude.{◌≡◌, ◌<◌, ◌↔◌, ℕ, Bool, List, Some, None, [], length, IfOk, IsTrue, true, false, slice_index_or};
+ghost use Rattle.std.specs.Prelude.{◌≡◌, ◌-◌, ◌*◌, ◌^◌, ◌<◌, ◌≤◌, ◌↔◌, ℕ, Bool, List, Some, None, [], length, count_by, is_none, IsSome, IfOk, IsTrue, true, false, slice_index_or};
 ghost use Rattle.std.specs.FinMap as maps;
 ghost use Rattle.page_entry.specs.declared.numbers.FilePage.{FilePage};
-ghost use Rattle.frames.specs.Frames.{FramesState, without_copies};
+ghost use Rattle.frames.specs.Frames.{FramesState, frame_at, without_copies};
 ghost use Rattle.mappings.specs.Judgement.{is_user_range};
 ghost use Rattle.spaces.specs.Spaces.{Spaces as AddressSpaces, without_mapping, EditsEntries};
 ghost use Rattle.spaces.specs.Requests.{is_user_space};
 ghost use Rattle.spaces.specs.Changes.{without_entries_of};
 ghost use Rattle.checkpoint.specs.Checkpoint.{CheckpointState, fresh_checkpoint, is_frozen, is_held, is_copied, AreRising, Gathers, ProtectsNoted, without_notes, NotesTaken, IsInRange, IsInSpace, IsMappingOf, IsDirty, Holds, is_noted, without_copy_of, without_frozen_copies, AreCopiesOfFrozen, released, thawed};
 ghost use Rattle.checkpoint.specs.Backing.{AreBacked, HoldsEachOnce, HasNotes};
+ghost use Rattle.checkpoint.specs.Resizing.{PagesResized, pages};
 
 use crate::copies::{free_copies, free_copy, has_copy};
 use crate::notes::{
     has_dirty_entry, has_note, list_noted, note_all, note_page, note_range, note_space,
 };
+use crate::resizing::resize_pages;
 use frames::Frames;
 use mappings::PageRange;
-use page_entry::{FilePage, FrameNumber, Pcid};
+use page_entry::{FileNumber, FilePage, FrameNumber, Pcid};
 use spaces::Spaces;
 use std::alloc::{AllocError, Allocator, Global};
 use std::marker::Model;
@@ -213,6 +215,32 @@ impl<A: Allocator + Copy> Checkpoint<A> {
     {
         note_page(&mut self.notes, spaces, page);
         spaces.clear_entries_of(page);
+    }
+
+    /// The length of a file becomes another, both in bytes. The entries of pages that begin at or past the new end are
+    /// taken away and their frames become free, with no note. The bytes past the smaller length become zeros. Each page
+    /// that a growth adds gets a free frame of zeros, and the pages that it touches are noted: those that it adds, and
+    /// the one in which the file ended (POSIX.1-2024, `ftruncate`). Which free frames the added pages get stays open.
+    pub fn resize(
+        &mut self,
+        spaces: &mut Spaces<A>,
+        frames: &mut Frames<A>,
+        file: FileNumber,
+        old: u64,
+        to: u64,
+    )
+        requires notes { length self.old.notes ≡ length frames.old.frames }
+        requires noted { (frame : ℕ) → is_noted self.old frame ≡ true → IsSome (frame_at frames.old frame) }
+        requires backed { AreBacked frames.old self.old spaces.old.map }
+        requires inside { (frame : ℕ) (owner : FilePage) → Holds frames.old frame owner → owner.file ≡ file
+            → 4096 * owner.page < old }
+        requires room { pages to - pages old ≤ count_by is_none frames.old.frames }
+        requires small { (old ≤ 2 ^ 44) × (to ≤ 2 ^ 44) }
+        ensures resized { PagesResized spaces.old.map frames.old self.old file old to spaces.new.map frames.new
+            self.new }
+        ensures prepared { spaces.new.prepared ≡ spaces.old.prepared }
+    {
+        resize_pages(&mut self.notes, spaces, frames, file, old, to);
     }
 
     /// Whether the page in a frame is dirty: it got a store since the last mark.

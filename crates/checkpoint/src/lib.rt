@@ -5,5 +5,6 @@
 mod checkpoint;
 mod copies;
 mod notes;
+mod resizing;
 
 pub use checkpoint::Checkpoint;

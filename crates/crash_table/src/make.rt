@@ -94,7 +94,7 @@ fn has_unmarked(replies: &[Reply]) -> bool {
 // The same after one reply more.
 fn is_unmarked(before: bool, reply: &Reply) -> bool {
     match reply {
-        Reply::Stored => true,
+        Reply::Stored | Reply::Resized => true,
         Reply::Marked(_) => false,
         _ => before,
     }

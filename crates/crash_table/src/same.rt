@@ -59,6 +59,7 @@ fn is_same_mapping(left: &Reply, right: &Reply) -> bool
         (Reply::Unmapped, Reply::Unmapped) => true,
         (Reply::Protected, Reply::Protected) => true,
         (Reply::Reclaimed, Reply::Reclaimed) => true,
+        (Reply::Resized, Reply::Resized) => true,
         _ => false,
     }
 }
@@ -116,6 +117,7 @@ fn is_same_error(left: &Refusal, right: &Refusal) -> bool
         (Refusal::Overlap, Refusal::Overlap) => true,
         (Refusal::NoFile, Refusal::NoFile) => true,
         (Refusal::Busy, Refusal::Busy) => true,
+        (Refusal::NotResident, Refusal::NotResident) => true,
         (Refusal::TraceFull, Refusal::TraceFull) => true,
         (Refusal::OutOfMemory, Refusal::OutOfMemory) => true,
         (Refusal::NotAVolume, Refusal::NotAVolume) => true,

@@ -1,15 +1,15 @@
 -- The list of the frames in use, after each change of the frames.
-use Rattle.std.proofs.Common.{◌≡◌, ◌≢◌, ◌⊎◌, ◌+◌, ◌-◌, ◌<◌, ◌≤◌, ℕ, zero, suc, Bool, true, cond, List, [], ◌∷◌, length, get_or, set, ltb, All, replicate, Contains, Option, Some, None, is_some, is_none, IsSome, IfSome, IfNone, count_by, slice_get, refl, sym, ap, subst, ◌∙◌, inl, inr, ⊎_elim, arith}
+use Rattle.std.proofs.Common.{◌≡◌, ◌≢◌, ◌⊎◌, ◌+◌, ◌-◌, ◌<◌, ◌≤◌, ℕ, zero, suc, Bool, true, false, cond, List, [], ◌∷◌, length, get_or, set, ltb, All, replicate, Contains, Option, Some, None, is_some, is_none, IsSome, IfSome, IfNone, count_by, slice_get, refl, sym, ap, subst, ◌∙◌, inl, inr, ⊎_elim, arith}
 use Rattle.std.specs.List.{AllPairs, insert, remove}
 use Rattle.std.proofs.lemmas.Bool.{cases_lt, cases_eq, false≢true}
 use Rattle.std.proofs.lemmas.Bool.Decides.{nat_tests}
-use Rattle.std.proofs.lemmas.List.{get_or_default, length-set, length-replicate}
+use Rattle.std.proofs.lemmas.List.{get_or_default, get_or_past, length-set, length-replicate}
 use Rattle.std.proofs.lemmas.List.Edits.{get_or-insert_at, get_or-insert_below, get_or-insert_above, length-insert, get_or-remove_below, get_or-remove_above, length-remove}
 use Rattle.std.proofs.lemmas.List.Quantifiers.{all_pairs_remove}
 use Rattle.std.proofs.lemmas.List.Sums.{sum_by-cons}
 use Rattle.std.proofs.lemmas.Option.{slice_get_within}
 use Rattle.page_entry.specs.declared.numbers.FilePage.{FilePage}
-use Rattle.frames.specs.Frames.{Frame, FramesState, frame_at, page_of, bytes_of, overwrite_frame, has_free, has_used, with_page, without_frame, with_bytes, HasNoFrame, HasNoCopy, HasPageBefore, IsBefore, IsPage, AreFrames, AreInOrder}
+use Rattle.frames.specs.Frames.{Frame, FramesState, frame_at, page_of, bytes_of, overwrite_frame, has_free, has_used, with_page, without_frame, with_bytes, HasNoFrame, HasPageFrom, HasNoneFrom, HasNoCopy, HasPageBefore, IsBefore, IsPage, AreFrames, AreInOrder}
 use Rattle.frames.specs.inside.Pages.{comes_before}
 use Rattle.frames.specs.inside.Order.{IsListed, IsPlaceOf}
 use Rattle.frames.proofs.Orders.{IsBefore-irreflexive, IsBefore-total, IsBefore-comes_before, comes_before-IsBefore}
@@ -59,6 +59,19 @@ pub has_used-counted : {X : Type 0} (xs : List (Option X)) → has_used xs ≡ l
 has_used-counted [] = refl
 has_used-counted (None ∷ xs) = let same : count_by is_some (None ∷ xs) ≡ count_by is_some xs = omega (arith, count_cons is_some None xs) in rw same (has_used-counted xs)
 has_used-counted (Some x ∷ xs) = let one = count_cons is_some (Some x) xs in let some : 0 < count_by is_some (Some x ∷ xs) = omega (arith, one) in grind (arith, nat_tests)
+
+-- fewer are in use where one that was is free
+pub used_less : (s : FramesState) (frame : ℕ) → IsSome (frame_at s frame) → count_by is_some (without_frame s frame).frames < count_by is_some s.frames
+used_less s frame used =
+    ⊎_elim
+    (λ within. omega (arith, count_by-set is_some s.frames frame None None within, ap weight used))
+    (λ past. absurd (let none = get_or_past s.frames frame None past in cc))
+    (cases_lt frame (length s.frames))
+
+-- and one fewer is free where one that was is in use
+pub free_less : (s : FramesState) (frame : ℕ) (page : FilePage) (bytes : List ℕ) → slice_get s.frames frame ≡ Some None → count_by is_none (with_page s frame page bytes).frames + 1 ≡ count_by is_none s.frames
+free_less s frame page bytes free =
+    omega (arith, count_by-set is_none s.frames frame (Some (record { page = page; bytes = bytes })) None (slice_get_within s.frames frame None free), ap (λ f. weight (is_none f)) (frame_at-free s frame free))
 
 -- what is listed after an insert
 contains_insert : (xs : List ℕ) (i x n : ℕ) → i ≤ length xs → Contains (insert xs i x) n → (n ≡ x) ⊎ Contains xs n
@@ -161,6 +174,46 @@ module _ (s : FramesState) (order : List ℕ) (listed : AreInOrder s order) wher
   no_frame_elsewhere page place d is differs frame has =
       let here = place_of_page page place frame is has in
       differs (ap (λ n. page_of (frame_at s n)) (here.1 d) ∙ has)
+
+  -- the frame at a page's place has this page or a later one, if it has one of the file
+  pub has_page_from : (page owner : FilePage) (place frame : ℕ) → IsPlaceOf s.frames order page place → place < length order → ((d : ℕ) → get_or order place d ≡ frame) → page_of (frame_at s frame) ≡ Some owner → owner.file ≡ page.file → HasPageFrom s page frame
+  has_page_from page owner place frame is within at has same =
+      let never = is.parts.1 place 0 (omega arith) within in
+      let not_before : comes_before (Some owner) page ≡ false = ap (λ o. comes_before o page) (sym (ap (λ n. page_of (frame_at s n)) (at 0) ∙ has)) ∙ never in
+      record {
+        owner = owner;
+        has = has;
+        same_file = same;
+        from = ⊎_elim (λ less. absurd (false≢true (sym not_before ∙ comes_before-IsBefore owner page (inr (same, less))))) (λ from. from) (cases_lt owner.page page.page);
+      }
+
+  -- where the frame at a page's place has a page of another file, or there is none, no frame has such a page
+  pub has_none_from : (page : FilePage) (place : ℕ) → IsPlaceOf s.frames order page place
+      → (place < length order → (other : FilePage) × (page_of (frame_at s (get_or order place 0)) ≡ Some other) × (other.file ≢ page.file)) → HasNoneFrom s page
+  has_none_from page place is differs frame owner has same =
+      let there = (listed.used frame).1 (in_use_with_page (frame_at s frame) owner has) in
+      let k = there.0 in
+      let found : get_or order k 0 ≡ frame = get_or_default order k 0 frame there.1 ∙ there.2 in
+      let at_k : page_of (frame_at s (get_or order k 0)) ≡ Some owner = ap (λ n. page_of (frame_at s n)) found ∙ has in
+      ⊎_elim
+      (λ before.
+      let first = IsBefore-comes_before owner page (ap (λ o. comes_before o page) (sym at_k) ∙ is.parts.0 k 0 (omega arith) before) in
+      ⊎_elim (λ less. absurd (omega (arith, same))) (λ later. later.1) first)
+      (λ from.
+      let other = differs (omega (arith, there.1)) in
+      ⊎_elim
+      (λ here. absurd (other.2 (ap (λ (p : FilePage). p.file) (one_page other.0 owner (sym other.1 ∙ ap (λ n. page_of (frame_at s (get_or order n 0))) (sym here) ∙ at_k)) ∙ same)))
+      (λ elsewhere.
+      let rising = listed.rising place k 0 (omega (arith, elsewhere)) there.1 other.0 owner other.1 at_k in
+      let never = is.parts.1 place 0 (omega arith) (omega (arith, there.1)) in
+      let not_before : comes_before (Some other.0) page ≡ false = ap (λ o. comes_before o page) (sym other.1) ∙ never in
+      let not_lower : other.0.file < page.file → ⊥ = λ less. false≢true (sym not_before ∙ comes_before-IsBefore other.0 page (inl less)) in
+      ⊎_elim
+      (λ lower. ⊎_elim (λ less. absurd (not_lower less)) (λ le. absurd (omega (arith, lower, same, le))) (cases_lt other.0.file page.file))
+      (λ beside. absurd (other.2 (beside.0 ∙ same)))
+      rising)
+      (cases_eq k place))
+      (cases_lt k place)
 
 -- a frame gets a page that no frame has, and is listed at the page's place
 pub IsListed-with_page : (s : FramesState) (order : List ℕ) (room frame : ℕ) (page : FilePage) (bytes : List ℕ) (place : ℕ) → IsListed s order room → slice_get s.frames frame ≡ Some None → HasNoFrame s page → IsPage bytes → IsPlaceOf s.frames order page place → IsListed (with_page s frame page bytes) (insert order place frame) room

@@ -1,5 +1,5 @@
 -- What callers see of the frames of a machine: which are in use, for which page of which file, and with what bytes.
-use Rattle.std.specs.Prelude.{◌≡◌, ◌≢◌, ◌+◌, ◌<◌, ◌⊎◌, ◌↔◌, ℕ, Bool, List, [], ◌++◌, length, map, take, drop, replicate, Option, Some, None, is_none, is_some, IsSome, slice_index_or, slice_set, Contains}
+use Rattle.std.specs.Prelude.{◌≡◌, ◌≢◌, ◌+◌, ◌<◌, ◌≤◌, ◌⊎◌, ◌↔◌, ℕ, Bool, List, [], ◌++◌, length, map, take, drop, replicate, Option, Some, None, is_none, is_some, IsSome, slice_index_or, slice_set, Contains}
 use Rattle.std.specs.List.{list_any, All, AllPairs}
 use Rattle.page_entry.specs.declared.numbers.FilePage.{FilePage}
 
@@ -90,6 +90,18 @@ without_copies s = record s { copies = map (λ copy. None) s.copies }
 -- no frame has the page
 abbrev pub HasNoFrame : FramesState → FilePage → Type 0
 HasNoFrame s page = (frame : ℕ) → page_of (frame_at s frame) ≢ Some page
+
+-- a frame has a page of the same file, this one or a later one
+pub record HasPageFrom (s : FramesState) (page : FilePage) (frame : ℕ) : Type 0 where
+  pub owner : FilePage
+  pub has : page_of (frame_at s frame) ≡ Some owner
+  pub same_file : owner.file ≡ page.file
+  pub from : page.page ≤ owner.page
+
+-- no frame has: the pages of the file that are in memory come before
+abbrev pub HasNoneFrom : FramesState → FilePage → Type 0
+HasNoneFrom s page = (frame : ℕ) (owner : FilePage) → page_of (frame_at s frame) ≡ Some owner
+    → owner.file ≡ page.file → owner.page < page.page
 
 -- no copy has the page
 abbrev pub HasNoCopy : FramesState → FilePage → Type 0

@@ -4,7 +4,7 @@
 
 ghost use Rattle.std.specs.Prelude.{◌≡◌, ◌&&◌, not, nat_lt, ◌+◌, ◌≤◌, length, Some, None, IfOk, IfErr, IfSome, IfNone, IsSome, is_ok, is_none, slice_get, count_by};
 ghost use Rattle.page_entry.specs.declared.numbers.FilePage.{FilePage};
-ghost use Rattle.frames.specs.Frames.{frame_at, copy_at, page_of, bytes_of, has_free, has_used, zero_page, all_free, with_page, without_frame, with_bytes, with_copy, without_copy, HasNoFrame, HasNoCopy, AreFrames, AreInOrder};
+ghost use Rattle.frames.specs.Frames.{frame_at, copy_at, page_of, bytes_of, has_free, has_used, zero_page, all_free, with_page, without_frame, with_bytes, with_copy, without_copy, HasNoFrame, HasPageFrom, HasNoneFrom, HasNoCopy, AreFrames, AreInOrder};
 
 mod guesses;
 mod order;
@@ -120,6 +120,21 @@ impl<A: Allocator + Copy> Frames<A> {
             Some(frame)
         } else {
             None
+        }
+    }
+
+    /// A frame that has this page or a later one of the same file: the frame of the first of them. None where no frame
+    /// has such a page.
+    pub fn find_from(&self, page: FilePage) -> Option<FrameNumber>
+        ensures found { IfSome result (HasPageFrom self.now page) }
+        ensures none { IfNone result (HasNoneFrom self.now page) }
+        ensures are { AreFrames self.now }
+    {
+        let place = place_of(&self.frames, &self.order, page);
+        let frame = *self.order.get(place)?;
+        match self.frames.page(frame) {
+            Some(owner) if owner.file == page.file => Some(frame),
+            _ => None,
         }
     }
 

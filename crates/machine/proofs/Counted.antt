@@ -16,7 +16,7 @@ use Rattle.journal.specs.WriteOuts.{current}
 use Rattle.machine.specs.declared.act.Act.TheVariants as acts
 use Rattle.machine.specs.declared.act.Reply.TheVariants as replies
 use Rattle.machine.specs.Rules.{next_record}
-use Rattle.machine.specs.inside.Moves.{Flushed as Stepped}
+use Rattle.machine.specs.inside.Moves.{Flushed as Stepped, Resized}
 use Rattle.machine.proofs.sound.ByMark.{marked_sound}
 use Rattle.machine.proofs.sound.Waiting.{blocks}
 use Rattle.machine.proofs.durable.Uncommitted.{none_when_done}
@@ -257,6 +257,7 @@ module _ (n : ℕ) (batch : Batch) (its : batch.mark ≡ n) (g : GeometryValue) 
     more_marks : Performed s disk p act reply new disk' → n ≤ s.marks → n ≤ new.marks
     more_marks (Moved by) le = omega (arith, le, (moves_leave disk s by.says new sound by.moves).1)
     more_marks (Marked number act_is reply_is made same_disk) le = let same : new.marks ≡ number = ap (λ (x : State). x.marks) made.done in omega (arith, le, same, made.next)
+    more_marks (Resized act_is reply_is made same_disk) le = let same = ap (λ (x : State). x.marks) made.done in omega (arith, le, same)
     more_marks (Stepped act_is by fine) le = let same = ap (λ (x : State). x.marks) by.made.done ∙ either (is_page_next s) in omega (arith, le, same)
       where
         either : (b : Bool) → (cond b (after_record s) s).marks ≡ s.marks
@@ -274,6 +275,8 @@ module _ (n : ℕ) (batch : Batch) (its : batch.mark ≡ n) (g : GeometryValue) 
     stands_next (Marked number act_is reply_is made same_disk) le works st =
         idles (with_batch s number (mark_homes s made.pages)) works (ap (λ (x : State). x.write_outs) made.done) (λ i. step_work s (act_is i) (reply_is i))
         (marked s works number (mark_homes s made.pages) (λ same. absurd (omega (arith, le, made.next, same))) st)
+    stands_next (Resized act_is reply_is made same_disk) le works st =
+        idles s.write_outs works (ap (λ (x : State). x.write_outs) made.done) (λ i. step_work s (act_is i) (reply_is i)) st
     stands_next (Stepped act_is by fine) le works st =
         let goes = step_goes (next_answer s.write_outs) reply by.answered fine in
         let whole = whole_answer s.write_outs goes in

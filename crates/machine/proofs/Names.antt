@@ -12,6 +12,7 @@ pub use Rattle.checkpoint.specs.Checkpoint.{AreRising, CheckpointState, Gathers,
 pub use Rattle.checkpoint.specs.Checkpoint.{NotesTaken, ProtectsNoted, freed_copy, fresh_checkpoint, is_copied}
 pub use Rattle.checkpoint.specs.Checkpoint.{is_frozen, is_held, is_noted, is_of_page, released, same_page, thawed}
 pub use Rattle.checkpoint.specs.Checkpoint.{without_copy_of, without_notes, HasDirtyEntry}
+pub use Rattle.checkpoint.specs.Resizing.{IsAdded, IsGrown, PagesResized, cut_frame, cut_page, is_past}
 pub use Rattle.cpu.specs.Access.{AccessRefused, Evicts, Faults, Fills, Hardware, IsAccess, IsReachable, LoadMade}
 pub use Rattle.cpu.specs.Access.{StoreMade, Stores, cached_of, filled_by, hardware, serves, translated, translated_by}
 pub use Rattle.cpu.specs.Access.{walk, walked, walked_to}
@@ -68,21 +69,22 @@ pub use Rattle.machine.specs.Laws.{LeadsTo, LoadsLatest, ReadsBack, ServesNext, 
 pub use Rattle.machine.specs.Laws.{told_at_start}
 pub use Rattle.machine.specs.OnTrack.{IsOnTrack}
 pub use Rattle.machine.specs.Refusals.{first_of, is_absent, is_msync, mapping_refusal, pages_in_file, reads_page}
+pub use Rattle.machine.specs.Refusals.{lacks_frames, lacks_last_page, length_refusal, resize_refusal}
 pub use Rattle.machine.specs.Refusals.{reason_against, refuse_if, served_refusal, why_not}
-pub use Rattle.machine.specs.Rules.{Accesses, Acts, Answers, FixMade, FlushFailed, FlushMade, MarkMade, MayChange}
+pub use Rattle.machine.specs.Rules.{Accesses, Acts, Answers, FixMade, FlushFailed, FlushMade, MarkMade, MayChange, ResizeMade}
 pub use Rattle.machine.specs.Rules.{MayLeave, ProtectMade, ReclaimKept, ReclaimMade, Refuses, Rules}
 pub use Rattle.machine.specs.Rules.{SpaceDestroyed, UnmapMade, WantsMemory}
 pub use Rattle.machine.specs.Rules.{after_failure, after_record, begin_change, bytes_at_mark, bytes_with, end_change}
 pub use Rattle.machine.specs.Rules.{next_page, with_batch, with_hardware, with_shootdown, with_spaces}
 pub use Rattle.machine.specs.Rules.{is_page_next, mark_homes, work_asked}
 pub use Rattle.machine.specs.Runs.{StepTaken, StepsTaken}
-pub use Rattle.machine.specs.State.{State, Whole, cut_at_end, home_of, length_of, page_from, part}
+pub use Rattle.machine.specs.State.{State, Whole, capacity_of, cut_at_end, home_of, length_of, page_from, part}
 pub use Rattle.machine.specs.Steps.{StepMade, step_work, told_first}
 pub use Rattle.machine.specs.Stops.{IsAcknowledged, IsNew, IsOld, Stops, StopsBefore, StopsInStep, StopsWithin}
 pub use Rattle.machine.specs.Sums.{AskFor, CallsAddUp, asked_for, listed_work}
 pub use Rattle.machine.specs.Told.{Pending, Protecting, Told, Unmapping, begun_by, begun_protect, begun_unmap, changed}
 pub use Rattle.machine.specs.Told.{ended_by, length_told, mapped_in, offset_at, place_told, places_in, store_at, tell}
-pub use Rattle.machine.specs.Told.{tell_all}
+pub use Rattle.machine.specs.Told.{Resizing, resized_at, tell_all}
 pub use Rattle.machine.specs.declared.act.Act.{Act}
 pub use Rattle.machine.specs.declared.act.Reply.{Reply}
 pub use Rattle.machine.specs.declared.act.Shape.{Shape}
@@ -101,7 +103,7 @@ pub use Rattle.machine.specs.inside.Moves.{Performed, Remap, Replace, ReplacesPr
 pub use Rattle.machine.specs.inside.Moves.{HasStepped, SameDirty, Saying, Silent, Store, StoresBytes, Storing, effect_of}
 pub use Rattle.machine.specs.inside.Moves.{ending_of, reply_to, said, said_all}
 pub use Rattle.machine.specs.inside.Sound.{AreOlderCommitted, AreSpacesSound, AreWriteOutsSound, IsMemory}
-pub use Rattle.machine.specs.inside.Sound.{IsMemorySound, IsPrepared, IsSound, IsSource, capacity_of}
+pub use Rattle.machine.specs.inside.Sound.{IsMemorySound, IsPrepared, IsSound, IsSource, IsResizable}
 pub use Rattle.machine.specs.inside.Tracking.{AreContentsOf, AreMarks, ArePlain, AreTouched}
 pub use Rattle.machine.specs.inside.Tracking.{HasAcknowledged, HasFiles}
 pub use Rattle.machine.specs.inside.Tracking.{HasParts, IsArranged, IsLatest, IsLost, IsTracked, IsWaiting, IsWritten}
@@ -177,7 +179,7 @@ pub use Rattle.spaces.specs.declared.change.Change.{Change}
 pub use Rattle.spaces.specs.declared.change.Change.TheVariants.{Checkpoint, Protect, Reclaim, Unmap}
 pub use Rattle.std.proofs.Common.{Bool, Err, IsSome, List, MatchResult, None, Ok, Option, Result, Some, [], ap}
 pub use Rattle.std.proofs.Common.{append_assoc, arith, cond, drop, eqb, false, get_or, if◌then◌else◌, inl, inr, is_err}
-pub use Rattle.std.proofs.Common.{is_none, is_some, leb, length, map, nat_le, not, refl, replicate, set, slice_get}
+pub use Rattle.std.proofs.Common.{is_none, is_some, leb, ltb, length, map, nat_le, not, refl, replicate, set, slice_get}
 pub use Rattle.std.proofs.Common.{slice_index, subst, suc, sum_by, sym, take, true, unwrap_or, zero, ℕ, ⊎_elim, ◌%◌}
 pub use Rattle.std.proofs.Common.{◌&&◌, ◌*◌, ◌++◌, ◌+◌, ◌-◌, ◌/◌, ◌<◌, ◌==◌, ◌^◌, ◌||◌, ◌↔◌, ◌∙◌, ◌∷◌, ◌≡◌, ◌≢◌, ◌≤◌}
 pub use Rattle.std.proofs.Common.{◌⊎◌}

@@ -1,3 +1,4 @@
+pub mod Lists
 pub mod Marks
 pub mod Records
 pub mod Flushes
@@ -9,3 +10,4 @@ pub mod Sums
 pub mod Refusals
 pub mod Parts
 pub mod Freshness
+pub mod Resizes

@@ -2,6 +2,7 @@ pub mod Lists
 pub mod Histories
 pub mod Pages
 pub mod Homes
+pub mod Cuts
 pub mod Uncommitted
 pub mod Marks
 pub mod Flushes
@@ -10,3 +11,4 @@ pub mod ReadsBack
 pub mod Steps
 pub mod AtStart
 pub mod Later
+pub mod Resized

@@ -14,3 +14,5 @@ pub mod AtBoot
 pub mod Replies
 pub mod Uses
 pub mod Records
+pub mod ResizedPages
+pub mod ByResize

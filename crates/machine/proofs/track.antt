@@ -6,3 +6,4 @@ pub mod Pages
 pub mod Moved
 pub mod Faults
 pub mod Lawful
+pub mod Resized

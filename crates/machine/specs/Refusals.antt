@@ -1,6 +1,6 @@
 -- Why an act is refused: of the reasons that hold, the first in this order is answered (POSIX.1-2024 for the calls on
 -- mappings; the order is this project's own). The reasons of processors and of the lock are those of the shootdown.
-use Rattle.std.specs.Prelude.{ℕ, ◌+◌, ◌-◌, ◌%◌, ◌^◌, ◌==◌, ◌&&◌, ◌||◌, not, nat_le, Bool, true, false, List, [], ◌∷◌, length, Option, Some, None, is_none, Result, Ok, Err, if◌then◌else◌}
+use Rattle.std.specs.Prelude.{ℕ, ◌+◌, ◌-◌, ◌/◌, ◌%◌, ◌^◌, ◌==◌, ◌&&◌, ◌||◌, not, nat_lt, nat_le, Bool, true, false, List, [], ◌∷◌, count_by, length, Option, Some, None, is_none, Result, Ok, Err, if◌then◌else◌}
 use Rattle.std.specs.Option.{option_or}
 use Rattle.page_entry.specs.declared.refusal.Refusal.{Refusal}
 use Rattle.page_entry.specs.declared.refusal.Refusal.TheVariants as refusals
@@ -9,6 +9,7 @@ use Rattle.mappings.specs.declared.place.Rights.{Rights}
 use Rattle.mappings.specs.declared.page_range.PageRange.{PageRange}
 use Rattle.mappings.specs.Judgement.{add_refusal}
 use Rattle.volume_codec.specs.Files.{TableFile}
+use Rattle.volume_codec.specs.Layout.{lengths_blocks}
 use Rattle.volume_codec.specs.Super.{pages_of}
 use Rattle.spaces.specs.Spaces.{space_at}
 use Rattle.spaces.specs.Requests.{judged_range, judged_mapping, judged_protection, maps_each}
@@ -19,7 +20,7 @@ use Rattle.fault.specs.Fault.{is_in_memory, place_of_fault, fault_refusal}
 use Rattle.journal.specs.WriteOuts.{is_busy}
 use Rattle.machine.specs.declared.act.Act.{Act}
 use Rattle.machine.specs.declared.act.Act.TheVariants as acts
-use Rattle.machine.specs.State.{State, length_of}
+use Rattle.machine.specs.State.{State, capacity_of, length_of}
 
 -- this reason, if this holds
 abbrev pub refuse_if : Bool → Refusal → Option Refusal
@@ -55,6 +56,34 @@ abbrev pub is_msync : ℕ → ℕ → ℕ → Bool
 is_msync va len flags =
     (flags == 1 || flags == 3 || flags == 4 || flags == 6) && va % 4096 == 0 && nat_le (va + len) (2 ^ 47)
 
+-- of a file's new length, whatever the length was: the volume's layout has no room for lengths; no such file; the
+-- file's home blocks don't reach so far
+abbrev pub length_refusal : State → ℕ → ℕ → Option Refusal
+length_refusal s file to =
+    first_of (refuse_if (lengths_blocks s.table.layout == 0) refusals.Einval
+    ∷ refuse_if (nat_le (length s.table.files) file) refusals.NoFile
+    ∷ refuse_if (nat_lt (capacity_of s file) to) refusals.Einval ∷ [])
+
+-- whether a file is to grow from inside a page that isn't in memory
+abbrev pub lacks_last_page : State → ℕ → ℕ → Bool
+lacks_last_page s file to =
+    nat_lt (length_of s file) to && not (length_of s file % 4096 == 0)
+    && not (is_in_memory s.hardware.memory (record { file = file; page = length_of s file / 4096 }))
+
+-- whether fewer frames are free than a file's growth adds pages
+abbrev pub lacks_frames : State → ℕ → ℕ → Bool
+lacks_frames s file to =
+    nat_lt (count_by is_none s.hardware.memory.frames) (pages_of to - pages_of (length_of s file))
+
+-- of a change of a file's length: the machine is broken; a batch isn't done; the page in which the file ends isn't in
+-- memory; too few frames are free
+abbrev pub resize_refusal : State → ℕ → ℕ → Option Refusal
+resize_refusal s file to =
+    first_of (refuse_if s.write_outs.broken refusals.Broken
+    ∷ refuse_if (nat_lt 0 (length s.write_outs.batches)) refusals.Busy
+    ∷ refuse_if (lacks_last_page s file to) refusals.NotResident
+    ∷ refuse_if (lacks_frames s file to) refusals.NoFrame ∷ [])
+
 -- a fault that leads to a place, or doesn't
 abbrev pub served_refusal : State → Bool → Result Place Refusal → Option Refusal
 served_refusal s write (Err why) = Some why
@@ -77,6 +106,10 @@ reasons_when_free s p (acts.Protect pcid va len prot) =
 reasons_when_free s p (acts.Reclaim file page) =
     refuse_if (nat_le (length s.table.files) file) refusals.NoFile
     ∷ refuse_if (nat_le (pages_in_file s.table.files file) page) refusals.Einval ∷ []
+-- those of the length itself; those of a change, where it isn't the file's length already
+reasons_when_free s p (acts.SetLength file to) =
+    length_refusal s file to
+    ∷ (if to == length_of s file then None else resize_refusal s file to) ∷ []
 -- the range or the flags; a page of the range isn't mapped in the current space; the machine is broken; no further
 -- batch may begin, or marks have come to 2^32 - 1
 reasons_when_free s p (acts.Msync va len flags) =

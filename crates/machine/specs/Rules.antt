@@ -3,7 +3,7 @@
 -- where one of its calls fails, also where that call is a read; which free frame or copy frame is taken; and whether a
 -- growth of memory is refused. Sources: POSIX.1-2024 (mmap, munmap, mprotect, msync), Intel SDM volume 3 (4-level
 -- paging, TLBs, PCIDs), Black and others 1989 (shootdown), Park, Kelly and Shen 2013 (failure-atomic msync).
-use Rattle.std.specs.Prelude.{ℕ, ◌≡◌, ◌≢◌, ◌+◌, ◌/◌, ◌<◌, ◌⊎◌, nat_le, Bool, true, false, not, List, [], ◌∷◌, ◌++◌, map, Option, Some, None, Ok, Err, slice_index_or, if◌then◌else◌}
+use Rattle.std.specs.Prelude.{ℕ, ◌≡◌, ◌≢◌, ◌+◌, ◌/◌, ◌<◌, ◌⊎◌, nat_le, Bool, true, false, not, List, [], ◌∷◌, ◌++◌, map, Option, Some, None, Ok, Err, slice_index_or, slice_set, if◌then◌else◌}
 use Rattle.std.specs.Option.{option_map_or}
 use Rattle.std.specs.FinMap as maps
 use Rattle.page_entry.specs.declared.numbers.FilePage.{FilePage}
@@ -31,13 +31,14 @@ use Rattle.shootdown.specs.Calls.{change_refusal}
 use Rattle.cpu.specs.Access.{Hardware, Loads, Stores, Fills, Evicts}
 use Rattle.checkpoint.specs.Checkpoint.{CheckpointState, Holds, IsDirty, Gathers, ProtectsNoted, NotesTaken, IsInRange, IsInSpace, same_page, without_notes, without_copy_of, released, thawed}
 use Rattle.checkpoint.specs.Backing.{page_at}
+use Rattle.checkpoint.specs.Resizing.{PagesResized}
 use Rattle.fault.specs.Fault.{FaultServed, is_in_memory, place_of_fault}
 use Rattle.machine.specs.declared.act.Act.{Act}
 use Rattle.machine.specs.declared.act.Act.TheVariants as acts
 use Rattle.machine.specs.declared.act.Reply.{Reply}
 use Rattle.machine.specs.declared.act.Reply.TheVariants as replies
 use Rattle.machine.specs.declared.act.Step.{Step}
-use Rattle.machine.specs.State.{State, home_of, cut_at_end, page_from}
+use Rattle.machine.specs.State.{State, length_of, home_of, cut_at_end, page_from}
 use Rattle.machine.specs.Refusals.{reason_against, reads_page}
 
 -- the machine with this hardware, and all else as it was
@@ -191,6 +192,22 @@ pub record ReclaimKept (s : State) (p : ℕ) (new : State) : Type 0 where
   pub may : MayChange s p (changes.Reclaim owner)
   pub stays : (frame : ℕ) → MayLeave s owner frame → ⊥
   pub done : new ≡ end_change s p s.hardware.spaces s.hardware.memory s.checkpoint
+
+-- processor p made the change of a file's length that it had begun: pages past the end left memory, bytes past it are
+-- zeros, and the pages that a growth touches are in memory and dirty
+pub record ResizeMade (s : State) (p : ℕ) (new : State) : Type 0 where
+  pub file : ℕ
+  pub to : ℕ
+  pub may : MayChange s p (changes.SetLength file to)
+  pub spaces : Spaces
+  pub memory : FramesState
+  pub checkpoint : CheckpointState
+  pub pages : PagesResized s.hardware.spaces s.hardware.memory s.checkpoint file (length_of s file) to
+      spaces memory checkpoint
+  pub done : new ≡ record (end_change s p spaces memory checkpoint) {
+    lengths = slice_set s.lengths file to;
+    resized = true;
+  }
 
 -- the home blocks that a mark of these pages writes: the one of the lengths first, if a length was set since the last
 -- mark
@@ -351,6 +368,10 @@ Does s disk p (acts.Reclaim file page) replies.Begun new =
     × (new ≡ begin_change s p (changes.Reclaim (record { file = file; page = page })))
 Does s disk p (acts.Reclaim file page) replies.Nothing new =
     (is_in_memory s.hardware.memory (record { file = file; page = page }) ≡ false) × (new ≡ s)
+-- it begins to change the length of a file, if it is another
+Does s disk p (acts.SetLength file to) replies.Begun new =
+    (to ≢ length_of s file) × (new ≡ begin_change s p (changes.SetLength file to))
+Does s disk p (acts.SetLength file to) replies.Fine new = (to ≡ length_of s file) × (new ≡ s)
 -- it begins a commit of all stores, also of those outside the range; va, len and flags only decide whether it is
 -- refused
 Does s disk p (acts.Msync va len flags) replies.Begun new = new ≡ begin_change s p changes.Checkpoint
@@ -359,6 +380,7 @@ Does s disk p acts.Change replies.Unmapped new = UnmapMade s p new
 Does s disk p acts.Change replies.Protected new = ProtectMade s p new
 Does s disk p acts.Change replies.Reclaimed new = ReclaimMade s p new
 Does s disk p acts.Change replies.Kept new = ReclaimKept s p new
+Does s disk p acts.Change replies.Resized new = ResizeMade s p new
 Does s disk p acts.Change (replies.Marked number) new = MarkMade s p number new
 Does s disk p acts.Change replies.Nothing new = (s.hardware.shootdown.lock ≡ None) × (new ≡ s)
 -- each batch is done

@@ -1,5 +1,5 @@
 -- What contracts see of a machine: the states of its layers.
-use Rattle.std.specs.Prelude.{ℕ, Bool, ◌-◌, ◌*◌, ◌+◌, List, take, slice_index_or}
+use Rattle.std.specs.Prelude.{ℕ, Bool, ◌-◌, ◌*◌, ◌+◌, List, map, take, slice_index_or}
 use Rattle.page_entry.specs.declared.numbers.FilePage.{FilePage}
 use Rattle.volume_codec.specs.Super.{SuperValue, first_home_of}
 use Rattle.volume_codec.specs.Text.{padded}
@@ -28,6 +28,10 @@ pub record Whole (D : Type 0) : Type 0 where
 -- the length of a file in bytes
 abbrev pub length_of : State → ℕ → ℕ
 length_of s file = slice_index_or s.lengths file 0
+
+-- the greatest length that the file with this number may have
+abbrev pub capacity_of : State → ℕ → ℕ
+capacity_of s file = slice_index_or (map (λ f. f.capacity) s.table.files) file 0
 
 -- the home block of a page of a file
 abbrev pub home_of : SuperValue → FilePage → ℕ

@@ -14,12 +14,13 @@ use Rattle.machine.specs.declared.act.Act.TheVariants as acts
 use Rattle.machine.specs.declared.act.Reply.{Reply}
 use Rattle.machine.specs.declared.act.Reply.TheVariants as replies
 use Rattle.machine.specs.declared.act.Step.{Step}
-use Rattle.machine.specs.History.{Event, Store, Mark, Acknowledge, has_unmarked}
+use Rattle.machine.specs.History.{Event, Store, SetLength, Mark, Acknowledge, has_unmarked}
 
--- an unmap or a protect that was begun and takes effect at the change that ends it
+-- an unmap, a protect or a change of a file's length that was begun and takes effect at the change that ends it
 pub data Pending : Type 0 where
   Unmapping : (space : ℕ) (range : PageRange) → Pending
   Protecting : (space : ℕ) (range : PageRange) (rights : Rights) → Pending
+  Resizing : (file to : ℕ) → Pending
 
 -- What the steps and replies of a run have told so far: the place of each mapped page of each space that there is; the
 -- current space of each processor; of each processor, whether it goes on with loads and stores (from when it resumes,
@@ -74,6 +75,7 @@ changed told (Some (Unmapping space range)) =
     with_places told space (without_range (places_in told space) range.first range.count)
 changed told (Some (Protecting space range rights)) =
     with_places told space (with_rights (places_in told space) range.first range.count rights)
+changed told (Some (Resizing file to)) = record told { lengths = slice_set told.lengths file to }
 
 -- the offset in the file of an address that leads to this place
 abbrev pub offset_at : Place → ℕ → ℕ
@@ -84,12 +86,18 @@ abbrev pub store_at : Option Place → ℕ → List ℕ → List Event
 store_at None va bytes = []
 store_at (Some place) va bytes = Store place.file (offset_at place va) bytes ∷ []
 
--- what an act of processor p and its reply add to the history: a mark after which nothing was stored since the former
--- one is durable at once
+-- the change of a length that was begun and is made
+abbrev pub resized_at : Told → Option Pending → List Event
+resized_at told (Some (Resizing file to)) = SetLength file (length_told told file) to ∷ []
+resized_at told pending = []
+
+-- what an act of processor p and its reply add to the history: a mark is durable at once if nothing was
+-- stored and no length was changed since the former one
 abbrev pub events_of : Told → ℕ → Act → Reply → List Event
 events_of told p (acts.Store va bytes) replies.Stored = store_at (place_told told p va) va bytes
 events_of told p act (replies.Marked number) =
     Mark number ∷ (if has_unmarked told.history then [] else Acknowledge number ∷ [])
+events_of told p act replies.Resized = resized_at told told.pending
 events_of told p act (replies.Committed number) = Acknowledge number ∷ []
 events_of told p act reply = []
 
@@ -115,9 +123,11 @@ arranged told p (acts.Map space va len file offset prot access) replies.Mapped =
 arranged told p (acts.Unmap space va len) replies.Begun = begun_by told p (begun_unmap space (range_of_bytes va len))
 arranged told p (acts.Protect space va len prot) replies.Begun =
     begun_by told p (begun_protect space prot (range_of_bytes va len))
+arranged told p (acts.SetLength file to) replies.Begun = begun_by told p (Some (Resizing file to))
 arranged told p act replies.Begun = begun_by told p None
 arranged told p act replies.Unmapped = ended_by (changed told told.pending) p
 arranged told p act replies.Protected = ended_by (changed told told.pending) p
+arranged told p act replies.Resized = ended_by (changed told told.pending) p
 arranged told p act replies.Reclaimed = ended_by told p
 arranged told p act replies.Kept = ended_by told p
 arranged told p act (replies.Marked number) = ended_by told p

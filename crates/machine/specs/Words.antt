@@ -4,7 +4,7 @@ use Rattle.std.specs.List.{flat_map}
 use Rattle.std.specs.Fmt.{decimal}
 use Rattle.page_entry.specs.Refusal.{words_of}
 use Rattle.machine.specs.declared.act.Reply.{Reply}
-use Rattle.machine.specs.declared.act.Reply.TheVariants.{Bytes, Stored, Filled, Evicted, Switched, Idled, Woken, Fixed, Space, Destroyed, Mapped, Begun, Fine, Unmapped, Protected, Reclaimed, Kept, Marked, Acked, Resumed, Going, Committed, Done, Nothing, Refused}
+use Rattle.machine.specs.declared.act.Reply.TheVariants.{Bytes, Stored, Filled, Evicted, Switched, Idled, Woken, Fixed, Space, Destroyed, Mapped, Begun, Fine, Unmapped, Protected, Resized, Reclaimed, Kept, Marked, Acked, Resumed, Going, Committed, Done, Nothing, Refused}
 
 -- numbers in decimal digits, each after one space
 abbrev pub numbers_text : List ℕ → List ℕ
@@ -28,6 +28,7 @@ reply_text Begun = codes "begun"
 reply_text Fine = codes "fine"
 reply_text Unmapped = codes "unmapped"
 reply_text Protected = codes "protected"
+reply_text Resized = codes "resized"
 reply_text Reclaimed = codes "reclaimed"
 reply_text Kept = codes "kept"
 reply_text (Marked mark) = codes "marked " ++ decimal mark

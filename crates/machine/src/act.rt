@@ -86,6 +86,12 @@ pub enum Act {
         file: FileNumber,
         page: PageIndex,
     },
+    /// Begins to give a file this length in bytes, up to its capacity (POSIX.1-2024, `ftruncate`). Only volumes of layout
+    /// 3 have room for lengths that change.
+    SetLength {
+        file: FileNumber,
+        length: u64,
+    },
     /// Begins a commit of all stores (POSIX.1-2024, `msync`). `flags`: 1 `MS_ASYNC`, 2 `MS_INVALIDATE`, 4 `MS_SYNC`.
     Msync {
         va: u64,
@@ -136,12 +142,14 @@ pub enum Reply {
     Mapped,
     /// The change was begun, and takes place at `Change`.
     Begun,
-    /// Nothing was mapped in the range, so there is nothing to unmap.
+    /// Nothing was mapped in the range, so there is nothing to unmap; or the file has the length already.
     Fine,
     /// The range isn't mapped any more.
     Unmapped,
     /// The range has the rights that were asked for.
     Protected,
+    /// The file has the length that was asked for; bytes past the smaller of the old and the new one are zeros.
+    Resized,
     /// The page isn't in memory any more.
     Reclaimed,
     /// The page couldn't leave memory.
@@ -188,6 +196,7 @@ impl fmt::Display for Reply {
             Reply::Fine => f.write_str("fine"),
             Reply::Unmapped => f.write_str("unmapped"),
             Reply::Protected => f.write_str("protected"),
+            Reply::Resized => f.write_str("resized"),
             Reply::Reclaimed => f.write_str("reclaimed"),
             Reply::Kept => f.write_str("kept"),
             Reply::Marked(mark) => write!(f, "marked {mark}"),

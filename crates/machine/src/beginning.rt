@@ -1,17 +1,19 @@
 // Changes that are begun: they take place once nobody uses what they affect.
-ghost use Rattle.std.specs.Prelude.{ℕ, List, ◌≡◌, ◌-◌, ◌^◌, ◌||◌, nat_le};
+ghost use Rattle.std.specs.Prelude.{ℕ, List, ◌≡◌, ◌<◌, ◌≤◌, ◌-◌, ◌^◌, ◌||◌, nat_le, length as count, None, Some, IfOk, IfErr};
 ghost use Rattle.journal.specs.WriteOuts.{is_busy};
-ghost use Rattle.machine.specs.Refusals.{is_msync};
-ghost use Rattle.machine.specs.declared.act.Act.TheVariants.{Unmap, Protect, Reclaim, Msync};
+ghost use Rattle.machine.specs.State.{capacity_of};
+ghost use Rattle.machine.specs.Refusals.{is_msync, lacks_last_page, lacks_frames, length_refusal, resize_refusal};
+ghost use Rattle.machine.specs.inside.Sound.{IsSound};
+ghost use Rattle.machine.specs.declared.act.Act.TheVariants.{Unmap, Protect, Reclaim, SetLength, Msync};
 ghost use Rattle.machine.specs.Rules.{Answers};
 ghost use Rattle.machine.specs.inside.Layers.{state_in, reply_to, IsQuiet};
 
 use crate::Reply;
 use crate::layers::Layers;
-use crate::paging::pages_in_file;
+use crate::paging::{pages_for, pages_in_file};
 use device::Device;
 use mappings::Rights;
-use page_entry::{FilePage, PAGE, Pcid, ProcessorNumber, Refusal};
+use page_entry::{FileNumber, FilePage, PAGE, Pcid, ProcessorNumber, Refusal};
 use spaces::Change;
 use std::alloc::Allocator;
 
@@ -93,6 +95,97 @@ impl<D: Device, A: Allocator + Copy> Layers<D, A> {
         }
         self.shootdown
             .begin(p, &self.spaces, Change::Reclaim { page });
+        Ok(Reply::Begun)
+    }
+
+    // Whether a file may have this length at all.
+    fn admit_length(&self, file: FileNumber, length: u64) -> Result<(), Refusal>
+        ensures ok { IfOk result (λ fine. length_refusal (state_in self.now) file length ≡ None) }
+        ensures err { IfErr result (λ why. length_refusal (state_in self.now) file length ≡ Some why) }
+    {
+        if self.table.geometry().layout().lengths_blocks() == 0 {
+            return Err(Refusal::Einval);
+        }
+        if file as usize >= self.table.file_count() {
+            return Err(Refusal::NoFile);
+        }
+        if length > self.table.capacity(file as usize) {
+            return Err(Refusal::Einval);
+        }
+        Ok(())
+    }
+
+    // Whether a file is to grow from inside a page that isn't in memory.
+    fn lacks_last_page(&self, file: FileNumber, length: u64) -> bool
+        requires sound { IsSound (state_in self.now) }
+        requires there { file < count self.now.table.files }
+        ensures { result ≡ lacks_last_page (state_in self.now) file length }
+    {
+        let old = self.file_length(file);
+        if length <= old {
+            return false;
+        }
+        if old % PAGE == 0 {
+            return false;
+        }
+        let page = (old / PAGE) as u32;
+        self.frames.find(FilePage { file, page }).is_none()
+    }
+
+    // Whether fewer frames are free than a file's growth adds pages.
+    fn lacks_frames(&self, file: FileNumber, length: u64) -> bool
+        requires sound { IsSound (state_in self.now) }
+        requires there { file < count self.now.table.files }
+        requires within { length ≤ capacity_of (state_in self.now) file }
+        ensures { result ≡ lacks_frames (state_in self.now) file length }
+    {
+        let old = pages_for(self.file_length(file));
+        u64::from(self.frames.free_count()) < pages_for(length).saturating_sub(old)
+    }
+
+    // Whether a file's length may become another.
+    fn admit_resize(&self, file: FileNumber, length: u64) -> Result<(), Refusal>
+        requires sound { IsSound (state_in self.now) }
+        requires there { file < count self.now.table.files }
+        requires within { length ≤ capacity_of (state_in self.now) file }
+        ensures ok { IfOk result (λ fine. resize_refusal (state_in self.now) file length ≡ None) }
+        ensures err { IfErr result (λ why. resize_refusal (state_in self.now) file length ≡ Some why) }
+    {
+        if self.write_outs.is_broken() {
+            return Err(Refusal::Broken);
+        }
+        if !self.write_outs.is_empty() {
+            return Err(Refusal::Busy);
+        }
+        if self.lacks_last_page(file, length) {
+            return Err(Refusal::NotResident);
+        }
+        if self.lacks_frames(file, length) {
+            return Err(Refusal::NoFrame);
+        }
+        Ok(())
+    }
+
+    // A change of a file's length is begun, if it is another than it has.
+    pub(crate) fn set_length(
+        &mut self,
+        p: ProcessorNumber,
+        file: FileNumber,
+        length: u64,
+    ) -> Result<Reply, Refusal>
+        requires sound { IsSound (state_in self.old) }
+        ensures rules { (disk : List ℕ)
+            → Answers (state_in self.old) disk p (SetLength file length) (reply_to result) (state_in self.new) }
+        ensures quiet { IsQuiet self.old self.new }
+    {
+        self.shootdown.admit_free(p)?;
+        self.admit_length(file, length)?;
+        if length == self.file_length(file) {
+            return Ok(Reply::Fine);
+        }
+        self.admit_resize(file, length)?;
+        self.shootdown
+            .begin(p, &self.spaces, Change::SetLength { file, length });
         Ok(Reply::Begun)
     }
 

@@ -12,7 +12,7 @@ use crate::layers::Layers;
 use crate::paging::{home_block, is_cut};
 use device::Device;
 use mappings::{PageRange, Rights};
-use page_entry::{FilePage, FrameNumber, PAGE, Pcid, ProcessorNumber, Refusal};
+use page_entry::{FileNumber, FilePage, FrameNumber, PAGE, Pcid, ProcessorNumber, Refusal};
 use spaces::Change;
 use std::alloc::Allocator;
 
@@ -100,6 +100,22 @@ impl<D: Device, A: Allocator + Copy> Layers<D, A> {
         Reply::Reclaimed
     }
 
+    // The length of a file becomes another.
+    fn end_resize(&mut self, p: ProcessorNumber, file: FileNumber, length: u64) -> Reply
+        requires sound { IsSound (state_in self.old) }
+        requires held { HandsOut self.old.shootdown p (Ok (Some (Change.SetLength file length))) }
+        ensures rules { (disk : List ℕ) → Answers (state_in self.old) disk p Changing result (state_in self.new) }
+        ensures quiet { IsQuiet self.old self.new }
+    {
+        let old = self.file_length(file);
+        self.checkpoint
+            .resize(&mut self.spaces, &mut self.frames, file, old, length);
+        self.lengths[file as usize] = length;
+        self.resized = true;
+        self.shootdown.finish(p);
+        Reply::Resized
+    }
+
     // The change that a processor began is made.
     pub(crate) fn change(&mut self, p: ProcessorNumber) -> Result<Reply, Refusal>
         requires sound { IsSound (state_in self.old) }
@@ -119,6 +135,7 @@ impl<D: Device, A: Allocator + Copy> Layers<D, A> {
                 rights,
             } => Ok(self.end_protect(p, pcid, range, rights)),
             Change::Reclaim { page } => Ok(self.end_reclaim(p, page)),
+            Change::SetLength { file, length } => Ok(self.end_resize(p, file, length)),
             Change::Checkpoint => Ok(self.mark(p)),
         }
     }

@@ -34,6 +34,7 @@ impl<D: Device, A: Allocator + Copy> Layers<D, A> {
             && self.checkpoint.is_fresh()
             && self.write_outs.is_fresh()
             && self.marks == 0
+            && !self.resized
     }
 }
 

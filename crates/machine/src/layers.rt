@@ -30,6 +30,8 @@ pub(crate) struct Layers<D: Device, A: Allocator + Copy> {
     pub(crate) write_outs: WriteOuts<A>,
     // How many marks were made since boot.
     pub(crate) marks: u32,
+    // Whether a length was set since the last mark.
+    pub(crate) resized: bool,
     pub(crate) device: D,
 }
 

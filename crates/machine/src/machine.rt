@@ -105,6 +105,7 @@ impl<D: Device, A: Allocator + Copy> Machine<D, A> {
                 checkpoint,
                 write_outs,
                 marks: 0,
+                resized: false,
                 device,
             },
         }

@@ -1,6 +1,6 @@
 // Pages of files: their home blocks, and how many of their bytes are the file's.
 ghost use Rattle.std.specs.Prelude.{◌≡◌, ◌↔◌, ◌<◌, length, take, replicate, slice_index_or, IsTrue};
-ghost use Rattle.volume_codec.specs.Super.{block_count};
+ghost use Rattle.volume_codec.specs.Super.{block_count, pages_of};
 ghost use Rattle.volume_codec.specs.Text.{padded};
 ghost use Rattle.machine.specs.State.{home_of};
 ghost use Rattle.machine.specs.Refusals.{pages_in_file};
@@ -15,6 +15,13 @@ pub(crate) fn pages_in_file<A: Allocator + Copy>(table: &Super<A>, file: FileNum
     ensures { result ≡ pages_in_file table.now.files file }
 {
     table.pages(file as usize)
+}
+
+/// How many pages so many bytes take.
+pub(crate) fn pages_for(length: u64) -> u64
+    ensures { result ≡ pages_of length }
+{
+    length / PAGE + u64::from(length % PAGE != 0)
 }
 
 /// The length of a file in bytes, of these lengths.

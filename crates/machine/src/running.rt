@@ -114,15 +114,15 @@ impl<D: Device, A: Allocator + Copy> Machine<D, A> {
             (tell_all (told_first files start.state) steps replies).history owner.file owner.page) }
     {}
 
-    /// On the track of a run, the pages that a mark gathers are those that got a store since the mark before it, or
-    /// since the start, and no other (`pages`). It writes nothing exactly where the history has no store and no change
+    /// On the track of a run, the pages that a mark gathers are those that a store or a growth of their file touched
+    /// since the mark before it, or since the start, and that begin before their file's end, and no other (`pages`). It writes nothing exactly where the history has no store and no change
     /// of a length since then (`nothing`).
     pub fn gathers_what_was_stored(&self)
         ensures pages { (files : List File) (start : Whole D) (steps : List Step) (replies : List Reply)
             (p number : ℕ) (new : State) (mark : MarkMade self.now.state p number new) (owner : FilePage)
             → IsOnTrack D.Device files start steps replies self.now
-            → (Contains mark.pages owner) ↔ (is_touched
-            (tell_all (told_first files start.state) steps replies).history owner.file owner.page ≡ true) }
+            → (Contains mark.pages owner) ↔ (IsInFile self.now.state owner × (is_touched
+            (tell_all (told_first files start.state) steps replies).history owner.file owner.page ≡ true)) }
         ensures nothing { (files : List File) (start : Whole D) (steps : List Step) (replies : List Reply)
             (p number : ℕ) (new : State) (mark : MarkMade self.now.state p number new)
             → IsOnTrack D.Device files start steps replies self.now

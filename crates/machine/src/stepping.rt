@@ -41,6 +41,7 @@ impl<D: Device, A: Allocator + Copy> Layers<D, A> {
                     page: *page,
                 },
             ),
+            Act::SetLength { file, length } => self.set_length(p, *file, *length),
             Act::Msync { va, len, flags } => self.msync(p, *va, *len, *flags),
             Act::Ack => self.acknowledge(p),
             Act::Change => self.change(p),

@@ -2,7 +2,7 @@
 use Rattle.std.specs.Prelude.{ℕ, List, ◌++◌, codes}
 use Rattle.std.specs.Fmt.{decimal}
 use Rattle.page_entry.specs.declared.refusal.Refusal.{Refusal}
-use Rattle.page_entry.specs.declared.refusal.Refusal.TheVariants.{Stalled, Locked, NotYet, Fault, SegvMapErr, SegvAccErr, BusAdrErr, Held, NoFrame, Device, Broken, Einval, Enomem, Eacces, Overlap, NoFile, Busy, TraceFull, OutOfMemory, NotAVolume, Damaged, BadShape}
+use Rattle.page_entry.specs.declared.refusal.Refusal.TheVariants.{Stalled, Locked, NotYet, Fault, SegvMapErr, SegvAccErr, BusAdrErr, Held, NoFrame, Device, Broken, Einval, Enomem, Eacces, Overlap, NoFile, Busy, NotResident, TraceFull, OutOfMemory, NotAVolume, Damaged, BadShape}
 
 -- the name in lower case without spaces, and after `notyet` and `fault` one space and the number in decimal digits
 abbrev pub words_of : Refusal → List ℕ
@@ -23,6 +23,7 @@ words_of Eacces = codes "eacces"
 words_of Overlap = codes "overlap"
 words_of NoFile = codes "nofile"
 words_of Busy = codes "busy"
+words_of NotResident = codes "notresident"
 words_of TraceFull = codes "tracefull"
 words_of OutOfMemory = codes "outofmemory"
 words_of NotAVolume = codes "notavolume"

@@ -4,7 +4,8 @@ use std::fmt;
 
 /// Why a call was refused. Where several hold, the first of this order is answered: `Einval` for a processor that isn't
 /// there, `Stalled`, `Locked`, other `Einval`, `NoFile`, `Enomem`, `Eacces`, `Overlap`, `Broken`, `Busy`,
-/// `OutOfMemory`. `BadShape` is tested before any memory is taken and before any read, write or sync of a device.
+/// `NotResident`, `NoFrame`, `OutOfMemory`. `BadShape` is tested before any memory is taken and before any read, write
+/// or sync of a device.
 /// Serving a fault has an order of its own after `Locked`: `Einval`, `SegvMapErr`, `SegvAccErr`, `BusAdrErr`, `Held`,
 /// `NoFrame`, `Device`.
 ///
@@ -46,6 +47,8 @@ pub enum Refusal {
     NoFile,
     /// The call has to wait for another: a write-out isn't done, or the space is in use; or no mark's number is left.
     Busy,
+    /// A change of a file's length needs the file's last page in memory, and it isn't.
+    NotResident,
     /// The trace is full.
     TraceFull,
     /// Memory was refused.
@@ -84,6 +87,7 @@ impl fmt::Display for Refusal {
             Refusal::Overlap => f.write_str("overlap"),
             Refusal::NoFile => f.write_str("nofile"),
             Refusal::Busy => f.write_str("busy"),
+            Refusal::NotResident => f.write_str("notresident"),
             Refusal::TraceFull => f.write_str("tracefull"),
             Refusal::OutOfMemory => f.write_str("outofmemory"),
             Refusal::NotAVolume => f.write_str("notavolume"),

@@ -216,9 +216,11 @@ impl Pair {
         interrupted == is_here
     }
 
-    // A mark: all are interrupted.
-    fn mark(&mut self, rt: &impl Abort) -> bool {
-        let interrupted = self.change(rt, Change::Checkpoint);
+    // A mark, or another length of a file: all are interrupted.
+    fn drop_all(&mut self, rt: &impl Abort, change: Change) -> bool
+        requires { HasUserPages change }
+    {
+        let interrupted = self.change(rt, change);
         assert!(rt; self.plain.tell(Invpcid::AllContexts).is_ok());
         self.plain.drain();
         interrupted
@@ -246,7 +248,14 @@ impl Pair {
             0..=7 => assert!(rt; self.fill(argument).is_ok()),
             8 => return self.evict((argument % 6) as usize),
             9..=11 => return self.unmap(rt, pcid, argument / 3 % 6, argument / 18 % 6 + 1),
-            12 if argument % 8 == 0 => return self.mark(rt),
+            12 if argument % 8 == 0 => return self.drop_all(rt, Change::Checkpoint),
+            12 if argument % 8 == 1 => return self.drop_all(
+                rt,
+                Change::SetLength {
+                    file: 0,
+                    length: argument,
+                },
+            ),
             12 => assert!(rt; self.forget(pcid).is_ok()),
             _ => self.switch(rt, pcid, argument / 3 % 3 > 0),
         }

@@ -355,6 +355,7 @@ impl Judge {
                 "opens",
                 "refuses",
                 "calls",
+                "lengths",
                 "bytes",
                 "writes",
             ],

@@ -32,12 +32,21 @@ pub struct FileBytes {
     put: Put,
 }
 
+/// The length of a file that isn't as long as it was made.
+#[derive(Drop)]
+pub struct FileLength {
+    file: String,
+    length: u64,
+}
+
 /// What an opening is to give.
 #[derive(Drop)]
 pub enum Wanted {
-    /// The files have these bytes. Where `writes` is there, the opening changes these bytes of the disk and no others.
+    /// The files have these lengths and bytes. Where `writes` is there, the opening changes these bytes of the disk and
+    /// no others.
     Opens {
         calls: Option<Calls>,
+        lengths: Vec<FileLength>,
         bytes: Vec<FileBytes>,
         writes: Option<Vec<Put>>,
     },
@@ -61,9 +70,11 @@ pub fn read_wanted(alloc: Global, value: &Value) -> Result<Wanted, Failure> {
         });
     }
     let calls = read_calls(alloc, member(alloc, value, "opens")?)?;
+    let lengths = read_lengths(alloc, value)?;
     let bytes = all_bytes(alloc, list_of(alloc, value, "bytes")?)?;
     Ok(Wanted::Opens {
         calls,
+        lengths,
         bytes,
         writes: read_writes(alloc, value)?,
     })
@@ -89,6 +100,27 @@ fn read_calls(alloc: Global, value: &Value) -> Result<Option<Calls>, Failure> {
         closed: number_of(alloc, value, "closed")?,
         open: number_of(alloc, value, "open_gate")?,
     }))
+}
+
+// The lengths that are said.
+fn read_lengths(alloc: Global, value: &Value) -> Result<Vec<FileLength>, Failure> {
+    let mut lengths = Vec::new(alloc);
+    if let Some(items) = value.get("lengths") {
+        for item in list(alloc, items, "lengths")? {
+            lengths.push(file_length(alloc, list(alloc, item, "a length")?)?)?;
+        }
+    }
+    Ok(lengths)
+}
+
+fn file_length(alloc: Global, items: &[Value]) -> Result<FileLength, Failure> {
+    match items {
+        [file, length] => Ok(FileLength {
+            file: String::from_str(alloc, text(alloc, file, "the file")?)?,
+            length: number(alloc, length, "the length")?,
+        }),
+        _ => Err(Failure::line(alloc, "a length of a file is its name and a number")),
+    }
 }
 
 fn all_bytes(alloc: Global, items: &[Value]) -> Result<Vec<FileBytes>, Failure> {
@@ -193,10 +225,11 @@ fn compare_opened(
         }
         Wanted::Opens {
             calls,
+            lengths,
             bytes,
             writes,
         } => {
-            compare_files(alloc, &mut volume, files, bytes)?;
+            compare_files(alloc, &mut volume, files, lengths, bytes)?;
             let disk = volume.into_device();
             let made = disk.calls().saturating_sub(files.len() as u64);
             if let Some(calls) = calls {
@@ -294,6 +327,7 @@ fn compare_files(
     alloc: Global,
     volume: &mut Volume<Disk, Global>,
     files: &[File],
+    lengths: &[FileLength],
     bytes: &[FileBytes],
 ) -> Result<(), Failure> {
     compare_count(
@@ -303,7 +337,7 @@ fn compare_files(
         volume.file_count() as u64,
     )?;
     for (number, file) in files.iter().enumerate() {
-        compare_file(alloc, volume, number, file, bytes)?;
+        compare_file(alloc, volume, number, file, lengths, bytes)?;
     }
     Ok(())
 }
@@ -313,6 +347,7 @@ fn compare_file(
     volume: &mut Volume<Disk, Global>,
     number: usize,
     file: &File,
+    lengths: &[FileLength],
     bytes: &[FileBytes],
 ) -> Result<(), Failure> {
     if number >= volume.file_count() {
@@ -322,9 +357,10 @@ fn compare_file(
     if name != file.name.as_str() {
         return Err(Failure::differs(alloc, "the file's name", &file.name, &name));
     }
-    compare_count(alloc, "the file's length", file.length, length)?;
+    let long = length_of(file, lengths);
+    compare_count(alloc, "the file's length", long, length)?;
     let came = read_whole(alloc, volume, number)?;
-    let wanted = file_of(alloc, file, bytes)?;
+    let wanted = file_of(alloc, file, long, bytes)?;
     compare_bytes(alloc, file.name.as_str(), &wanted, &came)
 }
 
@@ -346,9 +382,24 @@ fn read_whole(
     }
 }
 
-// The bytes that a file is to have.
-fn file_of(alloc: Global, file: &File, bytes: &[FileBytes]) -> Result<Vec<u8>, Failure> {
-    let mut wanted = vec![in alloc; 0; file.length as usize]?;
+// How long a file is to be: as it was made, where nothing else is said.
+fn length_of(file: &File, lengths: &[FileLength]) -> u64 {
+    for said in lengths {
+        if said.file.as_str() == file.name.as_str() {
+            return said.length;
+        }
+    }
+    file.length
+}
+
+// The bytes that a file of this length is to have.
+fn file_of(
+    alloc: Global,
+    file: &File,
+    length: u64,
+    bytes: &[FileBytes],
+) -> Result<Vec<u8>, Failure> {
+    let mut wanted = vec![in alloc; 0; length as usize]?;
     for part in bytes {
         if part.file.as_str() == file.name.as_str() {
             part.put.write(alloc, &mut wanted)?;

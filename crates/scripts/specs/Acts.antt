@@ -4,7 +4,7 @@ use Rattle.std.specs.Str.{bytes_eq}
 use Rattle.serde_json.specs.Data.{Data}
 use Rattle.scripts.specs.Arguments.{if_some, byte_of, short_of, page_number_of, long_of, prot_of, access_of, keep_of, write_of, few_bytes_of}
 use Rattle.machine.specs.declared.act.Act.{Act}
-use Rattle.machine.specs.declared.act.Act.TheVariants.{Load, Store, Fill, Evict, Switch, Idle, Wake, Fix, Create, Destroy, Map, Unmap, Protect, Reclaim, Msync, Ack, Change, Resume, Flush}
+use Rattle.machine.specs.declared.act.Act.TheVariants.{Load, Store, Fill, Evict, Switch, Idle, Wake, Fix, Create, Destroy, Map, Unmap, Protect, Reclaim, Msync, SetLength, Ack, Change, Resume, Flush}
 
 -- no arguments
 abbrev pub without_more : Act → List Data → Option Act
@@ -83,6 +83,12 @@ msync_of (va ∷ len ∷ flags ∷ []) =
     (λ len. if_some (byte_of flags) (λ flags. Some (Msync va len flags))))
 msync_of _ = None
 
+-- a file and its new length in bytes
+abbrev pub set_length_of : List Data → Option Act
+set_length_of (file ∷ length ∷ []) =
+    if_some (short_of file) (λ file. if_some (long_of length) (λ length. Some (SetLength file length)))
+set_length_of _ = None
+
 -- acts by their names
 abbrev pub acts_by_name : List (List ℕ × (List Data → Option Act))
 acts_by_name =
@@ -90,7 +96,7 @@ acts_by_name =
     ∷ (codes "switch", switch_of) ∷ (codes "idle", without_more Idle) ∷ (codes "wake", without_more Wake) ∷ (codes "fix", fix_of)
     ∷ (codes "create", without_more Create) ∷ (codes "destroy", destroy_of) ∷ (codes "map", map_of) ∷ (codes "unmap", unmap_of)
     ∷ (codes "protect", protect_of) ∷ (codes "reclaim", reclaim_of) ∷ (codes "msync", msync_of)
-    ∷ (codes "ack", without_more Ack)
+    ∷ (codes "setlength", set_length_of) ∷ (codes "ack", without_more Ack)
     ∷ (codes "change", without_more Change) ∷ (codes "resume", without_more Resume) ∷ (codes "flush", without_more Flush) ∷ []
 
 -- the act of a name and arguments

@@ -2,7 +2,7 @@
 ghost use Rattle.std.specs.Prelude.{◌≡◌, map, [], ◌∷◌};
 ghost use Rattle.std.specs.Result.{result_ok};
 ghost use Rattle.serde_json.specs.View.{view};
-ghost use Rattle.scripts.specs.Acts.{load_of, store_of, fill_of, evict_of, switch_of, fix_of, destroy_of, map_of, unmap_of, protect_of, reclaim_of, msync_of, without_more, act_of};
+ghost use Rattle.scripts.specs.Acts.{load_of, store_of, fill_of, evict_of, switch_of, fix_of, destroy_of, map_of, unmap_of, protect_of, reclaim_of, msync_of, set_length_of, without_more, act_of};
 
 use crate::argument::{access, byte, bytes, keep, long, page, prot, short, write};
 use crate::script_fault::StepFault;
@@ -29,6 +29,7 @@ pub fn act(name: &str, arguments: &[Value]) -> Result<Act, StepFault>
         "protect" => protect(arguments),
         "reclaim" => reclaim(arguments),
         "msync" => msync(arguments),
+        "setlength" => set_length(arguments),
         "ack" => without_arguments(arguments, "ack", Act::Ack),
         "change" => without_arguments(arguments, "change", Act::Change),
         "resume" => without_arguments(arguments, "resume", Act::Resume),
@@ -271,6 +272,24 @@ fn msync_from(va: &Value, len: &Value, flags: &Value) -> Result<Act, StepFault>
         va: long(va, "the address")?,
         len: long(len, "the length")?,
         flags: byte(flags, "flags")?,
+    })
+}
+
+pub fn set_length(arguments: &[Value]) -> Result<Act, StepFault>
+    ensures { result_ok result ≡ set_length_of (map view arguments.now) }
+{
+    match arguments {
+        [file, length] => set_length_from(file, length),
+        _ => Err(wrong_arguments("setlength", "a file and a length")),
+    }
+}
+
+fn set_length_from(file: &Value, length: &Value) -> Result<Act, StepFault>
+    ensures { result_ok result ≡ set_length_of (view file.now ∷ view length.now ∷ []) }
+{
+    Ok(Act::SetLength {
+        file: short(file, "the file")?,
+        length: long(length, "the length")?,
     })
 }
 

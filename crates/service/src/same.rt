@@ -149,6 +149,13 @@ fn is_same_request(a: &Act, b: &Act) -> bool
                 flags: flags_b,
             },
         ) => *va == *va_b && *len == *len_b && *flags == *flags_b,
+        (
+            Act::SetLength { file, length },
+            Act::SetLength {
+                file: file_b,
+                length: length_b,
+            },
+        ) => *file == *file_b && *length == *length_b,
         _ => false,
     }
 }
@@ -187,6 +194,7 @@ fn is_same_change(a: &Reply, b: &Reply) -> bool
         (Reply::Unmapped, Reply::Unmapped) => true,
         (Reply::Protected, Reply::Protected) => true,
         (Reply::Reclaimed, Reply::Reclaimed) => true,
+        (Reply::Resized, Reply::Resized) => true,
         _ => false,
     }
 }
@@ -243,6 +251,7 @@ fn is_same_error(a: &Refusal, b: &Refusal) -> bool
         (Refusal::Overlap, Refusal::Overlap) => true,
         (Refusal::NoFile, Refusal::NoFile) => true,
         (Refusal::Busy, Refusal::Busy) => true,
+        (Refusal::NotResident, Refusal::NotResident) => true,
         (Refusal::TraceFull, Refusal::TraceFull) => true,
         (Refusal::OutOfMemory, Refusal::OutOfMemory) => true,
         (Refusal::NotAVolume, Refusal::NotAVolume) => true,

@@ -164,11 +164,11 @@ impl<D: Device, A: Allocator + Copy> Shared<D, A> {
         self.trace.as_slice()
     }
 
-    // Whether nothing was stored between the last entry and the mark before it, or the start.
+    // Whether nothing was stored, and no length set, between the last entry and the mark before it, or the start.
     pub(crate) fn is_quiet(&self) -> bool {
         for entry in self.trace.as_slice().iter().rev().skip(1) {
             match &entry.reply {
-                Reply::Stored => return false,
+                Reply::Stored | Reply::Resized => return false,
                 Reply::Marked(_) => return true,
                 _ => {}
             }

@@ -5,7 +5,7 @@ use Rattle.std.proofs.lemmas.List.{append-nil}
 use Rattle.std.proofs.lemmas.List.Elements.{Contains-append_left, Contains-append_right, Contains-push}
 use Rattle.device.specs.declared.device.Device.{Ghosts}
 use Rattle.machine.specs.declared.act.Act.{Act}
-use Rattle.machine.specs.declared.act.Act.TheVariants.{Load, Store, Fill, Evict, Switch, Idle, Wake, Fix, Create, Destroy, Map, Unmap, Protect, Reclaim, Msync, Ack, Change, Resume, Flush}
+use Rattle.machine.specs.declared.act.Act.TheVariants.{Load, Store, Fill, Evict, Switch, Idle, Wake, Fix, Create, Destroy, Map, Unmap, Protect, Reclaim, Msync, SetLength, Ack, Change, Resume, Flush}
 use Rattle.machine.specs.declared.act.Reply.{Reply}
 use Rattle.machine.specs.declared.act.Reply.TheVariants.{Marked, Committed}
 use Rattle.machine.specs.declared.act.Step.{Step}
@@ -68,6 +68,7 @@ aside_is_of_commit (Map space va len file offset prot access) reply is = is
 aside_is_of_commit (Unmap space va len) reply is = is
 aside_is_of_commit (Protect space va len prot) reply is = is
 aside_is_of_commit (Reclaim file page) reply is = is
+aside_is_of_commit (SetLength file length) reply is = is
 aside_is_of_commit Ack reply is = is
 aside_is_of_commit Change reply is = is
 aside_is_of_commit Resume reply is = is

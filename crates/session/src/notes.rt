@@ -8,7 +8,7 @@ use page_entry::Refusal;
 /// What a session has to know of the steps that were made before.
 #[derive(Clone, Copy, Debug, PartialEq, Eq)]
 pub struct Notes {
-    /// Whether a store was made that no mark has yet.
+    /// Whether a store was made, or a length set, that no mark has yet.
     pub has_unmarked: bool,
     /// Whether a step was answered that the device failed.
     pub has_failed: bool,
@@ -36,12 +36,12 @@ impl Notes {
     }
 }
 
-// Whether a store was made that no mark has yet, after one reply more.
+// Whether a store was made, or a length set, that no mark has yet, after one reply more.
 fn unmarked_by(before: bool, reply: &Reply) -> bool
     ensures { result ≡ unmarked_by before reply.now }
 {
     match reply {
-        Reply::Stored => true,
+        Reply::Stored | Reply::Resized => true,
         Reply::Marked(_) => false,
         _ => before,
     }

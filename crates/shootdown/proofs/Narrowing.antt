@@ -8,7 +8,7 @@ use Rattle.std.proofs.lemmas.Bool.{and_parts, and_from, cases_eq, or_cases, or_l
 use Rattle.page_entry.specs.declared.numbers.FilePage.{FilePage}
 use Rattle.mappings.specs.Places.{Places, pages_mapping}
 use Rattle.spaces.specs.declared.change.Change.{Change}
-use Rattle.spaces.specs.declared.change.Change.TheVariants.{Unmap, Protect, Reclaim, Checkpoint}
+use Rattle.spaces.specs.declared.change.Change.TheVariants.{Unmap, Protect, Reclaim, SetLength, Checkpoint}
 use Rattle.spaces.specs.Spaces.{Spaces, AddressSpace, empty_space, space_at, entry_at, place_at}
 use Rattle.spaces.specs.Changes.{is_place_of, has_entry_of, touches}
 use Rattle.shootdown.specs.Coherence.{IsNoWider}
@@ -41,6 +41,7 @@ IsNoWider-same_places (Reclaim owner) old new places entries = record {
       any_more (has_entry_of new owner pcid) (has_entry_of old owner pcid) (λ page. has_entry_before owner old new places entries pcid page) (pages_mapping (space_at old pcid).places owner.file owner.page)
       (sym (ap (λ (ps : Places). list_any (has_entry_of new owner pcid) (pages_mapping ps owner.file owner.page)) (places pcid)) ∙ now);
 }
+IsNoWider-same_places (SetLength file length) old new places entries = record { affected = λ pcid page now. now; touched = λ pcid now. now }
 IsNoWider-same_places Checkpoint old new places entries = record { affected = λ pcid page now. now; touched = λ pcid now. now }
 
 -- ---- a space goes
@@ -98,4 +99,5 @@ IsNoWider-remove (Reclaim owner) spaces pcid = record {
   affected = λ q page now. (has_entry_kept owner spaces pcid q page now).1;
   touched = λ q now. touched_before owner spaces pcid q now;
 }
+IsNoWider-remove (SetLength file length) spaces pcid = record { affected = λ p page now. now; touched = λ p now. now }
 IsNoWider-remove Checkpoint spaces pcid = record { affected = λ p page now. now; touched = λ p now. now }

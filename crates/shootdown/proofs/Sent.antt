@@ -9,7 +9,7 @@ use Rattle.mappings.specs.declared.page_range.PageRange.{PageRange}
 use Rattle.mappings.specs.Places.{is_among}
 use Rattle.pcid_tlb.specs.declared.Invpcid.TheVariants.{IndividualAddress, SingleContext}
 use Rattle.spaces.specs.declared.change.Change.{Change}
-use Rattle.spaces.specs.declared.change.Change.TheVariants.{Unmap, Protect, Reclaim, Checkpoint}
+use Rattle.spaces.specs.declared.change.Change.TheVariants.{Unmap, Protect, Reclaim, SetLength, Checkpoint}
 use Rattle.spaces.specs.Spaces.{Spaces}
 use Rattle.spaces.specs.Changes.{has_entry_of, entries_of, affects}
 use Rattle.spaces.proofs.Public.{Contains-entries_of}
@@ -63,4 +63,5 @@ pub sent : (spaces : Spaces) (change : Change) (q page : ℕ) → affects spaces
 sent spaces (Unmap pcid range) q page affected = sent_of_range pcid range q page affected
 sent spaces (Protect pcid range rights) q page affected = sent_of_range pcid range q page affected
 sent spaces (Reclaim owner) q page affected = sent_of_entries spaces owner q page affected
+sent spaces (SetLength file length) q page affected = refl
 sent spaces Checkpoint q page affected = refl

@@ -12,7 +12,7 @@ use Rattle.pcid_tlb.specs.Tlb.{TlbState}
 use Rattle.pcid_tlb.specs.declared.Invpcid.{Invpcid}
 use Rattle.pcid_tlb.specs.declared.Invpcid.TheVariants.{IndividualAddress, SingleContext, AllContexts}
 use Rattle.spaces.specs.declared.change.Change.{Change}
-use Rattle.spaces.specs.declared.change.Change.TheVariants.{Unmap, Protect, Reclaim, Checkpoint}
+use Rattle.spaces.specs.declared.change.Change.TheVariants.{Unmap, Protect, Reclaim, SetLength, Checkpoint}
 use Rattle.spaces.specs.Spaces.{Spaces}
 use Rattle.spaces.specs.Changes.{entries_of, touches}
 use Rattle.shootdown.specs.declared.lock.Lock.{Lock}
@@ -93,6 +93,7 @@ abbrev pub actions_of : Spaces → Change → List Invpcid
 actions_of spaces (Unmap pcid range) = range_actions pcid range
 actions_of spaces (Protect pcid range rights) = range_actions pcid range
 actions_of spaces (Reclaim owner) = entry_actions spaces owner
+actions_of spaces (SetLength file length) = AllContexts ∷ []
 actions_of spaces Checkpoint = AllContexts ∷ []
 
 -- ---- the phases

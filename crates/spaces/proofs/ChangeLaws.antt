@@ -11,7 +11,7 @@ use Rattle.mappings.specs.declared.place.Rights.{Rights}
 use Rattle.mappings.specs.declared.page_range.PageRange.{PageRange}
 use Rattle.mappings.specs.Places.{Places, may_write, pages_mapping}
 use Rattle.spaces.specs.declared.change.Change.{Change}
-use Rattle.spaces.specs.declared.change.Change.TheVariants.{Unmap, Protect, Reclaim, Checkpoint}
+use Rattle.spaces.specs.declared.change.Change.TheVariants.{Unmap, Protect, Reclaim, SetLength, Checkpoint}
 use Rattle.spaces.specs.Spaces.{AddressSpace, Spaces, empty_space, has_space, space_at, entry_at, place_at, with_space, with_entry, with_mapping, without_mapping, EditsEntries, SetsRights}
 use Rattle.spaces.specs.Changes.{is_place_of, has_entry_of, pages_with_entry, entries_of, affects, touches, Keeps, Grows, ChangesOnlyAffected, without_entries_of}
 use Rattle.spaces.proofs.SpacesLaws.{get-empty_places, has_space-place_at, entry_at-create, entry_at-with_entry, entry_at-with_mapping, entry_at-without_mapping}
@@ -61,6 +61,10 @@ ChangesOnlyAffected-reclaim owner old new edits = λ q at apart. edits.entries q
     by_place true None h = refl
     by_place true (Some e) h = cc
     by_place false e h = refl
+
+-- a change of a file's length affects every page
+pub ChangesOnlyAffected-set_length : (file length : ℕ) (old new : Spaces) → ChangesOnlyAffected (SetLength file length) old new
+ChangesOnlyAffected-set_length file length old new = λ q at apart. cc
 
 -- a checkpoint affects every page
 pub ChangesOnlyAffected-checkpoint : (old new : Spaces) → ChangesOnlyAffected Checkpoint old new
@@ -144,6 +148,7 @@ touches_affected m (Unmap pcid range) q at is = both_left _ _ is
 touches_affected m (Protect pcid range rights) q at is = both_left _ _ is
 touches_affected m (Reclaim owner) q at is =
     found (has_entry_of m owner q) (pages_mapping (space_at m q).places owner.file owner.page) at (Contains-pages_mapping (space_at m q).places owner at (both_left _ _ is)) is
+touches_affected m (SetLength file length) q at is = refl
 touches_affected m Checkpoint q at is = refl
 
 -- a space that a reclaim touches has an entry of the page

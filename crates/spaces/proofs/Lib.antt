@@ -12,3 +12,4 @@ pub mod Public
 pub mod Noted
 pub mod Used
 pub mod Freed
+pub mod Past

@@ -5,7 +5,8 @@ pub use Rattle.spaces.proofs.SpacesLaws.{space_at-with_space_same, space_at-with
 pub use Rattle.spaces.proofs.SpacesLaws.{place_at-first_spaces, place_at-create, place_at-with_mapping, place_at-without_mapping, place_at-SetsRights, place_at-EditsEntries, place_at-with_entry, place_at-remove}
 pub use Rattle.spaces.proofs.SpacesLaws.{entry_at-first_spaces, entry_at-create, entry_at-with_mapping, entry_at-without_mapping, entry_at-with_entry, entry_at-remove}
 pub use Rattle.spaces.proofs.AreSpacesLaws.{AreSpaces-first_spaces, AreSpaces-create, AreSpaces-with_mapping, AreSpaces-without_mapping, AreSpaces-SetsRights, AreSpaces-EditsEntries, AreSpaces-with_entry, AreSpaces-remove, user_space, mappable_ends, is_some_from}
-pub use Rattle.spaces.proofs.ChangeLaws.{Grows-create, Grows-with_mapping, Grows-with_entry, ChangesOnlyAffected-without_mapping, ChangesOnlyAffected-SetsRights, ChangesOnlyAffected-reclaim, ChangesOnlyAffected-checkpoint, touches_affected, Contains-entries_of}
+pub use Rattle.spaces.proofs.ChangeLaws.{Grows-create, Grows-with_mapping, Grows-with_entry, ChangesOnlyAffected-without_mapping, ChangesOnlyAffected-SetsRights, ChangesOnlyAffected-reclaim, ChangesOnlyAffected-set_length, ChangesOnlyAffected-checkpoint, touches_affected, Contains-entries_of}
 pub use Rattle.spaces.proofs.RequestLaws.{judged_mapping-ok, judged_range-ok, judged_protection-ok}
 pub use Rattle.spaces.proofs.ListedLaws.{in_pcids, Contains-pcids}
 pub use Rattle.spaces.proofs.Members.{Contains-map, in_flat_map}
+pub use Rattle.spaces.proofs.Past.{ClearsPast-refl, ClearsPast-more, EditsEntries-without_past}

@@ -1,6 +1,6 @@
--- The four changes that need a shootdown, and what each affects (Black, Rashid, Golub, Hill and Baron 1989: the
+-- The five changes that need a shootdown, and what each affects (Black, Rashid, Golub, Hill and Baron 1989: the
 -- processors that may use a mapping are stopped before it changes).
-use Rattle.std.specs.Prelude.{ℕ, ◌≡◌, ◌==◌, ◌&&◌, Bool, true, false, is_some, if◌then◌else◌, List, map, filter, Option, Some, None}
+use Rattle.std.specs.Prelude.{ℕ, ◌≡◌, ◌⊎◌, ◌*◌, ◌==◌, ◌&&◌, nat_le, Bool, true, false, is_some, if◌then◌else◌, List, map, filter, Option, Some, None}
 use Rattle.std.specs.List.{list_any, flat_map}
 use Rattle.std.specs.Ordering.{nat_cmp}
 use Rattle.std.specs.FinMap as maps
@@ -9,8 +9,8 @@ use Rattle.page_entry.specs.Entry.{Mapped, protected_of}
 use Rattle.mappings.specs.declared.place.Place.{Place}
 use Rattle.mappings.specs.Places.{is_among, pages_mapping}
 use Rattle.spaces.specs.declared.change.Change.{Change}
-use Rattle.spaces.specs.declared.change.Change.TheVariants.{Unmap, Protect, Reclaim, Checkpoint}
-use Rattle.spaces.specs.Spaces.{AddressSpace, Spaces, space_at, entry_at, place_at}
+use Rattle.spaces.specs.declared.change.Change.TheVariants.{Unmap, Protect, Reclaim, SetLength, Checkpoint}
+use Rattle.spaces.specs.Spaces.{AddressSpace, Spaces, has_space, space_at, entry_at, place_at}
 
 -- whether a place is in this page of a file
 abbrev pub is_place_of : FilePage → Option Place → Bool
@@ -43,15 +43,17 @@ abbrev pub affects : Spaces → Change → ℕ → ℕ → Bool
 affects spaces (Unmap pcid range) q page = q == pcid && is_among range.first range.count page
 affects spaces (Protect pcid range rights) q page = q == pcid && is_among range.first range.count page
 affects spaces (Reclaim owner) q page = has_entry_of spaces owner q page
+affects spaces (SetLength file length) q page = true
 affects spaces Checkpoint q page = true
 
--- whether a space's processors are to be stopped: all of them for a checkpoint, those of the space for an unmap or a
--- protect, and for a reclaim those whose space has a present entry of the page
+-- whether a space's processors are to be stopped: all of them for a checkpoint and for a change of a file's length,
+-- those of the space for an unmap or a protect, and for a reclaim those whose space has a present entry of the page
 abbrev pub touches : Spaces → Change → ℕ → Bool
 touches spaces (Unmap pcid range) q = q == pcid
 touches spaces (Protect pcid range rights) q = q == pcid
 touches spaces (Reclaim owner) q =
     list_any (has_entry_of spaces owner q) (pages_mapping (space_at spaces q).places owner.file owner.page)
+touches spaces (SetLength file length) q = true
 touches spaces Checkpoint q = true
 
 -- The page tables only grow: a present entry stays, with its frame, and keeps the right to write and the dirty bit if
@@ -78,3 +80,20 @@ protected_where noted (Some entry) = if noted entry.frame then protected_of (Som
 -- the entries of every page that maps this page of a file are taken away; every other stays
 abbrev pub without_entries_of : FilePage → Spaces → ℕ → ℕ → Option Mapped → Option Mapped
 without_entries_of owner spaces pcid page entry = if is_place_of owner (place_at spaces pcid page) then None else entry
+
+-- whether a place is in a page of this file that begins at or past this length, in bytes
+abbrev pub is_place_past : ℕ → ℕ → Option Place → Bool
+is_place_past file length None = false
+is_place_past file length (Some place) = place.file == file && nat_le length (4096 * place.page)
+
+-- the entries of every page that maps such a page of the file are taken away; every other stays
+abbrev pub without_past : ℕ → ℕ → Spaces → ℕ → ℕ → Option Mapped → Option Mapped
+without_past file length spaces pcid page entry =
+    if is_place_past file length (place_at spaces pcid page) then None else entry
+
+-- Of the entries of such pages, some are taken away; every other entry stays.
+pub record ClearsPast (file length : ℕ) (old new : Spaces) : Type 0 where
+  pub same_spaces : (pcid : ℕ) → has_space new pcid ≡ has_space old pcid
+  pub same_places : (pcid : ℕ) → (space_at new pcid).places ≡ (space_at old pcid).places
+  pub entries : (pcid page : ℕ) → (entry_at new pcid page ≡ entry_at old pcid page)
+      ⊎ ((entry_at new pcid page ≡ None) × (is_place_past file length (place_at old pcid page) ≡ true))

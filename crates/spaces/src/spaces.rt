@@ -260,7 +260,7 @@ impl<A: Allocator + Copy> Spaces<A> {
             Change::Reclaim { page: of } => {
                 self.entry(pcid, page).present() && is_of(self.place(pcid, page), *of)
             }
-            Change::Checkpoint => true,
+            Change::SetLength { file: _, length: _ } | Change::Checkpoint => true,
         }
     }
 
@@ -276,7 +276,7 @@ impl<A: Allocator + Copy> Spaces<A> {
                 rights: _,
             } => *of == pcid,
             Change::Reclaim { page } => self.has_entry_of(pcid, *page),
-            Change::Checkpoint => true,
+            Change::SetLength { file: _, length: _ } | Change::Checkpoint => true,
         }
     }
 

@@ -5,7 +5,7 @@ ghost use Rattle.serde_json.specs.View.{view};
 ghost use Rattle.mappings.specs.declared.place.Rights.{Rights};
 ghost use Rattle.scripts.specs.Arguments.{prot_of, access_of, keep_of, write_of, byte_of, few_bytes_of};
 ghost use Rattle.scripts.specs.Script.{step_of};
-ghost use Rattle.machine.specs.declared.act.Act.TheVariants.{Load, Store, Fill, Evict, Switch, Idle, Wake, Fix, Create, Destroy, Map, Unmap, Protect, Reclaim, Msync, Ack, Change, Resume, Flush};
+ghost use Rattle.machine.specs.declared.act.Act.TheVariants.{Load, Store, Fill, Evict, Switch, Idle, Wake, Fix, Create, Destroy, Map, Unmap, Protect, Reclaim, Msync, SetLength, Ack, Change, Resume, Flush};
 ghost use Rattle.traces.specs.inside.Written.{num, list, bytes_data, map_data};
 
 use machine::{Act, FewBytes, Step};
@@ -48,6 +48,7 @@ pub fn step_value(global: Global, step: &Step) -> Result<Value, AllocError>
         } => protect(global, p, *space, *va, *len, *prot),
         Act::Reclaim { file, page } => reclaim(global, p, *file, *page),
         Act::Msync { va, len, flags } => msync(global, p, *va, *len, *flags),
+        Act::SetLength { file, length } => set_length(global, p, *file, *length),
         Act::Ack => alone(global, p, "ack"),
         Act::Change => alone(global, p, "change"),
         Act::Resume => alone(global, p, "resume"),
@@ -212,6 +213,13 @@ fn msync(global: Global, p: u8, va: u64, len: u64, flags: u8) -> Result<Value, A
         × (depth (view value) ≤ 2)) }
 {
     json!(in global; [p, "msync", va, len, flags])
+}
+
+fn set_length(global: Global, p: u8, file: u16, length: u64) -> Result<Value, AllocError>
+    ensures { IfOk result (λ value. (step_of (view value) ≡ Some (record { p = p; act = SetLength file length }))
+        × (depth (view value) ≤ 2)) }
+{
+    json!(in global; [p, "setlength", file, length])
 }
 
 fn rights_word(rights: Rights) -> &'static str

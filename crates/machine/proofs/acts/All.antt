@@ -10,13 +10,14 @@ use Rattle.machine.specs.declared.act.Act.TheVariants as acts
 use Rattle.machine.specs.declared.act.Reply.TheVariants as replies
 use Rattle.journal.specs.declared.flushed.Flushed.{Flushed as Answer}
 use Rattle.journal.specs.declared.flushed.Flushed.TheVariants as flushed
-use Rattle.machine.specs.inside.Moves.{Flushed}
+use Rattle.machine.specs.inside.Moves.{Flushed, Resized}
+use Rattle.machine.proofs.Names.{Resizing}
 use Rattle.machine.proofs.sound.Admitted.{wait_admitted}
 use Rattle.machine.proofs.moves.Silent.{no_moves, moved, moved_all, silently}
 use Rattle.machine.proofs.acts.Accesses.{same_moves, fault_moves, load_moves, fill_moves, evict_moves}
 use Rattle.machine.proofs.acts.Processors.{switch_moves, ack_moves, idle_moves, resume_moves}
 use Rattle.machine.proofs.acts.Spaces.{create_moves, map_moves}
-use Rattle.machine.proofs.acts.Begun.{unmap_moves, protect_moves, reclaim_moves, msync_moves}
+use Rattle.machine.proofs.acts.Begun.{unmap_moves, protect_moves, reclaim_moves, set_length_moves, msync_moves}
 use Rattle.machine.proofs.acts.Changes.{unmapped_moves, protected_moves, reclaimed_moves, kept_moves}
 use Rattle.machine.proofs.acts.Faults.{fix_moves}
 
@@ -30,6 +31,7 @@ changed_history : (told : Told) (pending : Option Pending) → (changed told pen
 changed_history told None = refl
 changed_history told (Some (Unmapping space range)) = refl
 changed_history told (Some (Protecting space range rights)) = refl
+changed_history told (Some (Resizing file to)) = refl
 
 module _ (s : State) (disk : List ℕ) (p : ℕ) (new : State) (disk' : List ℕ) (sound : IsSound s) where
   stepped : (answer : Answer) → FlushMade s disk p answer new disk' → HasStepped s disk p (reply_to answer) new disk'
@@ -98,6 +100,9 @@ module _ (s : State) (disk : List ℕ) (p : ℕ) (new : State) (disk' : List ℕ
   performed_act (acts.Reclaim file page) replies.Begun rule =
       moved (reclaim_moves s p (record { file = file; page = page }) rule.0.0 rule.0.1.0 rule.0.1.1) (λ told. refl) (λ told. refl) refl rule.1
   performed_act (acts.Reclaim file page) replies.Nothing rule = silently (no_moves rule.0.1.1) (λ told. refl) refl rule.1
+  performed_act (acts.SetLength file to) replies.Begun rule =
+      moved (set_length_moves s p file to rule.0.0 rule.0.1.0 rule.0.1.1) (λ told. refl) (λ told. refl) refl rule.1
+  performed_act (acts.SetLength file to) replies.Fine rule = silently (no_moves rule.0.1.1) (λ told. refl) refl rule.1
   performed_act (acts.Msync va len flags) replies.Begun rule =
       moved (msync_moves s p va len flags rule.0.0 rule.0.1) (λ told. refl) (λ told. refl) refl rule.1
   performed_act acts.Ack replies.Acked rule =
@@ -111,6 +116,7 @@ module _ (s : State) (disk : List ℕ) (p : ℕ) (new : State) (disk' : List ℕ
       moved_all (Ending p ∷ Silent ∷ []) (reclaimed_moves disk s p new sound rule.0.1) (λ told. refl) (λ told. refl) refl rule.1
   performed_act acts.Change replies.Kept rule =
       moved (kept_moves disk s p new sound rule.0.1) (λ told. refl) (λ told. refl) refl rule.1
+  performed_act acts.Change replies.Resized rule = Resized refl refl rule.0.1 rule.1
   performed_act acts.Change (replies.Marked number) rule = Marked number refl refl rule.0.1 rule.1
   performed_act acts.Change replies.Nothing rule = silently (no_moves rule.0.1.1) (λ told. refl) refl rule.1
   performed_act acts.Resume replies.Resumed rule =

@@ -49,6 +49,7 @@ module _ (disk : List ℕ) (s : State) (p : ℕ) (new : State) (sound : IsSound 
       End (record {
         p = p;
         change = change;
+        same_lengths = λ file to e. cc;
         may = made.may;
         spaces = spaces;
         checkpoint = made.checkpoint;
@@ -77,6 +78,7 @@ module _ (disk : List ℕ) (s : State) (p : ℕ) (new : State) (sound : IsSound 
       End (record {
         p = p;
         change = change;
+        same_lengths = λ file to e. cc;
         may = made.may;
         spaces = made.spaces;
         checkpoint = s.checkpoint;
@@ -106,6 +108,7 @@ module _ (disk : List ℕ) (s : State) (p : ℕ) (new : State) (sound : IsSound 
   kept_moves made = End (record {
     p = p;
     change = changes.Reclaim made.owner;
+    same_lengths = λ file to e. cc;
     may = made.may;
     spaces = old;
     checkpoint = s.checkpoint;
@@ -173,6 +176,7 @@ module _ (disk : List ℕ) (s : State) (p : ℕ) (new : State) (sound : IsSound 
       End (record {
         p = p;
         change = changes.Reclaim made.owner;
+        same_lengths = λ file to e. cc;
         may = made.may;
         spaces = made.spaces;
         checkpoint = s.checkpoint;

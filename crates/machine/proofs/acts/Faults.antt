@@ -23,15 +23,16 @@ module _ (s : State) (disk : List ℕ) (sound : IsSound s) where
 
   brought : (owner : FilePage) (frame : ℕ) (mid : FramesState) → IsInFile s owner
       → (is_in_memory s.hardware.memory owner ≡ false → s.write_outs.broken ≡ false)
+      → s.hardware.shootdown.lock ≡ None
       → Brings s.hardware.memory owner (page_from s disk owner) frame mid
       → IsThere owner frame mid × (mid.copies ≡ s.hardware.memory.copies)
-  brought owner frame mid in_file whole (inl there) =
+  brought owner frame mid in_file whole unlocked_now (inl there) =
       subst (λ (m : FramesState). IsThere owner frame m × (m.copies ≡ s.hardware.memory.copies)) (sym there.1) (record { moves = no_moves refl; holds = there.0 }, refl)
-  brought owner frame mid in_file whole (inr read) =
+  brought owner frame mid in_file whole unlocked_now (inr read) =
       let page : Frame = record { page = owner; bytes = page_from s disk owner } in
       subst (λ (m : FramesState). IsThere owner frame m × (m.copies ≡ s.hardware.memory.copies)) (sym read.2) (
         record {
-          moves = one_move (Bring (record { owner = owner; frame = frame; in_file = in_file; absent = read.0; whole = whole read.0; free = read.1; says_is = refl; done = refl }));
+          moves = one_move (Bring (record { owner = owner; frame = frame; in_file = in_file; absent = read.0; whole = whole read.0; unlocked = unlocked_now; free = read.1; says_is = refl; done = refl }));
           holds = ap page_of (get_or-set_same s.hardware.memory.frames frame (Some page) None (slice_get_within s.hardware.memory.frames frame None read.1));
         },
         refl,
@@ -62,7 +63,7 @@ module _ (s : State) (disk : List ℕ) (sound : IsSound s) where
       let may = servable h.memory c s.write_outs.broken made.place (length_of s made.place.file) write (served_at_fix s p va write made.place allowed made.leads) in
       let free = (free_below h.shootdown p (free_of s p _ allowed)).1 in
       let in_file : IsInFile s owner = record { there = sound.spaces.in_table pcid page made.place mapped; inside = may.inside } in
-      let half = brought owner served.frame served.mid in_file may.absent served.brought in
+      let half = brought owner served.frame served.mid in_file may.absent free served.brought in
       let held : copies_out h.memory c owner write ≡ true → is_held served.mid c owner ≡ true = λ copies.
       ap (λ (copies : List (Option Frame)). is_frozen c owner && not (list_any (is_of_page owner) copies)) half.1 ∙ (and_parts write (is_held h.memory c owner) copies).1 in
       let now = copied (copies_out h.memory c owner write) owner served.frame served.mid made.memory half.0 held served.copied in

@@ -3,6 +3,7 @@ use Rattle.machine.proofs.Names.{ℕ, ◌≡◌, ◌<◌, ◌≤◌, ◌+◌, Bo
 use Rattle.machine.proofs.Names.{get_or, refl, sym, ap, ◌∙◌, subst, ⊎_elim, arith, cases_lt, length-map, All, FilePage}
 use Rattle.machine.proofs.Names.{GeometryValue, is_busy, begun, CheckpointState, Gathers, State, home_of, IsInFile}
 use Rattle.machine.proofs.Names.{IsSound, with_batch, IsPageOf, MayBegin, with_homes}
+use Rattle.machine.proofs.Names.{◌++◌, mark_homes, both_ways, first_home}
 use Rattle.machine.proofs.sound.ByMark.{gathered_there}
 use Rattle.machine.proofs.sound.Uses.{batch_homes, newest_mark}
 use Rattle.machine.proofs.code.Parts.{pages-in_file}
@@ -23,15 +24,6 @@ module _ (s : State) (sound : IsSound s) (noted : CheckpointState) (pages : List
       by true = none
       by false = all
 
-  few_pages : length pages ≤ 1020
-  few_pages =
-      ⊎_elim
-      (λ some. omega (arith, (batch_homes s sound noted (not s.write_outs.broken) pages gathers some).few, length-map pages (home_of s.table), ap (λ (g : GeometryValue). g.slots) sound.write_outs.geometry, sound.fits.few_slots))
-      (λ none. omega (arith, none)) (cases_lt 0 (length pages))
-
-  pub few_frozen : length noted.frozen ≤ 1020
-  few_frozen = by_pages (λ (owners : List FilePage). length owners ≤ 1020) (omega arith) few_pages
-
   pub frozen_there : All (IsPageOf s.table) noted.frozen
   frozen_there =
       by_pages (All (IsPageOf s.table)) (λ k d within. absurd (omega (arith, within)))
@@ -40,22 +32,41 @@ module _ (s : State) (sound : IsSound s) (noted : CheckpointState) (pages : List
   frozen_if : (broken : Bool) → s.write_outs.broken ≡ broken → noted.frozen ≡ cond (not broken) pages []
   frozen_if broken is = gathers.frozen ∙ ap (λ b. cond (not b) pages []) is
 
-  pub may_begin : (s.write_outs.broken ≡ false → is_busy s.write_outs ≡ false) → 0 < length noted.frozen → MayBegin s.write_outs (s.marks + 1) (map (home_of s.table) noted.frozen)
-  may_begin ready some = by s.write_outs.broken refl
+  -- a broken machine writes nothing, since no length was set
+  none_broken : s.write_outs.broken ≡ true → mark_homes s [] ≡ []
+  none_broken broken = by s.resized refl
     where
-      by : (broken : Bool) → s.write_outs.broken ≡ broken → MayBegin s.write_outs (s.marks + 1) (map (home_of s.table) noted.frozen)
-      by true is = absurd (omega (arith, some, ap (λ (owners : List FilePage). length owners) (frozen_if true is)))
-      by false is = record {
-        whole = is;
-        free = ready is;
-        some_mark = omega arith;
-        small_mark = omega (arith, sound.write_outs.few_marks);
-        are_homes = subst (λ (owners : List FilePage). Rattle.volume_codec.specs.Descriptor.AreHomes s.write_outs.geometry (map (home_of s.table) owners)) (sym (frozen_if false is))
-            (batch_homes s sound noted (not s.write_outs.broken) pages gathers (subst (λ (owners : List FilePage). 0 < length owners) (frozen_if false is) some));
-        newest = newest_mark s sound;
-      }
+      by : (set : Bool) → s.resized ≡ set → (cond set (first_home s.table.layout s.table.slots ∷ []) [] ++ []) ≡ []
+      by true is = absurd (both_ways s.write_outs.broken (sound.write_outs.settled is).1 broken)
+      by false is = refl
 
-  pub with_homes-batch : (mark : ℕ) → with_homes s.write_outs mark (map (home_of s.table) noted.frozen) ≡ with_batch s mark (map (home_of s.table) pages)
+  -- the home blocks of what is frozen: all, or none
+  by_homes : (P : List ℕ → Type 0) → P [] → (s.write_outs.broken ≡ false → P (mark_homes s pages)) → P (mark_homes s noted.frozen)
+  by_homes P none all = by s.write_outs.broken refl
+    where
+      by : (broken : Bool) → s.write_outs.broken ≡ broken → P (mark_homes s noted.frozen)
+      by true is = subst P (sym (ap (λ (owners : List FilePage). mark_homes s owners) (frozen_if true is) ∙ none_broken is)) none
+      by false is = subst P (sym (ap (λ (owners : List FilePage). mark_homes s owners) (frozen_if false is))) (all is)
+
+  few_homes : length (mark_homes s pages) ≤ 1020
+  few_homes = ⊎_elim
+      (λ some. omega (arith, (batch_homes s sound noted (not s.write_outs.broken) pages gathers some).few, ap (λ (g : GeometryValue). g.slots) sound.write_outs.geometry, sound.fits.few_slots))
+      (λ none. omega (arith, none)) (cases_lt 0 (length (mark_homes s pages)))
+
+  pub few_frozen : length (mark_homes s noted.frozen) ≤ 1020
+  few_frozen = by_homes (λ (l : List ℕ). length l ≤ 1020) (omega arith) (λ whole. few_homes)
+
+  pub may_begin : (s.write_outs.broken ≡ false → is_busy s.write_outs ≡ false) → 0 < length (mark_homes s noted.frozen) → MayBegin s.write_outs (s.marks + 1) (mark_homes s noted.frozen)
+  may_begin ready = by_homes (λ (l : List ℕ). 0 < length l → MayBegin s.write_outs (s.marks + 1) l) (λ some. absurd (omega (arith, some))) (λ whole some. record {
+    whole = whole;
+    free = ready whole;
+    some_mark = omega arith;
+    small_mark = omega (arith, sound.write_outs.few_marks);
+    are_homes = batch_homes s sound noted (not s.write_outs.broken) pages gathers some;
+    newest = newest_mark s sound;
+  })
+
+  pub with_homes-batch : (mark : ℕ) → with_homes s.write_outs mark (mark_homes s noted.frozen) ≡ with_batch s mark (mark_homes s pages)
   with_homes-batch mark = by s.write_outs.broken refl
     where
       none : (homes : List ℕ) → s.write_outs.broken ≡ true → s.write_outs ≡ with_batch s mark homes
@@ -66,6 +77,6 @@ module _ (s : State) (sound : IsSound s) (noted : CheckpointState) (pages : List
       all [] is = refl
       all (home ∷ homes) is = ap (λ b. cond b s.write_outs (begun s.write_outs mark (home ∷ homes))) (sym is)
 
-      by : (broken : Bool) → s.write_outs.broken ≡ broken → with_homes s.write_outs mark (map (home_of s.table) noted.frozen) ≡ with_batch s mark (map (home_of s.table) pages)
-      by true is = ap (λ (owners : List FilePage). with_homes s.write_outs mark (map (home_of s.table) owners)) (frozen_if true is) ∙ none (map (home_of s.table) pages) is
-      by false is = ap (λ (owners : List FilePage). with_homes s.write_outs mark (map (home_of s.table) owners)) (frozen_if false is) ∙ all (map (home_of s.table) pages) is
+      by : (broken : Bool) → s.write_outs.broken ≡ broken → with_homes s.write_outs mark (mark_homes s noted.frozen) ≡ with_batch s mark (mark_homes s pages)
+      by true is = ap (λ (l : List ℕ). with_homes s.write_outs mark l) (ap (λ (owners : List FilePage). mark_homes s owners) (frozen_if true is) ∙ none_broken is) ∙ none (mark_homes s pages) is
+      by false is = ap (λ (owners : List FilePage). with_homes s.write_outs mark (mark_homes s owners)) (frozen_if false is) ∙ all (mark_homes s pages) is

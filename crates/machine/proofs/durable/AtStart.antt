@@ -101,7 +101,10 @@ module _ (files : List File) (table : SuperValue) (lengths : List ℕ) (shape : 
       whole = λ file page. length-page_of (file_bytes files file) page;
       latest = λ frame owner holds. absurd (none_held shape.frames shape.copies frame owner holds);
     };
-    touched = λ owner. (λ is. absurd (false≢true is), λ d. absurd (none_held shape.frames shape.copies d.0 owner d.1));
+    touched = record {
+      each = λ owner. (λ is. absurd (false≢true is.1), λ d. absurd (none_held shape.frames shape.copies d.0 owner d.1));
+      inside = λ unset owner is. absurd (false≢true is);
+    };
     plain = λ owner is absent.
         plain_page (file_bytes files owner.file) owner.page (length_of start owner.file) (ap (λ l. get_or l owner.file 0) (sym has.lengths) ∙ length-file_bytes files owner.file);
   }

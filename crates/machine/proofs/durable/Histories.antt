@@ -327,22 +327,22 @@ pub some_touched : (history : List Event) → has_resized history ≡ false → 
 some_touched history none some = some_changed (since_mark history) some none
 
 module _ (told : Told) (s : State) (p number : ℕ) (new : State) (mark : MarkMade s p number new) (touched : AreTouched told s) where
-  -- those that got a store since the last mark
-  pub gathers_touched : (owner : FilePage) → (Contains mark.pages owner) ↔ (is_touched told.history owner.file owner.page ≡ true)
+  -- those of files that were touched since the last mark
+  pub gathers_touched : (owner : FilePage) → (Contains mark.pages owner) ↔ (IsInFile s owner × (is_touched told.history owner.file owner.page ≡ true))
   gathers_touched owner =
       let dirty = mark.gathered.gathered.dirty owner in
-      (λ gathered. (touched owner).1 (dirty.0 gathered), λ stored. dirty.1 ((touched owner).0 stored))
+      (λ gathered. (touched.each owner).1 (dirty.0 gathered), λ stored. dirty.1 ((touched.each owner).0 stored))
 
   -- it writes nothing, where nothing was stored and no length was set
   pub gathers_nothing : has_resized told.history ≡ s.resized → (mark_homes s mark.pages ≡ []) ↔ (has_unmarked told.history ≡ false)
   gathers_nothing resized = (
     (λ none. let parts = none_written s mark.pages none in false_from_ne_true (has_unmarked told.history) (λ stored.
         let some = some_touched told.history (resized ∙ parts.0) stored in
-        let there = subst (λ (pages : List FilePage). Contains pages (record { file = some.0; page = some.1 })) parts.1 ((gathers_touched (record { file = some.0; page = some.1 })).1 some.2) in
+        let there = subst (λ (pages : List FilePage). Contains pages (record { file = some.0; page = some.1 })) parts.1 ((gathers_touched (record { file = some.0; page = some.1 })).1 (touched.inside parts.0 (record { file = some.0; page = some.1 }) some.2, some.2)) in
         omega (arith, there.1))),
     (λ none.
         let unset : s.resized ≡ false = false_from_ne_true s.resized (λ set. both_ways (has_unmarked told.history) none (unmarked_by_resized told.history (resized ∙ set))) in
-        let no_pages : mark.pages ≡ [] = empty mark.pages (λ owner gathered. both_ways (has_unmarked told.history) none (unmarked_by_touched told.history owner.file owner.page ((gathers_touched owner).0 gathered))) in
+        let no_pages : mark.pages ≡ [] = empty mark.pages (λ owner gathered. both_ways (has_unmarked told.history) none (unmarked_by_touched told.history owner.file owner.page ((gathers_touched owner).0 gathered).1)) in
         λ i. cond (unset i) (first_home s.table.layout s.table.slots ∷ []) [] ++ map (home_of s.table) (no_pages i)),
   )
     where

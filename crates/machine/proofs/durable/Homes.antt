@@ -143,9 +143,9 @@ no_batch s sound owner is absent has =
 
 module _ (files : List File) (told : Told) (s : State) (seen : List ℕ) (may : List ℕ → Type 0) (t : IsTracked files told s seen may) where
   -- nor is it touched
-  pub absent_untouched : (owner : FilePage) → is_in_memory s.hardware.memory owner ≡ false → is_touched told.history owner.file owner.page ≡ false
-  absent_untouched owner absent = false_from_ne_true (is_touched told.history owner.file owner.page) (λ is.
-      let at = (t.touched owner).0 is in
+  pub absent_untouched : (owner : FilePage) → IsInFile s owner → is_in_memory s.hardware.memory owner ≡ false → is_touched told.history owner.file owner.page ≡ false
+  absent_untouched owner in_file absent = false_from_ne_true (is_touched told.history owner.file owner.page) (λ is.
+      let at = (t.touched.each owner).0 (in_file, is) in
       both_ways (is_in_memory s.hardware.memory owner) absent (in_memory_held s.hardware.memory at.0 owner at.1))
 
   pub page_read : (owner : FilePage) → IsInFile s owner → is_in_memory s.hardware.memory owner ≡ false → s.write_outs.broken ≡ false → page_from s seen owner ≡ after (memory_of files) told.history owner.file owner.page
@@ -153,5 +153,5 @@ module _ (files : List File) (told : Told) (s : State) (seen : List ℕ) (may : 
       let home = home_of s.table owner in
       let block : block_at seen home ≡ t.new home = t.stands.reads whole home (home_is s t.sound owner is) (no_batch s t.sound owner is absent) in
       let part : within_file s owner (t.new home) ≡ within_file s owner (after (memory_of files) told.history owner.file owner.page) =
-      elim t.written.clean [ inl lost ↦ absurd (both_ways s.write_outs.broken whole lost.broken) | inr clean ↦ clean owner is (absent_untouched owner absent) ] in
+      elim t.written.clean [ inl lost ↦ absurd (both_ways s.write_outs.broken whole lost.broken) | inr clean ↦ clean owner is (absent_untouched owner is absent) ] in
       ap (padded 4096) (ap (within_file s owner) block ∙ part) ∙ sym (t.plain owner is absent)

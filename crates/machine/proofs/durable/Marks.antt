@@ -161,9 +161,9 @@ module _ (files : List File) (told : Told) (s : State) (p number : ℕ) (seen : 
     -- ---- nothing was stored, and no length was set
 
     module _ (gathers : Gathers s.hardware.spaces s.hardware.memory s.checkpoint noted (not s.write_outs.broken) []) (unset : s.resized ≡ false) where
-      untouched : (owner : FilePage) → is_touched history owner.file owner.page ≡ false
-      untouched owner = false_from_ne_true (is_touched history owner.file owner.page) (λ is.
-          let there = (gathers.gathered.dirty owner).1 ((touched owner).0 is) in absurd (omega (arith, there.1)))
+      untouched : (owner : FilePage) → IsInFile s owner → is_touched history owner.file owner.page ≡ false
+      untouched owner in_file = false_from_ne_true (is_touched history owner.file owner.page) (λ is.
+          let there = (gathers.gathered.dirty owner).1 ((touched.each owner).0 (in_file, is)) in absurd (omega (arith, there.1)))
 
       nothing_frozen : noted.frozen ≡ []
       nothing_frozen = gathers.frozen ∙ by (not s.write_outs.broken)
@@ -176,7 +176,8 @@ module _ (files : List File) (told : Told) (s : State) (p number : ℕ) (seen : 
       unstored : has_unmarked history ≡ false
       unstored = false_from_ne_true (has_unmarked history) (λ stored.
           let some = some_touched history (has_files.resized ∙ unset) stored in
-          both_ways (is_touched history some.0 some.1) (untouched (record { file = some.0; page = some.1 })) some.2)
+          let owner : FilePage = record { file = some.0; page = some.1 } in
+          both_ways (is_touched history some.0 some.1) (untouched owner (touched.inside unset owner some.2)) some.2)
 
       all_acked : (n : ℕ) → Contains longer (Mark n) → Contains longer (Acknowledge n)
       all_acked n has = elim (Contains-append_cases history (marked_by history number) (Mark n) has) [
@@ -190,7 +191,7 @@ module _ (files : List File) (told : Told) (s : State) (p number : ℕ) (seen : 
       made_acked n has = all_acked n (in_history made (cond (has_unmarked history) [] (Acknowledge number ∷ [])) longer (Mark n) (append_assoc history (Mark number ∷ []) (cond (has_unmarked history) [] (Acknowledge number ∷ []))) has)
 
       all_parts : HasParts s.table s.lengths new memory
-      all_parts owner there inside = clean owner (record { there = there; inside = inside }) (untouched owner)
+      all_parts owner there inside = let is : IsInFile s owner = record { there = there; inside = inside } in clean owner is (untouched owner is)
 
       pub marked_nothing : IsDurable files now (marked_with noted spaces s.write_outs) seen may
       marked_nothing = record {
@@ -219,10 +220,10 @@ module _ (files : List File) (told : Told) (s : State) (p number : ℕ) (seen : 
 
     module _ (pages : List FilePage) (gathers : Gathers s.hardware.spaces s.hardware.memory s.checkpoint noted (not s.write_outs.broken) pages) (unmarked : has_unmarked history ≡ true) where
       is_stored : (owner : FilePage) → Contains pages owner → is_touched history owner.file owner.page ≡ true
-      is_stored owner has = (touched owner).1 ((gathers.gathered.dirty owner).0 has)
+      is_stored owner has = ((touched.each owner).1 ((gathers.gathered.dirty owner).0 has)).1
 
-      is_gathered : (owner : FilePage) → is_touched history owner.file owner.page ≡ true → Contains pages owner
-      is_gathered owner is = (gathers.gathered.dirty owner).1 ((touched owner).0 is)
+      is_gathered : (owner : FilePage) → IsInFile s owner → is_touched history owner.file owner.page ≡ true → Contains pages owner
+      is_gathered owner in_file is = (gathers.gathered.dirty owner).1 ((touched.each owner).0 (in_file, is))
 
       -- so the mark isn't acknowledged at once
       waits : (n : ℕ) → Contains (marked_by history number) (Acknowledge n) → ⊥
@@ -316,7 +317,7 @@ module _ (files : List File) (told : Told) (s : State) (p number : ℕ) (seen : 
       next_parts : HasParts s.table s.lengths next_contents memory
       next_parts owner there inside = let is : IsInFile s owner = record { there = there; inside = inside } in elim (cases_Bool (is_touched history owner.file owner.page)) [
         | inl stored ↦
-            (let has = is_gathered owner stored in
+            (let has = is_gathered owner is stored in
             ap (within_file s owner) (next_page owner ∙ overlaid-at s sound new pages owner in_files has ∙ ap (cut_at_end s owner) (gathered_bytes owner has)) ∙ within_cut s owner (memory owner.file owner.page) (latest.whole owner.file owner.page))
         | inr untouched ↦
             ap (within_file s owner) (next_page owner ∙ overlaid-elsewhere s sound new pages owner in_files is (λ has. both_ways (is_touched history owner.file owner.page) untouched (is_stored owner has)))
@@ -383,7 +384,7 @@ module _ (files : List File) (told : Told) (s : State) (p number : ℕ) (seen : 
       unmarked_by_homes : (home : ℕ) (homes : List ℕ) → mark_homes s pages ≡ home ∷ homes → has_unmarked history ≡ true
       unmarked_by_homes home homes is = elim (cases_Bool s.resized) [
         | inl set ↦ unmarked_by_resized history (has_files.resized ∙ set)
-        | inr unset ↦ by_first pages (λ owner has. (touched owner).1 ((gathers.gathered.dirty owner).0 has)) (ap (λ b. cond b (first_home s.table.layout s.table.slots ∷ []) [] ++ map (home_of s.table) pages) (sym unset) ∙ is)
+        | inr unset ↦ by_first pages (λ owner has. ((touched.each owner).1 ((gathers.gathered.dirty owner).0 has)).1) (ap (λ b. cond b (first_home s.table.layout s.table.slots ∷ []) [] ++ map (home_of s.table) pages) (sym unset) ∙ is)
       ]
         where
           by_first : (owners : List FilePage) → ((owner : FilePage) → Contains owners owner → is_touched history owner.file owner.page ≡ true) → map (home_of s.table) owners ≡ home ∷ homes → has_unmarked history ≡ true

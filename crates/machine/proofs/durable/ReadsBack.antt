@@ -183,7 +183,7 @@ module _ (files : List File) (told : Told) (s : State) (seen : List ℕ) (may : 
   kept_page owner in_file other c left =
       let none = committed files told s p number seen may t.old t.new t.sound t.files_are t.latest t.touched t.stands t.written is.next is.may.lock in
       let untouched : is_touched told.history owner.file owner.page ≡ false =
-      false_from_ne_true (is_touched told.history owner.file owner.page) (λ stored. other ((is.gathered.gathered.dirty owner).1 ((t.touched owner).0 stored))) in
+      false_from_ne_true (is_touched told.history owner.file owner.page) (λ stored. other ((is.gathered.gathered.dirty owner).1 ((t.touched.each owner).0 (in_file, stored)))) in
       record {
         contents = t.new;
         recovers = left_new s.table t.old t.new (current_stage s.write_outs) c (stage_committed s.write_outs.batches none) (stands_left s.table t.old t.new s.write_outs seen may t.stands c left);

@@ -14,7 +14,9 @@ use Rattle.page_entry.specs.declared.refusal.Refusal.TheVariants as refusals
 use Rattle.journal.specs.declared.flushed.Flushed.TheVariants as flushed
 use Rattle.machine.specs.declared.act.Act.TheVariants as acts
 use Rattle.machine.specs.declared.act.Reply.TheVariants as replies
-use Rattle.machine.specs.inside.Moves.{Flushed as Stepped}
+use Rattle.machine.specs.inside.Moves.{Flushed as Stepped, Resized}
+use Rattle.machine.specs.History.{SetLength}
+use Rattle.machine.proofs.Names.{get_or, length_of, changed, pending_in, change_in, ResizeMade, resized_at}
 use Rattle.machine.proofs.sound.Kept.{performed_sound}
 use Rattle.machine.proofs.acts.All.{performed}
 use Rattle.machine.proofs.durable.Histories.{written_as, marked_by, after_marked, lengths_marked, resized_mark, AreQuiet, quiet_nothing, quiet_acknowledge, touched_mark, SameFiles}
@@ -23,7 +25,9 @@ use Rattle.machine.proofs.durable.Flushes.{flush_within, flush_failed, flush_goe
 use Rattle.machine.proofs.durable.ReadsBack.{reads_within, reads_now, stops_within}
 use Rattle.machine.proofs.track.DirtyFrames.{clean_after_mark}
 use Rattle.machine.proofs.track.ToldSpaces.{spaces_still}
-use Rattle.machine.proofs.track.Arranged.{spaces_of, with_history, arranged_beside, arranged_end}
+use Rattle.machine.proofs.track.Arranged.{spaces_of, with_history, arranged_beside, arranged_end, arranged_resized}
+use Rattle.machine.proofs.track.Resized.{pages_resized}
+use Rattle.machine.proofs.durable.Resized.{resized_durable}
 use Rattle.machine.proofs.track.Pages.{HasPages, SamePages, files_kept, pages_quiet, plain_still}
 use Rattle.machine.proofs.track.Moved.{moves_tracked}
 
@@ -180,10 +184,13 @@ module _ (files : List File) (told : Told) (s : State) (disk : List ℕ) (may : 
             whole = λ file page. ap (λ (m : Memory). length (m file page)) memory ∙ has.latest.whole file page;
             latest = λ frame owner holds. has.latest.latest frame owner holds ∙ ap (λ (m : Memory). m owner.file owner.page) (sym memory);
           };
-          touched = λ owner. (
-            λ is. absurd (false≢true (sym (touched_mark told.history number (has_unmarked told.history) owner.file owner.page) ∙ is)),
-            λ d. absurd (clean_after_mark s.hardware.spaces made.spaces s.hardware.memory s.checkpoint made.noted (not s.write_outs.broken) made.pages d.0 made.gathered made.protected d.2),
-          );
+          touched = record {
+            each = λ owner. (
+              λ is. absurd (false≢true (sym (touched_mark told.history number (has_unmarked told.history) owner.file owner.page) ∙ is.1)),
+              λ d. absurd (clean_after_mark s.hardware.spaces made.spaces s.hardware.memory s.checkpoint made.noted (not s.write_outs.broken) made.pages d.0 made.gathered made.protected d.2),
+            );
+            inside = λ unset owner is. absurd (false≢true (sym (touched_mark told.history number (has_unmarked told.history) owner.file owner.page) ∙ is));
+          };
           plain = plain_still files told marked s _ (record { table = refl; lengths = refl }) (λ owner is gone. (ap (λ (m : Memory). m owner.file owner.page) memory, has.plain owner is gone));
         })
 
@@ -192,6 +199,30 @@ module _ (files : List File) (told : Told) (s : State) (disk : List ℕ) (may : 
         outcome_as marked Nothing told_is work (tracked_of marked marked_arranged marked_pages
         (durable_as files (record told { history = told.history ++ marked_by told.history number }) marked new disk disk' may' refl same_disk
         (marked_durable files told s p number disk may' t.old t.new t.sound t.files_are t.latest t.touched (stands_less s.table s.write_outs t.old t.new disk may may' (left_by Nothing work) t.stands) t.written made.next made.may.lock new made (fits number made)))) left_now
+
+  -- ---- a change of a file's length
+
+  module _ (made : ResizeMade s p new) where
+    abbrev resized : Told
+    resized = record (ended_by (changed told told.pending) p) { history = told.history ++ resized_at told told.pending }
+
+    -- what is told is the change of the length
+    event_is : resized_at told told.pending ≡ SetLength made.file (length_of s made.file) made.to ∷ []
+    event_is =
+        ap (resized_at told) (t.arranged.same_pending ∙ ap (λ l. pending_in (change_in l)) made.may.lock)
+        ∙ ap (λ (l : List ℕ). SetLength made.file (get_or l made.file 0) made.to ∷ []) t.arranged.same_lengths
+
+    history_is : resized.history ≡ told.history ++ SetLength made.file (length_of s made.file) made.to ∷ []
+    history_is = ap (λ l. told.history ++ l) event_is
+
+    resizing : IsTold resized → step_work s act reply ≡ Nothing → disk' ≡ disk → Outcome
+    resizing told_is work same_disk =
+        let standing = stands_less s.table s.write_outs t.old t.new disk may may' (left_by Nothing work) t.stands in
+        outcome_as resized Nothing told_is work (tracked_of resized
+        (with_history resized.history (arranged_resized told s t.arranged p new made))
+        (pages_resized files told resized s p new made history_is t.sound has)
+        (durable_as files resized resized new disk disk' may' refl same_disk
+        (resized_durable files told resized s p disk may' new made history_is t.sound has (record { old = t.old; new = t.new; stands = standing; written = t.written })))) left_now
 
   -- ---- a step of the write-outs
 
@@ -266,6 +297,8 @@ module _ (files : List File) (told : Told) (s : State) (disk : List ℕ) (may : 
   performing (Moved by) = moving by
   performing (Marked number act_is reply_is made same_disk) =
       marking number made (λ i. tell told (record { p = p; act = act_is i }) (reply_is i)) (λ i. step_work s (act_is i) (reply_is i)) same_disk
+  performing (Resized act_is reply_is made same_disk) =
+      resizing made (λ i. tell told (record { p = p; act = act_is i }) (reply_is i)) (λ i. step_work s (act_is i) (reply_is i)) same_disk
   performing (Stepped act_is made fine) = stepping act_is made fine
   performing (Failed act_is reply_is made) = failing act_is reply_is made
 

@@ -93,6 +93,9 @@ entry_replaced s pcid page place entry mapped may keeps had sound =
         places = places;
         table = refl;
         in_memory = λ owner is. is;
+        lengths = refl;
+        settled = λ whole none. (whole, none);
+        room = refl;
         marks = refl;
         free = λ free. free;
       }) (sound.spaces.prepared lock held);

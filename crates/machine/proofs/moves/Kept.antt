@@ -124,7 +124,7 @@ move_sound disk s says new (Begin is) sound = begun_sound s says new is sound
 move_sound disk s says new (End is) sound = ended_sound s says new is sound
 move_sound disk s says new (Store is) sound = stored_sound s says new is sound
 move_sound disk s says new (Bring is) sound =
-    unchanged_sound _ new is.done (page_sound s is.frame is.owner (page_from s disk is.owner) is.in_file (length-page_from s disk is.owner) is.absent is.free sound)
+    unchanged_sound _ new is.done (page_sound s is.frame is.owner (page_from s disk is.owner) is.in_file (length-page_from s disk is.owner) is.absent is.free is.unlocked sound)
 move_sound disk s says new (Copy is) sound = unchanged_sound _ new is.done (copy_sound s is.frame is.owner is.copy is.holds is.held is.free sound)
 move_sound disk s says new (Drop is) sound = unchanged_sound _ new is.done (dropped_sound s is.owner is.frame is.leaves is.unmapped is.free sound)
 

@@ -18,7 +18,7 @@ use Rattle.machine.proofs.sound.Admitted.{first_none, refuse_none}
 use Rattle.machine.proofs.sound.Records.{coming, page_next, no_page_next}
 use Rattle.machine.proofs.sound.Groups.{still_sound, unchanged_sound, memory_same}
 use Rattle.machine.proofs.sound.Waiting.{waits_of, waiting, waiting-none, length-advanced, older-rest, older-advanced, recorded, unrecorded}
-use Rattle.machine.proofs.sound.Steps.{stepped_write_outs, stepped_spaces, done_none, none_recorded, free-advanced, free-done, IsMemory-without_copy_of, IsMemory-without_copies, none_left}
+use Rattle.machine.proofs.sound.Steps.{none_after, stepped_write_outs, stepped_spaces, done_none, none_recorded, free-advanced, free-done, IsMemory-without_copy_of, IsMemory-without_copies, none_left}
 
 -- ---- steps
 
@@ -46,7 +46,8 @@ module _ (s : State) (sound : IsSound s) (whole : s.write_outs.broken ≡ false)
       let others : map (home_of s.table) (drop 1 s.checkpoint.frozen) ≡ file_homes s.table (waiting (batches_after answer batches)) =
       sym (drop-map (home_of s.table) 1 s.checkpoint.frozen) ∙ ap (drop 1) waited ∙ ap (file_homes s.table) (sym after_it ∙ ap waiting (sym same)) in
       still_sound sound refl refl
-      (stepped_spaces s sound memory (released s.checkpoint) outs refl (λ free broken. ap (λ (l : List WriteOut). is_busy (record s.write_outs { batches = l })) same ∙ free-advanced s.write_outs (free whole)))
+      (stepped_spaces s sound memory (released s.checkpoint) outs refl (λ free broken. ap (λ (l : List WriteOut). is_busy (record s.write_outs { batches = l })) same ∙ free-advanced s.write_outs (free whole))
+      (λ fine none. (fine, ap (batches_after answer) none ∙ none_after answer)))
       (record {
         memory = IsMemory-without_copy_of s.hardware.memory first sound.memory.memory;
         few_frames = sound.memory.few_frames;
@@ -70,7 +71,8 @@ module _ (s : State) (sound : IsSound s) (whole : s.write_outs.broken ≡ false)
   step_sound answer older few waits free =
       let outs = record s.write_outs { batches = batches_after answer s.write_outs.batches } in
       still_sound sound refl refl
-      (stepped_spaces s sound s.hardware.memory s.checkpoint outs refl (λ was broken. free (was whole)))
+      (stepped_spaces s sound s.hardware.memory s.checkpoint outs refl (λ was broken. free (was whole))
+      (λ fine none. (fine, ap (batches_after answer) none ∙ none_after answer)))
       (memory_same s s.hardware.shootdown outs s.marks sound.memory)
       (stepped_write_outs s sound answer s.write_outs.broken s.hardware s.checkpoint refl older few unset
       (frozen_waits ∙ sym waits ∙ sym (cond-false s.write_outs.broken [] (file_homes s.table (waiting (batches_after answer s.write_outs.batches))) whole)))
@@ -105,7 +107,7 @@ pub failed_sound : (s : State) → IsSound s → (s.write_outs.batches ≡ [] �
 failed_sound s sound some =
     let memory = without_copies s.hardware.memory in
     still_sound sound refl refl
-    (stepped_spaces s sound memory (thawed s.checkpoint) (outs_after s.write_outs flushed.Device) refl (λ free whole. absurd (false≢true (sym whole))))
+    (stepped_spaces s sound memory (thawed s.checkpoint) (outs_after s.write_outs flushed.Device) refl (λ free whole. absurd (false≢true (sym whole))) (λ fine none. absurd (some none)))
     (record {
       memory = IsMemory-without_copies s.hardware.memory sound.memory.memory;
       few_frames = sound.memory.few_frames;

@@ -1,6 +1,8 @@
 -- Other frames keep a machine sound.
 use Rattle.machine.proofs.Names.{ℕ, ◌≡◌, ◌≢◌, ◌+◌, ◌-◌, ◌*◌, ◌≤◌, not, true, false, List, ◌++◌, length, take, drop}
 use Rattle.machine.proofs.Names.{get_or, Option, Some, None, IsSome, slice_get, refl, sym, ap, ◌∙◌, subst, inl, ⊎_elim}
+use Rattle.machine.proofs.Names.{zero, suc, [], ◌∷◌, ◌⊎◌, cond, set, inr, is_none, count_by}
+use Rattle.std.proofs.lemmas.List.Sums.{sum_by-cons}
 use Rattle.machine.proofs.Names.{arith, cases_eq, and_parts, not-true, false≢true, length-append, length-take}
 use Rattle.machine.proofs.Names.{length-take-le, length-drop, length-set, get_or-set_other, Contains-get_or, Mapped}
 use Rattle.machine.proofs.Names.{FilePage, block_at, length-padded, FramesState, Frame, frame_at, overwrite}
@@ -50,17 +52,19 @@ pub frames_sound : (s : State) (memory : FramesState) → IsMemory memory → le
     → ((frame : ℕ) (owner : FilePage) → Holds s.hardware.memory frame owner → Holds memory frame owner)
     → ((frame : ℕ) (owner : FilePage) → Holds memory frame owner → IsInFile s owner) → AreBacked memory s.checkpoint s.hardware.spaces
     → ((copy : ℕ) (kept : Frame) → get_or memory.copies copy None ≡ Some kept → is_frozen s.checkpoint kept.page ≡ true)
+    → (s.hardware.shootdown.lock ≡ None) ⊎ (count_by is_none memory.frames ≡ count_by is_none s.hardware.memory.frames)
     → IsSound s → IsSound (with_memory s memory)
-frames_sound s memory is same stays in_files backed copied sound = still_sound sound refl refl
+frames_sound s memory is same stays in_files backed copied room sound = still_sound sound refl refl
     (record {
       spaces = sound.spaces.spaces;
       shootdown = sound.spaces.shootdown;
       coheres = sound.spaces.coheres;
       current = sound.spaces.current;
       in_table = sound.spaces.in_table;
-      prepared = λ lock held. prepared_moved s (with_memory s memory) lock.change
-          (record { users = λ q user. user; places = λ q. refl; table = refl; in_memory = in_memory_stays s.hardware.memory memory stays; marks = refl; free = λ free. free })
-          (sound.spaces.prepared lock held);
+      prepared = λ lock held. ⊎_elim (λ free. unlocked s.hardware.shootdown.lock lock free held)
+          (λ as_many. prepared_moved s (with_memory s memory) lock.change
+          (record { users = λ q user. user; places = λ q. refl; table = refl; in_memory = in_memory_stays s.hardware.memory memory stays; lengths = refl; settled = λ whole none. (whole, none); room = as_many; marks = refl; free = λ free. free })
+          (sound.spaces.prepared lock held)) room;
     })
     (record {
       memory = is;
@@ -106,6 +110,20 @@ IsMemory-with_bytes memory frame at bytes within is =
     other (once.one n frame g was.0 old was.1 (sym same ∙ sym was.2))))
     (once_copies memory is)
 
+-- as many frames are free, where one is in use or free as before
+free_as_many : (frames : List (Option Frame)) (k : ℕ) (o : Option Frame) → is_none o ≡ is_none (get_or frames k None)
+    → count_by is_none (set frames k o) ≡ count_by is_none frames
+free_as_many [] k o same = refl
+free_as_many (f ∷ fs) zero o same =
+    sum_by-cons (λ y. cond (is_none y) 1 0) o fs ∙ ap (λ b. cond b 1 0 + count_by is_none fs) same ∙ sym (sum_by-cons (λ y. cond (is_none y) 1 0) f fs)
+free_as_many (f ∷ fs) (suc k) o same =
+    sum_by-cons (λ y. cond (is_none y) 1 0) f (set fs k o) ∙ ap (λ n. cond (is_none f) 1 0 + n) (free_as_many fs k o same)
+    ∙ sym (sum_by-cons (λ y. cond (is_none y) 1 0) f fs)
+
+none-overwrite : (o : Option Frame) (at : ℕ) (bytes : List ℕ) → is_none (overwrite_frame o at bytes) ≡ is_none o
+none-overwrite None at bytes = refl
+none-overwrite (Some f) at bytes = refl
+
 -- bytes are written into a page
 pub bytes_sound : (s : State) (frame at : ℕ) (bytes : List ℕ) → at + length bytes ≤ 4096 → IsSound s → IsSound (with_memory s (with_bytes s.hardware.memory frame at bytes))
 bytes_sound s frame at bytes within sound =
@@ -114,7 +132,8 @@ bytes_sound s frame at bytes within sound =
     (length-set memory.frames frame (overwrite_frame (frame_at memory frame) at bytes))
     (λ k owner holds. page_of-with_bytes memory frame at bytes k ∙ holds)
     (λ k owner holds. sound.memory.in_files k owner (sym (page_of-with_bytes memory frame at bytes k) ∙ holds))
-    (AreBacked-with_bytes memory s.checkpoint s.hardware.spaces frame at bytes sound.memory.backed) sound.memory.copied sound
+    (AreBacked-with_bytes memory s.checkpoint s.hardware.spaces frame at bytes sound.memory.backed) sound.memory.copied
+    (inr (free_as_many memory.frames frame (overwrite_frame (frame_at memory frame) at bytes) (none-overwrite (frame_at memory frame) at bytes))) sound
 
 -- ---- a page that is read in
 
@@ -130,9 +149,9 @@ length-page_from s disk owner =
 
 module _ (s : State) (frame : ℕ) (owner : FilePage) where
   -- a page comes into a free frame
-  pub page_sound : (bytes : List ℕ) → IsInFile s owner → length bytes ≡ 4096 → is_in_memory s.hardware.memory owner ≡ false → slice_get s.hardware.memory.frames frame ≡ Some None → IsSound s
+  pub page_sound : (bytes : List ℕ) → IsInFile s owner → length bytes ≡ 4096 → is_in_memory s.hardware.memory owner ≡ false → slice_get s.hardware.memory.frames frame ≡ Some None → s.hardware.shootdown.lock ≡ None → IsSound s
       → IsSound (with_memory s (with_page s.hardware.memory frame owner bytes))
-  page_sound bytes in_file whole absent free sound =
+  page_sound bytes in_file whole absent free unlocked_now sound =
       let memory = s.hardware.memory in
       let page : Frame = record { page = owner; bytes = bytes } in
       let once = once_frames memory sound.memory.memory in
@@ -146,7 +165,7 @@ module _ (s : State) (frame : ℕ) (owner : FilePage) where
       (λ old. sound.memory.in_files k other (sym (ap page_of old) ∙ holds))
       (λ new. subst (IsInFile s) (same_some (sym (ap page_of new.1) ∙ holds)) in_file)
       (after_set memory.frames frame (Some page) k))
-      (AreBacked-with_page memory s.checkpoint s.hardware.spaces frame owner bytes free sound.memory.backed) sound.memory.copied sound
+      (AreBacked-with_page memory s.checkpoint s.hardware.spaces frame owner bytes free sound.memory.backed) sound.memory.copied (inl unlocked_now) sound
 
   -- its bytes are copied, where it is held
   pub copy_sound : (copy : ℕ) → Holds s.hardware.memory frame owner → is_held s.hardware.memory s.checkpoint owner ≡ true → slice_get s.hardware.memory.copies copy ≡ Some None → IsSound s
@@ -165,7 +184,7 @@ module _ (s : State) (frame : ℕ) (owner : FilePage) where
       (λ k kept there. ⊎_elim
       (λ old. sound.memory.copied k kept (sym old ∙ there))
       (λ new. ap (is_frozen s.checkpoint) (page_is kept (sym new.1 ∙ there)) ∙ parts.0)
-      (after_set memory.copies copy (frame_at memory frame) k)) sound
+      (after_set memory.copies copy (frame_at memory frame) k)) (inr refl) sound
 
 -- a frame that becomes free
 module _ (memory : FramesState) (frame : ℕ) where

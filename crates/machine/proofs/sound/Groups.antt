@@ -3,6 +3,8 @@ use Rattle.machine.proofs.Names.{arith, List, Fits, AreSpacesSound, ℕ, ◌≡�
 use Rattle.machine.proofs.Names.{get_or, Some, IsSome, refl, sym, ap, ◌∙◌, subst, All, list_any, Contains-get_or}
 use Rattle.machine.proofs.Names.{FilePage, protect_refusal, Places, SuperValue, WriteOutsValue, is_busy, HasBlock}
 use Rattle.machine.proofs.Names.{Change, Unmap, Protect, Reclaim, Checkpoint, Spaces, has_space, space_at}
+use Rattle.machine.proofs.Names.{◌-◌, ◌*◌, ◌/◌, ◌%◌, ◌≤◌, ◌&&◌, not, ltb, eqb, is_none, count_by, Bool, [], pages_of, lengths_blocks}
+use Rattle.spaces.specs.declared.change.Change.TheVariants.{SetLength}
 use Rattle.machine.proofs.Names.{is_user_space, Lock, ShootdownState, IsShootdown, current, Coheres, CheckpointState}
 use Rattle.machine.proofs.Names.{is_noted, same_page, AreRising, AreBacked, frame_at, is_in_memory, Hardware, State}
 use Rattle.machine.proofs.Names.{home_of, pages_in_file, with_shootdown, IsPrepared, IsMemorySound, AreWriteOutsSound}
@@ -88,9 +90,21 @@ pub record StaysPrepared (s new : State) : Type 0 where
   pub table : new.table ≡ s.table
   pub in_memory : (owner : FilePage) → is_in_memory s.hardware.memory owner ≡ true
       → is_in_memory new.hardware.memory owner ≡ true
+  pub lengths : new.lengths ≡ s.lengths
+  pub settled : s.write_outs.broken ≡ false → s.write_outs.batches ≡ []
+      → (new.write_outs.broken ≡ false) × (new.write_outs.batches ≡ [])
+  pub room : count_by is_none new.hardware.memory.frames ≡ count_by is_none s.hardware.memory.frames
   pub marks : new.marks ≡ s.marks
   pub free : (s.write_outs.broken ≡ false → is_busy s.write_outs ≡ false) → new.write_outs.broken ≡ false
       → is_busy new.write_outs ≡ false
+
+-- a page that is in memory still isn't lacking
+lacks_still : (grows inside there there' : Bool) → (there ≡ true → there' ≡ true) → (grows && inside && not there) ≡ false
+    → (grows && inside && not there') ≡ false
+lacks_still false inside there there' stays is = refl
+lacks_still true false there there' stays is = refl
+lacks_still true true true there' stays is = ap not (stays refl)
+lacks_still true true false there' stays is = absurd (cc)
 
 pub prepared_moved : (s new : State) (change : Change) → StaysPrepared s new → IsPrepared s change
     → IsPrepared new change
@@ -102,6 +116,23 @@ prepared_moved s new (Reclaim owner) stays is = (
   subst (λ (table : SuperValue). owner.page < pages_in_file table.files owner.file) (sym stays.table) is.1,
   stays.in_memory owner is.2,
 )
+prepared_moved s new (SetLength file to) stays is =
+    let same = stays.lengths in
+    let settled = stays.settled is.whole is.done in
+    let memory = new.hardware.memory in
+    record {
+      block = subst (λ (table : SuperValue). 0 < lengths_blocks table.layout) (sym stays.table) is.block;
+      there = subst (λ (table : SuperValue). file < length table.files) (sym stays.table) is.there;
+      within = subst (λ (table : SuperValue). to ≤ get_or (map (λ f. f.capacity) table.files) file 0) (sym stays.table) is.within;
+      differs = λ e. is.differs (e ∙ ap (λ (l : List ℕ). get_or l file 0) same);
+      whole = settled.0;
+      done = settled.1;
+      resident = subst (λ (l : List ℕ). (ltb (get_or l file 0) to && not (eqb (get_or l file 0 % 4096) 0) && not (is_in_memory memory (record { file = file; page = get_or l file 0 / 4096 }))) ≡ false) (sym same)
+          (lacks_still (ltb (get_or s.lengths file 0) to) (not (eqb (get_or s.lengths file 0 % 4096) 0)) (is_in_memory s.hardware.memory (record { file = file; page = get_or s.lengths file 0 / 4096 }))
+          (is_in_memory memory (record { file = file; page = get_or s.lengths file 0 / 4096 })) (stays.in_memory (record { file = file; page = get_or s.lengths file 0 / 4096 })) is.resident);
+      room = subst (λ (l : List ℕ). ltb (count_by is_none memory.frames) (pages_of to - pages_of (get_or l file 0)) ≡ false) (sym same)
+          (ap (λ n. ltb n (pages_of to - pages_of (get_or s.lengths file 0))) stays.room ∙ is.room);
+    }
 prepared_moved s new Checkpoint stays is = (subst (λ n. n + 1 < 2 ^ 32) (sym stays.marks) is.0, stays.free is.1)
 
 -- ---- processors
@@ -111,7 +142,7 @@ pub prepared_same : (s : State) (shootdown : ShootdownState) (change : Change) �
     → IsPrepared (with_shootdown s shootdown) change
 prepared_same s shootdown change =
     prepared_moved s (with_shootdown s shootdown) change
-    (record { users = λ pcid user. user; places = λ pcid. refl; table = refl; in_memory = λ owner there. there; marks = refl; free = λ free. free })
+    (record { users = λ pcid user. user; places = λ pcid. refl; table = refl; in_memory = λ owner there. there; lengths = refl; settled = λ whole none. (whole, none); room = refl; marks = refl; free = λ free. free })
 
 -- other processors that cohere with the page tables, each in a space that is there
 pub shootdown_sound : (s : State) (shootdown : ShootdownState) → IsShootdown shootdown

@@ -2,7 +2,7 @@
 -- that there is none.
 use Rattle.machine.proofs.Names.{ℕ, ◌≡◌, ◌≢◌, ◌-◌, ◌*◌, ◌/◌, ◌%◌, ◌^◌, ◌==◌, ◌&&◌, ◌||◌, not, nat_le, Bool, true, false}
 use Rattle.machine.proofs.Names.{cond, List, [], ◌∷◌, length, Option, Some, None, Result, Ok, Err, refl, ap, ◌∙◌, sym}
-use Rattle.machine.proofs.Names.{subst, option_or, false≢true, Refusal, Place, Rights, PageRange, Places, may_write}
+use Rattle.machine.proofs.Names.{nat_lt, subst, option_or, false≢true, Refusal, Place, Rights, PageRange, Places, may_write}
 use Rattle.machine.proofs.Names.{allows, any_mapped, all_mapped, any_forbids, pages_holding, is_user_range, is_mappable}
 use Rattle.machine.proofs.Names.{range_of_bytes, mapped_pages_of, add_refusal, protect_refusal, Spaces, space_at}
 use Rattle.machine.proofs.Names.{place_at, is_user_space, judged_range, judged_mapping, unless, allowed, maps_each}
@@ -11,7 +11,8 @@ use Rattle.machine.proofs.Names.{interrupted, not_there, is_stalled, is_idle, wa
 use Rattle.machine.proofs.Names.{destroy_refusal, has_free, page_at, allowed_place, place_of_fault, is_in_memory}
 use Rattle.machine.proofs.Names.{copies_out, Act, Reply, Step, State, length_of, refuse_if, first_of, why_not}
 use Rattle.machine.proofs.Names.{pages_in_file, is_msync, mapping_refusal, served_refusal, WantsMemory, Acts}
-use Rattle.machine.proofs.Names.{Rules}
+use Rattle.machine.proofs.Names.{Rules, length_refusal, resize_refusal, lacks_last_page, lacks_frames, capacity_of}
+use Rattle.machine.proofs.Names.{lengths_blocks}
 use Rattle.page_entry.specs.declared.refusal.Refusal.TheVariants as refusals
 use Rattle.machine.specs.declared.act.Act.TheVariants as acts
 use Rattle.machine.specs.declared.act.Reply.TheVariants as replies
@@ -141,6 +142,28 @@ served_fine s write (Ok place) fine =
     unless_there true fine = no_reason
     unless_there false fine = fine
 
+length_fine : (s : State) (file to : ℕ) → IsFine (length_refusal s file to)
+length_fine s file to =
+    refuse_fine (lengths_blocks s.table.layout == 0) refusals.Einval _ refl
+    (refuse_fine (nat_le (length s.table.files) file) refusals.NoFile _ refl (if_refused (nat_lt (capacity_of s file) to)))
+  where
+    if_refused : (b : Bool) → IsFine (option_or (refuse_if b refusals.Einval) None)
+    if_refused b = refuse_fine b refusals.Einval None refl no_reason
+
+resize_fine : (s : State) (file to : ℕ) → IsFine (resize_refusal s file to)
+resize_fine s file to =
+    refuse_fine s.write_outs.broken refusals.Broken _ refl
+    (refuse_fine (nat_lt 0 (length s.write_outs.batches)) refusals.Busy _ refl
+    (refuse_fine (lacks_last_page s file to) refusals.NotResident _ refl (refuse_fine (lacks_frames s file to) refusals.NoFrame None refl no_reason)))
+
+-- another length, or the same
+set_length_fine : (s : State) (file to : ℕ) → IsFine (first_of (length_refusal s file to ∷ cond (to == length_of s file) None (resize_refusal s file to) ∷ []))
+set_length_fine s file to = or_fine (length_refusal s file to) _ (length_fine s file to) (or_fine _ None (unless_same (to == length_of s file)) no_reason)
+  where
+    unless_same : (b : Bool) → IsFine (cond b None (resize_refusal s file to))
+    unless_same true = no_reason
+    unless_same false = resize_fine s file to
+
 -- ---- acts
 
 -- the act isn't answered that a trace is full, and that there is no memory only where it wants some
@@ -194,6 +217,7 @@ module _ (s : State) (disk : List ℕ) (p : ℕ) (new : State) (disk' : List ℕ
       refused_for (then_fine _ (refuse_fine (not (is_msync va len flags)) refusals.Einval _ refl
       (refuse_fine (not (maps_each s.hardware.spaces (current s.hardware.shootdown p) va len)) refusals.Enomem _ refl
       (refuse_fine s.write_outs.broken refusals.Broken _ refl (refuse_fine (is_busy s.write_outs || nat_le (2 ^ 32 - 1) s.marks) refusals.Busy None refl no_reason)))))
+  sparing (acts.SetLength file to) = refused_for (then_fine _ (set_length_fine s file to))
   sparing acts.Ack = refused_for (there_fine s.hardware.shootdown p)
   sparing acts.Change = refused_for (or_fine _ _ (there_fine s.hardware.shootdown p) (lock_fine p (interrupted s.hardware.shootdown) s.hardware.shootdown.lock))
   sparing acts.Resume = refused_for (wait_fine is_stalled s.hardware.shootdown p)

@@ -13,10 +13,16 @@ use Rattle.journal.specs.WriteOuts.{current}
 use Rattle.machine.proofs.sound.Lists.{once_frames, once_copies, memory_from, AreOnce-fewer, AreOnce-none}
 use Rattle.machine.proofs.sound.Groups.{prepared_moved}
 use Rattle.machine.proofs.sound.Sources.{source_stays}
-use Rattle.machine.proofs.Names.{IsSource, file_homes}
+use Rattle.machine.proofs.Names.{IsSource, file_homes, count_by, is_none}
 use Rattle.machine.proofs.sound.Waiting.{waiting, length-advanced, committed-advanced, current_uncommitted, all_after, committed_no_record}
 
 -- ---- what a step leaves of processors and write-outs
+
+pub none_after : (answer : Flushed) → batches_after answer [] ≡ []
+none_after flushed.Device = refl
+none_after flushed.Broken = refl
+none_after (flushed.Done mark) = refl
+none_after answer = refl
 
 module _ (s : State) (sound : IsSound s) where
   -- the write-outs, where frames keep their pages
@@ -43,18 +49,13 @@ module _ (s : State) (sound : IsSound s) where
         settled = λ set. (ap (batches_after answer) (is.settled set).0 ∙ none_after answer, unset set, (is.settled set).2);
         frozen = frozen;
       }
-    where
-      none_after : (answer : Flushed) → batches_after answer [] ≡ []
-      none_after flushed.Device = refl
-      none_after flushed.Broken = refl
-      none_after (flushed.Done mark) = refl
-      none_after answer = refl
 
   -- the processors and the page tables
   pub stepped_spaces : (memory : FramesState) (checkpoint : CheckpointState) (outs : WriteOutsValue) → memory.frames ≡ s.hardware.memory.frames
       → ((s.write_outs.broken ≡ false → is_busy s.write_outs ≡ false) → outs.broken ≡ false → is_busy outs ≡ false)
+      → (s.write_outs.broken ≡ false → s.write_outs.batches ≡ [] → (outs.broken ≡ false) × (outs.batches ≡ []))
       → AreSpacesSound (record s { hardware = record s.hardware { memory = memory }; checkpoint = checkpoint; write_outs = outs })
-  stepped_spaces memory checkpoint outs same free =
+  stepped_spaces memory checkpoint outs same free settled =
       let is = sound.spaces in
       record {
         spaces = is.spaces;
@@ -67,6 +68,9 @@ module _ (s : State) (sound : IsSound s) where
           places = λ q. refl;
           table = refl;
           in_memory = λ owner there. ap (λ (frames : List (Option Frame)). list_any (is_of_page owner) frames) same ∙ there;
+          lengths = refl;
+          settled = settled;
+          room = ap (λ (frames : List (Option Frame)). count_by is_none frames) same;
           marks = refl;
           free = free;
         }) (is.prepared lock held);

@@ -6,7 +6,8 @@ use Rattle.machine.proofs.Names.{place_of_fault, IsReachable, State, home_of, Is
 use Rattle.shootdown.specs.Shootdown.{current as current_space}
 use Rattle.machine.proofs.sound.Frames.{in_use}
 use Rattle.machine.proofs.track.Faults.{led_to}
-use Rattle.machine.proofs.sound.Homes.{gathered_homes}
+use Rattle.machine.proofs.Names.{mark_homes}
+use Rattle.machine.proofs.sound.Homes.{mark_homes_are}
 use Rattle.machine.proofs.sound.ByMark.{gathered_there}
 
 module _ (s : State) (sound : IsSound s) where
@@ -32,12 +33,12 @@ module _ (s : State) (sound : IsSound s) where
   fault_file p va write place leads =
       sound.spaces.in_table (current_space s.hardware.shootdown p) (va / 4096) place (led_to s.hardware.spaces (current_space s.hardware.shootdown p) va write place leads).mapped
 
-  -- the pages that a mark gathers make a batch, if there are any
-  pub batch_homes : (noted : CheckpointState) (freezes : Bool) (pages : List FilePage) → Gathers s.hardware.spaces s.hardware.memory s.checkpoint noted freezes pages → 0 < length pages
-      → AreHomes s.write_outs.geometry (map (home_of s.table) pages)
+  -- the home blocks that a mark writes make a batch, if there are any
+  pub batch_homes : (noted : CheckpointState) (freezes : Bool) (pages : List FilePage) → Gathers s.hardware.spaces s.hardware.memory s.checkpoint noted freezes pages → 0 < length (mark_homes s pages)
+      → AreHomes s.write_outs.geometry (mark_homes s pages)
   batch_homes noted freezes pages gathers some =
       let there = gathered_there s noted freezes pages sound.memory gathers in
-      subst (λ (g : GeometryValue). AreHomes g (map (home_of s.table) pages)) (sym sound.write_outs.geometry) (gathered_homes s pages sound gathers.gathered.rising some there.1 there.0)
+      subst (λ (g : GeometryValue). AreHomes g (mark_homes s pages)) (sym sound.write_outs.geometry) (mark_homes_are s pages sound gathers.gathered.rising some there.1 there.0)
 
   -- and its mark is above those of the batches that aren't done
   pub newest_mark : AllByRecursion (λ w. w.batch.mark < s.marks + 1) s.write_outs.batches

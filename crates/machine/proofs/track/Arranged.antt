@@ -1,5 +1,7 @@
 -- Each move leaves spaces, processors and the lock as it tells them.
 use Rattle.machine.proofs.Names.{ℕ, ◌≡◌, ◌<◌, Bool, true, set, List, length, Option, None, Some, is_some, refl, sym, ap}
+use Rattle.machine.proofs.Names.{◌≢◌, Resizing, ResizeMade}
+use Rattle.spaces.specs.declared.change.Change.TheVariants.{SetLength}
 use Rattle.machine.proofs.Names.{◌∙◌, subst, FramesState, Change, Unmap, Protect, Reclaim, Checkpoint, Spaces, Lock}
 use Rattle.machine.proofs.Names.{Processor, woken, ShootdownState, processor_at, with_processor, change_refusal}
 use Rattle.machine.proofs.Names.{admitted, is_there_below, CheckpointState, Event, State, with_hardware, begin_change}
@@ -112,6 +114,19 @@ module _ (told : Told) (s : State) (a : IsArranged told s) where
       (record { processors = runs.processors; same_current = runs.same_current; as_many = runs.as_many; same_running = runs.same_running })
       (record { same_locked = refl; same_pending = refl }) a.same_lengths
 
+  -- the length of a file becomes another
+  pub arranged_resized : (p : ℕ) (new : State) → ResizeMade s p new → IsArranged (ended_by (changed told told.pending) p) new
+  arranged_resized p new made =
+      let there = is_there_below processors p (there_at_change processors p made.may.allowed) in
+      let runs = told_running told.current told.running processors p (woken (processor_at processors p)) there (processors_of a) true refl refl in
+      let edits = made.pages.cleared in
+      let now = ended_by (record told { lengths = set told.lengths made.file made.to }) p in
+      let pending : told.pending ≡ Some (Resizing made.file made.to) = a.same_pending ∙ ap (λ l. pending_in (change_in l)) made.may.lock in
+      subst (λ o. IsArranged (ended_by (changed told o) p) new) (sym pending) (subst (IsArranged now) (sym made.done)
+      (arranged_from now _ (spaces_still told.spaces s.hardware.spaces made.spaces edits.same_spaces edits.same_places (spaces_of a))
+      (record { processors = runs.processors; same_current = runs.same_current; as_many = runs.as_many; same_running = runs.same_running })
+      (record { same_locked = refl; same_pending = refl }) (ap (λ (l : List ℕ). set l made.file made.to) a.same_lengths)))
+
   module _ (says : Saying) (new : State) (is : EndsChange s says new) where
     abbrev ended : State
     ended = end_change s is.p is.spaces s.hardware.memory is.checkpoint
@@ -123,16 +138,17 @@ module _ (told : Told) (s : State) (a : IsArranged told s) where
     takes : (change : Change) → told.pending ≡ pending_in (Some change) → IsArranged (ended_by (changed told (pending_in (Some change))) is.p) ended → IsArranged (ended_by (changed told told.pending) is.p) ended
     takes change same = subst (λ o. IsArranged (ended_by (changed told o) is.p) ended) (sym same)
 
-    by_change : (change : Change) → told.pending ≡ pending_in (Some change) → AreSpacesTold (said told (effect_of change)).spaces is.spaces → IsArranged (said told (ending_of is.p change)) ended
-    by_change (Unmap pcid range) same t = takes (Unmap pcid range) same (with _ t)
-    by_change (Protect pcid range rights) same t = takes (Protect pcid range rights) same (with _ t)
-    by_change (Reclaim owner) same t = with told.spaces t
-    by_change Checkpoint same t = with told.spaces t
+    by_change : (change : Change) → ((file to : ℕ) → change ≢ SetLength file to) → told.pending ≡ pending_in (Some change) → AreSpacesTold (said told (effect_of change)).spaces is.spaces → IsArranged (said told (ending_of is.p change)) ended
+    by_change (Unmap pcid range) others same t = takes (Unmap pcid range) same (with _ t)
+    by_change (Protect pcid range rights) others same t = takes (Protect pcid range rights) same (with _ t)
+    by_change (Reclaim owner) others same t = with told.spaces t
+    by_change (SetLength file to) others same t = absurd (others file to refl)
+    by_change Checkpoint others same t = with told.spaces t
 
     arranged_ended : IsArranged (said told (ending_of is.p is.change)) new
     arranged_ended =
         let pending = a.same_pending ∙ ap (λ l. pending_in (change_in l)) is.may.lock in
-        subst (IsArranged (said told (ending_of is.p is.change))) (sym is.done) (by_change is.change pending (spaces_said (effect_of is.change) is.spaces is.told))
+        subst (IsArranged (said told (ending_of is.p is.change))) (sym is.done) (by_change is.change is.same_lengths pending (spaces_said (effect_of is.change) is.spaces is.told))
 
   -- ---- each move
 

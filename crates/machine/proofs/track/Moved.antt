@@ -1,5 +1,6 @@
 -- Each move of a tracked machine keeps it tracked.
 use Rattle.machine.proofs.Names.{ℕ, ◌≡◌, ◌↔◌, ◌%◌, true, List, [], ◌∷◌, ◌++◌, Option, Some, None, refl, sym, ap, ◌∙◌}
+use Rattle.machine.proofs.Names.{Resizing}
 use Rattle.machine.proofs.Names.{subst, inl, inr, append-nil, Contains, both_ways, FilePage, Place, FramesState, File}
 use Rattle.machine.proofs.Names.{SuperValue, Change, Checkpoint, running, is_there_below, CheckpointState, IsDirty}
 use Rattle.machine.proofs.Names.{IsInSpace, page_at, Hardware, WriteOutsValue, IsStanding, Event, State, page_from}
@@ -33,6 +34,7 @@ history_said told (Changing p) = by told.pending
     by None = sym (append-nil told.history)
     by (Some (Unmapping space range)) = sym (append-nil told.history)
     by (Some (Protecting space range rights)) = sym (append-nil told.history)
+    by (Some (Resizing file to)) = sym (append-nil told.history)
 history_said told says = sym (append-nil told.history)
 
 adds_quietly : (told : Told) (says : Saying) → IsQuiet (adds told says)
@@ -99,7 +101,7 @@ module _ (files : List File) (told : Told) (s : State) (seen : List ℕ) (may : 
       let there = is_there_below s.hardware.shootdown is.p (running s.hardware.shootdown is.p is.made.running).0 in
       let leads : place_told told is.p is.va ≡ Some w.place = place_is t.arranged is.p is.va there ∙ w.leads in
       subst (HasPages files now) (sym is.done)
-      (pages_stored files told now s is.p is.va is.bytes is.hardware w t.sound.memory.memory is.made.access.inside
+      (pages_stored files told now s is.p is.va is.bytes is.hardware w t.sound.memory.memory t.sound.memory.in_files is.made.access.inside
       (history_as _ (ap (adds told) is.says_is ∙ ap (λ o. store_at o is.va is.bytes) leads)) has)
 
   pub pages_moved : Move seen s says new → HasPages files now new

@@ -50,6 +50,13 @@ module _ (files : List File) (told now : Told) (s new : State) (same : SameFiles
       ap (λ (l : List ℕ). padded 4096 (take (get_or l owner.file 0 - 4096 * owner.page) (bytes_then owner))) same.lengths in
       then_it.0 ∙ then_it.1 ∙ sym end ∙ ap (cut_at_end new owner) (sym then_it.0)
 
+-- a page that was in its file is still
+in_file_now : (s new : State) → SameFiles s new → (owner : FilePage) → IsInFile s owner → IsInFile new owner
+in_file_now s new same owner is = record {
+  there = subst (λ (t : SuperValue). owner.file < length t.files) (sym same.table) is.there;
+  inside = subst (λ (l : List ℕ). 4096 * owner.page < get_or l owner.file 0) (sym same.lengths) is.inside;
+}
+
 -- ---- nothing is stored or marked
 
 -- a dirty frame has the page
@@ -80,10 +87,13 @@ module _ (files : List File) (told now : Told) (s new : State) (events : List Ev
       whole = λ file page. ap (λ (m : Memory). length (m file page)) memory_same ∙ has.latest.whole file page;
       latest = λ frame owner holds. latest frame owner holds ∙ ap (λ (m : Memory). m owner.file owner.page) (sym memory_same);
     };
-    touched = λ owner. (
-      λ is. (dirty owner).0 ((has.touched owner).0 (sym (touched_same owner) ∙ is)),
-      λ d. touched_same owner ∙ (has.touched owner).1 ((dirty owner).1 d),
-    );
+    touched = record {
+      each = λ owner. (
+        λ is. (dirty owner).0 ((has.touched.each owner).0 (in_file_as s new same owner is.0, sym (touched_same owner) ∙ is.1)),
+        λ d. let was = (has.touched.each owner).1 ((dirty owner).1 d) in (in_file_now s new same owner was.0, touched_same owner ∙ was.1),
+      );
+      inside = λ unset owner is. in_file_now s new same owner (has.touched.inside (sym set ∙ unset) owner (sym (touched_same owner) ∙ is));
+    };
     plain = plain_still files told now s new same
         (λ owner is gone. (ap (λ (m : Memory). m owner.file owner.page) memory_same, plain owner is gone));
   }
@@ -163,7 +173,8 @@ module _ (files : List File) (told now : Told) (s new : State) (events : List Ev
 small : (va : ℕ) → va % 4096 < 4096
 small va = omega arith
 
-module _ (files : List File) (told now : Told) (s : State) (p va : ℕ) (bytes : List ℕ) (h : Hardware) (w : HasStored s.hardware s.checkpoint p va bytes h) (memory : IsMemory s.hardware.memory) (fits : va % 4096 + length bytes ≤ 4096)
+module _ (files : List File) (told now : Told) (s : State) (p va : ℕ) (bytes : List ℕ) (h : Hardware) (w : HasStored s.hardware s.checkpoint p va bytes h) (memory : IsMemory s.hardware.memory)
+    (in_files : (frame : ℕ) (o : FilePage) → Holds s.hardware.memory frame o → IsInFile s o) (fits : va % 4096 + length bytes ≤ 4096)
     (history : now.history ≡ told.history ++ Store w.place.file (4096 * w.place.page + va % 4096) bytes ∷ []) (has : HasPages files told s) where
   abbrev new : State
   new = with_hardware s h
@@ -231,14 +242,36 @@ module _ (files : List File) (told now : Told) (s : State) (p va : ℕ) (bytes :
         ];
   }
 
+  -- it is in its file
+  abbrev InNew : FilePage → Type 0
+  InNew o = IsInFile new o
+
+  same_in : (o : FilePage) → IsInFile s o → InNew o
+  same_in o is = record { there = is.there; inside = is.inside }
+
+  same_was : (o : FilePage) → InNew o → IsInFile s o
+  same_was o is = record { there = is.there; inside = is.inside }
+
+  stored_in : (o : FilePage) → o ≡ owner → InNew o
+  stored_in o same = same_in o (subst (IsInFile s) (sym same) (in_files w.frame owner w.holds))
+
   touched_stored : AreTouched now new
-  touched_stored o = elim (cases_page o owner) [
-    | inl same ↦ (λ _. (w.frame, held_after w.frame o (w.holds ∙ ap (λ x. Some x) (sym same)), w.dirty_now), λ _. touched_now o same)
-    | inr other ↦ (
-      λ is. let d = (has.touched o).0 (sym (touched_before o other) ∙ is) in (d.0, held_after d.0 o d.1, w.dirty_still d.0 d.2),
-      λ d. let was = held_before d.0 o d.1 in touched_before o other ∙ (has.touched o).1 (d.0, was, w.dirty_before d.0 (other_frame d.0 o was other) d.2),
-    )
-  ]
+  touched_stored = record {
+    each = λ o. elim (cases_page o owner) [
+      | inl same ↦ (λ _. (w.frame, held_after w.frame o (w.holds ∙ ap (λ x. Some x) (sym same)), w.dirty_now), λ _. (stored_in o same, touched_now o same))
+      | inr other ↦ (
+        λ is. let d = (has.touched.each o).0 (same_was o is.0, sym (touched_before o other) ∙ is.1) in (d.0, held_after d.0 o d.1, w.dirty_still d.0 d.2),
+        λ d.
+            let was = held_before d.0 o d.1 in
+            let is = (has.touched.each o).1 (d.0, was, w.dirty_before d.0 (other_frame d.0 o was other) d.2) in
+            (same_in o is.0, touched_before o other ∙ is.1),
+      )
+    ];
+    inside = λ unset o is. elim (cases_page o owner) [
+      | inl same ↦ stored_in o same
+      | inr other ↦ same_in o (has.touched.inside unset o (sym (touched_before o other) ∙ is))
+    ];
+  }
 
   pub pages_stored : HasPages files now new
   pages_stored = record {

@@ -18,7 +18,7 @@ use Rattle.machine.specs.State.{State, Whole, home_of, cut_at_end}
 use Rattle.machine.specs.Refusals.{pages_in_file}
 use Rattle.machine.specs.inside.Sound.{IsSound}
 
--- the state of a machine with these layers; no act sets a length yet
+-- the state of a machine with these layers
 abbrev pub state_in : {D Z : Type 0} → Layers D Z → State
 state_in m = record {
   table = m.table;
@@ -27,7 +27,7 @@ state_in m = record {
   checkpoint = m.checkpoint;
   write_outs = m.write_outs;
   marks = m.marks;
-  resized = false;
+  resized = m.resized;
 }
 
 abbrev pub whole_in : {D Z : Type 0} → Layers D Z → Whole D

@@ -9,7 +9,7 @@ use Rattle.mappings.specs.declared.place.Place.{Place}
 use Rattle.mappings.specs.Places.{Places, without_range, with_rights}
 use Rattle.frames.specs.Frames.{frame_at, with_page, with_copy, without_frame}
 use Rattle.spaces.specs.declared.change.Change.{Change}
-use Rattle.spaces.specs.declared.change.Change.TheVariants.{Unmap, Protect, Reclaim, Checkpoint}
+use Rattle.spaces.specs.declared.change.Change.TheVariants.{Unmap, Protect, Reclaim, SetLength, Checkpoint}
 use Rattle.spaces.specs.Changes.{ChangesOnlyAffected}
 use Rattle.spaces.specs.Spaces.{Spaces, AreSpaces, has_space, space_at, place_at, entry_at}
 use Rattle.shootdown.specs.declared.lock.Lock.{Lock}
@@ -30,7 +30,7 @@ use Rattle.machine.specs.declared.act.Reply.{Reply}
 use Rattle.machine.specs.declared.act.Reply.TheVariants as replies
 use Rattle.machine.specs.State.{State, page_from}
 use Rattle.machine.specs.Refusals.{reason_against}
-use Rattle.machine.specs.Rules.{with_hardware, with_shootdown, with_spaces, begin_change, end_change, MayChange, MayLeave, SpaceDestroyed, MarkMade, FlushMade, FlushFailed}
+use Rattle.machine.specs.Rules.{with_hardware, with_shootdown, with_spaces, begin_change, end_change, MayChange, MayLeave, SpaceDestroyed, MarkMade, ResizeMade, FlushMade, FlushFailed}
 use Rattle.machine.specs.Durability.{IsInFile}
 use Rattle.machine.specs.Steps.{step_work}
 use Rattle.machine.specs.Told.{Told, Pending, with_running, with_places, begun_by, ended_by, changed, store_at, place_told, places_in, tell}
@@ -158,18 +158,21 @@ abbrev pub effect_of : Change → Saying
 effect_of (Unmap pcid range) = Mapping pcid (λ places. without_range places range.first range.count)
 effect_of (Protect pcid range rights) = Mapping pcid (λ places. with_rights places range.first range.count rights)
 effect_of (Reclaim owner) = Silent
+effect_of (SetLength file to) = Silent
 effect_of Checkpoint = Silent
 
 abbrev pub ending_of : ℕ → Change → Saying
 ending_of p (Unmap pcid range) = Changing p
 ending_of p (Protect pcid range rights) = Changing p
 ending_of p (Reclaim owner) = Ending p
+ending_of p (SetLength file to) = Changing p
 ending_of p Checkpoint = Ending p
 
--- a change ends, and with it entries change that it affects; frames stay
+-- a change ends that leaves lengths alone, and with it entries change that it affects; frames stay
 pub record EndsChange (s : State) (says : Saying) (new : State) : Type 0 where
   pub p : ℕ
   pub change : Change
+  pub same_lengths : (file to : ℕ) → change ≢ SetLength file to
   pub may : MayChange s p change
   pub spaces : Spaces
   pub checkpoint : CheckpointState
@@ -207,6 +210,7 @@ pub record BringsPage (disk : List ℕ) (s : State) (says : Saying) (new : State
   pub absent : is_in_memory s.hardware.memory owner ≡ false
   -- a broken machine reads none
   pub whole : s.write_outs.broken ≡ false
+  pub unlocked : s.hardware.shootdown.lock ≡ None
   pub free : slice_get s.hardware.memory.frames frame ≡ Some None
   pub says_is : says ≡ Silent
   pub done : new ≡ with_hardware s
@@ -278,11 +282,13 @@ pub record HasStepped (s : State) (disk : List ℕ) (p : ℕ) (reply : Reply) (n
   pub answered : reply ≡ reply_to (next_answer s.write_outs)
   pub made : FlushMade s disk p (next_answer s.write_outs) new disk'
 
--- what an act does: it moves, makes a mark, goes on with the write-outs, or meets a device call that fails there
+-- what an act does: it moves, makes a mark, changes a length, goes on with the write-outs, or meets a device call that fails there
 pub data Performed (s : State) (disk : List ℕ) (p : ℕ) (act : Act) (reply : Reply) (new : State) (disk' : List ℕ)
     : Type 0 where
   Moved : IsMoved s disk p act reply new disk' → Performed s disk p act reply new disk'
   Marked : (number : ℕ) → act ≡ acts.Change → reply ≡ replies.Marked number → MarkMade s p number new → disk' ≡ disk
+      → Performed s disk p act reply new disk'
+  Resized : act ≡ acts.Change → reply ≡ replies.Resized → ResizeMade s p new → disk' ≡ disk
       → Performed s disk p act reply new disk'
   Flushed : act ≡ acts.Flush → HasStepped s disk p reply new disk' → ((why : Refusal) → reply ≢ replies.Refused why)
       → Performed s disk p act reply new disk'

@@ -1,5 +1,5 @@
 -- What holds of every machine's state: the facts of its layers, and those that tie them to each other.
-use Rattle.std.specs.Prelude.{ℕ, ◌≡◌, ◌+◌, ◌^◌, ◌<◌, ◌≤◌, ◌⊎◌, true, false, List, [], ◌∷◌, length, map, Some, None, IsSome, slice_index_or}
+use Rattle.std.specs.Prelude.{ℕ, ◌≡◌, ◌≢◌, ◌+◌, ◌^◌, ◌<◌, ◌≤◌, ◌⊎◌, true, false, List, [], ◌∷◌, length, map, Some, None, IsSome, slice_index_or}
 use Rattle.std.specs.List.{All}
 use Rattle.page_entry.specs.declared.numbers.FilePage.{FilePage}
 use Rattle.mappings.specs.declared.place.Place.{Place}
@@ -11,7 +11,7 @@ use Rattle.volume_codec.specs.Descriptor.{AreHomes}
 use Rattle.journal.specs.WriteOut.{WriteOut, has_committed}
 use Rattle.journal.specs.WriteOuts.{is_busy}
 use Rattle.spaces.specs.declared.change.Change.{Change}
-use Rattle.spaces.specs.declared.change.Change.TheVariants.{Unmap, Protect, Reclaim, Checkpoint}
+use Rattle.spaces.specs.declared.change.Change.TheVariants.{Unmap, Protect, Reclaim, SetLength, Checkpoint}
 use Rattle.spaces.specs.Spaces.{AreSpaces, has_space, space_at, place_at}
 use Rattle.spaces.specs.Requests.{is_user_space}
 use Rattle.shootdown.specs.declared.lock.Lock.{Lock}
@@ -20,13 +20,9 @@ use Rattle.shootdown.specs.Coherence.{Coheres}
 use Rattle.checkpoint.specs.Checkpoint.{Holds, is_noted, is_frozen, AreRising}
 use Rattle.checkpoint.specs.Backing.{AreBacked}
 use Rattle.fault.specs.Fault.{is_in_memory}
-use Rattle.machine.specs.State.{State, length_of, home_of}
-use Rattle.machine.specs.Refusals.{pages_in_file}
+use Rattle.machine.specs.State.{State, capacity_of, length_of, home_of}
+use Rattle.machine.specs.Refusals.{pages_in_file, lacks_last_page, lacks_frames}
 use Rattle.machine.specs.Durability.{IsInFile, frozen_homes}
-
--- the capacity of the file with this number
-abbrev pub capacity_of : State → ℕ → ℕ
-capacity_of s file = slice_index_or (map (λ f. f.capacity) s.table.files) file 0
 
 -- frames and copies in use have whole pages, and each page of a file is in one frame and one copy at most
 pub record IsMemory (memory : FramesState) : Type 0 where
@@ -43,6 +39,18 @@ AreOlderCommitted [] = Unit {0}
 AreOlderCommitted (w ∷ []) = Unit {0}
 AreOlderCommitted (w ∷ next ∷ newer) = (has_committed w ≡ true) × AreOlderCommitted (next ∷ newer)
 
+-- the length of a file may become this one: the layout has a block for lengths, the file is there and has room for it,
+-- each batch is done, and what a growth needs is in memory or free
+pub record IsResizable (s : State) (file to : ℕ) : Type 0 where
+  pub block : 0 < lengths_blocks s.table.layout
+  pub there : file < length s.table.files
+  pub within : to ≤ capacity_of s file
+  pub differs : to ≢ length_of s file
+  pub whole : s.write_outs.broken ≡ false
+  pub done : s.write_outs.batches ≡ []
+  pub resident : lacks_last_page s file to ≡ false
+  pub room : lacks_frames s file to ≡ false
+
 -- what a change that is under way may rely on
 abbrev pub IsPrepared : State → Change → Type 0
 IsPrepared s (Unmap pcid range) = (is_user_space s.hardware.spaces pcid ≡ true) × (is_user_range range ≡ true)
@@ -52,6 +60,7 @@ IsPrepared s (Protect pcid range rights) =
 IsPrepared s (Reclaim owner) =
     (owner.file < length s.table.files) × (owner.page < pages_in_file s.table.files owner.file)
     × (is_in_memory s.hardware.memory owner ≡ true)
+IsPrepared s (SetLength file to) = IsResizable s file to
 IsPrepared s Checkpoint = (s.marks + 1 < 2 ^ 32) × (s.write_outs.broken ≡ false → is_busy s.write_outs ≡ false)
 
 -- ---- facts that depend on the processors and the page tables

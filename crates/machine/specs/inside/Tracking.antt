@@ -11,7 +11,7 @@ use Rattle.journal.specs.WriteOut.{WriteOut, has_committed}
 use Rattle.journal.specs.WriteOuts.{has_uncommitted}
 use Rattle.journal.specs.inside.Standing.{IsStanding}
 use Rattle.spaces.specs.declared.change.Change.{Change}
-use Rattle.spaces.specs.declared.change.Change.TheVariants.{Unmap, Protect, Reclaim, Checkpoint}
+use Rattle.spaces.specs.declared.change.Change.TheVariants.{Unmap, Protect, Reclaim, SetLength, Checkpoint}
 use Rattle.spaces.specs.Spaces.{has_space, space_at}
 use Rattle.shootdown.specs.declared.lock.Lock.{Lock}
 use Rattle.shootdown.specs.Processors.{is_running}
@@ -23,14 +23,15 @@ use Rattle.machine.specs.State.{State, home_of, part, cut_at_end}
 use Rattle.machine.specs.Rules.{bytes_at_mark}
 use Rattle.machine.specs.Durability.{IsInFile, within_file}
 use Rattle.machine.specs.inside.Sound.{IsSound}
-use Rattle.machine.specs.Told.{Told, Pending, Unmapping, Protecting, places_in}
+use Rattle.machine.specs.Told.{Told, Pending, Unmapping, Protecting, Resizing, places_in}
 
--- the unmap or protect that a lock is held for
+-- the unmap, protect or change of a length that a lock is held for
 abbrev pub pending_in : Option Change → Option Pending
 pending_in None = None
 pending_in (Some (Unmap pcid range)) = Some (Unmapping pcid range)
 pending_in (Some (Protect pcid range rights)) = Some (Protecting pcid range rights)
 pending_in (Some (Reclaim owner)) = None
+pending_in (Some (SetLength file to)) = Some (Resizing file to)
 pending_in (Some Checkpoint) = None
 
 abbrev pub change_in : Option Lock → Option Change
@@ -72,10 +73,13 @@ pub record IsLatest (files : List File) (told : Told) (s : State) : Type 0 where
   pub latest : (frame : ℕ) (owner : FilePage) → Holds s.hardware.memory frame owner
       → bytes_of (frame_at s.hardware.memory frame) ≡ after (memory_of files) told.history owner.file owner.page
 
--- the dirty pages are those that got a store since the last mark
-abbrev pub AreTouched : Told → State → Type 0
-AreTouched told s = (owner : FilePage) → (is_touched told.history owner.file owner.page ≡ true)
-    ↔ ((frame : ℕ) × Holds s.hardware.memory frame owner × IsDirty s.hardware.spaces s.checkpoint frame)
+-- the dirty pages are those of files that were touched since the last mark; a file loses pages only by a change of its
+-- length
+pub record AreTouched (told : Told) (s : State) : Type 0 where
+  pub each : (owner : FilePage) → (IsInFile s owner × (is_touched told.history owner.file owner.page ≡ true))
+      ↔ ((frame : ℕ) × Holds s.hardware.memory frame owner × IsDirty s.hardware.spaces s.checkpoint frame)
+  pub inside : s.resized ≡ false → (owner : FilePage) → is_touched told.history owner.file owner.page ≡ true
+      → IsInFile s owner
 
 -- a page that isn't in memory has zeros past its file's end
 abbrev pub ArePlain : List File → Told → State → Type 0

@@ -54,7 +54,7 @@ fn tell_of_change<A: Allocator + Copy>(
         Change::Unmap { pcid, range } => tell_of_range(processors, *pcid, *range),
         Change::Protect { pcid, range, .. } => tell_of_range(processors, *pcid, *range),
         Change::Reclaim { page } => tell_of_entries(processors, spaces, *page),
-        Change::Checkpoint => tell_all(processors, Invpcid::AllContexts),
+        Change::SetLength { .. } | Change::Checkpoint => tell_all(processors, Invpcid::AllContexts),
     }
 }
 

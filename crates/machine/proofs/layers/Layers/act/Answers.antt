@@ -68,6 +68,10 @@ pub returns-in-Reclaim : goal.returns-in-Reclaim
 returns-in-Reclaim g c =
     quiet_done g.D.Device g.met.D.Device.since_now c.args.self.now c.reclaim.new.self c.args.step.now _ c.in-Reclaim.is _ c.reclaim.ensures.quiet (λ d. (c.reclaim.ensures.rules d, refl)) refl (λ calls faults. (refl, refl))
 
+pub returns-in-SetLength : goal.returns-in-SetLength
+returns-in-SetLength g c =
+    quiet_done g.D.Device g.met.D.Device.since_now c.args.self.now c.set_length.new.self c.args.step.now _ c.in-SetLength.is _ c.set_length.ensures.quiet (λ d. (c.set_length.ensures.rules d, refl)) refl (λ calls faults. (refl, refl))
+
 pub returns-in-Msync : goal.returns-in-Msync
 returns-in-Msync g c =
     quiet_done g.D.Device g.met.D.Device.since_now c.args.self.now c.msync.new.self c.args.step.now _ c.in-Msync.is _ c.msync.ensures.quiet (λ d. (c.msync.ensures.rules d, refl)) refl (λ calls faults. (refl, refl))

@@ -1,6 +1,6 @@
 use Rattle.machine.proofs.Names.{◌<◌, ◌≤◌, ◌+◌, false, not, List, length, map, refl, sym, ap, ◌∙◌, subst, All, FilePage}
 use Rattle.machine.proofs.Names.{Checkpoint, finished, CheckpointState, Gathers, Layers, home_of, MarkMade, state_in}
-use Rattle.machine.proofs.Names.{IsPageOf, MayBegin}
+use Rattle.machine.proofs.Names.{IsPageOf, MayBegin, mark_homes}
 use Rattle.machine.proofs.code.Parts.{may_change}
 use Rattle.machine.proofs.code.Marks.{few_frozen, frozen_there, may_begin, with_homes-batch}
 use Rattle.machine.proofs.layers.Layers.mark.Goals as goal
@@ -10,7 +10,7 @@ write_out-requires-clause-few g c =
     let s = state_in c.args.self.now in
     let pages = c.gather.ensures.gathered.0 in
     let gathers = subst (λ b. Gathers s.hardware.spaces s.hardware.memory s.checkpoint c.gather.new.self (not b) pages) c.is_broken-freezes.ensures c.gather.ensures.gathered.2 in
-    subst (λ (owners : List FilePage). length owners ≤ 1020) (ap (λ (x : CheckpointState). x.frozen) (sym c.protect_all.ensures.notes)) (few_frozen s c.requires.sound c.gather.new.self pages gathers)
+    subst (λ (owners : List FilePage). length (mark_homes s owners) ≤ 1020) (ap (λ (x : CheckpointState). x.frozen) (sym c.protect_all.ensures.notes)) (few_frozen s c.requires.sound c.gather.new.self pages gathers)
 
 pub write_out-requires-clause-pages : goal.write_out-requires-clause-pages
 write_out-requires-clause-pages g c =
@@ -24,7 +24,7 @@ write_out-requires-clause-batch g c =
     let s = state_in c.args.self.now in
     let pages = c.gather.ensures.gathered.0 in
     let gathers = subst (λ b. Gathers s.hardware.spaces s.hardware.memory s.checkpoint c.gather.new.self (not b) pages) c.is_broken-freezes.ensures c.gather.ensures.gathered.2 in
-    subst (λ (owners : List FilePage). 0 < length owners → MayBegin s.write_outs (s.marks + 1) (map (home_of s.table) owners)) (ap (λ (x : CheckpointState). x.frozen) (sym c.protect_all.ensures.notes))
+    subst (λ (owners : List FilePage). 0 < length (mark_homes s owners) → MayBegin s.write_outs (s.marks + 1) (mark_homes s owners)) (ap (λ (x : CheckpointState). x.frozen) (sym c.protect_all.ensures.notes))
     (may_begin s c.requires.sound c.gather.new.self pages gathers (c.requires.sound.spaces.prepared (record { holder = c.args.p; change = Checkpoint }) c.requires.held.1).1)
 
 pub returns-clause-rules : goal.returns-clause-rules
@@ -34,9 +34,9 @@ returns-clause-rules g c = λ disk.
     let pages = c.gather.ensures.gathered.0 in
     let gathers = subst (λ b. Gathers s.hardware.spaces s.hardware.memory s.checkpoint c.gather.new.self (not b) pages) c.is_broken-freezes.ensures c.gather.ensures.gathered.2 in
     let frozen = ap (λ (x : CheckpointState). x.frozen) c.protect_all.ensures.notes in
-    let outs = ap (λ (owners : List FilePage). Rattle.machine.specs.inside.Layers.with_homes s.write_outs number (map (home_of s.table) owners)) frozen ∙ with_homes-batch s c.requires.sound c.gather.new.self pages gathers number in
+    let outs = ap (λ (owners : List FilePage). Rattle.machine.specs.inside.Layers.with_homes s.write_outs number (mark_homes s owners)) frozen ∙ with_homes-batch s c.requires.sound c.gather.new.self pages gathers number in
     let shootdown = c.finish.ensures.finished ∙ ap (λ (w : Layers g.row.D.Denot g.row.A.Denot). finished w.shootdown c.args.p) c.write_out.ensures in
-    let made = subst (λ (w : Layers g.row.D.Denot g.row.A.Denot). MarkMade s c.args.p w.marks (state_in (record w { shootdown = c.finish.new.self }))) (sym c.write_out.ensures)
+    let made = subst (λ (w : Layers g.row.D.Denot g.row.A.Denot). MarkMade s c.args.p w.marks (state_in (record w { shootdown = c.finish.new.self; resized = false }))) (sym c.write_out.ensures)
     (record {
       may = may_change s c.args.p Checkpoint c.requires.held;
       next = refl;
