@@ -12,7 +12,7 @@ use Rattle.spaces.specs.Spaces.{Spaces, entry_at, place_at, EditsEntries}
 use Rattle.spaces.specs.Changes.{is_place_of, protected_where}
 
 pub record CheckpointState : Type 0 where
-  -- for each frame, whether a dirty entry of it was taken away since the last mark
+  -- for each frame, whether since the last mark a dirty entry of it was taken away, or a growth of its file touched it
   pub notes : List Bool
   -- the pages whose records aren't written yet, in the order of their home blocks
   pub frozen : List FilePage
@@ -58,8 +58,8 @@ pub record HasDirtyEntry (spaces : Spaces) (among : ℕ → ℕ → Type 0) (fra
   pub same_frame : entry.frame ≡ frame
   pub dirty : entry.dirty ≡ true
 
--- The page in the frame is dirty: it got a store since the last mark. An entry says so, or a note of an entry that
--- was taken away.
+-- The page in the frame is dirty: since the last mark it got a store, which an entry says, or a note where that entry
+-- was taken away; or a growth of its file touched it, which a note says.
 abbrev pub IsDirty : Spaces → CheckpointState → ℕ → Type 0
 IsDirty spaces c frame = (is_noted c frame ≡ true) ⊎ HasDirtyEntry spaces (λ pcid page. Unit {0}) frame
 

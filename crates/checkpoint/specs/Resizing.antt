@@ -1,5 +1,5 @@
--- What a change of a file's length does to pages: those past the new end leave memory, the bytes of the last one past it
--- become zeros, and a growth brings pages of zeros (POSIX.1-2024, ftruncate).
+-- What a change of a file's length does to pages: those past the new end leave memory, the bytes of the last one past
+-- it become zeros, and a growth brings pages of zeros (POSIX.1-2024, ftruncate).
 use Rattle.std.specs.Prelude.{ℕ, ◌≡◌, ◌↔◌, ◌⊎◌, ◌==◌, ◌&&◌, ◌+◌, ◌-◌, ◌*◌, ◌/◌, ◌<◌, ◌≤◌, nat_le, min, Bool, true, ◌++◌, List, length, take, Some, None, IsSome, if◌then◌else◌}
 use Rattle.page_entry.specs.declared.numbers.FilePage.{FilePage}
 use Rattle.frames.specs.Frames.{FramesState, Frame, frame_at, blank_bytes, zero_page}
@@ -49,7 +49,8 @@ pub record PagesResized (spaces : Spaces) (memory : FramesState) (c : Checkpoint
       ⊎ ((page : ℕ) × IsAdded old new page
       × (frame_at memory' frame ≡ Some (record { page = record { file = file; page = page }; bytes = zero_page })))
   -- each added page is in memory
-  pub added : (page : ℕ) → IsAdded old new page → (frame : ℕ) × Holds memory' frame (record { file = file; page = page })
+  pub added : (page : ℕ) → IsAdded old new page
+      → (frame : ℕ) × Holds memory' frame (record { file = file; page = page })
   pub once : HoldsEachOnce memory'
   pub same_count : length memory'.frames ≡ length memory.frames
   pub same_copies : memory'.copies ≡ memory.copies

@@ -168,7 +168,8 @@ pub(crate) fn resize_pages<A: Allocator + Copy>(
     requires room { pages to - pages old ≤ count_by is_none frames.old.frames }
     requires small { (old ≤ 2 ^ 44) × (to ≤ 2 ^ 44) }
     ensures resized { (c : CheckpointState) → c.notes ≡ notes.old → AreBacked frames.old c spaces.old.map
-        → PagesResized spaces.old.map frames.old c file old to spaces.new.map frames.new (record c { notes = notes.new }) }
+        → PagesResized spaces.old.map frames.old c file old to spaces.new.map frames.new
+        (record c { notes = notes.new }) }
     ensures prepared { spaces.new.prepared ≡ spaces.old.prepared }
 {
     drop_past(notes, spaces, frames, file, to);

@@ -31,9 +31,9 @@ pub fn ran_since_start<D: Device, A: Allocator + Copy>(machine: &Machine<D, A>)
     crashed_since_opening(machine.device());
 }
 
-/// A run over a device that was made a volume with some files, by formatting or by migrating, and was opened any number of
-/// times since, each with a crash or none within it or after it, begins with exactly these files: what survives it is what
-/// it stored in them.
+/// A run over a device that was made a volume with some files, by formatting or by migrating, and was opened any number
+/// of times since, each with a crash or none within it or after it, begins with exactly these files: what survives it
+/// is what it stored in them.
 pub fn ran_after_making<D: Device>(device: &D)
     ensures { (n : ℕ) (files : List File) (made before after : D) (shape : Shape) (steps : List Step)
         (replies : List Reply) → IsMade D.Device files made → IsLater D.Device n made before

@@ -41,9 +41,9 @@ files_from_memory file files lengths memory = []
 abbrev pub lengths_of : List File → List ℕ
 lengths_of files = map (λ f. length f.bytes) files
 
--- What a run does to memory, to lengths and to the promise of durability: bytes were stored at this offset of a file; the
--- length of a file became another, and bytes from the smaller one on are zeros; all stores and lengths so far belong to
--- this mark; this mark is durable.
+-- What a run does to memory, to lengths and to the promise of durability: bytes were stored at this offset of a file;
+-- the length of a file became another, and bytes from the smaller one on are zeros; all stores and lengths so far
+-- belong to this mark; this mark is durable.
 pub data Event : Type 0 where
   Store : (file offset : ℕ) (bytes : List ℕ) → Event
   SetLength : (file from to : ℕ) → Event

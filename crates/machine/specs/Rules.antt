@@ -144,8 +144,8 @@ end_change s p spaces memory checkpoint = record s {
   checkpoint = checkpoint;
 }
 
--- processor p made the unmap that it had begun: the pages aren't mapped any more, and their entries are gone; a dirty one
--- is noted at its frame
+-- processor p made the unmap that it had begun: the pages aren't mapped any more, and their entries are gone; a dirty
+-- one is noted at its frame
 pub record UnmapMade (s : State) (p : ℕ) (new : State) : Type 0 where
   pub pcid : ℕ
   pub range : PageRange
@@ -175,8 +175,8 @@ pub record MayLeave (s : State) (owner : FilePage) (frame : ℕ) : Type 0 where
       ≡ cut_at_end s owner (bytes_of (frame_at s.hardware.memory frame))
   pub whole : s.write_outs.broken ≡ false
 
--- processor p made the reclaim that it had begun: the page isn't in memory any more, its entries are gone, and its frame
--- is free
+-- processor p made the reclaim that it had begun: the page isn't in memory any more, its entries are gone, and its
+-- frame is free
 pub record ReclaimMade (s : State) (p : ℕ) (new : State) : Type 0 where
   pub owner : FilePage
   pub may : MayChange s p (changes.Reclaim owner)

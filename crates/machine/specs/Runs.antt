@@ -8,8 +8,8 @@ use Rattle.machine.specs.Rules.{Rules}
 use Rattle.machine.specs.Calls.{CallsOf}
 use Rattle.machine.specs.Steps.{StepMade}
 
--- One step of a machine over any device, honest or not: there are bytes for which the rules hold, and of an honest device
--- they are its own; its device calls, and those that failed.
+-- One step of a machine over any device, honest or not: there are bytes for which the rules hold, and of an honest
+-- device they are its own; its device calls, and those that failed.
 pub record StepTaken {D : Type 0} (disk : Ghosts D) (old : Whole D) (step : Step) (reply : Reply)
     (new : Whole D) : Type 0 where
   pub answered : (d d' : List ℕ) × Rules old.state d step reply new.state d'

@@ -86,8 +86,8 @@ pub enum Act {
         file: FileNumber,
         page: PageIndex,
     },
-    /// Begins to give a file this length in bytes, up to its capacity (POSIX.1-2024, `ftruncate`). Only volumes of layout
-    /// 3 have room for lengths that change.
+    /// Begins to give a file this length in bytes, up to its capacity (POSIX.1-2024, `ftruncate`). Only volumes of
+    /// layout 3 have room for lengths that change.
     SetLength {
         file: FileNumber,
         length: u64,

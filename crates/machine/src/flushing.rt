@@ -112,7 +112,8 @@ impl<D: Device, A: Allocator + Copy> Layers<D, A> {
         requires whole { self.old.write_outs.broken ≡ false }
         requires some { self.old.write_outs.batches ≢ [] }
         ensures rules { (p : ℕ) → reason_against (state_in self.old) p Flush ≡ None
-            → AnswersBy (D.is_honest self.old.device) (λ d d'. Acts (state_in self.old) d p Flush (reply_to result) (state_in self.new) d')
+            → AnswersBy (D.is_honest self.old.device)
+            (λ d d'. Acts (state_in self.old) d p Flush (reply_to result) (state_in self.new) d')
             (D.seen self.old.device) (D.seen self.new.device) }
         ensures did { Did D.Device self.old.device (step_work (state_in self.old) Flush (reply_to result))
             (not (has_failed (reply_to result))) self.new.device }
@@ -133,7 +134,8 @@ impl<D: Device, A: Allocator + Copy> Layers<D, A> {
         requires whole { self.old.write_outs.broken ≡ false }
         requires some { self.old.write_outs.batches ≢ [] }
         ensures rules { (p : ℕ) → reason_against (state_in self.old) p Flush ≡ None
-            → AnswersBy (D.is_honest self.old.device) (λ d d'. Acts (state_in self.old) d p Flush (reply_to result) (state_in self.new) d')
+            → AnswersBy (D.is_honest self.old.device)
+            (λ d d'. Acts (state_in self.old) d p Flush (reply_to result) (state_in self.new) d')
             (D.seen self.old.device) (D.seen self.new.device) }
         ensures did { Did D.Device self.old.device (step_work (state_in self.old) Flush (reply_to result))
             (not (has_failed (reply_to result))) self.new.device }
@@ -158,7 +160,8 @@ impl<D: Device, A: Allocator + Copy> Layers<D, A> {
         requires whole { self.old.write_outs.broken ≡ false }
         requires some { self.old.write_outs.batches ≢ [] }
         ensures rules { (p : ℕ) → reason_against (state_in self.old) p Flush ≡ None
-            → AnswersBy (D.is_honest self.old.device) (λ d d'. Acts (state_in self.old) d p Flush (reply_to result) (state_in self.new) d')
+            → AnswersBy (D.is_honest self.old.device)
+            (λ d d'. Acts (state_in self.old) d p Flush (reply_to result) (state_in self.new) d')
             (D.seen self.old.device) (D.seen self.new.device) }
         ensures did { Did D.Device self.old.device (step_work (state_in self.old) Flush (reply_to result))
             (not (has_failed (reply_to result))) self.new.device }

@@ -56,8 +56,9 @@ pub fn calls_of_steps<D: Device>(device: &D)
 {}
 
 /// The count of each write-out of a run. After a mark that writes k home blocks, the steps up to the one that answers
-/// that the mark is committed make k + 4 device calls for its write-out, one each; those up to the one that answers that
-/// it is done make 3k + 7, in 2k + 7 steps of it. Whatever other steps stand between them, also another write-out's.
+/// that the mark is committed make k + 4 device calls for its write-out, one each; those up to the one that answers
+/// that it is done make 3k + 7, in 2k + 7 steps of it. Whatever other steps stand between them, also another
+/// write-out's.
 pub fn counts_of_a_write_out<D: Device>(device: &D)
     ensures committed { (files : List File) (start old marked last new : Whole D) (earlier steps : List Step)
         (told replies : List Reply) (p number : ℕ) (mark : MarkMade old.state p number marked.state) (step : Step)

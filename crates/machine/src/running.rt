@@ -115,8 +115,8 @@ impl<D: Device, A: Allocator + Copy> Machine<D, A> {
     {}
 
     /// On the track of a run, the pages that a mark gathers are those that a store or a growth of their file touched
-    /// since the mark before it, or since the start, and that begin before their file's end, and no other (`pages`). It writes nothing exactly where the history has no store and no change
-    /// of a length since then (`nothing`).
+    /// since the mark before it, or since the start, and that begin before their file's end, and no other (`pages`).
+    /// It writes nothing exactly where the history has no store and no change of a length since then (`nothing`).
     pub fn gathers_what_was_stored(&self)
         ensures pages { (files : List File) (start : Whole D) (steps : List Step) (replies : List Reply)
             (p number : ℕ) (new : State) (mark : MarkMade self.now.state p number new) (owner : FilePage)

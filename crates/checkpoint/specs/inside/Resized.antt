@@ -13,8 +13,8 @@ BeginBefore memory file end = (frame : ℕ) (owner : FilePage) → Holds memory 
     → 4096 * owner.page < end
 
 -- a frame as it was, noted or not
-pub record IsKeptFrame (memory : FramesState) (notes : List Bool) (memory' : FramesState) (notes' : List Bool) (frame : ℕ)
-    : Type 0 where
+pub record IsKeptFrame (memory : FramesState) (notes : List Bool)
+    (memory' : FramesState) (notes' : List Bool) (frame : ℕ) : Type 0 where
   pub same : frame_at memory' frame ≡ frame_at memory frame
   pub same_note : noted_in notes' frame ≡ noted_in notes frame
 

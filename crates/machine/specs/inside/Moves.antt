@@ -282,7 +282,8 @@ pub record HasStepped (s : State) (disk : List ℕ) (p : ℕ) (reply : Reply) (n
   pub answered : reply ≡ reply_to (next_answer s.write_outs)
   pub made : FlushMade s disk p (next_answer s.write_outs) new disk'
 
--- what an act does: it moves, makes a mark, changes a length, goes on with the write-outs, or meets a device call that fails there
+-- what an act does: it moves, makes a mark, changes a length, goes on with the write-outs, or meets a device call that
+-- fails there
 pub data Performed (s : State) (disk : List ℕ) (p : ℕ) (act : Act) (reply : Reply) (new : State) (disk' : List ℕ)
     : Type 0 where
   Moved : IsMoved s disk p act reply new disk' → Performed s disk p act reply new disk'
