@@ -1,5 +1,5 @@
 -- The flags of a processor as the bits of 64 words.
-use Rattle.std.proofs.Common.{◌≡◌, ◌≢◌, ℕ, ◌/◌, ◌%◌, ◌^◌, ◌<◌, ◌≤◌, Bool, true, false, cond, eqb, List, length, get_or, set, replicate, refl, sym, ap, ◌∙◌, inl, inr, arith, get_or-set_same, get_or-set_other}
+use Rattle.std.proofs.Common.{◌≡◌, ℕ, ◌/◌, ◌%◌, ◌^◌, ◌<◌, ◌≤◌, Bool, true, false, cond, eqb, List, length, get_or, set, replicate, sym, ap, ◌∙◌, inl, inr, arith, get_or-set_same, get_or-set_other}
 use Rattle.std.specs.Int.{bit_at}
 use Rattle.std.specs.Int.RustNames.{bit_and}
 use Rattle.std.proofs.lemmas.Bool.{cases_eq, cases_lt}
@@ -48,7 +48,7 @@ zeros_at n i = elim (cases_lt i n) [
   | inr past ↦ get_or_past (replicate n 0) i 0 (omega (arith, length-replicate {A = ℕ} n 0))
 ]
 
-pub is_set-zeros : (n i : ℕ) → is_set (replicate n 0) i ≡ false
+is_set-zeros : (n i : ℕ) → is_set (replicate n 0) i ≡ false
 is_set-zeros n i = ap (λ word. eqb (bit_at word (i % 64)) 1) (zeros_at n (i / 64)) ∙ ap (λ b. eqb b 1) (bit_at-zero (i % 64))
 
 pub flags_of-zeros : (words count : ℕ) → count ≡ pcids → flags_of (replicate words 0) ≡ replicate count false

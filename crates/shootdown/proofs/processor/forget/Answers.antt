@@ -1,4 +1,4 @@
-use Rattle.std.proofs.Common.{◌≡◌, true, eqb, refl, ◌∙◌, arith}
+use Rattle.std.proofs.Common.{true, eqb, refl, ◌∙◌, arith}
 use Rattle.std.proofs.lemmas.Bool.{or_right}
 use Rattle.std.proofs.lemmas.Bool.Decides.{nat_tests}
 use Rattle.shootdown.proofs.Flags.{flags_kept_all, set-flags_kept}

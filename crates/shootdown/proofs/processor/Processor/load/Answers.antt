@@ -1,4 +1,4 @@
-use Rattle.std.proofs.Common.{true, ap, ◌∙◌}
+use Rattle.std.proofs.Common.{ap}
 use Rattle.shootdown.specs.Processors.{Processor, loaded}
 use Rattle.shootdown.proofs.ProcessorLaws.{IsProcessor-loaded}
 use Rattle.shootdown.proofs.Words.{flags_of-marked}
