@@ -210,7 +210,7 @@ pub fn compare(
     }
 }
 
-// Compares a volume that was opened. Each of its files is read by one call.
+// Compares a volume that was opened.
 fn compare_opened(
     alloc: Global,
     mut volume: Volume<Disk, Global>,
@@ -231,7 +231,7 @@ fn compare_opened(
         } => {
             compare_files(alloc, &mut volume, files, lengths, bytes)?;
             let disk = volume.into_device();
-            let made = disk.calls().saturating_sub(files.len() as u64);
+            let made = disk.calls().saturating_sub(reads_of(files, lengths));
             if let Some(calls) = calls {
                 let wanted = calls.with(open_gates(before, gates));
                 compare_count(alloc, "calls of the opening", wanted, made)?;
@@ -322,7 +322,18 @@ fn open_gates(image: &[u8], gates: &[u64]) -> u64 {
     count
 }
 
-// Compares names, lengths and bytes of all files. Each is read by one call.
+// By how many calls all files are read: one of each that has a byte.
+fn reads_of(files: &[File], lengths: &[FileLength]) -> u64 {
+    let mut count = 0u64;
+    for file in files {
+        if length_of(file, lengths) > 0 {
+            count = count.saturating_add(1);
+        }
+    }
+    count
+}
+
+// Compares names, lengths and bytes of all files. Each that has a byte is read by one call.
 fn compare_files(
     alloc: Global,
     volume: &mut Volume<Disk, Global>,
