@@ -278,7 +278,7 @@ const BAD_STEPS: &[(&str, &str)] = &[
     (r#"[0.0,"flush"]"#, PROCESSOR),
     (r#"[0,"Flush"]"#, NAME),
     (r#"[0,""]"#, NAME),
-    (r#"[0,"setlength",0,1]"#, NAME),
+    (r#"[0,"truncate",0,1]"#, NAME),
     (r#"[0,"idle",1]"#, "idle has the arguments none"),
     (r#"[0,"wake",1]"#, "wake has the arguments none"),
     (r#"[0,"ack",1]"#, "ack has the arguments none"),
@@ -339,6 +339,11 @@ const BAD_STEPS: &[(&str, &str)] = &[
         "unmap has the arguments a space, an address and a length",
     ),
     (r#"[0,"protect",1,4096,4096,"rwx"]"#, PROT),
+    (
+        r#"[0,"setlength",0]"#,
+        "setlength has the arguments a file and a length",
+    ),
+    (r#"[0,"setlength",65536,0]"#, FILE),
     (r#"[0,"reclaim",65536,0]"#, FILE),
     (
         r#"[0,"reclaim",0,4294967296]"#,

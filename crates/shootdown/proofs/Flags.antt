@@ -1,7 +1,8 @@
 -- The flags of a processor, one for each PCID: what stays of them when some are cleared.
-use Rattle.std.proofs.Common.{◌≡◌, ◌≢◌, ℕ, zero, suc, ◌+◌, ◌<◌, Bool, true, false, ◌&&◌, eqb, List, [], ◌∷◌, length, get_or, set, replicate, refl, sym, ap, ◌∙◌, arith, add-zero, get_or-set_same, get_or-set_other}
+use Rattle.std.proofs.Common.{◌≡◌, ◌≢◌, ℕ, zero, suc, ◌+◌, ◌<◌, Bool, true, false, ◌&&◌, eqb, List, [], ◌∷◌, length, get_or, set, replicate, refl, sym, ap, ◌∙◌, inl, inr, arith, add-zero, get_or-set_same, get_or-set_other}
+use Rattle.std.proofs.lemmas.Bool.{cases_lt}
 use Rattle.std.proofs.lemmas.Bool.Decides.{nat_tests}
-use Rattle.std.proofs.lemmas.List.{length-set, length-replicate, get_or-replicate, ext_get_or}
+use Rattle.std.proofs.lemmas.List.{length-set, length-replicate, get_or-replicate, get_or_past, ext_get_or}
 use Rattle.shootdown.specs.Processors.{flags_kept, first_flags, pcids}
 
 pub length-flags_kept : (passes : ℕ → Bool) (i : ℕ) (flags : List Bool) → length (flags_kept passes i flags) ≡ length flags
@@ -92,7 +93,7 @@ cleared-clear flags pcid was =
         sym (ap (λ b. b && eqb k pcid) (ap (λ n. get_or flags n false) same ∙ was))
     at k false here = sym (ap (λ b. get_or flags k false && b) here ∙ and_false (get_or flags k false))
 
--- at boot a processor may cache entries of PCID 0
+-- at boot a processor may cache entries of PCID 0, and of no other
 pub get_or-first_flags : get_or first_flags 0 false ≡ true
 unfolding first_flags
 get_or-first_flags = refl
@@ -100,3 +101,10 @@ get_or-first_flags = refl
 pub length-first_flags : length first_flags ≡ pcids
 unfolding first_flags
 length-first_flags = length-set (replicate pcids false) 0 true ∙ length-replicate pcids false
+
+pub get_or-first_flags_later : (k : ℕ) → k ≢ 0 → get_or first_flags k false ≡ false
+unfolding first_flags
+get_or-first_flags_later k later = get_or-set_other (replicate pcids false) 0 k true false later ∙ elim (cases_lt k pcids) [
+  | inl below ↦ get_or-replicate pcids k false false below
+  | inr past ↦ get_or_past (replicate pcids false) k false (omega (arith, length-replicate pcids false))
+]

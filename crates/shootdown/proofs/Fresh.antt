@@ -1,29 +1,27 @@
 -- Flags and processors that are as at boot.
-use Rattle.std.proofs.Common.{ℕ, zero, suc, ◌≡◌, ◌<◌, Bool, true, false, List, [], ◌∷◌, length, replicate, get_or, set, drop, refl, ap, ◌∙◌, arith}
+use Rattle.std.proofs.Common.{ℕ, suc, ◌≡◌, true, false, is_some, List, [], ◌∷◌, length, replicate, get_or, Option, Some, None, refl, sym, ap, ◌∙◌, inl, inr, arith}
+use Rattle.std.proofs.lemmas.Bool.{cases_eq, false≢true}
 use Rattle.std.proofs.lemmas.List.{length-replicate, get_or-replicate}
-use Rattle.std.specs.List.{list_any, All}
+use Rattle.std.specs.List.{All}
+use Rattle.page_table.specs.Bits.{is_set, IsFirstSet}
+use Rattle.shootdown.specs.Processors.{first_flags}
+use Rattle.shootdown.specs.inside.Flags.{flags_of}
+use Rattle.shootdown.proofs.Flags.{length-first_flags, get_or-first_flags, get_or-first_flags_later}
+use Rattle.shootdown.proofs.Words.{get_or-flags_of, flags_of-from_each}
 
--- none of these flags is set
-pub none_set : (flags : List Bool) → list_any (λ flag. flag) flags ≡ false → flags ≡ replicate (length flags) false
-none_set [] none = refl
-none_set (true ∷ flags) none = absurd (cc)
-none_set (false ∷ flags) none = ap (λ (rest : List Bool). false ∷ rest) (none_set flags none)
+-- whether the bits are those flags is known by the first one, and whether another one is set
+pub are_first : (words : List ℕ) (found : Option ℕ) → IsFirstSet words 1 4096 found → get_or (flags_of words) 0 false ≡ true → is_some found ≡ false → flags_of words ≡ first_flags
+are_first words None none here unset =
+    flags_of-from_each words first_flags length-first_flags (λ k below. elim (cases_eq k 0) [
+      | inl first ↦ ap (is_set words) first ∙ sym (get_or-flags_of words 0 (omega arith)) ∙ here ∙ sym (ap (λ n. get_or first_flags n false) first ∙ get_or-first_flags)
+      | inr later ↦ none k (omega arith) below ∙ sym (get_or-first_flags_later k later)
+    ])
+are_first words (Some place) found here unset = absurd (cc)
 
-pub set_none : (n : ℕ) → list_any (λ flag. flag) (replicate n false) ≡ false
-set_none zero = refl
-set_none (suc n) = set_none n
-
--- the first flag alone is set
-pub first_set : (flags : List Bool) (n : ℕ) → length flags ≡ n → 0 < n → get_or flags 0 false ≡ true → list_any (λ flag. flag) (drop 1 flags) ≡ false → flags ≡ set (replicate n false) 0 true
-first_set [] n size some first none = absurd (omega (arith, size, some))
-first_set (flag ∷ flags) zero size some first none = absurd (omega arith)
-first_set (flag ∷ flags) (suc n) size some first none =
-    let same : length flags ≡ n = omega (arith, size) in
-    (λ i. first i ∷ flags) ∙ ap (λ (rest : List Bool). true ∷ rest) (none_set flags none ∙ ap (λ k. replicate k false) same)
-
-pub set_first : (n : ℕ) → 0 < n → (get_or (set (replicate n false) 0 true) 0 false ≡ true) × (list_any (λ flag. flag) (drop 1 (set (replicate n false) 0 true)) ≡ false)
-set_first zero some = absurd (omega arith)
-set_first (suc n) some = (refl, set_none n)
+pub first_alone : (words : List ℕ) (found : Option ℕ) → IsFirstSet words 1 4096 found → flags_of words ≡ first_flags → is_some found ≡ false
+first_alone words None none same = refl
+first_alone words (Some place) found same =
+    absurd (false≢true (sym (get_or-first_flags_later place (let low = found.low in omega arith)) ∙ ap (λ flags. get_or flags place false) (sym same) ∙ get_or-flags_of words place found.high ∙ found.here))
 
 -- the same of each of a list
 pub all_replicate : {X : Type 0} (xs : List X) (x : X) → All (λ y. y ≡ x) xs → xs ≡ replicate (length xs) x

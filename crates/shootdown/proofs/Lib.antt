@@ -1,4 +1,5 @@
 mod Flags
+mod Words
 mod Queues
 mod Told
 mod Fresh

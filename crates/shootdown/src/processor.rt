@@ -4,9 +4,11 @@ ghost use Rattle.std.specs.List.{list_any};
 ghost use Rattle.pcid_tlb.specs.Tlb.{cached, filled, evicted, without_page, keep_entries};
 ghost use Rattle.shootdown.specs.Processors.{first_flags, fresh_processor, is_concerned, told, drained, woken, loaded, flags_kept, drops_pcid, queue_drops, pcids, IsProcessor};
 ghost use Rattle.shootdown.specs.Shootdown.{is_interrupted};
+ghost use Rattle.shootdown.specs.inside.Flags.{flags_of};
 
 use crate::ProcState;
 use page_entry::{PageNumber, Pcid};
+use page_table::{first_set, mark};
 use pcid_tlb::{CachedEntry, Invpcid, Tlb};
 use std::alloc::{AllocError, Allocator};
 use std::marker::Model;
@@ -15,7 +17,7 @@ use std::marker::Model;
 const QUEUE: usize = 8;
 
 // How many PCIDs there are (Intel SDM volume 3, "Process-Context Identifiers").
-const PCIDS: usize = 4096;
+const PCIDS: u64 = 4096;
 
 /// A processor. It takes its memory when it is made.
 #[derive(Drop)]
@@ -25,13 +27,14 @@ pub(crate) struct Processor<A: Allocator + Copy> {
     tlb: Tlb<A>,
     // What it still has to invalidate, in order.
     queue: Vec<Invpcid, A>,
-    // For each PCID, whether it may cache entries of it.
-    may_cache: Vec<bool, A>,
+    // A bit for each PCID: whether it may cache entries of it.
+    may_cache: [u64; 64],
 }
 
 impl<A: Allocator + Copy> Model for Processor<A> {
     ghost use Rattle.std.specs.Prelude.{◌≤◌, vec_capacity};
     ghost use Rattle.shootdown.specs.Processors.{Processor, IsProcessor, queue_len};
+    ghost use Rattle.shootdown.specs.inside.Flags.{flags_of};
 
     ghost Value = { Processor };
 
@@ -41,7 +44,7 @@ impl<A: Allocator + Copy> Model for Processor<A> {
           space = p.space;
           tlb = p.tlb;
           queue = p.queue.items;
-          may_cache = p.may_cache.items;
+          may_cache = flags_of p.may_cache;
         } };
 
     ghost invariant = { λ p. IsProcessor (record {
@@ -49,7 +52,7 @@ impl<A: Allocator + Copy> Model for Processor<A> {
       space = p.space;
       tlb = p.tlb;
       queue = p.queue.items;
-      may_cache = p.may_cache.items;
+      may_cache = flags_of p.may_cache;
     })
         × (queue_len ≤ vec_capacity p.queue) };
 }
@@ -65,7 +68,7 @@ impl<A: Allocator + Copy> Processor<A> {
             space: 0,
             tlb: Tlb::new(alloc, tlb)?,
             queue: Vec::with_capacity(alloc, QUEUE)?,
-            may_cache: first_flags(alloc)?,
+            may_cache: first_flags(),
         })
     }
 
@@ -115,7 +118,7 @@ impl<A: Allocator + Copy> Processor<A> {
     pub(crate) fn may_cache(&self, pcid: Pcid) -> bool
         ensures { result ≡ slice_index_or self.now.may_cache pcid false }
     {
-        self.may_cache.get(pcid as usize).copied().unwrap_or(false)
+        has_flag(&self.may_cache, pcid)
     }
 
     // Whether it may cache what an invalidation drops.
@@ -169,7 +172,7 @@ impl<A: Allocator + Copy> Processor<A> {
     {
         self.space = pcid;
         self.tlb.load_cr3(pcid, keep);
-        self.may_cache[pcid as usize] = true;
+        mark(&mut self.may_cache, pcid as u64, true);
     }
 
     // Gives it another state.
@@ -211,27 +214,26 @@ impl<A: Allocator + Copy> Processor<A> {
 }
 
 // The flags of a processor that may cache entries of PCID 0 alone.
-fn first_flags<A: Allocator + Copy>(alloc: A) -> Result<Vec<bool, A>, AllocError>
-    ensures { IfOk result (λ flags. flags.items ≡ first_flags) }
+fn first_flags() -> [u64; 64]
+    ensures { flags_of result ≡ first_flags }
 {
-    let mut flags = vec![in alloc; false; PCIDS]?;
-    flags[0] = true;
-    Ok(flags)
+    let mut flags = [0; 64];
+    mark(&mut flags, 0, true);
+    flags
 }
 
 // Whether the flags are those of a processor that may cache entries of PCID 0 alone.
-fn are_first_flags(flags: &[bool]) -> bool
-    requires { length flags.now ≡ pcids }
-    ensures { IsTrue result ↔ (flags.now ≡ first_flags) }
+fn are_first_flags(flags: &[u64; 64]) -> bool
+    ensures { IsTrue result ↔ (flags_of flags.now ≡ first_flags) }
 {
-    flags[0] && !has_set(&flags[1..])
+    has_flag(flags, 0) && first_set(flags, 1, PCIDS).is_none()
 }
 
-// Whether one of the flags is set.
-fn has_set(flags: &[bool]) -> bool
-    ensures { result ≡ list_any (λ flag. flag) flags.now }
+// Whether the flag of a PCID is set.
+fn has_flag(flags: &[u64; 64], pcid: Pcid) -> bool
+    ensures { result ≡ slice_index_or (flags_of flags.now) pcid false }
 {
-    flags.iter().any(|flag| *flag)
+    (pcid as u64) < PCIDS && (flags[(pcid / 64) as usize] >> (pcid % 64)) & 1 == 1
 }
 
 // Carries out invalidations, in order, with PCID `space` current: what one drops is cached no more, and of a PCID that
@@ -239,12 +241,12 @@ fn has_set(flags: &[bool]) -> bool
 fn carry_out<A: Allocator + Copy>(
     queue: &[Invpcid],
     tlb: &mut Tlb<A>,
-    may_cache: &mut [bool],
+    may_cache: &mut [u64; 64],
     space: Pcid,
 )
     ensures cached { tlb.new ≡ keep_entries (λ e. not (queue_drops queue.now e.pcid e.page)) tlb.old }
-    ensures flags { may_cache.new
-        ≡ flags_kept (λ pcid. pcid == space || not (list_any (λ a. drops_pcid a pcid) queue.now)) 0 may_cache.old }
+    ensures flags { flags_of may_cache.new ≡ flags_kept
+        (λ pcid. pcid == space || not (list_any (λ a. drops_pcid a pcid) queue.now)) 0 (flags_of may_cache.old) }
 {
     for action in queue {
         tlb.invpcid(*action);
@@ -253,30 +255,28 @@ fn carry_out<A: Allocator + Copy>(
 }
 
 // Notes that nothing is cached any more of a PCID that an invalidation drops whole, unless it is the current one.
-fn forget(may_cache: &mut [bool], action: Invpcid, space: Pcid)
-    ensures { may_cache.new ≡ flags_kept (λ pcid. pcid == space || not (drops_pcid action pcid)) 0 may_cache.old }
+fn forget(may_cache: &mut [u64; 64], action: Invpcid, space: Pcid)
+    ensures { flags_of may_cache.new
+        ≡ flags_kept (λ pcid. pcid == space || not (drops_pcid action pcid)) 0 (flags_of may_cache.old) }
 {
     match action {
         Invpcid::IndividualAddress(..) => {}
         Invpcid::SingleContext(pcid) => {
-            if pcid != space && (pcid as usize) < may_cache.len() {
-                may_cache[pcid as usize] = false;
+            if pcid != space && (pcid as u64) < PCIDS {
+                mark(may_cache, pcid as u64, false);
             }
         }
-        Invpcid::AllContextsAndGlobals | Invpcid::AllContexts => clear_others(
-            may_cache,
-            space as usize,
-        ),
+        Invpcid::AllContextsAndGlobals | Invpcid::AllContexts => clear_others(may_cache, space),
     }
 }
 
-// Clears all flags but that of one PCID.
-fn clear_others(flags: &mut [bool], pcid: usize)
-    ensures { flags.new ≡ flags_kept (λ other. other == pcid) 0 flags.old }
+// Clears all flags but that of one PCID. It goes over the words, not over the flags.
+fn clear_others(flags: &mut [u64; 64], pcid: Pcid)
+    ensures { flags_of flags.new ≡ flags_kept (λ other. other == pcid) 0 (flags_of flags.old) }
 {
-    let kept = pcid < flags.len() && flags[pcid];
-    flags.fill(false);
+    let kept = has_flag(flags, pcid);
+    flags.fill(0);
     if kept {
-        flags[pcid] = true;
+        mark(flags, pcid as u64, true);
     }
 }

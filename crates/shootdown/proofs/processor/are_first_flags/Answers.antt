@@ -1,30 +1,17 @@
-use Rattle.std.proofs.Common.{◌≡◌, ◌-◌, Bool, true, false, not, List, length, take, drop, get_or, set, sym, ap, ◌∙◌, subst, arith}
-use Rattle.std.proofs.lemmas.Bool.{false≢true}
-use Rattle.std.proofs.lemmas.List.{take_all, length-drop}
-use Rattle.std.specs.List.{list_any}
-use Rattle.shootdown.specs.Processors.{first_flags, pcids}
-use Rattle.shootdown.proofs.Fresh.{first_set, set_first}
+use Rattle.std.proofs.Common.{false, not, get_or, sym, ap, ◌∙◌}
+use Rattle.std.proofs.lemmas.Bool.{false≢true, not-false}
+use Rattle.shootdown.proofs.Flags.{get_or-first_flags}
+use Rattle.shootdown.proofs.Fresh.{are_first, first_alone}
 use Rattle.shootdown.proofs.processor.are_first_flags.Goals as goal
 
-not_true : (b : Bool) → not b ≡ true → b ≡ false
-not_true true is = absurd (cc)
-not_true false is = Rattle.std.proofs.Common.refl
+pub returns-then-has_flag : goal.returns-then-has_flag
+returns-then-has_flag c = (
+  (λ unset. are_first c.args.flags.now c.first_set.result c.first_set.ensures (sym c.has_flag.ensures ∙ c.if-has_flag.true) (c.is_none.ensures ∙ ap not unset)),
+  (λ same. not-false _ (sym c.is_none.ensures ∙ first_alone c.args.flags.now c.first_set.result c.first_set.ensures same)),
+)
 
--- the flags after the first
-rest : (flags : List Bool) → take (length flags - 1) (drop 1 flags) ≡ drop 1 flags
-rest flags = take_all (length flags - 1) (drop 1 flags) (omega (arith, length-drop 1 flags))
-
-pub returns-then-flags : goal.returns-then-flags
-unfolding first_flags
-returns-then-flags c =
-    let any = c.has_set.ensures ∙ ap (list_any (λ flag. flag)) (rest c.args.flags.now) in (
-      (λ unset. first_set c.args.flags.now pcids c.requires (omega arith) c.if-flags.true (sym any ∙ not_true c.has_set.result unset)),
-      (λ fresh. subst (λ b. not b ≡ true) (sym (any ∙ ap (λ (x : List Bool). list_any (λ flag. flag) (drop 1 x)) fresh ∙ (set_first pcids (omega arith)).1)) (λ i. true)),
-    )
-
-pub returns-else-flags : goal.returns-else-flags
-unfolding first_flags
-returns-else-flags c = (
-  (λ set. absurd (false≢true (sym c.if-flags.false ∙ set))),
-  (λ fresh. ap (λ (x : List Bool). get_or x 0 false) fresh ∙ (set_first pcids (omega arith)).0),
+pub returns-else-has_flag : goal.returns-else-has_flag
+returns-else-has_flag c = (
+  (λ set. absurd (false≢true (sym c.if-has_flag.false ∙ set))),
+  (λ same. c.has_flag.ensures ∙ ap (λ flags. get_or flags 0 false) same ∙ get_or-first_flags),
 )
