@@ -1,7 +1,7 @@
 // A commit: from the beginning of its mark to the acknowledgement.
-ghost use Rattle.std.specs.Prelude.{◌≡◌, IfOk, IfErr, IfSome, IsTrue};
+ghost use Rattle.std.specs.Prelude.{◌≡◌, false, IfOk, IfErr, IfSome, IsTrue};
 ghost use Rattle.machine.specs.declared.act.Reply.TheVariants as told;
-ghost use Rattle.session.specs.Steps.{CommitsMark, Says};
+ghost use Rattle.session.specs.Steps.{CommitsMark, Says, tells_begun};
 
 use crate::aside::{is_begun, is_flushed};
 use crate::session::Session;
@@ -102,10 +102,14 @@ fn is_committed(reply: &Reply, mark: u32) -> bool
     }
 }
 
-fn is_busy(reply: &Reply) -> bool {
+/// Whether commits have to be done first.
+pub(crate) fn is_busy(reply: &Reply) -> bool
+    ensures { IsTrue result → tells_begun reply.now ≡ false }
+{
     matches!(reply, Reply::Refused(Refusal::Busy))
 }
 
-fn is_nothing(reply: &Reply) -> bool {
+/// Whether there was nothing to do.
+pub(crate) fn is_nothing(reply: &Reply) -> bool {
     matches!(reply, Reply::Nothing)
 }
