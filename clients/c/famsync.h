@@ -109,8 +109,8 @@ long famsync_service(const famsync *handle);
    grow it less at a time, with an msync in between. Nothing is changed where it is refused.
 
    Plain memory has the length with which it was opened, and so FAMSYNC_BUSY is answered as long as plain memory of this
-   file is open. A mapping in the service stays as it is: its pages past the file's end answer FAMSYNC_BUSADRERR, and can
-   be used once the file is long enough. */
+   file is open. A mapping in the service stays as it is: its pages past the file's end answer FAMSYNC_BUSADRERR, and
+   can be used once the file is long enough. */
 int famsync_setlength(famsync *handle, const char *file, uint64_t length);
 
 /* Maps the pages of a file from `offset` on, a multiple of 4,096, for `length` bytes, at an address that the library

@@ -64,8 +64,8 @@ static inline void make_volume_of(unsigned layout, unsigned slots, const char *f
         remove_folder();
     }
     snprintf(volume, sizeof volume, "%s/v.img", folder);
-    snprintf(command, sizeof command, "'%s' format --layout %u '%s' %u %s >/dev/null", program ? program : "famsync", layout,
-             volume, slots, files);
+    snprintf(command, sizeof command, "'%s' format --layout %u '%s' %u %s >/dev/null", program ? program : "famsync",
+             layout, volume, slots, files);
     WANT(system(command) == 0);
 }
 
