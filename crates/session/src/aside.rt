@@ -1,5 +1,5 @@
 // Steps that a session makes beside those that it was asked for: faults are served, and frames are made free.
-ghost use Rattle.std.specs.Prelude.{◌≡◌, false, IsTrue};
+ghost use Rattle.std.specs.Prelude.{◌≡◌, false};
 ghost use Rattle.session.specs.Steps.{tells_begun, tells_fixed};
 ghost use Rattle.session.specs.inside.Aside.{GoesAside, IsTold, StopsAt};
 
@@ -190,9 +190,7 @@ fn is_reclaimed(reply: &Reply) -> bool {
 }
 
 /// Whether no frame, or too few, were free.
-pub(crate) fn is_no_frame(reply: &Reply) -> bool
-    ensures { IsTrue result → tells_begun reply.now ≡ false }
-{
+pub(crate) fn is_no_frame(reply: &Reply) -> bool {
     matches!(reply, Reply::Refused(Refusal::NoFrame))
 }
 

@@ -1,7 +1,7 @@
 // A commit: from the beginning of its mark to the acknowledgement.
-ghost use Rattle.std.specs.Prelude.{◌≡◌, false, IfOk, IfErr, IfSome, IsTrue};
+ghost use Rattle.std.specs.Prelude.{◌≡◌, IfOk, IfErr, IfSome, IsTrue};
 ghost use Rattle.machine.specs.declared.act.Reply.TheVariants as told;
-ghost use Rattle.session.specs.Steps.{CommitsMark, Says, tells_begun};
+ghost use Rattle.session.specs.Steps.{CommitsMark, Says};
 
 use crate::aside::{is_begun, is_flushed};
 use crate::session::Session;
@@ -103,9 +103,7 @@ fn is_committed(reply: &Reply, mark: u32) -> bool
 }
 
 /// Whether commits have to be done first.
-pub(crate) fn is_busy(reply: &Reply) -> bool
-    ensures { IsTrue result → tells_begun reply.now ≡ false }
-{
+pub(crate) fn is_busy(reply: &Reply) -> bool {
     matches!(reply, Reply::Refused(Refusal::Busy))
 }
 

@@ -1,4 +1,3 @@
-use Rattle.std.proofs.Common.{refl}
 use Rattle.session.proofs.Lengths.{length_none, length_then, length_told, sets_before, sets_later, sets_told}
 use Rattle.session.proofs.session.Session.begin_length.Goals as goal
 
