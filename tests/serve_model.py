@@ -1,7 +1,7 @@
 """An independent reading of the protocol of `famsync serve`: what a session answers, as far as lines alone decide it.
 
-It has the files' bytes, the mappings, the pages that were stored to and the marks, and nothing of how a commit is made:
-no TLB, no frames, no journal. Where an answer hangs on those, it says so.
+It has the files' bytes and lengths, the mappings, the pages that were stored to and the marks, and nothing of how a
+commit is made: no TLB, no frames, no journal. Where an answer hangs on those, it says so.
 """
 
 import json
@@ -24,6 +24,7 @@ ACTS = {
     "protect": [SPACE, WIDE, WIDE, ("r", "w", "rw")],
     "reclaim": [SPACE, LONG],
     "msync": [WIDE, WIDE, BYTE],
+    "setlength": [SPACE, WIDE],
     "load": [WIDE, BYTE],
     "store": [WIDE, bytes],
     "fix": [WIDE, ("read", "write")],
@@ -37,11 +38,11 @@ ACTS = {
     "flush": [],
 }
 REFUSALS = "stalled locked segvmaperr segvaccerr busadrerr held noframe device broken einval enomem eacces".split()
-REFUSALS += "overlap nofile busy outofmemory".split()
+REFUSALS += "overlap nofile notresident busy outofmemory".split()
 STEP = re.compile(
     r"(?:notyet \d+|fault [467]|space \d+|bytes(?: \d+)*|marked \d+|committed \d+|done \d+"
     r"|destroyed|switched|mapped|begun|fine|nothing|stored|fixed|filled|evicted|idled|woken|acked|unmapped|protected"
-    r"|reclaimed|kept|resumed|going|"
+    r"|reclaimed|kept|resized|resumed|going|"
     + "|".join(REFUSALS)
     + r")\Z"
 )
@@ -110,7 +111,7 @@ def step_of(value):
 
 
 def request_of(line):
-    """What a line asks for: a list of steps, or a tuple that begins with loads, stores or commit; or Bad."""
+    """What a line asks for: a list of steps, or a tuple that begins with loads, stores, commit or setlength; or Bad."""
     value = json_of(line)
     if type(value) is not list or not value:
         raise Bad("not a request")
@@ -128,11 +129,15 @@ def request_of(line):
             if type(rest[1]) is str and re.fullmatch(r"(?:[0-9a-fA-F]{2})*", rest[1]) and len(rest[1]) <= 2 * RANGE:
                 return ("stores", processor, at, bytes.fromhex(rest[1]))
         raise Bad("other arguments")
+    if len(value) >= 2 and value[1] == "setlength":
+        processor, act, *rest = step_of(value)
+        return (act, processor, *rest)
     return [step_of(value)]
 
 
 def files_of(volume):
-    """What the bytes of a volume recover to: home blocks, with the records of open journals in their places."""
+    """What the bytes of a volume recover to: home blocks, with the records of open journals in their places, and in
+    layout 3 each file cut at the length that the block before them says."""
     count, slots = struct.unpack(">II", volume[8:16])
     gates = [1] if volume[:8] == b"FAMSYNC1" else [1, 3 + slots]
     journals = []
@@ -146,20 +151,32 @@ def files_of(volume):
     for _, records in sorted(journals, key=lambda journal: journal[0]):
         places.update(records)
     contents = []
+    block_of_lengths = 5 + 2 * slots
+    lengths_at = PAGE * places.get(block_of_lengths, block_of_lengths)
     for file in range(count):
         begin = 64 + 48 * file
         length, home, pages = struct.unpack(">QII", volume[begin : begin + 16])
+        if volume[:8] == b"FAMSYNC3":
+            (length,) = struct.unpack(">Q", volume[lengths_at + 8 * file : lengths_at + 8 * file + 8])
         blocks = (PAGE * places.get(block, block) for block in range(home, home + pages))
         contents.append(b"".join(volume[block : block + PAGE] for block in blocks)[:length])
     return contents
 
 
-class Model:
-    """One processor, or several that are all active and in whatever space they were switched to."""
+def pages_of(length):
+    return (length + PAGE - 1) // PAGE
 
-    def __init__(self, files, cpus=1):
-        self.files = files
-        self.memory = [bytearray((length + PAGE - 1) // PAGE * PAGE) for _, length in files]
+
+class Model:
+    """One processor, or several that are all active and in whatever space they were switched to. `capacities` are those
+    of the files in layout 3; in another layout there are none."""
+
+    def __init__(self, files, cpus=1, capacities=None):
+        self.lengths = [length for _, length in files]
+        self.capacities = capacities
+        self.memory = [bytearray(PAGE * pages_of(length)) for length in self.lengths]
+        self.kept_lengths = list(self.lengths)
+        self.resized = False
         self.kept = [bytes(memory) for memory in self.memory]
         self.stored = set()
         # pages of the last two commits, whose write-outs may still be under way
@@ -175,7 +192,7 @@ class Model:
 
     def committed(self):
         """The files' bytes as the last commit left them."""
-        return [kept[:length] for kept, (_, length) in zip(self.kept, self.files)]
+        return [kept[:length] for kept, length in zip(self.kept, self.kept_lengths)]
 
     def mapping(self, space, page):
         """Of a page of a space: file, page of the file and rights, or None."""
@@ -223,15 +240,15 @@ class Model:
         return f"{cause} after {done}" + (f" {loaded.hex()}" if loaded else "")
 
     def saved(self):
-        return [bytes(memory) for memory in self.memory], set(self.stored)
+        return [bytes(memory) for memory in self.memory], set(self.stored), list(self.lengths), self.resized
 
     def restore(self, saved):
         self.memory, self.stored = [bytearray(memory) for memory in saved[0]], saved[1]
+        self.lengths, self.resized = list(saved[2]), saved[3]
 
     def past_the_end(self):
         """The pages that have a byte past their file's end: it is memory alone, and so they stay there."""
-        ends = [length for _, length in self.files]
-        return {(file, end // PAGE) for file, end in enumerate(ends) if any(self.memory[file][end:])}
+        return {(file, end // PAGE) for file, end in enumerate(self.lengths) if any(self.memory[file][end:])}
 
     def stopped(self, request, reply, frames):
         """The reply to a range that stops for want of a frame where `reply` says, or that it can't stop there."""
@@ -250,8 +267,10 @@ class Model:
 
     def commit(self):
         self.marks += 1
-        if self.stored:
+        if self.stored or self.resized:
             self.last, self.earlier = set(self.stored), self.last
+        self.kept_lengths, self.resized = list(self.lengths), False
+        self.kept = [kept[: len(memory)].ljust(len(memory), b"\0") for kept, memory in zip(self.kept, self.memory)]
         for file, page in self.stored:
             kept = bytearray(self.kept[file])
             kept[page * PAGE : (page + 1) * PAGE] = self.memory[file][page * PAGE : (page + 1) * PAGE]
@@ -259,11 +278,54 @@ class Model:
         self.stored.clear()
         return f"committed {self.marks}"
 
+    def set_length(self, processor, file, to):
+        """A new length, and the reply to it; where the page in which the file ends isn't in memory, or too few frames
+        can be made free for what it grows by, it is `unset` instead."""
+        refused = self.length_refusal(processor, file, to)
+        if refused:
+            return refused
+        old, self.lengths[file] = self.lengths[file], to
+        if to == old:
+            return "fine"
+        memory, least = self.memory[file], min(old, to)
+        memory[least:] = bytes(len(memory) - least)
+        del memory[PAGE * pages_of(to) :]
+        memory.extend(bytes(PAGE * pages_of(to) - len(memory)))
+        self.stored = {(other, page) for other, page in self.stored if other != file or page < pages_of(to)}
+        # what it grows by goes into the next commit, with the rest of the page in which it ended
+        self.stored |= {(file, page) for page in range(old // PAGE, pages_of(to)) if to > old}
+        self.resized = True
+        return "resized"
+
+    def length_refusal(self, processor, file, to):
+        if processor >= len(self.current) or self.capacities is None:
+            return "einval"
+        if file >= len(self.lengths):
+            return "nofile"
+        return "einval" if to > self.capacities[file] else None
+
+    def unset(self, request, reply, frames):
+        """The reply to a new length that isn't set for want of a page or of frames, or that it can't be refused so."""
+        _, _, file, to = request
+        if self.length_refusal(*request[1:]) or to <= self.lengths[file]:
+            return "another answer, as no page is wanted"
+        last = (file, self.lengths[file] // PAGE)
+        if reply == "notresident" and (self.lengths[file] % PAGE == 0 or last in self.stored):
+            return "another answer, as the page in which the file ends isn't wanted or is in memory"
+        stay = self.stored | self.past_the_end()
+        more = pages_of(to) - pages_of(self.lengths[file])
+        if reply == "noframe" and len(stay) + more <= frames:
+            return f"resized, as {len(stay)} pages have to stay in memory, {more} come and there are {frames} frames"
+        return reply
+
     def step(self, step):
         """The reply to one step of those that this model knows; else None."""
         processor, act, *rest = step
         if processor >= len(self.current):
             return "einval"
+        if act == "setlength":
+            # what is begun is ended by a `change`, of which this model knows nothing
+            return self.length_refusal(processor, *rest) or ("fine" if self.lengths[rest[0]] == rest[1] else None)
         if act == "create":
             space = next(number for number in range(1, 4097) if number not in self.spaces)
             if space > 4095:
@@ -288,13 +350,13 @@ class Model:
         return None
 
     def map(self, space, at, length, file, offset, rights, opened):
-        pages = (length + PAGE - 1) // PAGE
+        pages = pages_of(length)
         first = offset // PAGE
         if space not in self.spaces or at % PAGE or offset % PAGE or not 1 <= pages <= 65536:
             return "einval"
         if at < PAGE or at + pages * PAGE > LAST or first + pages - 1 > LONG:
             return "einval"
-        if file >= len(self.files):
+        if file >= len(self.lengths):
             return "nofile"
         if "w" in rights and opened == "r":
             return "eacces"
@@ -311,6 +373,8 @@ class Model:
             request = request_of(line)
         except Bad:
             return "badline"
+        if type(request) is tuple and request[0] == "setlength":
+            return self.set_length(*request[1:])
         if type(request) is tuple:
             return self.commit() if request[0] == "commit" else self.range(request)
         replies = [self.step(step) for step in request]

@@ -36,7 +36,7 @@
 
 struct file {
     char name[33];
-    uint64_t length;
+    _Atomic uint64_t length; /* set under `turn`, read by any thread */
 };
 
 struct famsync {
@@ -106,7 +106,7 @@ static const struct {
     {FAMSYNC_SEGVACCERR, "segvaccerr", "the mapping doesn't allow this access"},
     {FAMSYNC_BUSADRERR, "busadrerr", "the page is past the file's end"},
     {FAMSYNC_HELD, "held", "the page waits for its record"},
-    {FAMSYNC_NOFRAME, "noframe", "more pages were stored to than one commit can have"},
+    {FAMSYNC_NOFRAME, "noframe", "more pages were stored to, or added to a file, than one commit can have"},
     {FAMSYNC_DEVICE, "device", "a read, a write or a sync of the volume failed"},
     {FAMSYNC_BROKEN, "broken", "a commit failed earlier, and the session can't commit any more"},
     {FAMSYNC_EINVAL, "einval", "the service doesn't take this argument"},
@@ -116,6 +116,7 @@ static const struct {
     {FAMSYNC_NOFILE, "nofile", "the volume has no such file"},
     {FAMSYNC_BUSY, "busy", "a commit is under way"},
     {FAMSYNC_OUTOFMEMORY, "outofmemory", "the service was refused memory"},
+    {FAMSYNC_NOTRESIDENT, "notresident", "the page in which the file ends isn't in memory"},
 };
 
 #define CODE_COUNT (sizeof CODES / sizeof CODES[0])
@@ -454,8 +455,12 @@ static unsigned slots_of(const char *volume)
     int file = open(volume, O_RDONLY | O_CLOEXEC | O_NONBLOCK);
     if (file < 0)
         return 1;
-    if (pread(file, head, sizeof head, 0) == sizeof head)
+    if (pread(file, head, sizeof head, 0) == sizeof head) {
         slots = (unsigned)head[14] * 256 + head[15];
+        /* in layout 3 the lengths may need one of its slots */
+        if (slots > 0 && memcmp(head, "FAMSYNC3", 8) == 0)
+            slots--;
+    }
     close(file);
     return slots < 1 || slots > MOST_FRAMES ? 1 : slots;
 }
@@ -502,13 +507,15 @@ static int read_files(famsync *handle)
         return FAMSYNC_NONSENSE;
     for (handle->files = 0; handle->files < files; handle->files++) {
         struct file *file = &handle->file[handle->files];
+        uint64_t bytes;
         char *space;
         code = read_line(handle, &line, &length);
         if (code != FAMSYNC_OK)
             return code;
         space = strchr(line, ' ');
-        if (!space || space == line || space - line > 32 || !number_at(space + 1, &rest, &file->length) || *rest)
+        if (!space || space == line || space - line > 32 || !number_at(space + 1, &rest, &bytes) || *rest)
             return FAMSYNC_NONSENSE;
+        atomic_store(&file->length, bytes);
         memcpy(file->name, line, (size_t)(space - line));
         file->name[space - line] = 0;
     }
@@ -638,7 +645,7 @@ const char *famsync_file_name(const famsync *handle, unsigned file)
 
 uint64_t famsync_file_length(const famsync *handle, unsigned file)
 {
-    return handle && file < handle->files ? handle->file[file].length : 0;
+    return handle && file < handle->files ? atomic_load(&handle->file[file].length) : 0;
 }
 
 unsigned famsync_frames(const famsync *handle)
@@ -653,14 +660,21 @@ long famsync_service(const famsync *handle)
 
 /* Loads, stores and commits. */
 
+/* The number of the file with this name; that of all files where there is none. */
+static unsigned number_of(const famsync *handle, const char *name)
+{
+    unsigned file = 0;
+    while (file < handle->files && strcmp(handle->file[file].name, name) != 0)
+        file++;
+    return file;
+}
+
 static int map_whole(famsync *handle, const char *name, uint64_t offset, uint64_t length, int protection,
                      uint64_t *address)
 {
-    unsigned file = 0;
+    unsigned file = number_of(handle, name);
     uint64_t pages, begin = handle->next_address, first = 0;
     const char *rights = protection == FAMSYNC_READ ? "r" : protection == FAMSYNC_WRITE ? "w" : "rw";
-    while (file < handle->files && strcmp(handle->file[file].name, name) != 0)
-        file++;
     if (file == handle->files)
         return FAMSYNC_NOFILE;
     if (length == 0 && offset < handle->file[file].length)
@@ -789,6 +803,69 @@ int famsync_load(famsync *handle, uint64_t address, void *bytes, size_t count, s
 int famsync_store(famsync *handle, uint64_t address, const void *bytes, size_t count, size_t *done)
 {
     return access_of(handle, address, NULL, bytes, count, done);
+}
+
+/* Asks once for another length of a file. */
+static int ask_length(famsync *handle, unsigned file, uint64_t bytes)
+{
+    char *reply;
+    size_t length = line_of(handle, "[0,\"setlength\",%u,%llu]\n", file, (unsigned long long)bytes);
+    int code = ask(handle, length, &reply, &length);
+    if (code != FAMSYNC_OK)
+        return code;
+    if (strcmp(reply, "resized") == 0 || strcmp(reply, "fine") == 0) {
+        atomic_store(&handle->file[file].length, bytes);
+        return FAMSYNC_OK;
+    }
+    code = code_of(reply, length);
+    return code == FAMSYNC_NONSENSE ? end(handle, code) : code;
+}
+
+/* Brings the page in which a file ends into memory: a byte of it is loaded through a mapping that isn't kept. */
+static int load_last_page(famsync *handle, unsigned file)
+{
+    uint64_t address, next = handle->next_address, bytes = handle->file[file].length;
+    unsigned char byte;
+    size_t done, length;
+    char *reply;
+    int code = map_whole(handle, handle->file[file].name, bytes / PAGE * PAGE, 1, FAMSYNC_READ, &address);
+    if (code != FAMSYNC_OK)
+        return code;
+    code = ranges(handle, address, &byte, NULL, 1, &done);
+    if (handle->ended != FAMSYNC_OK)
+        return code;
+    length = line_of(handle, "[[0,\"unmap\",1,%llu,%u],[0,\"change\"]]\n", (unsigned long long)address, PAGE);
+    int unmapped = ask(handle, length, &reply, &length);
+    if (unmapped != FAMSYNC_OK)
+        return unmapped;
+    if (strcmp(reply, "begun; unmapped") != 0)
+        return end(handle, FAMSYNC_NONSENSE);
+    handle->next_address = next;
+    return code;
+}
+
+int famsync_setlength(famsync *handle, const char *file, uint64_t length)
+{
+    int code;
+    if (!file)
+        return FAMSYNC_ARGUMENT;
+    code = enter(handle);
+    if (code != FAMSYNC_OK)
+        return code;
+    unsigned number = number_of(handle, file);
+    if (number == handle->files)
+        return leave(handle, FAMSYNC_NOFILE);
+    for (famsync_memory *memory = handle->memories; memory; memory = memory->next)
+        if (memory->file == number)
+            return leave(handle, FAMSYNC_BUSY);
+    code = ask_length(handle, number, length);
+    /* Where the service takes that page out again to make room, it takes others first the second time. */
+    for (unsigned tries = 0; code == FAMSYNC_NOTRESIDENT && tries < 2; tries++) {
+        code = load_last_page(handle, number);
+        if (code == FAMSYNC_OK)
+            code = ask_length(handle, number, length);
+    }
+    return leave(handle, code == FAMSYNC_NOTRESIDENT ? FAMSYNC_NOFRAME : code);
 }
 
 static int commit(famsync *handle, uint64_t *mark)
@@ -987,12 +1064,12 @@ int famsync_memory_open(famsync *handle, const char *file, famsync_memory **open
     }
     memory->handle = handle;
     code = FAMSYNC_NOFILE;
-    for (unsigned i = 0; i < handle->files; i++)
-        if (strcmp(handle->file[i].name, file) == 0) {
-            code = handle->file[i].length > SIZE_MAX / 2 ? FAMSYNC_NOMEMORY : FAMSYNC_OK;
-            memory->length = (size_t)handle->file[i].length;
-            memory->file = i;
-        }
+    memory->file = number_of(handle, file);
+    if (memory->file < handle->files) {
+        uint64_t length = handle->file[memory->file].length;
+        code = length > SIZE_MAX / 2 ? FAMSYNC_NOMEMORY : length == 0 ? FAMSYNC_ARGUMENT : FAMSYNC_OK;
+        memory->length = (size_t)length;
+    }
     for (famsync_memory *other = handle->memories; other && code == FAMSYNC_OK; other = other->next)
         if (other->file == memory->file)
             code = FAMSYNC_OVERLAP;

@@ -20,7 +20,8 @@
  * A process that was forked has a copy of the handle, with which each call answers FAMSYNC_FORKED, but for
  * famsync_close: that frees the copy, and leaves the session to the process that began it.
  *
- * Not in this version: files have the length with which the volume was made. There will be a famsync_setlength.
+ * Not in this version: a file doesn't grow past the capacity that it was given when the volume was made, and in a
+ * volume of layout 1 or 2 it keeps its length.
  */
 #ifndef FAMSYNC_H
 #define FAMSYNC_H
@@ -56,7 +57,7 @@ enum famsync_code {
     FAMSYNC_SEGVACCERR = -24, /* the mapping doesn't allow this access */
     FAMSYNC_BUSADRERR = -25,  /* the page is past the file's end */
     FAMSYNC_HELD = -26,
-    FAMSYNC_NOFRAME = -27, /* more pages were stored to than one commit can have */
+    FAMSYNC_NOFRAME = -27, /* more pages were stored to, or added to a file, than one commit can have */
     FAMSYNC_DEVICE = -28,  /* a read, a write or a sync of the volume failed */
     FAMSYNC_BROKEN = -29,  /* that happened earlier, and nothing can be committed any more in this session */
     FAMSYNC_EINVAL = -30,
@@ -65,7 +66,8 @@ enum famsync_code {
     FAMSYNC_OVERLAP = -33,
     FAMSYNC_NOFILE = -34, /* the volume has no such file */
     FAMSYNC_BUSY = -35,
-    FAMSYNC_OUTOFMEMORY = -36 /* the service was refused memory */
+    FAMSYNC_OUTOFMEMORY = -36, /* the service was refused memory */
+    FAMSYNC_NOTRESIDENT = -37  /* the page in which the file ends isn't in memory: famsync_setlength brings it there */
 };
 
 enum famsync_protection { FAMSYNC_READ = 1, FAMSYNC_WRITE = 2 };
@@ -91,7 +93,7 @@ int famsync_open(const char *volume, const struct famsync_options *options, fams
    closed before. Answers FAMSYNC_DEVICE where the service ended so, or how the session ended earlier. */
 int famsync_close(famsync *handle);
 
-/* The files of the volume, numbered from 0. */
+/* The files of the volume, numbered from 0, and their lengths as this session has set them. */
 unsigned famsync_files(const famsync *handle);
 const char *famsync_file_name(const famsync *handle, unsigned file);
 uint64_t famsync_file_length(const famsync *handle, unsigned file);
@@ -99,6 +101,17 @@ uint64_t famsync_file_length(const famsync *handle, unsigned file);
 /* How many pages a commit of this session can have, and the process of the service, for whoever watches it. */
 unsigned famsync_frames(const famsync *handle);
 long famsync_service(const famsync *handle);
+
+/* Sets the length of a file, as ftruncate does: up to its capacity, in a volume of layout 3; else FAMSYNC_EINVAL. Bytes
+   past a new end are gone, and what a file grows by is zeros. Like a store it is durable after the next famsync_msync
+   that is acknowledged, and else gone with the session. The pages that a file grows by count as stored to, and so does
+   the one in which it ended: FAMSYNC_NOFRAME where they and those that were stored to don't go into one commit; then
+   grow it less at a time, with an msync in between. Nothing is changed where it is refused.
+
+   Plain memory has the length with which it was opened, and so FAMSYNC_BUSY is answered as long as plain memory of this
+   file is open. A mapping in the service stays as it is: its pages past the file's end answer FAMSYNC_BUSADRERR, and
+   can be used once the file is long enough. */
+int famsync_setlength(famsync *handle, const char *file, uint64_t length);
 
 /* Maps the pages of a file from `offset` on, a multiple of 4,096, for `length` bytes, at an address that the library
    chooses: an address of the service, and no pointer. A length of 0 is up to the file's end. */
@@ -135,7 +148,8 @@ const char *famsync_strerror(int code);
  * wasn't stored to. Read into a buffer, and copy. A program that installs a handler of SIGSEGV after the first
  * famsync_memory_open has to call the one that was there; one that blocks SIGSEGV can't store. Bytes past the file's
  * end, in its last page, are memory that isn't kept. What famsync_store writes to this file doesn't come into memory
- * that is open, and goes back where its page is stored to: use one of the two ways for each file.
+ * that is open, and goes back where its page is stored to: use one of the two ways for each file. An empty file has no
+ * memory (FAMSYNC_ARGUMENT).
  */
 int famsync_memory_open(famsync *handle, const char *file, famsync_memory **memory);
 

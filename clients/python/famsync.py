@@ -13,9 +13,11 @@ last one that `commit` returned from. A volume has one session at a time.
 Where something fails an `Error` is raised. `Gone` and `Nonsense` end the session: every later call raises the same.
 Threads may share a session; their calls take turns.
 
-Not in this version: files have the length with which the volume was made.
+Not in this version: a file doesn't grow past the capacity that it was given when the volume was made, and in a volume
+of layout 1 or 2 it keeps its length.
 """
 
+import operator
 import os
 import re
 import subprocess
@@ -81,7 +83,7 @@ class PastEnd(Refusal):
 
 
 class NoFrame(Refusal):
-    """noframe: more pages were stored to than one commit can have."""
+    """noframe: more pages were stored to, or added to a file, than one commit can have."""
 
 
 class Device(Refusal):
@@ -92,6 +94,14 @@ class Broken(Refusal):
     """broken: that happened earlier, and this session can't commit any more."""
 
 
+class BadLength(Refusal):
+    """einval of a length: it is above the file's capacity, or the volume is of layout 1 or 2."""
+
+
+class NotResident(Refusal):
+    """notresident: the page in which a file ends isn't in memory; set_length brings it there."""
+
+
 REFUSALS = {
     "segvmaperr": NotMapped,
     "segvaccerr": NotAllowed,
@@ -99,6 +109,7 @@ REFUSALS = {
     "noframe": NoFrame,
     "device": Device,
     "broken": Broken,
+    "notresident": NotResident,
     **dict.fromkeys("stalled locked notyet fault held einval enomem eacces overlap nofile busy".split(), Refusal),
     "outofmemory": Refusal,
 }
@@ -271,6 +282,50 @@ class Volume:
                 self._expect(self.ask(request), "mapped")
             return Mapping(self, name, address, length)
 
+    def set_length(self, name, length):
+        """Sets the length of a file, up to its capacity, in a volume of layout 3. Bytes past a new end are gone, and
+        what a file grows by is zeros; the pages that it gets, and the one in which it ended, go into the next commit.
+
+        Like a store it is durable after the next commit, and else gone with the session. A mapping stays as it is: its
+        pages past the file's end raise PastEnd, and can be used once the file is long enough."""
+        length = operator.index(length)
+        if length < 0:
+            raise ValueError("a length isn't negative")
+        with self._turn:
+            if self._ended is not None:
+                raise self._ended
+            if name not in self.files:
+                raise NoFile(f"the volume has no file {name!r}")
+            if length >= 1 << 64:
+                raise BadLength("einval")
+            number = list(self.files).index(name)
+            reply = self.ask(f'[0,"setlength",{number},{length}]')
+            # Where the service takes that page out again to make room, it takes others first the second time.
+            for _ in range(2):
+                if reply == "notresident":
+                    self._load_last_page(number, self.files[name])
+                    reply = self.ask(f'[0,"setlength",{number},{length}]')
+            if reply == "notresident":
+                raise NoFrame("noframe")
+            if reply == "einval":
+                raise BadLength(reply)
+            if reply != "fine":
+                self._expect(reply, "resized")
+            self.files[name] = length
+
+    def _load_last_page(self, number, length):
+        """Brings the page in which a file ends into memory: a byte of it is loaded through a mapping that isn't
+        kept."""
+        address, offset = self._next, length // PAGE * PAGE
+        self._expect(self.ask(f'[0,"map",1,{address},{PAGE},{number},{offset},"r","rw"]'), "mapped")
+        try:
+            self.load(address, 1)
+        finally:
+            if self._ended is None:
+                unmapped = self.ask(f'[[0,"unmap",1,{address},{PAGE}],[0,"change"]]')
+                if unmapped != "begun; unmapped":
+                    raise self._end(Nonsense(f"{unmapped[:60]!r}"))
+
     def _expect(self, reply, word):
         """The rest of a reply that begins with a word; else the refusal that it is."""
         if reply == word or reply.startswith(word + " "):
@@ -358,4 +413,6 @@ def slots_of(path):
     except OSError:
         return 1
     slots = int.from_bytes(head[12:16], "big") if len(head) == 16 else 0
+    # in layout 3 the lengths may need one of its slots
+    slots -= head[:8] == b"FAMSYNC3"
     return slots if 1 <= slots <= MOST_FRAMES else 1

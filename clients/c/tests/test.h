@@ -53,8 +53,8 @@ static inline void remove_folder(void)
     }
 }
 
-/* Makes a volume with these files in a folder of its own. */
-static inline void make_volume(unsigned slots, const char *files)
+/* Makes a volume of a layout with these files in a folder of its own. */
+static inline void make_volume_of(unsigned layout, unsigned slots, const char *files)
 {
     char command[512];
     const char *program = getenv("FAMSYNC");
@@ -64,8 +64,14 @@ static inline void make_volume(unsigned slots, const char *files)
         remove_folder();
     }
     snprintf(volume, sizeof volume, "%s/v.img", folder);
-    snprintf(command, sizeof command, "'%s' format '%s' %u %s >/dev/null", program ? program : "famsync", volume, slots, files);
+    snprintf(command, sizeof command, "'%s' format --layout %u '%s' %u %s >/dev/null", program ? program : "famsync",
+             layout, volume, slots, files);
     WANT(system(command) == 0);
+}
+
+static inline void make_volume(unsigned slots, const char *files)
+{
+    make_volume_of(1, slots, files);
 }
 
 static inline famsync *opened(void)

@@ -4,18 +4,19 @@ use Rattle.machine.specs.declared.act.Reply.{Reply}
 use Rattle.machine.specs.declared.act.Step.{Step}
 use Rattle.session.specs.declared.ranges.Reached.{Reached}
 use Rattle.session.specs.declared.request.Request.{Request}
-use Rattle.session.specs.declared.request.Request.TheVariants.{Steps, Load, Store, Commit}
+use Rattle.session.specs.declared.request.Request.TheVariants.{Steps, Load, Store, Commit, SetLength}
 use Rattle.session.specs.declared.request_fault.RequestFault.{RequestFault}
 use Rattle.session.specs.declared.request_fault.RequestFault.TheVariants as fault
 use Rattle.session.specs.Ranges.{LoadsReached, StoresReached}
-use Rattle.session.specs.Requests.{Asked, asks_steps, asks_load, asks_store, asks_commit, request_in}
-use Rattle.session.specs.Steps.{AreOfCommit}
+use Rattle.session.specs.Requests.{Asked, asks_steps, asks_load, asks_store, asks_commit, asks_length, request_in}
+use Rattle.session.specs.Steps.{AreOfCommit, AreOfLength}
 
 abbrev pub asked : {A : Type 0} → Request A → Asked
 asked (Steps steps) = asks_steps steps.items
 asked (Load p va count) = asks_load p va count
 asked (Store p va bytes) = asks_store p va bytes.items
 asked (Commit p) = asks_commit p
+asked (SetLength p file length) = asks_length p file length
 
 -- memory was refused
 abbrev pub IsMemory : RequestFault → Type 0
@@ -36,13 +37,14 @@ abbrev pub AreFirst : List Step → List Step → List Reply → Type 0
 AreFirst wanted steps replies = (count : ℕ) × (steps ≡ take count wanted)
 
 -- What was done for what is asked for, and nothing else: steps in order, a range as far as it reached, or the steps of
--- a commit.
+-- a commit or of a new length.
 abbrev pub IsDoneFor : Asked → List Step → List Reply → Type 0
 IsDoneFor (asks_steps wanted) steps replies = AreFirst wanted steps replies
 IsDoneFor (asks_load p va count) steps replies =
     (bytes : List ℕ) × (reached : Reached) × LoadsReached p va count bytes reached steps replies
 IsDoneFor (asks_store p va bytes) steps replies = (reached : Reached) × StoresReached p va bytes reached steps replies
 IsDoneFor (asks_commit p) steps replies = AreOfCommit steps replies
+IsDoneFor (asks_length p file length) steps replies = AreOfLength p file length steps replies
 
 -- What was done for a line: nothing, or what it asks for.
 abbrev pub IsServedFor : List ℕ → List Step → List Reply → Type 0

@@ -7,16 +7,18 @@ use Rattle.hex.specs.Hex.{decode_of}
 use Rattle.serde_json.specs.Data.{Data}
 use Rattle.serde_json.specs.Read.{read}
 use Rattle.serde_json.specs.Find.{as_str, as_array}
-use Rattle.scripts.specs.Arguments.{if_some, whole_number, byte_of, long_of, list_of, all_of}
+use Rattle.scripts.specs.Arguments.{if_some, whole_number, byte_of, short_of, long_of, list_of, all_of}
 use Rattle.scripts.specs.Script.{step_of}
 use Rattle.machine.specs.declared.act.Step.{Step}
 
--- what is asked for: steps; to load so many bytes from an address on; to store bytes from an address on; to commit
+-- what is asked for: steps; to load so many bytes from an address on; to store bytes from an address on; to commit; to
+-- set the length of a file
 pub data Asked : Type 0 where
   asks_steps : List Step → Asked
   asks_load : ℕ → ℕ → ℕ → Asked
   asks_store : ℕ → ℕ → List ℕ → Asked
   asks_commit : ℕ → Asked
+  asks_length : ℕ → ℕ → ℕ → Asked
 
 -- how many bytes are loaded: at most 64 KiB
 abbrev pub count_of : Data → Option ℕ
@@ -45,17 +47,24 @@ abbrev pub commit_of : Data → List Data → Option Asked
 commit_of p [] = if_some (byte_of p) (λ p. Some (asks_commit p))
 commit_of p _ = None
 
+-- a file and its new length in bytes
+abbrev pub set_length_of : Data → List Data → Option Asked
+set_length_of p (file ∷ length ∷ []) = if_some (byte_of p)
+    (λ p. if_some (short_of file) (λ file. if_some (long_of length) (λ length. Some (asks_length p file length))))
+set_length_of p _ = None
+
 -- one step, as in a script
 abbrev pub step_alone : Data → Option Asked
 step_alone value = option_map (λ step. asks_steps (step ∷ [])) (step_of value)
 
--- a processor, a name and arguments: a range, a commit, or else a step
+-- a processor, a name and arguments: a range, a commit, a length, or else a step
 abbrev pub named_request : Data → Option (List ℕ) → Data → List Data → Option Asked
 named_request value None p arguments = step_alone value
 named_request value (Some name) p arguments =
     if bytes_eq name (codes "loads") then load_of p arguments
     else if bytes_eq name (codes "stores") then store_of p arguments
     else if bytes_eq name (codes "commit") then commit_of p arguments
+    else if bytes_eq name (codes "setlength") then set_length_of p arguments
     else step_alone value
 
 -- a list whose first item isn't a list

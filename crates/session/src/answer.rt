@@ -1,7 +1,7 @@
 // The line that answers a request.
 ghost use Rattle.session.specs.Asked.{asked, AreFirst, IsDoneFor};
 ghost use Rattle.session.specs.Ranges.{MakesStepsThat};
-ghost use Rattle.session.specs.Requests.{asks_load, asks_store, asks_commit};
+ghost use Rattle.session.specs.Requests.{asks_load, asks_store, asks_commit, asks_length};
 
 use crate::ranges::Reached;
 use crate::request::Request;
@@ -29,6 +29,7 @@ impl<D: Device, A: Allocator + Copy> Session<D, A> {
             Request::Load { p, va, count } => self.answer_load(alloc, *p, *va, *count, out),
             Request::Store { p, va, bytes } => self.answer_store(*p, *va, bytes, out),
             Request::Commit { p } => self.answer_commit(*p, out),
+            Request::SetLength { p, file, length } => self.answer_length(*p, *file, *length, out),
         }
     }
 
@@ -93,6 +94,20 @@ impl<D: Device, A: Allocator + Copy> Session<D, A> {
     {
         let committed = self.commit(p);
         write_committed(&committed, out).map_err(SessionFault::Output)
+    }
+
+    fn answer_length<W: io::Write>(
+        &mut self,
+        p: ProcessorNumber,
+        file: u16,
+        length: u64,
+        out: &mut W,
+    ) -> Result<(), SessionFault>
+        ensures { MakesStepsThat D.Device self.old.machine self.old.notes (IsDoneFor (asks_length p file length))
+            self.new.machine self.new.notes }
+    {
+        let reply = self.set_length(p, file, length);
+        writeln!(out, "{reply}").map_err(SessionFault::Output)
     }
 }
 

@@ -1,6 +1,6 @@
 // Steps that a session makes beside those that it was asked for: faults are served, and frames are made free.
 ghost use Rattle.std.specs.Prelude.{◌≡◌, false};
-ghost use Rattle.session.specs.Steps.{tells_fixed};
+ghost use Rattle.session.specs.Steps.{tells_begun, tells_fixed};
 ghost use Rattle.session.specs.inside.Aside.{GoesAside, IsTold, StopsAt};
 
 use crate::session::Session;
@@ -34,8 +34,8 @@ impl<D: Device, A: Allocator + Copy> Session<D, A> {
         self.make(&fix)
     }
 
-    // Makes a frame free, if that can be done.
-    fn make_room(&mut self, p: ProcessorNumber) -> bool
+    /// Makes a frame free, if that can be done.
+    pub(crate) fn make_room(&mut self, p: ProcessorNumber) -> bool
         ensures { GoesAside D.Device self.old.machine self.old.notes self.new.machine self.new.notes }
     {
         if self.take_next_out(p) {
@@ -179,7 +179,9 @@ fn is_one_of(p: ProcessorNumber, stalled: &[bool; 16]) -> bool {
 }
 
 /// Whether a change was begun.
-pub(crate) fn is_begun(reply: &Reply) -> bool {
+pub(crate) fn is_begun(reply: &Reply) -> bool
+    ensures { result ≡ tells_begun reply.now }
+{
     matches!(reply, Reply::Begun)
 }
 
@@ -187,7 +189,8 @@ fn is_reclaimed(reply: &Reply) -> bool {
     matches!(reply, Reply::Reclaimed)
 }
 
-fn is_no_frame(reply: &Reply) -> bool {
+/// Whether no frame, or too few, were free.
+pub(crate) fn is_no_frame(reply: &Reply) -> bool {
     matches!(reply, Reply::Refused(Refusal::NoFrame))
 }
 

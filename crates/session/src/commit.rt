@@ -102,10 +102,12 @@ fn is_committed(reply: &Reply, mark: u32) -> bool
     }
 }
 
-fn is_busy(reply: &Reply) -> bool {
+/// Whether commits have to be done first.
+pub(crate) fn is_busy(reply: &Reply) -> bool {
     matches!(reply, Reply::Refused(Refusal::Busy))
 }
 
-fn is_nothing(reply: &Reply) -> bool {
+/// Whether there was nothing to do.
+pub(crate) fn is_nothing(reply: &Reply) -> bool {
     matches!(reply, Reply::Nothing)
 }

@@ -10,6 +10,7 @@ mod notes;
 mod ranges;
 mod request;
 mod request_fault;
+mod resize;
 mod serving;
 mod session;
 mod session_fault;

@@ -3,11 +3,11 @@ ghost use Rattle.std.specs.Prelude.{◌≡◌, ◌≤◌, ◌⊎◌, [], ◌∷�
 ghost use Rattle.std.specs.Result.{result_ok};
 ghost use Rattle.serde_json.specs.Find.{as_str};
 ghost use Rattle.serde_json.specs.View.{view};
-ghost use Rattle.scripts.specs.Arguments.{whole_number, byte_of, long_of, all_of};
+ghost use Rattle.scripts.specs.Arguments.{whole_number, byte_of, short_of, long_of, all_of};
 ghost use Rattle.scripts.specs.Script.{step_of};
 ghost use Rattle.session.specs.Asked.{asked, IsMemory};
 ghost use Rattle.session.specs.Requests.{request_in, request_of, items_request, steps_together, step_alone, named_request};
-ghost use Rattle.session.specs.Requests.{load_of, store_of, commit_of, bytes_in_digits, digits_of};
+ghost use Rattle.session.specs.Requests.{load_of, store_of, commit_of, set_length_of, bytes_in_digits, digits_of};
 
 use crate::request_fault::RequestFault;
 use hex::FromHexError;
@@ -41,6 +41,12 @@ pub enum Request<A: Allocator + Copy> {
     /// To commit all stores.
     Commit {
         p: ProcessorNumber,
+    },
+    /// To set the length of a file.
+    SetLength {
+        p: ProcessorNumber,
+        file: u16,
+        length: u64,
     },
 }
 
@@ -153,7 +159,7 @@ fn refused_step(global: Global, number: u64, value: &Value, cause: StepFault) ->
     }
 }
 
-// A processor, a name and arguments, which are the items of this value: a range, a commit, or else a step.
+// A processor, a name and arguments, which are the items of this value: a range, a commit, a length, or else a step.
 fn named<A: Allocator + Copy>(
     alloc: A,
     value: &Value,
@@ -170,6 +176,7 @@ fn named<A: Allocator + Copy>(
         Some("loads") => load_of(p, arguments),
         Some("stores") => store_of(alloc, p, arguments),
         Some("commit") => commit_of(p, arguments),
+        Some("setlength") => set_length_of(p, arguments),
         _ => step_alone(alloc, value),
     }
 }
@@ -260,10 +267,45 @@ fn commit_of<A: Allocator + Copy>(
     }
 }
 
+fn set_length_of<A: Allocator + Copy>(
+    p: &Value,
+    arguments: &[Value],
+) -> Result<Request<A>, RequestFault>
+    ensures ok { IfOk result (λ request. set_length_of (view p.now) (map view arguments.now) ≡ Some (asked request)) }
+    ensures err { IfErr result (λ fault. set_length_of (view p.now) (map view arguments.now) ≡ None) }
+{
+    match arguments {
+        [file, length] => set_length_from(p, file, length),
+        _ => Err(wrong_arguments("setlength", "a file and a length")),
+    }
+}
+
+fn set_length_from<A: Allocator + Copy>(
+    p: &Value,
+    file: &Value,
+    length: &Value,
+) -> Result<Request<A>, RequestFault>
+    ensures ok { IfOk result (λ request. set_length_of (view p.now) (view file.now ∷ view length.now ∷ [])
+        ≡ Some (asked request)) }
+    ensures err { IfErr result (λ fault. set_length_of (view p.now) (view file.now ∷ view length.now ∷ []) ≡ None) }
+{
+    Ok(Request::SetLength {
+        p: processor(p)?,
+        file: file_number(file)?,
+        length: number(length, u64::MAX, "the length")?,
+    })
+}
+
 fn processor(value: &Value) -> Result<ProcessorNumber, RequestFault>
     ensures { result_ok result ≡ byte_of (view value.now) }
 {
     Ok(number(value, 255, "the processor")? as u8)
+}
+
+fn file_number(value: &Value) -> Result<u16, RequestFault>
+    ensures { result_ok result ≡ short_of (view value.now) }
+{
+    Ok(number(value, 65_535, "the file")? as u16)
 }
 
 fn address(value: &Value) -> Result<u64, RequestFault>
