@@ -1,5 +1,11 @@
 // The files at each mark of a run, and which mark's files an opening found.
-ghost use Rattle.std.specs.Prelude.{◌<◌, length};
+ghost use Rattle.std.specs.Prelude.{◌≡◌, ◌<◌, ℕ, List, length, map, slice_get, Some, IfOk, IfSome, Contains};
+ghost use Rattle.machine.specs.declared.act.Reply.TheVariants.{Marked};
+ghost use Rattle.machine.specs.declared.act.Shape.{Shape};
+ghost use Rattle.machine.specs.declared.act.Step.{Step};
+ghost use Rattle.volume_codec.specs.Files.{File};
+ghost use Rattle.volume_codec.specs.Recovery.{RecoversTo};
+ghost use Rattle.crash_table.specs.inside.Kept.{bytes_at, IsKept, AreKept, IsNewest};
 
 use crate::crash_fault::CrashFault;
 use crate::files::{Files, are_same, fault_of, open_files};
@@ -36,7 +42,10 @@ pub fn files_at<D: Device + Drop, A: Allocator + Copy>(
     at: usize,
     number: u32,
 ) -> Result<Files<A>, CrashFault>
-    requires { at < length replies.now }
+    requires { slice_get replies.now at ≡ Some (Marked number) }
+    ensures made { IfOk result (λ read. at < length steps.now) }
+    ensures kept { D.is_honest device → (files : List File) → RecoversTo (D.seen device) files → IfOk result (λ read.
+        map (λ v. v.items) read.items ≡ bytes_at files shape steps.now replies.now at number) }
 {
     if at >= steps.len() {
         return Err(CrashFault::Otherwise);
@@ -50,11 +59,14 @@ pub fn files_at<D: Device + Drop, A: Allocator + Copy>(
         return Err(CrashFault::Otherwise);
     }
     acknowledge(&mut machine, steps[at].p, number, &replies[..at])?;
+    machine.keeps_the_laws();
     open_files(alloc, machine.into_device())
 }
 
 // The files that are kept of the mark that the step of an index made.
-fn kept_at<A: Allocator + Copy>(marks: &[MarkFiles<A>], at: usize) -> Option<&MarkFiles<A>> {
+fn kept_at<A: Allocator + Copy>(marks: &[MarkFiles<A>], at: usize) -> Option<&MarkFiles<A>>
+    ensures { IfSome result (λ mark. Contains marks.now mark.now × (mark.now.step ≡ at)) }
+{
     for mark in marks {
         if mark.step == at {
             return Some(mark);
@@ -63,16 +75,18 @@ fn kept_at<A: Allocator + Copy>(marks: &[MarkFiles<A>], at: usize) -> Option<&Ma
     None
 }
 
-/// The newest mark among those that these replies tell whose files are the found ones; 0 where these are the files at
-/// the start. The files that are kept are those at the marks of a run with the replies `first`, which are theirs as far
-/// as these replies are the same. `AtNoMark` where they are neither.
+/// The newest mark among those that these replies tell whose files are the found ones, and 0 where there is none. The
+/// files that are kept are those at the marks of a run with the replies `first`, which are theirs as far as these
+/// replies are the same.
 pub fn newest<A: Allocator + Copy>(
-    start: &[Vec<u8, A>],
     marks: &[MarkFiles<A>],
     first: &[Reply],
     replies: &[Reply],
     found: &[Vec<u8, A>],
-) -> Result<u32, CrashFault> {
+) -> Result<u32, CrashFault>
+    ensures { (files : List File) (shape : Shape) (steps : List Step) → AreKept files shape steps first.now marks.now
+        → IfOk result (IsNewest files shape steps replies.now (map (λ v. v.items) found.now)) }
+{
     for before in 0..replies.len() {
         let at = replies.len() - 1 - before;
         if let Reply::Marked(number) = replies[at] {
@@ -82,11 +96,7 @@ pub fn newest<A: Allocator + Copy>(
             }
         }
     }
-    if are_same(start, found) {
-        Ok(0)
-    } else {
-        Err(CrashFault::AtNoMark)
-    }
+    Ok(0)
 }
 
 // The files that are kept of the mark that the step of an index made, where the replies up to it are those of the run
@@ -98,6 +108,8 @@ fn kept_of<'a, A: Allocator + Copy>(
     at: usize,
 ) -> Result<&'a MarkFiles<A>, CrashFault>
     requires { at < length replies.now }
+    ensures { (files : List File) (shape : Shape) (steps : List Step) → AreKept files shape steps first.now marks.now
+        → IfOk result (λ kept. IsKept files shape steps replies.now at kept.now) }
 {
     if at >= first.len() || !are_same_replies(&first[..=at], &replies[..=at]) {
         return Err(CrashFault::Otherwise);

@@ -1,8 +1,20 @@
 // Making steps, and noting what they are answered.
+ghost use Rattle.std.specs.Prelude.{◌≡◌, ℕ, List, [], ◌∷◌, ◌++◌, length, take, slice_get, Some, false, IfOk, OnOk};
+ghost use Rattle.device.specs.Device.{Only};
+ghost use Rattle.volume_codec.specs.Files.{File};
+ghost use Rattle.volume_codec.specs.Recovery.{RecoversTo};
+ghost use Rattle.machine.specs.declared.act.Reply.{Reply};
+ghost use Rattle.machine.specs.declared.act.Step.{Step};
+ghost use Rattle.machine.specs.Laws.{ReadsBack};
+ghost use Rattle.machine.specs.Runs.{StepsTaken};
+ghost use Rattle.crash_table.specs.Crashes.{history_of, HasEnded};
+ghost use Rattle.crash_table.specs.inside.Kept.{unmarked_by, unmarked_after, HasCommitted, IsAcknowledged};
+
 use crate::crash_fault::CrashFault;
 use crate::files::fault_of;
 use device::Device;
-use machine::{Act, Machine, Reply, Shape, Step};
+use engine::{crashed_since_refusal, ran_since_start};
+use machine::{Act, Machine, Reply, Shape, Step, nothing_stored};
 use page_entry::{ProcessorNumber, Refusal};
 use std::alloc::{AllocError, Allocator};
 
@@ -11,7 +23,10 @@ pub fn make<D: Device, A: Allocator + Copy>(
     alloc: A,
     machine: &mut Machine<D, A>,
     steps: &[Step],
-) -> Result<Vec<Reply, A>, AllocError> {
+) -> Result<Vec<Reply, A>, AllocError>
+    ensures { IfOk result (λ replies. StepsTaken D.Device machine.old
+        (take (length replies.items) steps.now) replies.items machine.new) }
+{
     let mut replies = Vec::new(alloc);
     for step in steps {
         let reply = machine.enter(step);
@@ -35,10 +50,19 @@ pub fn run_on<D: Device + Drop, A: Allocator + Copy>(
     device: D,
     shape: Shape,
     steps: &[Step],
-) -> Result<(D, Vec<Reply, A>), CrashFault> {
+) -> Result<(D, Vec<Reply, A>), CrashFault>
+    ensures ended { IfOk result (λ left. HasEnded D.Device device shape steps.now left.1.items left.0) }
+    ensures back { IfOk result (λ left. D.is_honest device → Only (D.may_leave device) (D.seen device)
+        → (files : List File) → RecoversTo (D.seen device) files → (c : List ℕ) → D.may_leave left.0 c
+        → ReadsBack files (history_of files shape (take (length left.1.items) steps.now) left.1.items) c) }
+{
+    crashed_since_refusal(&device);
+    nothing_stored();
     match engine::start(alloc, device, shape) {
         Ok(mut machine) => {
             let replies = make(alloc, &mut machine, steps)?;
+            ran_since_start(&machine);
+            machine.keeps_the_laws();
             Ok((machine.into_device(), replies))
         }
         Err((Refusal::Device, device)) => Ok((device, Vec::new(alloc))),
@@ -56,7 +80,9 @@ pub fn acknowledge<D: Device, A: Allocator + Copy>(
     p: ProcessorNumber,
     number: u32,
     before: &[Reply],
-) -> Result<(), CrashFault> {
+) -> Result<(), CrashFault>
+    ensures { OnOk result (IsAcknowledged D.Device machine.old before.now number machine.new) }
+{
     if has_unmarked(before) {
         commit(machine, p, number)
     } else {
@@ -69,7 +95,9 @@ fn commit<D: Device, A: Allocator + Copy>(
     machine: &mut Machine<D, A>,
     p: ProcessorNumber,
     number: u32,
-) -> Result<(), CrashFault> {
+) -> Result<(), CrashFault>
+    ensures { OnOk result (HasCommitted D.Device machine.old number machine.new) }
+{
     let step = Step { p, act: Act::Flush };
     for _ in 0..MOST_FLUSHES {
         match machine.enter(&step) {
@@ -83,7 +111,9 @@ fn commit<D: Device, A: Allocator + Copy>(
 }
 
 // Whether a store was answered that no mark has yet.
-fn has_unmarked(replies: &[Reply]) -> bool {
+fn has_unmarked(replies: &[Reply]) -> bool
+    ensures { result ≡ unmarked_after false replies.now }
+{
     let mut has = false;
     for reply in replies {
         has = is_unmarked(has, reply);
@@ -92,7 +122,9 @@ fn has_unmarked(replies: &[Reply]) -> bool {
 }
 
 // The same after one reply more.
-fn is_unmarked(before: bool, reply: &Reply) -> bool {
+fn is_unmarked(before: bool, reply: &Reply) -> bool
+    ensures { result ≡ unmarked_by before reply.now }
+{
     match reply {
         Reply::Stored | Reply::Resized => true,
         Reply::Marked(_) => false,

@@ -1,16 +1,22 @@
 // A run, made once to learn its calls, its replies and the files at its marks, and again for each crash.
-ghost use Rattle.std.specs.Prelude.{◌≡◌, ◌<◌, length, IfOk};
+ghost use Rattle.std.specs.Prelude.{◌≡◌, List, slice_get, Some, IfOk};
 ghost use Rattle.device.specs.Memory.{new_disk};
+ghost use Rattle.volume_codec.specs.Files.{File};
+ghost use Rattle.volume_codec.specs.Recovery.{RecoversTo};
+ghost use Rattle.machine.specs.declared.act.Reply.TheVariants.{Marked};
+ghost use Rattle.crash_table.specs.Crashes.{LeavesMark};
+ghost use Rattle.crash_table.specs.inside.Kept.{IsKept, AreKept};
 
 use crate::call::{Call, Listing};
 use crate::crash_fault::CrashFault;
-use crate::files::{Files, fault_of, open_files};
+use crate::files::{fault_of, open_files};
 use crate::found::{MarkFiles, Plan, files_at, newest};
 use crate::make::run_on;
 use crate::same::are_same_replies;
 use device::{Device, FailingDisk, MemDisk};
 use machine::{Reply, Shape, Step};
 use std::alloc::{AllocError, Allocator};
+use std::marker::Model;
 
 /// A run on a copy of a disk: its replies, its device calls, and the files at its marks.
 #[derive(Drop)]
@@ -23,9 +29,18 @@ pub struct Trial<'a, A: Allocator + Copy> {
     /// How many device calls opened the volume.
     opening: u64,
     calls: Vec<Call<A>, A>,
-    /// The files before the run.
-    start: Files<A>,
     marks: Vec<MarkFiles<A>, A>,
+}
+
+impl<'a, A: Allocator + Copy> Model for Trial<'a, A> {
+    ghost use Rattle.crash_table.specs.Trials.{TrialValue};
+    ghost use Rattle.crash_table.specs.inside.Kept.{HasKept};
+
+    ghost Value = { TrialValue };
+
+    ghost view = { λ t. record { image = t.plan.image.now; shape = t.plan.shape; steps = t.plan.steps.now } };
+
+    ghost invariant = { λ t. HasKept t.plan.image.now t.plan.shape t.plan.steps.now t.replies.items t.marks.items };
 }
 
 // A copy of a disk that holds these bytes.
@@ -42,7 +57,10 @@ impl<'a, A: Allocator + Copy> Trial<'a, A> {
         image: &'a [u8],
         shape: Shape,
         steps: &'a [Step],
-    ) -> Result<Self, CrashFault> {
+    ) -> Result<Self, CrashFault>
+        ensures { IfOk result (λ trial. trial
+            ≡ record { image = image.now; shape = shape; steps = steps.now }) }
+    {
         let plan = Plan {
             image,
             shape,
@@ -64,7 +82,6 @@ impl<'a, A: Allocator + Copy> Trial<'a, A> {
             return Err(CrashFault::Memory(AllocError));
         }
         let calls = machine.into_device().into_calls()?;
-        let start = open_files(alloc, copy_of(alloc, image)?)?;
         let marks = marks_of(alloc, &plan, &replies)?;
         Ok(Trial {
             alloc,
@@ -73,7 +90,6 @@ impl<'a, A: Allocator + Copy> Trial<'a, A> {
             made,
             opening,
             calls,
-            start,
             marks,
         })
     }
@@ -84,7 +100,9 @@ impl<'a, A: Allocator + Copy> Trial<'a, A> {
     }
 
     /// What the disk holds before the run.
-    pub fn image(&self) -> &'a [u8] {
+    pub fn image(&self) -> &'a [u8]
+        ensures { result.now ≡ self.now.image }
+    {
         self.plan.image
     }
 
@@ -110,10 +128,12 @@ impl<'a, A: Allocator + Copy> Trial<'a, A> {
 
     /// The run is made again, and its device call of this number, counted from 1, fails; where there is none, no call
     /// fails. Then a crash leaves these bytes in the places that were written and not synced, and what is left is
-    /// opened. The answer is the number of the newest mark whose files are found; 0: those before the run. `AtNoMark`
-    /// where they are none of these, and `Otherwise` where memory was refused to a run and another answer came of that,
-    /// or the choice isn't as long as the disk.
-    pub fn crash(&self, fails: u64, choice: &[u8]) -> Result<u32, CrashFault> {
+    /// opened. The answer is the number of the newest mark whose files are found; 0: those before the run. The files that
+    /// are found are always those at a mark, and never older than the last one that was acknowledged. `Otherwise` where
+    /// memory was refused to a run and another answer came of that, or the choice isn't as long as the disk.
+    pub fn crash(&self, fails: u64, choice: &[u8]) -> Result<u32, CrashFault>
+        ensures { IfOk result (LeavesMark self.now.image self.now.shape self.now.steps fails choice.now) }
+    {
         let disk = FailingDisk::new(copy_of(self.alloc, self.plan.image)?, fails);
         let (disk, replies) = run_on(self.alloc, disk, self.plan.shape, self.plan.steps)?;
         let failed = disk.faults() > 0;
@@ -127,7 +147,7 @@ impl<'a, A: Allocator + Copy> Trial<'a, A> {
         }
         disk.stop(choice);
         let found = open_files(self.alloc, disk)?;
-        newest(&self.start, &self.marks, &self.replies, &replies, &found)
+        newest(&self.marks, &self.replies, &replies, &found)
     }
 
     // Whether a run with these replies is the first one up to the device call of this number, which fails, where there
@@ -147,7 +167,10 @@ fn marks_of<A: Allocator + Copy>(
     alloc: A,
     plan: &Plan<'_>,
     replies: &[Reply],
-) -> Result<Vec<MarkFiles<A>, A>, CrashFault> {
+) -> Result<Vec<MarkFiles<A>, A>, CrashFault>
+    ensures { (files : List File) → RecoversTo plan.now.image.now files → IfOk result (λ marks.
+        AreKept files plan.now.shape plan.now.steps.now replies.now marks.items) }
+{
     let mut marks = Vec::new(alloc);
     for at in 0..replies.len() {
         if let Reply::Marked(number) = replies[at] {
@@ -165,7 +188,10 @@ fn mark_of<A: Allocator + Copy>(
     at: usize,
     number: u32,
 ) -> Result<MarkFiles<A>, CrashFault>
-    requires { at < length replies.now }
+    requires { slice_get replies.now at ≡ Some (Marked number) }
+    ensures step { IfOk result (λ mark. mark.step ≡ at) }
+    ensures kept { (files : List File) → RecoversTo plan.now.image.now files → IfOk result (λ mark.
+        IsKept files plan.now.shape plan.now.steps.now replies.now at mark) }
 {
     let disk = copy_of(alloc, plan.image)?;
     Ok(MarkFiles {
