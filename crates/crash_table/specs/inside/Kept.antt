@@ -4,7 +4,7 @@ use Rattle.device.specs.declared.device.Device.{Ghosts}
 use Rattle.volume_codec.specs.Files.{File}
 use Rattle.volume_codec.specs.Recovery.{RecoversTo}
 use Rattle.machine.specs.declared.act.Reply.{Reply}
-use Rattle.machine.specs.declared.act.Reply.TheVariants.{Marked, Stored, Committed}
+use Rattle.machine.specs.declared.act.Reply.TheVariants.{Marked, Stored, Resized, Committed}
 use Rattle.machine.specs.declared.act.Shape.{Shape}
 use Rattle.machine.specs.declared.act.Step.{Step}
 use Rattle.machine.specs.History.{Event, Mark, files_after}
@@ -26,9 +26,10 @@ abbrev pub bytes_at : List File → Shape → List Step → List Reply → ℕ �
 bytes_at files shape steps replies i number =
     contents_of (files_after files (up_to_mark files shape steps replies i number))
 
--- whether a store was answered that no mark has yet, after one reply more
+-- whether a store or a change of length was answered that no mark has yet, after one reply more
 abbrev pub unmarked_by : Bool → Reply → Bool
 unmarked_by before Stored = true
+unmarked_by before Resized = true
 unmarked_by before (Marked number) = false
 unmarked_by before reply = before
 
@@ -49,6 +50,18 @@ pub record HasCommitted {D : Type 0} (disk : Ghosts D) (old : Whole D) (number :
 abbrev pub IsAcknowledged : {D : Type 0} → Ghosts D → Whole D → List Reply → ℕ → Whole D → Type 0
 IsAcknowledged disk old before number new = HasCommitted disk old number new
     ⊎ ((unmarked_after false before ≡ false) × (new ≡ old))
+
+-- The steps up to the one of this index were made, and answered as in a run with these replies; its mark, whose number none
+-- before it has, is acknowledged.
+pub record HasWrittenOut {D : Type 0} (disk : Ghosts D) (old : Whole D) (steps : List Step) (replies : List Reply)
+    (at number : ℕ) (new : Whole D) : Type 0 where
+  pub below : at < length steps
+  pub is_new : (i : ℕ) → slice_get (take at replies) i ≡ Some (Marked number) → ⊥
+  pub told : List Reply
+  pub marked : Whole D
+  pub made : StepsTaken disk old (take (length told) (take (at + 1) steps)) told marked
+  pub same : told ≡ take (at + 1) replies
+  pub acknowledged : IsAcknowledged disk marked (take at replies) number new
 
 -- the files that are kept are those at the mark that the step of this index made in a run with these replies
 abbrev pub IsKept : {A : Type 0} → List File → Shape → List Step → List Reply → ℕ → MarkFiles A → Type 0
