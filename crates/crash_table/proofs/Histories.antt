@@ -10,8 +10,8 @@ use Rattle.machine.specs.declared.act.Act.TheVariants as acts
 use Rattle.machine.specs.declared.act.Reply.{Reply}
 use Rattle.machine.specs.declared.act.Reply.TheVariants as replies
 use Rattle.machine.specs.declared.act.Step.{Step}
-use Rattle.machine.specs.History.{Event, Store, Mark, Acknowledge, has_unmarked, since_mark, with_event, is_change}
-use Rattle.machine.specs.Told.{Told, tell, tell_all, events_of, store_at, place_told}
+use Rattle.machine.specs.History.{Event, Store, SetLength, Mark, Acknowledge, has_unmarked, since_mark, with_event, is_change}
+use Rattle.machine.specs.Told.{Told, Pending, Unmapping, Protecting, Resizing, tell, tell_all, events_of, store_at, resized_at, place_told}
 use Rattle.crash_table.specs.inside.Kept.{unmarked_by, unmarked_after}
 
 -- ---- lists
@@ -41,6 +41,12 @@ no_mark_in_store None va bytes front back n same = nothing_in front back (Mark n
 no_mark_in_store (Some place) va bytes [] back n same = cc
 no_mark_in_store (Some place) va bytes (e ∷ front) back n same = let rest : [] ≡ front ++ Mark n ∷ back = cc in nothing_in front back (Mark n) rest
 
+-- nor has what a change of a length adds
+no_mark_in_resize : (told : Told) (pending : Option Pending) (front back : List Event) (n : ℕ) → resized_at told pending ≡ front ++ Mark n ∷ back → ⊥
+no_mark_in_resize told (Some (Resizing file to)) [] back n same = cc
+no_mark_in_resize told (Some (Resizing file to)) (e ∷ front) back n same = let rest : [] ≡ front ++ Mark n ∷ back = cc in nothing_in front back (Mark n) rest
+no_mark_in_resize told pending front back n same = nothing_in front back (Mark n) same
+
 -- what a mark adds has it first
 mark_in_mark : (waits : Bool) (m : ℕ) (front back : List Event) (n : ℕ) → Mark m ∷ (if waits then [] else Acknowledge m ∷ []) ≡ front ++ Mark n ∷ back → (m ≡ n) × (front ≡ [])
 mark_in_mark waits m [] back n same = (cc, refl)
@@ -58,6 +64,7 @@ mark_in_events told p (acts.Store va bytes) replies.Stored front back n same = a
 mark_in_events told p act (replies.Marked m) front back n same =
     let is = mark_in_mark (has_unmarked told.history) m front back n same in
     (ap replies.Marked is.0, is.1)
+mark_in_events told p act replies.Resized front back n same = absurd (no_mark_in_resize told told.pending front back n same)
 mark_in_events told p act (replies.Committed m) front back n same = absurd (no_mark_in_acknowledge m front back n same)
 mark_in_events told p act reply front back n same = absurd (nothing_in front back (Mark n) same)
 
@@ -138,7 +145,7 @@ tell_then told (step ∷ steps) (reply ∷ answers) later more same = tell_then 
 tell_then told [] (reply ∷ answers) later more same = absurd (let c : suc (length answers) ≡ 0 = same in omega (arith, c))
 tell_then told (step ∷ steps) [] later more same = absurd (let c : 0 ≡ suc (length steps) = same in omega (arith, c))
 
--- ---- stores that no mark has yet
+-- ---- changes that no mark has yet
 
 -- whether a flag is down where events have no change
 abbrev FollowsFlag : Bool → List Event → Type 0
@@ -152,6 +159,7 @@ acknowledged_more flag events n follows = λ down.
 follows_step : (told : Told) (p : ℕ) (act : Act) (reply : Reply) (flag : Bool) (before : List Event) → FollowsFlag flag before → FollowsFlag (unmarked_by flag reply) (fold with_event before (events_of told p act reply))
 follows_step told p (acts.Store va bytes) replies.Stored flag before follows = λ down. absurd (let up : true ≡ false = down in cc)
 follows_step told p act replies.Stored flag before follows = λ down. absurd (let up : true ≡ false = down in cc)
+follows_step told p act replies.Resized flag before follows = λ down. absurd (let up : true ≡ false = down in cc)
 follows_step told p act (replies.Marked n) flag before follows =
     λ down. ap (λ (l : List Event). list_any is_change (fold with_event before l)) (events_of_mark told p act n) ∙ by (has_unmarked told.history)
   where
@@ -162,7 +170,7 @@ follows_step told p act (replies.Committed n) flag before follows =
     λ down. ap (λ (l : List Event). list_any is_change (fold with_event before l)) (events_of_commit told p act n) ∙ acknowledged_more flag before n follows down
 follows_step told p act reply flag before follows = follows
 
--- where no store was answered since the last mark, the history has none
+-- where no store and no change of length was answered since the last mark, the history has none
 pub unmarked_told : (told : Told) (steps : List Step) (answers : List Reply) (flag : Bool) → FollowsFlag flag (since_mark told.history) → length answers ≡ length steps
     → unmarked_after flag answers ≡ false → has_unmarked (tell_all told steps answers).history ≡ false
 unmarked_told told [] [] flag follows same = follows

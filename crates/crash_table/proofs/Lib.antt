@@ -4,3 +4,4 @@ pub mod Marks
 pub mod Bytes
 pub mod Newest
 pub mod Left
+pub mod Making

@@ -1,9 +1,10 @@
 // Making steps, and noting what they are answered.
-ghost use Rattle.std.specs.Prelude.{◌≡◌, ℕ, List, [], ◌∷◌, ◌++◌, length, take, slice_get, Some, false, IfOk, OnOk};
+ghost use Rattle.std.specs.Prelude.{◌≡◌, ℕ, List, length, take, false, IfOk, OnOk, IsTrue};
 ghost use Rattle.device.specs.Device.{Only};
 ghost use Rattle.volume_codec.specs.Files.{File};
 ghost use Rattle.volume_codec.specs.Recovery.{RecoversTo};
 ghost use Rattle.machine.specs.declared.act.Reply.{Reply};
+ghost use Rattle.machine.specs.declared.act.Reply.TheVariants as told;
 ghost use Rattle.machine.specs.declared.act.Step.{Step};
 ghost use Rattle.machine.specs.Laws.{ReadsBack};
 ghost use Rattle.machine.specs.Runs.{StepsTaken};
@@ -100,14 +101,40 @@ fn commit<D: Device, A: Allocator + Copy>(
 {
     let step = Step { p, act: Act::Flush };
     for _ in 0..MOST_FLUSHES {
-        match machine.enter(&step) {
-            Reply::Going => {}
-            Reply::Committed(mark) if mark == number => return Ok(()),
-            Reply::Refused(refusal) => return Err(fault_of(refusal)),
-            _ => return Err(CrashFault::Otherwise),
+        let reply = machine.enter(&step);
+        if is_committed(&reply, number) {
+            return Ok(());
+        }
+        if !is_going(&reply) {
+            return Err(fault_in(&reply));
         }
     }
     Err(CrashFault::Otherwise)
+}
+
+// Whether a reply says that this mark is durable.
+fn is_committed(reply: &Reply, number: u32) -> bool
+    ensures { IsTrue result → reply.now ≡ told.Committed number }
+{
+    match reply {
+        Reply::Committed(mark) => *mark == number,
+        _ => false,
+    }
+}
+
+// Whether a reply says that a write-out goes on.
+fn is_going(reply: &Reply) -> bool
+    ensures { IsTrue result → reply.now ≡ told.Going }
+{
+    matches!(reply, Reply::Going)
+}
+
+// Why a mark isn't written out, where a step of its write-out is answered so.
+fn fault_in(reply: &Reply) -> CrashFault {
+    match reply {
+        Reply::Refused(refusal) => fault_of(*refusal),
+        _ => CrashFault::Otherwise,
+    }
 }
 
 // Whether a store was answered that no mark has yet.

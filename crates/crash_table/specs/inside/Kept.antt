@@ -4,7 +4,7 @@ use Rattle.device.specs.declared.device.Device.{Ghosts}
 use Rattle.volume_codec.specs.Files.{File}
 use Rattle.volume_codec.specs.Recovery.{RecoversTo}
 use Rattle.machine.specs.declared.act.Reply.{Reply}
-use Rattle.machine.specs.declared.act.Reply.TheVariants.{Marked, Stored, Committed}
+use Rattle.machine.specs.declared.act.Reply.TheVariants.{Marked, Stored, Resized, Committed}
 use Rattle.machine.specs.declared.act.Shape.{Shape}
 use Rattle.machine.specs.declared.act.Step.{Step}
 use Rattle.machine.specs.History.{Event, Mark, files_after}
@@ -26,9 +26,10 @@ abbrev pub bytes_at : List File → Shape → List Step → List Reply → ℕ �
 bytes_at files shape steps replies i number =
     contents_of (files_after files (up_to_mark files shape steps replies i number))
 
--- whether a store was answered that no mark has yet, after one reply more
+-- whether a store or a change of length was answered that no mark has yet, after one reply more
 abbrev pub unmarked_by : Bool → Reply → Bool
 unmarked_by before Stored = true
+unmarked_by before Resized = true
 unmarked_by before (Marked number) = false
 unmarked_by before reply = before
 
