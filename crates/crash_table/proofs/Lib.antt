@@ -5,3 +5,4 @@ pub mod Bytes
 pub mod Newest
 pub mod Left
 pub mod Making
+pub mod Ended

@@ -4,10 +4,9 @@ use Rattle.std.specs.Prelude.{slice_get, Contains}
 use Rattle.std.proofs.lemmas.Bool.{cases_lt, cases_eq}
 use Rattle.std.proofs.lemmas.List.{take-take, length-take-le}
 use Rattle.std.proofs.lemmas.Option.{slice_get_within}
-use Rattle.std.proofs.lemmas.List.Elements.{Contains-append_left}
+use Rattle.std.proofs.lemmas.List.Elements.{Contains-append_left, Contains-push_cases}
 use Rattle.volume_codec.specs.Files.{File}
 use Rattle.volume_codec.specs.Recovery.{RecoversTo}
-use Rattle.volume_codec.proofs.Batches.{one_recovery}
 use Rattle.machine.specs.declared.act.Reply.{Reply}
 use Rattle.machine.specs.declared.act.Reply.TheVariants.{Marked}
 use Rattle.machine.specs.declared.act.Shape.{Shape}
@@ -17,9 +16,9 @@ use Rattle.machine.specs.Laws.{ReadsBack, told_at_start}
 use Rattle.machine.specs.Told.{tell_all}
 use Rattle.crash_table.specs.Crashes.{history_of, IsAtMark}
 use Rattle.crash_table.specs.declared.found.MarkFiles.{MarkFiles}
-use Rattle.crash_table.specs.inside.Kept.{up_to_mark, bytes_at, contents_of, IsKept, NoneFrom, IsNewest}
+use Rattle.crash_table.specs.inside.Kept.{up_to_mark, bytes_at, contents_of, IsKept, AreKept, NoneFrom, IsNewest}
 use Rattle.crash_table.proofs.Histories.{up_to_begins}
-use Rattle.crash_table.proofs.Marks.{stands, no_later}
+use Rattle.crash_table.proofs.Marks.{IsOneReading, stands, no_later}
 use Rattle.crash_table.proofs.Bytes.{same_files}
 
 -- ---- looking for the newest mark
@@ -81,9 +80,18 @@ not_here files shape steps replies bytes at kept is other number here same =
     let one : is.0 ≡ number = (let there : slice_get replies at ≡ Some (Marked is.0) = is.1 in cc) in
     other (is.3 ∙ ap (bytes_at files shape steps replies at) one ∙ sym same)
 
+-- one mark more is kept
+pub kept_more : {A : Type 0} (files : List File) (shape : Shape) (steps : List Step) (replies : List Reply) (marks : List (MarkFiles A)) (mark : MarkFiles A) → AreKept files shape steps replies marks → IsKept files shape steps replies mark.step mark
+    → AreKept files shape steps replies (marks ++ mark ∷ [])
+kept_more {A} files shape steps replies marks mark before this kept has =
+    elim (Contains-push_cases marks mark kept has) [
+      | inl was ↦ before kept was
+      | inr same ↦ (let P : MarkFiles A → Type 0 = λ k. IsKept files shape steps replies k.step k in subst P same this)
+    ]
+
 -- ---- what was found
 
-module _ (files : List File) (shape : Shape) (steps : List Step) (replies : List Reply) (long : length replies ≤ length steps) where
+module _ (one : IsOneReading) (files : List File) (shape : Shape) (steps : List Step) (replies : List Reply) (long : length replies ≤ length steps) where
   abbrev cut : List Step
   cut = take (length replies) steps
 
@@ -106,7 +114,7 @@ module _ (files : List File) (shape : Shape) (steps : List Step) (replies : List
   }
     where
       same : found ≡ files_after files read.prefix
-      same = one_recovery seen found (files_after files read.prefix) recovers read.recovers
+      same = one seen found (files_after files read.prefix) recovers read.recovers
 
       empty : (p : List Event) → IsDurablePrefix p whole → found ≡ files_after files p → p ≡ []
       empty p durable is =
@@ -142,7 +150,7 @@ module _ (files : List File) (shape : Shape) (steps : List Step) (replies : List
       begins = up_to_begins (told_at_start files shape.cpus) cut replies at number (omega (arith, inside, cut_long)) here
 
       same : found ≡ files_after files read.prefix
-      same = one_recovery seen found (files_after files read.prefix) recovers read.recovers
+      same = one seen found (files_after files read.prefix) recovers read.recovers
 
       -- each durable prefix with these files begins this one
       part : (p : List Event) → IsDurablePrefix p whole → found ≡ files_after files p → (rest : List Event) × (p ++ rest ≡ prefix)
