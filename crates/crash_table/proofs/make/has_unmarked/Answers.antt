@@ -1,4 +1,4 @@
-use Rattle.std.proofs.Common.{rules, ◌≡◌, ◌+◌, ◌<◌, ◌≤◌, length, drop, Bool, sym, ap, ◌∙◌}
+use Rattle.std.proofs.Common.{rules, ◌+◌, ◌<◌, ◌≤◌, length, drop, Bool, sym, ap, ◌∙◌}
 use Rattle.std.proofs.lemmas.List.{drop_all}
 use Rattle.crash_table.specs.inside.Kept.{unmarked_after}
 use Rattle.crash_table.proofs.Making.{flag_after}
