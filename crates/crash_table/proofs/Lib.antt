@@ -4,3 +4,5 @@ pub mod Marks
 pub mod Bytes
 pub mod Newest
 pub mod Left
+pub mod Making
+pub mod Ended

@@ -1,10 +1,9 @@
 // Making steps, and noting what they are answered.
-ghost use Rattle.std.specs.Prelude.{◌≡◌, ℕ, List, [], ◌∷◌, ◌++◌, length, take, slice_get, Some, false, IfOk, OnOk};
+ghost use Rattle.std.specs.Prelude.{◌≡◌, ℕ, List, [], length, take, false, IfOk, OnOk, IsTrue};
 ghost use Rattle.device.specs.Device.{Only};
 ghost use Rattle.volume_codec.specs.Files.{File};
 ghost use Rattle.volume_codec.specs.Recovery.{RecoversTo};
-ghost use Rattle.machine.specs.declared.act.Reply.{Reply};
-ghost use Rattle.machine.specs.declared.act.Step.{Step};
+ghost use Rattle.machine.specs.declared.act.Reply.TheVariants as told;
 ghost use Rattle.machine.specs.Laws.{ReadsBack};
 ghost use Rattle.machine.specs.Runs.{StepsTaken};
 ghost use Rattle.crash_table.specs.Crashes.{history_of, HasEnded};
@@ -16,7 +15,9 @@ use device::Device;
 use engine::{crashed_since_refusal, ran_since_start};
 use machine::{Act, Machine, Reply, Shape, Step, nothing_stored};
 use page_entry::{ProcessorNumber, Refusal};
+use recovery::opened_as_recovered;
 use std::alloc::{AllocError, Allocator};
+use volume_codec::one_reading;
 
 /// Makes steps one at a time, up to one that is answered that the device failed.
 pub fn make<D: Device, A: Allocator + Copy>(
@@ -58,23 +59,41 @@ pub fn run_on<D: Device + Drop, A: Allocator + Copy>(
 {
     crashed_since_refusal(&device);
     nothing_stored();
+    opened_as_recovered(&device);
+    one_reading();
     match engine::start(alloc, device, shape) {
         Ok(mut machine) => {
-            let replies = make(alloc, &mut machine, steps)?;
+            let made = make(alloc, &mut machine, steps);
             ran_since_start(&machine);
             machine.keeps_the_laws();
-            Ok((machine.into_device(), replies))
+            let device = machine.into_device();
+            let replies = made?;
+            Ok((device, replies))
         }
-        Err((Refusal::Device, device)) => Ok((device, Vec::new(alloc))),
-        Err((refusal, _)) => Err(fault_of(refusal)),
+        Err(refused) => not_opened(alloc, refused),
+    }
+}
+
+// The device, without replies, where it failed as it was opened.
+fn not_opened<D: Device + Drop, A: Allocator + Copy>(
+    alloc: A,
+    refused: (Refusal, D),
+) -> Result<(D, Vec<Reply, A>), CrashFault>
+    ensures { IfOk result (λ left. (refused.0 ≡ Refusal.Device) × (left.0 ≡ refused.1) × (left.1.items ≡ [])) }
+{
+    let (refusal, device) = refused;
+    match refusal {
+        Refusal::Device => Ok((device, Vec::new(alloc))),
+        _ => Err(fault_of(refusal)),
     }
 }
 
 // The most steps that a write-out has up to the one that commits it, for a batch of 1,020 pages.
 const MOST_FLUSHES: u64 = 1_024;
 
-/// Sees to it that a mark that was just made is acknowledged, where these are the replies before it: it is at once where
-/// no store was answered since the mark before it, and else it is written out by steps of this processor.
+/// Sees to it that a mark that was just made is acknowledged, where these are the replies before it: it is at once
+/// where no store was made, and no length set, since the mark before it, and else it is written out by steps of this
+/// processor.
 pub fn acknowledge<D: Device, A: Allocator + Copy>(
     machine: &mut Machine<D, A>,
     p: ProcessorNumber,
@@ -100,17 +119,43 @@ fn commit<D: Device, A: Allocator + Copy>(
 {
     let step = Step { p, act: Act::Flush };
     for _ in 0..MOST_FLUSHES {
-        match machine.enter(&step) {
-            Reply::Going => {}
-            Reply::Committed(mark) if mark == number => return Ok(()),
-            Reply::Refused(refusal) => return Err(fault_of(refusal)),
-            _ => return Err(CrashFault::Otherwise),
+        let reply = machine.enter(&step);
+        if is_committed(&reply, number) {
+            return Ok(());
+        }
+        if !is_going(&reply) {
+            return Err(fault_in(&reply));
         }
     }
     Err(CrashFault::Otherwise)
 }
 
-// Whether a store was answered that no mark has yet.
+// Whether a reply says that this mark is durable.
+fn is_committed(reply: &Reply, number: u32) -> bool
+    ensures { IsTrue result → reply.now ≡ told.Committed number }
+{
+    match reply {
+        Reply::Committed(mark) => *mark == number,
+        _ => false,
+    }
+}
+
+// Whether a reply says that a write-out goes on.
+fn is_going(reply: &Reply) -> bool
+    ensures { IsTrue result → reply.now ≡ told.Going }
+{
+    matches!(reply, Reply::Going)
+}
+
+// Why a mark isn't written out, where a step of its write-out is answered so.
+fn fault_in(reply: &Reply) -> CrashFault {
+    match reply {
+        Reply::Refused(refusal) => fault_of(*refusal),
+        _ => CrashFault::Otherwise,
+    }
+}
+
+// Whether a store was made, or a length set, that no mark has yet.
 fn has_unmarked(replies: &[Reply]) -> bool
     ensures { result ≡ unmarked_after false replies.now }
 {

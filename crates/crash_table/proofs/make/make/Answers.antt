@@ -1,4 +1,4 @@
-use Rattle.std.proofs.Common.{rules, ◌≡◌, ℕ, ◌+◌, ◌<◌, List, [], ◌∷◌, ◌++◌, length, take, refl, sym, ap, subst, ◌∙◌, arith}
+use Rattle.std.proofs.Common.{rules, ◌≡◌, ℕ, ◌+◌, ◌<◌, List, [], length, take, refl, sym, ap, subst, ◌∙◌}
 use Rattle.machine.specs.declared.act.Reply.{Reply}
 use Rattle.machine.specs.Runs.{StepsTaken}
 use Rattle.engine.proofs.Runs.{taken_next, length_more}
