@@ -41,9 +41,10 @@ pub record IsAtMark (files : List File) (history : List Event) (found : List Fil
   pub newest : (other : List Event) → IsDurablePrefix other history → found ≡ files_after files other
       → length other ≤ length prefix
 
--- A run was made on a disk in memory with these bytes whose device call of one number fails (0: none), and no other call
--- failed. Then a crash left this choice in the places that were written and not synced, which is one of the contents that
--- it may leave. It recovers to the files at the mark of this number, by what was told before the call failed.
+-- A run was made on a disk in memory with these bytes whose device call of one number fails (0: none), and no other
+-- call failed. Then a crash left this choice in the places that were written and not synced, which is one of the
+-- contents that it may leave. It recovers to the files at the mark of this number, by what can be read off the replies
+-- before the call failed.
 pub record LeavesMark (image : List ℕ) (shape : Shape) (steps : List Step) (fails : ℕ) (choice : List ℕ)
     (number : ℕ) : Type 0 where
   pub replies : List Reply

@@ -119,9 +119,9 @@ impl<'a, A: Allocator + Copy> Trial<'a, A> {
 
     /// The run is made again, and its device call of this number, counted from 1, fails; where there is none, no call
     /// fails. Then a crash leaves these bytes in the places that were written and not synced, and what is left is
-    /// opened. The answer is the number of the newest mark whose files are found; 0: those before the run. The files that
-    /// are found are always those at a mark, and never older than the last one that was acknowledged. `Otherwise` where
-    /// memory was refused to a run and another answer came of that, or the choice isn't as long as the disk.
+    /// opened. The answer is the number of the newest mark whose files are found; 0: those before the run. The files
+    /// that are found are always those at a mark, and never older than the last one that was acknowledged. `Otherwise`
+    /// where memory was refused to a run and another answer came of that, or the choice isn't as long as the disk.
     pub fn crash(&self, fails: u64, choice: &[u8]) -> Result<u32, CrashFault>
         ensures { IfOk result (LeavesMark self.now.image self.now.shape self.now.steps fails choice.now) }
     {

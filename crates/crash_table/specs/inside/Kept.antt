@@ -51,8 +51,8 @@ abbrev pub IsAcknowledged : {D : Type 0} → Ghosts D → Whole D → List Reply
 IsAcknowledged disk old before number new = HasCommitted disk old number new
     ⊎ ((unmarked_after false before ≡ false) × (new ≡ old))
 
--- The steps up to the one of this index were made, and answered as in a run with these replies; its mark, whose number none
--- before it has, is acknowledged.
+-- The steps up to the one of this index were made, and answered as in a run with these replies; its mark, whose number
+-- none before it has, is acknowledged.
 pub record HasWrittenOut {D : Type 0} (disk : Ghosts D) (old : Whole D) (steps : List Step) (replies : List Reply)
     (at number : ℕ) (new : Whole D) : Type 0 where
   pub below : at < length steps
