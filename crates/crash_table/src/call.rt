@@ -32,7 +32,9 @@ pub struct Listing<D: Device, A: Allocator + Copy> {
 
 impl<D: Device + Drop, A: Allocator + Copy> Listing<D, A> {
     /// A disk over this one, no call of which was made yet.
-    pub fn new(alloc: A, inner: D) -> Self {
+    pub fn new(alloc: A, inner: D) -> Self
+        ensures { result.inner ≡ inner }
+    {
         Listing {
             inner,
             alloc,

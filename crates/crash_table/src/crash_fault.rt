@@ -12,9 +12,6 @@ pub enum CrashFault {
     /// The run was answered otherwise when it was made again, as where memory was refused.
     #[error("the run was answered otherwise when it was made again")]
     Otherwise,
-    /// What an opening found after a crash are the files at no mark.
-    #[error("a crash left files that are those at no mark")]
-    AtNoMark,
     /// Memory was refused.
     #[error("out of memory")]
     Memory(#[from(alloc)] AllocError),

@@ -1,10 +1,14 @@
 // The files that an opening of a device finds.
-ghost use Rattle.std.specs.Prelude.{◌<◌, length};
+ghost use Rattle.std.specs.Prelude.{◌≡◌, ◌<◌, ◌↔◌, List, Some, length, map, slice_get, IfOk, OnOk, IsTrue};
+ghost use Rattle.volume_codec.specs.Files.{File};
+ghost use Rattle.volume_codec.specs.Recovery.{RecoversTo};
+ghost use Rattle.recovery.specs.Volume.{IsSettled, files_of, bytes_of};
+ghost use Rattle.crash_table.specs.inside.Reading.{IsOnlyRead, HasLengthsOf};
 
 use crate::crash_fault::CrashFault;
 use device::Device;
 use page_entry::Refusal;
-use recovery::Volume;
+use recovery::{Volume, opened_as_recovered};
 use std::alloc::{AllocError, Allocator};
 
 /// The bytes of each file, in the table's order.
@@ -14,9 +18,16 @@ pub type Files<A> = Vec<Vec<u8, A>, A>;
 pub fn open_files<D: Device + Drop, A: Allocator + Copy>(
     alloc: A,
     device: D,
-) -> Result<Files<A>, CrashFault> {
+) -> Result<Files<A>, CrashFault>
+    ensures { D.is_honest device → IfOk result (λ read. (found : List File) × RecoversTo (D.seen device) found
+        × (map (λ v. v.items) read.items ≡ map (λ f. f.bytes) found)) }
+{
+    opened_as_recovered(&device);
     match recovery::open(alloc, device) {
-        Ok(volume) => read_files(alloc, volume),
+        Ok(volume) => {
+            let mut volume = volume;
+            read_files(alloc, &mut volume)
+        }
         Err((refusal, _)) => Err(fault_of(refusal)),
     }
 }
@@ -31,14 +42,16 @@ pub fn fault_of(refusal: Refusal) -> CrashFault {
 
 fn read_files<D: Device + Drop, A: Allocator + Copy>(
     alloc: A,
-    volume: Volume<D, A>,
-) -> Result<Files<A>, CrashFault> {
-    let mut volume = volume;
+    volume: &mut Volume<D, A>,
+) -> Result<Files<A>, CrashFault>
+    requires { IsSettled D.Device volume.old }
+    ensures { D.is_honest volume.old.device → IfOk result (λ read.
+        map (λ v. v.items) read.items
+        ≡ map (λ f. f.bytes) (files_of volume.old.table (D.seen volume.old.device))) }
+{
     let mut files = Vec::new(alloc);
     for file in 0..volume.file_count() {
-        if file < volume.file_count() {
-            files.push(read_file(alloc, &mut volume, file)?)?;
-        }
+        files.push(read_file(alloc, volume, file)?)?;
     }
     Ok(files)
 }
@@ -48,24 +61,55 @@ fn read_file<D: Device + Drop, A: Allocator + Copy>(
     volume: &mut Volume<D, A>,
     file: usize,
 ) -> Result<Vec<u8, A>, CrashFault>
-    requires { file < length volume.old.table.files }
+    requires there { file < length volume.old.table.files }
+    requires files { D.is_honest volume.old.device → HasLengthsOf volume.old (D.seen volume.old.device) }
+    ensures bytes { D.is_honest volume.old.device → IfOk result (λ bytes.
+        bytes.items ≡ bytes_of (files_of volume.old.table (D.seen volume.old.device)) file) }
+    ensures read { IsOnlyRead D.Device volume.old volume.new }
 {
-    let mut bytes = vec![in alloc; 0; volume.length(file) as usize]?;
-    match volume.read_file(file, 0, &mut bytes) {
+    let count = volume.length(file);
+    let mut bytes = vec![in alloc; 0; count as usize]?;
+    match read_whole(volume, file, count, &mut bytes) {
         Ok(()) => Ok(bytes),
         Err(refusal) => Err(fault_of(refusal)),
     }
 }
 
+// Reads a file of this length.
+fn read_whole<D: Device + Drop, A: Allocator + Copy>(
+    volume: &mut Volume<D, A>,
+    file: usize,
+    bytes: u64,
+    buffer: &mut [u8],
+) -> Result<(), Refusal>
+    requires there { file < length volume.old.table.files }
+    requires long { slice_get volume.old.lengths file ≡ Some bytes }
+    requires room { length buffer.old ≡ bytes }
+    requires files { D.is_honest volume.old.device → HasLengthsOf volume.old (D.seen volume.old.device) }
+    ensures bytes { D.is_honest volume.old.device → OnOk result
+        (buffer.new ≡ bytes_of (files_of volume.old.table (D.seen volume.old.device)) file) }
+    ensures read { IsOnlyRead D.Device volume.old volume.new }
+{
+    volume.read_file(file, 0, buffer)
+}
+
 /// Whether these are the same bytes, file by file.
-pub fn are_same<A: Allocator + Copy>(left: &[Vec<u8, A>], right: &[Vec<u8, A>]) -> bool {
+pub fn are_same<A: Allocator + Copy>(left: &[Vec<u8, A>], right: &[Vec<u8, A>]) -> bool
+    ensures { IsTrue result ↔ (map (λ v. v.items) left.now ≡ map (λ v. v.items) right.now) }
+{
     if left.len() != right.len() {
         return false;
     }
     for i in 0..left.len() {
-        if left[i].as_slice() != right[i].as_slice() {
+        if !is_same(left[i].as_slice(), right[i].as_slice()) {
             return false;
         }
     }
     true
+}
+
+fn is_same(left: &[u8], right: &[u8]) -> bool
+    ensures { IsTrue result ↔ (left.now ≡ right.now) }
+{
+    left == right
 }

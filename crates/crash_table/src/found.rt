@@ -1,13 +1,21 @@
 // The files at each mark of a run, and which mark's files an opening found.
-ghost use Rattle.std.specs.Prelude.{◌<◌, length};
+ghost use Rattle.std.specs.Prelude.{◌≡◌, ◌<◌, ℕ, List, length, map, take, slice_get, Some, IfOk, IfSome, OnOk, IsTrue, Contains};
+ghost use Rattle.machine.specs.declared.act.Reply.TheVariants.{Marked};
+ghost use Rattle.machine.specs.declared.act.Shape.{Shape};
+ghost use Rattle.machine.specs.declared.act.Step.{Step};
+ghost use Rattle.volume_codec.specs.Files.{File};
+ghost use Rattle.volume_codec.specs.Recovery.{RecoversTo};
+ghost use Rattle.crash_table.specs.inside.Kept.{bytes_at, HasWrittenOut, IsKept, AreKept, IsNewest};
 
 use crate::crash_fault::CrashFault;
 use crate::files::{Files, are_same, fault_of, open_files};
 use crate::make::{acknowledge, make};
 use crate::same::are_same_replies;
 use device::Device;
-use machine::{Reply, Shape, Step};
+use machine::{Machine, Reply, Shape, Step};
+use recovery::opened_as_recovered;
 use std::alloc::Allocator;
+use volume_codec::one_reading;
 
 /// The files at a mark, and the index of the step that made it.
 #[derive(Drop)]
@@ -36,25 +44,81 @@ pub fn files_at<D: Device + Drop, A: Allocator + Copy>(
     at: usize,
     number: u32,
 ) -> Result<Files<A>, CrashFault>
-    requires { at < length replies.now }
+    requires { slice_get replies.now at ≡ Some (Marked number) }
+    ensures made { IfOk result (λ read. at < length steps.now) }
+    ensures kept { D.is_honest device → (files : List File) → RecoversTo (D.seen device) files → IfOk result (λ read.
+        map (λ v. v.items) read.items ≡ bytes_at files shape steps.now replies.now at number) }
 {
-    if at >= steps.len() {
+    opened_as_recovered(&device);
+    one_reading();
+    match engine::start(alloc, device, shape) {
+        Ok(mut machine) => {
+            write_out(alloc, &mut machine, steps, replies, at, number)?;
+            machine.keeps_the_laws();
+            open_files(alloc, machine.into_device())
+        }
+        Err((refusal, _)) => Err(fault_of(refusal)),
+    }
+}
+
+// Makes the steps up to the mark that the step of an index made, and writes it out until it is acknowledged.
+fn write_out<D: Device, A: Allocator + Copy>(
+    alloc: A,
+    machine: &mut Machine<D, A>,
+    steps: &[Step],
+    replies: &[Reply],
+    at: usize,
+    number: u32,
+) -> Result<(), CrashFault>
+    requires { slice_get replies.now at ≡ Some (Marked number) }
+    ensures { OnOk result (HasWrittenOut D.Device machine.old steps.now replies.now at number machine.new) }
+{
+    if !is_first_mark(steps, replies, at, number) {
         return Err(CrashFault::Otherwise);
     }
-    let mut machine = match engine::start(alloc, device, shape) {
-        Ok(machine) => machine,
-        Err((refusal, _)) => return Err(fault_of(refusal)),
-    };
-    let told = make(alloc, &mut machine, &steps[..=at])?;
+    let told = make(alloc, machine, &steps[..=at])?;
     if !are_same_replies(&told, &replies[..=at]) {
         return Err(CrashFault::Otherwise);
     }
-    acknowledge(&mut machine, steps[at].p, number, &replies[..at])?;
-    open_files(alloc, machine.into_device())
+    acknowledge(machine, steps[at].p, number, &replies[..at])
+}
+
+// Whether there is a step of this index, and no reply before its own tells a mark of this number: a machine numbers its
+// marks one by one.
+fn is_first_mark(steps: &[Step], replies: &[Reply], at: usize, number: u32) -> bool
+    requires { at < length replies.now }
+    ensures { IsTrue result → (at < length steps.now)
+        × ((i : ℕ) → slice_get (take at replies.now) i ≡ Some (Marked number) → ⊥) }
+{
+    at < steps.len() && !has_mark(&replies[..at], number)
+}
+
+// Whether one of these replies tells a mark of this number.
+fn has_mark(replies: &[Reply], number: u32) -> bool
+    ensures { (i : ℕ) → slice_get replies.now i ≡ Some (Marked number) → IsTrue result }
+{
+    for reply in replies {
+        if is_mark(reply, number) {
+            return true;
+        }
+    }
+    false
+}
+
+// Whether a reply tells the mark of this number.
+fn is_mark(reply: &Reply, number: u32) -> bool
+    ensures { reply.now ≡ Marked number → IsTrue result }
+{
+    match reply {
+        Reply::Marked(mark) => *mark == number,
+        _ => false,
+    }
 }
 
 // The files that are kept of the mark that the step of an index made.
-fn kept_at<A: Allocator + Copy>(marks: &[MarkFiles<A>], at: usize) -> Option<&MarkFiles<A>> {
+fn kept_at<A: Allocator + Copy>(marks: &[MarkFiles<A>], at: usize) -> Option<&MarkFiles<A>>
+    ensures { IfSome result (λ mark. Contains marks.now mark.now × (mark.now.step ≡ at)) }
+{
     for mark in marks {
         if mark.step == at {
             return Some(mark);
@@ -63,16 +127,18 @@ fn kept_at<A: Allocator + Copy>(marks: &[MarkFiles<A>], at: usize) -> Option<&Ma
     None
 }
 
-/// The newest mark among those that these replies tell whose files are the found ones; 0 where these are the files at
-/// the start. The files that are kept are those at the marks of a run with the replies `first`, which are theirs as far
-/// as these replies are the same. `AtNoMark` where they are neither.
+/// The newest mark among those that these replies tell whose files are the found ones, and 0 where there is none. The
+/// files that are kept are those at the marks of a run with the replies `first`, which are theirs as far as these
+/// replies are the same.
 pub fn newest<A: Allocator + Copy>(
-    start: &[Vec<u8, A>],
     marks: &[MarkFiles<A>],
     first: &[Reply],
     replies: &[Reply],
     found: &[Vec<u8, A>],
-) -> Result<u32, CrashFault> {
+) -> Result<u32, CrashFault>
+    ensures { (files : List File) (shape : Shape) (steps : List Step) → AreKept files shape steps first.now marks.now
+        → IfOk result (IsNewest files shape steps replies.now (map (λ v. v.items) found.now)) }
+{
     for before in 0..replies.len() {
         let at = replies.len() - 1 - before;
         if let Reply::Marked(number) = replies[at] {
@@ -82,11 +148,7 @@ pub fn newest<A: Allocator + Copy>(
             }
         }
     }
-    if are_same(start, found) {
-        Ok(0)
-    } else {
-        Err(CrashFault::AtNoMark)
-    }
+    Ok(0)
 }
 
 // The files that are kept of the mark that the step of an index made, where the replies up to it are those of the run
@@ -98,6 +160,8 @@ fn kept_of<'a, A: Allocator + Copy>(
     at: usize,
 ) -> Result<&'a MarkFiles<A>, CrashFault>
     requires { at < length replies.now }
+    ensures { (files : List File) (shape : Shape) (steps : List Step) → AreKept files shape steps first.now marks.now
+        → IfOk result (λ kept. IsKept files shape steps replies.now at kept.now) }
 {
     if at >= first.len() || !are_same_replies(&first[..=at], &replies[..=at]) {
         return Err(CrashFault::Otherwise);

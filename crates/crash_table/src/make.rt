@@ -1,17 +1,33 @@
 // Making steps, and noting what they are answered.
+ghost use Rattle.std.specs.Prelude.{◌≡◌, ℕ, List, [], length, take, false, IfOk, OnOk, IsTrue};
+ghost use Rattle.device.specs.Device.{Only};
+ghost use Rattle.volume_codec.specs.Files.{File};
+ghost use Rattle.volume_codec.specs.Recovery.{RecoversTo};
+ghost use Rattle.machine.specs.declared.act.Reply.TheVariants as told;
+ghost use Rattle.machine.specs.Laws.{ReadsBack};
+ghost use Rattle.machine.specs.Runs.{StepsTaken};
+ghost use Rattle.crash_table.specs.Crashes.{history_of, HasEnded};
+ghost use Rattle.crash_table.specs.inside.Kept.{unmarked_by, unmarked_after, HasCommitted, IsAcknowledged};
+
 use crate::crash_fault::CrashFault;
 use crate::files::fault_of;
 use device::Device;
-use machine::{Act, Machine, Reply, Shape, Step};
+use engine::{crashed_since_refusal, ran_since_start};
+use machine::{Act, Machine, Reply, Shape, Step, nothing_stored};
 use page_entry::{ProcessorNumber, Refusal};
+use recovery::opened_as_recovered;
 use std::alloc::{AllocError, Allocator};
+use volume_codec::one_reading;
 
 /// Makes steps one at a time, up to one that is answered that the device failed.
 pub fn make<D: Device, A: Allocator + Copy>(
     alloc: A,
     machine: &mut Machine<D, A>,
     steps: &[Step],
-) -> Result<Vec<Reply, A>, AllocError> {
+) -> Result<Vec<Reply, A>, AllocError>
+    ensures { IfOk result (λ replies. StepsTaken D.Device machine.old
+        (take (length replies.items) steps.now) replies.items machine.new) }
+{
     let mut replies = Vec::new(alloc);
     for step in steps {
         let reply = machine.enter(step);
@@ -35,28 +51,57 @@ pub fn run_on<D: Device + Drop, A: Allocator + Copy>(
     device: D,
     shape: Shape,
     steps: &[Step],
-) -> Result<(D, Vec<Reply, A>), CrashFault> {
+) -> Result<(D, Vec<Reply, A>), CrashFault>
+    ensures ended { IfOk result (λ left. HasEnded D.Device device shape steps.now left.1.items left.0) }
+    ensures back { IfOk result (λ left. D.is_honest device → Only (D.may_leave device) (D.seen device)
+        → (files : List File) → RecoversTo (D.seen device) files → (c : List ℕ) → D.may_leave left.0 c
+        → ReadsBack files (history_of files shape (take (length left.1.items) steps.now) left.1.items) c) }
+{
+    crashed_since_refusal(&device);
+    nothing_stored();
+    opened_as_recovered(&device);
+    one_reading();
     match engine::start(alloc, device, shape) {
         Ok(mut machine) => {
-            let replies = make(alloc, &mut machine, steps)?;
-            Ok((machine.into_device(), replies))
+            let made = make(alloc, &mut machine, steps);
+            ran_since_start(&machine);
+            machine.keeps_the_laws();
+            let device = machine.into_device();
+            let replies = made?;
+            Ok((device, replies))
         }
-        Err((Refusal::Device, device)) => Ok((device, Vec::new(alloc))),
-        Err((refusal, _)) => Err(fault_of(refusal)),
+        Err(refused) => not_opened(alloc, refused),
+    }
+}
+
+// The device, without replies, where it failed as it was opened.
+fn not_opened<D: Device + Drop, A: Allocator + Copy>(
+    alloc: A,
+    refused: (Refusal, D),
+) -> Result<(D, Vec<Reply, A>), CrashFault>
+    ensures { IfOk result (λ left. (refused.0 ≡ Refusal.Device) × (left.0 ≡ refused.1) × (left.1.items ≡ [])) }
+{
+    let (refusal, device) = refused;
+    match refusal {
+        Refusal::Device => Ok((device, Vec::new(alloc))),
+        _ => Err(fault_of(refusal)),
     }
 }
 
 // The most steps that a write-out has up to the one that commits it, for a batch of 1,020 pages.
 const MOST_FLUSHES: u64 = 1_024;
 
-/// Sees to it that a mark that was just made is acknowledged, where these are the replies before it: it is at once where
-/// no store was answered since the mark before it, and else it is written out by steps of this processor.
+/// Sees to it that a mark that was just made is acknowledged, where these are the replies before it: it is at once
+/// where no store was made, and no length set, since the mark before it, and else it is written out by steps of this
+/// processor.
 pub fn acknowledge<D: Device, A: Allocator + Copy>(
     machine: &mut Machine<D, A>,
     p: ProcessorNumber,
     number: u32,
     before: &[Reply],
-) -> Result<(), CrashFault> {
+) -> Result<(), CrashFault>
+    ensures { OnOk result (IsAcknowledged D.Device machine.old before.now number machine.new) }
+{
     if has_unmarked(before) {
         commit(machine, p, number)
     } else {
@@ -69,21 +114,51 @@ fn commit<D: Device, A: Allocator + Copy>(
     machine: &mut Machine<D, A>,
     p: ProcessorNumber,
     number: u32,
-) -> Result<(), CrashFault> {
+) -> Result<(), CrashFault>
+    ensures { OnOk result (HasCommitted D.Device machine.old number machine.new) }
+{
     let step = Step { p, act: Act::Flush };
     for _ in 0..MOST_FLUSHES {
-        match machine.enter(&step) {
-            Reply::Going => {}
-            Reply::Committed(mark) if mark == number => return Ok(()),
-            Reply::Refused(refusal) => return Err(fault_of(refusal)),
-            _ => return Err(CrashFault::Otherwise),
+        let reply = machine.enter(&step);
+        if is_committed(&reply, number) {
+            return Ok(());
+        }
+        if !is_going(&reply) {
+            return Err(fault_in(&reply));
         }
     }
     Err(CrashFault::Otherwise)
 }
 
-// Whether a store was answered that no mark has yet.
-fn has_unmarked(replies: &[Reply]) -> bool {
+// Whether a reply says that this mark is durable.
+fn is_committed(reply: &Reply, number: u32) -> bool
+    ensures { IsTrue result → reply.now ≡ told.Committed number }
+{
+    match reply {
+        Reply::Committed(mark) => *mark == number,
+        _ => false,
+    }
+}
+
+// Whether a reply says that a write-out goes on.
+fn is_going(reply: &Reply) -> bool
+    ensures { IsTrue result → reply.now ≡ told.Going }
+{
+    matches!(reply, Reply::Going)
+}
+
+// Why a mark isn't written out, where a step of its write-out is answered so.
+fn fault_in(reply: &Reply) -> CrashFault {
+    match reply {
+        Reply::Refused(refusal) => fault_of(*refusal),
+        _ => CrashFault::Otherwise,
+    }
+}
+
+// Whether a store was made, or a length set, that no mark has yet.
+fn has_unmarked(replies: &[Reply]) -> bool
+    ensures { result ≡ unmarked_after false replies.now }
+{
     let mut has = false;
     for reply in replies {
         has = is_unmarked(has, reply);
@@ -92,7 +167,9 @@ fn has_unmarked(replies: &[Reply]) -> bool {
 }
 
 // The same after one reply more.
-fn is_unmarked(before: bool, reply: &Reply) -> bool {
+fn is_unmarked(before: bool, reply: &Reply) -> bool
+    ensures { result ≡ unmarked_by before reply.now }
+{
     match reply {
         Reply::Stored | Reply::Resized => true,
         Reply::Marked(_) => false,

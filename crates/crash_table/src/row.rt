@@ -1,6 +1,9 @@
 // The rows of the table: what crashes within each device call leave.
-ghost use Rattle.std.specs.Prelude.{◌≡◌, ◌==◌};
+ghost use Rattle.std.specs.Prelude.{◌≡◌, ◌==◌, IfOk, IfSome, Contains};
 ghost use Rattle.std.specs.List.{count_by};
+ghost use Rattle.crash_table.specs.Trials.{LeavesSome};
+ghost use Rattle.crash_table.specs.Rows.{IsRowOf};
+ghost use Rattle.crash_table.specs.declared.row.Found.{Found};
 
 use crate::call::Call;
 use crate::choice::{Choice, Contents};
@@ -55,7 +58,9 @@ pub struct Rows<'a, A: Allocator + Copy> {
 
 impl<'a, A: Allocator + Copy> Rows<'a, A> {
     /// The rows of a run.
-    pub fn new(alloc: A, trial: &'a Trial<'a, A>) -> Result<Self, CrashFault> {
+    pub fn new(alloc: A, trial: &'a Trial<'a, A>) -> Result<Self, CrashFault>
+        ensures { IfOk result (λ rows. rows.trial.now ≡ trial.now) }
+    {
         Ok(Rows {
             alloc,
             trial,
@@ -65,7 +70,10 @@ impl<'a, A: Allocator + Copy> Rows<'a, A> {
     }
 
     /// The next row: one for each device call of the run, and one for its end.
-    pub fn next(&mut self) -> Result<Option<Row<A>>, CrashFault> {
+    pub fn next(&mut self) -> Result<Option<Row<A>>, CrashFault>
+        ensures row { IfOk result (λ next. IfSome next (IsRowOf self.old.trial.now)) }
+        ensures trial { self.new.trial ≡ self.old.trial }
+    {
         let trial = self.trial;
         let calls = trial.calls();
         if self.next > calls.len() {
@@ -81,7 +89,10 @@ impl<'a, A: Allocator + Copy> Rows<'a, A> {
     }
 
     // Crashes within a call.
-    fn within(&mut self, number: u64, call: &Call<A>) -> Result<Row<A>, CrashFault> {
+    fn within(&mut self, number: u64, call: &Call<A>) -> Result<Row<A>, CrashFault>
+        ensures row { IfOk result (IsRowOf self.old.trial.now) }
+        ensures trial { self.new.trial ≡ self.old.trial }
+    {
         self.contents.begin(call)?;
         let row = self.row(number)?;
         self.contents.end(call)?;
@@ -89,7 +100,9 @@ impl<'a, A: Allocator + Copy> Rows<'a, A> {
     }
 
     // Crashes within the call of this number, or at the end where there is none.
-    fn row(&self, number: u64) -> Result<Row<A>, CrashFault> {
+    fn row(&self, number: u64) -> Result<Row<A>, CrashFault>
+        ensures { IfOk result (IsRowOf self.now.trial.now) }
+    {
         Ok(Row {
             number,
             unsynced: self.contents.unsynced(),
@@ -98,7 +111,10 @@ impl<'a, A: Allocator + Copy> Rows<'a, A> {
     }
 
     // Each state that is tried of a crash within the call of this number.
-    fn states(&self, number: u64) -> Result<Vec<Found, A>, CrashFault> {
+    fn states(&self, number: u64) -> Result<Vec<Found, A>, CrashFault>
+        ensures { IfOk result (λ states. (found : Found) → Contains states.items found
+            → LeavesSome self.now.trial.now number found.mark) }
+    {
         let choices = self.contents.choices()?;
         let mut states = Vec::new(self.alloc);
         for choice in &choices {
@@ -111,7 +127,9 @@ impl<'a, A: Allocator + Copy> Rows<'a, A> {
         Ok(states)
     }
 
-    fn crash(&self, number: u64, choice: Choice) -> Result<u32, CrashFault> {
+    fn crash(&self, number: u64, choice: Choice) -> Result<u32, CrashFault>
+        ensures { IfOk result (LeavesSome self.now.trial.now number) }
+    {
         self.trial.crash(number, &self.contents.bytes_of(choice)?)
     }
 }

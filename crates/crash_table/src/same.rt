@@ -5,7 +5,9 @@ use machine::{FewBytes, Reply};
 use page_entry::Refusal;
 
 /// Whether these are the same replies in the same order.
-pub fn are_same_replies(left: &[Reply], right: &[Reply]) -> bool {
+pub fn are_same_replies(left: &[Reply], right: &[Reply]) -> bool
+    ensures { IsTrue result → left.now ≡ right.now }
+{
     if left.len() != right.len() {
         return false;
     }

@@ -1,31 +1,55 @@
 // A run, made once to learn its calls, its replies and the files at its marks, and again for each crash.
-ghost use Rattle.std.specs.Prelude.{◌≡◌, ◌<◌, length, IfOk};
+ghost use Rattle.std.specs.Prelude.{◌≡◌, ◌<◌, List, length, slice_get, Some, IfOk, OnOk};
 ghost use Rattle.device.specs.Memory.{new_disk};
+ghost use Rattle.volume_codec.specs.Files.{File};
+ghost use Rattle.volume_codec.specs.Recovery.{RecoversTo};
+ghost use Rattle.machine.specs.declared.act.Reply.TheVariants.{Marked};
+ghost use Rattle.crash_table.specs.Crashes.{LeavesMark};
+ghost use Rattle.crash_table.specs.inside.Kept.{IsKept, AreKept};
 
 use crate::call::{Call, Listing};
 use crate::crash_fault::CrashFault;
-use crate::files::{Files, fault_of, open_files};
+use crate::files::{fault_of, open_files};
 use crate::found::{MarkFiles, Plan, files_at, newest};
 use crate::make::run_on;
 use crate::same::are_same_replies;
 use device::{Device, FailingDisk, MemDisk};
-use machine::{Reply, Shape, Step};
+use machine::{Machine, Reply, Shape, Step};
+use recovery::opened_as_recovered;
 use std::alloc::{AllocError, Allocator};
+use std::marker::Model;
+use volume_codec::one_reading;
 
 /// A run on a copy of a disk: its replies, its device calls, and the files at its marks.
 #[derive(Drop)]
 pub struct Trial<'a, A: Allocator + Copy> {
     alloc: A,
     plan: Plan<'a>,
+    listed: Listed<A>,
+    marks: Vec<MarkFiles<A>, A>,
+}
+
+// A run that was made once: its replies, and its device calls.
+#[derive(Drop)]
+struct Listed<A: Allocator + Copy> {
     replies: Vec<Reply, A>,
-    /// How many device calls were made up to each reply, and with its step.
+    // How many device calls were made up to each reply, and with its step.
     made: Vec<u64, A>,
-    /// How many device calls opened the volume.
+    // How many device calls opened the volume.
     opening: u64,
     calls: Vec<Call<A>, A>,
-    /// The files before the run.
-    start: Files<A>,
-    marks: Vec<MarkFiles<A>, A>,
+}
+
+impl<'a, A: Allocator + Copy> Model for Trial<'a, A> {
+    ghost use Rattle.crash_table.specs.Trials.{TrialValue};
+    ghost use Rattle.crash_table.specs.inside.Kept.{HasKept};
+
+    ghost Value = { TrialValue };
+
+    ghost view = { λ t. record { image = t.plan.image.now; shape = t.plan.shape; steps = t.plan.steps.now } };
+
+    ghost invariant = { λ t. HasKept t.plan.image.now t.plan.shape t.plan.steps.now t.listed.replies.items
+        t.marks.items };
 }
 
 // A copy of a disk that holds these bytes.
@@ -42,64 +66,49 @@ impl<'a, A: Allocator + Copy> Trial<'a, A> {
         image: &'a [u8],
         shape: Shape,
         steps: &'a [Step],
-    ) -> Result<Self, CrashFault> {
+    ) -> Result<Self, CrashFault>
+        ensures { IfOk result (λ trial. trial
+            ≡ record { image = image.now; shape = shape; steps = steps.now }) }
+    {
         let plan = Plan {
             image,
             shape,
             steps,
         };
-        let disk = Listing::new(alloc, copy_of(alloc, image)?);
-        let mut machine = match engine::start(alloc, disk, shape) {
-            Ok(machine) => machine,
-            Err((refusal, _)) => return Err(fault_of(refusal)),
-        };
-        let opening = machine.device().count();
-        let mut replies = Vec::new(alloc);
-        let mut made = Vec::new(alloc);
-        for step in steps {
-            replies.push(machine.enter(step))?;
-            made.push(machine.device().count())?;
-        }
-        if machine.device().faults() > 0 {
-            return Err(CrashFault::Memory(AllocError));
-        }
-        let calls = machine.into_device().into_calls()?;
-        let start = open_files(alloc, copy_of(alloc, image)?)?;
-        let marks = marks_of(alloc, &plan, &replies)?;
+        let listed = list(alloc, &plan)?;
+        let marks = marks_of(alloc, &plan, &listed.replies)?;
         Ok(Trial {
             alloc,
             plan,
-            replies,
-            made,
-            opening,
-            calls,
-            start,
+            listed,
             marks,
         })
     }
 
     /// The device calls of the run, in order. The first ones open the volume.
     pub fn calls(&self) -> &[Call<A>] {
-        &self.calls
+        &self.listed.calls
     }
 
     /// What the disk holds before the run.
-    pub fn image(&self) -> &'a [u8] {
+    pub fn image(&self) -> &'a [u8]
+        ensures { result.now ≡ self.now.image }
+    {
         self.plan.image
     }
 
     /// The replies of the run.
     pub fn replies(&self) -> &[Reply] {
-        &self.replies
+        &self.listed.replies
     }
 
     /// How many replies come before the device call of this number, counted from 1.
     pub fn replies_before(&self, call: u64) -> usize {
-        if call <= self.opening {
+        if call <= self.listed.opening {
             return 0;
         }
         let mut count = 0usize;
-        for made in &self.made {
+        for made in &self.listed.made {
             if *made >= call {
                 return count;
             }
@@ -110,10 +119,12 @@ impl<'a, A: Allocator + Copy> Trial<'a, A> {
 
     /// The run is made again, and its device call of this number, counted from 1, fails; where there is none, no call
     /// fails. Then a crash leaves these bytes in the places that were written and not synced, and what is left is
-    /// opened. The answer is the number of the newest mark whose files are found; 0: those before the run. `AtNoMark`
-    /// where they are none of these, and `Otherwise` where memory was refused to a run and another answer came of that,
-    /// or the choice isn't as long as the disk.
-    pub fn crash(&self, fails: u64, choice: &[u8]) -> Result<u32, CrashFault> {
+    /// opened. The answer is the number of the newest mark whose files are found; 0: those before the run. The files
+    /// that are found are always those at a mark, and never older than the last one that was acknowledged. `Otherwise`
+    /// where memory was refused to a run and another answer came of that, or the choice isn't as long as the disk.
+    pub fn crash(&self, fails: u64, choice: &[u8]) -> Result<u32, CrashFault>
+        ensures { IfOk result (LeavesMark self.now.image self.now.shape self.now.steps fails choice.now) }
+    {
         let disk = FailingDisk::new(copy_of(self.alloc, self.plan.image)?, fails);
         let (disk, replies) = run_on(self.alloc, disk, self.plan.shape, self.plan.steps)?;
         let failed = disk.faults() > 0;
@@ -126,20 +137,59 @@ impl<'a, A: Allocator + Copy> Trial<'a, A> {
             return Err(CrashFault::Otherwise);
         }
         disk.stop(choice);
+        one_reading();
         let found = open_files(self.alloc, disk)?;
-        newest(&self.start, &self.marks, &self.replies, &replies, &found)
+        newest(&self.marks, &self.listed.replies, &replies, &found)
     }
 
     // Whether a run with these replies is the first one up to the device call of this number, which fails, where there
     // is one.
     fn is_run_up_to(&self, fails: u64, failed: bool, replies: &[Reply]) -> bool {
         let before = self.replies_before(fails);
-        let due = fails <= self.calls.len() as u64;
-        match (self.replies.get(0..before), replies.get(0..before)) {
+        let due = fails <= self.listed.calls.len() as u64;
+        match (self.listed.replies.get(0..before), replies.get(0..before)) {
             (Some(first), Some(again)) => failed == due && are_same_replies(first, again),
             _ => false,
         }
     }
+}
+
+// Makes a run on a copy of a disk once. A machine was started on it, so its bytes recover to files.
+fn list<A: Allocator + Copy>(alloc: A, plan: &Plan<'_>) -> Result<Listed<A>, CrashFault>
+    ensures { IfOk result (λ listed. (files : List File) × RecoversTo plan.now.image.now files) }
+{
+    let copy = copy_of(alloc, plan.image)?;
+    let disk = Listing::new(alloc, copy);
+    opened_as_recovered(&disk);
+    match engine::start(alloc, disk, plan.shape) {
+        Ok(machine) => list_steps(alloc, machine, plan.steps),
+        Err((refusal, _)) => Err(fault_of(refusal)),
+    }
+}
+
+// Makes the steps of a run, and lists the device calls that opened the volume and those that the steps made.
+fn list_steps<A: Allocator + Copy>(
+    alloc: A,
+    mut machine: Machine<Listing<MemDisk<A>, A>, A>,
+    steps: &[Step],
+) -> Result<Listed<A>, CrashFault> {
+    let opening = machine.device().count();
+    let mut replies = Vec::new(alloc);
+    let mut made = Vec::new(alloc);
+    for step in steps {
+        replies.push(machine.enter(step))?;
+        made.push(machine.device().count())?;
+    }
+    if machine.device().faults() > 0 {
+        return Err(CrashFault::Memory(AllocError));
+    }
+    let calls = machine.into_device().into_calls()?;
+    Ok(Listed {
+        replies,
+        made,
+        opening,
+        calls,
+    })
 }
 
 // The files at each mark that these replies tell.
@@ -147,14 +197,38 @@ fn marks_of<A: Allocator + Copy>(
     alloc: A,
     plan: &Plan<'_>,
     replies: &[Reply],
-) -> Result<Vec<MarkFiles<A>, A>, CrashFault> {
+) -> Result<Vec<MarkFiles<A>, A>, CrashFault>
+    ensures { (files : List File) → RecoversTo plan.now.image.now files → IfOk result (λ marks.
+        AreKept files plan.now.shape plan.now.steps.now replies.now marks.items) }
+{
     let mut marks = Vec::new(alloc);
     for at in 0..replies.len() {
-        if let Reply::Marked(number) = replies[at] {
-            marks.push(mark_of(alloc, plan, replies, at, number)?)?;
-        }
+        add_mark(alloc, plan, replies, at, &mut marks)?;
     }
     Ok(marks)
+}
+
+// Adds the files at the mark that the step of an index made, if it made one.
+fn add_mark<A: Allocator + Copy>(
+    alloc: A,
+    plan: &Plan<'_>,
+    replies: &[Reply],
+    at: usize,
+    marks: &mut Vec<MarkFiles<A>, A>,
+) -> Result<(), CrashFault>
+    requires { at < length replies.now }
+    ensures { (files : List File) → RecoversTo plan.now.image.now files
+        → AreKept files plan.now.shape plan.now.steps.now replies.now marks.old.items
+        → OnOk result (AreKept files plan.now.shape plan.now.steps.now replies.now marks.new.items) }
+{
+    match replies[at] {
+        Reply::Marked(number) => {
+            let mark = mark_of(alloc, plan, replies, at, number)?;
+            marks.push(mark)?;
+            Ok(())
+        }
+        _ => Ok(()),
+    }
 }
 
 // The files at the mark that the step of an index made.
@@ -165,11 +239,12 @@ fn mark_of<A: Allocator + Copy>(
     at: usize,
     number: u32,
 ) -> Result<MarkFiles<A>, CrashFault>
-    requires { at < length replies.now }
+    requires { slice_get replies.now at ≡ Some (Marked number) }
+    ensures step { IfOk result (λ mark. mark.step ≡ at) }
+    ensures kept { (files : List File) → RecoversTo plan.now.image.now files → IfOk result (λ mark.
+        IsKept files plan.now.shape plan.now.steps.now replies.now at mark) }
 {
     let disk = copy_of(alloc, plan.image)?;
-    Ok(MarkFiles {
-        step: at,
-        files: files_at(alloc, disk, plan.shape, plan.steps, replies, at, number)?,
-    })
+    let files = files_at(alloc, disk, plan.shape, plan.steps, replies, at, number)?;
+    Ok(MarkFiles { step: at, files })
 }

@@ -1,0 +1,8 @@
+pub mod Reading
+pub mod Histories
+pub mod Marks
+pub mod Bytes
+pub mod Newest
+pub mod Left
+pub mod Making
+pub mod Ended

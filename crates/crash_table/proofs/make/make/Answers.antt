@@ -1,0 +1,45 @@
+use Rattle.std.proofs.Common.{rules, ◌≡◌, ℕ, ◌+◌, ◌<◌, List, [], length, take, refl, sym, ap, subst, ◌∙◌}
+use Rattle.machine.specs.declared.act.Reply.{Reply}
+use Rattle.machine.specs.Runs.{StepsTaken}
+use Rattle.engine.proofs.Runs.{taken_next, length_more}
+use Rattle.crash_table.proofs.make.make.Goals as goal
+
+pub loop-step-init : goal.loop-step-init
+loop-step-init g c =
+    let none = c.new-replies.ensures.items in
+    let P : List Reply → Type 0 = λ l. StepsTaken g.D.Device c.args.machine.now [] l c.args.machine.now in
+    (ap (λ (l : List Reply). length l) none, subst P (sym none) refl)
+
+pub loop-step-preserved : goal.loop-step-preserved
+loop-step-preserved g c =
+    let old = c.args.machine.now in
+    let earlier = c.loop-step.replies.items in
+    let reply = c.enter-reply.result in
+    let index = c.loop-step.step-index in
+    let steps = c.args.steps.now in
+    let below : index < length steps = search rules in
+    let more = c.in_ok-push.ensures.items in
+    let P : List Reply → Type 0 = λ l. StepsTaken g.D.Device old (take (index + 1) steps) l c.enter-reply.new.self in (
+      ap (λ (l : List Reply). length l) more ∙ length_more earlier reply index c.loop-step.invariant.0,
+      subst P (sym more) (taken_next g.D.Device old c.loop-step.machine c.enter-reply.new.self steps index c.step-item.result earlier reply below c.step-item.is c.loop-step.invariant.1 c.enter-reply.ensures.taken),
+    )
+
+pub returns-then-is_failure : goal.returns-then-is_failure
+returns-then-is_failure g c =
+    let old = c.args.machine.now in
+    let earlier = c.loop-step.replies.items in
+    let reply = c.enter-reply.result in
+    let index = c.loop-step.step-index in
+    let steps = c.args.steps.now in
+    let below : index < length steps = search rules in
+    let more = c.in_ok-push.ensures.items in
+    let P : List Reply → Type 0 = λ l. StepsTaken g.D.Device old (take (index + 1) steps) l c.enter-reply.new.self in
+    let Q : ℕ → Type 0 = λ n. StepsTaken g.D.Device old (take n steps) c.push.new.self.items c.enter-reply.new.self in
+    let count : length c.push.new.self.items ≡ index + 1 = ap (λ (l : List Reply). length l) more ∙ length_more earlier reply index c.loop-step.invariant.0 in
+    subst Q (sym count) (subst P (sym more) (taken_next g.D.Device old c.loop-step.machine c.enter-reply.new.self steps index c.step-item.result earlier reply below c.step-item.is c.loop-step.invariant.1 c.enter-reply.ensures.taken))
+
+pub returns : goal.returns
+returns g c =
+    let steps = c.args.steps.now in
+    let Q : ℕ → Type 0 = λ n. StepsTaken g.D.Device c.args.machine.now (take n steps) c.loop-step.replies.items c.loop-step.machine in
+    subst Q (sym c.loop-step.invariant.0) c.loop-step.invariant.1

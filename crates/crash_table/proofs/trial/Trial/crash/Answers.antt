@@ -1,0 +1,38 @@
+use Rattle.std.proofs.Common.{◌≡◌, IfOk, map, ap, sym, subst, ◌∙◌, arith}
+use Rattle.device.specs.Device.{Only}
+use Rattle.device.specs.Failing.{Failing, failing}
+use Rattle.device.specs.Memory.{Recorded, new_disk, seen_of, may_leave_of, after_stop}
+use Rattle.volume_codec.specs.Recovery.{RecoversTo}
+use Rattle.crash_table.specs.Crashes.{HasEnded, LeavesMark}
+use Rattle.crash_table.specs.Disks.{failing_memory}
+use Rattle.crash_table.specs.Trials.{TrialValue}
+use Rattle.crash_table.proofs.Left.{only_first, leaves_newest}
+use Rattle.crash_table.proofs.trial.Trial.crash.Goals as goal
+
+pub returns : goal.returns
+returns g c =
+    let inside = c.self.inside in
+    let image = inside.plan.image.now in
+    let shape = inside.plan.shape in
+    let steps = inside.plan.steps.now in
+    let fails = c.args.fails in
+    let choice = c.args.choice.now in
+    let after : Failing Recorded = c.in_ok-disk.disk in
+    let replies = c.in_ok-disk.replies.items in
+    let inner : Recorded = c.into_inner-disk.result in
+    let inner_is : inner ≡ after.inner = c.into_inner-disk.ensures in
+    let disk_is : c.new-disk.result ≡ failing (new_disk image) fails = c.new-disk.ensures ∙ ap (λ (d : Recorded). failing d fails) c.in_ok-copy_of.ensures in
+    let none : inner.faults ≡ 0 = omega (arith, c.faults.ensures, c.if-faults-gt0.false) in
+    let E : Failing Recorded → Type 0 = λ d. HasEnded failing_memory d shape steps replies after in
+    let Q : Failing Recorded → Type 0 = λ d. Only (may_leave_of d.inner) (seen_of d.inner) in
+    let L : Recorded → Type 0 = λ d. may_leave_of d (seen_of c.stop.new.self) in
+    subst (λ (t : TrialValue). IfOk c.newest.result (LeavesMark t.image t.shape t.steps fails choice)) c.self.view_is
+    (leaves_newest c.one_reading.ensures.files image shape steps inside.listed.replies.items inside.marks.items c.self.invariant fails choice replies after
+    (subst E disk_is c.in_ok-disk.ensures.ended)
+    (λ files recovered left may. c.in_ok-disk.ensures.back tt (subst Q (sym disk_is) (only_first image)) files (subst (λ (d : Failing Recorded). RecoversTo (seen_of d.inner) files) (sym disk_is) recovered) left may)
+    (sym (ap (λ (d : Recorded). d.faults) inner_is) ∙ none)
+    c.stop.new.self (c.stop.ensures.stopped ∙ ap (λ (d : Recorded). after_stop d choice) inner_is) (subst L inner_is c.stop.ensures.left)
+    (map (λ v. v.items) c.in_ok-found.found.items) (c.in_ok-found.ensures tt) c.newest.result
+    c.deref-2.result.now c.deref-3.result.now c.deref-4.result.now (map (λ v. v.items) c.deref-5.result.now)
+    c.deref-2.ensures.value c.deref-3.ensures.value c.deref-4.ensures.value (ap (map (λ v. v.items)) c.deref-5.ensures.value)
+    c.newest.ensures)

@@ -1,0 +1,5 @@
+pub mod Disks
+pub mod Crashes
+pub mod Trials
+pub mod Rows
+pub mod inside

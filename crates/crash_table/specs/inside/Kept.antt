@@ -1,0 +1,95 @@
+-- The files that are kept of each mark of a run.
+use Rattle.std.specs.Prelude.{ℕ, ◌≡◌, ◌<◌, ◌≤◌, ◌+◌, Bool, false, true, ◌⊎◌, List, [], ◌∷◌, ◌++◌, length, take, map, slice_get, Some, Contains}
+use Rattle.device.specs.declared.device.Device.{Ghosts}
+use Rattle.volume_codec.specs.Files.{File}
+use Rattle.volume_codec.specs.Recovery.{RecoversTo}
+use Rattle.machine.specs.declared.act.Reply.{Reply}
+use Rattle.machine.specs.declared.act.Reply.TheVariants.{Marked, Stored, Resized, Committed}
+use Rattle.machine.specs.declared.act.Shape.{Shape}
+use Rattle.machine.specs.declared.act.Step.{Step}
+use Rattle.machine.specs.History.{Event, Mark, files_after}
+use Rattle.machine.specs.Runs.{StepsTaken}
+use Rattle.machine.specs.State.{Whole}
+use Rattle.crash_table.specs.declared.found.MarkFiles.{MarkFiles}
+use Rattle.crash_table.specs.Crashes.{history_of}
+
+-- the history up to the mark that the step of this index made, and with it
+abbrev pub up_to_mark : List File → Shape → List Step → List Reply → ℕ → ℕ → List Event
+up_to_mark files shape steps replies i number =
+    history_of files shape (take i steps) (take i replies) ++ Mark number ∷ []
+
+-- the bytes of each file, and those at that mark
+abbrev pub contents_of : List File → List (List ℕ)
+contents_of files = map (λ f. f.bytes) files
+
+abbrev pub bytes_at : List File → Shape → List Step → List Reply → ℕ → ℕ → List (List ℕ)
+bytes_at files shape steps replies i number =
+    contents_of (files_after files (up_to_mark files shape steps replies i number))
+
+-- whether a store or a change of length was answered that no mark has yet, after one reply more
+abbrev pub unmarked_by : Bool → Reply → Bool
+unmarked_by before Stored = true
+unmarked_by before Resized = true
+unmarked_by before (Marked number) = false
+unmarked_by before reply = before
+
+abbrev pub unmarked_after : Bool → List Reply → Bool
+unmarked_after before [] = before
+unmarked_after before (reply ∷ replies) = unmarked_after (unmarked_by before reply) replies
+
+-- A mark was written out: steps were made of which the last is answered that it is committed, and no other one that a
+-- mark was made.
+pub record HasCommitted {D : Type 0} (disk : Ghosts D) (old : Whole D) (number : ℕ) (new : Whole D) : Type 0 where
+  pub earlier : List Step
+  pub last : Step
+  pub going : List Reply
+  pub taken : StepsTaken disk old (earlier ++ last ∷ []) (going ++ Committed number ∷ []) new
+  pub unmarked : (i k : ℕ) → slice_get going i ≡ Some (Marked k) → ⊥
+
+-- A mark that was made after these replies is acknowledged: by steps that wrote it out, or at once.
+abbrev pub IsAcknowledged : {D : Type 0} → Ghosts D → Whole D → List Reply → ℕ → Whole D → Type 0
+IsAcknowledged disk old before number new = HasCommitted disk old number new
+    ⊎ ((unmarked_after false before ≡ false) × (new ≡ old))
+
+-- The steps up to the one of this index were made, and answered as in a run with these replies; its mark, whose number
+-- none before it has, is acknowledged.
+pub record HasWrittenOut {D : Type 0} (disk : Ghosts D) (old : Whole D) (steps : List Step) (replies : List Reply)
+    (at number : ℕ) (new : Whole D) : Type 0 where
+  pub below : at < length steps
+  pub is_new : (i : ℕ) → slice_get (take at replies) i ≡ Some (Marked number) → ⊥
+  pub told : List Reply
+  pub marked : Whole D
+  pub made : StepsTaken disk old (take (length told) (take (at + 1) steps)) told marked
+  pub same : told ≡ take (at + 1) replies
+  pub acknowledged : IsAcknowledged disk marked (take at replies) number new
+
+-- the files that are kept are those at the mark that the step of this index made in a run with these replies
+abbrev pub IsKept : {A : Type 0} → List File → Shape → List Step → List Reply → ℕ → MarkFiles A → Type 0
+IsKept files shape steps replies at kept = (number : ℕ) × (slice_get replies at ≡ Some (Marked number))
+    × (at < length steps)
+    × (map (λ v. v.items) kept.files.items ≡ bytes_at files shape steps replies at number)
+
+-- so it is of each mark that is kept
+abbrev pub AreKept : {A : Type 0} → List File → Shape → List Step → List Reply → List (MarkFiles A) → Type 0
+AreKept {A} files shape steps replies marks =
+    (kept : MarkFiles A) → Contains marks kept → IsKept files shape steps replies kept.step kept
+
+-- no mark from the step of this index on has files with these bytes
+abbrev pub NoneFrom : List File → Shape → List Step → List Reply → List (List ℕ) → ℕ → Type 0
+NoneFrom files shape steps replies bytes first = (i number : ℕ) → first ≤ i → slice_get replies i ≡ Some (Marked number)
+    → bytes ≡ bytes_at files shape steps replies i number → ⊥
+
+-- this is the newest mark whose files have these bytes, or 0, and no mark has
+abbrev pub IsNewest : List File → Shape → List Step → List Reply → List (List ℕ) → ℕ → Type 0
+IsNewest files shape steps replies bytes number =
+    ((number ≡ 0) × NoneFrom files shape steps replies bytes 0)
+    ⊎ ((at : ℕ) × (slice_get replies at ≡ Some (Marked number)) × (at < length steps)
+    × (bytes ≡ bytes_at files shape steps replies at number)
+    × NoneFrom files shape steps replies bytes (at + 1))
+
+-- the bytes recover to files, and the files that are kept of a run's marks are theirs
+pub record HasKept {A : Type 0} (image : List ℕ) (shape : Shape) (steps : List Step) (replies : List Reply)
+    (marks : List (MarkFiles A)) : Type 0 where
+  pub files : List File
+  pub before : RecoversTo image files
+  pub kept : AreKept files shape steps replies marks
