@@ -92,11 +92,11 @@ fn make_portion<D: Device, A: Allocator + Copy, L: Listener>(
 ///
 /// On an honest device each reply is by the rules and the laws of the machine. Whatever the steps are, also where
 /// device calls fail, what was stored survives (`HasRun.survives`): a crash within a step leaves what recovers to the
-/// volume's files after a prefix of the stores answered before it that is empty or ends at a mark and has every mark
-/// that was acknowledged; a crash after the last step, or none, by all of them. So it is after any number of further
-/// openings, each with a crash or none within and after it; and each opening answers exactly these files, or `Device`
-/// where a device call failed, or `OutOfMemory`, and never `NotAVolume` or `Damaged`. The same can be done again on the
-/// device that comes back, and on what a crash left of it.
+/// volume's files after a prefix of the stores and length changes answered before it that is empty or ends at a mark
+/// and has every mark that was acknowledged; a crash after the last step, or none, by all of them. So it is after any
+/// number of further openings, each with a crash or none within and after it; and each opening answers exactly these
+/// files, or `Device` where a device call failed, or `OutOfMemory`, and never `NotAVolume` or `Damaged`. The same can
+/// be done again on the device that comes back, and on what a crash left of it.
 ///
 /// A refusal as of `start`; nothing was told then.
 pub fn run<D: Device, A: Allocator + Copy, L: Listener>(
