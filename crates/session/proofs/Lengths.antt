@@ -1,5 +1,6 @@
 -- Steps by which the length of a file is set.
 use Rattle.std.proofs.Common.{◌≡◌, ◌⊎◌, inl, inr, ⊎_elim, ℕ, arith, Bool, true, false, List, [], ◌∷◌, ◌++◌, refl, ◌∙◌, sym, Contains}
+use Rattle.std.proofs.lemmas.Bool.{false≢true}
 use Rattle.std.proofs.lemmas.List.Elements.{Contains-append_cases, Contains-push_cases}
 use Rattle.device.specs.declared.device.Device.{Ghosts}
 use Rattle.machine.specs.declared.act.Act.{Act}
@@ -28,7 +29,7 @@ length_aside p file to (step ∷ steps) [] aside = absurd aside
 
 -- and it isn't the beginning
 aside_not_begun : (act : Act) (reply : Reply) → is_aside act reply ≡ true → begins_length act reply ≡ false
-aside_not_begun (SetLength file length) reply is = absurd is
+aside_not_begun (SetLength file length) reply is = absurd (false≢true is)
 aside_not_begun (Msync va len flags) reply is = refl
 aside_not_begun (Load va count) reply is = refl
 aside_not_begun (Store va bytes) reply is = refl
