@@ -1,5 +1,5 @@
 -- What a crash within a run leaves: the files at one of its marks.
-use Rattle.std.specs.Prelude.{ℕ, ◌≡◌, ◌⊎◌, ◌≤◌, List, [], ◌∷◌, ◌++◌, length, take}
+use Rattle.std.specs.Prelude.{ℕ, ◌≡◌, ◌⊎◌, ◌≤◌, ◌<◌, List, [], ◌∷◌, ◌++◌, length, take}
 use Rattle.device.specs.declared.device.Device.{Ghosts}
 use Rattle.device.specs.Failing.{Failing, failing}
 use Rattle.device.specs.Memory.{Recorded, new_disk, seen_of, may_leave_of, after_stop}
@@ -42,15 +42,16 @@ pub record IsAtMark (files : List File) (history : List Event) (found : List Fil
       → length other ≤ length prefix
 
 -- A run was made on a disk in memory with these bytes whose device call of one number fails (0: none), and no other
--- call failed. Then a crash left this choice in the places that were written and not synced, which is one of the
--- contents that it may leave. It recovers to the files at the mark of this number, by what can be read off the replies
--- before the call failed.
+-- call failed: up to that call, or to the end of the steps where it wasn't made. Then a crash left this choice in the
+-- places that were written and not synced, which is one of the contents that it may leave. It recovers to the files at
+-- the mark of this number, by what can be read off the replies before the call failed.
 pub record LeavesMark (image : List ℕ) (shape : Shape) (steps : List Step) (fails : ℕ) (choice : List ℕ)
     (number : ℕ) : Type 0 where
   pub replies : List Reply
   pub after : Failing Recorded
   pub ended : HasEnded failing_memory (failing (new_disk image) fails) shape steps replies after
   pub sound : after.inner.faults ≡ 0
+  pub up_to_call : (0 < after.faults) ⊎ (length replies ≡ length steps)
   pub left : may_leave_of after.inner (seen_of (after_stop after.inner choice))
   pub files : List File
   pub before : RecoversTo image files

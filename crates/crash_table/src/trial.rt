@@ -1,5 +1,5 @@
 // A run, made once to learn its calls, its replies and the files at its marks, and again for each crash.
-ghost use Rattle.std.specs.Prelude.{◌≡◌, ◌<◌, List, length, slice_get, Some, IfOk, OnOk};
+ghost use Rattle.std.specs.Prelude.{◌≡◌, ◌⊎◌, ◌<◌, IsTrue, List, length, slice_get, Some, IfOk, OnOk};
 ghost use Rattle.device.specs.Memory.{new_disk};
 ghost use Rattle.volume_codec.specs.Files.{File};
 ghost use Rattle.volume_codec.specs.Recovery.{RecoversTo};
@@ -143,8 +143,13 @@ impl<'a, A: Allocator + Copy> Trial<'a, A> {
     }
 
     // Whether a run with these replies is the first one up to the device call of this number, which fails, where there
-    // is one.
-    fn is_run_up_to(&self, fails: u64, failed: bool, replies: &[Reply]) -> bool {
+    // is one, and else up to its end.
+    fn is_run_up_to(&self, fails: u64, failed: bool, replies: &[Reply]) -> bool
+        ensures { IsTrue result → (IsTrue failed ⊎ (length replies.now ≡ length self.now.steps)) }
+    {
+        if !failed && replies.len() != self.plan.steps.len() {
+            return false;
+        }
         let before = self.replies_before(fails);
         let due = fails <= self.listed.calls.len() as u64;
         match (self.listed.replies.get(0..before), replies.get(0..before)) {

@@ -1,4 +1,5 @@
-use Rattle.std.proofs.Common.{◌≡◌, IfOk, map, ap, sym, subst, ◌∙◌, arith}
+use Rattle.std.proofs.Common.{◌≡◌, ◌⊎◌, inl, inr, ⊎_elim, ℕ, ◌<◌, length, IfOk, map, refl, ap, sym, subst, ◌∙◌, arith}
+use Rattle.std.proofs.lemmas.Bool.{ltb-true}
 use Rattle.device.specs.Device.{Only}
 use Rattle.device.specs.Failing.{Failing, failing}
 use Rattle.device.specs.Memory.{Recorded, new_disk, seen_of, may_leave_of, after_stop}
@@ -23,6 +24,10 @@ returns g c =
     let inner_is : inner ≡ after.inner = c.into_inner-disk.ensures in
     let disk_is : c.new-disk.result ≡ failing (new_disk image) fails = c.new-disk.ensures ∙ ap (λ (d : Recorded). failing d fails) c.in_ok-copy_of.ensures in
     let none : inner.faults ≡ 0 = omega (arith, c.faults.ensures, c.if-faults-gt0.false) in
+    let up : (0 < after.faults) ⊎ (length replies ≡ length steps) =
+        ⊎_elim (λ failed. inl (subst (λ (n : ℕ). 0 < n) c.faults-failed.ensures (ltb-true _ _ failed)))
+        (λ same. inr (ap length (sym c.deref.ensures.value) ∙ same ∙ sym (ap (λ (t : TrialValue). length t.steps) c.self.view_is)))
+        (c.if-not-is_run_up_to.ensures refl) in
     let E : Failing Recorded → Type 0 = λ d. HasEnded failing_memory d shape steps replies after in
     let Q : Failing Recorded → Type 0 = λ d. Only (may_leave_of d.inner) (seen_of d.inner) in
     let L : Recorded → Type 0 = λ d. may_leave_of d (seen_of c.stop.new.self) in
@@ -30,7 +35,7 @@ returns g c =
     (leaves_newest c.one_reading.ensures.files image shape steps inside.listed.replies.items inside.marks.items c.self.invariant fails choice replies after
     (subst E disk_is c.in_ok-disk.ensures.ended)
     (λ files recovered left may. c.in_ok-disk.ensures.back tt (subst Q (sym disk_is) (only_first image)) files (subst (λ (d : Failing Recorded). RecoversTo (seen_of d.inner) files) (sym disk_is) recovered) left may)
-    (sym (ap (λ (d : Recorded). d.faults) inner_is) ∙ none)
+    (sym (ap (λ (d : Recorded). d.faults) inner_is) ∙ none) up
     c.stop.new.self (c.stop.ensures.stopped ∙ ap (λ (d : Recorded). after_stop d choice) inner_is) (subst L inner_is c.stop.ensures.left)
     (map (λ v. v.items) c.in_ok-found.found.items) (c.in_ok-found.ensures tt) c.newest.result
     c.deref-2.result.now c.deref-3.result.now c.deref-4.result.now (map (λ v. v.items) c.deref-5.result.now)
