@@ -25,9 +25,9 @@ returns g c =
     let disk_is : c.new-disk.result ≡ failing (new_disk image) fails = c.new-disk.ensures ∙ ap (λ (d : Recorded). failing d fails) c.in_ok-copy_of.ensures in
     let none : inner.faults ≡ 0 = omega (arith, c.faults.ensures, c.if-faults-gt0.false) in
     let up : (0 < after.faults) ⊎ (length replies ≡ length steps) =
-        ⊎_elim (λ failed. inl (subst (λ (n : ℕ). 0 < n) c.faults-failed.ensures (ltb-true _ _ failed)))
-        (λ same. inr (ap length (sym c.deref.ensures.value) ∙ same ∙ sym (ap (λ (t : TrialValue). length t.steps) c.self.view_is)))
-        (c.if-not-is_run_up_to.ensures refl) in
+    ⊎_elim (λ failed. inl (subst (λ (n : ℕ). 0 < n) c.faults-failed.ensures (ltb-true _ _ failed)))
+    (λ same. inr (ap length (sym c.deref.ensures.value) ∙ same ∙ sym (ap (λ (t : TrialValue). length t.steps) c.self.view_is)))
+    (c.if-not-is_run_up_to.ensures refl) in
     let E : Failing Recorded → Type 0 = λ d. HasEnded failing_memory d shape steps replies after in
     let Q : Failing Recorded → Type 0 = λ d. Only (may_leave_of d.inner) (seen_of d.inner) in
     let L : Recorded → Type 0 = λ d. may_leave_of d (seen_of c.stop.new.self) in
