@@ -214,23 +214,27 @@ module _ {D : Type 0} (disk : Ghosts D) where
       subst P is here.answered.2
 
   change_aside : (p : ℕ) (answer : Reply) (old new : Whole D) (steps : List Step) (replies : List Reply) → held_for takes_out (lock_of old.state) ≡ true → AnswersChange p answer steps replies → StepsTaken disk old steps replies new → AreAside steps replies
-  change_aside p answer old new (step ∷ steps) (reply ∷ replies) held (inl (is, more)) (mid, here, taken) =
-      (subst (λ (a : Act). is_aside a reply ≡ true) (sym is) refl,
-      change_aside p answer mid new steps replies (ap (held_for takes_out) (stall_keeps old mid step reply is here) ∙ held) more taken)
-  change_aside p answer old new (step ∷ steps) (reply ∷ replies) held (inr (is, told, resumes)) (mid, here, taken) =
-      (subst (λ (s : Step). is_aside s.act reply ≡ true) (sym is) (change_of_reclaim old.state here.answered.0 p reply mid.state here.answered.1 held (change_taken old mid p step reply is here)),
-      all_aside acts.Resume (λ r. refl) steps replies resumes)
+  change_aside p answer old new (step ∷ steps) (reply ∷ replies) held (inl (is, more)) (mid, here, taken) = (
+    subst (λ (a : Act). is_aside a reply ≡ true) (sym is) refl,
+    change_aside p answer mid new steps replies (ap (held_for takes_out) (stall_keeps old mid step reply is here) ∙ held) more taken,
+  )
+  change_aside p answer old new (step ∷ steps) (reply ∷ replies) held (inr (is, told, resumes)) (mid, here, taken) = (
+    subst (λ (s : Step). is_aside s.act reply ≡ true) (sym is) (change_of_reclaim old.state here.answered.0 p reply mid.state here.answered.1 held (change_taken old mid p step reply is here)),
+    all_aside acts.Resume (λ r. refl) steps replies resumes,
+  )
   change_aside p answer old new [] [] held it taken = absurd it
   change_aside p answer old new [] (reply ∷ replies) held it taken = absurd it
   change_aside p answer old new (step ∷ steps) [] held it taken = absurd it
 
   change_of_commit : (p : ℕ) (answer : Reply) (old new : Whole D) (steps : List Step) (replies : List Reply) → held_for makes_mark (lock_of old.state) ≡ true → AnswersChange p answer steps replies → StepsTaken disk old steps replies new → AreOfCommit steps replies
-  change_of_commit p answer old new (step ∷ steps) (reply ∷ replies) held (inl (is, more)) (mid, here, taken) =
-      (subst (λ (a : Act). is_of_commit a reply ≡ true) (sym is) refl,
-      change_of_commit p answer mid new steps replies (ap (held_for makes_mark) (stall_keeps old mid step reply is here) ∙ held) more taken)
-  change_of_commit p answer old new (step ∷ steps) (reply ∷ replies) held (inr (is, told, resumes)) (mid, here, taken) =
-      (subst (λ (s : Step). is_of_commit s.act reply ≡ true) (sym is) (change_of_mark old.state here.answered.0 p reply mid.state here.answered.1 held (change_taken old mid p step reply is here)),
-      all_of_commit acts.Resume (λ r. refl) steps replies resumes)
+  change_of_commit p answer old new (step ∷ steps) (reply ∷ replies) held (inl (is, more)) (mid, here, taken) = (
+    subst (λ (a : Act). is_of_commit a reply ≡ true) (sym is) refl,
+    change_of_commit p answer mid new steps replies (ap (held_for makes_mark) (stall_keeps old mid step reply is here) ∙ held) more taken,
+  )
+  change_of_commit p answer old new (step ∷ steps) (reply ∷ replies) held (inr (is, told, resumes)) (mid, here, taken) = (
+    subst (λ (s : Step). is_of_commit s.act reply ≡ true) (sym is) (change_of_mark old.state here.answered.0 p reply mid.state here.answered.1 held (change_taken old mid p step reply is here)),
+    all_of_commit acts.Resume (λ r. refl) steps replies resumes,
+  )
   change_of_commit p answer old new [] [] held it taken = absurd it
   change_of_commit p answer old new [] (reply ∷ replies) held it taken = absurd it
   change_of_commit p answer old new (step ∷ steps) [] held it taken = absurd it
@@ -265,7 +269,7 @@ module _ {D : Type 0} (disk : Ghosts D) where
       let next = made.taken.0 in
       let P : Reply → Type 0 = λ r. Acts old.state here.answered.0 p (acts.Reclaim file page) r next.state here.answered.1 in
       let held : held_for takes_out (lock_of mid.state) ≡ true =
-          ap (λ (m : Whole D). held_for takes_out (lock_of m.state)) made.taken.2 ∙ reclaim_begun old.state here.answered.0 p file page next.state here.answered.1 (subst P (begun_is begun is) here.answered.2) in
+      ap (λ (m : Whole D). held_for takes_out (lock_of m.state)) made.taken.2 ∙ reclaim_begun old.state here.answered.0 p file page next.state here.answered.1 (subst P (begun_is begun is) here.answered.2) in
       record {
         steps = record { p = p; act = acts.Reclaim file page } ∷ changes.steps;
         replies = begun ∷ changes.replies;
