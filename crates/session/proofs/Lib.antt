@@ -1,3 +1,4 @@
 pub mod Stretches
 pub mod Pieces
 pub mod Lengths
+pub mod Writing
