@@ -1,6 +1,7 @@
 -- The lines that answer requests: what is written, one thing after the other, and what it says.
 use Rattle.std.proofs.Common.{◌≡◌, ◌⊎◌, inl, inr, ℕ, zero, suc, ◌+◌, ◌<◌, ◌≤◌, List, [], ◌∷◌, ◌++◌, length, length-append, take, get_or, Option, Some, None, Result, Ok, Err, OnOk, IsOk, IfOk, IfErr, is_ok, codes, refl, sym, ◌∙◌, ap, subst, arith}
 use Rattle.std.proofs.lemmas.List.{append_assoc, append-nil, take_more, take_all}
+use Rattle.std.proofs.lemmas.Result.{on_ok_weaker}
 use Rattle.std.specs.Io.KnownBytes.{Appends, Keeps}
 use Rattle.hex.specs.Hex.{encode_with, encode_lower}
 use Rattle.device.specs.declared.device.Device.{Ghosts}
@@ -172,17 +173,13 @@ line_refused disk old before line cause a b why (not, (text, wrote)) =
     record { steps = []; replies = []; makes = makes_none disk old before; holds = (codes "badline " ++ text, inl (asks_nothing line cause why not, (text, refl, refl, refl)), wrote) }
 
 -- the same, and then nothing
-pub keeps_none : (known : Option (List ℕ)) → Keeps known known
-keeps_none None = tt
-keeps_none (Some bytes) = refl
-
-pub appends_kept : (a b c : Option (List ℕ)) (bytes : List ℕ) → Appends a b bytes → Keeps b c → Appends a c bytes
+appends_kept : (a b c : Option (List ℕ)) (bytes : List ℕ) → Appends a b bytes → Keeps b c → Appends a c bytes
 appends_kept None b c bytes wrote kept = tt
 appends_kept (Some old) None c bytes wrote kept = absurd wrote
 appends_kept (Some old) (Some mid) None bytes wrote kept = absurd kept
 appends_kept (Some old) (Some mid) (Some new) bytes wrote kept = kept ∙ wrote
 
-pub on_ok_at : {T E P : Type 0} (result : Result T E) → IsOk result → OnOk result P → P
+on_ok_at : {T E P : Type 0} (result : Result T E) → IsOk result → OnOk result P → P
 on_ok_at (Ok x) is holds = holds
 on_ok_at (Err e) is holds = absurd (cc)
 
@@ -221,7 +218,7 @@ pub answers_none : {D : Type 0} (disk : Ghosts D) (old : Whole D) (before : Note
 answers_none disk old before a = record { steps = []; replies = []; makes = makes_none disk old before; holds = ([], [], (refl, refl, refl), appends_none a) }
 
 -- one line
-pub answers_one : {D : Type 0} (disk : Ghosts D) (old new : Whole D) (before after : Notes) (line : List ℕ) (a b c : Option (List ℕ)) → MakesStepsThat disk old before (WritesAnswerOf before line a b) new after → Keeps b c
+answers_one : {D : Type 0} (disk : Ghosts D) (old new : Whole D) (before after : Notes) (line : List ℕ) (a b c : Option (List ℕ)) → MakesStepsThat disk old before (WritesAnswerOf before line a b) new after → Keeps b c
     → MakesStepsThat disk old before (WritesAnswers before a c) new after
 answers_one disk old new before after line a b c it kept =
     record {
@@ -237,7 +234,7 @@ answers_one disk old new before after line a b c it kept =
     }
 
 -- one line that is too long
-pub answers_bad : {D : Type 0} (disk : Ghosts D) (old : Whole D) (before : Notes) (a b c : Option (List ℕ)) → ((text : List ℕ) × Appends a b (codes "badline " ++ text ++ 10 ∷ [])) → Keeps b c
+answers_bad : {D : Type 0} (disk : Ghosts D) (old : Whole D) (before : Notes) (a b c : Option (List ℕ)) → ((text : List ℕ) × Appends a b (codes "badline " ++ text ++ 10 ∷ [])) → Keeps b c
     → MakesStepsThat disk old before (WritesAnswers before a c) old before
 answers_bad disk old before a b c (text, wrote) kept =
     let answer : List ℕ = codes "badline " ++ text in
@@ -252,6 +249,15 @@ answers_bad disk old before a b c (text, wrote) kept =
         appends_kept a b c (answer ++ 10 ∷ []) wrote kept,
       );
     }
+
+-- and the output was flushed after it
+pub line_flushed : {D S T E F : Type 0} (disk : Ghosts D) (old new : Whole D) (before after : Notes) (line : List ℕ) (a b c : Option (List ℕ)) (written : Result S E) (flushed : Result T F) → OnOk written (MakesStepsThat disk old before (WritesAnswerOf before line a b) new after)
+    → OnOk flushed (IsOk written × Keeps b c) → OnOk flushed (MakesStepsThat disk old before (WritesAnswers before a c) new after)
+line_flushed disk old new before after line a b c written flushed told is = on_ok_weaker flushed (λ kept. answers_one disk old new before after line a b c (on_ok_at written kept.0 told) kept.1) is
+
+pub bad_flushed : {D S T E F : Type 0} (disk : Ghosts D) (old : Whole D) (before : Notes) (cause : RequestFault) (a b c : Option (List ℕ)) (written : Result S E) (flushed : Result T F)
+    → OnOk written (¬ (IsMemory cause) × ((text : List ℕ) × Appends a b (codes "badline " ++ text ++ 10 ∷ []))) → OnOk flushed (IsOk written × Keeps b c) → OnOk flushed (MakesStepsThat disk old before (WritesAnswers before a c) old before)
+bad_flushed disk old before cause a b c written flushed told is = on_ok_weaker flushed (λ kept. answers_bad disk old before a b c (on_ok_at written kept.0 told).1 kept.1) is
 
 -- lines after lines
 pub answers_then : {D : Type 0} (disk : Ghosts D) (old mid new : Whole D) (before between after : Notes) (a b c : Option (List ℕ)) → MakesStepsThat disk old before (WritesAnswers before a b) mid between
