@@ -2,3 +2,4 @@ pub mod Stretches
 pub mod Pieces
 pub mod Changes
 pub mod Lengths
+pub mod Writing

@@ -1,6 +1,7 @@
 -- The line that answers a request, without its line feed, and what was done for it.
-use Rattle.std.specs.Prelude.{ℕ, ◌≡◌, ◌⊎◌, List, [], ◌∷◌, ◌++◌, length, Contains, Some, None, Result, Ok, Err, codes}
+use Rattle.std.specs.Prelude.{ℕ, zero, suc, ◌≡◌, ◌⊎◌, List, [], ◌∷◌, ◌++◌, length, Contains, Option, Some, None, Result, Ok, Err, codes, IsUtf8}
 use Rattle.std.specs.Fmt.{decimal}
+use Rattle.std.specs.Io.KnownBytes.{Appends}
 use Rattle.hex.specs.Hex.{encode_lower}
 use Rattle.machine.specs.declared.act.Reply.{Reply}
 use Rattle.machine.specs.declared.act.Step.{Step}
@@ -9,6 +10,7 @@ use Rattle.session.specs.declared.notes.Notes.{Notes}
 use Rattle.session.specs.declared.ranges.Reached.{Reached}
 use Rattle.session.specs.declared.ranges.Reached.TheVariants.{All, Refused, NoMemory}
 use Rattle.session.specs.Lengths.{AnswersLength}
+use Rattle.session.specs.Notes.{noted_all}
 use Rattle.session.specs.Ranges.{LoadsReached, StoresReached}
 use Rattle.session.specs.Requests.{Asked, asks_steps, asks_load, asks_store, asks_commit, asks_length, request_in}
 use Rattle.session.specs.Steps.{AreOfCommit, IsMarkDurable}
@@ -19,9 +21,24 @@ steps_text [] = []
 steps_text (reply ∷ []) = reply_text reply
 steps_text (reply ∷ replies) = reply_text reply ++ codes "; " ++ steps_text replies
 
+-- the reply of a step after so many others
+abbrev pub reply_after : ℕ → Reply → List ℕ
+reply_after zero reply = reply_text reply
+reply_after (suc number) reply = codes "; " ++ reply_text reply
+
 -- the reply of the step at which a range ended, and how many bytes of it came before
 abbrev pub refusal_text : Reply → ℕ → List ℕ
 refusal_text reply count = reply_text reply ++ codes " after " ++ decimal count
+
+-- the range was loaded, or so far
+abbrev pub reached_text : Reached → List ℕ
+reached_text (Refused count reply) = refusal_text reply count
+reached_text _ = codes "loaded"
+
+-- a text after a space, if there is any
+abbrev pub text_after_space : List ℕ → List ℕ
+text_after_space [] = []
+text_after_space text = 32 ∷ text
 
 -- the hexadecimal digits of bytes after a space, if there are any
 abbrev pub digits_text : List ℕ → List ℕ
@@ -62,6 +79,15 @@ Answers before (asks_commit p) answer steps replies =
 Answers before (asks_length p file to) answer steps replies =
     (reply : Reply) × AnswersLength p file to reply steps replies × (answer ≡ reply_text reply)
 
+-- What was asked for was done and answered: a line was written for it.
+abbrev pub WritesAnswer : Notes → Asked → Option (List ℕ) → Option (List ℕ) → List Step → List Reply → Type 0
+WritesAnswer before what old new steps replies =
+    (answer : List ℕ) × Answers before what answer steps replies × Appends old new (answer ++ 10 ∷ [])
+
+-- a line that isn't UTF-8, or is no request
+abbrev pub AsksNothing : List ℕ → Type 0
+AsksNothing line = (request_in line ≡ None) ⊎ ¬ (IsUtf8 line)
+
 -- A line that asks for nothing is a bad one, and no step is made for it.
 abbrev pub IsBad : List ℕ → List Step → List Reply → Type 0
 IsBad answer steps replies =
@@ -70,5 +96,29 @@ IsBad answer steps replies =
 -- A line was answered so, by what it asks for.
 abbrev pub IsAnswered : Notes → List ℕ → List ℕ → List Step → List Reply → Type 0
 IsAnswered before line answer steps replies =
-    ((request_in line ≡ None) × IsBad answer steps replies)
+    (AsksNothing line × IsBad answer steps replies)
     ⊎ ((what : Asked) × (request_in line ≡ Some what) × Answers before what answer steps replies)
+
+-- A line was answered, and the answer was written as a line.
+abbrev pub WritesAnswerOf : Notes → List ℕ → Option (List ℕ) → Option (List ℕ) → List Step → List Reply → Type 0
+WritesAnswerOf before line old new steps replies =
+    (answer : List ℕ) × IsAnswered before line answer steps replies × Appends old new (answer ++ 10 ∷ [])
+
+-- So was one line more. One that is too long isn't known, and is a bad one.
+abbrev pub IsAnsweredNext : Notes → Option (List ℕ) → List ℕ → List Step → List Reply → Type 0
+IsAnsweredNext before (Some line) answer steps replies = IsAnswered before line answer steps replies
+IsAnsweredNext before None answer steps replies = IsBad answer steps replies
+
+-- Lines were answered in order, each by the steps after those of the lines before it; the text has the answer to each,
+-- and a line feed after it.
+abbrev pub AreAnswered : Notes → List (Option (List ℕ)) → List ℕ → List Step → List Reply → Type 0
+AreAnswered before [] text steps replies = (text ≡ []) × (steps ≡ []) × (replies ≡ [])
+AreAnswered before (line ∷ lines) text steps replies =
+    (answer rest : List ℕ) × (first later : List Step) × (told more : List Reply)
+    × IsAnsweredNext before line answer first told × AreAnswered (noted_all before told) lines rest later more
+    × (text ≡ answer ++ 10 ∷ rest) × (steps ≡ first ++ later) × (replies ≡ told ++ more)
+
+-- Lines were answered, and the answers were written as lines.
+abbrev pub WritesAnswers : Notes → Option (List ℕ) → Option (List ℕ) → List Step → List Reply → Type 0
+WritesAnswers before old new steps replies = (lines : List (Option (List ℕ))) × (text : List ℕ)
+    × AreAnswered before lines text steps replies × Appends old new text
