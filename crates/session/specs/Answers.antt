@@ -21,7 +21,7 @@ steps_text [] = []
 steps_text (reply ∷ []) = reply_text reply
 steps_text (reply ∷ replies) = reply_text reply ++ codes "; " ++ steps_text replies
 
--- the reply of a step after so many others
+-- what the reply of a step adds to those of so many steps before it
 abbrev pub reply_after : ℕ → Reply → List ℕ
 reply_after zero reply = reply_text reply
 reply_after (suc number) reply = codes "; " ++ reply_text reply
@@ -30,7 +30,7 @@ reply_after (suc number) reply = codes "; " ++ reply_text reply
 abbrev pub refusal_text : Reply → ℕ → List ℕ
 refusal_text reply count = reply_text reply ++ codes " after " ++ decimal count
 
--- the range was loaded, or so far
+-- that a range was loaded, or how far
 abbrev pub reached_text : Reached → List ℕ
 reached_text (Refused count reply) = refusal_text reply count
 reached_text _ = codes "loaded"
@@ -104,7 +104,7 @@ abbrev pub WritesAnswerOf : Notes → List ℕ → Option (List ℕ) → Option 
 WritesAnswerOf before line old new steps replies =
     (answer : List ℕ) × IsAnswered before line answer steps replies × Appends old new (answer ++ 10 ∷ [])
 
--- So was one line more. One that is too long isn't known, and is a bad one.
+-- One line was answered. A line that is too long is a bad one; of what it asks for nothing is said.
 abbrev pub IsAnsweredNext : Notes → Option (List ℕ) → List ℕ → List Step → List Reply → Type 0
 IsAnsweredNext before (Some line) answer steps replies = IsAnswered before line answer steps replies
 IsAnsweredNext before None answer steps replies = IsBad answer steps replies

@@ -28,8 +28,8 @@ use std::io::BufRead;
 /// However the session ends, its steps and their replies are a run over the device that the machine was started over,
 /// with all that holds of one: after a crash, and after none, what was stored survives (`HasRun`).
 ///
-/// Where it answers `Ok`, what was written is a line for each line that was answered, in order: all was done that this
-/// one asks for, by steps after those of the lines before it, and it says what came of it (`WritesAnswers`).
+/// Where it answers `Ok`, it has written one line for each line that it answered, in their order: what that one asks
+/// for was done by steps after those of the lines before it, and the answer says what came of it (`WritesAnswers`).
 pub fn serve_on<D: Device, A: Allocator + Copy, I: BufRead, W: io::Write>(
     global: Global,
     alloc: A,
@@ -92,7 +92,7 @@ fn serve_next<D: Device, A: Allocator + Copy, I: BufRead, W: io::Write>(
         Ok(Line::Long) => {
             let told = write_bad(alloc, &RequestFault::Long(MOST_OF_LINE), out);
             flushed(told, out)
-        },
+        }
         Ok(Line::Whole) => {
             let served = serve_line(global, alloc, session, line, out);
             flushed(served, out)
@@ -104,8 +104,8 @@ fn serve_next<D: Device, A: Allocator + Copy, I: BufRead, W: io::Write>(
 /// Answers a line, without its line feed, by one line: carries out the request that it is, and nothing else; or says
 /// why it is none, and makes no step.
 ///
-/// Where it answers `Ok`, all was done that the line asks for, and the line that was written says what came of it, and
-/// no more.
+/// Where it answers `Ok`, all was done that the line asks for, as far as the machine does it, and the line that was
+/// written says what came of it, and no more.
 pub fn serve_line<D: Device, A: Allocator + Copy, W: io::Write>(
     global: Global,
     alloc: A,
@@ -125,8 +125,8 @@ pub fn serve_line<D: Device, A: Allocator + Copy, W: io::Write>(
     }
 }
 
-// Writes why a line is no request, unless that is that memory was refused. The text of the cause is made before the
-// line is begun.
+// Writes why a line is no request. Where that is that memory was refused, there is no answer. The text of the cause is
+// made before any of the line is written.
 fn write_bad<A: Allocator + Copy, W: io::Write>(
     alloc: A,
     cause: &RequestFault,
