@@ -1,5 +1,5 @@
 -- The lines that answer requests: what is written, one thing after the other, and what it says.
-use Rattle.std.proofs.Common.{◌≡◌, ◌⊎◌, inl, inr, ℕ, zero, suc, ◌+◌, ◌<◌, ◌≤◌, List, [], ◌∷◌, ◌++◌, length, length-append, take, get_or, Option, Some, None, Result, Ok, Err, OnOk, IsOk, IfOk, IfErr, is_ok, codes, refl, sym, ◌∙◌, ap, subst, arith}
+use Rattle.std.proofs.Common.{◌≡◌, ◌⊎◌, inl, inr, ℕ, ◌+◌, ◌<◌, ◌≤◌, List, [], ◌∷◌, ◌++◌, length, length-append, take, get_or, Option, Some, None, Result, Ok, Err, OnOk, IsOk, IfOk, IfErr, is_ok, codes, refl, sym, ◌∙◌, ap, subst, arith}
 use Rattle.std.proofs.lemmas.List.{append_assoc, append-nil, take_more, take_all}
 use Rattle.std.proofs.lemmas.Result.{on_ok_weaker}
 use Rattle.std.specs.Io.KnownBytes.{Appends, Keeps}

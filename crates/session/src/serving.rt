@@ -28,8 +28,8 @@ use std::io::BufRead;
 /// However the session ends, its steps and their replies are a run over the device that the machine was started over,
 /// with all that holds of one: after a crash, and after none, what was stored survives (`HasRun`).
 ///
-/// Where it answers `Ok`, it has written one line for each line that it answered, in their order: what that one asks for
-/// was done by steps after those of the lines before it, and the answer says what came of it (`WritesAnswers`).
+/// Where it answers `Ok`, it has written one line for each line that it answered, in their order: what that one asks
+/// for was done by steps after those of the lines before it, and the answer says what came of it (`WritesAnswers`).
 pub fn serve_on<D: Device, A: Allocator + Copy, I: BufRead, W: io::Write>(
     global: Global,
     alloc: A,
