@@ -1,3 +1,5 @@
 pub mod Stretches
 pub mod Pieces
+pub mod Changes
 pub mod Lengths
+pub mod Writing

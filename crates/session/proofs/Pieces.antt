@@ -10,8 +10,8 @@ use Rattle.machine.specs.State.{Whole}
 use Rattle.session.specs.declared.notes.Notes.{Notes}
 use Rattle.session.specs.declared.ranges.Reached.TheVariants.{All, Refused, NoMemory}
 use Rattle.session.specs.Ranges.{MakesStepsThat, LoadsRange, LoadsReached, StoresRange, StoresReached}
-use Rattle.session.specs.Steps.{Makes, is_aside, behind, EndsAt, AreLoads, AreStores}
-use Rattle.session.specs.inside.Aside.{AreAside, AnswersAfter, StopsAt}
+use Rattle.session.specs.Steps.{Makes, is_aside, AreAside, behind, EndsAt, AreLoads, AreStores}
+use Rattle.session.specs.inside.Aside.{AnswersAfter, StopsAt}
 use Rattle.session.specs.inside.Made.{HasMade}
 use Rattle.session.proofs.Stretches.{makes_none, makes_then}
 

@@ -4,8 +4,6 @@ use Rattle.std.proofs.lemmas.Bool.Decides.{nat_tests}
 use Rattle.std.proofs.lemmas.List.{append-nil}
 use Rattle.std.proofs.lemmas.List.Elements.{Contains-append_left, Contains-append_right, Contains-push}
 use Rattle.device.specs.declared.device.Device.{Ghosts}
-use Rattle.machine.specs.declared.act.Act.{Act}
-use Rattle.machine.specs.declared.act.Act.TheVariants.{Load, Store, Fill, Evict, Switch, Idle, Wake, Fix, Create, Destroy, Map, Unmap, Protect, Reclaim, Msync, SetLength, Ack, Change, Resume, Flush}
 use Rattle.machine.specs.declared.act.Reply.{Reply}
 use Rattle.machine.specs.declared.act.Reply.TheVariants.{Marked, Committed}
 use Rattle.machine.specs.declared.act.Step.{Step}
@@ -13,8 +11,9 @@ use Rattle.machine.specs.State.{Whole}
 use Rattle.machine.specs.Runs.{StepTaken, StepsTaken}
 use Rattle.session.specs.declared.notes.Notes.{Notes}
 use Rattle.session.specs.Notes.{noted_after, noted_all}
-use Rattle.session.specs.Steps.{Makes, Says, is_aside, is_of_commit, AreOfCommit, may_end, EndsAt, IsMarkDurable, CommitsMark}
-use Rattle.session.specs.inside.Aside.{AreAside, GoesAside, IsTold, StopsAt, AnswersAfter}
+use Rattle.session.specs.Ranges.{MakesStepsThat}
+use Rattle.session.specs.Steps.{Makes, Says, is_aside, is_of_commit, AreAside, AreOfCommit, may_end, EndsAt, IsMarkDurable, CommitsMark}
+use Rattle.session.specs.inside.Aside.{GoesAside, IsTold, StopsAt, AnswersAfter}
 use Rattle.session.specs.inside.Made.{HasMade, GoesOn}
 
 noted_then : (before : Notes) (replies more : List Reply) → noted_all before (replies ++ more) ≡ noted_all (noted_all before replies) more
@@ -39,7 +38,7 @@ makes_then disk old mid new before between after steps replies steps' replies' f
   notes = later.notes ∙ ap (λ n. noted_all n replies') first.notes ∙ sym (noted_then before replies replies');
 }
 
-aside_all : (steps : List Step) (replies : List Reply) (steps' : List Step) (replies' : List Reply) → AreAside steps replies → AreAside steps' replies' → AreAside (steps ++ steps') (replies ++ replies')
+pub aside_all : (steps : List Step) (replies : List Reply) (steps' : List Step) (replies' : List Reply) → AreAside steps replies → AreAside steps' replies' → AreAside (steps ++ steps') (replies ++ replies')
 aside_all [] [] steps' replies' first later = later
 aside_all (step ∷ steps) (reply ∷ replies) steps' replies' first later = (first.0, aside_all steps replies steps' replies' first.1 later)
 aside_all [] (reply ∷ replies) steps' replies' first later = absurd first
@@ -51,35 +50,6 @@ commit_all [] [] steps' replies' first later = later
 commit_all (step ∷ steps) (reply ∷ replies) steps' replies' first later = (first.0, commit_all steps replies steps' replies' first.1 later)
 commit_all [] (reply ∷ replies) steps' replies' first later = absurd first
 commit_all (step ∷ steps) [] steps' replies' first later = absurd first
-
-aside_is_of_commit : (act : Act) (reply : Reply) → is_aside act reply ≡ true → is_of_commit act reply ≡ true
-aside_is_of_commit (Msync va len flags) reply is = refl
-aside_is_of_commit (Load va count) reply is = is
-aside_is_of_commit (Store va bytes) reply is = is
-aside_is_of_commit (Fill page) reply is = is
-aside_is_of_commit (Evict slot) reply is = is
-aside_is_of_commit (Switch space keep) reply is = is
-aside_is_of_commit Idle reply is = is
-aside_is_of_commit Wake reply is = is
-aside_is_of_commit (Fix va write) reply is = is
-aside_is_of_commit Create reply is = is
-aside_is_of_commit (Destroy space) reply is = is
-aside_is_of_commit (Map space va len file offset prot access) reply is = is
-aside_is_of_commit (Unmap space va len) reply is = is
-aside_is_of_commit (Protect space va len prot) reply is = is
-aside_is_of_commit (Reclaim file page) reply is = is
-aside_is_of_commit (SetLength file length) reply is = is
-aside_is_of_commit Ack reply is = is
-aside_is_of_commit Change reply is = is
-aside_is_of_commit Resume reply is = is
-aside_is_of_commit Flush reply is = is
-
--- what reads and stores nothing may be part of a commit
-commit_aside : (steps : List Step) (replies : List Reply) → AreAside steps replies → AreOfCommit steps replies
-commit_aside [] [] aside = aside
-commit_aside (step ∷ steps) (reply ∷ replies) aside = (aside_is_of_commit step.act reply aside.0, commit_aside steps replies aside.1)
-commit_aside [] (reply ∷ replies) aside = absurd aside
-commit_aside (step ∷ steps) [] aside = absurd aside
 
 -- what ends a range, before and after other steps
 pub ends_before : (p at : ℕ) (reply : Reply) (steps : List Step) (replies : List Reply) (steps' : List Step) (replies' : List Reply) → EndsAt p at reply steps replies → EndsAt p at reply (steps ++ steps') (replies ++ replies')
@@ -94,6 +64,27 @@ ends_later p at reply [] [] steps' replies' aside ended = ended
 ends_later p at reply (step ∷ steps) (other ∷ replies) steps' replies' aside ended = inr (ends_later p at reply steps replies steps' replies' aside.1 ended)
 ends_later p at reply [] (other ∷ replies) steps' replies' aside ended = absurd aside
 ends_later p at reply (step ∷ steps) [] steps' replies' aside ended = absurd aside
+
+-- ---- steps of which something holds
+
+pub does_one : {D : Type 0} (disk : Ghosts D) (old new : Whole D) (before after : Notes) (what : List Step → List Reply → Type 0) (step : Step) (reply : Reply) → what (step ∷ []) (reply ∷ []) → Makes disk old before (step ∷ []) (reply ∷ []) new after → MakesStepsThat disk old before what new after
+does_one disk old new before after what step reply holds made = record { steps = step ∷ []; replies = reply ∷ []; makes = made; holds = holds }
+
+-- and then others, by what holds of both
+pub does_then : {D : Type 0} (disk : Ghosts D) (old mid new : Whole D) (before between after : Notes) (what then both : List Step → List Reply → Type 0)
+    → ((steps : List Step) (replies : List Reply) (steps' : List Step) (replies' : List Reply) → what steps replies → then steps' replies' → both (steps ++ steps') (replies ++ replies'))
+    → MakesStepsThat disk old before what mid between → MakesStepsThat disk mid between then new after → MakesStepsThat disk old before both new after
+does_then disk old mid new before between after what then both holds first later = record {
+  steps = first.steps ++ later.steps;
+  replies = first.replies ++ later.replies;
+  makes = makes_then disk old mid new before between after first.steps first.replies later.steps later.replies first.makes later.makes;
+  holds = holds first.steps first.replies later.steps later.replies first.holds later.holds;
+}
+
+pub does_aside : {D : Type 0} (disk : Ghosts D) (old new : Whole D) (before after : Notes) → GoesAside disk old before new after → MakesStepsThat disk old before AreAside new after
+does_aside disk old new before after goes = record { steps = goes.steps; replies = goes.replies; makes = goes.makes; holds = goes.aside }
+
+-- ---- steps that read and store nothing
 
 -- no step
 pub aside_none : {D : Type 0} (disk : Ghosts D) (old : Whole D) (before : Notes) → GoesAside disk old before old before
@@ -209,8 +200,8 @@ commit_then disk old mid new before between after first later = record {
   of_commit = commit_all first.steps first.replies later.steps later.replies first.of_commit later.of_commit;
 }
 
-pub commit_told : {D : Type 0} (disk : Ghosts D) (old new : Whole D) (before after : Notes) (reply : Reply) → IsTold disk old before reply new after → GoesOn disk old before new after
-commit_told disk old new before after reply told = record { steps = told.steps; replies = told.replies; makes = told.makes; of_commit = commit_aside told.steps told.replies told.aside }
+pub does_goes_on : {D : Type 0} (disk : Ghosts D) (old new : Whole D) (before after : Notes) → GoesOn disk old before new after → MakesStepsThat disk old before AreOfCommit new after
+does_goes_on disk old new before after goes = record { steps = goes.steps; replies = goes.replies; makes = goes.makes; holds = goes.of_commit }
 
 pub commit_said : {D : Type 0} (disk : Ghosts D) (old new : Whole D) (before after : Notes) (reply : Reply) → Says disk old before reply new after → GoesOn disk old before new after
 commit_said disk old new before after reply said = record { steps = said.steps; replies = said.replies; makes = said.makes; of_commit = said.of_commit }
@@ -250,9 +241,6 @@ says_before disk old mid new before between after reply first later = record {
   told = Contains-append_left first.replies later.replies reply first.told;
 }
 
-pub says_told : {D : Type 0} (disk : Ghosts D) (old new : Whole D) (before after : Notes) (reply : Reply) → IsTold disk old before reply new after → Says disk old before reply new after
-says_told disk old new before after reply told = record { steps = told.steps; replies = told.replies; makes = told.makes; of_commit = commit_aside told.steps told.replies told.aside; told = told.told }
-
 pub made_said : {D : Type 0} (disk : Ghosts D) (old new : Whole D) (before after : Notes) (reply : Reply) → Says disk old before reply new after → HasMade disk old before new after
 made_said disk old new before after reply said = record { steps = said.steps; replies = said.replies; makes = said.makes }
 
@@ -260,13 +248,13 @@ pub made_told : {D : Type 0} (disk : Ghosts D) (old new : Whole D) (before after
 made_told disk old new before after reply told = record { steps = told.steps; replies = told.replies; makes = told.makes }
 
 -- a mark before which nothing was stored that no mark had
-pub acknowledged_at_once : {D : Type 0} (disk : Ghosts D) (old mid new : Whole D) (before between after : Notes) (first-reply : Reply) (mark : ℕ) → Says disk old before first-reply mid between → IsTold disk mid between (Marked mark) new after
+pub acknowledged_at_once : {D : Type 0} (disk : Ghosts D) (old mid new : Whole D) (before between after : Notes) (first-reply : Reply) (mark : ℕ) → Says disk old before first-reply mid between → Says disk mid between (Marked mark) new after
     → between.has_unmarked ≡ false → CommitsMark disk old before mark new after
 acknowledged_at_once disk old mid new before between after first-reply mark first told none = record {
   steps = first.steps ++ told.steps;
   replies = first.replies ++ told.replies;
   makes = makes_then disk old mid new before between after first.steps first.replies told.steps told.replies first.makes told.makes;
-  of_commit = commit_all first.steps first.replies told.steps told.replies first.of_commit (commit_aside told.steps told.replies told.aside);
+  of_commit = commit_all first.steps first.replies told.steps told.replies first.of_commit told.of_commit;
   acknowledged = record {
     earlier = first.replies;
     during = told.replies;
@@ -278,14 +266,14 @@ acknowledged_at_once disk old mid new before between after first-reply mark firs
 }
 
 -- a mark that was committed after it was made
-pub acknowledged_later : {D : Type 0} (disk : Ghosts D) (old mid marked new : Whole D) (before between next after : Notes) (first-reply : Reply) (mark : ℕ) → Says disk old before first-reply mid between → IsTold disk mid between (Marked mark) marked next
+pub acknowledged_later : {D : Type 0} (disk : Ghosts D) (old mid marked new : Whole D) (before between next after : Notes) (first-reply : Reply) (mark : ℕ) → Says disk old before first-reply mid between → Says disk mid between (Marked mark) marked next
     → Says disk marked next (Committed mark) new after → CommitsMark disk old before mark new after
 acknowledged_later disk old mid marked new before between next after first-reply mark first told last = record {
   steps = (first.steps ++ told.steps) ++ last.steps;
   replies = (first.replies ++ told.replies) ++ last.replies;
   makes = makes_then disk old marked new before next after (first.steps ++ told.steps) (first.replies ++ told.replies) last.steps last.replies
       (makes_then disk old mid marked before between next first.steps first.replies told.steps told.replies first.makes told.makes) last.makes;
-  of_commit = commit_all (first.steps ++ told.steps) (first.replies ++ told.replies) last.steps last.replies (commit_all first.steps first.replies told.steps told.replies first.of_commit (commit_aside told.steps told.replies told.aside)) last.of_commit;
+  of_commit = commit_all (first.steps ++ told.steps) (first.replies ++ told.replies) last.steps last.replies (commit_all first.steps first.replies told.steps told.replies first.of_commit told.of_commit) last.of_commit;
   acknowledged = record {
     earlier = first.replies;
     during = told.replies;

@@ -9,7 +9,8 @@ use Rattle.session.specs.declared.request_fault.RequestFault.{RequestFault}
 use Rattle.session.specs.declared.request_fault.RequestFault.TheVariants as fault
 use Rattle.session.specs.Ranges.{LoadsReached, StoresReached}
 use Rattle.session.specs.Requests.{Asked, asks_steps, asks_load, asks_store, asks_commit, asks_length, request_in}
-use Rattle.session.specs.Steps.{AreOfCommit, AreOfLength}
+use Rattle.session.specs.Lengths.{AnswersLength}
+use Rattle.session.specs.Steps.{AreOfCommit}
 
 abbrev pub asked : {A : Type 0} → Request A → Asked
 asked (Steps steps) = asks_steps steps.items
@@ -44,7 +45,7 @@ IsDoneFor (asks_load p va count) steps replies =
     (bytes : List ℕ) × (reached : Reached) × LoadsReached p va count bytes reached steps replies
 IsDoneFor (asks_store p va bytes) steps replies = (reached : Reached) × StoresReached p va bytes reached steps replies
 IsDoneFor (asks_commit p) steps replies = AreOfCommit steps replies
-IsDoneFor (asks_length p file length) steps replies = AreOfLength p file length steps replies
+IsDoneFor (asks_length p file length) steps replies = (reply : Reply) × AnswersLength p file length reply steps replies
 
 -- What was done for a line: nothing, or what it asks for.
 abbrev pub IsServedFor : List ℕ → List Step → List Reply → Type 0

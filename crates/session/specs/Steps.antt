@@ -2,9 +2,9 @@
 use Rattle.std.specs.Prelude.{ℕ, ◌≡◌, ◌⊎◌, ◌+◌, ◌-◌, ◌^◌, ◌==◌, ◌&&◌, min, Bool, true, false, not, ⊤, List, [], ◌∷◌, ◌++◌, length, Contains}
 use Rattle.device.specs.declared.device.Device.{Ghosts}
 use Rattle.machine.specs.declared.act.Act.{Act}
-use Rattle.machine.specs.declared.act.Act.TheVariants.{Load, Store, Fix, Reclaim, Msync, SetLength, Ack, Change, Resume, Flush}
+use Rattle.machine.specs.declared.act.Act.TheVariants.{Load, Store, Fix, Reclaim, Msync, Ack, Change, Resume, Flush}
 use Rattle.machine.specs.declared.act.Reply.{Reply}
-use Rattle.machine.specs.declared.act.Reply.TheVariants.{Bytes, Stored, Fixed, Begun, Marked, Committed}
+use Rattle.machine.specs.declared.act.Reply.TheVariants.{Bytes, Stored, Fixed, Reclaimed, Kept, Marked, Committed, Refused}
 use Rattle.machine.specs.declared.act.Step.{Step}
 use Rattle.machine.specs.State.{Whole}
 use Rattle.machine.specs.Runs.{StepsTaken}
@@ -27,22 +27,42 @@ abbrev pub tells_stored : Reply → Bool
 tells_stored Stored = true
 tells_stored _ = false
 
--- a step that reads and stores nothing: a load or a store that isn't made, or what makes one possible
+-- that a page left memory, or was kept there, or that neither is done yet
+abbrev pub tells_reclaim : Reply → Bool
+tells_reclaim Reclaimed = true
+tells_reclaim Kept = true
+tells_reclaim (Refused why) = true
+tells_reclaim _ = false
+
+-- A step that reads and stores nothing: a load or a store that isn't made, or what makes one possible. It changes no
+-- mapping and no length, and makes no mark.
 abbrev pub is_aside : Act → Reply → Bool
 is_aside (Load va count) reply = not (tells_bytes reply)
 is_aside (Store va bytes) reply = not (tells_stored reply)
 is_aside (Fix va write) reply = true
 is_aside (Reclaim file page) reply = true
 is_aside Ack reply = true
-is_aside Change reply = true
+is_aside Change reply = tells_reclaim reply
 is_aside Resume reply = true
 is_aside Flush reply = true
 is_aside act reply = false
 
--- a step of a commit, which reads and stores nothing either
+-- that a mark was made, or isn't yet
+abbrev pub tells_mark : Reply → Bool
+tells_mark (Marked number) = true
+tells_mark (Refused why) = true
+tells_mark _ = false
+
+-- a step of a commit, which reads and stores nothing either: it begins a mark, makes it, or is what both need
 abbrev pub is_of_commit : Act → Reply → Bool
 is_of_commit (Msync va len flags) reply = true
+is_of_commit Change reply = tells_mark reply
 is_of_commit act reply = is_aside act reply
+
+abbrev pub AreAside : List Step → List Reply → Type 0
+AreAside [] [] = ⊤
+AreAside (step ∷ steps) (reply ∷ replies) = (is_aside step.act reply ≡ true) × AreAside steps replies
+AreAside steps replies = ⊥
 
 abbrev pub AreOfCommit : List Step → List Reply → Type 0
 AreOfCommit [] [] = ⊤
@@ -58,39 +78,6 @@ pub record Says {D : Type 0} (disk : Ghosts D) (old : Whole D) (before : Notes) 
   pub makes : Makes disk old before steps replies new after
   pub of_commit : AreOfCommit steps replies
   pub told : Contains replies reply
-
--- that a change was begun
-abbrev pub tells_begun : Reply → Bool
-tells_begun Begun = true
-tells_begun _ = false
-
--- the beginning of a length's change, which answers nothing yet of what comes of it
-abbrev pub begins_length : Act → Reply → Bool
-begins_length (SetLength file to) reply = tells_begun reply
-begins_length act reply = false
-
--- Steps of a processor that sets the length of a file: those that begin it, and others that read and store nothing.
-abbrev pub AreOfLength : ℕ → ℕ → ℕ → List Step → List Reply → Type 0
-AreOfLength p file to [] [] = ⊤
-AreOfLength p file to (step ∷ steps) (reply ∷ replies) =
-    ((step ≡ record { p = p; act = SetLength file to }) ⊎ (is_aside step.act reply ≡ true))
-    × AreOfLength p file to steps replies
-AreOfLength p file to steps replies = ⊥
-
--- one of the steps was answered so, and it isn't the beginning alone
-abbrev pub AnswersLength : Reply → List Step → List Reply → Type 0
-AnswersLength reply (step ∷ steps) (other ∷ replies) =
-    ((other ≡ reply) × (begins_length step.act other ≡ false)) ⊎ AnswersLength reply steps replies
-AnswersLength reply steps replies = ⊥
-
--- Steps by which a length is set were made, and this is what one of them was answered.
-pub record SetsLength {D : Type 0} (disk : Ghosts D) (old : Whole D) (before : Notes) (p file to : ℕ) (reply : Reply)
-    (new : Whole D) (after : Notes) : Type 0 where
-  pub steps : List Step
-  pub replies : List Reply
-  pub makes : Makes disk old before steps replies new after
-  pub of_length : AreOfLength p file to steps replies
-  pub answers : AnswersLength reply steps replies
 
 -- the address that lies so far behind another one
 abbrev pub behind : ℕ → ℕ → ℕ

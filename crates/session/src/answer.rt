@@ -1,7 +1,11 @@
 // The line that answers a request.
+ghost use Rattle.std.specs.Prelude.{List, ℕ, [], ◌∷◌, ◌++◌, OnOk};
+ghost use Rattle.std.specs.Io.KnownBytes.{Appends};
+ghost use Rattle.session.specs.Answers.{WritesAnswer, TellsLoaded};
+ghost use Rattle.session.specs.Answers.{reply_after, reached_text, text_after_space, stored_text, committed_text};
 ghost use Rattle.session.specs.Asked.{asked, AreFirst, IsDoneFor};
 ghost use Rattle.session.specs.Ranges.{MakesStepsThat};
-ghost use Rattle.session.specs.Requests.{asks_load, asks_store, asks_commit, asks_length};
+ghost use Rattle.session.specs.Requests.{asks_steps, asks_load, asks_store, asks_commit, asks_length};
 
 use crate::ranges::Reached;
 use crate::request::Request;
@@ -21,8 +25,11 @@ impl<D: Device, A: Allocator + Copy> Session<D, A> {
         request: &Request<A>,
         out: &mut W,
     ) -> Result<(), SessionFault>
-        ensures { MakesStepsThat D.Device self.old.machine self.old.notes (IsDoneFor (asked request.now))
+        ensures does { MakesStepsThat D.Device self.old.machine self.old.notes (IsDoneFor (asked request.now))
             self.new.machine self.new.notes }
+        ensures answers { OnOk result (MakesStepsThat D.Device self.old.machine self.old.notes
+            (WritesAnswer self.old.notes (asked request.now) (W.contents out.old) (W.contents out.new))
+            self.new.machine self.new.notes) }
     {
         match request {
             Request::Steps(steps) => self.answer_steps(steps, out),
@@ -39,8 +46,11 @@ impl<D: Device, A: Allocator + Copy> Session<D, A> {
         steps: &[Step],
         out: &mut W,
     ) -> Result<(), SessionFault>
-        ensures { MakesStepsThat D.Device self.old.machine self.old.notes (AreFirst steps.now)
+        ensures does { MakesStepsThat D.Device self.old.machine self.old.notes (AreFirst steps.now)
             self.new.machine self.new.notes }
+        ensures answers { OnOk result (MakesStepsThat D.Device self.old.machine self.old.notes
+            (WritesAnswer self.old.notes (asks_steps steps.now) (W.contents out.old) (W.contents out.new))
+            self.new.machine self.new.notes) }
     {
         for (i, step) in steps.iter().enumerate() {
             let reply = self.make(step);
@@ -59,8 +69,11 @@ impl<D: Device, A: Allocator + Copy> Session<D, A> {
         count: u64,
         out: &mut W,
     ) -> Result<(), SessionFault>
-        ensures { MakesStepsThat D.Device self.old.machine self.old.notes (IsDoneFor (asks_load p va count))
+        ensures does { MakesStepsThat D.Device self.old.machine self.old.notes (IsDoneFor (asks_load p va count))
             self.new.machine self.new.notes }
+        ensures answers { OnOk result (MakesStepsThat D.Device self.old.machine self.old.notes
+            (WritesAnswer self.old.notes (asks_load p va count) (W.contents out.old) (W.contents out.new))
+            self.new.machine self.new.notes) }
     {
         let count = count as usize;
         let Ok(mut bytes) = Vec::with_capacity(alloc, count) else {
@@ -77,8 +90,11 @@ impl<D: Device, A: Allocator + Copy> Session<D, A> {
         bytes: &[u8],
         out: &mut W,
     ) -> Result<(), SessionFault>
-        ensures { MakesStepsThat D.Device self.old.machine self.old.notes (IsDoneFor (asks_store p va bytes.now))
+        ensures does { MakesStepsThat D.Device self.old.machine self.old.notes (IsDoneFor (asks_store p va bytes.now))
             self.new.machine self.new.notes }
+        ensures answers { OnOk result (MakesStepsThat D.Device self.old.machine self.old.notes
+            (WritesAnswer self.old.notes (asks_store p va bytes.now) (W.contents out.old) (W.contents out.new))
+            self.new.machine self.new.notes) }
     {
         let reached = self.store(p, va, bytes);
         write_stored(&reached, bytes.len(), out).map_err(SessionFault::Output)
@@ -89,8 +105,11 @@ impl<D: Device, A: Allocator + Copy> Session<D, A> {
         p: ProcessorNumber,
         out: &mut W,
     ) -> Result<(), SessionFault>
-        ensures { MakesStepsThat D.Device self.old.machine self.old.notes (IsDoneFor (asks_commit p))
+        ensures does { MakesStepsThat D.Device self.old.machine self.old.notes (IsDoneFor (asks_commit p))
             self.new.machine self.new.notes }
+        ensures answers { OnOk result (MakesStepsThat D.Device self.old.machine self.old.notes
+            (WritesAnswer self.old.notes (asks_commit p) (W.contents out.old) (W.contents out.new))
+            self.new.machine self.new.notes) }
     {
         let committed = self.commit(p);
         write_committed(&committed, out).map_err(SessionFault::Output)
@@ -103,8 +122,11 @@ impl<D: Device, A: Allocator + Copy> Session<D, A> {
         length: u64,
         out: &mut W,
     ) -> Result<(), SessionFault>
-        ensures { MakesStepsThat D.Device self.old.machine self.old.notes (IsDoneFor (asks_length p file length))
+        ensures does { MakesStepsThat D.Device self.old.machine self.old.notes (IsDoneFor (asks_length p file length))
             self.new.machine self.new.notes }
+        ensures answers { OnOk result (MakesStepsThat D.Device self.old.machine self.old.notes
+            (WritesAnswer self.old.notes (asks_length p file length) (W.contents out.old) (W.contents out.new))
+            self.new.machine self.new.notes) }
     {
         let reply = self.set_length(p, file, length);
         writeln!(out, "{reply}").map_err(SessionFault::Output)
@@ -112,11 +134,14 @@ impl<D: Device, A: Allocator + Copy> Session<D, A> {
 }
 
 // Writes the reply of this number, counted from 0.
-fn write_reply<W: io::Write>(number: usize, reply: &Reply, out: &mut W) -> io::Result<()> {
+fn write_reply<W: io::Write>(number: usize, reply: &Reply, out: &mut W) -> io::Result<()>
+    ensures { OnOk result (Appends (W.contents out.old) (W.contents out.new) (reply_after number reply.now)) }
+{
     if number > 0 {
-        out.write_all(b"; ")?;
+        write!(out, "; {reply}")
+    } else {
+        write!(out, "{reply}")
     }
-    write!(out, "{reply}")
 }
 
 fn write_loaded<A: Allocator + Copy, W: io::Write>(
@@ -124,7 +149,10 @@ fn write_loaded<A: Allocator + Copy, W: io::Write>(
     reached: &Reached,
     bytes: &[u8],
     out: &mut W,
-) -> Result<(), SessionFault> {
+) -> Result<(), SessionFault>
+    ensures { OnOk result ((answer : List ℕ) × TellsLoaded reached.now bytes.now answer
+        × Appends (W.contents out.old) (W.contents out.new) (answer ++ 10 ∷ [])) }
+{
     if let Reached::NoMemory = reached {
         return Err(SessionFault::Memory(AllocError));
     }
@@ -134,26 +162,50 @@ fn write_loaded<A: Allocator + Copy, W: io::Write>(
     }
 }
 
-fn write_range<W: io::Write>(reached: &Reached, digits: &str, out: &mut W) -> io::Result<()> {
-    match reached {
-        Reached::Refused { count, reply } => write!(out, "{reply} after {count}")?,
-        _ => out.write_all(b"loaded")?,
-    }
-    if !digits.is_empty() {
-        out.write_all(b" ")?;
-        out.write_all(digits.as_bytes())?;
-    }
+fn write_range<W: io::Write>(reached: &Reached, digits: &str, out: &mut W) -> io::Result<()>
+    ensures { OnOk result (Appends (W.contents out.old) (W.contents out.new)
+        (reached_text reached.now ++ text_after_space digits.now ++ 10 ∷ [])) }
+{
+    write_reached(reached, out)?;
+    write_digits(digits, out)?;
     out.write_all(b"\n")
 }
 
-fn write_stored<W: io::Write>(reached: &Reached, count: usize, out: &mut W) -> io::Result<()> {
+// Writes how far a range was loaded.
+fn write_reached<W: io::Write>(reached: &Reached, out: &mut W) -> io::Result<()>
+    ensures { OnOk result (Appends (W.contents out.old) (W.contents out.new) (reached_text reached.now)) }
+{
+    match reached {
+        Reached::Refused { count, reply } => write!(out, "{reply} after {count}"),
+        _ => out.write_all(b"loaded"),
+    }
+}
+
+// Writes digits after a space, if there are any.
+fn write_digits<W: io::Write>(digits: &str, out: &mut W) -> io::Result<()>
+    ensures { OnOk result (Appends (W.contents out.old) (W.contents out.new) (text_after_space digits.now)) }
+{
+    if digits.is_empty() {
+        Ok(())
+    } else {
+        write!(out, " {digits}")
+    }
+}
+
+fn write_stored<W: io::Write>(reached: &Reached, count: usize, out: &mut W) -> io::Result<()>
+    ensures { OnOk result (Appends (W.contents out.old) (W.contents out.new)
+        (stored_text reached.now count ++ 10 ∷ [])) }
+{
     match reached {
         Reached::Refused { count, reply } => writeln!(out, "{reply} after {count}"),
         _ => writeln!(out, "stored {count}"),
     }
 }
 
-fn write_committed<W: io::Write>(committed: &Result<u32, Reply>, out: &mut W) -> io::Result<()> {
+fn write_committed<W: io::Write>(committed: &Result<u32, Reply>, out: &mut W) -> io::Result<()>
+    ensures { OnOk result (Appends (W.contents out.old) (W.contents out.new)
+        (committed_text committed.now ++ 10 ∷ [])) }
+{
     match committed {
         Ok(mark) => writeln!(out, "committed {mark}"),
         Err(reply) => writeln!(out, "{reply}"),

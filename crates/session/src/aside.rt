@@ -1,6 +1,9 @@
 // Steps that a session makes beside those that it was asked for: faults are served, and frames are made free.
-ghost use Rattle.std.specs.Prelude.{◌≡◌, false};
-ghost use Rattle.session.specs.Steps.{tells_begun, tells_fixed};
+ghost use Rattle.std.specs.Prelude.{◌≡◌, [], ◌∷◌, false, IsTrue};
+ghost use Rattle.machine.specs.declared.act.Act.TheVariants as acts;
+ghost use Rattle.session.specs.Lengths.{tells_begun, tells_flushed, AreAll, AnswersChange};
+ghost use Rattle.session.specs.Ranges.{MakesStepsThat};
+ghost use Rattle.session.specs.Steps.{Makes, tells_fixed};
 ghost use Rattle.session.specs.inside.Aside.{GoesAside, IsTold, StopsAt};
 
 use crate::session::Session;
@@ -84,7 +87,8 @@ impl<D: Device, A: Allocator + Copy> Session<D, A> {
 
     /// Makes a step of the write-outs.
     pub(crate) fn flush(&mut self, p: ProcessorNumber) -> Reply
-        ensures { IsTold D.Device self.old.machine self.old.notes result self.new.machine self.new.notes }
+        ensures { Makes D.Device self.old.machine self.old.notes (record { p = p; act = acts.Flush } ∷ []) (result ∷ [])
+            self.new.machine self.new.notes }
     {
         let flush = Step { p, act: Act::Flush };
         self.make(&flush)
@@ -111,7 +115,8 @@ impl<D: Device, A: Allocator + Copy> Session<D, A> {
 
     /// Makes the change that a processor began. Those that it interrupted stall before, and go on after it.
     pub(crate) fn change(&mut self, p: ProcessorNumber) -> Reply
-        ensures { IsTold D.Device self.old.machine self.old.notes result self.new.machine self.new.notes }
+        ensures { MakesStepsThat D.Device self.old.machine self.old.notes (AnswersChange p result)
+            self.new.machine self.new.notes }
     {
         let stalled = self.stall();
         let change = Step {
@@ -125,7 +130,8 @@ impl<D: Device, A: Allocator + Copy> Session<D, A> {
 
     // Makes each processor stall that is interrupted, and answers which.
     fn stall(&mut self) -> [bool; 16]
-        ensures { GoesAside D.Device self.old.machine self.old.notes self.new.machine self.new.notes }
+        ensures { MakesStepsThat D.Device self.old.machine self.old.notes (AreAll acts.Ack)
+            self.new.machine self.new.notes }
     {
         let mut stalled = [false; 16];
         for p in 0..PROCESSORS {
@@ -136,7 +142,8 @@ impl<D: Device, A: Allocator + Copy> Session<D, A> {
 
     // Makes a processor stall, if it is interrupted. Answers whether it is.
     fn stall_one(&mut self, p: ProcessorNumber) -> bool
-        ensures { GoesAside D.Device self.old.machine self.old.notes self.new.machine self.new.notes }
+        ensures { MakesStepsThat D.Device self.old.machine self.old.notes (AreAll acts.Ack)
+            self.new.machine self.new.notes }
     {
         if !self.is_interrupted(p) {
             return false;
@@ -152,7 +159,8 @@ impl<D: Device, A: Allocator + Copy> Session<D, A> {
 
     // Lets these processors go on.
     fn resume(&mut self, stalled: &[bool; 16])
-        ensures { GoesAside D.Device self.old.machine self.old.notes self.new.machine self.new.notes }
+        ensures { MakesStepsThat D.Device self.old.machine self.old.notes (AreAll acts.Resume)
+            self.new.machine self.new.notes }
     {
         for p in 0..PROCESSORS {
             self.resume_one(p, stalled);
@@ -161,7 +169,8 @@ impl<D: Device, A: Allocator + Copy> Session<D, A> {
 
     // Lets a processor go on, if it is one of these.
     fn resume_one(&mut self, p: ProcessorNumber, stalled: &[bool; 16])
-        ensures { GoesAside D.Device self.old.machine self.old.notes self.new.machine self.new.notes }
+        ensures { MakesStepsThat D.Device self.old.machine self.old.notes (AreAll acts.Resume)
+            self.new.machine self.new.notes }
     {
         if !is_one_of(p, stalled) {
             return;
@@ -190,11 +199,15 @@ fn is_reclaimed(reply: &Reply) -> bool {
 }
 
 /// Whether no frame, or too few, were free.
-pub(crate) fn is_no_frame(reply: &Reply) -> bool {
+pub(crate) fn is_no_frame(reply: &Reply) -> bool
+    ensures { IsTrue result → tells_begun reply.now ≡ false }
+{
     matches!(reply, Reply::Refused(Refusal::NoFrame))
 }
 
 /// Whether a step of a write-out was made.
-pub(crate) fn is_flushed(reply: &Reply) -> bool {
+pub(crate) fn is_flushed(reply: &Reply) -> bool
+    ensures { result ≡ tells_flushed reply.now }
+{
     matches!(reply, Reply::Going | Reply::Committed(_) | Reply::Done(_))
 }

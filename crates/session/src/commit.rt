@@ -1,7 +1,10 @@
 // A commit: from the beginning of its mark to the acknowledgement.
-ghost use Rattle.std.specs.Prelude.{◌≡◌, IfOk, IfErr, IfSome, IsTrue};
+ghost use Rattle.std.specs.Prelude.{◌≡◌, true, false, IfOk, IfErr, IfSome, IsTrue};
 ghost use Rattle.machine.specs.declared.act.Reply.TheVariants as told;
+ghost use Rattle.session.specs.Lengths.{tells_begun};
+ghost use Rattle.session.specs.Ranges.{MakesStepsThat};
 ghost use Rattle.session.specs.Steps.{CommitsMark, Says};
+ghost use Rattle.session.specs.inside.Made.{BeginsMark};
 
 use crate::aside::{is_begun, is_flushed};
 use crate::session::Session;
@@ -39,7 +42,9 @@ impl<D: Device, A: Allocator + Copy> Session<D, A> {
 
     // Begins a mark. Where write-outs have to be done first, it makes steps of them.
     fn begin_mark(&mut self, p: ProcessorNumber) -> Reply
-        ensures { Says D.Device self.old.machine self.old.notes result self.new.machine self.new.notes }
+        ensures begins { tells_begun result ≡ true → MakesStepsThat D.Device self.old.machine self.old.notes
+            BeginsMark self.new.machine self.new.notes }
+        ensures says { Says D.Device self.old.machine self.old.notes result self.new.machine self.new.notes }
     {
         let msync = Step {
             p,
@@ -103,7 +108,9 @@ fn is_committed(reply: &Reply, mark: u32) -> bool
 }
 
 /// Whether commits have to be done first.
-pub(crate) fn is_busy(reply: &Reply) -> bool {
+pub(crate) fn is_busy(reply: &Reply) -> bool
+    ensures { IsTrue result → tells_begun reply.now ≡ false }
+{
     matches!(reply, Reply::Refused(Refusal::Busy))
 }
 

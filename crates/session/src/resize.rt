@@ -1,7 +1,8 @@
 // A new length of a file: from its beginning to the end of its change.
-ghost use Rattle.std.specs.Prelude.{◌≡◌, false};
-ghost use Rattle.session.specs.Steps.{SetsLength, tells_begun};
-ghost use Rattle.session.specs.inside.Made.{GoesOnWithLength};
+ghost use Rattle.std.specs.Prelude.{◌≡◌, true, false};
+ghost use Rattle.session.specs.Lengths.{tells_begun, AnswersLength, RefusesLength};
+ghost use Rattle.session.specs.Ranges.{MakesStepsThat};
+ghost use Rattle.session.specs.inside.Made.{BeginsLength};
 
 use crate::aside::{is_begun, is_flushed, is_no_frame};
 use crate::commit::{is_busy, is_nothing};
@@ -12,10 +13,11 @@ use page_entry::ProcessorNumber;
 use std::alloc::Allocator;
 
 impl<D: Device, A: Allocator + Copy> Session<D, A> {
-    /// Sets the length of a file. Answers what the change was answered, or else the step that came before it: `Fine`
-    /// where the file has this length already, or why it isn't set. It isn't committed by that.
+    /// Sets the length of a file. Answers what the change was answered; or, where none was begun, the step that would
+    /// have begun it, or that of a write-out which it waits for: `Fine` where the file has this length already, or why
+    /// it isn't set. It isn't committed by that.
     pub fn set_length(&mut self, p: ProcessorNumber, file: u16, length: u64) -> Reply
-        ensures { SetsLength D.Device self.old.machine self.old.notes p file length result
+        ensures { MakesStepsThat D.Device self.old.machine self.old.notes (AnswersLength p file length result)
             self.new.machine self.new.notes }
     {
         let begun = self.begin_length(p, file, length);
@@ -27,10 +29,10 @@ impl<D: Device, A: Allocator + Copy> Session<D, A> {
 
     // Begins to set a length. Where write-outs have to be done first, it makes steps of them.
     fn begin_length(&mut self, p: ProcessorNumber, file: u16, length: u64) -> Reply
-        ensures goes { GoesOnWithLength D.Device self.old.machine self.old.notes p file length
-            self.new.machine self.new.notes }
-        ensures answers { tells_begun result ≡ false → SetsLength D.Device self.old.machine self.old.notes
-            p file length result self.new.machine self.new.notes }
+        ensures begins { tells_begun result ≡ true → MakesStepsThat D.Device self.old.machine self.old.notes
+            (BeginsLength p file length) self.new.machine self.new.notes }
+        ensures refuses { tells_begun result ≡ false → MakesStepsThat D.Device self.old.machine self.old.notes
+            (RefusesLength p file length result) self.new.machine self.new.notes }
     {
         for _ in 0..u64::MAX {
             let begun = self.begin_in_room(p, file, length);
@@ -50,10 +52,10 @@ impl<D: Device, A: Allocator + Copy> Session<D, A> {
 
     // Begins to set a length. Where too few frames are free for the pages that the file gets, it makes more free.
     fn begin_in_room(&mut self, p: ProcessorNumber, file: u16, length: u64) -> Reply
-        ensures goes { GoesOnWithLength D.Device self.old.machine self.old.notes p file length
-            self.new.machine self.new.notes }
-        ensures answers { tells_begun result ≡ false → SetsLength D.Device self.old.machine self.old.notes
-            p file length result self.new.machine self.new.notes }
+        ensures begins { tells_begun result ≡ true → MakesStepsThat D.Device self.old.machine self.old.notes
+            (BeginsLength p file length) self.new.machine self.new.notes }
+        ensures refuses { tells_begun result ≡ false → MakesStepsThat D.Device self.old.machine self.old.notes
+            (RefusesLength p file length result) self.new.machine self.new.notes }
     {
         let set = Step {
             p,

@@ -1,10 +1,12 @@
 // The lines of a session, one after the other.
-ghost use Rattle.std.specs.Prelude.{List};
+ghost use Rattle.std.specs.Prelude.{List, ℕ, [], ◌∷◌, ◌++◌, IsOk, OnOk, codes};
+ghost use Rattle.std.specs.Io.KnownBytes.{Appends, Keeps};
 ghost use Rattle.machine.specs.declared.act.Reply.{Reply};
 ghost use Rattle.machine.specs.declared.act.Shape.{Shape};
 ghost use Rattle.machine.specs.declared.act.Step.{Step};
 ghost use Rattle.engine.specs.Engine.{HasStarted, HasRun};
-ghost use Rattle.session.specs.Asked.{IsServedFor};
+ghost use Rattle.session.specs.Answers.{WritesAnswerOf, WritesAnswers};
+ghost use Rattle.session.specs.Asked.{IsMemory, IsServedFor};
 ghost use Rattle.session.specs.Ranges.{MakesStepsThat};
 ghost use Rattle.session.specs.Steps.{Makes};
 ghost use Rattle.session.specs.inside.Made.{HasMade};
@@ -16,7 +18,7 @@ use crate::session::Session;
 use crate::session_fault::SessionFault;
 use device::Device;
 use engine::ran_since_start;
-use std::alloc::{Allocator, Global};
+use std::alloc::{AllocError, Allocator, Global};
 use std::io;
 use std::io::BufRead;
 
@@ -25,6 +27,9 @@ use std::io::BufRead;
 ///
 /// However the session ends, its steps and their replies are a run over the device that the machine was started over,
 /// with all that holds of one: after a crash, and after none, what was stored survives (`HasRun`).
+///
+/// Where it answers `Ok`, it has written one line for each line that it answered, in their order: what that one asks
+/// for was done by steps after those of the lines before it, and the answer says what came of it (`WritesAnswers`).
 pub fn serve_on<D: Device, A: Allocator + Copy, I: BufRead, W: io::Write>(
     global: Global,
     alloc: A,
@@ -32,10 +37,13 @@ pub fn serve_on<D: Device, A: Allocator + Copy, I: BufRead, W: io::Write>(
     input: &mut I,
     out: &mut W,
 ) -> Result<(), SessionFault>
-    ensures { (steps : List Step) × (replies : List Reply)
+    ensures ran { (steps : List Step) × (replies : List Reply)
         × Makes D.Device session.old.machine session.old.notes steps replies session.new.machine session.new.notes
         × ((before : D) (shape : Shape) → HasStarted D.Device before shape session.old.machine
         → HasRun D.Device before shape steps replies session.new.machine.device) }
+    ensures answered { OnOk result (MakesStepsThat D.Device session.old.machine session.old.notes
+        (WritesAnswers session.old.notes (W.contents out.old) (W.contents out.new))
+        session.new.machine session.new.notes) }
 {
     let served = serve_lines(global, alloc, session, input, out);
     ran_since_start(&session.machine);
@@ -49,7 +57,10 @@ fn serve_lines<D: Device, A: Allocator + Copy, I: BufRead, W: io::Write>(
     input: &mut I,
     out: &mut W,
 ) -> Result<(), SessionFault>
-    ensures { HasMade D.Device session.old.machine session.old.notes session.new.machine session.new.notes }
+    ensures made { HasMade D.Device session.old.machine session.old.notes session.new.machine session.new.notes }
+    ensures answered { OnOk result (MakesStepsThat D.Device session.old.machine session.old.notes
+        (WritesAnswers session.old.notes (W.contents out.old) (W.contents out.new))
+        session.new.machine session.new.notes) }
 {
     let mut line = Vec::new(alloc);
     for _ in 0..u64::MAX {
@@ -71,11 +82,17 @@ fn serve_next<D: Device, A: Allocator + Copy, I: BufRead, W: io::Write>(
     input: &mut I,
     out: &mut W,
 ) -> Result<bool, SessionFault>
-    ensures { HasMade D.Device session.old.machine session.old.notes session.new.machine session.new.notes }
+    ensures made { HasMade D.Device session.old.machine session.old.notes session.new.machine session.new.notes }
+    ensures answered { OnOk result (MakesStepsThat D.Device session.old.machine session.old.notes
+        (WritesAnswers session.old.notes (W.contents out.old) (W.contents out.new))
+        session.new.machine session.new.notes) }
 {
     match read_line(input, line) {
         Ok(Line::End) => Ok(false),
-        Ok(Line::Long) => flushed(write_bad(out, &RequestFault::Long(MOST_OF_LINE)), out),
+        Ok(Line::Long) => {
+            let told = write_bad(alloc, &RequestFault::Long(MOST_OF_LINE), out);
+            flushed(told, out)
+        }
         Ok(Line::Whole) => {
             let served = serve_line(global, alloc, session, line, out);
             flushed(served, out)
@@ -86,6 +103,9 @@ fn serve_next<D: Device, A: Allocator + Copy, I: BufRead, W: io::Write>(
 
 /// Answers a line, without its line feed, by one line: carries out the request that it is, and nothing else; or says
 /// why it is none, and makes no step.
+///
+/// Where it answers `Ok`, all was done that the line asks for, as far as the machine does it, and the line that was
+/// written says what came of it, and no more.
 pub fn serve_line<D: Device, A: Allocator + Copy, W: io::Write>(
     global: Global,
     alloc: A,
@@ -93,25 +113,51 @@ pub fn serve_line<D: Device, A: Allocator + Copy, W: io::Write>(
     line: &[u8],
     out: &mut W,
 ) -> Result<(), SessionFault>
-    ensures { MakesStepsThat D.Device session.old.machine session.old.notes (IsServedFor line.now)
+    ensures served { MakesStepsThat D.Device session.old.machine session.old.notes (IsServedFor line.now)
         session.new.machine session.new.notes }
+    ensures answered { OnOk result (MakesStepsThat D.Device session.old.machine session.old.notes
+        (WritesAnswerOf session.old.notes line.now (W.contents out.old) (W.contents out.new))
+        session.new.machine session.new.notes) }
 {
     match read_request(global, alloc, line) {
         Ok(request) => session.answer(alloc, &request, out),
-        Err(RequestFault::Memory(cause)) => Err(SessionFault::Memory(cause)),
-        Err(cause) => write_bad(out, &cause),
+        Err(cause) => write_bad(alloc, &cause, out),
     }
 }
 
-fn write_bad<W: io::Write>(out: &mut W, cause: &RequestFault) -> Result<(), SessionFault> {
-    writeln!(out, "badline {cause}").map_err(SessionFault::Output)
+// Writes why a line is no request. Where that is that memory was refused, there is no answer. The text of the cause is
+// made before any of the line is written.
+fn write_bad<A: Allocator + Copy, W: io::Write>(
+    alloc: A,
+    cause: &RequestFault,
+    out: &mut W,
+) -> Result<(), SessionFault>
+    ensures { OnOk result (¬ (IsMemory cause.now) × ((text : List ℕ)
+        × Appends (W.contents out.old) (W.contents out.new) (codes "badline " ++ text ++ 10 ∷ []))) }
+{
+    if let RequestFault::Memory(_) = cause {
+        return Err(SessionFault::Memory(AllocError));
+    }
+    match cause.to_string(alloc) {
+        Ok(text) => write_cause(text.as_str(), out).map_err(SessionFault::Output),
+        Err(fault) => Err(SessionFault::Memory(fault)),
+    }
+}
+
+fn write_cause<W: io::Write>(cause: &str, out: &mut W) -> io::Result<()>
+    ensures { OnOk result (Appends (W.contents out.old) (W.contents out.new)
+        (codes "badline " ++ cause.now ++ 10 ∷ [])) }
+{
+    writeln!(out, "badline {cause}")
 }
 
 // Flushes the output after an answer that was written.
 fn flushed<W: io::Write>(
     written: Result<(), SessionFault>,
     out: &mut W,
-) -> Result<bool, SessionFault> {
+) -> Result<bool, SessionFault>
+    ensures { OnOk result (IsOk written × Keeps (W.contents out.old) (W.contents out.new)) }
+{
     match written {
         Ok(()) => match out.flush() {
             Ok(()) => Ok(true),

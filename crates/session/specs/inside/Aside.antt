@@ -1,22 +1,17 @@
 -- Steps that read and store nothing.
-use Rattle.std.specs.Prelude.{ℕ, ⊤, ◌≡◌, true, false, List, [], ◌∷◌, ◌++◌, Contains}
+use Rattle.std.specs.Prelude.{ℕ, ◌≡◌, true, false, List, [], ◌∷◌, ◌++◌, Contains}
 use Rattle.device.specs.declared.device.Device.{Ghosts}
 use Rattle.machine.specs.declared.act.Act.{Act}
 use Rattle.machine.specs.declared.act.Reply.{Reply}
 use Rattle.machine.specs.declared.act.Step.{Step}
 use Rattle.machine.specs.State.{Whole}
 use Rattle.session.specs.declared.notes.Notes.{Notes}
-use Rattle.session.specs.Steps.{Makes, is_aside, tells_bytes, tells_stored, EndsAt}
+use Rattle.session.specs.Steps.{Makes, is_aside, AreAside, tells_bytes, tells_stored, EndsAt}
 
 -- an act that reads and stores nothing unless it is answered so
 abbrev pub TellsOrIsAside : Act → Type 0
 TellsOrIsAside act =
     (reply : Reply) → tells_bytes reply ≡ false → tells_stored reply ≡ false → is_aside act reply ≡ true
-
-abbrev pub AreAside : List Step → List Reply → Type 0
-AreAside [] [] = ⊤
-AreAside (step ∷ steps) (reply ∷ replies) = (is_aside step.act reply ≡ true) × AreAside steps replies
-AreAside steps replies = ⊥
 
 -- Steps were made that read and store nothing.
 pub record GoesAside {D : Type 0} (disk : Ghosts D) (old : Whole D) (before : Notes) (new : Whole D)

@@ -1,8 +1,8 @@
 use Rattle.session.proofs.serving.serve_on.Goals as goal
 
-pub returns : goal.returns
-returns g c =
-    let made = c.serve_lines-served.ensures in (
+pub returns-clause-ran : goal.returns-clause-ran
+returns-clause-ran g c =
+    let made = c.serve_lines-served.ensures.made in (
       made.steps,
       made.replies,
       made.makes,

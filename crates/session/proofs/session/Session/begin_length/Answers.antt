@@ -1,32 +1,77 @@
-use Rattle.session.proofs.Lengths.{length_none, length_then, length_told, sets_before, sets_later, sets_told}
+use Rattle.std.proofs.Common.{inr, refl, sym, ◌∙◌}
+use Rattle.std.proofs.lemmas.Bool.{false≢true}
+use Rattle.session.proofs.Changes.{flush_is_other}
+use Rattle.session.proofs.Lengths.{tries_then, tries_refused, begins_later, refuses_flushed, refuses_later, refuses_before}
+use Rattle.session.proofs.Pieces.{does_more, does_nothing}
+use Rattle.session.proofs.Stretches.{does_one, does_then}
 use Rattle.session.proofs.session.Session.begin_length.Goals as goal
 
 pub loop-init : goal.loop-init
-loop-init g c = length_none g.D.Device _ _ _ _ _
+loop-init g c = does_nothing g.D.Device _ _ _ tt
 
-pub returns-then-not-is_busy-clause-goes : goal.returns-then-not-is_busy-clause-goes
-returns-then-not-is_busy-clause-goes g c = length_then g.D.Device _ _ _ _ _ _ _ _ _ c.loop.invariant c.begin_in_room-begun.ensures.goes
+pub returns-then-not-is_busy-clause-begins : goal.returns-then-not-is_busy-clause-begins
+returns-then-not-is_busy-clause-begins g c =
+    let p = c.args.p in
+    let file = c.args.file in
+    let to = c.args.length in
+    λ is. does_then g.D.Device _ _ _ _ _ _ _ _ _ (begins_later p file to) c.loop.invariant (c.begin_in_room-begun.ensures.begins is)
 
-pub returns-then-not-is_busy-clause-answers : goal.returns-then-not-is_busy-clause-answers
-returns-then-not-is_busy-clause-answers g c = λ other. sets_later g.D.Device _ _ _ _ _ _ _ _ _ _ c.loop.invariant (c.begin_in_room-begun.ensures.answers other)
+pub returns-then-not-is_busy-clause-refuses : goal.returns-then-not-is_busy-clause-refuses
+returns-then-not-is_busy-clause-refuses g c =
+    let p = c.args.p in
+    let file = c.args.file in
+    let to = c.args.length in
+    λ vain. does_then g.D.Device _ _ _ _ _ _ _ _ _ (refuses_later p file to _) c.loop.invariant (c.begin_in_room-begun.ensures.refuses vain)
 
-pub returns-then-is_nothing-clause-goes : goal.returns-then-is_nothing-clause-goes
-returns-then-is_nothing-clause-goes g c = length_then g.D.Device _ _ _ _ _ _ _ _ _ (length_then g.D.Device _ _ _ _ _ _ _ _ _ c.loop.invariant c.begin_in_room-begun.ensures.goes) (length_told g.D.Device _ _ _ _ _ _ _ _ c.flush-flushed.ensures)
+pub returns-then-is_nothing-clause-begins : goal.returns-then-is_nothing-clause-begins
+returns-then-is_nothing-clause-begins g c =
+    let p = c.args.p in
+    let file = c.args.file in
+    let to = c.args.length in
+    λ is. absurd (false≢true (sym (c.if-not-is_busy.ensures refl) ∙ is))
 
-pub returns-then-is_nothing-clause-answers : goal.returns-then-is_nothing-clause-answers
-returns-then-is_nothing-clause-answers g c = λ other. sets_before g.D.Device _ _ _ _ _ _ _ _ _ _ (sets_later g.D.Device _ _ _ _ _ _ _ _ _ _ c.loop.invariant (c.begin_in_room-begun.ensures.answers other)) (length_told g.D.Device _ _ _ _ _ _ _ _ c.flush-flushed.ensures)
+pub returns-then-is_nothing-clause-refuses : goal.returns-then-is_nothing-clause-refuses
+returns-then-is_nothing-clause-refuses g c =
+    let p = c.args.p in
+    let file = c.args.file in
+    let to = c.args.length in
+    λ vain. does_then g.D.Device _ _ _ _ _ _ _ _ _ (refuses_before p file to _) (does_then g.D.Device _ _ _ _ _ _ _ _ _ (refuses_later p file to _) c.loop.invariant (c.begin_in_room-begun.ensures.refuses vain)) (does_one g.D.Device _ _ _ _ _ _ _ (refl, tt) c.flush-flushed.ensures)
 
-pub returns-then-not-is_flushed-clause-goes : goal.returns-then-not-is_flushed-clause-goes
-returns-then-not-is_flushed-clause-goes g c = length_then g.D.Device _ _ _ _ _ _ _ _ _ (length_then g.D.Device _ _ _ _ _ _ _ _ _ c.loop.invariant c.begin_in_room-begun.ensures.goes) (length_told g.D.Device _ _ _ _ _ _ _ _ c.flush-flushed.ensures)
+pub returns-then-not-is_flushed-clause-begins : goal.returns-then-not-is_flushed-clause-begins
+returns-then-not-is_flushed-clause-begins g c =
+    let p = c.args.p in
+    let file = c.args.file in
+    let to = c.args.length in
+    λ is. flush_is_other g.D.Device _ _ _ _ _ _ c.flush-flushed.ensures is
 
-pub returns-then-not-is_flushed-clause-answers : goal.returns-then-not-is_flushed-clause-answers
-returns-then-not-is_flushed-clause-answers g c = λ other. sets_later g.D.Device _ _ _ _ _ _ _ _ _ _ (length_then g.D.Device _ _ _ _ _ _ _ _ _ c.loop.invariant c.begin_in_room-begun.ensures.goes) (sets_told g.D.Device _ _ _ _ _ _ _ _ c.flush-flushed.ensures)
+pub returns-then-not-is_flushed-clause-refuses : goal.returns-then-not-is_flushed-clause-refuses
+returns-then-not-is_flushed-clause-refuses g c =
+    let p = c.args.p in
+    let file = c.args.file in
+    let to = c.args.length in
+    let busy = c.begin_in_room-begun.ensures.refuses (c.if-not-is_busy.ensures refl) in
+    let tried = does_then g.D.Device _ _ _ _ _ _ _ _ _ (tries_then p file to) c.loop.invariant (does_more g.D.Device _ _ _ _ _ _ (tries_refused p file to _) busy) in
+    λ vain. does_then g.D.Device _ _ _ _ _ _ _ _ _ (refuses_later p file to _) tried (does_one g.D.Device _ _ _ _ _ _ _ (refuses_flushed p file to _ (sym c.if-not-is_flushed.ensures)) c.flush-flushed.ensures)
 
 pub loop-preserved : goal.loop-preserved
-loop-preserved g c = length_then g.D.Device _ _ _ _ _ _ _ _ _ (length_then g.D.Device _ _ _ _ _ _ _ _ _ c.loop.invariant c.begin_in_room-begun.ensures.goes) (length_told g.D.Device _ _ _ _ _ _ _ _ c.flush-flushed.ensures)
+loop-preserved g c =
+    let p = c.args.p in
+    let file = c.args.file in
+    let to = c.args.length in
+    let busy = c.begin_in_room-begun.ensures.refuses (c.if-not-is_busy.ensures refl) in
+    let tried = does_then g.D.Device _ _ _ _ _ _ _ _ _ (tries_then p file to) c.loop.invariant (does_more g.D.Device _ _ _ _ _ _ (tries_refused p file to _) busy) in
+    does_then g.D.Device _ _ _ _ _ _ _ _ _ (tries_then p file to) tried (does_one g.D.Device _ _ _ _ _ _ _ (inr refl, tt) c.flush-flushed.ensures)
 
-pub returns-clause-goes : goal.returns-clause-goes
-returns-clause-goes g c = length_then g.D.Device _ _ _ _ _ _ _ _ _ c.loop.invariant c.begin_in_room.ensures.goes
+pub returns-clause-begins : goal.returns-clause-begins
+returns-clause-begins g c =
+    let p = c.args.p in
+    let file = c.args.file in
+    let to = c.args.length in
+    λ is. does_then g.D.Device _ _ _ _ _ _ _ _ _ (begins_later p file to) c.loop.invariant (c.begin_in_room.ensures.begins is)
 
-pub returns-clause-answers : goal.returns-clause-answers
-returns-clause-answers g c = λ other. sets_later g.D.Device _ _ _ _ _ _ _ _ _ _ c.loop.invariant (c.begin_in_room.ensures.answers other)
+pub returns-clause-refuses : goal.returns-clause-refuses
+returns-clause-refuses g c =
+    let p = c.args.p in
+    let file = c.args.file in
+    let to = c.args.length in
+    λ vain. does_then g.D.Device _ _ _ _ _ _ _ _ _ (refuses_later p file to _) c.loop.invariant (c.begin_in_room.ensures.refuses vain)

@@ -1,5 +1,6 @@
-use Rattle.session.specs.inside.Made.{GoesOnWithLength}
+use Rattle.session.specs.Ranges.{MakesStepsThat}
+use Rattle.session.specs.inside.Made.{AreTries}
 use Rattle.session.proofs.session.Session.begin_length.Given as goal
 
 abbrev pub invariant-loop : goal.invariant-loop
-invariant-loop g l = GoesOnWithLength g.D.Device l.initial.self.machine l.initial.self.notes l.p l.file l.length l.self.machine l.self.notes
+invariant-loop g l = MakesStepsThat g.D.Device l.initial.self.machine l.initial.self.notes (AreTries l.p l.file l.length) l.self.machine l.self.notes

@@ -1,21 +1,35 @@
-use Rattle.std.proofs.Common.{refl}
-use Rattle.session.proofs.Stretches.{commit_none, commit_one, commit_then, commit_told, says_before, says_later, says_one, says_told}
+use Rattle.std.proofs.Common.{refl, sym, ◌∙◌}
+use Rattle.std.proofs.lemmas.Bool.{false≢true}
+use Rattle.session.proofs.Changes.{begins_mark, begins_mark_later, flush_is_other}
+use Rattle.session.proofs.Stretches.{commit_none, commit_one, commit_then, says_before, says_later, says_one, does_one, does_goes_on, does_then}
 use Rattle.session.proofs.session.Session.begin_mark.Goals as goal
 
 pub loop-init : goal.loop-init
 loop-init g c = commit_none g.D.Device _ _
 
-pub returns-then-not-is_busy : goal.returns-then-not-is_busy
-returns-then-not-is_busy g c = says_later g.D.Device _ _ _ _ _ _ _ c.loop.invariant (says_one g.D.Device _ _ _ _ _ _ refl c.make-begun.ensures)
+pub returns-then-not-is_busy-clause-begins : goal.returns-then-not-is_busy-clause-begins
+returns-then-not-is_busy-clause-begins g c = λ is. does_then g.D.Device _ _ _ _ _ _ _ _ _ begins_mark_later (does_goes_on g.D.Device _ _ _ _ c.loop.invariant) (does_one g.D.Device _ _ _ _ _ _ _ (begins_mark c.args.p _ is) c.make-begun.ensures)
 
-pub returns-then-is_nothing : goal.returns-then-is_nothing
-returns-then-is_nothing g c = says_before g.D.Device _ _ _ _ _ _ _ (says_later g.D.Device _ _ _ _ _ _ _ c.loop.invariant (says_one g.D.Device _ _ _ _ _ _ refl c.make-begun.ensures)) (commit_told g.D.Device _ _ _ _ _ c.flush-flushed.ensures)
+pub returns-then-not-is_busy-clause-says : goal.returns-then-not-is_busy-clause-says
+returns-then-not-is_busy-clause-says g c = says_later g.D.Device _ _ _ _ _ _ _ c.loop.invariant (says_one g.D.Device _ _ _ _ _ _ refl c.make-begun.ensures)
 
-pub returns-then-not-is_flushed : goal.returns-then-not-is_flushed
-returns-then-not-is_flushed g c = says_later g.D.Device _ _ _ _ _ _ _ (commit_then g.D.Device _ _ _ _ _ _ c.loop.invariant (commit_one g.D.Device _ _ _ _ _ _ refl c.make-begun.ensures)) (says_told g.D.Device _ _ _ _ _ c.flush-flushed.ensures)
+pub returns-then-is_nothing-clause-begins : goal.returns-then-is_nothing-clause-begins
+returns-then-is_nothing-clause-begins g c = λ is. absurd (false≢true (sym (c.if-not-is_busy.ensures refl) ∙ is))
+
+pub returns-then-is_nothing-clause-says : goal.returns-then-is_nothing-clause-says
+returns-then-is_nothing-clause-says g c = says_before g.D.Device _ _ _ _ _ _ _ (says_later g.D.Device _ _ _ _ _ _ _ c.loop.invariant (says_one g.D.Device _ _ _ _ _ _ refl c.make-begun.ensures)) (commit_one g.D.Device _ _ _ _ _ _ refl c.flush-flushed.ensures)
+
+pub returns-then-not-is_flushed-clause-begins : goal.returns-then-not-is_flushed-clause-begins
+returns-then-not-is_flushed-clause-begins g c = λ is. flush_is_other g.D.Device _ _ _ _ _ _ c.flush-flushed.ensures is
+
+pub returns-then-not-is_flushed-clause-says : goal.returns-then-not-is_flushed-clause-says
+returns-then-not-is_flushed-clause-says g c = says_later g.D.Device _ _ _ _ _ _ _ (commit_then g.D.Device _ _ _ _ _ _ c.loop.invariant (commit_one g.D.Device _ _ _ _ _ _ refl c.make-begun.ensures)) (says_one g.D.Device _ _ _ _ _ _ refl c.flush-flushed.ensures)
 
 pub loop-preserved : goal.loop-preserved
-loop-preserved g c = commit_then g.D.Device _ _ _ _ _ _ (commit_then g.D.Device _ _ _ _ _ _ c.loop.invariant (commit_one g.D.Device _ _ _ _ _ _ refl c.make-begun.ensures)) (commit_told g.D.Device _ _ _ _ _ c.flush-flushed.ensures)
+loop-preserved g c = commit_then g.D.Device _ _ _ _ _ _ (commit_then g.D.Device _ _ _ _ _ _ c.loop.invariant (commit_one g.D.Device _ _ _ _ _ _ refl c.make-begun.ensures)) (commit_one g.D.Device _ _ _ _ _ _ refl c.flush-flushed.ensures)
 
-pub returns : goal.returns
-returns g c = says_later g.D.Device _ _ _ _ _ _ _ c.loop.invariant (says_one g.D.Device _ _ _ _ _ _ refl c.make.ensures)
+pub returns-clause-begins : goal.returns-clause-begins
+returns-clause-begins g c = λ is. does_then g.D.Device _ _ _ _ _ _ _ _ _ begins_mark_later (does_goes_on g.D.Device _ _ _ _ c.loop.invariant) (does_one g.D.Device _ _ _ _ _ _ _ (begins_mark c.args.p _ is) c.make.ensures)
+
+pub returns-clause-says : goal.returns-clause-says
+returns-clause-says g c = says_later g.D.Device _ _ _ _ _ _ _ c.loop.invariant (says_one g.D.Device _ _ _ _ _ _ refl c.make.ensures)

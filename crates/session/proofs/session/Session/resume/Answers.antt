@@ -1,8 +1,11 @@
-use Rattle.session.proofs.Stretches.{aside_none, aside_then}
+use Rattle.session.proofs.Lengths.{all_then}
+use Rattle.session.proofs.Pieces.{does_nothing}
+use Rattle.session.proofs.Stretches.{does_then}
+use Rattle.machine.specs.declared.act.Act.TheVariants.{Resume}
 use Rattle.session.proofs.session.Session.resume.Goals as goal
 
 pub loop-p-init : goal.loop-p-init
-loop-p-init g c = aside_none g.D.Device _ _
+loop-p-init g c = does_nothing g.D.Device _ _ _ tt
 
 pub loop-p-preserved : goal.loop-p-preserved
-loop-p-preserved g c = aside_then g.D.Device _ _ _ _ _ _ c.loop-p.invariant c.resume_one.ensures
+loop-p-preserved g c = does_then g.D.Device _ _ _ _ _ _ _ _ _ (all_then Resume) c.loop-p.invariant c.resume_one.ensures

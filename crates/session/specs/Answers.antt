@@ -1,0 +1,124 @@
+-- The line that answers a request, without its line feed, and what was done for it.
+use Rattle.std.specs.Prelude.{ℕ, zero, suc, ◌≡◌, ◌⊎◌, List, [], ◌∷◌, ◌++◌, length, Contains, Option, Some, None, Result, Ok, Err, codes, IsUtf8}
+use Rattle.std.specs.Fmt.{decimal}
+use Rattle.std.specs.Io.KnownBytes.{Appends}
+use Rattle.hex.specs.Hex.{encode_lower}
+use Rattle.machine.specs.declared.act.Reply.{Reply}
+use Rattle.machine.specs.declared.act.Step.{Step}
+use Rattle.machine.specs.Words.{reply_text}
+use Rattle.session.specs.declared.notes.Notes.{Notes}
+use Rattle.session.specs.declared.ranges.Reached.{Reached}
+use Rattle.session.specs.declared.ranges.Reached.TheVariants.{All, Refused, NoMemory}
+use Rattle.session.specs.Lengths.{AnswersLength}
+use Rattle.session.specs.Notes.{noted_all}
+use Rattle.session.specs.Ranges.{LoadsReached, StoresReached}
+use Rattle.session.specs.Requests.{Asked, asks_steps, asks_load, asks_store, asks_commit, asks_length, request_in}
+use Rattle.session.specs.Steps.{AreOfCommit, IsMarkDurable}
+
+-- the replies of steps, with "; " between them
+abbrev pub steps_text : List Reply → List ℕ
+steps_text [] = []
+steps_text (reply ∷ []) = reply_text reply
+steps_text (reply ∷ replies) = reply_text reply ++ codes "; " ++ steps_text replies
+
+-- what the reply of a step adds to those of so many steps before it
+abbrev pub reply_after : ℕ → Reply → List ℕ
+reply_after zero reply = reply_text reply
+reply_after (suc number) reply = codes "; " ++ reply_text reply
+
+-- the reply of the step at which a range ended, and how many bytes of it came before
+abbrev pub refusal_text : Reply → ℕ → List ℕ
+refusal_text reply count = reply_text reply ++ codes " after " ++ decimal count
+
+-- that a range was loaded, or how far
+abbrev pub reached_text : Reached → List ℕ
+reached_text (Refused count reply) = refusal_text reply count
+reached_text _ = codes "loaded"
+
+-- a text after a space, if there is any
+abbrev pub text_after_space : List ℕ → List ℕ
+text_after_space [] = []
+text_after_space text = 32 ∷ text
+
+-- the hexadecimal digits of bytes after a space, if there are any
+abbrev pub digits_text : List ℕ → List ℕ
+digits_text [] = []
+digits_text bytes = 32 ∷ encode_lower bytes
+
+-- a range that was loaded, as far as it was; there is no answer where memory was refused
+abbrev pub TellsLoaded : Reached → List ℕ → List ℕ → Type 0
+TellsLoaded All bytes answer = answer ≡ codes "loaded" ++ digits_text bytes
+TellsLoaded (Refused count reply) bytes answer = answer ≡ refusal_text reply count ++ digits_text bytes
+TellsLoaded NoMemory bytes answer = ⊥
+
+-- a range of so many bytes that was stored, as far as it was
+abbrev pub stored_text : Reached → ℕ → List ℕ
+stored_text (Refused reached reply) count = refusal_text reply reached
+stored_text _ count = codes "stored " ++ decimal count
+
+-- a mark that is acknowledged, or what a step of the commit was answered instead
+abbrev pub committed_text : Result ℕ Reply → List ℕ
+committed_text (Ok mark) = codes "committed " ++ decimal mark
+committed_text (Err reply) = reply_text reply
+
+-- steps of a commit that came to this
+abbrev pub Commits : Notes → Result ℕ Reply → List Step → List Reply → Type 0
+Commits before (Ok mark) steps replies = AreOfCommit steps replies × IsMarkDurable before replies mark
+Commits before (Err reply) steps replies = AreOfCommit steps replies × Contains replies reply
+
+-- All that was asked for was done by these steps, as far as the machine makes them, and this is what is answered.
+abbrev pub Answers : Notes → Asked → List ℕ → List Step → List Reply → Type 0
+Answers before (asks_steps wanted) answer steps replies = (steps ≡ wanted) × (answer ≡ steps_text replies)
+Answers before (asks_load p va count) answer steps replies =
+    (bytes : List ℕ) × (reached : Reached) × LoadsReached p va count bytes reached steps replies
+    × TellsLoaded reached bytes answer
+Answers before (asks_store p va bytes) answer steps replies =
+    (reached : Reached) × StoresReached p va bytes reached steps replies × (answer ≡ stored_text reached (length bytes))
+Answers before (asks_commit p) answer steps replies =
+    (committed : Result ℕ Reply) × Commits before committed steps replies × (answer ≡ committed_text committed)
+Answers before (asks_length p file to) answer steps replies =
+    (reply : Reply) × AnswersLength p file to reply steps replies × (answer ≡ reply_text reply)
+
+-- What was asked for was done and answered: a line was written for it.
+abbrev pub WritesAnswer : Notes → Asked → Option (List ℕ) → Option (List ℕ) → List Step → List Reply → Type 0
+WritesAnswer before what old new steps replies =
+    (answer : List ℕ) × Answers before what answer steps replies × Appends old new (answer ++ 10 ∷ [])
+
+-- a line that isn't UTF-8, or is no request
+abbrev pub AsksNothing : List ℕ → Type 0
+AsksNothing line = (request_in line ≡ None) ⊎ ¬ (IsUtf8 line)
+
+-- A line that asks for nothing is a bad one, and no step is made for it.
+abbrev pub IsBad : List ℕ → List Step → List Reply → Type 0
+IsBad answer steps replies =
+    (cause : List ℕ) × (answer ≡ codes "badline " ++ cause) × (steps ≡ []) × (replies ≡ [])
+
+-- A line was answered so, by what it asks for.
+abbrev pub IsAnswered : Notes → List ℕ → List ℕ → List Step → List Reply → Type 0
+IsAnswered before line answer steps replies =
+    (AsksNothing line × IsBad answer steps replies)
+    ⊎ ((what : Asked) × (request_in line ≡ Some what) × Answers before what answer steps replies)
+
+-- A line was answered, and the answer was written as a line.
+abbrev pub WritesAnswerOf : Notes → List ℕ → Option (List ℕ) → Option (List ℕ) → List Step → List Reply → Type 0
+WritesAnswerOf before line old new steps replies =
+    (answer : List ℕ) × IsAnswered before line answer steps replies × Appends old new (answer ++ 10 ∷ [])
+
+-- One line was answered. A line that is too long is a bad one; of what it asks for nothing is said.
+abbrev pub IsAnsweredNext : Notes → Option (List ℕ) → List ℕ → List Step → List Reply → Type 0
+IsAnsweredNext before (Some line) answer steps replies = IsAnswered before line answer steps replies
+IsAnsweredNext before None answer steps replies = IsBad answer steps replies
+
+-- Lines were answered in order, each by the steps after those of the lines before it; the text has the answer to each,
+-- and a line feed after it.
+abbrev pub AreAnswered : Notes → List (Option (List ℕ)) → List ℕ → List Step → List Reply → Type 0
+AreAnswered before [] text steps replies = (text ≡ []) × (steps ≡ []) × (replies ≡ [])
+AreAnswered before (line ∷ lines) text steps replies =
+    (answer rest : List ℕ) × (first later : List Step) × (told more : List Reply)
+    × IsAnsweredNext before line answer first told × AreAnswered (noted_all before told) lines rest later more
+    × (text ≡ answer ++ 10 ∷ rest) × (steps ≡ first ++ later) × (replies ≡ told ++ more)
+
+-- Lines were answered, and the answers were written as lines.
+abbrev pub WritesAnswers : Notes → Option (List ℕ) → Option (List ℕ) → List Step → List Reply → Type 0
+WritesAnswers before old new steps replies = (lines : List (Option (List ℕ))) × (text : List ℕ)
+    × AreAnswered before lines text steps replies × Appends old new text
