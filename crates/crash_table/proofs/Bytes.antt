@@ -1,5 +1,5 @@
 -- Files with the same bytes are the same.
-use Rattle.std.proofs.Common.{◌≡◌, ℕ, ◌+◌, List, [], ◌∷◌, map, refl, ◌∙◌, ap}
+use Rattle.std.proofs.Common.{◌≡◌, ℕ, ◌+◌, List, [], ◌∷◌, refl, ◌∙◌, ap}
 use Rattle.volume_codec.specs.Files.{File}
 use Rattle.machine.specs.History.{Event, Memory, bytes_of_pages, files_from_memory, files_after, memory_of, after, lengths_of, lengths_after}
 use Rattle.crash_table.specs.inside.Kept.{contents_of}

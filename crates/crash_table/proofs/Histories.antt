@@ -1,6 +1,6 @@
 -- Histories of runs, step by step: where their marks come from.
-use Rattle.std.proofs.Common.{◌≡◌, ◌⊎◌, inl, inr, ⊎_elim, ℕ, zero, suc, ◌+◌, ◌<◌, ◌≤◌, Bool, true, false, cond, if◌then◌else◌, List, [], ◌∷◌, ◌++◌, length, take, drop, Option, Some, None, refl, sym, ◌∙◌, ap, subst, arith, append_assoc, append-nil, length-append}
-use Rattle.std.specs.Prelude.{slice_get, Contains, ◌||◌}
+use Rattle.std.proofs.Common.{◌≡◌, ◌⊎◌, inl, inr, ℕ, zero, suc, ◌+◌, ◌<◌, Bool, true, false, if◌then◌else◌, List, [], ◌∷◌, ◌++◌, length, take, Option, Some, None, refl, sym, ◌∙◌, ap, arith, append_assoc, append-nil}
+use Rattle.std.specs.Prelude.{slice_get, ◌||◌}
 use Rattle.std.specs.List.{fold, list_any}
 use Rattle.std.proofs.lemmas.List.Sums.{fold-append}
 use Rattle.std.proofs.lemmas.List.Folds.{list_any-append}
@@ -10,8 +10,8 @@ use Rattle.machine.specs.declared.act.Act.TheVariants as acts
 use Rattle.machine.specs.declared.act.Reply.{Reply}
 use Rattle.machine.specs.declared.act.Reply.TheVariants as replies
 use Rattle.machine.specs.declared.act.Step.{Step}
-use Rattle.machine.specs.History.{Event, Store, SetLength, Mark, Acknowledge, has_unmarked, since_mark, with_event, is_change}
-use Rattle.machine.specs.Told.{Told, Pending, Unmapping, Protecting, Resizing, tell, tell_all, events_of, store_at, resized_at, place_told}
+use Rattle.machine.specs.History.{Event, Mark, Acknowledge, has_unmarked, since_mark, with_event, is_change}
+use Rattle.machine.specs.Told.{Told, Pending, Resizing, tell, tell_all, events_of, store_at, resized_at, place_told}
 use Rattle.crash_table.specs.inside.Kept.{unmarked_by, unmarked_after}
 
 -- ---- lists

@@ -1,10 +1,10 @@
 -- Which files are found at a mark that is acknowledged, and which after a crash.
-use Rattle.std.proofs.Common.{◌≡◌, ◌⊎◌, inl, inr, ⊎_elim, ℕ, zero, suc, ◌+◌, ◌-◌, ◌<◌, ◌≤◌, Bool, true, false, if◌then◌else◌, List, [], ◌∷◌, ◌++◌, length, take, map, Some, Result, Ok, Err, IfOk, refl, sym, ◌∙◌, ap, subst, arith, append_assoc, append-nil, length-append}
+use Rattle.std.proofs.Common.{◌≡◌, ◌⊎◌, inl, inr, ℕ, zero, suc, ◌+◌, ◌-◌, ◌<◌, ◌≤◌, false, if◌then◌else◌, List, [], ◌∷◌, ◌++◌, length, take, map, Some, Result, Ok, Err, IfOk, refl, sym, ◌∙◌, ap, subst, arith, append_assoc, append-nil, length-append}
 use Rattle.std.specs.Prelude.{slice_get, slice_index_or, Contains}
 use Rattle.std.proofs.lemmas.Result.{IfOk-weaker}
 use Rattle.std.proofs.lemmas.Bool.{cases_order}
-use Rattle.std.proofs.lemmas.List.{take_at, take-take, take-append-le, length-take-le, length-replicate, get_or_append_left}
-use Rattle.std.proofs.lemmas.Option.{slice_get_within, slice_get_past}
+use Rattle.std.proofs.lemmas.List.{take-take, take-append-le, length-take-le, length-replicate}
+use Rattle.std.proofs.lemmas.Option.{slice_get_within}
 use Rattle.std.proofs.lemmas.List.Elements.{Contains-append_left, Contains-append_right, Contains-push}
 use Rattle.device.specs.declared.device.Device.{Ghosts}
 use Rattle.volume_codec.specs.Files.{File}
@@ -17,7 +17,7 @@ use Rattle.machine.specs.declared.act.Reply.TheVariants as replies
 use Rattle.machine.specs.declared.act.Shape.{Shape}
 use Rattle.machine.specs.declared.act.Step.{Step}
 use Rattle.machine.specs.Crashes.{Begins}
-use Rattle.machine.specs.History.{Event, Mark, Acknowledge, has_unmarked, files_after, IsDurablePrefix, IsMarked}
+use Rattle.machine.specs.History.{Event, Mark, Acknowledge, has_unmarked, files_after, IsMarked}
 use Rattle.machine.specs.Laws.{ReadsBack, told_at_start}
 use Rattle.machine.specs.OnTrack.{IsOnTrack}
 use Rattle.machine.specs.Fresh.{IsShape, fresh}
@@ -28,7 +28,7 @@ use Rattle.machine.specs.Told.{Told, tell, tell_all, events_of}
 use Rattle.engine.specs.Engine.{HasStarted}
 use Rattle.engine.proofs.Runs.{taken_kept}
 use Rattle.crash_table.specs.inside.Kept.{up_to_mark, bytes_at, unmarked_after, IsAcknowledged}
-use Rattle.crash_table.proofs.Histories.{mark_at, up_to_begins, history_grows, events_of_mark, events_of_commit, tell_then, unmarked_told, nothing_in}
+use Rattle.crash_table.proofs.Histories.{mark_at, up_to_begins, events_of_mark, events_of_commit, tell_then, unmarked_told, nothing_in}
 
 -- ---- results
 

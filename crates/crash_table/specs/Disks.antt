@@ -1,5 +1,5 @@
 -- The disks on which a run is made again: a copy in memory, one of whose calls fails.
-use Rattle.std.specs.Prelude.{ℕ, List, ⊤}
+use Rattle.std.specs.Prelude.{⊤}
 use Rattle.device.specs.declared.device.Device.{Ghosts}
 use Rattle.device.specs.Failing.{Failing}
 use Rattle.device.specs.Memory.{Recorded, seen_of, may_leave_of, moment_of, left_since_of}

@@ -1,5 +1,5 @@
 -- A run that is made once, and again for each crash.
-use Rattle.std.specs.Prelude.{ℕ, List, Contains}
+use Rattle.std.specs.Prelude.{ℕ, List}
 use Rattle.machine.specs.declared.act.Shape.{Shape}
 use Rattle.machine.specs.declared.act.Step.{Step}
 use Rattle.crash_table.specs.Crashes.{LeavesMark}

@@ -1,7 +1,4 @@
-use Rattle.std.proofs.Common.{◌≡◌, List, map}
 use Rattle.std.proofs.lemmas.Result.{IfOk-weaker}
-use Rattle.volume_codec.specs.Files.{File}
-use Rattle.volume_codec.specs.Recovery.{RecoversTo}
 use Rattle.recovery.specs.Volume.{files_of}
 use Rattle.crash_table.proofs.files.open_files.Goals as goal
 

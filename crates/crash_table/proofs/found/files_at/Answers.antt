@@ -1,4 +1,4 @@
-use Rattle.std.proofs.Common.{List, map}
+use Rattle.std.proofs.Common.{map}
 use Rattle.crash_table.proofs.Marks.{kept_at_mark, if_ok_always}
 use Rattle.crash_table.proofs.found.files_at.Goals as goal
 

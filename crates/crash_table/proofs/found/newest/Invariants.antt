@@ -1,4 +1,4 @@
-use Rattle.std.proofs.Common.{◌≡◌, ◌-◌, List, length, map}
+use Rattle.std.proofs.Common.{◌-◌, List, length, map}
 use Rattle.volume_codec.specs.Files.{File}
 use Rattle.machine.specs.declared.act.Shape.{Shape}
 use Rattle.machine.specs.declared.act.Step.{Step}

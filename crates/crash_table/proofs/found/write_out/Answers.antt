@@ -1,7 +1,6 @@
-use Rattle.std.proofs.Common.{rules, ◌≡◌, ◌∙◌, sym}
+use Rattle.std.proofs.Common.{rules, ◌∙◌, sym}
 use Rattle.std.specs.Prelude.{IsTrue}
 use Rattle.std.proofs.lemmas.Result.{on_ok_weaker}
-use Rattle.crash_table.specs.inside.Kept.{HasWrittenOut}
 use Rattle.crash_table.proofs.found.write_out.Goals as goal
 
 pub returns : goal.returns

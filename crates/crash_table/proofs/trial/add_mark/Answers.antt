@@ -1,5 +1,4 @@
 use Rattle.std.proofs.Common.{List, subst, sym}
-use Rattle.std.specs.Prelude.{slice_get}
 use Rattle.crash_table.specs.declared.found.MarkFiles.{MarkFiles}
 use Rattle.crash_table.specs.inside.Kept.{IsKept, AreKept}
 use Rattle.crash_table.proofs.Newest.{kept_more}

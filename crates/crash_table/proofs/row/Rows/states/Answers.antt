@@ -1,4 +1,4 @@
-use Rattle.std.proofs.Common.{List, [], ◌∷◌, ◌++◌, Contains, inl, inr, sym, subst, arith}
+use Rattle.std.proofs.Common.{List, Contains, inl, inr, subst}
 use Rattle.std.proofs.lemmas.List.Elements.{Contains-push_cases}
 use Rattle.crash_table.specs.Trials.{LeavesSome}
 use Rattle.crash_table.specs.declared.row.Found.{Found}
