@@ -5,7 +5,7 @@ use Rattle.std.proofs.KnownBytes.{Consumes-nil, Consumes-trans}
 use Rattle.std.specs.Io.KnownBytes.{Consumes, IsAtEnd}
 use Rattle.std.specs.Io.BufRead.{drop_through, DropsThrough}
 use Rattle.session.specs.declared.line.Line.TheVariants.{Whole, Long, End}
-use Rattle.session.specs.Lines.{HasNoFeed, BeginsWith, ReadsLine}
+use Rattle.session.specs.Lines.{HasNoFeed, BeginsWith, ReadsLine, AreLines, ReadsLines}
 use Rattle.session.specs.inside.Reading.{IsPart, ReadsPart}
 
 -- the end of what is known is that of what was known before
@@ -157,3 +157,41 @@ pub nothing_read : (a : Option (List ℕ)) (line : List ℕ) → line ≡ [] →
 nothing_read a line none =
     let P : List ℕ → Type 0 = λ l. ReadsPart a a l false in
     subst P (sym none) (All-nil (λ byte. byte ≢ 10), omega (arith), Consumes-nil a)
+
+-- lines after lines
+are_lines_then : (bytes part rest : List ℕ) (lines more : List (Option (List ℕ))) → AreLines bytes lines part → AreLines part more rest → AreLines bytes (lines ++ more) rest
+are_lines_then bytes part rest [] more same later = subst (λ b. AreLines b more rest) same later
+are_lines_then bytes part rest (told ∷ lines) more (line, after, is, tells, are) later = (line, after, is, tells, are_lines_then after part rest lines more are later)
+
+pub reads_both : (a b c : Option (List ℕ)) (lines more : List (Option (List ℕ))) → ReadsLines a b lines → ReadsLines b c more → ReadsLines a c (lines ++ more)
+reads_both None b c lines more first later = tt
+reads_both (Some x) None c lines more first later = absurd first
+reads_both (Some x) (Some y) None lines more first later = absurd later
+reads_both (Some x) (Some y) (Some z) lines more first later = are_lines_then x y z lines more first later
+
+-- what comes after lines has come to its end
+pub end_after_lines : (a b c : Option (List ℕ)) (lines : List (Option (List ℕ))) → ReadsLines a b lines → OnSome b (IsAtEnd c) → OnSome a (IsAtEnd c)
+end_after_lines None b c lines read end = tt
+end_after_lines (Some x) None c lines read end = absurd read
+end_after_lines (Some x) (Some y) c lines read end = end
+
+-- no line was read
+pub reads_same : (a : Option (List ℕ)) → ReadsLines a a []
+reads_same None = tt
+reads_same (Some x) = refl
+
+pub reads_none : (a b : Option (List ℕ)) (told : List ℕ) → ReadsLine a b End told → ReadsLines a b [] × OnSome a (IsAtEnd b)
+reads_none None b told read = (tt, tt)
+reads_none (Some x) None told read = absurd read
+reads_none (Some x) (Some y) told (none, end) = (end ∙ sym none, end)
+
+-- one was
+pub reads_one : (a b : Option (List ℕ)) (told : List ℕ) → ReadsLine a b Whole told → ReadsLines a b (Some told ∷ [])
+reads_one None b told read = tt
+reads_one (Some x) None told read = absurd read
+reads_one (Some x) (Some y) told (is, few) = (told, y, is, (refl, few), refl)
+
+pub reads_too_long : (a b : Option (List ℕ)) (told : List ℕ) → ReadsLine a b Long told → ReadsLines a b (None ∷ [])
+reads_too_long None b told read = tt
+reads_too_long (Some x) None told read = absurd read
+reads_too_long (Some x) (Some y) told (line, is, many) = (line, y, is, many, refl)

@@ -35,3 +35,9 @@ abbrev pub ReadsLine : Option (List ℕ) → Option (List ℕ) → Line → List
 ReadsLine None new found told = ⊤
 ReadsLine (Some bytes) None found told = ⊥
 ReadsLine (Some bytes) (Some rest) found told = BeginsWith bytes found told rest
+
+-- These lines were read from an input whose bytes are known.
+abbrev pub ReadsLines : Option (List ℕ) → Option (List ℕ) → List (Option (List ℕ)) → Type 0
+ReadsLines None new lines = ⊤
+ReadsLines (Some bytes) None lines = ⊥
+ReadsLines (Some bytes) (Some rest) lines = AreLines bytes lines rest
