@@ -1,9 +1,8 @@
 -- Steps by which the length of a file is set.
-use Rattle.std.proofs.Common.{◌≡◌, ◌⊎◌, inl, inr, ℕ, Bool, true, false, List, [], ◌∷◌, ◌++◌, refl, sym, subst}
+use Rattle.std.proofs.Common.{◌≡◌, inl, inr, ℕ, true, false, List, [], ◌∷◌, ◌++◌, refl, sym, subst}
 use Rattle.machine.specs.declared.act.Act.{Act}
-use Rattle.machine.specs.declared.act.Act.TheVariants.{SetLength, Flush, Ack, Change, Resume}
+use Rattle.machine.specs.declared.act.Act.TheVariants.{SetLength, Flush, Ack, Resume}
 use Rattle.machine.specs.declared.act.Reply.{Reply}
-use Rattle.machine.specs.declared.act.Reply.TheVariants.{Begun}
 use Rattle.machine.specs.declared.act.Step.{Step}
 use Rattle.session.specs.Lengths.{tells_begun, tells_flushed, AreAll, AnswersChange, IsTry, IsObstacle, ChangesLength, RefusesLength}
 use Rattle.session.specs.Steps.{is_aside, AreAside}

@@ -2,4 +2,5 @@ pub mod Stretches
 pub mod Pieces
 pub mod Changes
 pub mod Lengths
+pub mod Lines
 pub mod Writing

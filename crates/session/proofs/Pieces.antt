@@ -1,5 +1,5 @@
 -- Pieces of a range, one after the other.
-use Rattle.std.proofs.Common.{◌≡◌, ◌<◌, ◌≤◌, ◌⊎◌, inl, inr, ℕ, ◌+◌, Bool, true, List, [], ◌∷◌, ◌++◌, length, length-append, take, get_or, arith, refl, sym, ◌∙◌, ap, subst}
+use Rattle.std.proofs.Common.{◌≡◌, ◌<◌, ◌≤◌, inl, inr, ℕ, ◌+◌, List, [], ◌∷◌, ◌++◌, length, length-append, take, get_or, arith, refl, sym, ◌∙◌, ap, subst}
 use Rattle.std.proofs.lemmas.List.{append_assoc, append-nil, take_more}
 use Rattle.machine.specs.declared.act.Reply.{Reply}
 use Rattle.machine.specs.declared.act.Reply.TheVariants.{Bytes, Stored}
@@ -10,7 +10,7 @@ use Rattle.machine.specs.State.{Whole}
 use Rattle.session.specs.declared.notes.Notes.{Notes}
 use Rattle.session.specs.declared.ranges.Reached.TheVariants.{All, Refused, NoMemory}
 use Rattle.session.specs.Ranges.{MakesStepsThat, LoadsRange, LoadsReached, StoresRange, StoresReached}
-use Rattle.session.specs.Steps.{Makes, is_aside, AreAside, behind, EndsAt, AreLoads, AreStores}
+use Rattle.session.specs.Steps.{Makes, AreAside, behind, EndsAt, AreLoads, AreStores}
 use Rattle.session.specs.inside.Aside.{AnswersAfter, StopsAt}
 use Rattle.session.specs.inside.Made.{HasMade}
 use Rattle.session.proofs.Stretches.{makes_none, makes_then}

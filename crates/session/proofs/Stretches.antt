@@ -1,5 +1,5 @@
 -- Steps after steps: what was made, and that it reads and stores nothing.
-use Rattle.std.proofs.Common.{◌≡◌, ◌⊎◌, inl, inr, ℕ, ◌+◌, ◌==◌, ◌&&◌, arith, Bool, true, false, not, List, [], ◌∷◌, ◌++◌, length, refl, sym, ◌∙◌, ap, subst, Contains}
+use Rattle.std.proofs.Common.{◌≡◌, inl, inr, ℕ, ◌+◌, ◌==◌, ◌&&◌, arith, Bool, true, false, not, List, [], ◌∷◌, ◌++◌, refl, sym, ◌∙◌, ap, subst}
 use Rattle.std.proofs.lemmas.Bool.Decides.{nat_tests}
 use Rattle.std.proofs.lemmas.List.{append-nil}
 use Rattle.std.proofs.lemmas.List.Elements.{Contains-append_left, Contains-append_right, Contains-push}
@@ -8,11 +8,11 @@ use Rattle.machine.specs.declared.act.Reply.{Reply}
 use Rattle.machine.specs.declared.act.Reply.TheVariants.{Marked, Committed}
 use Rattle.machine.specs.declared.act.Step.{Step}
 use Rattle.machine.specs.State.{Whole}
-use Rattle.machine.specs.Runs.{StepTaken, StepsTaken}
+use Rattle.machine.specs.Runs.{StepsTaken}
 use Rattle.session.specs.declared.notes.Notes.{Notes}
 use Rattle.session.specs.Notes.{noted_after, noted_all}
 use Rattle.session.specs.Ranges.{MakesStepsThat}
-use Rattle.session.specs.Steps.{Makes, Says, is_aside, is_of_commit, AreAside, AreOfCommit, may_end, EndsAt, IsMarkDurable, CommitsMark}
+use Rattle.session.specs.Steps.{Makes, Says, is_aside, is_of_commit, AreAside, AreOfCommit, may_end, EndsAt, CommitsMark}
 use Rattle.session.specs.inside.Aside.{GoesAside, IsTold, StopsAt, AnswersAfter}
 use Rattle.session.specs.inside.Made.{HasMade, GoesOn}
 

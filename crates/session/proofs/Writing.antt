@@ -1,8 +1,7 @@
 -- The lines that answer requests: what is written, one thing after the other, and what it says.
-use Rattle.std.proofs.Common.{◌≡◌, ◌⊎◌, inl, inr, ℕ, ◌+◌, ◌<◌, ◌≤◌, List, [], ◌∷◌, ◌++◌, length, length-append, take, get_or, Option, Some, None, Result, Ok, Err, OnOk, IsOk, IfOk, IfErr, is_ok, codes, refl, sym, ◌∙◌, ap, subst, arith}
+use Rattle.std.proofs.Common.{◌≡◌, ◌⊎◌, inl, inr, ℕ, ◌+◌, ◌<◌, ◌≤◌, List, [], ◌∷◌, ◌++◌, length, length-append, take, get_or, ◌-◌, ◌^◌, Bool, true, false, true≢false, if◌then◌else◌, Option, Some, None, OnSome, Result, Ok, Err, OnOk, IsOk, IfOk, IfErr, is_ok, codes, refl, sym, ◌∙◌, ap, subst, arith}
 use Rattle.std.proofs.lemmas.List.{append_assoc, append-nil, take_more, take_all}
-use Rattle.std.proofs.lemmas.Result.{on_ok_weaker}
-use Rattle.std.specs.Io.KnownBytes.{Appends, Keeps}
+use Rattle.std.specs.Io.KnownBytes.{Appends, IsAtEnd, Keeps}
 use Rattle.hex.specs.Hex.{encode_with, encode_lower}
 use Rattle.device.specs.declared.device.Device.{Ghosts}
 use Rattle.machine.specs.declared.act.Reply.{Reply}
@@ -16,12 +15,14 @@ use Rattle.std.specs.declared.alloc.AllocError.{AllocError}
 use Rattle.session.specs.declared.request_fault.RequestFault.{RequestFault}
 use Rattle.session.specs.declared.request_fault.RequestFault.TheVariants as fault
 use Rattle.session.specs.Notes.{noted_after, noted_all}
-use Rattle.session.specs.Answers.{steps_text, reply_after, refusal_text, reached_text, text_after_space, digits_text, TellsLoaded, stored_text, committed_text, AsksNothing, WritesAnswer, WritesAnswerOf, AreAnswered, WritesAnswers}
+use Rattle.session.specs.Answers.{steps_text, reply_after, refusal_text, reached_text, text_after_space, digits_text, TellsLoaded, stored_text, committed_text, AsksNothing, WritesAnswer, WritesAnswerOf, AreAnswered, WritesAnswers, AnswersInput}
+use Rattle.session.specs.Lines.{ReadsLines}
 use Rattle.session.specs.Asked.{AreFirst, IsMemory}
 use Rattle.session.specs.Lengths.{AnswersLength}
 use Rattle.session.specs.Ranges.{MakesStepsThat, LoadsReached, StoresReached}
 use Rattle.session.specs.Requests.{Asked, asks_steps, asks_load, asks_store, asks_commit, asks_length, request_in}
 use Rattle.session.specs.Steps.{Makes, Says, CommitsMark}
+use Rattle.session.proofs.Lines.{reads_both, end_after_lines}
 use Rattle.session.proofs.Stretches.{makes_none, makes_then}
 
 -- nothing was written
@@ -214,13 +215,13 @@ are_answered_then before (line ∷ lines) text steps replies lines' text' steps'
     )
 
 -- no line
-pub answers_none : {D : Type 0} (disk : Ghosts D) (old : Whole D) (before : Notes) (a : Option (List ℕ)) → MakesStepsThat disk old before (WritesAnswers before a a) old before
-answers_none disk old before a = record { steps = []; replies = []; makes = makes_none disk old before; holds = ([], [], (refl, refl, refl), appends_none a) }
+pub answers_none : {D : Type 0} (disk : Ghosts D) (old : Whole D) (before : Notes) (input rest a : Option (List ℕ)) → ReadsLines input rest [] → MakesStepsThat disk old before (WritesAnswers before 0 input rest a a) old before
+answers_none disk old before input rest a read = record { steps = []; replies = []; makes = makes_none disk old before; holds = ([], [], refl, read, (refl, refl, refl), appends_none a) }
 
 -- one line
-answers_one : {D : Type 0} (disk : Ghosts D) (old new : Whole D) (before after : Notes) (line : List ℕ) (a b c : Option (List ℕ)) → MakesStepsThat disk old before (WritesAnswerOf before line a b) new after → Keeps b c
-    → MakesStepsThat disk old before (WritesAnswers before a c) new after
-answers_one disk old new before after line a b c it kept =
+answers_one : {D : Type 0} (disk : Ghosts D) (old new : Whole D) (before after : Notes) (line : List ℕ) (input rest a b c : Option (List ℕ)) → ReadsLines input rest (Some line ∷ []) → MakesStepsThat disk old before (WritesAnswerOf before line a b) new after → Keeps b c
+    → MakesStepsThat disk old before (WritesAnswers before 1 input rest a c) new after
+answers_one disk old new before after line input rest a b c read it kept =
     record {
       steps = it.steps;
       replies = it.replies;
@@ -228,15 +229,17 @@ answers_one disk old new before after line a b c it kept =
       holds = (
         Some line ∷ [],
         it.holds.0 ++ 10 ∷ [],
+        refl,
+        read,
         (it.holds.0, [], it.steps, [], it.replies, [], it.holds.1, (refl, refl, refl), refl, sym (append-nil it.steps), sym (append-nil it.replies)),
         appends_kept a b c (it.holds.0 ++ 10 ∷ []) it.holds.2 kept,
       );
     }
 
 -- one line that is too long
-answers_bad : {D : Type 0} (disk : Ghosts D) (old : Whole D) (before : Notes) (a b c : Option (List ℕ)) → ((text : List ℕ) × Appends a b (codes "badline " ++ text ++ 10 ∷ [])) → Keeps b c
-    → MakesStepsThat disk old before (WritesAnswers before a c) old before
-answers_bad disk old before a b c (text, wrote) kept =
+answers_bad : {D : Type 0} (disk : Ghosts D) (old : Whole D) (before : Notes) (input rest a b c : Option (List ℕ)) → ReadsLines input rest (None ∷ []) → ((text : List ℕ) × Appends a b (codes "badline " ++ text ++ 10 ∷ [])) → Keeps b c
+    → MakesStepsThat disk old before (WritesAnswers before 1 input rest a c) old before
+answers_bad disk old before input rest a b c read (text, wrote) kept =
     let answer : List ℕ = codes "badline " ++ text in
     record {
       steps = [];
@@ -245,24 +248,40 @@ answers_bad disk old before a b c (text, wrote) kept =
       holds = (
         None ∷ [],
         answer ++ 10 ∷ [],
+        refl,
+        read,
         (answer, [], [], [], [], [], (text, refl, refl, refl), (refl, refl, refl), refl, refl, refl),
         appends_kept a b c (answer ++ 10 ∷ []) wrote kept,
       );
     }
 
--- and the output was flushed after it
-pub line_flushed : {D S T E F : Type 0} (disk : Ghosts D) (old new : Whole D) (before after : Notes) (line : List ℕ) (a b c : Option (List ℕ)) (written : Result S E) (flushed : Result T F) → OnOk written (MakesStepsThat disk old before (WritesAnswerOf before line a b) new after)
-    → OnOk flushed (IsOk written × Keeps b c) → OnOk flushed (MakesStepsThat disk old before (WritesAnswers before a c) new after)
-line_flushed disk old new before after line a b c written flushed told is = on_ok_weaker flushed (λ kept. answers_one disk old new before after line a b c (on_ok_at written kept.0 told) kept.1) is
+-- the number of lines that were answered: one if there was one
+abbrev pub WritesNext : {D : Type 0} → Ghosts D → Whole D → Whole D → Notes → Notes → Option (List ℕ) → Option (List ℕ) → Option (List ℕ) → Option (List ℕ) → Bool → Type 0
+WritesNext disk old new before after input rest a c more = MakesStepsThat disk old before (WritesAnswers before (if more then 1 else 0) input rest a c) new after
 
-pub bad_flushed : {D S T E F : Type 0} (disk : Ghosts D) (old : Whole D) (before : Notes) (cause : RequestFault) (a b c : Option (List ℕ)) (written : Result S E) (flushed : Result T F)
-    → OnOk written (¬ (IsMemory cause) × ((text : List ℕ) × Appends a b (codes "badline " ++ text ++ 10 ∷ []))) → OnOk flushed (IsOk written × Keeps b c) → OnOk flushed (MakesStepsThat disk old before (WritesAnswers before a c) old before)
-bad_flushed disk old before cause a b c written flushed told is = on_ok_weaker flushed (λ kept. answers_bad disk old before a b c (on_ok_at written kept.0 told).1 kept.1) is
+-- and the output was flushed after it
+pub line_flushed : {D S E F : Type 0} (disk : Ghosts D) (old new : Whole D) (before after : Notes) (line : List ℕ) (input rest a b c : Option (List ℕ)) (written : Result S E) (flushed : Result Bool F) → ReadsLines input rest (Some line ∷ [])
+    → OnOk written (MakesStepsThat disk old before (WritesAnswerOf before line a b) new after) → IfOk flushed (λ more. (more ≡ true) × IsOk written × Keeps b c) → IfOk flushed (WritesNext disk old new before after input rest a c)
+line_flushed disk old new before after line input rest a b c written (Err cause) read told is = tt
+line_flushed disk old new before after line input rest a b c written (Ok more) read told (was, wrote, kept) =
+    subst (WritesNext disk old new before after input rest a c) (sym was) (answers_one disk old new before after line input rest a b c read (on_ok_at written wrote told) kept)
+
+pub bad_flushed : {D S E F : Type 0} (disk : Ghosts D) (old : Whole D) (before : Notes) (cause : RequestFault) (input rest a b c : Option (List ℕ)) (written : Result S E) (flushed : Result Bool F) → ReadsLines input rest (None ∷ [])
+    → OnOk written (¬ (IsMemory cause) × ((text : List ℕ) × Appends a b (codes "badline " ++ text ++ 10 ∷ []))) → IfOk flushed (λ more. (more ≡ true) × IsOk written × Keeps b c) → IfOk flushed (WritesNext disk old old before before input rest a c)
+bad_flushed disk old before cause input rest a b c written (Err fault) read told is = tt
+bad_flushed disk old before cause input rest a b c written (Ok more) read told (was, wrote, kept) =
+    subst (WritesNext disk old old before before input rest a c) (sym was) (answers_bad disk old before input rest a b c read (on_ok_at written wrote told).1 kept)
+
+-- an answer that was flushed was of a line
+pub flushed_line : {S E F : Type 0} (b c : Option (List ℕ)) (written : Result S E) (flushed : Result Bool F) → IfOk flushed (λ more. (more ≡ true) × IsOk written × Keeps b c) → flushed ≡ Ok false → ⊥
+flushed_line b c written (Err cause) is none = absurd (cc)
+flushed_line b c written (Ok true) is none = absurd (cc)
+flushed_line b c written (Ok false) is none = absurd (true≢false (sym is.0))
 
 -- lines after lines
-pub answers_then : {D : Type 0} (disk : Ghosts D) (old mid new : Whole D) (before between after : Notes) (a b c : Option (List ℕ)) → MakesStepsThat disk old before (WritesAnswers before a b) mid between
-    → MakesStepsThat disk mid between (WritesAnswers between b c) new after → MakesStepsThat disk old before (WritesAnswers before a c) new after
-answers_then disk old mid new before between after a b c first later =
+pub answers_then : {D : Type 0} (disk : Ghosts D) (old mid new : Whole D) (before between after : Notes) (count more : ℕ) (input part rest a b c : Option (List ℕ)) → MakesStepsThat disk old before (WritesAnswers before count input part a b) mid between
+    → MakesStepsThat disk mid between (WritesAnswers between more part rest b c) new after → MakesStepsThat disk old before (WritesAnswers before (count + more) input rest a c) new after
+answers_then disk old mid new before between after count more input part rest a b c first later =
     let S : Notes → Type 0 = λ n. AreAnswered n later.holds.0 later.holds.1 later.steps later.replies in
     record {
       steps = first.steps ++ later.steps;
@@ -271,7 +290,21 @@ answers_then disk old mid new before between after a b c first later =
       holds = (
         first.holds.0 ++ later.holds.0,
         first.holds.1 ++ later.holds.1,
-        are_answered_then before first.holds.0 first.holds.1 first.steps first.replies later.holds.0 later.holds.1 later.steps later.replies first.holds.2 (subst S first.makes.notes later.holds.2),
-        appends_both a b c first.holds.1 later.holds.1 first.holds.3 later.holds.3,
+        omega (arith, length-append first.holds.0 later.holds.0, first.holds.2, later.holds.2),
+        reads_both input part rest first.holds.0 later.holds.0 first.holds.3 later.holds.3,
+        are_answered_then before first.holds.0 first.holds.1 first.steps first.replies later.holds.0 later.holds.1 later.steps later.replies first.holds.4 (subst S first.makes.notes later.holds.4),
+        appends_both a b c first.holds.1 later.holds.1 first.holds.5 later.holds.5,
       );
     }
+
+-- these were the lines of the input
+pub answers_input : {D : Type 0} (disk : Ghosts D) (old new : Whole D) (before after : Notes) (count : ℕ) (input rest a b : Option (List ℕ)) → MakesStepsThat disk old before (WritesAnswers before count input rest a b) new after
+    → (count < 2 ^ 64 - 1 → OnSome input (IsAtEnd rest)) → MakesStepsThat disk old before (AnswersInput before input rest a b) new after
+answers_input disk old new before after count input rest a b it end = record { steps = it.steps; replies = it.replies; makes = it.makes; holds = (count, it.holds, end) }
+
+-- lines, and then the end of the input
+pub answers_to_end : {D : Type 0} (disk : Ghosts D) (old mid new : Whole D) (before between after : Notes) (count : ℕ) (input part rest a b c : Option (List ℕ)) → MakesStepsThat disk old before (WritesAnswers before count input part a b) mid between
+    → MakesStepsThat disk mid between (WritesAnswers between 0 part rest b c) new after → OnSome part (IsAtEnd rest) → MakesStepsThat disk old before (AnswersInput before input rest a c) new after
+answers_to_end disk old mid new before between after count input part rest a b c first later end =
+    answers_input disk old new before after (count + 0) input rest a c (answers_then disk old mid new before between after count 0 input part rest a b c first later)
+    (λ _. end_after_lines input part rest first.holds.0 first.holds.3 end)

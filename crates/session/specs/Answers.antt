@@ -1,7 +1,7 @@
 -- The line that answers a request, without its line feed, and what was done for it.
-use Rattle.std.specs.Prelude.{ℕ, zero, suc, ◌≡◌, ◌⊎◌, List, [], ◌∷◌, ◌++◌, length, Contains, Option, Some, None, Result, Ok, Err, codes, IsUtf8}
+use Rattle.std.specs.Prelude.{ℕ, zero, suc, ◌≡◌, ◌⊎◌, ◌-◌, ◌^◌, ◌<◌, List, [], ◌∷◌, ◌++◌, length, Contains, Option, Some, None, OnSome, Result, Ok, Err, codes, IsUtf8}
 use Rattle.std.specs.Fmt.{decimal}
-use Rattle.std.specs.Io.KnownBytes.{Appends}
+use Rattle.std.specs.Io.KnownBytes.{Appends, IsAtEnd}
 use Rattle.hex.specs.Hex.{encode_lower}
 use Rattle.machine.specs.declared.act.Reply.{Reply}
 use Rattle.machine.specs.declared.act.Step.{Step}
@@ -10,6 +10,7 @@ use Rattle.session.specs.declared.notes.Notes.{Notes}
 use Rattle.session.specs.declared.ranges.Reached.{Reached}
 use Rattle.session.specs.declared.ranges.Reached.TheVariants.{All, Refused, NoMemory}
 use Rattle.session.specs.Lengths.{AnswersLength}
+use Rattle.session.specs.Lines.{ReadsLines}
 use Rattle.session.specs.Notes.{noted_all}
 use Rattle.session.specs.Ranges.{LoadsReached, StoresReached}
 use Rattle.session.specs.Requests.{Asked, asks_steps, asks_load, asks_store, asks_commit, asks_length, request_in}
@@ -118,7 +119,16 @@ AreAnswered before (line ∷ lines) text steps replies =
     × IsAnsweredNext before line answer first told × AreAnswered (noted_all before told) lines rest later more
     × (text ≡ answer ++ 10 ∷ rest) × (steps ≡ first ++ later) × (replies ≡ told ++ more)
 
--- Lines were answered, and the answers were written as lines.
-abbrev pub WritesAnswers : Notes → Option (List ℕ) → Option (List ℕ) → List Step → List Reply → Type 0
-WritesAnswers before old new steps replies = (lines : List (Option (List ℕ))) × (text : List ℕ)
+-- So many lines of the input were read and answered, and the answers were written as lines.
+abbrev pub WritesAnswers : Notes → ℕ → Option (List ℕ) → Option (List ℕ) → Option (List ℕ) → Option (List ℕ)
+    → List Step → List Reply → Type 0
+WritesAnswers before count input rest old new steps replies =
+    (lines : List (Option (List ℕ))) × (text : List ℕ) × (length lines ≡ count) × ReadsLines input rest lines
     × AreAnswered before lines text steps replies × Appends old new text
+
+-- The lines of the input were answered so: all of them, or the first 2 ^ 64 - 1.
+abbrev pub AnswersInput : Notes → Option (List ℕ) → Option (List ℕ) → Option (List ℕ) → Option (List ℕ) → List Step
+    → List Reply → Type 0
+AnswersInput before input rest old new steps replies =
+    (count : ℕ) × WritesAnswers before count input rest old new steps replies
+    × (count < 2 ^ 64 - 1 → OnSome input (IsAtEnd rest))

@@ -4,5 +4,6 @@ pub mod Asked
 pub mod Steps
 pub mod Lengths
 pub mod Ranges
+pub mod Lines
 pub mod Answers
 pub mod inside

@@ -1,5 +1,5 @@
 -- What a session has to know of the steps that were made before.
-use Rattle.std.specs.Prelude.{ℕ, ◌≡◌, Bool, true, false, List, [], ◌∷◌}
+use Rattle.std.specs.Prelude.{Bool, true, false, List, [], ◌∷◌}
 use Rattle.page_entry.specs.declared.refusal.Refusal.TheVariants.{Device}
 use Rattle.machine.specs.declared.act.Reply.{Reply}
 use Rattle.machine.specs.declared.act.Reply.TheVariants.{Stored, Resized, Marked, Refused}

@@ -1,7 +1,11 @@
 // The lines of an input.
+ghost use Rattle.std.specs.Prelude.{Option, List, ℕ, IfOk, OnOk, true, false};
+ghost use Rattle.session.specs.Lines.{ReadsLine};
+ghost use Rattle.session.specs.inside.Reading.{IsPart, ReadsPart};
+
 use std::alloc::Allocator;
 use std::io;
-use std::io::{BufRead, Read};
+use std::io::{BufRead, ErrorKind};
 
 /// The most bytes of a line, without its line feed.
 pub const MOST_OF_LINE: u64 = 262_144;
@@ -18,19 +22,21 @@ pub enum Line {
 }
 
 /// Reads the next line, without its line feed, into a buffer that is cleared before.
+///
+/// Where it answers `Ok`, it has taken that line and its line feed from the input, and nothing after them.
 pub fn read_line<A: Allocator + Copy, I: BufRead>(
     input: &mut I,
     line: &mut Vec<u8, A>,
-) -> io::Result<Line> {
+) -> io::Result<Line>
+    ensures { IfOk result (λ found.
+        ReadsLine (I.remaining input.old) (I.remaining input.new) found line.new.items) }
+{
     line.clear();
-    let count = input
-        .by_ref()
-        .take(MOST_OF_LINE + 1)
-        .read_until(b'\n', line)?;
-    if count == 0 {
+    read_start(input, line)?;
+    if line.is_empty() {
         return Ok(Line::End);
     }
-    if line.last() == Some(&b'\n') {
+    if line[line.len() - 1] == b'\n' {
         line.pop();
         return Ok(Line::Whole);
     }
@@ -39,4 +45,64 @@ pub fn read_line<A: Allocator + Copy, I: BufRead>(
     }
     input.skip_until(b'\n')?;
     Ok(Line::Long)
+}
+
+// Appends the next line, with its line feed, as far as it isn't too long, to what is empty. Of one that is too long it
+// takes one byte more than the most that a line has.
+fn read_start<A: Allocator + Copy, I: BufRead>(
+    input: &mut I,
+    line: &mut Vec<u8, A>,
+) -> io::Result<()>
+    ensures { OnOk result ((known : Option (List ℕ)) → ReadsPart known (I.remaining input.old) line.old.items false
+        → ReadsPart known (I.remaining input.new) line.new.items true) }
+{
+    for _ in 0..u64::MAX {
+        if append_part(input, line)? {
+            return Ok(());
+        }
+    }
+    Err(io::Error::from(ErrorKind::TimedOut))
+}
+
+// Appends what the input has at hand of the line. Answers whether nothing more is to be read of it. A signal that
+// interrupts is none of the input's faults.
+fn append_part<A: Allocator + Copy, I: BufRead>(
+    input: &mut I,
+    line: &mut Vec<u8, A>,
+) -> io::Result<bool>
+    ensures { IfOk result (λ ends. (known : Option (List ℕ))
+        → ReadsPart known (I.remaining input.old) line.old.items false
+        → ReadsPart known (I.remaining input.new) line.new.items ends) }
+{
+    let left = (MOST_OF_LINE as usize + 1).saturating_sub(line.len());
+    if left == 0 {
+        return Ok(true);
+    }
+    let available = match input.fill_buf() {
+        Ok(available) => available,
+        Err(cause) => {
+            return if cause.kind() == ErrorKind::Interrupted {
+                Ok(false)
+            } else {
+                Err(cause)
+            };
+        }
+    };
+    let (count, ends) = part_of_line(available, left);
+    line.extend_from_slice(&available[..count])?;
+    input.consume(count);
+    Ok(ends)
+}
+
+// How many of the bytes are of one line and its line feed, up to the most; and whether that ends it.
+fn part_of_line(bytes: &[u8], most: usize) -> (usize, bool)
+    ensures { IsPart bytes.now most result.0 result.1 }
+{
+    let within = bytes.len().min(most);
+    for i in 0..within {
+        if bytes[i] == b'\n' {
+            return (i + 1, true);
+        }
+    }
+    (within, within == 0)
 }

@@ -1,11 +1,11 @@
 // The lines of a session, one after the other.
-ghost use Rattle.std.specs.Prelude.{List, ℕ, [], ◌∷◌, ◌++◌, IsOk, OnOk, codes};
-ghost use Rattle.std.specs.Io.KnownBytes.{Appends, Keeps};
+ghost use Rattle.std.specs.Prelude.{◌≡◌, List, ℕ, [], ◌∷◌, ◌++◌, Ok, true, false, if◌then◌else◌, IsOk, IfOk, OnOk, OnSome, codes};
+ghost use Rattle.std.specs.Io.KnownBytes.{Appends, IsAtEnd, Keeps};
 ghost use Rattle.machine.specs.declared.act.Reply.{Reply};
 ghost use Rattle.machine.specs.declared.act.Shape.{Shape};
 ghost use Rattle.machine.specs.declared.act.Step.{Step};
 ghost use Rattle.engine.specs.Engine.{HasStarted, HasRun};
-ghost use Rattle.session.specs.Answers.{WritesAnswerOf, WritesAnswers};
+ghost use Rattle.session.specs.Answers.{AnswersInput, WritesAnswerOf, WritesAnswers};
 ghost use Rattle.session.specs.Asked.{IsMemory, IsServedFor};
 ghost use Rattle.session.specs.Ranges.{MakesStepsThat};
 ghost use Rattle.session.specs.Steps.{Makes};
@@ -28,8 +28,9 @@ use std::io::BufRead;
 /// However the session ends, its steps and their replies are a run over the device that the machine was started over,
 /// with all that holds of one: after a crash, and after none, what was stored survives (`HasRun`).
 ///
-/// Where it answers `Ok`, it has written one line for each line that it answered, in their order: what that one asks
-/// for was done by steps after those of the lines before it, and the answer says what came of it (`WritesAnswers`).
+/// Where it answers `Ok`, it has answered the lines of the input, up to its end or 2 ^ 64 - 1 of them, by a line for
+/// each, in their order: what a line asks for was done by steps after those of the lines before it, and the answer says
+/// what came of it (`AnswersInput`).
 pub fn serve_on<D: Device, A: Allocator + Copy, I: BufRead, W: io::Write>(
     global: Global,
     alloc: A,
@@ -42,8 +43,8 @@ pub fn serve_on<D: Device, A: Allocator + Copy, I: BufRead, W: io::Write>(
         × ((before : D) (shape : Shape) → HasStarted D.Device before shape session.old.machine
         → HasRun D.Device before shape steps replies session.new.machine.device) }
     ensures answered { OnOk result (MakesStepsThat D.Device session.old.machine session.old.notes
-        (WritesAnswers session.old.notes (W.contents out.old) (W.contents out.new))
-        session.new.machine session.new.notes) }
+        (AnswersInput session.old.notes (I.remaining input.old) (I.remaining input.new)
+        (W.contents out.old) (W.contents out.new)) session.new.machine session.new.notes) }
 {
     let served = serve_lines(global, alloc, session, input, out);
     ran_since_start(&session.machine);
@@ -59,11 +60,11 @@ fn serve_lines<D: Device, A: Allocator + Copy, I: BufRead, W: io::Write>(
 ) -> Result<(), SessionFault>
     ensures made { HasMade D.Device session.old.machine session.old.notes session.new.machine session.new.notes }
     ensures answered { OnOk result (MakesStepsThat D.Device session.old.machine session.old.notes
-        (WritesAnswers session.old.notes (W.contents out.old) (W.contents out.new))
-        session.new.machine session.new.notes) }
+        (AnswersInput session.old.notes (I.remaining input.old) (I.remaining input.new)
+        (W.contents out.old) (W.contents out.new)) session.new.machine session.new.notes) }
 {
     let mut line = Vec::new(alloc);
-    for _ in 0..u64::MAX {
+    for _count in 0..u64::MAX {
         match serve_next(global, alloc, session, &mut line, input, out) {
             Ok(true) => {}
             Ok(false) => return Ok(()),
@@ -83,9 +84,10 @@ fn serve_next<D: Device, A: Allocator + Copy, I: BufRead, W: io::Write>(
     out: &mut W,
 ) -> Result<bool, SessionFault>
     ensures made { HasMade D.Device session.old.machine session.old.notes session.new.machine session.new.notes }
-    ensures answered { OnOk result (MakesStepsThat D.Device session.old.machine session.old.notes
-        (WritesAnswers session.old.notes (W.contents out.old) (W.contents out.new))
-        session.new.machine session.new.notes) }
+    ensures answered { IfOk result (λ more. MakesStepsThat D.Device session.old.machine session.old.notes
+        (WritesAnswers session.old.notes (if more then 1 else 0) (I.remaining input.old) (I.remaining input.new)
+        (W.contents out.old) (W.contents out.new)) session.new.machine session.new.notes) }
+    ensures end { result ≡ Ok false → OnSome (I.remaining input.old) (IsAtEnd (I.remaining input.new)) }
 {
     match read_line(input, line) {
         Ok(Line::End) => Ok(false),
@@ -156,7 +158,8 @@ fn flushed<W: io::Write>(
     written: Result<(), SessionFault>,
     out: &mut W,
 ) -> Result<bool, SessionFault>
-    ensures { OnOk result (IsOk written × Keeps (W.contents out.old) (W.contents out.new)) }
+    ensures { IfOk result (λ more.
+        (more ≡ true) × IsOk written × Keeps (W.contents out.old) (W.contents out.new)) }
 {
     match written {
         Ok(()) => match out.flush() {

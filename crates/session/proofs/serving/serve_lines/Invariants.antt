@@ -2,6 +2,8 @@ use Rattle.session.specs.Answers.{WritesAnswers}
 use Rattle.session.specs.Ranges.{MakesStepsThat}
 use Rattle.session.proofs.serving.serve_lines.Given as goal
 
-abbrev pub invariant-loop : goal.invariant-loop
-invariant-loop g l = MakesStepsThat g.D.Device l.initial.session.machine l.initial.session.notes
-    (WritesAnswers l.initial.session.notes (g.W.Write.contents l.initial.out) (g.W.Write.contents l.out)) l.session.machine l.session.notes
+abbrev pub invariant-loop-count : goal.invariant-loop-count
+invariant-loop-count g l =
+    let known = g.I.Read.remaining in
+    let contents = g.W.Write.contents in
+    MakesStepsThat g.D.Device l.initial.session.machine l.initial.session.notes (WritesAnswers l.initial.session.notes l._count (known l.initial.input) (known l.input) (contents l.initial.out) (contents l.out)) l.session.machine l.session.notes
