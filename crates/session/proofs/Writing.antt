@@ -15,7 +15,7 @@ use Rattle.std.specs.declared.alloc.AllocError.{AllocError}
 use Rattle.session.specs.declared.request_fault.RequestFault.{RequestFault}
 use Rattle.session.specs.declared.request_fault.RequestFault.TheVariants as fault
 use Rattle.session.specs.Notes.{noted_after, noted_all}
-use Rattle.session.specs.Answers.{steps_text, reply_after, refusal_text, reached_text, text_after_space, digits_text, TellsLoaded, stored_text, committed_text, AsksNothing, WritesAnswer, WritesAnswerOf, AreAnswered, WritesAnswers, AnswersInput}
+use Rattle.session.specs.Answers.{steps_text, reply_after, refusal_text, reached_text, text_after_space, digits_text, TellsLoaded, stored_text, committed_text, AsksNothing, WritesAnswer, WritesAnswerOf, AnswersLines, WritesAnswers, AnswersInput}
 use Rattle.session.specs.Lines.{ReadsLines}
 use Rattle.session.specs.Asked.{AreFirst, IsMemory}
 use Rattle.session.specs.Lengths.{AnswersLength}
@@ -190,16 +190,16 @@ noted_then before (reply ∷ replies) more = noted_then (noted_after before repl
 
 -- lines that were answered after others
 are_answered_then : (before : Notes) (lines : List (Option (List ℕ))) (text : List ℕ) (steps : List Step) (replies : List Reply) (lines' : List (Option (List ℕ))) (text' : List ℕ) (steps' : List Step) (replies' : List Reply)
-    → AreAnswered before lines text steps replies → AreAnswered (noted_all before replies) lines' text' steps' replies' → AreAnswered before (lines ++ lines') (text ++ text') (steps ++ steps') (replies ++ replies')
+    → AnswersLines before lines text steps replies → AnswersLines (noted_all before replies) lines' text' steps' replies' → AnswersLines before (lines ++ lines') (text ++ text') (steps ++ steps') (replies ++ replies')
 are_answered_then before [] text steps replies lines' text' steps' replies' (no-text, no-steps, no-replies) later =
-    let P : List ℕ → Type 0 = λ t. AreAnswered before lines' (t ++ text') (steps ++ steps') (replies ++ replies') in
-    let Q : List Step → Type 0 = λ s. AreAnswered before lines' text' (s ++ steps') (replies ++ replies') in
-    let R : List Reply → Type 0 = λ r. AreAnswered before lines' text' steps' (r ++ replies') in
-    let S : List Reply → Type 0 = λ r. AreAnswered (noted_all before r) lines' text' steps' replies' in
-    let here : AreAnswered before lines' text' steps' replies' = subst S no-replies later in
+    let P : List ℕ → Type 0 = λ t. AnswersLines before lines' (t ++ text') (steps ++ steps') (replies ++ replies') in
+    let Q : List Step → Type 0 = λ s. AnswersLines before lines' text' (s ++ steps') (replies ++ replies') in
+    let R : List Reply → Type 0 = λ r. AnswersLines before lines' text' steps' (r ++ replies') in
+    let S : List Reply → Type 0 = λ r. AnswersLines (noted_all before r) lines' text' steps' replies' in
+    let here : AnswersLines before lines' text' steps' replies' = subst S no-replies later in
     subst P (sym no-text) (subst Q (sym no-steps) (subst R (sym no-replies) here))
 are_answered_then before (line ∷ lines) text steps replies lines' text' steps' replies' (answer, rest, first, after, told, more, is, are, text-is, steps-are, replies-are) later =
-    let S : Notes → Type 0 = λ n. AreAnswered n lines' text' steps' replies' in
+    let S : Notes → Type 0 = λ n. AnswersLines n lines' text' steps' replies' in
     let noted : noted_all before replies ≡ noted_all (noted_all before told) more = ap (noted_all before) replies-are ∙ noted_then before told more in (
       answer,
       rest ++ text',
@@ -282,7 +282,7 @@ flushed_line b c written (Ok false) is none = absurd (true≢false (sym is.0))
 pub answers_then : {D : Type 0} (disk : Ghosts D) (old mid new : Whole D) (before between after : Notes) (count more : ℕ) (input part rest a b c : Option (List ℕ)) → MakesStepsThat disk old before (WritesAnswers before count input part a b) mid between
     → MakesStepsThat disk mid between (WritesAnswers between more part rest b c) new after → MakesStepsThat disk old before (WritesAnswers before (count + more) input rest a c) new after
 answers_then disk old mid new before between after count more input part rest a b c first later =
-    let S : Notes → Type 0 = λ n. AreAnswered n later.holds.0 later.holds.1 later.steps later.replies in
+    let S : Notes → Type 0 = λ n. AnswersLines n later.holds.0 later.holds.1 later.steps later.replies in
     record {
       steps = first.steps ++ later.steps;
       replies = first.replies ++ later.replies;

@@ -68,22 +68,22 @@ Commits before (Ok mark) steps replies = AreOfCommit steps replies × IsMarkDura
 Commits before (Err reply) steps replies = AreOfCommit steps replies × Contains replies reply
 
 -- All that was asked for was done by these steps, as far as the machine makes them, and this is what is answered.
-abbrev pub Answers : Notes → Asked → List ℕ → List Step → List Reply → Type 0
-Answers before (asks_steps wanted) answer steps replies = (steps ≡ wanted) × (answer ≡ steps_text replies)
-Answers before (asks_load p va count) answer steps replies =
+abbrev pub AnswersRequest : Notes → Asked → List ℕ → List Step → List Reply → Type 0
+AnswersRequest before (asks_steps wanted) answer steps replies = (steps ≡ wanted) × (answer ≡ steps_text replies)
+AnswersRequest before (asks_load p va count) answer steps replies =
     (bytes : List ℕ) × (reached : Reached) × LoadsReached p va count bytes reached steps replies
     × TellsLoaded reached bytes answer
-Answers before (asks_store p va bytes) answer steps replies =
+AnswersRequest before (asks_store p va bytes) answer steps replies =
     (reached : Reached) × StoresReached p va bytes reached steps replies × (answer ≡ stored_text reached (length bytes))
-Answers before (asks_commit p) answer steps replies =
+AnswersRequest before (asks_commit p) answer steps replies =
     (committed : Result ℕ Reply) × Commits before committed steps replies × (answer ≡ committed_text committed)
-Answers before (asks_length p file to) answer steps replies =
+AnswersRequest before (asks_length p file to) answer steps replies =
     (reply : Reply) × AnswersLength p file to reply steps replies × (answer ≡ reply_text reply)
 
 -- What was asked for was done and answered: a line was written for it.
 abbrev pub WritesAnswer : Notes → Asked → Option (List ℕ) → Option (List ℕ) → List Step → List Reply → Type 0
 WritesAnswer before what old new steps replies =
-    (answer : List ℕ) × Answers before what answer steps replies × Appends old new (answer ++ 10 ∷ [])
+    (answer : List ℕ) × AnswersRequest before what answer steps replies × Appends old new (answer ++ 10 ∷ [])
 
 -- a line that isn't UTF-8, or is no request
 abbrev pub AsksNothing : List ℕ → Type 0
@@ -95,28 +95,28 @@ IsBad answer steps replies =
     (cause : List ℕ) × (answer ≡ codes "badline " ++ cause) × (steps ≡ []) × (replies ≡ [])
 
 -- A line was answered so, by what it asks for.
-abbrev pub IsAnswered : Notes → List ℕ → List ℕ → List Step → List Reply → Type 0
-IsAnswered before line answer steps replies =
+abbrev pub AnswersLine : Notes → List ℕ → List ℕ → List Step → List Reply → Type 0
+AnswersLine before line answer steps replies =
     (AsksNothing line × IsBad answer steps replies)
-    ⊎ ((what : Asked) × (request_in line ≡ Some what) × Answers before what answer steps replies)
+    ⊎ ((what : Asked) × (request_in line ≡ Some what) × AnswersRequest before what answer steps replies)
 
 -- A line was answered, and the answer was written as a line.
 abbrev pub WritesAnswerOf : Notes → List ℕ → Option (List ℕ) → Option (List ℕ) → List Step → List Reply → Type 0
 WritesAnswerOf before line old new steps replies =
-    (answer : List ℕ) × IsAnswered before line answer steps replies × Appends old new (answer ++ 10 ∷ [])
+    (answer : List ℕ) × AnswersLine before line answer steps replies × Appends old new (answer ++ 10 ∷ [])
 
 -- One line was answered. A line that is too long is a bad one; of what it asks for nothing is said.
 abbrev pub IsAnsweredNext : Notes → Option (List ℕ) → List ℕ → List Step → List Reply → Type 0
-IsAnsweredNext before (Some line) answer steps replies = IsAnswered before line answer steps replies
+IsAnsweredNext before (Some line) answer steps replies = AnswersLine before line answer steps replies
 IsAnsweredNext before None answer steps replies = IsBad answer steps replies
 
 -- Lines were answered in order, each by the steps after those of the lines before it; the text has the answer to each,
 -- and a line feed after it.
-abbrev pub AreAnswered : Notes → List (Option (List ℕ)) → List ℕ → List Step → List Reply → Type 0
-AreAnswered before [] text steps replies = (text ≡ []) × (steps ≡ []) × (replies ≡ [])
-AreAnswered before (line ∷ lines) text steps replies =
+abbrev pub AnswersLines : Notes → List (Option (List ℕ)) → List ℕ → List Step → List Reply → Type 0
+AnswersLines before [] text steps replies = (text ≡ []) × (steps ≡ []) × (replies ≡ [])
+AnswersLines before (line ∷ lines) text steps replies =
     (answer rest : List ℕ) × (first later : List Step) × (told more : List Reply)
-    × IsAnsweredNext before line answer first told × AreAnswered (noted_all before told) lines rest later more
+    × IsAnsweredNext before line answer first told × AnswersLines (noted_all before told) lines rest later more
     × (text ≡ answer ++ 10 ∷ rest) × (steps ≡ first ++ later) × (replies ≡ told ++ more)
 
 -- So many lines of the input were read and answered, and the answers were written as lines.
@@ -124,7 +124,7 @@ abbrev pub WritesAnswers : Notes → ℕ → Option (List ℕ) → Option (List 
     → List Step → List Reply → Type 0
 WritesAnswers before count input rest old new steps replies =
     (lines : List (Option (List ℕ))) × (text : List ℕ) × (length lines ≡ count) × ReadsLines input rest lines
-    × AreAnswered before lines text steps replies × Appends old new text
+    × AnswersLines before lines text steps replies × Appends old new text
 
 -- The lines of the input were answered so: all of them, or the first 2 ^ 64 - 1.
 abbrev pub AnswersInput : Notes → Option (List ℕ) → Option (List ℕ) → Option (List ℕ) → Option (List ℕ) → List Step
