@@ -17,4 +17,5 @@ pub mod StandsKept
 pub mod Found
 pub mod UnderWay
 pub mod Rooms
+pub mod Alone
 pub mod Public

@@ -7,8 +7,7 @@ use Rattle.std.proofs.lemmas.Bool.{both_ways, cases_Bool, cond-true, cond-false}
 use Rattle.device.specs.Device.{Only}
 use Rattle.device.specs.declared.device.Device.{Ghosts}
 use Rattle.device.proofs.Done.{done_seen}
-use Rattle.volume_codec.specs.declared.layout.Layout.{Layout}
-use Rattle.volume_codec.specs.Layout.{GeometryValue, IsGeometry, IsHome, journals_of, block_at, record_block}
+use Rattle.volume_codec.specs.Layout.{GeometryValue, IsGeometry, IsHome, block_at, record_block}
 use Rattle.volume_codec.specs.Descriptor.{AreHomes}
 use Rattle.volume_codec.specs.Super.{SuperValue, geometry_of}
 use Rattle.volume_codec.specs.Recovery.{Batch, IsOpen, IsVolume, Recovers, standing_block}
@@ -382,7 +381,7 @@ done_unless (Done mark) other = refl
 done_unless Device other = absurd (other refl)
 done_unless Broken other = refl
 
-stands_stepped : {D : Type 0} (disk : Ghosts D) (v : SuperValue) (outs : WriteOutsValue) (old new : ℕ → List ℕ) (bytes : List ℕ) (answer : Flushed) (before after : D) → IsStep disk outs bytes answer before after → ((home : ℕ) → outs_home outs ≡ Some home → bytes ≡ new home)
+pub stands_stepped : {D : Type 0} (disk : Ghosts D) (v : SuperValue) (outs : WriteOutsValue) (old new : ℕ → List ℕ) (bytes : List ℕ) (answer : Flushed) (before after : D) → IsStep disk outs bytes answer before after → ((home : ℕ) → outs_home outs ≡ Some home → bytes ≡ new home)
     → IsStanding v outs old new (disk.seen before) (disk.may_leave before) → IsStanding v (outs_after outs answer) old new (disk.seen after) (disk.may_leave after)
 stands_stepped disk v outs old new bytes answer before after step is_new now = ⊎_elim
     (λ is. subst (λ (a : Flushed). IsStanding v (outs_after outs a) old new (disk.seen after) (disk.may_leave after)) (sym is)

@@ -6,4 +6,5 @@ pub mod Recovered
 pub mod Finished
 pub mod Crash
 pub mod Standing
+pub mod Alone
 pub mod inside

@@ -4,3 +4,4 @@ pub mod Tied
 pub mod Standing
 pub mod Room
 pub mod Finishing
+pub mod Alone

@@ -1,10 +1,14 @@
 // One write-out.
-ghost use Rattle.std.specs.Prelude.{◌≡◌, ◌↔◌, ◌⊎◌, ◌*◌, ◌<◌, ◌≤◌, true, IsTrue, IsSome, length, Contains, IfSome};
+ghost use Rattle.std.specs.Prelude.{◌≡◌, ◌↔◌, ◌⊎◌, ℕ, ◌*◌, ◌<◌, ◌≤◌, true, IsTrue, IsSome, List, length, Contains, Some, IfSome};
 ghost use Rattle.std.specs.Vec.{vec_capacity};
+ghost use Rattle.device.specs.Device.{LeavesOnly};
 ghost use Rattle.device.specs.Did.{Did};
+ghost use Rattle.volume_codec.specs.Super.{SuperValue};
 ghost use Rattle.journal.specs.Work.{has_done};
 ghost use Rattle.journal.specs.WriteOut.{next_stage, has_committed};
 ghost use Rattle.journal.specs.WriteOut.{IsBatch, flush_of, flush_record, flush_home, flush_work, flush_answer, flush_after};
+ghost use Rattle.journal.specs.Crash.{LeftWithin};
+ghost use Rattle.journal.specs.Alone.{StandsAlone};
 ghost use Rattle.journal.specs.inside.Listed.{committed_of};
 
 use crate::listed::Listed;
@@ -155,6 +159,17 @@ impl<A: Allocator + Copy> Flush<A> {
         ensures broken { self.old.broken ≡ true → (result ≡ Flushed.Broken) × (device.new ≡ device.old) }
         ensures value { self.new ≡ flush_after self.old result }
         ensures did { Did D.Device device.old (flush_work self.old bytes.now) (has_done result) device.new }
+
+        // With the same Old and New it stands after the step, and a crash at any moment of it leaves what it may.
+        ensures stands { (v : SuperValue) (old new : ℕ → List ℕ) → D.is_honest device.old
+            → StandsAlone D.Device v self.old old new device.old
+            → ((home : ℕ) → flush_home self.old ≡ Some home → bytes.now ≡ new home)
+            → StandsAlone D.Device v self.new old new device.new }
+        ensures crash { (v : SuperValue) (old new : ℕ → List ℕ)
+            → StandsAlone D.Device v self.old old new device.old
+            → ((home : ℕ) → flush_home self.old ≡ Some home → bytes.now ≡ new home)
+            → LeavesOnly D.moment D.left_since device.old device.new
+            (LeftWithin v old new (next_stage self.old.write_out)) }
     {
         if self.broken {
             return Flushed::Broken;

@@ -8,11 +8,12 @@ ghost use Rattle.volume_codec.specs.Recovery.{Batch, IsOpen, IsNewer, has_journa
 ghost use Rattle.journal.specs.declared.stage.Stage.TheVariants.{Committing, Finishing};
 ghost use Rattle.journal.specs.Stage.{stage_at};
 ghost use Rattle.journal.specs.declared.flushed.Flushed.{Flushed};
-ghost use Rattle.journal.specs.WriteOut.{WriteOut, IsBatch, advanced_of, has_committed, calls_in_steps};
+ghost use Rattle.journal.specs.WriteOut.{WriteOut, IsBatch, FlushValue, next_stage, advanced_of, has_committed, calls_in_steps};
 ghost use Rattle.journal.specs.WriteOuts.{WriteOutsValue, has_uncommitted, current, advanced, current_stage, HasBlock, outs_after};
 ghost use Rattle.journal.specs.Recovered.{RecoversBy, IsUnread};
 ghost use Rattle.journal.specs.Crash.{LeftBefore, LeftWithin};
 ghost use Rattle.journal.specs.Standing.{Stands};
+ghost use Rattle.journal.specs.Alone.{StandsAlone};
 
 use device::Device;
 
@@ -56,6 +57,21 @@ pub fn what_write_outs_leave<D: Device>(device: &D)
     ensures rests { (v : SuperValue) (outs : WriteOutsValue) (old new : ℕ → List ℕ)
         → Stands D.Device v outs old new device.now → outs.broken ≡ false → outs.batches ≡ []
         → IsVolume v [] (D.seen device.now) × Only (D.may_leave device.now) (D.seen device.now) }
+{}
+
+/// The same of a write-out that is alone in its volume: once it is done, New is on the disk and in no journal.
+pub fn what_a_write_out_leaves<D: Device>(device: &D)
+    ensures left { (v : SuperValue) (flush : FlushValue) (old new : ℕ → List ℕ)
+        → StandsAlone D.Device v flush old new device.now → (c : List ℕ) → D.may_leave device.now c
+        → MatchBool flush.broken (LeftWithin v old new (next_stage flush.write_out) c)
+        (LeftBefore v old new (next_stage flush.write_out) c) }
+    ensures reads { (v : SuperValue) (flush : FlushValue) (old new : ℕ → List ℕ)
+        → StandsAlone D.Device v flush old new device.now → flush.broken ≡ false → (b : ℕ) → IsHome (geometry_of v) b
+        → (Contains flush.write_out.batch.homes b → ⊥) → block_at (D.seen device.now) b ≡ new b }
+    ensures rests { (v : SuperValue) (flush : FlushValue) (old new : ℕ → List ℕ)
+        → StandsAlone D.Device v flush old new device.now → flush.broken ≡ false → next_stage flush.write_out ≡ None
+        → IsVolume v [] (D.seen device.now) × Only (D.may_leave device.now) (D.seen device.now)
+        × ((b : ℕ) → IsHome (geometry_of v) b → block_at (D.seen device.now) b ≡ new b) }
 {}
 
 /// Bytes recover to the same contents, by the same batches, whatever becomes of a block that recovery doesn't read: a

@@ -17,8 +17,8 @@ pub use finishing::finish;
 pub use flush::Flush;
 pub use flushed::Flushed;
 pub use laws::{
-    no_step_makes_a_batch, steps_of_a_write_out, torn_gates, unread_blocks, what_write_outs_leave,
-    whose_step_comes_next,
+    no_step_makes_a_batch, steps_of_a_write_out, torn_gates, unread_blocks,
+    what_a_write_out_leaves, what_write_outs_leave, whose_step_comes_next,
 };
 pub use stage::{Stage, stage_at};
 pub use write_outs::WriteOuts;
