@@ -8,8 +8,8 @@ use Rattle.device.specs.Device.{written, Torn}
 use Rattle.device.specs.Did.{Did}
 use Rattle.device.specs.Work.{WriteAt}
 use Rattle.device.specs.declared.device.Device.{Ghosts}
-use Rattle.device.proofs.Moments.{leaves_at_start}
-use Rattle.device.proofs.Ranges.{length-written, written_before, written_after, part_written, torn_by_write, torn_none, torn_twice, torn_wider}
+use Rattle.device.proofs.Moments.{leaves_at_start, leaves_weaker, leaves_on}
+use Rattle.device.proofs.Ranges.{length-written, written_before, written_after, part_written, torn_by_write, torn_none, torn_twice, torn_wider, torn_from_none}
 use Rattle.page_entry.specs.declared.refusal.Refusal.{Refusal}
 use Rattle.page_entry.specs.declared.refusal.Refusal.TheVariants.{Device}
 use Rattle.volume_codec.specs.Super.{SuperValue, total_pages, first_home_of}
@@ -85,23 +85,28 @@ module _ {D E : Type 0} {disk : Ghosts D} {other : Ghosts E} where
 
   module _ {at n : ℕ} {old : VolumeState D} {before : E} where
     -- no call yet
-    pub copies_none : ((c : List ℕ) → disk.left_since old.device (disk.moment old.device) c → disk.may_leave old.device c) → Copies {X = Unit {0}} disk other at n old before (Ok tt) old before
-    copies_none now = record {
+    pub copies_none : ((c : List ℕ) → disk.left_since old.device (disk.moment old.device) c → disk.may_leave old.device c) → ((c : List ℕ) → other.left_since before (other.moment before) c → other.may_leave before c)
+        → Copies {X = Unit {0}} disk other at n old before (Ok tt) old before
+    copies_none now there = record {
       table = refl;
       lengths = refl;
       unwritten = λ honest. unwritten_none now;
       torn = λ honest. torn_none at n (other.seen before);
+      left = λ c may. torn_from_none at n may;
+      time = leaves_at_start (λ c since. torn_from_none at n (there c since));
       accounts = inl (kept_none disk old.device, kept_none other before);
     }
 
     -- a read alone
     pub copies_read : {X : Type 0} {new : VolumeState D} {result : Result X Refusal} → new.table ≡ old.table → new.lengths ≡ old.lengths → (disk.is_honest old.device → IsUnwritten disk old.device new.device)
-        → IsAccounted disk old.device result new.device → Copies disk other at n old before result new before
-    copies_read table lengths unwritten kept = record {
+        → IsAccounted disk old.device result new.device → ((c : List ℕ) → other.left_since before (other.moment before) c → other.may_leave before c) → Copies disk other at n old before result new before
+    copies_read table lengths unwritten kept there = record {
       table = table;
       lengths = lengths;
       unwritten = unwritten;
       torn = λ honest. torn_none at n (other.seen before);
+      left = λ c may. torn_from_none at n may;
+      time = leaves_at_start (λ c since. torn_from_none at n (there c since));
       accounts = inl (kept, kept_none other before);
     }
 
@@ -113,6 +118,8 @@ module _ {D E : Type 0} {disk : Ghosts D} {other : Ghosts E} where
       lengths = read.lengths;
       unwritten = read.unwritten;
       torn = λ honest. torn_wider (write_torn at bytes (is_ok result) (omega (arith, size, room)) did honest) at n (omega arith) (omega (arith, size));
+      left = λ c may. let torn = did.left c may in (torn.0, torn.1, torn_wider torn.2 at n (omega arith) (omega (arith, size)));
+      time = leaves_weaker did.time (λ c torn. (torn.0, torn.1, torn_wider torn.2 at n (omega arith) (omega (arith, size))));
       accounts = inr ((accounts_both read.accounts).0, did_kept result fault did);
     }
 
@@ -125,6 +132,8 @@ module _ {D E : Type 0} {disk : Ghosts D} {other : Ghosts E} where
           lengths = second.lengths ∙ first.lengths;
           unwritten = λ honest. unwritten_then (first.unwritten honest) (second.unwritten (kept.0.honest.1 honest));
           torn = λ honest. torn_twice (first.torn honest) (second.torn (kept.1.honest.1 honest));
+          left = λ c may. let last = second.left c may in let torn = first.left last.0 last.1 in (torn.0, torn.1, torn_twice torn.2 last.2);
+          time = leaves_on first.time second.time (λ c last. let torn = first.left last.0 last.1 in (torn.0, torn.1, torn_twice torn.2 last.2));
           accounts = accounts_then first.accounts second.accounts;
         }
 
@@ -136,6 +145,8 @@ module _ {D E : Type 0} {disk : Ghosts D} {other : Ghosts E} where
       lengths = copies.lengths;
       unwritten = copies.unwritten;
       torn = λ honest. torn_wider (copies.torn honest) from size low high;
+      left = λ c may. let torn = copies.left c may in (torn.0, torn.1, torn_wider torn.2 from size low high);
+      time = leaves_weaker copies.time (λ c torn. (torn.0, torn.1, torn_wider torn.2 from size low high));
       accounts = copies.accounts;
     }
 
@@ -146,6 +157,8 @@ module _ {D E : Type 0} {disk : Ghosts D} {other : Ghosts E} where
       lengths = copies.lengths;
       unwritten = copies.unwritten;
       torn = copies.torn;
+      left = copies.left;
+      time = copies.time;
       accounts = accounts_err result is copies.accounts;
     }
 

@@ -1,13 +1,15 @@
 -- A device that was laid out, to which the files of a volume were copied and whose table was written is migrated.
-use Rattle.std.proofs.Common.{◌≡◌, ◌≤◌, ◌<◌, ◌⊎◌, inl, inr, ℕ, zero, suc, ◌+◌, ◌-◌, ◌*◌, ◌/◌, ◌%◌, List, [], ◌∷◌, ◌++◌, length, take, drop, get_or, map, set, slice_get, slice_index, Some, refl, sym, ◌∙◌, ap, subst, add-one, arith}
+use Rattle.std.proofs.Common.{◌≡◌, ◌≤◌, ◌<◌, ◌⊎◌, inl, inr, Result, ℕ, zero, suc, ◌+◌, ◌-◌, ◌*◌, ◌/◌, ◌%◌, List, [], ◌∷◌, ◌++◌, length, take, drop, get_or, map, set, slice_get, slice_index, Some, refl, sym, ◌∙◌, ap, subst, add-one, arith}
 use Rattle.std.proofs.lemmas.Bool.{cases_lt, cases_eq}
 use Rattle.std.proofs.lemmas.List.{take-take, take_all, take_more_set, map_push, drop-drop}
-use Rattle.device.specs.Device.{written, Torn, Only}
+use Rattle.device.specs.Device.{written, Torn, TornFrom, LeavesOnly, Only}
 use Rattle.device.specs.declared.device.Device.{Ghosts}
-use Rattle.device.proofs.Ranges.{torn_before, torn_after}
+use Rattle.device.proofs.Moments.{leaves_weaker, leaves_on}
+use Rattle.device.proofs.Ranges.{torn_before, torn_after, torn_twice, torn_wider}
+use Rattle.page_entry.specs.declared.refusal.Refusal.{Refusal}
 use Rattle.volume_codec.specs.declared.file_spec.FileSpec.{FileSpec}
 use Rattle.volume_codec.specs.Files.{File, TableFile, AskedFile, asked_by, lengths_asked}
-use Rattle.volume_codec.specs.Layout.{gate_block, first_home, first_file_home, lengths_blocks, block_at}
+use Rattle.volume_codec.specs.Layout.{journals_of, gate_block, first_home, first_file_home, lengths_blocks, block_at}
 use Rattle.volume_codec.specs.Lengths.{AreLengths, lengths_in, lengths_text}
 use Rattle.volume_codec.specs.Text.{zeros}
 use Rattle.volume_codec.specs.Super.{SuperValue, Fits, IsAsked, super_text, pages_of, total_pages, first_home_of, block_count}
@@ -19,10 +21,11 @@ use Rattle.volume_codec.proofs.Places.{first_home_of-le}
 use Rattle.volume_codec.proofs.Recovered.{blocks_from-device}
 use Rattle.volume_codec.proofs.TableLemmas.{one_asked}
 use Rattle.recovery.specs.Format.{HasShape, IsEmptied}
-use Rattle.recovery.specs.Migration.{asked_again, asked_of, AreZeroPast, HasMigrated}
+use Rattle.recovery.specs.Migration.{asked_again, asked_of, AreZeroPast, IsFilled, IsPartlyMigrated, LeftByMigration, HasMigrated}
 use Rattle.recovery.specs.Openings.{IsMade}
 use Rattle.recovery.specs.Volume.{VolumeState, IsSettled, files_of, bytes_of}
-use Rattle.recovery.specs.inside.Copying.{AreCopied}
+use Rattle.recovery.specs.inside.Copying.{LeftByLaying, Copies, AreCopied}
+use Rattle.recovery.specs.inside.Writing.{HasFinished}
 use Rattle.recovery.proofs.BlockRanges.{block_at-before, block_at-after}
 use Rattle.recovery.proofs.Copied.{home_of-mono}
 use Rattle.recovery.proofs.Erased.{get_or-zeros}
@@ -119,26 +122,13 @@ zero_byte bytes i blank =
     ap (λ k. get_or bytes k 0) (sym place) ∙ sym (get_or-block_at bytes (i / 4096) (i % 4096) 0 (omega arith))
     ∙ ap (λ (block : List ℕ). get_or block (i % 4096) 0) blank ∙ get_or-zeros 4096 (i % 4096)
 
--- files were copied to what was laid out, and then block 0 was written
-module _ (table : SuperValue) (lengths laid copied final : List ℕ) (fits : Fits table) (are : AreLengths table lengths) (rest : IsEmptied table lengths laid)
-    (torn : Torn (4096 * first_file_home table.layout table.slots) (4096 * total_pages table.files) laid copied) (is : final ≡ written copied 0 (super_text table)) where
-  first : Torn 0 4096 copied final
-  first = (first_block table copied final fits (omega (arith, rest.long, torn.same_length)) is).1
-
-  pub held : IsVolume table [] final
-  held = record {
-    super_block = (first_block table copied final fits (omega (arith, rest.long, torn.same_length)) is).0;
-    long = omega (arith, rest.long, torn.same_length, first.same_length);
-    journals = record {
-      each = tt;
-      all = λ j there opens.
-          let low = gate_block-low table.layout table.slots j there in
-          let shut : get_or final (4096 * gate_block table.slots j) 0 ≡ 0 =
-          torn_after first (4096 * gate_block table.slots j) (omega arith) ∙ torn_before torn (4096 * gate_block table.slots j) (omega (arith, low)) ∙ rest.gates j there in
-          absurd (omega (arith, shut, opens));
-      falling = tt;
-    };
-  }
+-- files were copied to what was laid out, whatever block 0 holds
+module _ (table : SuperValue) (lengths laid copied final : List ℕ) (are : AreLengths table lengths) (rest : IsEmptied table lengths laid)
+    (torn : Torn (4096 * first_file_home table.layout table.slots) (4096 * total_pages table.files) laid copied) (first : Torn 0 4096 copied final) where
+  pub gates_shut : (j : ℕ) → j < journals_of table.layout → get_or final (4096 * gate_block table.slots j) 0 ≡ 0
+  gates_shut j there =
+      let low = gate_block-low table.layout table.slots j there in
+      torn_after first (4096 * gate_block table.slots j) (omega arith) ∙ torn_before torn (4096 * gate_block table.slots j) (omega (arith, low)) ∙ rest.gates j there
 
   pub says_lengths : 0 < lengths_blocks table.layout → block_at final (first_home table.layout table.slots) ≡ lengths_text lengths
   says_lengths some =
@@ -173,6 +163,25 @@ module _ (table : SuperValue) (lengths laid copied final : List ℕ) (fits : Fit
         ]
       ]
 
+-- and block 0 was written
+module _ (table : SuperValue) (lengths laid copied final : List ℕ) (fits : Fits table) (are : AreLengths table lengths) (rest : IsEmptied table lengths laid)
+    (torn : Torn (4096 * first_file_home table.layout table.slots) (4096 * total_pages table.files) laid copied) (is : final ≡ written copied 0 (super_text table)) where
+  first : Torn 0 4096 copied final
+  first = (first_block table copied final fits (omega (arith, rest.long, torn.same_length)) is).1
+
+  pub held : IsVolume table [] final
+  held = record {
+    super_block = (first_block table copied final fits (omega (arith, rest.long, torn.same_length)) is).0;
+    long = omega (arith, rest.long, torn.same_length, first.same_length);
+    journals = record {
+      each = tt;
+      all = λ j there opens.
+          let shut = gates_shut table lengths laid copied final are rest torn first j there in
+          absurd (omega (arith, shut, opens));
+      falling = tt;
+    };
+  }
+
 -- what is asked for of a volume
 module _ {D : Type 0} (disk : Ghosts D) (volume : VolumeState D) (settled : IsSettled disk volume) (slots : ℕ) (table : SuperValue) (asked : IsAsked 3 (asked_of volume) slots table) where
   pub asked_files : table.files ≡ volume.table.files
@@ -184,6 +193,32 @@ module _ {D : Type 0} (disk : Ghosts D) (volume : VolumeState D) (settled : IsSe
   pub asked_lengths_are : AreLengths table volume.lengths
   asked_lengths_are = let P : List ℕ → Type 0 = λ l. AreLengths table l in subst P asked_lengths (asked_are 3 slots (asked_of volume) table asked)
 
+-- all of it but its block 0
+module _ {D : Type 0} (disk : Ghosts D) (volume : VolumeState D) (settled : IsSettled disk volume) (slots : ℕ) (table : SuperValue) (asked : IsAsked 3 (asked_of volume) slots table)
+    (laid copied final : List ℕ) (rest : IsEmptied table volume.lengths laid) (torn : Torn (4096 * first_file_home table.layout table.slots) (4096 * total_pages table.files) laid copied) (first : Torn 0 4096 copied final)
+    (each : disk.is_honest volume.device → AreCopied table volume.lengths (bytes_of (files_of volume.table (disk.seen volume.device))) (length table.files) laid copied) where
+  abbrev named : table.files ≡ volume.table.files
+  named = asked_files disk volume settled slots table asked
+
+  abbrev are : AreLengths table volume.lengths
+  are = asked_lengths_are disk volume settled slots table asked
+
+  pub spelled : 0 < lengths_blocks table.layout → block_at final (first_home table.layout table.slots) ≡ lengths_text (lengths_asked (asked_of volume))
+  spelled some = says_lengths table volume.lengths laid copied final are rest torn first some ∙ ap lengths_text (sym (asked_lengths disk volume settled slots table asked))
+
+  pub filled : IsFilled disk volume table final
+  filled = record {
+    gates = gates_shut table volume.lengths laid copied final are rest torn first;
+    lengths_block = says_lengths table volume.lengths laid copied final are rest torn first;
+    files = λ honest.
+        same_files table volume.table volume.lengths final (disk.seen volume.device) are named
+        (sym (asked_lengths_in 3 slots (asked_of volume) table (block_at final) asked spelled ∙ asked_lengths disk volume settled slots table asked))
+        (settled.at_rest honest).lengths_are
+        (λ file there. part_there table volume.lengths laid copied final are rest torn first _ (each honest) file there
+        ∙ file_bytes volume.table volume.lengths settled.lengths (disk.seen volume.device) file (omega (arith, there, ap length named)) (settled.at_rest honest).lengths_are);
+    tails = λ honest. tails table volume.lengths laid copied final are rest torn first _ (each honest);
+  }
+
 pub migrated : {D E : Type 0} (disk : Ghosts D) (other : Ghosts E) (slots : ℕ) (volume : VolumeState D) (before laid copied after : E) (table : SuperValue) → HasShape 3 (asked_of volume) slots (length (other.seen before)) table
     → IsSettled disk volume → disk.is_honest volume.device → IsEmptied table volume.lengths (other.seen laid) → Torn 4096 (4096 * block_count table - 4096) (other.seen before) (other.seen laid)
     → Torn (4096 * first_file_home table.layout table.slots) (4096 * total_pages table.files) (other.seen laid) (other.seen copied)
@@ -192,32 +227,80 @@ pub migrated : {D E : Type 0} (disk : Ghosts D) (other : Ghosts E) (slots : ℕ)
 migrated disk other slots volume before laid copied after table shape settled honest rest laying torn each is only = record {
   table = table;
   shape = shape;
-  holds = holds;
-  lengths_fit = asked_has_lengths 3 slots (asked_of volume) table (block_at (other.seen after)) shape.asked spelled;
-  files = same_files table volume.table volume.lengths (other.seen after) (disk.seen volume.device) are named
-      (sym (asked_lengths_in 3 slots (asked_of volume) table (block_at (other.seen after)) shape.asked spelled ∙ asked_lengths disk volume settled slots table shape.asked))
-      (settled.at_rest honest).lengths_are
-      (λ file there. part_there table volume.lengths (other.seen laid) (other.seen copied) (other.seen after) shape.asked.fits are rest torn is _ each file there
-      ∙ file_bytes volume.table volume.lengths settled.lengths (disk.seen volume.device) file (omega (arith, there, ap length named)) (settled.at_rest honest).lengths_are);
-  tails = tails table volume.lengths (other.seen laid) (other.seen copied) (other.seen after) shape.asked.fits are rest torn is _ each;
+  holds = held table volume.lengths (other.seen laid) (other.seen copied) (other.seen after) shape.asked.fits (asked_lengths_are disk volume settled slots table shape.asked) rest torn is;
+  lengths_fit = asked_has_lengths 3 slots (asked_of volume) table (block_at (other.seen after)) shape.asked
+      (spelled disk volume settled slots table shape.asked (other.seen laid) (other.seen copied) (other.seen after) rest torn zeroth (λ h. each));
+  files = rests.files honest;
+  tails = rests.tails honest;
   synced = only;
-  past = λ i past.
-      torn_after (first table volume.lengths (other.seen laid) (other.seen copied) (other.seen after) shape.asked.fits are rest torn is) i (omega (arith, past)) ∙ torn_after torn i (omega (arith, past)) ∙ torn_after laying i (omega (arith, past));
+  past = λ i past. torn_after zeroth i (omega (arith, past)) ∙ torn_after torn i (omega (arith, past)) ∙ torn_after laying i (omega (arith, past));
 }
   where
-    named : table.files ≡ volume.table.files
-    named = asked_files disk volume settled slots table shape.asked
+    zeroth : Torn 0 4096 (other.seen copied) (other.seen after)
+    zeroth = (first_block table (other.seen copied) (other.seen after) shape.asked.fits (omega (arith, rest.long, torn.same_length)) is).1
 
-    are : AreLengths table volume.lengths
-    are = asked_lengths_are disk volume settled slots table shape.asked
+    rests : IsFilled disk volume table (other.seen after)
+    rests = filled disk volume settled slots table shape.asked (other.seen laid) (other.seen copied) (other.seen after) rest torn zeroth (λ h. each)
 
-    holds : IsVolume table [] (other.seen after)
-    holds = held table volume.lengths (other.seen laid) (other.seen copied) (other.seen after) shape.asked.fits are rest torn is
+-- ---- what a crash leaves of it
 
-    spelled : 0 < lengths_blocks table.layout → block_at (other.seen after) (first_home table.layout table.slots) ≡ lengths_text (lengths_asked (asked_of volume))
-    spelled some =
-        says_lengths table volume.lengths (other.seen laid) (other.seen copied) (other.seen after) shape.asked.fits are rest torn is some
-        ∙ ap lengths_text (sym (asked_lengths disk volume settled slots table shape.asked))
+module _ {D : Type 0} (disk : Ghosts D) (volume : VolumeState D) (table : SuperValue) (some : 1 ≤ block_count table) (lists : List ℕ → Type 0) where
+  -- block 0 is as before while what is torn lies past it
+  pub partly_filling : (c : List ℕ) → TornFrom 4096 (4096 * block_count table - 4096) lists c → IsPartlyMigrated disk volume table lists c
+  partly_filling c torn = record {
+    before = torn.0;
+    left = torn.1;
+    within = torn_wider torn.2 0 (4096 * block_count table) (omega arith) (omega (arith, some));
+    first = inl (block_at-before torn.2 0 (omega arith));
+  }
+
+  -- once the rest is filled and synced, block 0 may be torn
+  pub partly_filled : (copied c : List ℕ) → TornFrom 4096 (4096 * block_count table - 4096) lists copied → Torn 0 4096 copied c → IsFilled disk volume table c → IsPartlyMigrated disk volume table lists c
+  partly_filled copied c was torn rest = record {
+    before = was.0;
+    left = was.1;
+    within = torn_twice (torn_wider was.2 0 (4096 * block_count table) (omega arith) (omega (arith, some))) (torn_wider torn 0 (4096 * block_count table) (omega arith) (omega (arith, some)));
+    first = inr rest;
+  }
+
+module _ {D E : Type 0} (disk : Ghosts D) (other : Ghosts E) (slots : ℕ) (volume : VolumeState D) (before : E) where
+  -- while it is laid out
+  pub laying_left : (c : List ℕ) → LeftByLaying other (asked_of volume) slots before c → LeftByMigration disk other slots volume before c
+  laying_left c (inl was) = inl was
+  laying_left c (inr laying) = inr (laying.0, laying.1, partly_filling disk volume laying.0 (omega arith) (other.may_leave before) c laying.2)
+
+  module _ (laid : E) (table : SuperValue) (shape : HasShape 3 (asked_of volume) slots (length (other.seen before)) table)
+      (time : LeavesOnly other.moment other.left_since before laid (LeftByLaying other (asked_of volume) slots before))
+      (left : (c : List ℕ) → other.may_leave laid c → TornFrom 4096 (4096 * block_count table - 4096) (other.may_leave before) c)
+      {X : Type 0} {result : Result X Refusal} {after : VolumeState D} {copied : E}
+      (copies : Copies disk other (4096 * first_file_home table.layout table.slots) (4096 * total_pages table.files) volume laid result after copied) where
+    -- the files are written past the lengths block, within the volume
+    copied_within : (c : List ℕ) → TornFrom (4096 * first_file_home table.layout table.slots) (4096 * total_pages table.files) (other.may_leave laid) c → TornFrom 4096 (4096 * block_count table - 4096) (other.may_leave before) c
+    copied_within c torn =
+        let was = left torn.0 torn.1 in
+        (was.0, was.1, torn_twice was.2 (torn_wider torn.2 4096 (4096 * block_count table - 4096) (omega arith) (omega arith)))
+
+    filling_left : (c : List ℕ) → TornFrom 4096 (4096 * block_count table - 4096) (other.may_leave before) c → LeftByMigration disk other slots volume before c
+    filling_left c torn = inr (table, shape, partly_filling disk volume table (omega arith) (other.may_leave before) c torn)
+
+    -- while the files are copied
+    pub time_of_copying : LeavesOnly other.moment other.left_since before copied (LeftByMigration disk other slots volume before)
+    time_of_copying = leaves_on (leaves_weaker time laying_left) copies.time (λ c torn. filling_left c (copied_within c torn))
+
+    -- while the table is written
+    pub time_of_filling : {Y : Type 0} {last : Result Y Refusal} {final : E} {block : List ℕ} → IsSettled disk volume → IsEmptied table volume.lengths (other.seen laid)
+        → (disk.is_honest volume.device → AreCopied table volume.lengths (bytes_of (files_of volume.table (disk.seen volume.device))) (length table.files) (other.seen laid) (other.seen copied))
+        → other.is_honest laid → other.is_honest copied → HasFinished other block copied last final → LeavesOnly other.moment other.left_since before final (LeftByMigration disk other slots volume before)
+    time_of_filling {Y} {last} {final} {block} settled rest each honest honest_1 finishing = leaves_on time_of_copying (finishing.time honest_1) by
+      where
+        by : (c : List ℕ) → other.may_leave copied c ⊎ (other.may_leave copied (other.seen copied) × Torn 0 4096 (other.seen copied) c) → LeftByMigration disk other slots volume before c
+        by c (inl may) = filling_left c (copied_within c (copies.left c may))
+        by c (inr torn) = inr (
+          table,
+          shape,
+          partly_filled disk volume table (omega arith) (other.may_leave before) (other.seen copied) c (copied_within (other.seen copied) (copies.left (other.seen copied) torn.0)) torn.1
+              (filled disk volume settled slots table shape.asked (other.seen laid) (other.seen copied) c rest (copies.torn honest) torn.1 each),
+        )
 
 -- what was migrated was made
 pub migrated_made : {D E : Type 0} (disk : Ghosts D) (other : Ghosts E) (slots : ℕ) (volume : VolumeState D) (before after : E) → other.is_honest after → HasMigrated disk other slots volume before after

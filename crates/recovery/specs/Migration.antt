@@ -1,12 +1,12 @@
 -- What migrating a volume makes of another device: a volume of layout 3, whose files can grow.
 use Rattle.std.specs.Prelude.{◌≡◌, ◌⊎◌, ℕ, ◌+◌, ◌*◌, ◌<◌, ◌≤◌, List, [], ◌∷◌, length, slice_index, Result, Ok}
-use Rattle.device.specs.Device.{Only}
+use Rattle.device.specs.Device.{Torn, Only}
 use Rattle.device.specs.declared.device.Device.{Ghosts}
 use Rattle.page_entry.specs.declared.refusal.Refusal.{Refusal}
 use Rattle.volume_codec.specs.Files.{TableFile, AskedFile}
-use Rattle.volume_codec.specs.Layout.{block_at}
+use Rattle.volume_codec.specs.Layout.{journals_of, lengths_blocks, gate_block, first_home, block_at}
 use Rattle.volume_codec.specs.Super.{SuperValue, block_count, first_home_of}
-use Rattle.volume_codec.specs.Lengths.{HasLengths}
+use Rattle.volume_codec.specs.Lengths.{HasLengths, lengths_text}
 use Rattle.volume_codec.specs.Recovery.{IsVolume}
 use Rattle.recovery.specs.Counts.{IsAccounted}
 use Rattle.recovery.specs.Format.{HasShape}
@@ -27,6 +27,32 @@ abbrev pub AreZeroPast : SuperValue → List ℕ → List ℕ → Type 0
 AreZeroPast table lengths bytes = (file i : ℕ) → file < length table.files
     → 4096 * first_home_of table file + slice_index lengths file ≤ i → i < 4096 * first_home_of table (file + 1)
     → slice_index bytes i ≡ 0
+
+-- all of a volume but its block 0, as migrating this one makes it: each gate byte 0, the lengths in their block, and,
+-- where the device of this one is honest, the same files with zeros past their lengths
+pub record IsFilled {D : Type 0} (disk : Ghosts D) (volume : VolumeState D) (table : SuperValue) (bytes : List ℕ)
+    : Type 0 where
+  pub gates : (j : ℕ) → j < journals_of table.layout → slice_index bytes (4096 * gate_block table.slots j) ≡ 0
+  pub lengths_block : 0 < lengths_blocks table.layout
+      → block_at bytes (first_home table.layout table.slots) ≡ lengths_text volume.lengths
+  pub files : disk.is_honest volume.device → files_of table bytes ≡ files_of volume.table (disk.seen volume.device)
+  pub tails : disk.is_honest volume.device → AreZeroPast table volume.lengths bytes
+
+-- What a crash leaves of a volume that is being made from this one, on a device that might have been left as one of
+-- these lists: such a list, with other bytes in the volume's blocks alone. Block 0 is as it was, or else all the rest is
+-- filled.
+pub record IsPartlyMigrated {D : Type 0} (disk : Ghosts D) (volume : VolumeState D) (table : SuperValue)
+    (lists : List ℕ → Type 0) (c : List ℕ) : Type 0 where
+  pub before : List ℕ
+  pub left : lists before
+  pub within : Torn 0 (4096 * block_count table) before c
+  pub first : (block_at c 0 ≡ block_at before 0) ⊎ IsFilled disk volume table c
+
+-- what a crash leaves of migrating: what it might have left before it, or a volume that is being made
+abbrev pub LeftByMigration : {D E : Type 0} → Ghosts D → Ghosts E → ℕ → VolumeState D → E → List ℕ → Type 0
+LeftByMigration disk other slots volume before c = other.may_leave before c
+    ⊎ ((table : SuperValue) × HasShape 3 (asked_of volume) slots (length (other.seen before)) table
+    × IsPartlyMigrated disk volume table (other.may_leave before) c)
 
 -- Two devices are as long and as honest as before. Where the result is Ok no call of either failed; else it has its
 -- cause at one of them, and no call of the other failed.

@@ -1,16 +1,16 @@
 // A volume becomes one whose files can grow, on another device.
-ghost use Rattle.std.specs.Prelude.{◌≡◌, ◌⊎◌, ◌+◌, ◌-◌, ◌*◌, ◌^◌, ◌<◌, ◌≤◌, ℕ, length, take, slice_index, slice_range, IfOk, IfErr, OnOk};
-ghost use Rattle.device.specs.Device.{written, Torn};
+ghost use Rattle.std.specs.Prelude.{◌≡◌, ◌⊎◌, ◌+◌, ◌-◌, ◌*◌, ◌^◌, ◌<◌, ◌≤◌, ℕ, List, length, take, slice_index, slice_range, IfOk, IfErr, OnOk};
+ghost use Rattle.device.specs.Device.{written, Torn, TornFrom, LeavesOnly};
 ghost use Rattle.volume_codec.specs.Files.{asked_by};
 ghost use Rattle.volume_codec.specs.Layout.{first_file_home};
 ghost use Rattle.volume_codec.specs.Super.{SuperValue, IsAsked, Fits, block_count, total_pages};
 ghost use Rattle.volume_codec.specs.Lengths.{AreLengths};
 ghost use Rattle.recovery.specs.Counts.{IsAccounted};
 ghost use Rattle.recovery.specs.Format.{HasShape, IsEmptied, RefusesFormat};
-ghost use Rattle.recovery.specs.Migration.{asked_of, AreAccounted, HasMigrated};
+ghost use Rattle.recovery.specs.Migration.{asked_of, AreAccounted, HasMigrated, LeftByMigration};
 ghost use Rattle.recovery.specs.Opening.{IsUnwritten};
 ghost use Rattle.recovery.specs.Volume.{IsSettled, files_of, bytes_of};
-ghost use Rattle.recovery.specs.inside.Copying.{Copies, AreCopied};
+ghost use Rattle.recovery.specs.inside.Copying.{Copies, AreCopied, LeftByLaying};
 
 use crate::calls::write;
 use crate::formatting::{PIECE, finish, lay_out, shape, zero_piece};
@@ -67,6 +67,10 @@ fn begin<D: Device, E: Device, A: Allocator + Copy>(
     ensures emptied { E.is_honest new.old → IfOk result (λ table. IsEmptied table old.now.lengths (E.seen new.new)) }
     ensures torn { E.is_honest new.old → (table : SuperValue) → IsAsked 3 (asked_of old.now) slots table
         → Torn 4096 (4096 * block_count table - 4096) (E.seen new.old) (E.seen new.new) }
+    ensures left { IfOk result (λ table. (c : List ℕ) → E.may_leave new.new c
+        → TornFrom 4096 (4096 * block_count table - 4096) (E.may_leave new.old) c) }
+    ensures time { LeavesOnly E.moment E.left_since new.old new.new
+        (LeftByLaying E.Device (asked_of old.now) slots new.old) }
     ensures kept { IsAccounted E.Device new.old result new.new }
     ensures refused { IfErr result (RefusesFormat 3 (asked_of old.now) slots (length (E.seen new.old))) }
     ensures unchanged { IfErr result (λ refusal. (refusal ≡ Refusal.Device) ⊎ (new.new ≡ new.old)) }
@@ -160,7 +164,9 @@ fn copy_files<D: Device, E: Device, A: Allocator + Copy>(
 ///
 /// The volume isn't written at any moment, whatever the other device is and whatever is answered. What lies past the new
 /// volume stays. The new volume is laid out as `format_as` does it, then the files are copied, 32,768 bytes at a time
-/// and each up to its length, and both are synced before the super block is written and synced.
+/// and each up to its length, and both are synced before the super block is written and synced. A crash meanwhile leaves
+/// block 0 of the other device as it was, or any bytes in it and all the rest of the volume filled: the lengths, the
+/// files' bytes with zeros past them, and closed gates.
 pub fn migrate<D: Device, E: Device, A: Allocator + Copy>(
     alloc: A,
     old: &mut Volume<D, A>,
@@ -177,6 +183,8 @@ pub fn migrate<D: Device, E: Device, A: Allocator + Copy>(
 
     ensures past { E.is_honest new.old → (table : SuperValue) (i : ℕ) → IsAsked 3 (asked_of old.old) slots table
         → 4096 * block_count table ≤ i → slice_index (E.seen new.new) i ≡ slice_index (E.seen new.old) i }
+    ensures crash { E.is_honest new.old → LeavesOnly E.moment E.left_since new.old new.new
+        (LeftByMigration D.Device E.Device slots old.old new.old) }
     ensures refused { IfErr result (RefusesFormat 3 (asked_of old.old) slots (length (E.seen new.old))) }
     ensures unchanged { IfErr result (λ refusal. (refusal ≡ Refusal.Device)
         ⊎ ((new.new ≡ new.old) × (old.new ≡ old.old))) }

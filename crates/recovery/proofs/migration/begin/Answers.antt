@@ -1,6 +1,7 @@
-use Rattle.std.proofs.Common.{◌-◌, ◌*◌, take, Err, sym, ap, ◌∙◌, subst}
+use Rattle.std.proofs.Common.{◌-◌, ◌*◌, inl, inr, take, Err, sym, ap, ◌∙◌, subst}
 use Rattle.std.proofs.lemmas.Result.{err_from_is_err_and}
 use Rattle.device.specs.Device.{Torn}
+use Rattle.device.proofs.Moments.{leaves_at_start, leaves_weaker}
 use Rattle.page_entry.specs.declared.refusal.Refusal.{Refusal}
 use Rattle.volume_codec.specs.Files.{asked_by}
 use Rattle.volume_codec.specs.Super.{SuperValue, block_count}
@@ -41,3 +42,21 @@ returns-clause-torn g c = λ honest table asked.
     let one = one_again c.args.slots _ _ c.in_ok-table.table table same c.in_ok-table.ensures.ok.asked asked in
     let P : SuperValue → Type 0 = λ v. Torn 4096 (4096 * block_count v - 4096) (g.E.Device.seen c.args.new.now) (g.E.Device.seen c.lay_out.new.device) in
     subst P one (c.in_ok-lay_out.ensures.overwrites.torn honest)
+
+pub returns-in_err-table-clause-time : goal.returns-in_err-table-clause-time
+returns-in_err-table-clause-time g c = leaves_at_start (λ l since. inl (g.met.E.Device.since_now c.args.new.now l since))
+
+pub returns-in_err-lay_out-clause-time : goal.returns-in_err-lay_out-clause-time
+returns-in_err-lay_out-clause-time g c =
+    let same = ap (λ n. asked_by (take n c.specs_of-specs.result)) c.file_count.ensures.value ∙ c.specs_of-specs.ensures.specs in
+    let shape = shape_again c.args.slots _ _ _ _ c.in_ok-table.table same c.len.ensures c.in_ok-table.ensures.ok in
+    leaves_weaker c.in_err-lay_out.ensures.overwrites.time (λ l torn. inr (c.in_ok-table.table, shape, torn))
+
+pub returns-clause-time : goal.returns-clause-time
+returns-clause-time g c =
+    let same = ap (λ n. asked_by (take n c.specs_of-specs.result)) c.file_count.ensures.value ∙ c.specs_of-specs.ensures.specs in
+    let shape = shape_again c.args.slots _ _ _ _ c.in_ok-table.table same c.len.ensures c.in_ok-table.ensures.ok in
+    leaves_weaker c.in_ok-lay_out.ensures.overwrites.time (λ l torn. inr (c.in_ok-table.table, shape, torn))
+
+pub returns-clause-left : goal.returns-clause-left
+returns-clause-left g c = c.in_ok-lay_out.ensures.overwrites.left

@@ -9,7 +9,7 @@ use Rattle.recovery.proofs.migration.copy_file.Goals as goal
 pub loop-at-init : goal.loop-at-init
 loop-at-init g c = record {
   high = omega arith;
-  copies = copies_none (λ l since. g.met.D.Device.since_now c.args.old.now.device l since);
+  copies = copies_none (λ l since. g.met.D.Device.since_now c.args.old.now.device l since) (λ l since. g.met.E.Device.since_now c.args.new.now l since);
   copied = λ honest other. sym (written_nil (g.E.Device.seen c.args.new.now) c.args.to);
 }
 

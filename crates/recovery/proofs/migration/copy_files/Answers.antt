@@ -13,7 +13,7 @@ use Rattle.recovery.proofs.migration.copy_files.Goals as goal
 
 pub loop-file-init : goal.loop-file-init
 loop-file-init g c = record {
-  copies = copies_none (λ l since. g.met.D.Device.since_now c.args.old.now.device l since);
+  copies = copies_none (λ l since. g.met.D.Device.since_now c.args.old.now.device l since) (λ l since. g.met.E.Device.since_now c.args.new.now l since);
   copied = λ honest other. copied_none c.args.table.now c.args.old.now.lengths _ (g.E.Device.seen c.args.new.now);
 }
 

@@ -13,7 +13,7 @@ returns-in_err-read_file-clause-copies g c =
     let read = c.in_err-read_file.ensures in
     let p = err_from_is_err_and c.from_residual.result c.from_residual.ensures.1 in
     copies_err {X = Unit {0}} c.from_residual.result (p.1 ∙ ap Err p.2)
-    (copies_read {disk = g.D.Device} {other = g.E.Device} {result = Err c.in_err-read_file.field-0.0} read.table read.lengths read.unwritten read.kept)
+    (copies_read {disk = g.D.Device} {other = g.E.Device} {result = Err c.in_err-read_file.field-0.0} read.table read.lengths read.unwritten read.kept (λ l since. g.met.E.Device.since_now c.args.new.now l since))
 
 -- the buffer is as long as was asked
 sized : (size : ℕ) (piece buffer : List ℕ) → piece ≡ zeros 32768 → size ≤ 32768 → length buffer ≡ length (take size piece) → length buffer ≡ size
@@ -24,7 +24,7 @@ returns-clause-copies g c =
     let read = c.in_ok-read_file.ensures in
     let size = sized c.args.size c.zero_piece-piece.result c.read_file.new.buffer c.zero_piece-piece.ensures c.requires.few (omega arith) in
     copies_piece {X = Unit {0}} c.read_file.new.buffer c.write.result
-    (copies_read {disk = g.D.Device} {other = g.E.Device} {result = Ok tt} read.table read.lengths read.unwritten read.kept)
+    (copies_read {disk = g.D.Device} {other = g.E.Device} {result = Ok tt} read.table read.lengths read.unwritten read.kept (λ l since. g.met.E.Device.since_now c.args.new.now l since))
     size (omega (arith, c.requires.room)) c.write.ensures.fault c.write.ensures.did
 
 pub returns-clause-copied : goal.returns-clause-copied

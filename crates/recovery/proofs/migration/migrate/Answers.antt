@@ -1,6 +1,7 @@
 use Rattle.std.proofs.Common.{◌≡◌, inl, inr, length, Ok, Err, refl, sym, ap, ◌∙◌, subst, arith}
 use Rattle.std.proofs.lemmas.Result.{MatchResult-weaker, err_from_is_err_and, on_ok_weaker}
 use Rattle.device.specs.Device.{written, Only}
+use Rattle.device.proofs.Moments.{leaves_weaker}
 use Rattle.device.proofs.Ranges.{torn_after}
 use Rattle.page_entry.specs.declared.refusal.Refusal.{Refusal}
 use Rattle.page_entry.specs.declared.refusal.Refusal.TheVariants.{Device}
@@ -11,7 +12,7 @@ use Rattle.recovery.specs.Migration.{asked_of, AreAccounted}
 use Rattle.recovery.proofs.Copied.{unwritten_none, accounts_then, accounts_err, copies_honest}
 use Rattle.recovery.proofs.Formatted.{both_ok}
 use Rattle.recovery.proofs.Kept.{kept_none, kept_ok, kept_err}
-use Rattle.recovery.proofs.Migrated.{migrated, asked_files, asked_lengths_are}
+use Rattle.recovery.proofs.Migrated.{migrated, laying_left, time_of_copying, time_of_filling, asked_files, asked_lengths_are}
 use Rattle.recovery.proofs.migration.migrate.Goals as goal
 
 pub copy_files-requires-clause-same : goal.copy_files-requires-clause-same
@@ -106,3 +107,19 @@ returns-clause-migrated g c = λ honest other.
     migrated g.D.Device g.E.Device c.args.slots c.args.old.now c.args.new.now c.begin.new.new c.copy_files.new.new c.finish.new.device c.in_ok-table.table laid.ok laid.settled honest
     (laid.emptied other) (laid.torn other c.in_ok-table.table laid.ok.asked) (copies.torn other_1) (c.in_ok-copy_files.ensures.copied honest other_1) both.0 both.1)
     (both_ok _ _ c.finish.result (finishes.done other_2) (finishes.synced other_2))
+
+pub returns-in_err-table-clause-crash : goal.returns-in_err-table-clause-crash
+returns-in_err-table-clause-crash g c = λ honest. leaves_weaker c.in_err-table.ensures.time (laying_left g.D.Device g.E.Device c.args.slots c.args.old.now c.args.new.now)
+
+pub returns-in_err-copy_files-clause-crash : goal.returns-in_err-copy_files-clause-crash
+returns-in_err-copy_files-clause-crash g c = λ honest.
+    let laid = c.in_ok-table.ensures in
+    time_of_copying g.D.Device g.E.Device c.args.slots c.args.old.now c.args.new.now c.begin.new.new c.in_ok-table.table laid.ok laid.time laid.left c.in_err-copy_files.ensures.copies
+
+pub returns-clause-crash : goal.returns-clause-crash
+returns-clause-crash g c = λ honest.
+    let laid = c.in_ok-table.ensures in
+    let copies = c.in_ok-copy_files.ensures.copies in
+    let honest_1 = laid.kept.honest.1 honest in
+    time_of_filling g.D.Device g.E.Device c.args.slots c.args.old.now c.args.new.now c.begin.new.new c.in_ok-table.table laid.ok laid.time laid.left copies
+    laid.settled (laid.emptied honest) (λ on_volume. c.in_ok-copy_files.ensures.copied on_volume honest_1) honest_1 ((copies_honest copies).1 honest_1) c.finish.ensures.finishes
