@@ -1185,7 +1185,7 @@ static int for_runs(famsync_memory *memory, const unsigned char *flags,
 static int close_run(famsync_memory *memory, size_t first, size_t end)
 {
     return mprotect(memory->at + first * memory->grain, (end - first) * memory->grain, PROT_READ) == 0 ? FAMSYNC_OK
-                                                                                                     : FAMSYNC_SYSTEM;
+                                                                                                       : FAMSYNC_SYSTEM;
 }
 
 static int copy_run(famsync_memory *memory, size_t first, size_t end)

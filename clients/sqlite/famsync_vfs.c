@@ -27,14 +27,14 @@ SQLITE_EXTENSION_INIT1
 struct database {
     sqlite3_file base;
     famsync *volume;
-    uint64_t address;       /* of the file's first page; the database begins with its second */
-    sqlite3_int64 room;     /* the most bytes that it can have */
-    sqlite3_int64 size;     /* and how many it has */
-    sqlite3_int64 kept;     /* how many it has by the last commit */
-    unsigned char **waits;  /* one a page: what it is to be, or a null pointer */
-    unsigned waiting;       /* how many wait */
-    unsigned limit;         /* the most of them */
-    int torn;               /* a commit failed on its way: nothing of this connection counts any more */
+    uint64_t address;      /* of the file's first page; the database begins with its second */
+    sqlite3_int64 room;    /* the most bytes that it can have */
+    sqlite3_int64 size;    /* and how many it has */
+    sqlite3_int64 kept;    /* how many it has by the last commit */
+    unsigned char **waits; /* one a page: what it is to be, or a null pointer */
+    unsigned waiting;      /* how many wait */
+    unsigned limit;        /* the most of them */
+    int torn;              /* a commit failed on its way: nothing of this connection counts any more */
 };
 
 static sqlite3_vfs *usual;

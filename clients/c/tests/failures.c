@@ -10,7 +10,8 @@ static void no_program_no_volume(void)
 {
     famsync *handle = (famsync *)1;
     char message[200];
-    struct famsync_options options = {.program = "/nowhere/famsync", .message = message, .message_size = sizeof message};
+    struct famsync_options options = {
+        .program = "/nowhere/famsync", .message = message, .message_size = sizeof message};
     WANT_CODE(famsync_open(volume, &options, &handle), FAMSYNC_NOPROGRAM);
     WANT(handle == NULL);
     options.program = "/bin/false";
@@ -115,11 +116,13 @@ static int fake_service(const char *what)
 
 static void nonsense(const char *own_path)
 {
+    /* clang-format off */
     static const char *starts[] = {"start:hello\n",         "start:ready 0\n",         "start:ready 65\n",
                                    "start:ready -1\n",      "start:ready 1\n a\n",     "start:ready 1\na\n",
                                    "start:ready 1\na 1x\n", "start:ready 1\na 1 2\n",  "start:ready 1\n\n",
                                    "start:\n",              "start:\001\n",            "start:ready 01\n",
                                    "start:ready 1\na 99999999999999999999999999999\n", "start:readY 1\n"};
+    /* clang-format on */
     static const char *gone[] = {"start:", "start:ready 1\n", "start:ready 1", "start:ready 2\na 8192\n"};
     static const char *replies[] = {"\n",
                                     "hello\n",

@@ -9,11 +9,13 @@ static unsigned char pattern(size_t at, unsigned round)
 static void any_address_any_count(void)
 {
     static unsigned char bytes[300000], found[300000];
+    /* clang-format off */
     static const size_t cases[][2] = {
         {0, 0},     {0, 1},        {1, 7},         {4093, 8},     {4093, 9},         {65535, 1},      {65535, 2},
         {65536, 0}, {4096, 4095},  {4095, 4097},   {65537, 9},    {0, 65535},        {1, 65536},      {65536, 65537},
         {8, 131072}, {4093, 70000}, {299999, 1},    {230000, 70000},
     };
+    /* clang-format on */
     uint64_t address, mark;
     unsigned round = 0;
     size_t done;

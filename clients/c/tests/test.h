@@ -34,8 +34,8 @@ static inline void want_code(int found, int code, const char *what, const char *
 {
     if (found == code)
         return;
-    fprintf(stderr, "%s:%d: %s is %d (%s), and should be %d (%s)\n", file, line, what, found, famsync_strerror(found), code,
-            famsync_strerror(code));
+    fprintf(stderr, "%s:%d: %s is %d (%s), and should be %d (%s)\n", file, line, what, found, famsync_strerror(found),
+            code, famsync_strerror(code));
     exit(1);
 }
 

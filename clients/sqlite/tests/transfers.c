@@ -38,7 +38,8 @@ static void must(const char *statement)
 {
     int code = try_to(statement);
     if (code != SQLITE_OK) {
-        fprintf(stderr, "transfers: %s: %s (%d)\n", statement, sqlite3_errmsg(database), sqlite3_extended_errcode(database));
+        fprintf(stderr, "transfers: %s: %s (%d)\n", statement, sqlite3_errmsg(database),
+                sqlite3_extended_errcode(database));
         exit(code == SQLITE_CORRUPT || code == SQLITE_NOTADB ? 5 : 4);
     }
 }
@@ -63,7 +64,8 @@ static void begin_with(const char *path, const char *journal, const char *cache)
         }
         sqlite3_close(first);
     }
-    if (sqlite3_open_v2(path, &database, SQLITE_OPEN_READWRITE | SQLITE_OPEN_CREATE | SQLITE_OPEN_URI, NULL) != SQLITE_OK) {
+    if (sqlite3_open_v2(path, &database, SQLITE_OPEN_READWRITE | SQLITE_OPEN_CREATE | SQLITE_OPEN_URI, NULL) !=
+        SQLITE_OK) {
         fprintf(stderr, "transfers: %s: %s\n", path, sqlite3_errmsg(database));
         exit(3);
     }
@@ -102,8 +104,8 @@ static void transfer(int number)
     int accounts = atoi(ask("SELECT count(*) FROM account"));
     must("BEGIN");
     for (int i = 0; i < 50; i++) {
-        snprintf(statement, sizeof statement, "UPDATE account SET balance = balance %c %d WHERE id = %d", i % 2 ? '-' : '+',
-                 number + i / 2, (number * 31 + i * 7) % accounts);
+        snprintf(statement, sizeof statement, "UPDATE account SET balance = balance %c %d WHERE id = %d",
+                 i % 2 ? '-' : '+', number + i / 2, (number * 31 + i * 7) % accounts);
         must(statement);
     }
     must("INSERT INTO log DEFAULT VALUES");
