@@ -1,4 +1,6 @@
 pub mod Moments
+mod Carrying
+mod Deferring
 pub mod Done
 mod Fitting
 mod Outcomes

@@ -1,4 +1,6 @@
+pub mod Carrying
 pub mod Count
+pub mod Deferred
 pub mod Device
 pub mod Work
 pub mod Did

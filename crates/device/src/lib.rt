@@ -3,8 +3,10 @@
 #![tactic(auto)]
 
 mod block_file;
+mod blocks;
 mod borrowed;
 mod count;
+mod deferred;
 mod device;
 mod doing;
 mod failing;
@@ -14,8 +16,10 @@ mod log;
 mod memory;
 mod memory_file;
 mod overlay;
+mod past;
 
 pub use block_file::BlockFile;
+pub use deferred::{DeferredCall, DeferredDisk};
 pub use device::Device;
 pub use doing::{copy_block, make_sure, write_at};
 pub use failing::FailingDisk;

@@ -1,0 +1,10 @@
+use Rattle.std.proofs.Common.{length, sym, ◌∙◌, ap}
+use Rattle.device.specs.Deferred.{Deferred, as_recorded}
+use Rattle.device.specs.Memory.{seen_of}
+use Rattle.device.proofs.Patches.{length-content_after}
+use Rattle.device.proofs.deferred.DeferredDiskDevice.len.Goals as goal
+
+pub returns : goal.returns
+returns g c =
+    let past = c.self.inside.past in
+    c.self.invariant.len_is ∙ sym (length-content_after past.first past.changes c.self.invariant.within) ∙ ap (λ (d : Deferred). length (seen_of (as_recorded d))) c.self.view_is
