@@ -43,16 +43,16 @@ where
 fn found_on<'a, R, A>(
     alloc: A,
     path: &'a str,
-    disk: VolumeDisk<'_, R>,
+    mut disk: VolumeDisk<'_, R>,
 ) -> Result<Found<A>, Failure<'a>>
 where
     R: Files<File = File> + AllocGlobal,
     A: Allocator + Copy,
     ensures count { IfOk result (λ found. length found.lengths.items ≡ length found.table.files) }
 {
-    match inspect(alloc, disk) {
+    match inspect(alloc, &mut disk) {
         Ok(found) => Ok(found),
-        Err((refusal, mut disk)) => {
+        Err(refusal) => {
             let cause = refused_to_open(alloc, refusal, &mut disk);
             Err(refused(path, cause))
         }
@@ -91,18 +91,18 @@ where
     ensures { IfOk result (λ status. status ≤ 3) }
 {
     let place = place(rt, look.disk)?;
-    let disk = open_disk(rt, look.disk, &place, Access::Read, look.trust, note)?;
-    match examine(alloc, disk) {
+    let mut disk = open_disk(rt, look.disk, &place, Access::Read, look.trust, note)?;
+    match examine(alloc, &mut disk) {
         Ok(health) => {
             print_health(rt.alloc(), look.json, health, out)?;
             Ok(status_of(health))
         }
-        Err((Refusal::Damaged, mut disk)) => {
+        Err(Refusal::Damaged) => {
             let cause = refused_to_open(alloc, Refusal::Damaged, &mut disk);
             print_damage(rt.alloc(), look.json, &cause, out)?;
             Ok(3)
         }
-        Err((refusal, mut disk)) => {
+        Err(refusal) => {
             let cause = refused_to_open(alloc, refusal, &mut disk);
             Err(refused(look.disk, cause))
         }

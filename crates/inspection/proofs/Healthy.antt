@@ -1,10 +1,10 @@
 -- Whether a journal is o, by what the journals say and by the batches of a volume.
-use Rattle.std.proofs.Common.{◌≡◌, ℕ, suc, ◌+◌, ◌<◌, ◌≤◌, Bool, true, false, ◌||◌, List, [], ◌∷◌, length, Option, Some, None, MatchOption, is_some, refl, sym, ◌∙◌, ap, subst, arith, inl, inr}
+use Rattle.std.proofs.Common.{◌≡◌, ℕ, suc, ◌+◌, ◌<◌, ◌≤◌, Bool, true, false, ◌||◌, List, [], ◌∷◌, length, Option, Some, None, MatchOption, is_some, refl, ◌∙◌, ap, subst, arith, inl, inr}
 use Rattle.std.specs.List.{list_any}
 use Rattle.std.proofs.lemmas.Bool.{cases_eq}
-use Rattle.volume_codec.specs.Layout.{GeometryValue, journals_of}
+use Rattle.volume_codec.specs.Layout.{GeometryValue}
 use Rattle.volume_codec.specs.Super.{geometry_of}
-use Rattle.volume_codec.specs.Recovery.{Batch, IsOpen, IsVolume, has_journal}
+use Rattle.volume_codec.specs.Recovery.{Batch, IsOpen, IsVolume}
 use Rattle.inspection.specs.declared.found.Journal.{Journal}
 use Rattle.inspection.specs.declared.found.Found.{Found}
 use Rattle.inspection.specs.Found.{AreFrom, IsFound}
@@ -50,8 +50,8 @@ health_of_found {Z} bytes found is = told is.batches is.volume
     told [] volume =
         let none : list_any is_open found.journals.items ≡ false = all_closed (geometry_of found.table) bytes 0 found.journals.items is.journals.1 (λ k below o.
         let no : false ≡ true = volume.journals.all k (omega (arith, is.journals.0)) o in cc) in
-        rw none (found.table, volume)
+        rw none (record { table = found.table; volume = volume; files = _; recovers = is.files })
     told (newest ∷ older) volume =
         let o = volume.journals.each.0 in
         let some : list_any is_open found.journals.items ≡ true = any_open (geometry_of found.table) bytes 0 newest.journal found.journals.items is.journals.1 (omega arith) (omega (arith, is.journals.0, o.there)) o.gate in
-        rw some (found.table, newest, older, volume)
+        rw some (newest, older, record { table = found.table; volume = volume; files = _; recovers = is.files })

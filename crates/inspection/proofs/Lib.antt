@@ -1,5 +1,8 @@
 mod Healthy
 mod Journals
-mod Opened
+mod Looked
+mod Newest
+mod Pages
 mod Places
+mod Printed
 mod Writing

@@ -3,7 +3,6 @@ use Rattle.std.proofs.Common.{◌≡◌, ℕ, zero, suc, ◌+◌, ◌-◌, ◌<�
 use Rattle.std.proofs.lemmas.Bool.{le-leb, lt-leb, cases_eq}
 use Rattle.volume_codec.specs.Super.{SuperValue, pages_of, first_home_of, capacities_in}
 use Rattle.volume_codec.proofs.Places.{first_home_of-next}
-use Rattle.inspection.specs.declared.place.Place.{Place}
 use Rattle.inspection.specs.Places.{place_before}
 
 place_here : (v : SuperValue) (h i : ℕ) → first_home_of v i ≤ h → place_before v h (suc i) ≡ Some (record { file = i; page = h - first_home_of v i })

@@ -5,7 +5,7 @@ use Rattle.volume_codec.specs.Layout.{GeometryValue, gate_block, descriptor_bloc
 use Rattle.volume_codec.specs.Descriptor.{IsDescriptor}
 use Rattle.volume_codec.specs.Super.{geometry_of}
 use Rattle.volume_codec.specs.Lengths.{lengths_in}
-use Rattle.volume_codec.specs.Recovery.{Batch, IsOpen, IsVolume, Recovers}
+use Rattle.volume_codec.specs.Recovery.{Batch, IsOpen, IsVolume, Recovers, RecoversTo, files_in}
 use Rattle.recovery.specs.Counts.{Rises}
 use Rattle.recovery.specs.Opening.{opening_calls}
 use Rattle.inspection.specs.declared.found.Journal.{Journal}
@@ -27,7 +27,7 @@ AreFrom g bytes j (journal ∷ journals) = IsJournal g bytes j journal × AreFro
 abbrev pub AreJournals : {Z : Type 0} → GeometryValue → List ℕ → List (Journal Z) → Type 0
 AreJournals g bytes journals = (length journals ≡ journals_of g.layout) × AreFrom g bytes 0 journals
 
--- what is found of bytes that hold a volume
+-- what is found of bytes that recover to files
 pub record IsFound {Z : Type 0} (bytes : List ℕ) (found : Found Z) : Type 0 where
   pub batches : List Batch
   pub volume : IsVolume found.table batches bytes
@@ -35,5 +35,6 @@ pub record IsFound {Z : Type 0} (bytes : List ℕ) (found : Found Z) : Type 0 wh
   pub contents : ℕ → List ℕ
   pub recovers : Recovers found.table contents bytes
   pub lengths : found.lengths.items ≡ lengths_in found.table contents
+  pub files : RecoversTo bytes (files_in found.table contents)
   -- of a device that no call was made of
   pub calls : Rises (opening_calls found.table batches) 0 found.calls

@@ -1,12 +1,19 @@
 -- Whether a volume is whole, and whether it needs opening.
-use Rattle.std.specs.Prelude.{ℕ, Bool, true, false, List, [], ◌∷◌, Option, Some, None}
+use Rattle.std.specs.Prelude.{ℕ, List, [], ◌∷◌}
+use Rattle.volume_codec.specs.Files.{File}
 use Rattle.volume_codec.specs.Super.{SuperValue}
-use Rattle.volume_codec.specs.Recovery.{Batch, IsVolume}
+use Rattle.volume_codec.specs.Recovery.{Batch, IsVolume, RecoversTo}
 use Rattle.inspection.specs.declared.health.Health.{Health}
 use Rattle.inspection.specs.declared.health.Health.TheVariants.{Clean, NeedsOpening}
 
--- these bytes hold a volume: without an open journal it is clean, and with one it needs opening
+-- these bytes recover to files, and these are the batches of their open journals
+pub record HoldsFiles (bytes : List ℕ) (batches : List Batch) : Type 0 where
+  pub table : SuperValue
+  pub volume : IsVolume table batches bytes
+  pub files : List File
+  pub recovers : RecoversTo bytes files
+
+-- these bytes recover to files: without an open journal the volume is clean, and with one it needs opening
 abbrev pub IsHealth : List ℕ → Health → Type 0
-IsHealth bytes Clean = (table : SuperValue) × IsVolume table [] bytes
-IsHealth bytes NeedsOpening = (table : SuperValue) × (newest : Batch) × (older : List Batch)
-    × IsVolume table (newest ∷ older) bytes
+IsHealth bytes Clean = HoldsFiles bytes []
+IsHealth bytes NeedsOpening = (newest : Batch) × (older : List Batch) × HoldsFiles bytes (newest ∷ older)

@@ -8,10 +8,9 @@ use Rattle.volume_codec.specs.Descriptor.{DescriptorValue}
 use Rattle.inspection.specs.declared.found.Journal.{Journal}
 use Rattle.inspection.specs.declared.found.Found.{Found}
 use Rattle.inspection.specs.declared.health.Health.{Health}
-use Rattle.inspection.specs.declared.health.Health.TheVariants.{Clean, NeedsOpening}
 use Rattle.inspection.specs.declared.place.Place.{Place}
 use Rattle.inspection.specs.Places.{place_in}
-use Rattle.inspection.specs.Text.{name_of}
+use Rattle.inspection.specs.Text.{name_of, health_words}
 
 -- a whole number
 abbrev pub num : ℕ → Data
@@ -96,12 +95,8 @@ info_data found = volume_data found.table found.calls
     (list (journals_data found.table found.journals.items))
 
 -- how a volume is
-abbrev pub state_word : Health → List ℕ
-state_word Clean = codes "clean"
-state_word NeedsOpening = codes "needs opening"
-
 abbrev pub health_data : Health → Data
-health_data health = object (member (codes "state") (string (state_word health)) no_members)
+health_data health = object (member (codes "state") (string (health_words health)) no_members)
 
 abbrev pub damage_data : List ℕ → Data
 damage_data cause =

@@ -7,6 +7,8 @@ use Rattle.volume_codec.specs.Super.{SuperValue, pages_of, first_home_of, block_
 use Rattle.volume_codec.specs.Descriptor.{DescriptorValue}
 use Rattle.inspection.specs.declared.found.Journal.{Journal}
 use Rattle.inspection.specs.declared.found.Found.{Found}
+use Rattle.inspection.specs.declared.health.Health.{Health}
+use Rattle.inspection.specs.declared.health.Health.TheVariants.{Clean, NeedsOpening}
 use Rattle.inspection.specs.declared.place.Place.{Place}
 use Rattle.inspection.specs.Places.{place_in}
 
@@ -91,3 +93,8 @@ info_text found =
     volume_line found.table ++ file_lines found.table found.lengths.items (length found.table.files)
     ++ journal_lines found.table found.journals.items
     ++ calls_line found.calls
+
+-- how a volume is
+abbrev pub health_words : Health → List ℕ
+health_words Clean = codes "clean"
+health_words NeedsOpening = codes "needs opening"

@@ -1,3 +1,4 @@
 -- What ties private code to the definitions that public clauses name.
 pub mod Health
-pub mod Reading
+pub mod Order
+pub mod Pages

@@ -1,15 +1,16 @@
 // What is found of the volume of a device.
-ghost use Rattle.std.specs.Prelude.{◌≡◌, ◌⊎◌, length, IfOk, IfErr};
-ghost use Rattle.volume_codec.specs.Layout.{block_at};
-ghost use Rattle.volume_codec.specs.Super.{IsSuper, geometry_of};
+ghost use Rattle.std.specs.Prelude.{◌≡◌, length, IfOk, IfErr};
 ghost use Rattle.recovery.specs.Opening.{RefusesOpening};
-ghost use Rattle.inspection.specs.Found.{AreJournals, IsFound};
+ghost use Rattle.inspection.specs.Found.{IsFound};
+ghost use Rattle.inspection.specs.Reading.{IsJudged, IsOnlyRead};
 
+use crate::lengths::find_lengths;
+use crate::order::opening_calls;
 use crate::reading::read_parts;
-use device::{Device, OverlayDisk};
+use device::Device;
 use page_entry::Refusal;
-use recovery::Volume;
-use std::alloc::{AllocError, Allocator};
+use recovery::kinds_of_bytes;
+use std::alloc::Allocator;
 use volume_codec::{Descriptor, Super};
 
 /// What a journal says.
@@ -36,97 +37,37 @@ pub struct Found<A: Allocator + Copy> {
     pub calls: u64,
 }
 
-/// Finds what the bytes of a device say of its volume. Opening is tried on a copy that keeps what is written in memory:
-/// its refusal is the refusal here, and its device calls are counted. `OutOfMemory` may come in the place of any. An
-/// `Err` hands the device back. Nothing is written to it.
-pub fn inspect<D: Device + Drop, A: Allocator + Copy>(
+/// Finds what the bytes of a device say of its volume, and counts the device calls that opening makes. It is refused as
+/// opening refuses it: `NotAVolume` where the bytes are no volume, `Damaged` where they are a damaged one. `Device`,
+/// where a device call failed, and `OutOfMemory` may come in the place of any. The device is only read.
+pub fn inspect<D: Device, A: Allocator + Copy>(
     alloc: A,
-    device: D,
-) -> Result<Found<A>, (Refusal, D)>
-    ensures found { D.is_honest device → IfOk result (IsFound (D.seen device)) }
+    device: &mut D,
+) -> Result<Found<A>, Refusal>
+    ensures found { D.is_honest device.old → IfOk result (IsFound (D.seen device.old)) }
     ensures count { IfOk result (λ found. length found.lengths.items ≡ length found.table.files) }
-    ensures refused { D.is_honest device → IfErr result (λ refused. RefusesOpening (D.seen device) refused.0) }
+    ensures refused { D.is_honest device.old → IfErr result (RefusesOpening (D.seen device.old)) }
+    ensures judged { D.is_honest device.old → IsJudged (D.seen device.old) result }
+    ensures read { IsOnlyRead D.Device device.old device.new }
 {
-    let mut device = device;
-    match read_parts(alloc, &mut device) {
-        Ok((table, journals)) => try_opening(alloc, device, table, journals),
-        Err(refusal) => Err((refusal, device)),
-    }
+    kinds_of_bytes();
+    find(alloc, device)
 }
 
-// Tries opening on a copy of a device whose table and journals were read.
-fn try_opening<D: Device + Drop, A: Allocator + Copy>(
-    alloc: A,
-    device: D,
-    table: Super<A>,
-    journals: Vec<Journal<A>, A>,
-) -> Result<Found<A>, (Refusal, D)>
-    requires table { D.is_honest device → IsSuper table (block_at (D.seen device) 0) }
-    requires journals { D.is_honest device → AreJournals (geometry_of table) (D.seen device) journals.items }
-    ensures found { D.is_honest device → IfOk result (IsFound (D.seen device)) }
+// Finds what the bytes of a device say.
+fn find<D: Device, A: Allocator + Copy>(alloc: A, device: &mut D) -> Result<Found<A>, Refusal>
+    ensures found { D.is_honest device.old → IfOk result (IsFound (D.seen device.old)) }
     ensures count { IfOk result (λ found. length found.lengths.items ≡ length found.table.files) }
-    ensures refused { D.is_honest device → IfErr result (λ refused. RefusesOpening (D.seen device) refused.0) }
+    ensures refused { D.is_honest device.old → IfErr result (RefusesOpening (D.seen device.old)) }
+    ensures read { IsOnlyRead D.Device device.old device.new }
 {
-    drop(table);
-    let copy = OverlayDisk::new(alloc, device);
-    recovery::opened_as_recovered(&copy);
-    match recovery::open(alloc, copy) {
-        Ok(volume) => found_of(alloc, volume, journals),
-        Err((refusal, copy)) => Err(refused_of(refusal, copy)),
-    }
-}
-
-// The refusal of an opening that was tried on a copy, and the device under the copy.
-fn refused_of<D: Device, A: Allocator + Copy>(
-    refusal: Refusal,
-    copy: OverlayDisk<D, A>,
-) -> (Refusal, D)
-    ensures refusal { (result.0 ≡ refusal) ⊎ (result.0 ≡ Refusal.OutOfMemory) }
-{
-    let was_refused_memory = copy.was_refused_memory();
-    let device = copy.into_inner();
-    if was_refused_memory {
-        (Refusal::OutOfMemory, device)
-    } else {
-        (refusal, device)
-    }
-}
-
-// What is found of a volume that was opened on a copy, and whose journals said this.
-fn found_of<D: Device + Drop, A: Allocator + Copy>(
-    alloc: A,
-    volume: Volume<OverlayDisk<D, A>, A>,
-    journals: Vec<Journal<A>, A>,
-) -> Result<Found<A>, (Refusal, D)>
-    ensures found { IfOk result (λ found. (found.table ≡ volume.table) × (found.lengths.items ≡ volume.lengths)
-        × (found.journals.items ≡ journals.items) × (found.calls ≡ volume.device.calls)) }
-    ensures count { IfOk result (λ found. length found.lengths.items ≡ length found.table.files) }
-    ensures refused { IfErr result (λ refused. refused.0 ≡ Refusal.OutOfMemory) }
-{
-    let lengths = match lengths_of(alloc, &volume) {
-        Ok(lengths) => lengths,
-        Err(_) => return Err((Refusal::OutOfMemory, volume.into_device().into_inner())),
-    };
-    let (table, copy) = volume.into_parts();
-    let calls = copy.calls();
+    let (table, journals) = read_parts(alloc, device)?;
+    let lengths = find_lengths(alloc, device, &table, &journals)?;
+    let calls = opening_calls(&table, &journals);
     Ok(Found {
         table,
         lengths,
         journals,
         calls,
     })
-}
-
-// The lengths of a volume's files.
-fn lengths_of<D: Device, A: Allocator + Copy>(
-    alloc: A,
-    volume: &Volume<D, A>,
-) -> Result<Vec<u64, A>, AllocError>
-    ensures { IfOk result (λ lengths. lengths.items ≡ volume.now.lengths) }
-{
-    let mut lengths = Vec::new(alloc);
-    for file in 0..volume.file_count() {
-        lengths.push(volume.length(file))?;
-    }
-    Ok(lengths)
 }

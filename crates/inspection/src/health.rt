@@ -3,6 +3,7 @@ ghost use Rattle.std.specs.Prelude.{◌≡◌, IfOk, IfErr};
 ghost use Rattle.std.specs.List.{list_any};
 ghost use Rattle.recovery.specs.Opening.{RefusesOpening};
 ghost use Rattle.inspection.specs.Health.{IsHealth};
+ghost use Rattle.inspection.specs.Reading.{IsJudged, IsOnlyRead};
 ghost use Rattle.inspection.specs.inside.Health.{is_open, health_by};
 
 use crate::found::{Found, Journal, inspect};
@@ -21,26 +22,32 @@ pub enum Health {
 }
 
 impl fmt::Display for Health {
+    ghost use Rattle.std.specs.Prelude.{Some};
+    ghost use Rattle.inspection.specs.Text.{health_words};
+
+    ghost output = { λ health. Some (health_words health) };
+
+    /// What `check` prints of it.
     fn fmt<W: fmt::Write>(&self, f: &mut fmt::Formatter<W>) -> fmt::Result {
         match self {
-            Health::Clean => write!(f, "clean"),
-            Health::NeedsOpening => write!(f, "needs opening"),
+            Health::Clean => f.write_str("clean"),
+            Health::NeedsOpening => f.write_str("needs opening"),
         }
     }
 }
 
-/// How the volume of a device is. It is refused as opening refuses it: `Damaged` where it is damaged. `OutOfMemory` may
-/// come in the place of any. An `Err` hands the device back. Nothing is written to it.
-pub fn examine<D: Device + Drop, A: Allocator + Copy>(
-    alloc: A,
-    device: D,
-) -> Result<Health, (Refusal, D)>
-    ensures health { D.is_honest device → IfOk result (IsHealth (D.seen device)) }
-    ensures refused { D.is_honest device → IfErr result (λ refused. RefusesOpening (D.seen device) refused.0) }
+/// How the volume of a device is. It is refused as opening refuses it: `NotAVolume` where the bytes are no volume,
+/// `Damaged` where they are a damaged one. `Device`, where a device call failed, and `OutOfMemory` may come in the
+/// place of any. The device is only read.
+pub fn examine<D: Device, A: Allocator + Copy>(alloc: A, device: &mut D) -> Result<Health, Refusal>
+    ensures health { D.is_honest device.old → IfOk result (IsHealth (D.seen device.old)) }
+    ensures refused { D.is_honest device.old → IfErr result (RefusesOpening (D.seen device.old)) }
+    ensures judged { D.is_honest device.old → IsJudged (D.seen device.old) result }
+    ensures read { IsOnlyRead D.Device device.old device.new }
 {
     match inspect(alloc, device) {
         Ok(found) => Ok(health_of(&found)),
-        Err(refused) => Err(refused),
+        Err(refusal) => Err(refusal),
     }
 }
 

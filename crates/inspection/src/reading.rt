@@ -1,13 +1,16 @@
 // What the bytes of a volume say of its table and its journals, read without changing them.
 ghost use Rattle.std.specs.Prelude.{◌≡◌, ◌+◌, ◌*◌, ◌≤◌, ◌<◌, length, slice_range, slice_index, IfOk, IfErr, OnOk};
 ghost use Rattle.volume_codec.specs.Layout.{journals_of, gate_block, block_at};
+ghost use Rattle.volume_codec.specs.Recovery.{AreOpen, IsVolume};
 ghost use Rattle.volume_codec.specs.Super.{IsSuper, block_count, geometry_of};
 ghost use Rattle.recovery.specs.Opening.{RefusesOpening};
 ghost use Rattle.recovery.specs.inside.Reading.{RefusesJournals};
 ghost use Rattle.inspection.specs.Found.{IsJournal, AreJournals};
-ghost use Rattle.inspection.specs.inside.Reading.{IsOnlyRead};
+ghost use Rattle.inspection.specs.Reading.{IsOnlyRead};
+ghost use Rattle.inspection.specs.inside.Order.{batches_of};
 
 use crate::found::Journal;
+use crate::order::{descriptor_of, is_same_mark};
 use device::Device;
 use page_entry::{PAGE, Refusal};
 use std::alloc::Allocator;
@@ -27,8 +30,8 @@ fn read<D: Device>(device: &mut D, at: u64, buffer: &mut [u8]) -> Result<(), Ref
     }
 }
 
-// The bytes of a block.
-fn read_block<D: Device>(device: &mut D, block: u32) -> Result<[u8; 4096], Refusal>
+/// The bytes of a block.
+pub fn read_block<D: Device>(device: &mut D, block: u32) -> Result<[u8; 4096], Refusal>
     requires { 4096 * block + 4096 ≤ length (D.seen device.old) }
     ensures bytes { D.is_honest device.old → IfOk result (λ bytes. bytes ≡ block_at (D.seen device.old) block) }
     ensures read { IsOnlyRead D.Device device.old device.new }
@@ -113,6 +116,7 @@ fn read_journals<D: Device, A: Allocator + Copy>(
     requires long { 4096 * geometry.now.blocks ≤ length (D.seen device.old) }
     ensures say { D.is_honest device.old
         → IfOk result (λ found. AreJournals geometry.now (D.seen device.old) found.items) }
+    ensures count { IfOk result (λ found. length found.items ≡ journals_of geometry.now.layout) }
     ensures refused { D.is_honest device.old → IfErr result (RefusesJournals geometry.now (D.seen device.old)) }
     ensures read { IsOnlyRead D.Device device.old device.new }
 {
@@ -127,20 +131,47 @@ fn read_journals<D: Device, A: Allocator + Copy>(
     Ok(found)
 }
 
-/// The table of a device's volume, and what its journals say. `NotAVolume` and `Damaged` as opening judges; but whether
-/// two journals have one mark isn't judged.
+/// The table of a device's volume, and what its journals say. `NotAVolume` and `Damaged` as opening judges them; but
+/// the lengths of the files aren't judged.
 pub fn read_parts<D: Device, A: Allocator + Copy>(
     alloc: A,
     device: &mut D,
 ) -> Result<(Super<A>, Vec<Journal<A>, A>), Refusal>
-    ensures table { D.is_honest device.old
-        → IfOk result (λ parts. IsSuper parts.0 (block_at (D.seen device.old) 0)) }
+    ensures volume { D.is_honest device.old
+        → IfOk result (λ parts. IsVolume parts.0 (batches_of parts.1.items) (D.seen device.old)) }
     ensures journals { D.is_honest device.old → IfOk result (λ parts. AreJournals (geometry_of parts.0)
         (D.seen device.old) parts.1.items) }
+    ensures long { IfOk result (λ parts. 4096 * block_count parts.0 ≤ length (D.seen device.old)) }
+    ensures count { IfOk result (λ parts. length parts.1.items ≡ journals_of parts.0.layout) }
     ensures refused { D.is_honest device.old → IfErr result (RefusesOpening (D.seen device.old)) }
     ensures read { IsOnlyRead D.Device device.old device.new }
 {
     let table = read_table(alloc, device)?;
-    let journals = read_journals(alloc, device, &table.geometry())?;
+    let journals = read_judged(alloc, device, &table.geometry())?;
     Ok((table, journals))
+}
+
+// What each journal says, in their order. `Damaged` where the descriptor of an open one breaks the grammar, or two open
+// ones have one mark.
+fn read_judged<D: Device, A: Allocator + Copy>(
+    alloc: A,
+    device: &mut D,
+    geometry: &Geometry,
+) -> Result<Vec<Journal<A>, A>, Refusal>
+    requires long { 4096 * geometry.now.blocks ≤ length (D.seen device.old) }
+    ensures open { D.is_honest device.old
+        → IfOk result (λ found. AreOpen geometry.now (batches_of found.items) (D.seen device.old)) }
+    ensures say { D.is_honest device.old
+        → IfOk result (λ found. AreJournals geometry.now (D.seen device.old) found.items) }
+    ensures count { IfOk result (λ found. length found.items ≡ journals_of geometry.now.layout) }
+    ensures refused { D.is_honest device.old → IfErr result (RefusesJournals geometry.now (D.seen device.old)) }
+    ensures read { IsOnlyRead D.Device device.old device.new }
+{
+    let journals = read_journals(alloc, device, geometry)?;
+    // A geometry is that of a volume that may be.
+    let _ = geometry.slots();
+    if is_same_mark(descriptor_of(&journals, 0), descriptor_of(&journals, 1)) {
+        return Err(Refusal::Damaged);
+    }
+    Ok(journals)
 }

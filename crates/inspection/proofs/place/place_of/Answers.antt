@@ -1,4 +1,4 @@
-use Rattle.std.proofs.Common.{rules, ◌-◌, ◌<◌, ◌∙◌, arith}
+use Rattle.std.proofs.Common.{rules, ◌-◌, ◌<◌, ◌∙◌}
 use Rattle.volume_codec.specs.Super.{first_home_of}
 use Rattle.inspection.proofs.Places.{place_down}
 use Rattle.inspection.proofs.place.place_of.Goals as goal

@@ -1,4 +1,4 @@
-use Rattle.std.proofs.Common.{◌≡◌, length}
+use Rattle.std.proofs.Common.{◌≡◌}
 use Rattle.inspection.specs.Places.{place_in, place_before}
 use Rattle.inspection.proofs.place.place_of.Given as goal
 

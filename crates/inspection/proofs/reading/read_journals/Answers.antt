@@ -1,4 +1,4 @@
-use Rattle.std.proofs.Common.{rules, ◌≡◌, ℕ, ◌+◌, List, [], ◌∷◌, ◌++◌, length, subst, sym, ◌∙◌, ap, arith}
+use Rattle.std.proofs.Common.{rules, ◌≡◌, ℕ, ◌+◌, List, [], ◌∷◌, ◌++◌, length, subst, ◌∙◌, ap, arith}
 use Rattle.std.proofs.lemmas.Result.{err_from_is_err_and}
 use Rattle.recovery.specs.inside.Reading.{RefusesJournals}
 use Rattle.inspection.specs.Found.{IsJournal}
@@ -30,3 +30,6 @@ loop-journal-preserved g c =
 
 pub returns-then-is_err-clause-read : goal.returns-then-is_err-clause-read
 returns-then-is_err-clause-read g c = read_then c.loop-journal.invariant.read c.in_ok-says.ensures.read
+
+pub returns-in_err-says-clause-read : goal.returns-in_err-says-clause-read
+returns-in_err-says-clause-read g c = read_then c.loop-journal.invariant.read c.in_err-says.ensures.read
