@@ -1,5 +1,5 @@
 -- Which frame a translation reaches: the one that the page table maps the page to, also through a cached entry.
-use Rattle.std.proofs.Common.{◌≡◌, ℕ, ◌<◌, inr, Bool, true, false, cond, not, ◌&&◌, ◌||◌, length, Option, Some, None, IsSome, Result, Ok, Err, refl, sym, ap, ◌∙◌, subst}
+use Rattle.std.proofs.Common.{◌≡◌, ℕ, ◌<◌, ◌/◌, ◌^◌, inr, Bool, true, false, cond, not, ◌&&◌, ◌||◌, nat_lt, length, Option, Some, None, IsSome, is_none, Result, Ok, Err, refl, sym, ap, ◌∙◌, subst}
 use Rattle.page_entry.specs.Entry.{Mapped}
 use Rattle.frames.specs.Frames.{FramesState, frame_at}
 use Rattle.pcid_tlb.specs.declared.CachedEntry.{CachedEntry}
@@ -10,7 +10,8 @@ use Rattle.shootdown.specs.Processors.{is_running}
 use Rattle.shootdown.specs.Shootdown.{ShootdownState, processor_at, current, tlb_of, state_of, not_running}
 use Rattle.shootdown.specs.Coherence.{IsUsable, Agrees, Coheres}
 use Rattle.shootdown.proofs.Public.{running, is_there_below}
-use Rattle.cpu.specs.Access.{Hardware, hardware, serves, walk, walked, walked_to, translated_by, translated, IsReachable}
+use Rattle.cpu.specs.Access.{Hardware, hardware, serves, frame_served, walking, walk, walked, walked_to, translated_by, translated, IsReachable}
+use Rattle.cpu.specs.AtOnce.{frame_cached}
 use Rattle.cpu.specs.Keeping.{IsDirtyAt}
 use Rattle.cpu.specs.inside.Walks.{Translates}
 use Rattle.cpu.proofs.Uses.{walks_by, entry_at-noted}
@@ -102,3 +103,30 @@ module _ (s new : ShootdownState) (spaces tables : Spaces) (memory : FramesState
   in_use reachable free to =
       let r = reached reachable free to in
       subst (λ f. IsSome (frame_at memory f)) (sym r.frame_is) (reachable.in_use (current s p) page r.entry r.present)
+
+-- ---- what is reached without a walk
+
+-- a cached entry that serves the access leads to its frame
+served_by : (h : Hardware) (p page : ℕ) (write : Bool) (o : Option CachedEntry) (frame : ℕ) → frame_served write o ≡ Some frame → translated_by h p page write o ≡ Ok (frame, h)
+served_by h p page write None frame is = absurd (cc)
+served_by h p page write (Some e) frame is = by (serves write e) is
+  where
+    by : (b : Bool) → cond b (Some e.frame) None ≡ Some frame → cond b (reaching e.frame h) (walking h p page write) ≡ Ok (frame, h)
+    by true is = cc
+    by false is = absurd (cc)
+
+-- what a test chose
+chosen : (b : Bool) (o : Option ℕ) (frame : ℕ) → cond b o None ≡ Some frame → (b ≡ true) × (o ≡ Some frame)
+chosen true o frame is = (refl, is)
+chosen false o frame is = absurd (cc)
+
+none_is : {X : Type 0} (o : Option X) (b : Bool) → (is_none o && b) ≡ true → o ≡ None
+none_is None b is = refl
+none_is (Some x) b is = absurd (cc)
+
+-- the frame that is reached through a cached entry is in use
+pub cached_in_use : (s : ShootdownState) (spaces : Spaces) (memory : FramesState) (p va : ℕ) (write : Bool) (frame : ℕ) → IsReachable (hardware s spaces memory) → frame_cached s p va write ≡ Some frame → IsSome (frame_at memory frame)
+cached_in_use s spaces memory p va write frame reachable is =
+    let both = chosen (is_none (not_running s p) && nat_lt va (2 ^ 47)) (frame_served write (cached (tlb_of s p) (current s p) (va / 4096))) frame is in
+    in_use s s spaces spaces memory p (va / 4096) write frame reachable (none_is (not_running s p) (nat_lt va (2 ^ 47)) both.0)
+    (λ memory. served_by (hardware s spaces memory) p (va / 4096) write (cached (tlb_of s p) (current s p) (va / 4096)) frame both.1)

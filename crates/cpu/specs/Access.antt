@@ -70,6 +70,11 @@ walked_to h p page (Err code) = Err code
 abbrev pub walking : Hardware → ℕ → ℕ → Bool → Result (ℕ × Hardware) ℕ
 walking h p page write = walked_to h p page (walk (entry_at h.spaces (current h.shootdown p) page) write)
 
+-- the frame of what is cached, where that serves the access
+abbrev pub frame_served : Bool → Option CachedEntry → Option ℕ
+frame_served write None = None
+frame_served write (Some e) = if serves write e then Some e.frame else None
+
 -- a translation where this is the cached entry of the page: through it where it serves, else by a walk
 abbrev pub translated_by : Hardware → ℕ → ℕ → Bool → Option CachedEntry → Result (ℕ × Hardware) ℕ
 translated_by h p page write (Some e) = if serves write e then Ok (e.frame, h) else walking h p page write

@@ -1,3 +1,4 @@
 pub mod Access
+pub mod AtOnce
 pub mod Keeping
 pub mod inside

@@ -15,7 +15,7 @@ use spaces::Spaces;
 use std::alloc::Allocator;
 
 // One more than the greatest user address: 2^47 (Intel SDM volume 3, canonical addresses).
-const END: u64 = 1 << 47;
+pub(crate) const END: u64 = 1 << 47;
 
 // The place in its page of an access of 1 to 8 bytes inside one page, below 2^47.
 fn place_in_page(va: u64, count: usize) -> Result<usize, Refusal>

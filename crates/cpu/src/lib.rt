@@ -3,8 +3,10 @@
 #![tactic(auto)]
 
 mod access;
+mod at_once;
 mod caching;
 mod translation;
 
 pub use access::{load, store};
+pub use at_once::{load_run, store_run};
 pub use caching::{evict, fill};

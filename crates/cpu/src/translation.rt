@@ -4,9 +4,9 @@ ghost use Rattle.page_entry.specs.Entry.{Mapped};
 ghost use Rattle.spaces.specs.Spaces.{entry_at};
 ghost use Rattle.shootdown.specs.Shootdown.{is_there, current};
 ghost use Rattle.shootdown.specs.Coherence.{Coheres};
-ghost use Rattle.cpu.specs.Access.{walk};
+ghost use Rattle.cpu.specs.Access.{frame_served, walk};
 ghost use Rattle.cpu.specs.Keeping.{OnlyUses};
-ghost use Rattle.cpu.specs.inside.Walks.{frame_served, HasWalked, Translates, HasFaulted};
+ghost use Rattle.cpu.specs.inside.Walks.{HasWalked, Translates, HasFaulted};
 
 use page_entry::{Entry, FrameNumber, PageNumber, ProcessorNumber, Refusal};
 use pcid_tlb::CachedEntry;
@@ -22,8 +22,8 @@ const STORE_TO_ABSENT: u8 = 0b110;
 
 const STORE_TO_READ_ONLY: u8 = 0b111;
 
-// The frame of what is cached, where that serves the access without a look at the page table.
-fn served(cached: Option<CachedEntry>, write: bool) -> Option<FrameNumber>
+/// The frame of what is cached, where that serves the access without a look at the page table.
+pub(crate) fn served(cached: Option<CachedEntry>, write: bool) -> Option<FrameNumber>
     ensures { result ≡ frame_served write cached }
 {
     match cached {

@@ -1,4 +1,5 @@
 pub mod Accesses
+pub mod AtOnce
 pub mod Processors
 pub mod Begun
 pub mod Spaces

@@ -13,6 +13,7 @@ pub mod Steps
 pub mod Runs
 pub mod Sums
 pub mod OnTrack
+pub mod AtOnce
 pub mod Stops
 pub mod Words
 pub mod inside

@@ -3,6 +3,7 @@
 
 mod access;
 mod act;
+mod at_once;
 mod beginning;
 mod booting;
 mod changing;

@@ -25,7 +25,7 @@ use std::marker::Model;
 /// A machine over a volume: processors with TLBs, address spaces, frames, and the write-outs that aren't done.
 #[derive(Drop)]
 pub struct Machine<D: Device, A: Allocator + Copy> {
-    layers: Layers<D, A>,
+    pub(crate) layers: Layers<D, A>,
 }
 
 impl<D: Device, A: Allocator + Copy> Model for Machine<D, A> {

@@ -1,19 +1,13 @@
 -- How the code walks a page table, and what of it the translations are.
-use Rattle.std.specs.Prelude.{ℕ, ◌≡◌, Bool, Option, Some, None, Ok, Err, if◌then◌else◌}
+use Rattle.std.specs.Prelude.{ℕ, ◌≡◌, Bool, Some, Ok, Err}
 use Rattle.page_entry.specs.Entry.{Mapped}
 use Rattle.page_entry.specs.declared.refusal.Refusal.{Refusal}
 use Rattle.page_entry.specs.declared.refusal.Refusal.TheVariants.{Fault}
 use Rattle.frames.specs.Frames.{FramesState}
-use Rattle.pcid_tlb.specs.declared.CachedEntry.{CachedEntry}
 use Rattle.pcid_tlb.specs.Tlb.{filled, without_page}
 use Rattle.spaces.specs.Spaces.{Spaces, entry_at, with_entry}
 use Rattle.shootdown.specs.Shootdown.{ShootdownState, current, tlb_of, with_tlb}
-use Rattle.cpu.specs.Access.{hardware, cached_of, serves, walk, translated}
-
--- the frame of what is cached, where that serves the access
-abbrev pub frame_served : Bool → Option CachedEntry → Option ℕ
-frame_served write None = None
-frame_served write (Some e) = if serves write e then Some e.frame else None
+use Rattle.cpu.specs.Access.{hardware, cached_of, walk, translated}
 
 -- a walk by an entry that allows the access, which is noted in the table, and cached
 pub record HasWalked (s : ShootdownState) (spaces : Spaces) (p page : ℕ) (write : Bool) (frame : ℕ)
