@@ -10,7 +10,7 @@ ghost use Rattle.machine.specs.declared.act.Step.{Step};
 ghost use Rattle.machine.specs.State.{Whole};
 ghost use Rattle.machine.specs.Rules.{MarkMade, mark_homes};
 ghost use Rattle.machine.specs.History.{Event, files_after};
-ghost use Rattle.machine.specs.Laws.{ReadsBack};
+ghost use Rattle.machine.specs.Laws.{FaultsAreServed, ReadsBack};
 ghost use Rattle.machine.specs.Later.{AreDurable, Finds, FindsDurable};
 ghost use Rattle.journal.specs.Work.{Work, calls_of};
 ghost use Rattle.machine.specs.OnTrack.{IsOnTrack};
@@ -44,6 +44,13 @@ pub fn steps_after_steps<D: Device>(device: &D)
     ensures { (old mid new : Whole D) (steps later : List Step) (replies told : List Reply)
         → StepsTaken D.Device old steps replies mid → StepsTaken D.Device mid later told new
         → StepsTaken D.Device old (steps ++ later) (replies ++ told) new }
+{}
+
+/// Of steps over any device, honest or not: a fault that is served is served, so that the access of its page by the same
+/// processor answers, if it follows at once.
+pub fn faults_are_served<D: Device>(device: &D)
+    ensures { (old new : Whole D) (steps : List Step) (replies : List Reply)
+        → StepsTaken D.Device old steps replies new → FaultsAreServed steps replies }
 {}
 
 /// The device calls of steps that were made one after the other are the sum of what each step makes, and so are those

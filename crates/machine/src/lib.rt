@@ -24,7 +24,8 @@ mod switching;
 pub use act::{Act, Reply, Shape, Step};
 pub use few_bytes::FewBytes;
 pub use laws::{
-    calls_of_steps, counts_of_a_write_out, nothing_stored, opened_later, steps_after_steps,
+    calls_of_steps, counts_of_a_write_out, faults_are_served, nothing_stored, opened_later,
+    steps_after_steps,
 };
 pub use machine::Machine;
 pub use shootdown::ProcState;
