@@ -15,6 +15,7 @@ mod layers;
 mod machine;
 mod mapping;
 mod marking;
+mod msync_flags;
 mod paging;
 mod running;
 mod stepping;
@@ -26,4 +27,5 @@ pub use laws::{
     calls_of_steps, counts_of_a_write_out, nothing_stored, opened_later, steps_after_steps,
 };
 pub use machine::Machine;
+pub use msync_flags::MsyncFlags;
 pub use shootdown::ProcState;
