@@ -1,16 +1,14 @@
 // The commands of a program, one after the other.
 
 use crate::acts::{Answer, Stop, made, waited};
+use bitflags::Flags;
 use device::Device;
-use machine::{Act, Reply};
+use machine::{Act, MsyncFlags, Reply};
 use page_entry::Refusal;
 use scripts::Command;
 use service::{Cpu, Origin};
 use std::alloc::Global;
 use std::sync::Wait;
-
-// The flag `MS_SYNC` of `msync`.
-const SYNC: u8 = 4;
 
 // Carries out the commands of a program, makes the steps of the write-outs that are left, and lets the processor sleep.
 pub fn worked<D: Device, L: Origin<D>, R: Wait>(
@@ -60,9 +58,9 @@ fn done<D: Device, L: Origin<D>, R: Wait>(
 // The mark that an act is to make durable.
 fn mark_to_sync(act: &Act, changed: &Reply) -> Option<u64> {
     match (act, changed) {
-        (Act::Msync { flags, .. }, Reply::Marked(mark)) if *flags & SYNC != 0 => Some(u64::from(
-            *mark,
-        )),
+        (Act::Msync { flags, .. }, Reply::Marked(mark)) if flags.contains(MsyncFlags::SYNC) => {
+            Some(u64::from(*mark))
+        }
         _ => None,
     }
 }

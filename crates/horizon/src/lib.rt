@@ -7,7 +7,7 @@
 #![tactic(auto)]
 
 ghost use Rattle.std.specs.Prelude.{◌≡◌, ◌≤◌, IfOk};
-ghost use Rattle.horizon.specs.Seen.{HasLooked};
+ghost use Rattle.horizon.specs.Seen.{nothing_seen, HasLooked, HasRaisedNothing, HasRaisedStalled, HasRaisedBoth};
 
 mod rule;
 
@@ -34,7 +34,8 @@ impl Model for Horizon {
 }
 
 /// What one holder of a horizon has seen of it: the mark numbers after its last call, which it never sees lower again.
-/// It may go to another thread. Only its own calls change it.
+/// Contracts see beside them by how much its own calls have raised each number. It may go to another thread. Only its
+/// own calls change it.
 #[derive(Drop)]
 pub struct Seen {
     holder: Holder,
@@ -49,7 +50,13 @@ impl Model for Seen {
 
     ghost coded = { seen_code };
 
-    ghost view = { λ s. record { cell = s.holder.table_id; stalled = (cell_view s.holder).stalled; committed = (cell_view s.holder).committed } };
+    ghost view = { λ s. record {
+      cell = s.holder.table_id;
+      stalled = (cell_view s.holder).stalled;
+      committed = (cell_view s.holder).committed;
+      stalled_raised = (cell_view s.holder).stalled_raised;
+      committed_raised = (cell_view s.holder).committed_raised;
+    } };
 
     ghost invariant = { λ s. (cell_view s.holder).committed ≤ (cell_view s.holder).stalled };
 }
@@ -57,13 +64,14 @@ impl Model for Seen {
 impl Horizon {
     /// A horizon at which both numbers are 0, and its first holder. Fails where memory is refused.
     pub fn new(alloc: Global) -> Result<(Self, Seen), AllocError>
-        ensures { IfOk result (λ h. h.1 ≡ record { cell = h.0; stalled = 0; committed = 0 }) }
+        ensures { IfOk result (λ h. h.1 ≡ nothing_seen h.0) }
     {
         let (words, holder) = Words::ruled(alloc, [0, 0])?;
         Ok((Horizon { words }, Seen { holder }))
     }
 
-    /// A further holder, which has seen as much as this one. It takes no memory.
+    /// A further holder, which has seen as much as this one. It takes no memory. What it raises is counted on from what
+    /// this one raised.
     pub fn another(&self, seen: &mut Seen) -> Seen
         requires own { seen.old.cell ≡ self.now }
         ensures same { seen.new ≡ seen.old }
@@ -80,6 +88,7 @@ impl Horizon {
         requires own { seen.old.cell ≡ self.now }
         ensures result { result ≡ (seen.new.stalled, seen.new.committed) }
         ensures looked { HasLooked seen.old seen.new }
+        ensures kept { HasRaisedNothing seen.old seen.new }
     {
         let words = self.words.load_as::<Read, R>(rt, &mut seen.holder);
         (words[0], words[1])
@@ -90,6 +99,7 @@ impl Horizon {
     pub fn raise_stalled<R: Wait>(&self, rt: &R, seen: &mut Seen, mark: u64)
         requires own { seen.old.cell ≡ self.now }
         ensures raised { mark ≤ seen.new.stalled }
+        ensures exact { HasRaisedStalled mark seen.old seen.new }
         ensures looked { HasLooked seen.old seen.new }
     {
         for _ in rt.forever() {
@@ -110,6 +120,7 @@ impl Horizon {
     pub fn raise_committed<R: Wait>(&self, rt: &R, seen: &mut Seen, mark: u64)
         requires own { seen.old.cell ≡ self.now }
         ensures raised { mark ≤ seen.new.committed }
+        ensures exact { HasRaisedBoth mark seen.old seen.new }
         ensures looked { HasLooked seen.old seen.new }
     {
         for _ in rt.forever() {

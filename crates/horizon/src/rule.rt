@@ -5,10 +5,12 @@ use atomic_table::Split;
 use crossbeam_utils::atomic::seq_cell::{Pass, RuledSeqCell};
 use crossbeam_utils::rule::{Outcome, Protocol};
 
-/// What a holder has seen. No value of it is made.
+/// What a holder has seen, and by how much its steps raised each word. No value of it is made.
 pub struct View {
     pub stalled: u64,
     pub committed: u64,
+    pub stalled_raised: u64,
+    pub committed_raised: u64,
 }
 
 /// Both words rise, and committed stays at most stalled.
@@ -17,7 +19,7 @@ pub struct Rising;
 impl Protocol<[u64; 2], View> for Rising {
     ghost holds = { IsKept };
 
-    ghost first = { record { stalled = 0; committed = 0 } };
+    ghost first = { record { stalled = 0; committed = 0; stalled_raised = 0; committed_raised = 0 } };
 }
 
 pub struct Read;

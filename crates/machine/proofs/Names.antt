@@ -86,6 +86,7 @@ pub use Rattle.machine.specs.Told.{Pending, Protecting, Told, Unmapping, begun_b
 pub use Rattle.machine.specs.Told.{ended_by, length_told, mapped_in, offset_at, place_told, places_in, store_at, tell}
 pub use Rattle.machine.specs.Told.{Resizing, resized_at, tell_all}
 pub use Rattle.machine.specs.declared.act.Act.{Act}
+pub use Rattle.machine.specs.declared.msync_flags.MsyncFlags.{MsyncFlags}
 pub use Rattle.machine.specs.declared.act.Reply.{Reply}
 pub use Rattle.machine.specs.declared.act.Shape.{Shape}
 pub use Rattle.machine.specs.declared.act.Step.{Step}

@@ -19,6 +19,7 @@ use Rattle.checkpoint.specs.Backing.{page_at}
 use Rattle.fault.specs.Fault.{is_in_memory, place_of_fault, fault_refusal}
 use Rattle.journal.specs.WriteOuts.{is_busy}
 use Rattle.machine.specs.declared.act.Act.{Act}
+use Rattle.machine.specs.declared.msync_flags.MsyncFlags.{MsyncFlags}
 use Rattle.machine.specs.declared.act.Act.TheVariants as acts
 use Rattle.machine.specs.State.{State, capacity_of, length_of}
 
@@ -50,11 +51,13 @@ abbrev pub pages_in_file : List TableFile → ℕ → ℕ
 pages_in_file [] file = 0
 pages_in_file (f ∷ fs) file = if file == 0 then pages_of f.capacity else pages_in_file fs (file - 1)
 
--- exactly one of MS_ASYNC (1) and MS_SYNC (4), with MS_INVALIDATE (2) or without; from a page's begin, and not past
--- 2^47
-abbrev pub is_msync : ℕ → ℕ → ℕ → Bool
-is_msync va len flags =
-    (flags == 1 || flags == 3 || flags == 4 || flags == 6) && va % 4096 == 0 && nat_le (va + len) (2 ^ 47)
+-- exactly one of MS_ASYNC (1) and MS_SYNC (4), with MS_INVALIDATE (2) or without, and no other bit
+abbrev pub are_of_msync : MsyncFlags → Bool
+are_of_msync flags = flags.0 == 1 || flags.0 == 3 || flags.0 == 4 || flags.0 == 6
+
+-- by such flags; from a page's begin, and not past 2^47
+abbrev pub is_msync : ℕ → ℕ → MsyncFlags → Bool
+is_msync va len flags = are_of_msync flags && va % 4096 == 0 && nat_le (va + len) (2 ^ 47)
 
 -- of a file's new length, whatever the length was: the volume's layout has no room for lengths; no such file; the
 -- file's home blocks don't reach so far

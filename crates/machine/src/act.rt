@@ -1,5 +1,5 @@
 // What a processor does in one step, and what it is answered.
-use crate::FewBytes;
+use crate::{FewBytes, MsyncFlags};
 use mappings::Rights;
 use page_entry::{FileNumber, PageIndex, Pcid, ProcessorNumber, Refusal};
 use std::fmt;
@@ -92,11 +92,11 @@ pub enum Act {
         file: FileNumber,
         length: u64,
     },
-    /// Begins a commit of all stores (POSIX.1-2024, `msync`). `flags`: 1 `MS_ASYNC`, 2 `MS_INVALIDATE`, 4 `MS_SYNC`.
+    /// Begins a commit of all stores (POSIX.1-2024, `msync`).
     Msync {
         va: u64,
         len: u64,
-        flags: u8,
+        flags: MsyncFlags,
     },
     /// Stalls, if the processor was interrupted.
     Ack,

@@ -8,9 +8,9 @@ ghost use Rattle.machine.specs.declared.act.Act.TheVariants.{Unmap, Protect, Rec
 ghost use Rattle.machine.specs.Rules.{Answers};
 ghost use Rattle.machine.specs.inside.Layers.{state_in, reply_to, IsQuiet};
 
-use crate::Reply;
 use crate::layers::Layers;
 use crate::paging::{pages_for, pages_in_file};
+use crate::{MsyncFlags, Reply};
 use device::Device;
 use mappings::Rights;
 use page_entry::{FileNumber, FilePage, PAGE, Pcid, ProcessorNumber, Refusal};
@@ -20,12 +20,11 @@ use std::alloc::Allocator;
 // The end of the user addresses, 2^47 (Intel SDM volume 3, canonical addresses).
 const END: u64 = 1 << 47;
 
-// Whether a commit may be asked for so: exactly one of `MS_ASYNC` (1) and `MS_SYNC` (4), with `MS_INVALIDATE` (2) or
-// without, from a page's begin, and not past 2^47 (POSIX.1-2024, `msync`).
-fn is_msync(va: u64, len: u64, flags: u8) -> bool
+// Whether a commit may be asked for so: by flags of `msync`, from a page's begin, and not past 2^47 (POSIX.1-2024).
+fn is_msync(va: u64, len: u64, flags: MsyncFlags) -> bool
     ensures { result ≡ is_msync va len flags }
 {
-    matches!(flags, 1 | 3 | 4 | 6) && va % PAGE == 0 && va <= END && len <= END - va
+    flags.are_of_msync() && va % PAGE == 0 && va <= END && len <= END - va
 }
 
 impl<D: Device, A: Allocator + Copy> Layers<D, A> {
@@ -202,7 +201,7 @@ impl<D: Device, A: Allocator + Copy> Layers<D, A> {
         p: ProcessorNumber,
         va: u64,
         len: u64,
-        flags: u8,
+        flags: MsyncFlags,
     ) -> Result<Reply, Refusal>
         ensures rules { (disk : List ℕ)
             → Answers (state_in self.old) disk p (Msync va len flags) (reply_to result) (state_in self.new) }

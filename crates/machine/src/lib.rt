@@ -16,6 +16,7 @@ mod layers;
 mod machine;
 mod mapping;
 mod marking;
+mod msync_flags;
 mod paging;
 mod running;
 mod stepping;
@@ -28,4 +29,5 @@ pub use laws::{
     steps_after_steps,
 };
 pub use machine::Machine;
+pub use msync_flags::MsyncFlags;
 pub use shootdown::ProcState;

@@ -1,7 +1,7 @@
 // Machines over the files `a` of 5,000 bytes, which may grow to 12,288, and `b` of 4,096, in layout 3 with 4 slots: 18
 // blocks, of which block 13 holds the lengths and blocks 14 to 16 are those of `a`.
 use device::{Device, MemDisk};
-use machine::{Act, FewBytes, Machine, Reply, Shape, Step};
+use machine::{Act, FewBytes, Machine, MsyncFlags, Reply, Shape, Step};
 use mappings::Rights;
 use page_entry::Refusal;
 use recovery::{Volume, format_as, open};
@@ -107,7 +107,7 @@ const FIX: Act = Act::Fix {
 const MSYNC: Act = Act::Msync {
     va: 0,
     len: 0,
-    flags: 4,
+    flags: MsyncFlags::SYNC,
 };
 
 // The acts of a commit of a store of these bytes to the last byte of `a` and the one past its end, and what they are

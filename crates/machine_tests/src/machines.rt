@@ -1,7 +1,7 @@
 // Machines over the files `a` of 5,000 bytes and `b` of 4,096 in layout 1. What their steps are answered is in the runs
 // as text of the same names.
 use device::{Device, MemDisk};
-use machine::{Act, FewBytes, Machine, Reply, Shape, Step};
+use machine::{Act, FewBytes, Machine, MsyncFlags, Reply, Shape, Step};
 use mappings::Rights;
 use page_entry::{ProcessorNumber, Refusal};
 use recovery::{Volume, format_as, open};
@@ -62,7 +62,7 @@ fn reply_to(machine: &mut Trial, p: ProcessorNumber, act: Act) -> Reply {
 const MSYNC: Act = Act::Msync {
     va: 0,
     len: 0,
-    flags: 4,
+    flags: MsyncFlags::SYNC,
 };
 
 // Whether the two processors are in these states.

@@ -2,7 +2,7 @@
 use Rattle.std.specs.Prelude.{ℕ, List, [], ◌∷◌, find, codes, Option, Some, None}
 use Rattle.std.specs.Str.{bytes_eq}
 use Rattle.serde_json.specs.Data.{Data}
-use Rattle.scripts.specs.Arguments.{if_some, byte_of, short_of, page_number_of, long_of, prot_of, access_of, keep_of, write_of, few_bytes_of}
+use Rattle.scripts.specs.Arguments.{if_some, byte_of, short_of, page_number_of, long_of, flags_of, prot_of, access_of, keep_of, write_of, few_bytes_of}
 use Rattle.machine.specs.declared.act.Act.{Act}
 use Rattle.machine.specs.declared.act.Act.TheVariants.{Load, Store, Fill, Evict, Switch, Idle, Wake, Fix, Create, Destroy, Map, Unmap, Protect, Reclaim, Msync, SetLength, Ack, Change, Resume, Flush}
 
@@ -80,7 +80,7 @@ reclaim_of _ = None
 abbrev pub msync_of : List Data → Option Act
 msync_of (va ∷ len ∷ flags ∷ []) =
     if_some (long_of va) (λ va. if_some (long_of len)
-    (λ len. if_some (byte_of flags) (λ flags. Some (Msync va len flags))))
+    (λ len. if_some (flags_of flags) (λ flags. Some (Msync va len flags))))
 msync_of _ = None
 
 -- a file and its new length in bytes

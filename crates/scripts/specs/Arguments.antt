@@ -4,6 +4,7 @@ use Rattle.std.specs.Str.{bytes_eq}
 use Rattle.serde_json.specs.Data.{Data, Items, no_items, item}
 use Rattle.serde_json.specs.Find.{as_u64, as_number, as_str, as_array}
 use Rattle.mappings.specs.declared.place.Rights.{Rights}
+use Rattle.machine.specs.declared.msync_flags.MsyncFlags.{MsyncFlags}
 use Rattle.mappings.specs.declared.place.Rights.TheVariants.{Read, ReadWrite}
 
 -- what f makes of the value, if there is one
@@ -30,6 +31,10 @@ page_number_of = whole_number 4294967295
 
 abbrev pub long_of : Data → Option ℕ
 long_of = whole_number (2 ^ 64 - 1)
+
+-- flags of msync, of which all bits are kept
+abbrev pub flags_of : Data → Option MsyncFlags
+flags_of value = option_map (λ bits. record { 0 = bits }) (byte_of value)
 
 -- what the row of a table whose word this is has beside the word
 abbrev pub one_of : {X : Type 0} → List (List ℕ × X) → Data → Option X

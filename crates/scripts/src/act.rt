@@ -4,7 +4,7 @@ ghost use Rattle.std.specs.Result.{result_ok};
 ghost use Rattle.serde_json.specs.View.{view};
 ghost use Rattle.scripts.specs.Acts.{load_of, store_of, fill_of, evict_of, switch_of, fix_of, destroy_of, map_of, unmap_of, protect_of, reclaim_of, msync_of, set_length_of, without_more, act_of};
 
-use crate::argument::{access, byte, bytes, keep, long, page, prot, short, write};
+use crate::argument::{access, byte, bytes, flags, keep, long, page, prot, short, write};
 use crate::script_fault::StepFault;
 use machine::Act;
 use serde_json::Value;
@@ -260,18 +260,18 @@ pub fn msync(arguments: &[Value]) -> Result<Act, StepFault>
     ensures { result_ok result ≡ msync_of (map view arguments.now) }
 {
     match arguments {
-        [va, len, flags] => msync_from(va, len, flags),
+        [va, len, bits] => msync_from(va, len, bits),
         _ => Err(wrong_arguments("msync", "an address, a length and flags")),
     }
 }
 
-fn msync_from(va: &Value, len: &Value, flags: &Value) -> Result<Act, StepFault>
-    ensures { result_ok result ≡ msync_of (view va.now ∷ view len.now ∷ view flags.now ∷ []) }
+fn msync_from(va: &Value, len: &Value, bits: &Value) -> Result<Act, StepFault>
+    ensures { result_ok result ≡ msync_of (view va.now ∷ view len.now ∷ view bits.now ∷ []) }
 {
     Ok(Act::Msync {
         va: long(va, "the address")?,
         len: long(len, "the length")?,
-        flags: byte(flags, "flags")?,
+        flags: flags(bits)?,
     })
 }
 

@@ -2,10 +2,11 @@
 ghost use Rattle.std.specs.Prelude.{◌≡◌, map};
 ghost use Rattle.std.specs.Result.{result_ok};
 ghost use Rattle.serde_json.specs.View.{view};
-ghost use Rattle.scripts.specs.Arguments.{whole_number, byte_of, short_of, page_number_of, long_of, prot_of, access_of, keep_of, write_of, few_of, few_bytes_of};
+ghost use Rattle.scripts.specs.Arguments.{whole_number, byte_of, short_of, page_number_of, long_of, flags_of, prot_of, access_of, keep_of, write_of, few_of, few_bytes_of};
 
 use crate::script_fault::StepFault;
-use machine::FewBytes;
+use bitflags::Flags;
+use machine::{FewBytes, MsyncFlags};
 use mappings::Rights;
 use serde_json::Value;
 
@@ -45,6 +46,13 @@ pub fn long(value: &Value, what: &'static str) -> Result<u64, StepFault>
     ensures { result_ok result ≡ long_of (view value.now) }
 {
     number(value, u64::MAX, what)
+}
+
+/// Flags of `msync`: a whole number up to 255, of which all bits are kept.
+pub fn flags(value: &Value) -> Result<MsyncFlags, StepFault>
+    ensures { result_ok result ≡ flags_of (view value.now) }
+{
+    Ok(MsyncFlags::from_bits_retain(byte(value, "flags")?))
 }
 
 /// The rights of a mapping; writing alone counts as both.

@@ -2,6 +2,7 @@
 ghost use Rattle.std.specs.Prelude.{ℕ, ◌≡◌, ◌<◌, ◌≤◌, [], length, slice_get, Some, IfOk, IfErr};
 ghost use Rattle.std.specs.Arc.{arc_value};
 ghost use Rattle.std.specs.Vec.{vec_capacity, vec_len};
+ghost use Rattle.horizon.specs.Seen.{nothing_seen};
 ghost use Rattle.machine.specs.Fresh.{IsFresh};
 ghost use Rattle.service.specs.Serving.{IsCapacity};
 ghost use Rattle.service.specs.Gathering.{idle_cpu};
@@ -22,7 +23,7 @@ struct Seat<D: Device, A: Allocator + Copy, L: Origin<D>> {
     room: Arc<Room<D, A, L>, A>,
     seen: Seen,
     answered: Vec<(Act, Reply), A>,
-    ghost own: { seen ≡ record { cell = (arc_value room).horizon; stalled = 0; committed = 0 } },
+    ghost own: { seen ≡ nothing_seen (arc_value room).horizon },
     ghost empty: { answered.items ≡ [] },
 }
 
@@ -33,7 +34,7 @@ impl<D: Device + Drop, A: Allocator + Copy, L: Origin<D>> Seat<D, A, L> {
         seen: &mut Seen,
         capacity: u64,
     ) -> Result<Self, AllocError>
-        requires { seen.old ≡ record { cell = (arc_value room.now).horizon; stalled = 0; committed = 0 } }
+        requires { seen.old ≡ nothing_seen (arc_value room.now).horizon }
         ensures { seen.new ≡ seen.old }
     {
         let answered = Vec::with_capacity(alloc, capacity as usize)?;
@@ -156,7 +157,7 @@ fn seats_for<D: Device + Drop, A: Allocator + Copy, L: Origin<D>>(
     count: u8,
     capacity: u64,
 ) -> Result<Vec<Seat<D, A, L>, A>, AllocError>
-    requires { seen.old ≡ record { cell = (arc_value room.now).horizon; stalled = 0; committed = 0 } }
+    requires { seen.old ≡ nothing_seen (arc_value room.now).horizon }
     ensures { IfOk result (λ seats. vec_len seats ≡ count) }
 {
     let mut seats = Vec::with_capacity(alloc, usize::from(count))?;

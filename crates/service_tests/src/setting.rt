@@ -3,7 +3,7 @@ ghost use Rattle.std.specs.Prelude.{◌≡◌, length, Some};
 ghost use Rattle.machine.specs.Fresh.{IsFresh};
 
 use device::MemDisk;
-use machine::{Act, Machine, Reply, Shape, Step};
+use machine::{Act, Machine, MsyncFlags, Reply, Shape, Step};
 use mappings::Rights;
 use page_entry::ProcessorNumber;
 use recovery::{Volume, format_as, open};
@@ -115,7 +115,7 @@ pub(crate) fn entry(p: ProcessorNumber, act: Act, reply: Reply) -> Entry {
 pub(crate) const MSYNC: Act = Act::Msync {
     va: 0,
     len: 0,
-    flags: 4,
+    flags: MsyncFlags::SYNC,
 };
 
 // The four pages of file 0, mapped to space 1.

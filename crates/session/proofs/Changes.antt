@@ -11,6 +11,7 @@ use Rattle.machine.specs.declared.act.Act.TheVariants as acts
 use Rattle.machine.specs.declared.act.Reply.{Reply}
 use Rattle.machine.specs.declared.act.Reply.TheVariants as replies
 use Rattle.machine.specs.declared.act.Step.{Step}
+use Rattle.machine.specs.declared.msync_flags.MsyncFlags.{MsyncFlags}
 use Rattle.machine.specs.Rules.{Acts}
 use Rattle.machine.specs.Runs.{StepTaken, StepsTaken}
 use Rattle.machine.specs.State.{State, Whole}
@@ -172,7 +173,7 @@ flush_is_other disk old new before after p reply makes is =
 reclaim_begun : (s : State) (d : List ℕ) (p file page : ℕ) (new : State) (d' : List ℕ) → Acts s d p (acts.Reclaim file page) replies.Begun new d' → held_for takes_out (lock_of new) ≡ true
 reclaim_begun s d p file page new d' ((reason, (there, done)), same) = ap (λ t. held_for takes_out (lock_of t)) done
 
-mark_begun : (s : State) (d : List ℕ) (p va len flags : ℕ) (new : State) (d' : List ℕ) → Acts s d p (acts.Msync va len flags) replies.Begun new d' → held_for makes_mark (lock_of new) ≡ true
+mark_begun : (s : State) (d : List ℕ) (p va len : ℕ) (flags : MsyncFlags) (new : State) (d' : List ℕ) → Acts s d p (acts.Msync va len flags) replies.Begun new d' → held_for makes_mark (lock_of new) ≡ true
 mark_begun s d p va len flags new d' ((reason, done), same) = ap (λ t. held_for makes_mark (lock_of t)) done
 
 -- ---- a change, after those who stall and before those who go on
@@ -191,7 +192,7 @@ all_of_commit act is (step ∷ steps) [] all = absurd all
 
 -- ---- a mark is begun
 
-pub begins_mark : (p : ℕ) (reply : Reply) → tells_begun reply ≡ true → BeginsMark (record { p = p; act = acts.Msync 0 0 4 } ∷ []) (reply ∷ [])
+pub begins_mark : (p : ℕ) (reply : Reply) → tells_begun reply ≡ true → BeginsMark (record { p = p; act = acts.Msync 0 0 (record { 0 = 4 }) } ∷ []) (reply ∷ [])
 begins_mark p reply is = inr (refl, begun_is reply is, refl, refl)
 
 pub begins_mark_later : (steps : List Step) (replies : List Reply) (steps' : List Step) (replies' : List Reply) → AreOfCommit steps replies → BeginsMark steps' replies' → BeginsMark (steps ++ steps') (replies ++ replies')
@@ -252,11 +253,11 @@ module _ {D : Type 0} (disk : Ghosts D) where
   begun_for_mark old new (step ∷ steps) (reply ∷ replies) (inl (is, more)) (mid, here, taken) = begun_for_mark mid new steps replies more taken
   begun_for_mark old new (step ∷ steps) (reply ∷ replies) (inr (is, told, none, silent)) (mid, here, taken) =
       let A : Act → Type 0 = λ a. Acts old.state here.answered.0 step.p a reply mid.state here.answered.1 in
-      let R : Reply → Type 0 = λ r. Acts old.state here.answered.0 step.p (acts.Msync 0 0 4) r mid.state here.answered.1 in
+      let R : Reply → Type 0 = λ r. Acts old.state here.answered.0 step.p (acts.Msync 0 0 (record { 0 = 4 })) r mid.state here.answered.1 in
       let S : List Step → Type 0 = λ l. StepsTaken disk mid l replies new in
       let T : List Reply → Type 0 = λ l. StepsTaken disk mid [] l new in
       let ends : new ≡ mid = subst T silent (subst S none taken) in
-      ap (λ (m : Whole D). held_for makes_mark (lock_of m.state)) ends ∙ mark_begun old.state here.answered.0 step.p 0 0 4 mid.state here.answered.1 (subst R told (subst A is here.answered.2))
+      ap (λ (m : Whole D). held_for makes_mark (lock_of m.state)) ends ∙ mark_begun old.state here.answered.0 step.p 0 0 (record { 0 = 4 }) mid.state here.answered.1 (subst R told (subst A is here.answered.2))
   begun_for_mark old new [] [] it taken = absurd it
   begun_for_mark old new [] (reply ∷ replies) it taken = absurd it
   begun_for_mark old new (step ∷ steps) [] it taken = absurd it

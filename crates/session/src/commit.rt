@@ -9,7 +9,7 @@ ghost use Rattle.session.specs.inside.Made.{BeginsMark};
 use crate::aside::{is_begun, is_flushed};
 use crate::session::Session;
 use device::Device;
-use machine::{Act, Reply, Step};
+use machine::{Act, MsyncFlags, Reply, Step};
 use page_entry::{ProcessorNumber, Refusal};
 use std::alloc::Allocator;
 
@@ -51,7 +51,7 @@ impl<D: Device, A: Allocator + Copy> Session<D, A> {
             act: Act::Msync {
                 va: 0,
                 len: 0,
-                flags: 4,
+                flags: MsyncFlags::SYNC,
             },
         };
         for _ in 0..u64::MAX {

@@ -8,7 +8,8 @@ ghost use Rattle.scripts.specs.Script.{step_of};
 ghost use Rattle.machine.specs.declared.act.Act.TheVariants.{Load, Store, Fill, Evict, Switch, Idle, Wake, Fix, Create, Destroy, Map, Unmap, Protect, Reclaim, Msync, SetLength, Ack, Change, Resume, Flush};
 ghost use Rattle.traces.specs.inside.Written.{num, list, bytes_data, map_data};
 
-use machine::{Act, FewBytes, Step};
+use bitflags::Flags;
+use machine::{Act, FewBytes, MsyncFlags, Step};
 use mappings::Rights;
 use serde_json::{Value, json};
 use std::alloc::{AllocError, Global};
@@ -208,11 +209,11 @@ fn reclaim(global: Global, p: u8, file: u16, page: u32) -> Result<Value, AllocEr
     json!(in global; [p, "reclaim", file, page])
 }
 
-fn msync(global: Global, p: u8, va: u64, len: u64, flags: u8) -> Result<Value, AllocError>
+fn msync(global: Global, p: u8, va: u64, len: u64, flags: MsyncFlags) -> Result<Value, AllocError>
     ensures { IfOk result (λ value. (step_of (view value) ≡ Some (record { p = p; act = Msync va len flags }))
         × (depth (view value) ≤ 2)) }
 {
-    json!(in global; [p, "msync", va, len, flags])
+    json!(in global; [p, "msync", va, len, flags.bits()])
 }
 
 fn set_length(global: Global, p: u8, file: u16, length: u64) -> Result<Value, AllocError>

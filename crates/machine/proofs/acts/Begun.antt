@@ -6,7 +6,7 @@ use Rattle.machine.proofs.Names.{judged_protection-ok, not_free, current, is_in_
 use Rattle.machine.proofs.Names.{zero, suc, sym, ◌∙◌, ◌≢◌, ◌≤◌, cond, cond-false, eqb, ltb, eqb-false, ltb-false, ne_eqb, WriteOut}
 use Rattle.machine.proofs.Names.{lengths_blocks, capacity_of, length_of, lacks_frames, lacks_last_page, length_refusal}
 use Rattle.machine.proofs.Names.{resize_refusal, Resizing}
-use Rattle.machine.proofs.Names.{pages_in_file, is_msync, reason_against}
+use Rattle.machine.proofs.Names.{pages_in_file, is_msync, reason_against, MsyncFlags}
 use Rattle.machine.proofs.Names.{begin_change, IsPrepared, pending_in, Beginning, Move, Begin}
 use Rattle.page_entry.specs.declared.refusal.Refusal.TheVariants as refusals
 use Rattle.machine.specs.declared.act.Act.TheVariants as acts
@@ -90,7 +90,7 @@ module _ {disk : List ℕ} (s : State) (p : ℕ) {new : State} where
         room = refuse_none (lacks_frames s file to) refusals.NoFrame (first_none full [] resident.1).0;
       }) (λ e. cc) is
 
-  pub msync_moves : (va len flags : ℕ) → reason_against s p (acts.Msync va len flags) ≡ None
+  pub msync_moves : (va len : ℕ) (flags : MsyncFlags) → reason_against s p (acts.Msync va len flags) ≡ None
       → new ≡ begin_change s p changes.Checkpoint → Move disk s (Beginning p None) new
   msync_moves va len flags none is =
       let invalid = refuse_if (not (is_msync va len flags)) refusals.Einval in

@@ -43,5 +43,5 @@ BeginsLength p file to steps replies = ⊥
 abbrev pub BeginsMark : List Step → List Reply → Type 0
 BeginsMark (step ∷ steps) (reply ∷ replies) =
     ((is_of_commit step.act reply ≡ true) × BeginsMark steps replies)
-    ⊎ ((step.act ≡ Msync 0 0 4) × (reply ≡ Begun) × (steps ≡ []) × (replies ≡ []))
+    ⊎ ((step.act ≡ Msync 0 0 (record { 0 = 4 })) × (reply ≡ Begun) × (steps ≡ []) × (replies ≡ []))
 BeginsMark steps replies = ⊥

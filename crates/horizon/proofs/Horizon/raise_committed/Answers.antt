@@ -1,5 +1,6 @@
 use Rattle.std.proofs.Common.{rules, arith, [], ◌∷◌}
-use Rattle.horizon.proofs.Rises.{Lifts, reads, raises_committed}
+use Rattle.horizon.specs.inside.Rule.{Lifts}
+use Rattle.horizon.proofs.Rises.{reads, raises_committed}
 use Rattle.horizon.proofs.Horizon.raise_committed.Goals as goal
 
 pub load_as-found-requires : goal.load_as-found-requires
@@ -8,9 +9,9 @@ load_as-found-requires g c = (search rules, (search rules, (search rules, reads 
 pub compare_exchange_as-requires : goal.compare_exchange_as-requires
 compare_exchange_as-requires g c =
     let seen = c.load_as-found.ensures.rule.1 in
-    let low = seen.ordered in
+    let low = seen.within.ordered in
     let first = c.max.ensures in
     let second = c.max-in-loop.ensures in
     let up : Lifts c.load_as-found.result (c.max.result ∷ c.max-in-loop.result ∷ []) =
-    record { within = record { stalled = omega arith; committed = omega arith }; ordered = omega arith } in
+    record { stalled = omega arith; committed = omega arith; ordered = omega arith } in
     (search rules, (search rules, (search rules, raises_committed _ _ c.load_as-found.result (c.max.result ∷ c.max-in-loop.result ∷ []) up)))

@@ -8,3 +8,5 @@ invariant-loop g l =
     × (l.seen-inside.holder.table_id ≡ l.fn.seen.cell)
     × (l.fn.seen.stalled ≤ (cell_view l.seen-inside.holder).stalled)
     × (l.fn.seen.committed ≤ (cell_view l.seen-inside.holder).committed)
+    × ((cell_view l.seen-inside.holder).stalled_raised ≡ l.fn.seen.stalled_raised)
+    × ((cell_view l.seen-inside.holder).committed_raised ≡ l.fn.seen.committed_raised)
