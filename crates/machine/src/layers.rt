@@ -1,5 +1,6 @@
 // The layers of a machine, which its acts use together.
 ghost use Rattle.std.specs.Prelude.{◌≡◌, ◌<◌, length};
+ghost use Rattle.shootdown.specs.Shootdown.{IsShootdown};
 ghost use Rattle.shootdown.specs.Coherence.{Coheres};
 ghost use Rattle.checkpoint.specs.Backing.{AreBacked};
 ghost use Rattle.machine.specs.State.{length_of};
@@ -50,5 +51,6 @@ impl<D: Device, A: Allocator + Copy> Layers<D, A> {
         requires sound { IsSound (state_in self.now) }
         ensures coheres { Coheres self.now.spaces.map self.now.shootdown }
         ensures backed { AreBacked self.now.frames self.now.checkpoint self.now.spaces.map }
+        ensures phases { IsShootdown self.now.shootdown }
     {}
 }

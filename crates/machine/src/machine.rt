@@ -1,6 +1,6 @@
 // The machine: how it is made, what can be asked of it, and one step of it.
 ghost use Rattle.std.specs.Prelude.{◌≡◌, ◌≢◌, ◌↔◌, ℕ, List, length, false, IsTrue, IfOk, IfErr, OnOk};
-ghost use Rattle.shootdown.specs.Shootdown.{is_there, state_of};
+ghost use Rattle.shootdown.specs.Shootdown.{is_there, state_of, IsShootdown};
 ghost use Rattle.shootdown.specs.Coherence.{Coheres};
 ghost use Rattle.checkpoint.specs.Backing.{AreBacked};
 ghost use Rattle.machine.specs.Fresh.{IsShape, IsFresh, fresh};
@@ -137,11 +137,13 @@ impl<D: Device, A: Allocator + Copy> Machine<D, A> {
 
     /// Of every machine, whatever was done with it: a cached entry that may still be used agrees with the page table,
     /// and each entry of the tables maps a frame that holds its page, writable only where its mapping allows it and
-    /// the page isn't held.
+    /// the page isn't held. The processor that holds the lock initiates and no other does, and none is interrupted while
+    /// the lock is free (`phases`).
     pub fn is_coherent(&self)
         ensures coheres { Coheres self.now.state.hardware.spaces self.now.state.hardware.shootdown }
         ensures backed { AreBacked self.now.state.hardware.memory self.now.state.checkpoint
             self.now.state.hardware.spaces }
+        ensures phases { IsShootdown self.now.state.hardware.shootdown }
     {
         self.layers.are_coherent();
     }

@@ -1,35 +1,13 @@
 -- Steps by which the length of a file is set.
 use Rattle.std.proofs.Common.{◌≡◌, inl, inr, ℕ, true, false, List, [], ◌∷◌, ◌++◌, refl, sym, subst}
-use Rattle.machine.specs.declared.act.Act.{Act}
-use Rattle.machine.specs.declared.act.Act.TheVariants.{SetLength, Flush, Ack, Resume}
+use Rattle.machine.specs.declared.act.Act.TheVariants.{SetLength, Flush}
 use Rattle.machine.specs.declared.act.Reply.{Reply}
 use Rattle.machine.specs.declared.act.Step.{Step}
-use Rattle.session.specs.Lengths.{tells_begun, tells_flushed, AreAll, AnswersChange, IsTry, IsObstacle, ChangesLength, RefusesLength}
+use Rattle.session.specs.Lengths.{tells_begun, tells_flushed, AnswersChange, IsTry, IsObstacle, ChangesLength, RefusesLength}
 use Rattle.session.specs.Steps.{is_aside, AreAside}
 use Rattle.session.specs.inside.Made.{AreTries, BeginsLength}
 use Rattle.session.proofs.Changes.{begun_is}
 use Rattle.session.proofs.Stretches.{aside_all}
-
--- ---- those who stall, and those who go on
-
-pub all_then : (act : Act) (steps : List Step) (replies : List Reply) (steps' : List Step) (replies' : List Reply) → AreAll act steps replies → AreAll act steps' replies' → AreAll act (steps ++ steps') (replies ++ replies')
-all_then act [] [] steps' replies' first later = later
-all_then act (step ∷ steps) (reply ∷ replies) steps' replies' first later = (first.0, all_then act steps replies steps' replies' first.1 later)
-all_then act [] (reply ∷ replies) steps' replies' first later = absurd first
-all_then act (step ∷ steps) [] steps' replies' first later = absurd first
-
-pub stalls_then : (p : ℕ) (answer : Reply) (steps : List Step) (replies : List Reply) (steps' : List Step) (replies' : List Reply) → AreAll Ack steps replies → AnswersChange p answer steps' replies' → AnswersChange p answer (steps ++ steps') (replies ++ replies')
-stalls_then p answer [] [] steps' replies' first later = later
-stalls_then p answer (step ∷ steps) (reply ∷ replies) steps' replies' first later = inl (first.0, stalls_then p answer steps replies steps' replies' first.1 later)
-stalls_then p answer [] (reply ∷ replies) steps' replies' first later = absurd first
-stalls_then p answer (step ∷ steps) [] steps' replies' first later = absurd first
-
-pub change_then : (p : ℕ) (answer : Reply) (steps : List Step) (replies : List Reply) (steps' : List Step) (replies' : List Reply) → AnswersChange p answer steps replies → AreAll Resume steps' replies' → AnswersChange p answer (steps ++ steps') (replies ++ replies')
-change_then p answer (step ∷ steps) (reply ∷ replies) steps' replies' (inl (is, more)) later = inl (is, change_then p answer steps replies steps' replies' more later)
-change_then p answer (step ∷ steps) (reply ∷ replies) steps' replies' (inr (is, told, resumes)) later = inr (is, told, all_then Resume steps replies steps' replies' resumes later)
-change_then p answer [] [] steps' replies' it later = absurd it
-change_then p answer [] (reply ∷ replies) steps' replies' it later = absurd it
-change_then p answer (step ∷ steps) [] steps' replies' it later = absurd it
 
 module _ (p file to : ℕ) where
   -- ---- tries

@@ -11,10 +11,12 @@ use Rattle.machine.specs.State.{Whole}
 use Rattle.machine.specs.Runs.{StepsTaken}
 use Rattle.session.specs.declared.notes.Notes.{Notes}
 use Rattle.session.specs.Notes.{noted_after, noted_all}
+use Rattle.session.specs.Locks.{KeepsPhases}
 use Rattle.session.specs.Ranges.{MakesStepsThat}
 use Rattle.session.specs.Steps.{Makes, Says, is_aside, is_of_commit, AreAside, AreOfCommit, may_end, EndsAt, CommitsMark}
 use Rattle.session.specs.inside.Aside.{GoesAside, IsTold, StopsAt, AnswersAfter}
 use Rattle.session.specs.inside.Made.{HasMade, GoesOn}
+use Rattle.session.proofs.Phases.{keeps_none, keeps_then}
 
 noted_then : (before : Notes) (replies more : List Reply) → noted_all before (replies ++ more) ≡ noted_all (noted_all before replies) more
 noted_then before [] more = refl
@@ -45,7 +47,7 @@ aside_all [] (reply ∷ replies) steps' replies' first later = absurd first
 aside_all (step ∷ steps) [] steps' replies' first later = absurd first
 
 -- steps of a commit after steps of a commit
-commit_all : (steps : List Step) (replies : List Reply) (steps' : List Step) (replies' : List Reply) → AreOfCommit steps replies → AreOfCommit steps' replies' → AreOfCommit (steps ++ steps') (replies ++ replies')
+pub commit_all : (steps : List Step) (replies : List Reply) (steps' : List Step) (replies' : List Reply) → AreOfCommit steps replies → AreOfCommit steps' replies' → AreOfCommit (steps ++ steps') (replies ++ replies')
 commit_all [] [] steps' replies' first later = later
 commit_all (step ∷ steps) (reply ∷ replies) steps' replies' first later = (first.0, commit_all steps replies steps' replies' first.1 later)
 commit_all [] (reply ∷ replies) steps' replies' first later = absurd first
@@ -88,11 +90,11 @@ does_aside disk old new before after goes = record { steps = goes.steps; replies
 
 -- no step
 pub aside_none : {D : Type 0} (disk : Ghosts D) (old : Whole D) (before : Notes) → GoesAside disk old before old before
-aside_none disk old before = record { steps = []; replies = []; makes = makes_none disk old before; aside = tt }
+aside_none disk old before = record { steps = []; replies = []; makes = makes_none disk old before; aside = tt; phases = keeps_none old.state }
 
 -- one step
-pub aside_one : {D : Type 0} (disk : Ghosts D) (old new : Whole D) (before after : Notes) (step : Step) (reply : Reply) → is_aside step.act reply ≡ true → Makes disk old before (step ∷ []) (reply ∷ []) new after → GoesAside disk old before new after
-aside_one disk old new before after step reply is made = record { steps = step ∷ []; replies = reply ∷ []; makes = made; aside = (is, tt) }
+pub aside_one : {D : Type 0} (disk : Ghosts D) (old new : Whole D) (before after : Notes) (step : Step) (reply : Reply) → is_aside step.act reply ≡ true → KeepsPhases old.state new.state → Makes disk old before (step ∷ []) (reply ∷ []) new after → GoesAside disk old before new after
+aside_one disk old new before after step reply is kept made = record { steps = step ∷ []; replies = reply ∷ []; makes = made; aside = (is, tt); phases = kept }
 
 pub told_one : {D : Type 0} (disk : Ghosts D) (old new : Whole D) (before after : Notes) (step : Step) (reply : Reply) → is_aside step.act reply ≡ true → Makes disk old before (step ∷ []) (reply ∷ []) new after → IsTold disk old before reply new after
 told_one disk old new before after step reply is made = record { steps = step ∷ []; replies = reply ∷ []; makes = made; aside = (is, tt); told = Contains-push [] reply }
@@ -103,10 +105,11 @@ aside_then disk old mid new before between after first later = record {
   replies = first.replies ++ later.replies;
   makes = makes_then disk old mid new before between after first.steps first.replies later.steps later.replies first.makes later.makes;
   aside = aside_all first.steps first.replies later.steps later.replies first.aside later.aside;
+  phases = keeps_then old.state mid.state new.state first.phases later.phases;
 }
 
-pub told_aside : {D : Type 0} (disk : Ghosts D) (old new : Whole D) (before after : Notes) (reply : Reply) → IsTold disk old before reply new after → GoesAside disk old before new after
-told_aside disk old new before after reply told = record { steps = told.steps; replies = told.replies; makes = told.makes; aside = told.aside }
+pub told_aside : {D : Type 0} (disk : Ghosts D) (old new : Whole D) (before after : Notes) (reply : Reply) → IsTold disk old before reply new after → KeepsPhases old.state new.state → GoesAside disk old before new after
+told_aside disk old new before after reply told kept = record { steps = told.steps; replies = told.replies; makes = told.makes; aside = told.aside; phases = kept }
 
 -- a reply that came later
 pub told_later : {D : Type 0} (disk : Ghosts D) (old mid new : Whole D) (before between after : Notes) (reply : Reply) → GoesAside disk old before mid between → IsTold disk mid between reply new after → IsTold disk old before reply new after

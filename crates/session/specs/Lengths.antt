@@ -1,9 +1,9 @@
 -- How a processor sets the length of a file, and what it is answered.
-use Rattle.std.specs.Prelude.{ℕ, ◌≡◌, ◌⊎◌, Bool, true, false, ⊤, List, [], ◌∷◌}
+use Rattle.std.specs.Prelude.{ℕ, ◌≡◌, ◌⊎◌, Bool, true, false, List, [], ◌∷◌, ◌++◌}
 use Rattle.machine.specs.declared.act.Act.{Act}
 use Rattle.machine.specs.declared.act.Act.TheVariants.{SetLength, Ack, Change, Resume, Flush}
 use Rattle.machine.specs.declared.act.Reply.{Reply}
-use Rattle.machine.specs.declared.act.Reply.TheVariants.{Begun, Going, Committed, Done}
+use Rattle.machine.specs.declared.act.Reply.TheVariants.{Begun, Unmapped, Protected, Resized, Reclaimed, Kept, Marked, Acked, Resumed, Going, Committed, Done}
 use Rattle.machine.specs.declared.act.Step.{Step}
 use Rattle.session.specs.Steps.{is_aside, AreAside}
 
@@ -19,19 +19,34 @@ tells_flushed (Committed number) = true
 tells_flushed (Done number) = true
 tells_flushed _ = false
 
--- each of these steps is this act
-abbrev pub AreAll : Act → List Step → List Reply → Type 0
-AreAll act [] [] = ⊤
-AreAll act (step ∷ steps) (reply ∷ replies) = (step.act ≡ act) × AreAll act steps replies
-AreAll act steps replies = ⊥
+-- that a change was made
+abbrev pub tells_changed : Reply → Bool
+tells_changed Unmapped = true
+tells_changed Protected = true
+tells_changed Resized = true
+tells_changed Reclaimed = true
+tells_changed Kept = true
+tells_changed (Marked number) = true
+tells_changed _ = false
 
--- A change that processor p began was made, or refused, and answered so: before it the others stall, and after it they
--- go on.
-abbrev pub AnswersChange : ℕ → Reply → List Step → List Reply → Type 0
-AnswersChange p answer (step ∷ steps) (reply ∷ replies) =
-    ((step.act ≡ Ack) × AnswersChange p answer steps replies)
-    ⊎ ((step ≡ record { p = p; act = Change }) × (reply ≡ answer) × AreAll Resume steps replies)
-AnswersChange p answer steps replies = ⊥
+-- the steps of a change by processor p: each of these others stalls before it, and goes on after it
+abbrev pub change_steps : ℕ → List ℕ → List Step
+change_steps p [] = record { p = p; act = Change } ∷ []
+change_steps p (other ∷ others) =
+    record { p = other; act = Ack } ∷ (change_steps p others ++ record { p = other; act = Resume } ∷ [])
+
+-- and their replies
+abbrev pub change_replies : Reply → List ℕ → List Reply
+change_replies answer [] = answer ∷ []
+change_replies answer (other ∷ others) = Acked ∷ (change_replies answer others ++ Resumed ∷ [])
+
+-- A change that processor p began was made, and answered so. Those that it interrupted stalled before it, and went on
+-- after it.
+pub record AnswersChange (p : ℕ) (answer : Reply) (steps : List Step) (replies : List Reply) : Type 0 where
+  pub made : tells_changed answer ≡ true
+  pub others : List ℕ
+  pub steps_are : steps ≡ change_steps p others
+  pub replies_are : replies ≡ change_replies answer others
 
 -- the step by which processor p would begin to set the length of a file, and that doesn't
 abbrev pub IsInVain : ℕ → ℕ → ℕ → Step → Reply → Type 0

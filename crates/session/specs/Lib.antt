@@ -1,9 +1,11 @@
 pub mod Notes
 pub mod Requests
+pub mod Locks
 pub mod Asked
 pub mod Steps
 pub mod Lengths
 pub mod Ranges
 pub mod Lines
 pub mod Answers
+pub mod Serving
 pub mod inside

@@ -8,7 +8,10 @@ use Rattle.serde_json.specs.Data.{Data}
 use Rattle.serde_json.specs.Read.{read}
 use Rattle.serde_json.specs.Find.{as_str, as_array}
 use Rattle.scripts.specs.Arguments.{if_some, whole_number, byte_of, short_of, long_of, list_of, all_of}
-use Rattle.scripts.specs.Script.{step_of}
+use Rattle.scripts.specs.declared.form.Form.TheVariants.{Session}
+use Rattle.scripts.specs.Forms.{has_form}
+use Rattle.scripts.specs.Script.{step_of, shape_of}
+use Rattle.machine.specs.declared.act.Shape.{Shape}
 use Rattle.machine.specs.declared.act.Step.{Step}
 
 -- what is asked for: steps; to load so many bytes from an address on; to store bytes from an address on; to commit; to
@@ -87,3 +90,11 @@ request_of value = if_some (as_array value) (λ items. items_request value (list
 -- what a line asks for
 abbrev pub request_in : List ℕ → Option Asked
 request_in line = if_some (read line) request_of
+
+-- the shape that an object says, which has no other members
+abbrev pub shape_said : Data → Option Shape
+shape_said value = if has_form Session value then shape_of value else None
+
+-- the shape that the first line of a session asks for
+abbrev pub shape_in : List ℕ → Option Shape
+shape_in line = if_some (read line) shape_said

@@ -4,7 +4,7 @@ use Rattle.device.specs.declared.device.Device.{Ghosts}
 use Rattle.machine.specs.declared.act.Act.{Act}
 use Rattle.machine.specs.declared.act.Act.TheVariants.{Load, Store, Fix, Reclaim, Msync, Ack, Change, Resume, Flush}
 use Rattle.machine.specs.declared.act.Reply.{Reply}
-use Rattle.machine.specs.declared.act.Reply.TheVariants.{Bytes, Stored, Fixed, Reclaimed, Kept, Marked, Committed, Refused}
+use Rattle.machine.specs.declared.act.Reply.TheVariants.{Bytes, Stored, Fixed, Reclaimed, Kept, Marked, Acked, Resumed, Committed}
 use Rattle.machine.specs.declared.act.Step.{Step}
 use Rattle.machine.specs.State.{Whole}
 use Rattle.machine.specs.Runs.{StepsTaken}
@@ -27,30 +27,39 @@ abbrev pub tells_stored : Reply → Bool
 tells_stored Stored = true
 tells_stored _ = false
 
--- that a page left memory, or was kept there, or that neither is done yet
+-- that a page left memory, or was kept there
 abbrev pub tells_reclaim : Reply → Bool
 tells_reclaim Reclaimed = true
 tells_reclaim Kept = true
-tells_reclaim (Refused why) = true
 tells_reclaim _ = false
 
+-- that an interrupted processor stalled
+abbrev pub tells_acked : Reply → Bool
+tells_acked Acked = true
+tells_acked _ = false
+
+-- that a stalled processor went on
+abbrev pub tells_resumed : Reply → Bool
+tells_resumed Resumed = true
+tells_resumed _ = false
+
 -- A step that reads and stores nothing: a load or a store that isn't made, or what makes one possible. It changes no
--- mapping and no length, and makes no mark.
+-- mapping and no length, and makes no mark. A change is that of a page that was to leave memory; the others stall
+-- before it and go on after it.
 abbrev pub is_aside : Act → Reply → Bool
 is_aside (Load va count) reply = not (tells_bytes reply)
 is_aside (Store va bytes) reply = not (tells_stored reply)
 is_aside (Fix va write) reply = true
 is_aside (Reclaim file page) reply = true
-is_aside Ack reply = true
+is_aside Ack reply = tells_acked reply
 is_aside Change reply = tells_reclaim reply
-is_aside Resume reply = true
+is_aside Resume reply = tells_resumed reply
 is_aside Flush reply = true
 is_aside act reply = false
 
--- that a mark was made, or isn't yet
+-- that a mark was made
 abbrev pub tells_mark : Reply → Bool
 tells_mark (Marked number) = true
-tells_mark (Refused why) = true
 tells_mark _ = false
 
 -- a step of a commit, which reads and stores nothing either: it begins a mark, makes it, or is what both need

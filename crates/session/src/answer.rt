@@ -4,6 +4,7 @@ ghost use Rattle.std.specs.Io.KnownBytes.{Appends};
 ghost use Rattle.session.specs.Answers.{WritesAnswer, TellsLoaded};
 ghost use Rattle.session.specs.Answers.{reply_after, reached_text, text_after_space, stored_text, committed_text};
 ghost use Rattle.session.specs.Asked.{asked, AreFirst, IsDoneFor};
+ghost use Rattle.session.specs.Locks.{KeepsPhases, KeepsPhasesFor};
 ghost use Rattle.session.specs.Ranges.{MakesStepsThat};
 ghost use Rattle.session.specs.Requests.{asks_steps, asks_load, asks_store, asks_commit, asks_length};
 
@@ -30,6 +31,7 @@ impl<D: Device, A: Allocator + Copy> Session<D, A> {
         ensures answers { OnOk result (MakesStepsThat D.Device self.old.machine self.old.notes
             (WritesAnswer self.old.notes (asked request.now) (W.contents out.old) (W.contents out.new))
             self.new.machine self.new.notes) }
+        ensures phases { KeepsPhasesFor (asked request.now) self.old.machine.state self.new.machine.state }
     {
         match request {
             Request::Steps(steps) => self.answer_steps(steps, out),
@@ -74,6 +76,7 @@ impl<D: Device, A: Allocator + Copy> Session<D, A> {
         ensures answers { OnOk result (MakesStepsThat D.Device self.old.machine self.old.notes
             (WritesAnswer self.old.notes (asks_load p va count) (W.contents out.old) (W.contents out.new))
             self.new.machine self.new.notes) }
+        ensures phases { KeepsPhases self.old.machine.state self.new.machine.state }
     {
         let count = count as usize;
         let Ok(mut bytes) = Vec::with_capacity(alloc, count) else {
@@ -95,6 +98,7 @@ impl<D: Device, A: Allocator + Copy> Session<D, A> {
         ensures answers { OnOk result (MakesStepsThat D.Device self.old.machine self.old.notes
             (WritesAnswer self.old.notes (asks_store p va bytes.now) (W.contents out.old) (W.contents out.new))
             self.new.machine self.new.notes) }
+        ensures phases { KeepsPhases self.old.machine.state self.new.machine.state }
     {
         let reached = self.store(p, va, bytes);
         write_stored(&reached, bytes.len(), out).map_err(SessionFault::Output)
@@ -110,6 +114,7 @@ impl<D: Device, A: Allocator + Copy> Session<D, A> {
         ensures answers { OnOk result (MakesStepsThat D.Device self.old.machine self.old.notes
             (WritesAnswer self.old.notes (asks_commit p) (W.contents out.old) (W.contents out.new))
             self.new.machine self.new.notes) }
+        ensures phases { KeepsPhases self.old.machine.state self.new.machine.state }
     {
         let committed = self.commit(p);
         write_committed(&committed, out).map_err(SessionFault::Output)
@@ -127,6 +132,7 @@ impl<D: Device, A: Allocator + Copy> Session<D, A> {
         ensures answers { OnOk result (MakesStepsThat D.Device self.old.machine self.old.notes
             (WritesAnswer self.old.notes (asks_length p file length) (W.contents out.old) (W.contents out.new))
             self.new.machine self.new.notes) }
+        ensures phases { KeepsPhases self.old.machine.state self.new.machine.state }
     {
         let reply = self.set_length(p, file, length);
         writeln!(out, "{reply}").map_err(SessionFault::Output)

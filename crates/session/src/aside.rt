@@ -1,10 +1,15 @@
 // Steps that a session makes beside those that it was asked for: faults are served, and frames are made free.
-ghost use Rattle.std.specs.Prelude.{◌≡◌, [], ◌∷◌, false, IsTrue};
+ghost use Rattle.std.specs.Prelude.{◌≡◌, ◌↔◌, [], ◌∷◌, true, false, IsTrue};
+ghost use Rattle.spaces.specs.declared.change.Change.{Change};
+ghost use Rattle.shootdown.specs.declared.proc_state.ProcState.TheVariants.{Interrupted};
+ghost use Rattle.shootdown.specs.Shootdown.{state_of};
 ghost use Rattle.machine.specs.declared.act.Act.TheVariants as acts;
-ghost use Rattle.session.specs.Lengths.{tells_begun, tells_flushed, AreAll, AnswersChange};
+ghost use Rattle.session.specs.Lengths.{tells_begun, tells_flushed, AnswersChange};
+ghost use Rattle.session.specs.Locks.{KeepsPhases};
 ghost use Rattle.session.specs.Ranges.{MakesStepsThat};
 ghost use Rattle.session.specs.Steps.{Makes, tells_fixed};
 ghost use Rattle.session.specs.inside.Aside.{GoesAside, IsTold, StopsAt};
+ghost use Rattle.session.specs.inside.Changing.{AreCalm, HoldsLock, IsOver, tells_made};
 
 use crate::session::Session;
 use device::Device;
@@ -22,6 +27,7 @@ impl<D: Device, A: Allocator + Copy> Session<D, A> {
         ensures told { IsTold D.Device self.old.machine self.old.notes result self.new.machine self.new.notes }
         ensures ends { tells_fixed result ≡ false → StopsAt D.Device self.old.machine self.old.notes p va result
             self.new.machine self.new.notes }
+        ensures phases { KeepsPhases self.old.machine.state self.new.machine.state }
     {
         let fix = Step {
             p,
@@ -105,6 +111,7 @@ impl<D: Device, A: Allocator + Copy> Session<D, A> {
                 page: page.page,
             },
         };
+        self.machine.is_coherent();
         let begun = self.make(&reclaim);
         if !is_begun(&begun) {
             return false;
@@ -115,76 +122,69 @@ impl<D: Device, A: Allocator + Copy> Session<D, A> {
 
     /// Makes the change that a processor began. Those that it interrupted stall before, and go on after it.
     pub(crate) fn change(&mut self, p: ProcessorNumber) -> Reply
-        ensures { MakesStepsThat D.Device self.old.machine self.old.notes (AnswersChange p result)
+        requires { (change : Change) × HoldsLock p change self.old.machine.state }
+        ensures answers { MakesStepsThat D.Device self.old.machine self.old.notes (AnswersChange p result)
             self.new.machine self.new.notes }
+        ensures over { IsOver self.old.machine.state self.new.machine.state }
+        ensures made { (change : Change) → HoldsLock p change self.old.machine.state
+            → tells_made change result ≡ true }
     {
-        let stalled = self.stall();
+        self.change_from(p, 0)
+    }
+
+    // The same, where no processor below a number is interrupted.
+    fn change_from(&mut self, p: ProcessorNumber, next: ProcessorNumber) -> Reply
+        requires held { (change : Change) × HoldsLock p change self.old.machine.state }
+        requires calm { AreCalm next self.old.machine.state }
+        ensures answers { MakesStepsThat D.Device self.old.machine self.old.notes (AnswersChange p result)
+            self.new.machine self.new.notes }
+        ensures over { IsOver self.old.machine.state self.new.machine.state }
+        ensures made { (change : Change) → HoldsLock p change self.old.machine.state
+            → tells_made change result ≡ true }
+    {
+        if next >= PROCESSORS {
+            return self.make_change(p);
+        }
+        if !self.is_interrupted(next) {
+            return self.change_from(p, next + 1);
+        }
+        let ack = Step {
+            p: next,
+            act: Act::Ack,
+        };
+        self.make(&ack);
+        let reply = self.change_from(p, next + 1);
+        let resume = Step {
+            p: next,
+            act: Act::Resume,
+        };
+        self.make(&resume);
+        reply
+    }
+
+    // The same, where no processor is interrupted.
+    fn make_change(&mut self, p: ProcessorNumber) -> Reply
+        requires held { (change : Change) × HoldsLock p change self.old.machine.state }
+        requires calm { AreCalm 16 self.old.machine.state }
+        ensures answers { MakesStepsThat D.Device self.old.machine self.old.notes (AnswersChange p result)
+            self.new.machine self.new.notes }
+        ensures over { IsOver self.old.machine.state self.new.machine.state }
+        ensures made { (change : Change) → HoldsLock p change self.old.machine.state
+            → tells_made change result ≡ true }
+    {
+        self.machine.is_coherent();
         let change = Step {
             p,
             act: Act::Change,
         };
-        let reply = self.make(&change);
-        self.resume(&stalled);
-        reply
+        self.make(&change)
     }
 
-    // Makes each processor stall that is interrupted, and answers which.
-    fn stall(&mut self) -> [bool; 16]
-        ensures { MakesStepsThat D.Device self.old.machine self.old.notes (AreAll acts.Ack)
-            self.new.machine self.new.notes }
+    fn is_interrupted(&self, p: ProcessorNumber) -> bool
+        ensures { IsTrue result ↔ (state_of self.now.machine.state.hardware.shootdown p ≡ Interrupted) }
     {
-        let mut stalled = [false; 16];
-        for p in 0..PROCESSORS {
-            stalled[usize::from(p)] = self.stall_one(p);
-        }
-        stalled
-    }
-
-    // Makes a processor stall, if it is interrupted. Answers whether it is.
-    fn stall_one(&mut self, p: ProcessorNumber) -> bool
-        ensures { MakesStepsThat D.Device self.old.machine self.old.notes (AreAll acts.Ack)
-            self.new.machine self.new.notes }
-    {
-        if !self.is_interrupted(p) {
-            return false;
-        }
-        let ack = Step { p, act: Act::Ack };
-        self.make(&ack);
-        true
-    }
-
-    fn is_interrupted(&self, p: ProcessorNumber) -> bool {
         matches!(self.machine.state(p), Ok(ProcState::Interrupted))
     }
-
-    // Lets these processors go on.
-    fn resume(&mut self, stalled: &[bool; 16])
-        ensures { MakesStepsThat D.Device self.old.machine self.old.notes (AreAll acts.Resume)
-            self.new.machine self.new.notes }
-    {
-        for p in 0..PROCESSORS {
-            self.resume_one(p, stalled);
-        }
-    }
-
-    // Lets a processor go on, if it is one of these.
-    fn resume_one(&mut self, p: ProcessorNumber, stalled: &[bool; 16])
-        ensures { MakesStepsThat D.Device self.old.machine self.old.notes (AreAll acts.Resume)
-            self.new.machine self.new.notes }
-    {
-        if !is_one_of(p, stalled) {
-            return;
-        }
-        let resume = Step {
-            p,
-            act: Act::Resume,
-        };
-        self.make(&resume);
-    }
-}
-
-fn is_one_of(p: ProcessorNumber, stalled: &[bool; 16]) -> bool {
-    stalled.get(usize::from(p)) == Some(&true)
 }
 
 /// Whether a change was begun.

@@ -1,9 +1,12 @@
 // A commit: from the beginning of its mark to the acknowledgement.
 ghost use Rattle.std.specs.Prelude.{◌≡◌, true, false, IfOk, IfErr, IfSome, IsTrue};
+ghost use Rattle.spaces.specs.declared.change.Change.TheVariants.{Checkpoint};
 ghost use Rattle.machine.specs.declared.act.Reply.TheVariants as told;
 ghost use Rattle.session.specs.Lengths.{tells_begun};
+ghost use Rattle.session.specs.Locks.{KeepsPhases};
 ghost use Rattle.session.specs.Ranges.{MakesStepsThat};
 ghost use Rattle.session.specs.Steps.{CommitsMark, Says};
+ghost use Rattle.session.specs.inside.Changing.{HasBegun};
 ghost use Rattle.session.specs.inside.Made.{BeginsMark};
 
 use crate::aside::{is_begun, is_flushed};
@@ -20,6 +23,7 @@ impl<D: Device, A: Allocator + Copy> Session<D, A> {
             self.new.machine self.new.notes) }
         ensures err { IfErr result (λ reply. Says D.Device self.old.machine self.old.notes reply
             self.new.machine self.new.notes) }
+        ensures phases { KeepsPhases self.old.machine.state self.new.machine.state }
     {
         let begun = self.begin_mark(p);
         if !is_begun(&begun) {
@@ -45,6 +49,9 @@ impl<D: Device, A: Allocator + Copy> Session<D, A> {
         ensures begins { tells_begun result ≡ true → MakesStepsThat D.Device self.old.machine self.old.notes
             BeginsMark self.new.machine self.new.notes }
         ensures says { Says D.Device self.old.machine self.old.notes result self.new.machine self.new.notes }
+        ensures held { tells_begun result ≡ true → HasBegun p Checkpoint self.old.machine.state
+            self.new.machine.state }
+        ensures phases { tells_begun result ≡ false → KeepsPhases self.old.machine.state self.new.machine.state }
     {
         let msync = Step {
             p,
@@ -55,6 +62,7 @@ impl<D: Device, A: Allocator + Copy> Session<D, A> {
             },
         };
         for _ in 0..u64::MAX {
+            self.machine.is_coherent();
             let begun = self.make(&msync);
             if !is_busy(&begun) {
                 return begun;
@@ -67,12 +75,14 @@ impl<D: Device, A: Allocator + Copy> Session<D, A> {
                 return flushed;
             }
         }
+        self.machine.is_coherent();
         self.make(&msync)
     }
 
     // Makes steps of the write-outs until a mark is acknowledged, or one isn't made.
     fn write_out(&mut self, p: ProcessorNumber, mark: u32) -> Reply
-        ensures { Says D.Device self.old.machine self.old.notes result self.new.machine self.new.notes }
+        ensures says { Says D.Device self.old.machine self.old.notes result self.new.machine self.new.notes }
+        ensures phases { KeepsPhases self.old.machine.state self.new.machine.state }
     {
         for _ in 0..u64::MAX {
             let flushed = self.flush(p);

@@ -1,8 +1,9 @@
 // Ranges of addresses, loaded and stored in steps of up to eight bytes.
 ghost use Rattle.std.specs.Prelude.{◌≡◌, ◌<◌, ◌≤◌, length, [], true, false, IfOk, IfErr, IfSome, IfNone, IsTrue};
 ghost use Rattle.machine.specs.declared.act.Reply.TheVariants as told;
+ghost use Rattle.session.specs.Locks.{KeepsPhases};
 ghost use Rattle.session.specs.Steps.{tells_bytes, tells_stored, tells_fixed};
-ghost use Rattle.session.specs.inside.Aside.{StopsAt, AnswersAfter, TellsOrIsAside};
+ghost use Rattle.session.specs.inside.Aside.{StopsAt, AnswersAfter, LoadsOrStores, TellsOrIsAside};
 ghost use Rattle.session.specs.Ranges.{MakesStepsThat, LoadsReached, StoresReached};
 
 use crate::session::Session;
@@ -32,8 +33,9 @@ impl<D: Device, A: Allocator + Copy> Session<D, A> {
         bytes: &mut Vec<u8, A>,
     ) -> Reached
         requires { bytes.old.items ≡ [] }
-        ensures { MakesStepsThat D.Device self.old.machine self.old.notes
+        ensures reached { MakesStepsThat D.Device self.old.machine self.old.notes
             (LoadsReached p va count bytes.new.items result) self.new.machine self.new.notes }
+        ensures phases { KeepsPhases self.old.machine.state self.new.machine.state }
     {
         let mut done = 0;
         while done < count {
@@ -66,8 +68,9 @@ impl<D: Device, A: Allocator + Copy> Session<D, A> {
 
     /// Stores bytes from an address on.
     pub fn store(&mut self, p: ProcessorNumber, va: u64, bytes: &[u8]) -> Reached
-        ensures { MakesStepsThat D.Device self.old.machine self.old.notes (StoresReached p va bytes.now result)
+        ensures reached { MakesStepsThat D.Device self.old.machine self.old.notes (StoresReached p va bytes.now result)
             self.new.machine self.new.notes }
+        ensures phases { KeepsPhases self.old.machine.state self.new.machine.state }
     {
         let mut done = 0;
         while done < bytes.len() {
@@ -98,11 +101,13 @@ impl<D: Device, A: Allocator + Copy> Session<D, A> {
     // Makes a load or a store at an address, and serves its faults. Answers what it is answered in the end; or else why
     // a fault isn't served.
     fn access(&mut self, step: &Step, va: u64, write: bool) -> Result<Reply, Reply>
-        requires { TellsOrIsAside step.now.act }
+        requires tells { TellsOrIsAside step.now.act }
+        requires accesses { LoadsOrStores step.now.act }
         ensures ok { IfOk result (λ reply. AnswersAfter D.Device self.old.machine self.old.notes step.now reply
             self.new.machine self.new.notes) }
         ensures err { IfErr result (λ reply. StopsAt D.Device self.old.machine self.old.notes step.now.p va reply
             self.new.machine self.new.notes) }
+        ensures phases { KeepsPhases self.old.machine.state self.new.machine.state }
     {
         for _ in 0..u64::MAX {
             let reply = self.make(step);

@@ -6,7 +6,8 @@ ghost use Rattle.serde_json.specs.View.{view};
 ghost use Rattle.scripts.specs.Arguments.{whole_number, byte_of, short_of, long_of, all_of};
 ghost use Rattle.scripts.specs.Script.{step_of};
 ghost use Rattle.session.specs.Asked.{asked, IsMemory};
-ghost use Rattle.session.specs.Requests.{request_in, request_of, items_request, steps_together, step_alone, named_request};
+ghost use Rattle.scripts.specs.ScriptFault.{IsMemory as IsNoMemory};
+ghost use Rattle.session.specs.Requests.{shape_in, request_in, request_of, items_request, steps_together, step_alone, named_request};
 ghost use Rattle.session.specs.Requests.{load_of, store_of, commit_of, set_length_of, bytes_in_digits, digits_of};
 
 use crate::request_fault::RequestFault;
@@ -51,7 +52,10 @@ pub enum Request<A: Allocator + Copy> {
 }
 
 /// The shape that the first line of a session is.
-pub fn read_shape(global: Global, line: &[u8]) -> Result<Shape, ScriptFault> {
+pub fn read_shape(global: Global, line: &[u8]) -> Result<Shape, ScriptFault>
+    ensures ok { IfOk result (λ shape. shape_in line.now ≡ Some shape) }
+    ensures err { IfErr result (λ fault. IsNoMemory fault ⊎ (shape_in line.now ≡ None) ⊎ ¬ (IsUtf8 line.now)) }
+{
     let text = str::from_utf8(line).map_err(|_| ScriptFault::NotUtf8)?;
     let value = parsed(global, text)?;
     judge_form(global, Form::Session, &value)?;

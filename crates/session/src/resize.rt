@@ -1,7 +1,10 @@
 // A new length of a file: from its beginning to the end of its change.
 ghost use Rattle.std.specs.Prelude.{◌≡◌, true, false};
+ghost use Rattle.spaces.specs.declared.change.Change.TheVariants.{SetLength};
 ghost use Rattle.session.specs.Lengths.{tells_begun, AnswersLength, RefusesLength};
+ghost use Rattle.session.specs.Locks.{KeepsPhases};
 ghost use Rattle.session.specs.Ranges.{MakesStepsThat};
+ghost use Rattle.session.specs.inside.Changing.{HasBegun};
 ghost use Rattle.session.specs.inside.Made.{BeginsLength};
 
 use crate::aside::{is_begun, is_flushed, is_no_frame};
@@ -17,8 +20,9 @@ impl<D: Device, A: Allocator + Copy> Session<D, A> {
     /// have begun it, or that of a write-out which it waits for: `Fine` where the file has this length already, or why
     /// it isn't set. It isn't committed by that.
     pub fn set_length(&mut self, p: ProcessorNumber, file: u16, length: u64) -> Reply
-        ensures { MakesStepsThat D.Device self.old.machine self.old.notes (AnswersLength p file length result)
+        ensures answers { MakesStepsThat D.Device self.old.machine self.old.notes (AnswersLength p file length result)
             self.new.machine self.new.notes }
+        ensures phases { KeepsPhases self.old.machine.state self.new.machine.state }
     {
         let begun = self.begin_length(p, file, length);
         if !is_begun(&begun) {
@@ -33,6 +37,9 @@ impl<D: Device, A: Allocator + Copy> Session<D, A> {
             (BeginsLength p file length) self.new.machine self.new.notes }
         ensures refuses { tells_begun result ≡ false → MakesStepsThat D.Device self.old.machine self.old.notes
             (RefusesLength p file length result) self.new.machine self.new.notes }
+        ensures held { tells_begun result ≡ true → HasBegun p (SetLength file length) self.old.machine.state
+            self.new.machine.state }
+        ensures phases { tells_begun result ≡ false → KeepsPhases self.old.machine.state self.new.machine.state }
     {
         for _ in 0..u64::MAX {
             let begun = self.begin_in_room(p, file, length);
@@ -56,12 +63,16 @@ impl<D: Device, A: Allocator + Copy> Session<D, A> {
             (BeginsLength p file length) self.new.machine self.new.notes }
         ensures refuses { tells_begun result ≡ false → MakesStepsThat D.Device self.old.machine self.old.notes
             (RefusesLength p file length result) self.new.machine self.new.notes }
+        ensures held { tells_begun result ≡ true → HasBegun p (SetLength file length) self.old.machine.state
+            self.new.machine.state }
+        ensures phases { tells_begun result ≡ false → KeepsPhases self.old.machine.state self.new.machine.state }
     {
         let set = Step {
             p,
             act: Act::SetLength { file, length },
         };
         for _ in 0..u64::MAX {
+            self.machine.is_coherent();
             let begun = self.make(&set);
             if !is_no_frame(&begun) {
                 return begun;
@@ -70,6 +81,7 @@ impl<D: Device, A: Allocator + Copy> Session<D, A> {
                 return begun;
             }
         }
+        self.machine.is_coherent();
         self.make(&set)
     }
 }

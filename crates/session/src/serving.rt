@@ -1,14 +1,13 @@
 // The lines of a session, one after the other.
-ghost use Rattle.std.specs.Prelude.{◌≡◌, List, ℕ, [], ◌∷◌, ◌++◌, Ok, true, false, if◌then◌else◌, IsOk, IfOk, OnOk, OnSome, codes};
+ghost use Rattle.std.specs.Prelude.{◌≡◌, ◌⊎◌, List, ℕ, [], ◌∷◌, ◌++◌, Ok, true, false, if◌then◌else◌, IsOk, IfOk, OnOk, OnSome, codes};
 ghost use Rattle.std.specs.Io.KnownBytes.{Appends, IsAtEnd, Keeps};
-ghost use Rattle.machine.specs.declared.act.Reply.{Reply};
 ghost use Rattle.machine.specs.declared.act.Shape.{Shape};
-ghost use Rattle.machine.specs.declared.act.Step.{Step};
 ghost use Rattle.engine.specs.Engine.{HasStarted, HasRun};
-ghost use Rattle.session.specs.Answers.{AnswersInput, WritesAnswerOf, WritesAnswers};
-ghost use Rattle.session.specs.Asked.{IsMemory, IsServedFor};
+ghost use Rattle.session.specs.Answers.{AnswersInput, WritesAnswers};
+ghost use Rattle.session.specs.Asked.{IsMemory};
+ghost use Rattle.session.specs.Locks.{AsksSteps, KeepsPhases};
 ghost use Rattle.session.specs.Ranges.{MakesStepsThat};
-ghost use Rattle.session.specs.Steps.{Makes};
+ghost use Rattle.session.specs.Serving.{ServesLine};
 ghost use Rattle.session.specs.inside.Made.{HasMade};
 
 use crate::line::{Line, MOST_OF_LINE, read_line};
@@ -28,9 +27,9 @@ use std::io::BufRead;
 /// However the session ends, its steps and their replies are a run over the device that the machine was started over,
 /// with all that holds of one: after a crash, and after none, what was stored survives (`HasRun`).
 ///
-/// Where it answers `Ok`, it has answered the lines of the input, up to its end or 2 ^ 64 - 1 of them, by a line for
-/// each, in their order: what a line asks for was done by steps after those of the lines before it, and the answer says
-/// what came of it (`AnswersInput`).
+/// Where it answers `Ok`, these same steps answered the lines of the input, up to its end or 2 ^ 64 - 1 of them, by a
+/// line for each, in their order: what a line asks for was done by steps after those of the lines before it, and the
+/// answer says what came of it (`AnswersInput`).
 pub fn serve_on<D: Device, A: Allocator + Copy, I: BufRead, W: io::Write>(
     global: Global,
     alloc: A,
@@ -38,13 +37,11 @@ pub fn serve_on<D: Device, A: Allocator + Copy, I: BufRead, W: io::Write>(
     input: &mut I,
     out: &mut W,
 ) -> Result<(), SessionFault>
-    ensures ran { (steps : List Step) × (replies : List Reply)
-        × Makes D.Device session.old.machine session.old.notes steps replies session.new.machine session.new.notes
-        × ((before : D) (shape : Shape) → HasStarted D.Device before shape session.old.machine
-        → HasRun D.Device before shape steps replies session.new.machine.device) }
-    ensures answered { OnOk result (MakesStepsThat D.Device session.old.machine session.old.notes
-        (AnswersInput session.old.notes (I.remaining input.old) (I.remaining input.new)
-        (W.contents out.old) (W.contents out.new)) session.new.machine session.new.notes) }
+    ensures { MakesStepsThat D.Device session.old.machine session.old.notes (λ steps replies.
+        ((before : D) (shape : Shape) → HasStarted D.Device before shape session.old.machine
+        → HasRun D.Device before shape steps replies session.new.machine.device)
+        × OnOk result (AnswersInput session.old.notes (I.remaining input.old) (I.remaining input.new)
+        (W.contents out.old) (W.contents out.new) steps replies)) session.new.machine session.new.notes }
 {
     let served = serve_lines(global, alloc, session, input, out);
     ran_since_start(&session.machine);
@@ -107,7 +104,10 @@ fn serve_next<D: Device, A: Allocator + Copy, I: BufRead, W: io::Write>(
 /// why it is none, and makes no step.
 ///
 /// Where it answers `Ok`, all was done that the line asks for, as far as the machine does it, and the line that was
-/// written says what came of it, and no more.
+/// written says what came of these same steps, and no more.
+///
+/// Unless the line asks for steps by name, it leaves the lock and the processors' phases as they were, whatever came
+/// (`phases`).
 pub fn serve_line<D: Device, A: Allocator + Copy, W: io::Write>(
     global: Global,
     alloc: A,
@@ -115,11 +115,10 @@ pub fn serve_line<D: Device, A: Allocator + Copy, W: io::Write>(
     line: &[u8],
     out: &mut W,
 ) -> Result<(), SessionFault>
-    ensures served { MakesStepsThat D.Device session.old.machine session.old.notes (IsServedFor line.now)
+    ensures served { MakesStepsThat D.Device session.old.machine session.old.notes
+        (ServesLine session.old.notes line.now result (W.contents out.old) (W.contents out.new))
         session.new.machine session.new.notes }
-    ensures answered { OnOk result (MakesStepsThat D.Device session.old.machine session.old.notes
-        (WritesAnswerOf session.old.notes line.now (W.contents out.old) (W.contents out.new))
-        session.new.machine session.new.notes) }
+    ensures phases { AsksSteps line.now ⊎ KeepsPhases session.old.machine.state session.new.machine.state }
 {
     match read_request(global, alloc, line) {
         Ok(request) => session.answer(alloc, &request, out),

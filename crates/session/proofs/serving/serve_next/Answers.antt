@@ -4,6 +4,7 @@ use Rattle.session.specs.declared.request_fault.RequestFault.TheVariants.{Long}
 use Rattle.session.specs.Lines.{ReadsLine, ReadsLines}
 use Rattle.session.proofs.Lines.{reads_none, reads_one, reads_too_long}
 use Rattle.session.proofs.Pieces.{made_does}
+use Rattle.session.proofs.Served.{line_answers}
 use Rattle.session.proofs.Stretches.{made_none}
 use Rattle.session.proofs.Writing.{answers_none, line_flushed, bad_flushed, flushed_line}
 use Rattle.session.proofs.serving.serve_next.Goals as goal
@@ -57,7 +58,7 @@ returns-in-Ok-Whole-clause-answered g c =
     let given = subst (λ (line : List ℕ). ReadsLines input rest (Some line ∷ [])) (sym c.deref.ensures.value) (reads_one input rest told read) in
     let contents = g.W.Write.contents in
     line_flushed g.D.Device _ _ _ _ c.deref.result.now input rest (contents c.args.out.now) (contents c.serve_line-served.new.out) (contents c.flushed-in-Ok-Whole.new.out) c.serve_line-served.result c.flushed-in-Ok-Whole.result given
-    c.serve_line-served.ensures.answered c.flushed-in-Ok-Whole.ensures
+    (line_answers g.D.Device _ _ _ _ c.deref.result.now c.serve_line-served.result (contents c.args.out.now) (contents c.serve_line-served.new.out) c.serve_line-served.ensures.served) c.flushed-in-Ok-Whole.ensures
 
 pub returns-in-Ok-Whole-clause-end : goal.returns-in-Ok-Whole-clause-end
 returns-in-Ok-Whole-clause-end g c =

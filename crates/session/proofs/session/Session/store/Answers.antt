@@ -6,19 +6,20 @@ use Rattle.machine.specs.declared.act.Reply.{Reply}
 use Rattle.session.specs.Steps.{behind}
 use Rattle.session.specs.inside.Aside.{StopsAt, AnswersAfter}
 use Rattle.session.proofs.Pieces.{stores_more, stores_refused, stores_all}
+use Rattle.session.proofs.Phases.{keeps_none, keeps_then}
 use Rattle.session.proofs.Stretches.{makes_none, answers_stop, same_and_not}
 use Rattle.session.proofs.session.Session.store.Goals as goal
 
 pub loop-done-init : goal.loop-done-init
-loop-done-init g c = (omega arith, record { steps = []; replies = []; makes = makes_none g.D.Device _ _; holds = refl })
+loop-done-init g c = (omega arith, record { steps = []; replies = []; makes = makes_none g.D.Device _ _; holds = refl }, keeps_none _)
 
-pub returns-in-Err : goal.returns-in-Err
-returns-in-Err g c =
+pub returns-in-Err-clause-reached : goal.returns-in-Err-clause-reached
+returns-in-Err-clause-reached g c =
     let P : ℕ → Type 0 = λ at. StopsAt g.D.Device c.loop-done.self.machine c.loop-done.self.notes c.args.p at c.in-Err.reply c.access.new.self.machine c.access.new.self.notes in
     stores_refused g.D.Device _ _ _ _ _ _ c.args.p c.args.va c.loop-done.done c.args.bytes.now c.in-Err.reply (omega (arith, c.loop-done-test.true)) c.loop-done.invariant.1 (subst P c.saturating_add-from.ensures c.in-Err.ensures.err)
 
-pub returns-then-not-is_stored : goal.returns-then-not-is_stored
-returns-then-not-is_stored g c =
+pub returns-then-not-is_stored-clause-reached : goal.returns-then-not-is_stored-clause-reached
+returns-then-not-is_stored-clause-reached g c =
     let P : ℕ → Type 0 = λ at. StopsAt g.D.Device c.loop-done.self.machine c.loop-done.self.notes c.args.p at c.in-Ok.answer c.access.new.self.machine c.access.new.self.notes in
     stores_refused g.D.Device _ _ _ _ _ _ c.args.p c.args.va c.loop-done.done c.args.bytes.now c.in-Ok.answer (omega (arith, c.loop-done-test.true)) c.loop-done.invariant.1 (subst P c.saturating_add-from.ensures
     (answers_stop g.D.Device _ _ _ _ _ c.saturating_add-from.result _ (ap not (sym c.if-not-is_stored.ensures.value)) (same_and_not c.saturating_add-from.result _ (sym c.if-not-is_stored.ensures.value)) c.in-Ok.ensures.ok))
@@ -33,7 +34,16 @@ loop-done-preserved g c =
     let span : c.loop-done.done + few - c.loop-done.done ≡ few = omega arith in
     let long : length (take c.loop-done.done bytes) ≡ c.loop-done.done = omega (arith, length-take c.loop-done.done bytes, c.loop-done.invariant.0) in
     let all : take c.loop-done.done bytes ++ c.part.result ≡ take (c.loop-done.done + few) bytes = ap (λ l. take c.loop-done.done bytes ++ l) (c.part.ensures ∙ ap (λ m. take m (drop c.loop-done.done bytes)) span) ∙ sym (take-add c.loop-done.done few bytes) in
-    (omega (arith, c.piece-few.ensures.left, c.loop-done.invariant.0, c.loop-done-test.true), stores_more g.D.Device _ _ _ _ _ _ c.args.p c.args.va c.loop-done.done (take c.loop-done.done bytes) c.part.result (take (c.loop-done.done + few) bytes) long all c.loop-done.invariant.1 answer)
+    (omega (arith, c.piece-few.ensures.left, c.loop-done.invariant.0, c.loop-done-test.true), stores_more g.D.Device _ _ _ _ _ _ c.args.p c.args.va c.loop-done.done (take c.loop-done.done bytes) c.part.result (take (c.loop-done.done + few) bytes) long all c.loop-done.invariant.1 answer, keeps_then _ _ _ c.loop-done.invariant.2 c.access.ensures.phases)
 
-pub returns : goal.returns
-returns g c = stores_all g.D.Device _ _ _ _ c.args.p c.args.va (take c.loop-done.done c.args.bytes.now) c.args.bytes.now (take_all c.loop-done.done c.args.bytes.now c.loop-done-test.false) c.loop-done.invariant.1
+pub returns-clause-reached : goal.returns-clause-reached
+returns-clause-reached g c = stores_all g.D.Device _ _ _ _ c.args.p c.args.va (take c.loop-done.done c.args.bytes.now) c.args.bytes.now (take_all c.loop-done.done c.args.bytes.now c.loop-done-test.false) c.loop-done.invariant.1
+
+pub returns-in-Err-clause-phases : goal.returns-in-Err-clause-phases
+returns-in-Err-clause-phases g c = keeps_then _ _ _ c.loop-done.invariant.2 c.access.ensures.phases
+
+pub returns-then-not-is_stored-clause-phases : goal.returns-then-not-is_stored-clause-phases
+returns-then-not-is_stored-clause-phases g c = keeps_then _ _ _ c.loop-done.invariant.2 c.access.ensures.phases
+
+pub returns-clause-phases : goal.returns-clause-phases
+returns-clause-phases g c = c.loop-done.invariant.2
