@@ -1,21 +1,23 @@
 -- What each call of a disk of deferred calls keeps.
-use Rattle.std.proofs.Common.{◌≡◌, ◌<◌, ◌≤◌, ◌⊎◌, inl, inr, ⊎_elim, ℕ, zero, suc, ◌+◌, ◌-◌, ◌*◌, ◌/◌, Bool, true, false, List, [], ◌∷◌, ◌++◌, length, get_or, length-append, length-drop, length-take, take, drop, replicate, Option, Some, None, refl, sym, ◌∙◌, ap, subst, arith, Result, Ok, Err, OnOk, OnErr}
+use Rattle.std.proofs.Common.{◌≡◌, ◌<◌, ◌≤◌, ◌⊎◌, inl, inr, ⊎_elim, ℕ, zero, suc, ◌+◌, ◌-◌, ◌*◌, ◌/◌, Bool, true, false, List, [], ◌∷◌, ◌++◌, length, get_or, append_assoc, length-append, length-drop, length-take, take, drop, replicate, set, Option, Some, None, refl, sym, ◌∙◌, ap, subst, arith, Result, Ok, Err, OnOk, OnErr}
 use Rattle.std.proofs.lemmas.Bool.{cases_lt}
-use Rattle.std.proofs.lemmas.List.{ext_get_or, get_or-take, get_or-drop, get_or_append_left, get_or-append_right, get_or-replicate, length-replicate, take_at, take-take, take-append-drop}
-use Rattle.std.specs.Prelude.{slice_get, slice_range, option_map, is_some, if◌then◌else◌}
+use Rattle.std.proofs.lemmas.Bool.Decides.{nat_tests}
+use Rattle.std.proofs.lemmas.List.{append-nil, ext_get_or, get_or-take, get_or-drop, get_or_append_left, get_or-append_right, get_or-replicate, get_or-set_same, get_or-set_other, length-set, length-replicate, take_at, take-take, take-append-drop}
+use Rattle.std.specs.Prelude.{slice_get, slice_range, option_map, is_some, nat_lt, ◌&&◌, ◌||◌, if◌then◌else◌}
 use Rattle.std.specs.Int.{div_ceil}
 use Rattle.device.specs.Device.{written, LeavesOnly}
 use Rattle.device.specs.Memory as memory
 use Rattle.device.specs.Memory.{DiskChange, content_after, moment_of, left_since_of}
 use Rattle.device.specs.Memory.DiskChange.{write, sync}
-use Rattle.device.specs.Deferred.{Deferred, as_recorded, after_write, after_sync, after_refusal, block_of, made_before, first_unknown, with_known, first_block, end_block, lacked_by_read, lacked_by_write, or_else}
+use Rattle.device.specs.Deferred.{Deferred, as_recorded, after_write, after_sync, after_refusal, reaches, one_reaches, block_of, made_before, work_of, first_unknown, with_known, first_block, end_block, lacked_by_read, lacked_by_write, or_else}
+use Rattle.device.specs.Work.{TornByWork}
 use Rattle.device.specs.declared.log.Logged.{Logged}
-use Rattle.device.specs.inside.Deferring.{AreKnown, AgreeWhereKnown, IsKept}
+use Rattle.device.specs.inside.Deferring.{IsKnownAt, AreKnown, AgreeWhereKnown, IsKept}
 use Rattle.device.specs.inside.Logged.{change_of, changes_of}
 use Rattle.device.specs.inside.Replay.{AreWithin}
 use Rattle.device.proofs.Patches.{length-content_after}
-use Rattle.device.proofs.Ranges.{length-written, written_before, written_within, written_after}
-use Rattle.device.proofs.Replay.{length-changes_of, within_older}
+use Rattle.device.proofs.Ranges.{length-written, torn_before, torn_after, written_before, written_within, written_after}
+use Rattle.device.proofs.Replay.{changes_of-more, changes_of-split, length-changes_of, within_older}
 
 -- A list with a part of it replaced, by place.
 module _ {A : Type 0} (xs ys : List A) (from to i : ℕ) (d : A) (fits : from ≤ length xs) where
@@ -293,7 +295,7 @@ kept_as {first} {first'} {changes} {changes'} {supplied} {supplied'} {bytes} {by
     (subst (λ (x : List Bool). IsKept first changes supplied bytes x waiting' len) (sym k)
     (subst (λ (x : List DiskChange). IsKept first changes supplied bytes flags x len) (sym w) kept)))))
 
-within_front : (n : ℕ) (newer older : List DiskChange) → AreWithin n (newer ++ older) → AreWithin n newer
+pub within_front : (n : ℕ) (newer older : List DiskChange) → AreWithin n (newer ++ older) → AreWithin n newer
 within_front n [] older within = tt
 within_front n (write at bytes ∷ newer) older within = (within.0, within_front n newer older within.1)
 within_front n (sync ∷ newer) older within = within_front n newer older within
@@ -354,3 +356,150 @@ same_deferred f c w k s l n m = λ i. record { first = f i; changes = c i; waiti
 -- one more call waits
 pub one_more : {A : Type 0} (log new : List (Logged A)) (change : DiskChange) → changes_of new ≡ change ∷ changes_of log → length new ≡ length log + 1
 one_more log new change more = omega (arith, ap length more, length-changes_of log, length-changes_of new)
+
+-- A change that doesn't reach a block writes nowhere in it.
+not_there : (at n block i : ℕ) → (nat_lt at (4096 * block + 4096) && nat_lt (4096 * block) (at + n)) ≡ false → at ≤ i → i < at + n → (i / 4096 < block) ⊎ (block < i / 4096)
+not_there at n block i none le lt = ⊎_elim
+    (λ (below : i / 4096 < block). inl below)
+    (λ (least : block ≤ i / 4096). ⊎_elim
+    (λ (above : block < i / 4096). inr above)
+    (λ (same : i / 4096 ≤ block). absurd (cc (both at (4096 * block + 4096) (4096 * block) (at + n) (omega (arith, le, same)) (omega (arith, lt, least)), none)))
+    (cases_lt block (i / 4096)))
+    (cases_lt (i / 4096) block)
+  where
+    both : (a b c d : ℕ) → a < b → c < d → (nat_lt a b && nat_lt c d) ≡ true
+    both a b c d first second = grind (arith, nat_tests)
+
+neither_reaches : (a b : Bool) → (a || b) ≡ false → (a ≡ false) × (b ≡ false)
+neither_reaches true b none = absurd (cc)
+neither_reaches false b none = (refl, none)
+
+other_flag : (flags : List Bool) (block b : ℕ) → (b < block) ⊎ (block < b) → get_or (set flags block false) b false ≡ get_or flags b false
+other_flag flags block b apart = ⊎_elim
+    (λ (below : b < block). get_or-set_other flags block b false false (omega (arith, below)))
+    (λ (above : block < b). get_or-set_other flags block b false false (omega (arith, above)))
+    apart
+
+known_without : (flags : List Bool) (block : ℕ) (changes : List DiskChange) → one_reaches changes block ≡ false → AreKnown flags changes → AreKnown (set flags block false) changes
+known_without flags block [] none known = tt
+known_without flags block (sync ∷ older) none known = known_without flags block older none known
+known_without flags block (write at bytes ∷ older) none known =
+    let parts = neither_reaches (reaches (write at bytes) block) (one_reaches older block) none in (
+      λ i le lt. other_flag flags block (i / 4096) (not_there at (length bytes) block i parts.0 le lt) ∙ known.0 i le lt,
+      known_without flags block older parts.1 known.1,
+    )
+
+-- A block that no waiting call writes to is forgotten.
+pub kept_without_block : (first : List ℕ) (changes : List DiskChange) (supplied : List (List ℕ × List ℕ)) (bytes : List ℕ) (flags : List Bool) (waiting : List DiskChange) (len block : ℕ) → IsKept first changes supplied bytes flags waiting len → block < length flags → one_reaches waiting block ≡ false → IsKept first changes supplied bytes (set flags block false) waiting len
+kept_without_block first changes supplied bytes flags waiting len block kept inside none =
+    let wide = length-set flags block false in
+    record {
+      first_length = omega (arith, wide, kept.first_length);
+      bytes_length = omega (arith, wide, kept.bytes_length);
+      len_is = kept.len_is;
+      within = kept.within;
+      waits = kept.waits;
+      reached = known_without flags block waiting none kept.reached;
+      agrees = λ alike i known. kept.agrees alike i (was i known);
+    }
+  where
+    was : (i : ℕ) → IsKnownAt (set flags block false) i → IsKnownAt flags i
+    was i known = ⊎_elim
+        (λ (below : i / 4096 < block). sym (other_flag flags block (i / 4096) (inl below)) ∙ known)
+        (λ (least : block ≤ i / 4096). ⊎_elim
+        (λ (above : block < i / 4096). sym (other_flag flags block (i / 4096) (inr above)) ∙ known)
+        (λ (same : i / 4096 ≤ block).
+        let here : i / 4096 ≡ block = omega (arith, least, same) in
+        absurd (cc (get_or-set_same flags block false false inside, ap (get_or (set flags block false)) here, known)))
+        (cases_lt block (i / 4096)))
+        (cases_lt (i / 4096) block)
+
+one_of_both : (newer older : List DiskChange) (block : ℕ) → one_reaches older block ≡ true → one_reaches (newer ++ older) block ≡ true
+one_of_both [] older block one = one
+one_of_both (x ∷ newer) older block one = or_true (reaches x block) (one_reaches (newer ++ older) block) (one_of_both newer older block one)
+  where
+    or_true : (a b : Bool) → b ≡ true → (a || b) ≡ true
+    or_true true b one = refl
+    or_true false b one = one
+
+-- One more call of a log doesn't reach the block, or one does.
+pub none_more : {A : Type 0} (log : List (Logged A)) (k block : ℕ) (entry : Logged A) → k < length log → entry ≡ get_or log k entry → reaches (change_of entry) block ≡ false → one_reaches (changes_of (take k log)) block ≡ false → one_reaches (changes_of (take (k + 1) log)) block ≡ false
+none_more log k block entry lt is not_here none =
+    ap (λ (l : List DiskChange). one_reaches l block) (changes_of-more log k entry lt is)
+    ∙ ap (λ b. b || one_reaches (changes_of (take k log)) block) not_here ∙ none
+
+pub one_there : {A : Type 0} (log : List (Logged A)) (k block : ℕ) (entry : Logged A) → k < length log → entry ≡ get_or log k entry → reaches (change_of entry) block ≡ true → one_reaches (changes_of log) block ≡ true
+one_there log k block entry lt is here =
+    ap (λ (l : List DiskChange). one_reaches l block) (changes_of-split log (k + 1))
+    ∙ one_of_both (changes_of (drop (k + 1) log)) (changes_of (take (k + 1) log)) block
+    (ap (λ (l : List DiskChange). one_reaches l block) (changes_of-more log k entry lt is) ∙ ap (λ b. b || one_reaches (changes_of (take k log)) block) here)
+
+appended : {A : Type 0} (older newer : List (Logged A)) → changes_of (older ++ newer) ≡ changes_of newer ++ changes_of older
+appended [] newer = sym (append-nil (changes_of newer))
+appended (e ∷ older) newer = ap (λ (l : List DiskChange). l ++ change_of e ∷ []) (appended older newer) ∙ append_assoc (changes_of newer) (changes_of older) (change_of e ∷ [])
+
+-- the changes of a log in two parts
+pub changes_of_both : {A : Type 0} (older newer log : List (Logged A)) → older ++ newer ≡ log → changes_of log ≡ changes_of newer ++ changes_of older
+changes_of_both older newer log is = ap changes_of (sym is) ∙ appended older newer
+
+pub one_of_two : (newer older : List DiskChange) (block : ℕ) → one_reaches (newer ++ older) block ≡ (one_reaches newer block || one_reaches older block)
+one_of_two [] older block = refl
+one_of_two (x ∷ newer) older block = ap (λ b. reaches x block || b) (one_of_two newer older block) ∙ or_assoc (reaches x block) (one_reaches newer block) (one_reaches older block)
+  where
+    or_assoc : (a b c : Bool) → (a || (b || c)) ≡ ((a || b) || c)
+    or_assoc true b c = refl
+    or_assoc false b c = refl
+
+got_taken : (changes : List DiskChange) (n k : ℕ) → k < n → slice_get (take n changes) k ≡ slice_get changes k
+got_taken changes zero k lt = absurd (omega (arith, lt))
+got_taken [] (suc n) k lt = refl
+got_taken (x ∷ changes) (suc n) zero lt = refl
+got_taken (x ∷ changes) (suc n) (suc k) lt = got_taken changes n k (omega (arith, lt))
+
+known_got : (flags : List Bool) (changes : List DiskChange) (k at : ℕ) (bytes : List ℕ) → AreKnown flags changes → slice_get changes k ≡ Some (write at bytes) → (i : ℕ) → at ≤ i → i < at + length bytes → IsKnownAt flags i
+known_got flags [] k at bytes known got = absurd (cc)
+known_got flags (sync ∷ changes) zero at bytes known got = absurd (cc)
+known_got flags (sync ∷ changes) (suc k) at bytes known got = known_got flags changes k at bytes known got
+known_got flags (write from new ∷ changes) (suc k) at bytes known got = known_got flags changes k at bytes known.1 got
+known_got flags (write from new ∷ changes) zero at bytes known got = λ i le lt.
+    let places : from ≡ at = cc in
+    let same : new ≡ bytes = cc in
+    known.0 i (omega (arith, places, le)) (omega (arith, places, ap length same, lt))
+
+-- What the oldest waiting call left in part is in blocks that are known.
+torn_elsewhere : (flags : List Bool) (changes waiting : List DiskChange) (old new : List ℕ) (i : ℕ) → waiting ≡ take (length waiting) changes → AreKnown flags waiting → get_or flags (i / 4096) false ≡ false → TornByWork (work_of (made_before (length waiting) changes)) old new → get_or new i 0 ≡ get_or old i 0
+torn_elsewhere flags changes [] old new i waits known unknown torn = ap (λ (l : List ℕ). get_or l i 0) torn
+torn_elsewhere flags changes (newest ∷ waiting) old new i waits known unknown torn = by_call (slice_get changes (length waiting)) refl torn
+  where
+    by_call : (call : Option DiskChange) → slice_get changes (length waiting) ≡ call → TornByWork (work_of call) old new → get_or new i 0 ≡ get_or old i 0
+    by_call None got same = ap (λ (l : List ℕ). get_or l i 0) same
+    by_call (Some sync) got same = ap (λ (l : List ℕ). get_or l i 0) same
+    by_call (Some (write at bytes)) got now =
+        let n = length (newest ∷ waiting) in
+        let here = ap (λ (l : List DiskChange). slice_get l (length waiting)) waits ∙ got_taken changes n (length waiting) (omega arith) ∙ got in
+        ⊎_elim
+        (λ (before : i < at). torn_before now i before)
+        (λ (from : at ≤ i). ⊎_elim
+        (λ (to : i < at + length bytes). absurd (cc (known_got flags (newest ∷ waiting) (length waiting) at bytes known here i from to, unknown)))
+        (λ (past : at + length bytes ≤ i). torn_after now i past)
+        (cases_lt i (at + length bytes)))
+        (cases_lt i at)
+
+-- A device that is where the disk was before its oldest waiting call has in a block that isn't known what the disk has.
+pub unknown_there : (first : List ℕ) (changes : List DiskChange) (supplied : List (List ℕ × List ℕ)) (bytes : List ℕ) (flags : List Bool) (waiting : List DiskChange) (len block : ℕ) (seen : List ℕ) → IsKept first changes supplied bytes flags waiting len → 4096 * block + 4096 ≤ length first → get_or flags block false ≡ false
+    → length seen ≡ length first → TornByWork (work_of (made_before (length waiting) changes)) (content_after first (drop (length waiting) changes)) seen → block_of seen block ≡ block_of (content_after first changes) block
+unknown_there first changes supplied bytes flags waiting len block seen kept fits unknown long torn =
+    let n = length waiting in
+    let before = content_after first (drop n changes) in
+    let there = unknown_stays first changes supplied bytes flags waiting len block kept fits unknown in
+    let all = subst (AreWithin (length first)) (sym (take-append-drop n changes)) kept.within in
+    let size = length-content_after first (drop n changes) (within_older (length first) (take n changes) (drop n changes) all) in
+    let small = part_size seen (4096 * block) (4096 * block + 4096) (omega arith) (omega (arith, long, fits)) in
+    let same = part_size before (4096 * block) (4096 * block + 4096) (omega arith) (omega (arith, size, fits)) in
+    ext_get_or 0 (block_of seen block) (block_of before block) (small ∙ sym same) (λ i lt.
+    let inside : i < 4096 = omega (arith, lt, small) in
+    let here : (4096 * block + i) / 4096 ≡ block = omega (arith, inside) in
+    part_place seen (4096 * block) (4096 * block + 4096) i (omega (arith, inside))
+    ∙ torn_elsewhere flags changes waiting before seen (4096 * block + i) kept.waits kept.reached (ap (λ b. get_or flags b false) here ∙ unknown) torn
+    ∙ sym (part_place before (4096 * block) (4096 * block + 4096) i (omega (arith, inside))))
+    ∙ there

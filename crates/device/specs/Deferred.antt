@@ -1,5 +1,5 @@
 -- A disk whose writes and syncs are recorded for somebody else to make, over the blocks of 4,096 bytes that it knows.
-use Rattle.std.specs.Prelude.{◌≡◌, ⊤, ℕ, zero, suc, ◌+◌, ◌-◌, ◌*◌, ◌/◌, Bool, true, false, if◌then◌else◌, Option, Some, None, List, [], ◌∷◌, ◌++◌, length, take, drop, replicate, get_or, slice_get, slice_range}
+use Rattle.std.specs.Prelude.{◌≡◌, ⊤, ℕ, zero, suc, ◌+◌, ◌-◌, ◌*◌, ◌/◌, Bool, true, false, if◌then◌else◌, Option, Some, None, List, [], ◌∷◌, ◌++◌, length, take, drop, replicate, get_or, set, slice_get, slice_range, nat_lt, ◌&&◌, ◌||◌}
 use Rattle.std.specs.Int.{div_ceil}
 use Rattle.device.specs.Count.{raised}
 use Rattle.device.specs.Memory.{DiskChange, Recorded, seen_of, may_leave_of, moment_of}
@@ -136,6 +136,20 @@ after_supply disk block bytes = if get_or disk.known block false then disk else 
   known = with_known disk.known block (block + 1);
   supplied = (bytes, block_of (seen_of (as_recorded disk)) block) ∷ disk.supplied;
 }
+
+-- a change writes to a block
+abbrev pub reaches : DiskChange → ℕ → Bool
+reaches (write at bytes) block = nat_lt at (4096 * block + 4096) && nat_lt (4096 * block) (at + length bytes)
+reaches sync block = false
+
+-- one of these changes does
+abbrev pub one_reaches : List DiskChange → ℕ → Bool
+one_reaches [] block = false
+one_reaches (change ∷ older) block = reaches change block || one_reaches older block
+
+-- a block isn't known any more
+abbrev pub after_forget : Deferred → ℕ → Deferred
+after_forget disk block = record disk { known = set disk.known block false }
 
 -- with this many waiting calls
 abbrev pub with_waiting : Deferred → ℕ → Deferred

@@ -1,5 +1,5 @@
 // The blocks of a disk that are known.
-ghost use Rattle.std.specs.Prelude.{◌≡◌, ℕ, ◌+◌, ◌-◌, ◌*◌, ◌^◌, ◌<◌, ◌≤◌, false, List, length, get_or, replicate, slice_range, IfOk, OnOk, OnErr};
+ghost use Rattle.std.specs.Prelude.{◌≡◌, ℕ, ◌+◌, ◌-◌, ◌*◌, ◌^◌, ◌<◌, ◌≤◌, false, List, length, get_or, set, replicate, slice_range, IfOk, OnOk, OnErr};
 ghost use Rattle.device.specs.Device.{written};
 ghost use Rattle.device.specs.Deferred.{first_unknown, lacked_by_write, with_known, first_block, end_block};
 
@@ -86,6 +86,17 @@ impl<A: Allocator + Copy> Blocks<A> {
         let to = (at + bytes.len()).div_ceil(BLOCK);
         mark(&mut self.known, from, to);
         Ok(())
+    }
+}
+
+impl<A: Allocator + Copy> Blocks<A> {
+    // One isn't known any more.
+    pub(crate) fn forget(&mut self, block: usize)
+        requires { block < length self.old.flags }
+        ensures bytes { self.new.bytes ≡ self.old.bytes }
+        ensures flags { self.new.flags ≡ set self.old.flags block false }
+    {
+        self.known[block] = false;
     }
 }
 

@@ -1,11 +1,12 @@
 // A disk whose writes and syncs somebody else makes.
-ghost use Rattle.std.specs.Prelude.{◌≡◌, ℕ, ◌+◌, ◌-◌, ◌*◌, ◌<◌, ◌≤◌, false, Some, None, List, [], ◌∷◌, ◌++◌, length, get_or, is_none, is_ok, option_map, slice_get, slice_range, IfOk, OnOk, OnErr, IsOk};
+ghost use Rattle.std.specs.Prelude.{◌≡◌, ℕ, ◌+◌, ◌-◌, ◌*◌, ◌^◌, ◌<◌, ◌≤◌, false, Some, None, List, [], ◌∷◌, ◌++◌, length, take, get_or, not, true, is_none, is_ok, option_map, slice_get, slice_range, IfOk, OnOk, OnErr, IsOk};
 ghost use Rattle.device.specs.Carrying.{CarriedOut};
 ghost use Rattle.device.specs.Device.{written};
 ghost use Rattle.device.specs.Did.{Did};
 ghost use Rattle.device.specs.Memory.{seen_of};
 ghost use Rattle.device.specs.Memory.DiskChange.{write, sync};
-ghost use Rattle.device.specs.Deferred.{deferred, as_recorded, carried_out, block_of, with_known, first_block, end_block, lacked_by_read, lacked_by_write, IsSuppliedWell, after_read, after_write, after_sync, after_refusal, after_supply, with_waiting, oldest, work_of};
+ghost use Rattle.device.specs.Deferred.{deferred, as_recorded, carried_out, block_of, with_known, first_block, end_block, lacked_by_read, lacked_by_write, IsSuppliedWell, after_read, after_write, after_sync, after_refusal, after_supply, after_forget, reaches, one_reaches, with_waiting, oldest, work_of};
+ghost use Rattle.device.specs.Work.{TornByWork};
 ghost use Rattle.device.specs.inside.Lent.{change_lent};
 ghost use Rattle.device.specs.inside.Logged.{change_of, changes_of};
 ghost use Rattle.device.specs.inside.Replay.{AreWithin};
@@ -75,7 +76,8 @@ impl<A: Allocator + Copy> Model for DeferredDisk<A> {
 }
 
 impl<A: Allocator + Copy> DeferredDisk<A> {
-    /// A disk of this many blocks, none of which is known. What they hold only the host knows.
+    /// A disk of this many blocks, none of which is known. What they hold only the host knows. It takes memory for all of
+    /// them.
     pub fn new(alloc: A, blocks: u32) -> Result<Self, AllocError>
         ghost content: { List ℕ }
         requires { length content ≡ 4096 * blocks }
@@ -96,9 +98,12 @@ impl<A: Allocator + Copy> DeferredDisk<A> {
 
     /// The host has read this block. One that is known keeps its bytes: what was written there, or supplied before.
     pub fn supply(&mut self, block: u32, bytes: &[u8; 4096]) -> Result<(), AllocError>
-        requires { 4096 * block + 4096 ≤ length self.old.first }
+        requires { 4096 * block + 4096 ≤ length (seen_of (as_recorded self.old)) }
         ensures ok { OnOk result (self.new ≡ after_supply self.old block bytes.now) }
         ensures err { OnErr result (self.new ≡ self.old) }
+
+        // What a read gives, and what a crash may leave, stays.
+        ensures recorded { as_recorded self.new ≡ as_recorded self.old }
     {
         let place = block as usize;
         if self.blocks.is_known(place) {
@@ -109,14 +114,31 @@ impl<A: Allocator + Copy> DeferredDisk<A> {
         Ok(())
     }
 
-    /// Whether a block is known. One that isn't is what it was before the oldest waiting call: a host may read it of a
-    /// device on which the calls before that one were made.
+    /// Whether a block is known. Of one that isn't, a device that is where this disk was before its oldest waiting call
+    /// gives what this disk has there: so a host may read it of such a device, also where that call was tried and failed.
     pub fn is_known(&self, block: u32) -> bool
         ensures known { result ≡ get_or self.now.known block false }
-        ensures there { 4096 * block + 4096 ≤ length self.now.first → result ≡ false
-            → block_of (seen_of (carried_out self.now)) block ≡ block_of (seen_of (as_recorded self.now)) block }
+        ensures there { 4096 * block + 4096 ≤ length (seen_of (as_recorded self.now)) → result ≡ false
+            → (bytes : List ℕ) → length bytes ≡ length (seen_of (as_recorded self.now))
+            → TornByWork (work_of (oldest self.now)) (seen_of (carried_out self.now)) bytes
+            → block_of bytes block ≡ block_of (seen_of (as_recorded self.now)) block }
     {
         self.blocks.is_known(block as usize)
+    }
+
+    /// Forgets a block, unless a waiting call writes to it: whether it isn't known any more. Where its bytes are needed
+    /// the host supplies them again.
+    pub fn forget(&mut self, block: u32) -> bool
+        requires { 4096 * block + 4096 ≤ length (seen_of (as_recorded self.old)) }
+        ensures result { result ≡ not (one_reaches (take self.old.waiting self.old.changes) block) }
+        ensures forgotten { result ≡ true → self.new ≡ after_forget self.old block }
+        ensures kept { result ≡ false → self.new ≡ self.old }
+    {
+        if waits_for(&self.log, block) {
+            return false;
+        }
+        self.blocks.forget(block as usize);
+        true
     }
 
     /// Which block the last call of `read`, `write` or `sync` lacked, where it failed for want of one.
@@ -324,6 +346,40 @@ impl<A: Allocator + Copy> Device for DeferredDisk<A> {
 
     fn faults(&self) -> u64 {
         self.faults
+    }
+}
+
+// Whether a call of a log writes to a block.
+fn waits_for<A: Allocator + Copy>(log: &VecDeque<Logged<A>, A>, block: u32) -> bool
+    requires { AreWithin (2 ^ 64 - 1) (changes_of log.now.items) }
+    ensures { result ≡ one_reaches (changes_of log.now.items) block }
+{
+    let (older, newer) = log.as_slices();
+    let newer_one = one_writes_to(newer, block);
+    let older_one = one_writes_to(older, block);
+    newer_one || older_one
+}
+
+fn one_writes_to<A: Allocator + Copy>(calls: &[Logged<A>], block: u32) -> bool
+    requires { AreWithin (2 ^ 64 - 1) (changes_of calls.now) }
+    ensures { result ≡ one_reaches (changes_of calls.now) block }
+{
+    for entry in calls {
+        if writes_to(entry, block) {
+            return true;
+        }
+    }
+    false
+}
+
+fn writes_to<A: Allocator + Copy>(call: &Logged<A>, block: u32) -> bool
+    requires { AreWithin (2 ^ 64 - 1) (change_of call.now ∷ []) }
+    ensures { result ≡ reaches (change_of call.now) block }
+{
+    let start = 4096 * u64::from(block);
+    match call {
+        Logged::Write(at, bytes) => *at < start + 4096 && start < *at + bytes.len() as u64,
+        Logged::Sync => false,
     }
 }
 

@@ -1,18 +1,23 @@
-use Rattle.std.proofs.Common.{◌≡◌, ◌≤◌, ◌+◌, ◌*◌, length, drop, sym, ◌∙◌, subst}
-use Rattle.device.specs.Deferred.{Deferred, as_recorded, carried_out, block_of}
+use Rattle.std.proofs.Common.{◌≡◌, ◌≤◌, ◌+◌, ◌*◌, length, drop, arith, sym, ◌∙◌, ap, subst}
+use Rattle.device.specs.Deferred.{Deferred, as_recorded, carried_out, oldest, made_before, work_of, block_of}
 use Rattle.device.specs.Memory.{seen_of, content_after}
+use Rattle.device.specs.Work.{TornByWork}
 use Rattle.device.specs.inside.Logged.{changes_of}
-use Rattle.device.proofs.Deferring.{unknown_stays}
+use Rattle.device.proofs.Deferring.{unknown_there}
+use Rattle.device.proofs.Patches.{length-content_after}
 use Rattle.device.proofs.Replay.{length-changes_of}
 use Rattle.device.proofs.deferred.DeferredDisk.is_known.Goals as goal
 
 pub returns-clause-there : goal.returns-clause-there
-returns-clause-there g c = λ fits none.
+returns-clause-there g c = λ fits none bytes long torn.
     let disk = c.self.inside in
     let block = c.args.block in
-    let room = subst (λ (d : Deferred). 4096 * block + 4096 ≤ length d.first) (sym c.self.view_is) fits in
-    let unknown = sym c.is_known.ensures ∙ none in
-    let log = changes_of disk.log.items in
-    let same = unknown_stays disk.past.first disk.past.changes disk.past.supplied disk.blocks.bytes disk.blocks.flags log disk.len block c.self.invariant room unknown in
-    subst (λ (d : Deferred). block_of (seen_of (carried_out d)) block ≡ block_of (seen_of (as_recorded d)) block) c.self.view_is
-    (subst (λ n. block_of (content_after disk.past.first (drop n disk.past.changes)) block ≡ block_of (content_after disk.past.first disk.past.changes) block) (length-changes_of disk.log.items) same)
+    let first = disk.past.first in
+    let changes = disk.past.changes in
+    let whole = length-content_after first changes c.self.invariant.within in
+    let room = subst (λ (d : Deferred). 4096 * block + 4096 ≤ length (seen_of (as_recorded d))) (sym c.self.view_is) fits in
+    let same = subst (λ (d : Deferred). length bytes ≡ length (seen_of (as_recorded d))) (sym c.self.view_is) long in
+    let before = subst (λ (d : Deferred). TornByWork (work_of (oldest d)) (seen_of (carried_out d)) bytes) (sym c.self.view_is) torn in
+    let counted = subst (λ n. TornByWork (work_of (made_before n changes)) (content_after first (drop n changes)) bytes) (sym (length-changes_of disk.log.items)) before in
+    unknown_there first changes disk.past.supplied disk.blocks.bytes disk.blocks.flags (changes_of disk.log.items) disk.len block bytes c.self.invariant (omega (arith, room, whole)) (sym c.is_known.ensures ∙ none) (same ∙ whole) counted
+    ∙ ap (λ (d : Deferred). block_of (seen_of (as_recorded d)) block) c.self.view_is
