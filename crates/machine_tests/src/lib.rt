@@ -8,3 +8,5 @@ mod layout_three;
 mod machines;
 #[cfg(test)]
 mod memory;
+#[cfg(test)]
+mod refusals;
