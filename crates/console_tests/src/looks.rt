@@ -1,5 +1,8 @@
 // What is said of a volume's bytes, and files that are copied out of it.
-use crate::tests::{Host, complains, holds, image, makes_volume, prints, removes};
+use crate::tests::{
+    FIRST_DUMP, FIRST_REPLIES, FIRST_SCRIPT, Host, complains, holds, image, makes_volume, prints,
+    removes, writes,
+};
 use std::fs;
 
 const CLEAN: &str =
@@ -126,10 +129,18 @@ fn a_damaged_volume_is_told(rt: HostRuntime) {
     assert!(rt; removes(&rt, &["hurt.img"]));
 }
 
-// A volume is migrated to one in layout 3, which has the same files.
+// Makes the volume that is migrated: the first script commits a byte of `a`. Tells whether that goes well.
+fn makes_old_volume<R: Host>(rt: &R) -> bool {
+    makes_volume(rt, "old.img")
+        && writes(rt, "byte.json", &[FIRST_SCRIPT])
+        && prints(rt, "run|old.img|byte.json", 0, &[FIRST_REPLIES], &[])
+        && removes(rt, &["byte.json"])
+}
+
+// A volume with a byte that was committed is migrated to one in layout 3, which has the same files.
 #[test]
 fn a_volume_is_migrated(rt: HostRuntime) {
-    assert!(rt; makes_volume(&rt, "old.img"));
+    assert!(rt; makes_old_volume(&rt));
     assert!(rt;
         prints(
             &rt,
@@ -139,8 +150,8 @@ fn a_volume_is_migrated(rt: HostRuntime) {
             &[]
         )
     );
-    assert!(rt; prints(&rt, "dump|new.img", 0, &["a 5000\nb 4096\n"], &[]));
-    assert!(rt; prints(&rt, "dump|old.img", 0, &["a 5000\nb 4096\n"], &[]));
+    assert!(rt; prints(&rt, "dump|new.img", 0, &[FIRST_DUMP], &[]));
+    assert!(rt; prints(&rt, "dump|old.img", 0, &[FIRST_DUMP], &[]));
     assert!(rt;
         complains(
             &rt,

@@ -195,13 +195,13 @@ pub fn holds_image<R: Host>(rt: &R, path: &str, changes: &[(usize, u8)]) -> bool
     }
 }
 
-const FIRST_SCRIPT: &str =
+pub const FIRST_SCRIPT: &str =
     r#"{"cpus":1,"tlb":8,"frames":4,"copies":0,"steps":[[0,"create"],[0,"map",1,4096,12288,0,0,"rw","rw"],[0,"switch",1,"drop"],[0,"store",4096,[65]],[0,"fix",4096,"write"],[0,"store",4096,[65]],[0,"msync",4096,4096,4],[0,"change"],[0,"flush"],[0,"flush"],[0,"flush"],[0,"flush"],[0,"flush"],[0,"flush"],[0,"flush"],[0,"flush"],[0,"flush"]]}"#;
 
-const FIRST_REPLIES: &str =
+pub const FIRST_REPLIES: &str =
     "space 1\nmapped\nswitched\nfault 6\nfixed\nstored\nbegun\nmarked 1\ngoing\ngoing\ngoing\ngoing\ncommitted 1\ngoing\ngoing\ngoing\ndone 1\n";
 
-const FIRST_DUMP: &str =
+pub const FIRST_DUMP: &str =
     "a 5000\n000000000000 41 00 00 00 00 00 00 00 00 00 00 00 00 00 00 00\nb 4096\n";
 
 // A volume is made, a script stores, commits and writes home, and the dump shows the byte.
