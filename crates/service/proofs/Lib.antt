@@ -1,3 +1,4 @@
 pub mod Traces
 pub mod Counting
+mod Raises
 mod Starts

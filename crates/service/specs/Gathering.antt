@@ -1,5 +1,5 @@
 -- What the processors of a service know of their own calls, and what is known once all of them were given back.
-use Rattle.std.specs.Prelude.{ℕ, ◌≡◌, ◌<◌, List, [], length, sum_by, slice_get, Option, Some}
+use Rattle.std.specs.Prelude.{ℕ, ◌≡◌, ◌<◌, ◌≤◌, List, [], length, sum_by, slice_get, Option, Some}
 use Rattle.device.specs.declared.device.Device.{Ghosts}
 use Rattle.machine.specs.declared.act.Act.{Act}
 use Rattle.machine.specs.declared.act.Reply.{Reply}
@@ -35,16 +35,19 @@ AreAnswered trace cpus =
     (i : ℕ) (cpu : CpuState) → slice_get cpus i ≡ Some cpu → of_processor cpu.number trace ≡ cpu.answered
 
 -- What is handed out once all processors of a service were given back.
-pub record HasGathered {D : Type 0} (disk : Ghosts D) (start : Option (Whole D)) (cpus : List CpuState)
-    (machine : Whole D) (trace : List Entry) : Type 0 where
+pub record HasGathered {D : Type 0} (disk : Ghosts D) (start : Option (Whole D)) (capacity : ℕ)
+    (cpus : List CpuState) (machine : Whole D) (trace : List Entry) : Type 0 where
   -- the trace is a legal run of the machine from the start of the service, which was as boot leaves it
   pub first : Whole D
   pub start_is : start ≡ Some first
   pub fresh : IsFresh first.state
   pub legal : StepsTaken disk first (steps_of trace) (replies_of trace) machine
+  -- it has no more entries than the service was started for
+  pub few : length trace ≤ capacity
   -- its entries of each processor are what that processor called and was answered
   pub each : AreAnswered trace cpus
-  -- of as many processors as there are, each was given back
-  pub whole : (p : ℕ) → p < length cpus → IsAmong cpus p
+  -- as many were given back as the machine has processors, and each of these
+  pub as_many : length cpus ≡ length first.state.hardware.shootdown.processors
+  pub whole : (p : ℕ) → p < length first.state.hardware.shootdown.processors → IsAmong cpus p
   -- and there are no other entries
   pub counted : length trace ≡ answered_calls cpus

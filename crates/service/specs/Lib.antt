@@ -1,4 +1,5 @@
 pub mod Trace
+pub mod Marks
 pub mod Serving
 pub mod Gathering
 pub mod inside

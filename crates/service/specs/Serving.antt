@@ -1,5 +1,5 @@
 -- A machine with the trace that led to it.
-use Rattle.std.specs.Prelude.{ℕ, ◌≡◌, ◌<◌, ◌≤◌, List, [], ◌∷◌, ◌++◌, length}
+use Rattle.std.specs.Prelude.{ℕ, ◌≡◌, ◌<◌, ◌≤◌, List, [], ◌∷◌, ◌++◌, length, Option, Some}
 use Rattle.device.specs.declared.device.Device.{Ghosts}
 use Rattle.page_entry.specs.declared.refusal.Refusal.{Refusal}
 use Rattle.page_entry.specs.declared.refusal.Refusal.TheVariants.{BadShape, OutOfMemory}
@@ -14,6 +14,7 @@ use Rattle.machine.specs.State.{Whole}
 use Rattle.machine.specs.Steps.{told_first}
 use Rattle.machine.specs.Told.{Told, tell_all}
 use Rattle.service.specs.declared.entry.Entry.{Entry}
+use Rattle.service.specs.Marks.{has_unmarked, HasReached}
 use Rattle.service.specs.Trace.{progress_of, steps_of, replies_of}
 
 -- what is locked: a machine, the trace of its steps, the most entries that the trace may have, and how many of its
@@ -30,6 +31,16 @@ pub record IsServing {D : Type 0} (disk : Ghosts D) (start : Whole D) (s : Share
   pub legal : StepsTaken disk start (steps_of s.trace) (replies_of s.trace) s.machine
   pub few : length s.trace ≤ s.capacity
   pub counted : s.progress ≡ progress_of s.trace
+
+-- What the lock of a service keeps: the trace is a legal run from the machine with which the service started, which has
+-- this many processors, and may have this many entries.
+pub record ServesFrom {D : Type 0} (disk : Ghosts D) (start : Option (Whole D)) (all capacity : ℕ) (s : SharedState D)
+    : Type 0 where
+  pub first : Whole D
+  pub start_is : start ≡ Some first
+  pub all_are : all ≡ length first.state.hardware.shootdown.processors
+  pub capacity_is : s.capacity ≡ capacity
+  pub serving : IsServing disk first s
 
 -- what a trace from this start tells
 abbrev pub told_by : {D : Type 0} → List File → Whole D → List Entry → Told
@@ -62,6 +73,16 @@ pub record HasEntered {D : Type 0} (disk : Ghosts D) (old : SharedState D) (step
   -- with its entry
   pub safe : (files : List File) (start : Whole D) → IsServing disk start old → Begins disk files start
       → StepIsSafe disk files (told_by files start old.trace) old.machine step reply new.machine
+
+-- One call of a processor that was answered: what the lock kept is a trace of the service, the act that was called and
+-- its reply are one more entry of it, and the horizon, as this processor sees it, has reached what the entry raises.
+pub record HasCalled {D : Type 0} (disk : Ghosts D) (start : Option (Whole D)) (all capacity : ℕ) (step : Step)
+    (reply : Reply) (stalled committed : ℕ) : Type 0 where
+  pub before : SharedState D
+  pub after : SharedState D
+  pub serves : ServesFrom disk start all capacity before
+  pub entered : HasEntered disk before step reply after
+  pub reached : HasReached (has_unmarked before.trace) reply stalled committed
 
 -- the most entries that a trace may be asked to hold
 abbrev pub max_entries : ℕ

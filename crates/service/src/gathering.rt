@@ -1,8 +1,8 @@
 // What is compared when a service is gathered, and how its count is closed.
-ghost use Rattle.std.specs.Prelude.{ℕ, ◌≡◌, ◌<◌, length, IsTrue, IfSome};
+ghost use Rattle.std.specs.Prelude.{ℕ, ◌≡◌, ◌<◌, length, IsTrue, Some, None, IfSome};
 ghost use Rattle.service.specs.Trace.{of_processor};
 ghost use Rattle.service.specs.Gathering.{IsAmong, AreAnswered, answered_calls};
-ghost use Rattle.service.specs.inside.Gathering.{ServesFrom};
+ghost use Rattle.service.specs.Serving.{ServesFrom};
 
 use crate::locked::{Locked, Room};
 use crate::same::is_answer_of;
@@ -75,7 +75,23 @@ fn are_answered<D: Device, A: Allocator + Copy, L: Origin<D>>(
     true
 }
 
-// What the lock keeps, taken out if its trace is what these processors were answered.
+// What the lock keeps, taken out if its trace is what these processors were answered; else it stays there.
+fn take_answered<D: Device + Drop, A: Allocator + Copy, L: Origin<D>>(
+    kept: &mut Option<Locked<D, A, L>>,
+    cpus: &[Cpu<D, A, L>],
+) -> Option<Locked<D, A, L>>
+    ensures taken { IfSome result (λ locked. (kept.old ≡ Some locked) × AreAnswered locked.trace cpus.now) }
+    ensures left { result ≡ None → kept.new ≡ kept.old }
+{
+    let locked = kept.take()?;
+    if are_answered(locked.shared.trace(), cpus) {
+        Some(locked)
+    } else {
+        *kept = Some(locked);
+        None
+    }
+}
+
 pub(crate) fn take_if_answered<D: Device + Drop, A: Allocator + Copy, L: Origin<D>, R: Wait>(
     rt: &R,
     room: &Room<D, A, L>,
@@ -83,14 +99,7 @@ pub(crate) fn take_if_answered<D: Device + Drop, A: Allocator + Copy, L: Origin<
 ) -> Option<Locked<D, A, L>>
     ensures { IfSome result (λ locked. AreAnswered locked.trace cpus.now) }
 {
-    let mut guard = room.lock.lock(rt);
-    let locked = guard.take()?;
-    if are_answered(locked.shared.trace(), cpus) {
-        Some(locked)
-    } else {
-        *guard = Some(locked);
-        None
-    }
+    take_answered(&mut *room.lock.lock(rt), cpus)
 }
 
 // The part and the amount of all processors together.
@@ -125,7 +134,7 @@ pub(crate) fn ended<D: Device + Drop, A: Allocator + Copy, L: Origin<D>>(
     ensures machine { result.0 ≡ locked.machine }
     ensures trace { result.1.items ≡ locked.trace }
     ensures counted { length locked.trace ≡ all.amount }
-    ensures serves { ServesFrom D.Device L.start locked }
+    ensures serves { ServesFrom D.Device L.start L.all L.capacity locked }
 {
     let Locked { shared, mut calls } = locked;
     calls.audit(&mut all);
@@ -145,7 +154,7 @@ pub(crate) fn abandoned<D: Device + Drop, A: Allocator + Copy, L: Origin<D>>(
     locked: Locked<D, A, L>,
 ) -> Machine<D, A>
     ensures machine { result ≡ locked.machine }
-    ensures serves { ServesFrom D.Device L.start locked }
+    ensures serves { ServesFrom D.Device L.start L.all L.capacity locked }
 {
     let Locked { shared, .. } = locked;
     shared.into_parts().0

@@ -9,6 +9,7 @@ mod entry;
 mod gathering;
 mod locked;
 mod processor;
+mod raising;
 mod same;
 mod service;
 mod shared;

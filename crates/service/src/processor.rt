@@ -2,12 +2,16 @@
 ghost use Rattle.std.specs.Prelude.{ℕ, ◌≡◌, ◌≢◌, ◌++◌, ◌∷◌, [], ◌+◌, ◌<◌, ◌≤◌, length};
 ghost use Rattle.page_entry.specs.declared.refusal.Refusal.{Refusal};
 ghost use Rattle.machine.specs.declared.act.Reply.{Reply};
+ghost use Rattle.service.specs.Serving.{HasCalled};
+ghost use Rattle.service.specs.declared.raising.Raise.{Raise};
+ghost use Rattle.service.specs.inside.Raising.{Reaches};
 ghost use Rattle.service.specs.inside.Rising.{HasRisen};
 
 use crate::Origin;
-use crate::locked::{Locked, Room, is_trace_full};
+use crate::locked::{Room, is_trace_full};
+use crate::raising::Raise;
 use device::Device;
-use horizon::Seen;
+use horizon::{Horizon, Seen};
 use machine::{Act, ProcState, Reply};
 use page_entry::{ProcessorNumber, Refusal};
 use std::alloc::Allocator;
@@ -61,14 +65,17 @@ const SPINS: u64 = 32;
 
 impl<D: Device, A: Allocator + Copy, L: Origin<D>> Cpu<D, A, L> {
     /// One act of this processor, made under the lock, with an entry in the trace. A mark raises the horizon's stalled,
-    /// and a commit its committed, before the lock is given back; a mark with no store since the mark before it raises
-    /// both.
+    /// and a commit its committed, before the lock is given back; a mark with no store and no change of a length since
+    /// the mark before it raises both.
     ///
     /// `TraceFull` where the trace is full, and nothing is changed. If the call returns.
     pub fn call<R: Wait>(&mut self, rt: &R, act: Act) -> Reply
         ensures full { result ≡ Reply.Refused Refusal.TraceFull → self.new ≡ self.old }
         ensures answered { result ≢ Reply.Refused Refusal.TraceFull
             → self.new.answered ≡ self.old.answered ++ (act, result) ∷ [] }
+        ensures called { result ≢ Reply.Refused Refusal.TraceFull
+            → HasCalled D.Device L.start L.all L.capacity (record { p = self.old.number; act = act }) result
+            self.new.stalled self.new.committed }
         ensures number { self.new.number ≡ self.old.number }
         ensures rises { (self.old.stalled ≤ self.new.stalled) × (self.old.committed ≤ self.new.committed) }
         ensures marked { (mark : ℕ) → result ≡ Reply.Marked mark → mark ≤ self.new.stalled }
@@ -180,6 +187,9 @@ fn call_locked<D: Device, A: Allocator + Copy, L: Origin<D>, R: Wait>(
     ensures counted { result ≢ Reply.Refused Refusal.TraceFull → mine.new.amount ≡ mine.old.amount + 1 }
     ensures parts { mine.new.parts ≡ mine.old.parts }
     ensures risen { HasRisen seen.old seen.new }
+    ensures called { result ≢ Reply.Refused Refusal.TraceFull
+        → HasCalled D.Device L.start L.all L.capacity (record { p = p; act = act.now }) result
+        seen.new.stalled seen.new.committed }
     ensures marked { (mark : ℕ) → result ≡ Reply.Marked mark → mark ≤ seen.new.stalled }
     ensures committed { (mark : ℕ) → result ≡ Reply.Committed mark → mark ≤ seen.new.committed }
 {
@@ -187,35 +197,21 @@ fn call_locked<D: Device, A: Allocator + Copy, L: Origin<D>, R: Wait>(
     let Some(locked) = &mut *guard else {
         return Reply::Refused(Refusal::TraceFull);
     };
-    let reply = locked.call(mine, p, act);
-    raise(rt, room, seen, &reply, locked);
+    let (reply, raise) = locked.call(mine, p, act);
+    raise_horizon(rt, &room.horizon, seen, raise);
     reply
 }
 
-// Raises the horizon by the reply of the last entry. A mark with no store since the mark before it is committed at
-// once.
-fn raise<D: Device, A: Allocator + Copy, L: Origin<D>, R: Wait>(
-    rt: &R,
-    room: &Room<D, A, L>,
-    seen: &mut Seen,
-    reply: &Reply,
-    locked: &Locked<D, A, L>,
-)
-    requires own { seen.old.cell ≡ room.now.horizon }
-    ensures full { reply.now ≡ Reply.Refused Refusal.TraceFull → seen.new ≡ seen.old }
+// Raises the horizon so far.
+fn raise_horizon<R: Wait>(rt: &R, horizon: &Horizon, seen: &mut Seen, raise: Raise)
+    requires own { seen.old.cell ≡ horizon.now }
+    ensures nothing { raise ≡ Raise.Nothing → seen.new ≡ seen.old }
     ensures risen { HasRisen seen.old seen.new }
-    ensures marked { (mark : ℕ) → reply.now ≡ Reply.Marked mark → mark ≤ seen.new.stalled }
-    ensures committed { (mark : ℕ) → reply.now ≡ Reply.Committed mark → mark ≤ seen.new.committed }
+    ensures reached { Reaches raise seen.new.stalled seen.new.committed }
 {
-    match reply {
-        Reply::Marked(mark) => {
-            if locked.shared.is_quiet() {
-                room.horizon.raise_committed(rt, seen, u64::from(*mark));
-            } else {
-                room.horizon.raise_stalled(rt, seen, u64::from(*mark));
-            }
-        }
-        Reply::Committed(mark) => room.horizon.raise_committed(rt, seen, u64::from(*mark)),
-        _ => {}
+    match raise {
+        Raise::Nothing => {}
+        Raise::Stalled(mark) => horizon.raise_stalled(rt, seen, mark),
+        Raise::Committed(mark) => horizon.raise_committed(rt, seen, mark),
     }
 }

@@ -6,7 +6,7 @@ ghost use Rattle.machine.specs.declared.act.Step.{Step};
 ghost use Rattle.machine.specs.Fresh.{IsFresh};
 ghost use Rattle.machine.specs.Runs.{StepsTaken};
 ghost use Rattle.machine.specs.State.{Whole};
-ghost use Rattle.service.specs.Serving.{RefusesCapacity};
+ghost use Rattle.service.specs.Serving.{IsCapacity, RefusesCapacity};
 ghost use Rattle.service.specs.Gathering.{HasGathered, idle_cpu};
 
 use crate::gathering::{abandoned, are_all, ended, merged, take_if_answered, taken};
@@ -31,8 +31,8 @@ pub struct Service<D: Device, A: Allocator + Copy, L: Origin<D>> {
 
 impl<D: Device + Drop, A: Allocator + Copy, L: Origin<D>> Service<D, A, L> {
     /// Shares a machine as it was booted, with an empty trace that may have `capacity` entries, 1 to 1,000,000, and
-    /// gives a `Cpu` for each of its processors, in order. The type `L` stands for this machine, and for the ledger of
-    /// which `blank` is the blank, with a part for each processor.
+    /// gives a `Cpu` for each of its processors, in order. The type `L` stands for this machine and this capacity, and
+    /// for the ledger of which `blank` is the blank, with a part for each processor.
     ///
     /// `BadShape` for another capacity, which is judged before memory is taken; `OutOfMemory` where memory is refused,
     /// all of which is taken here: no call of a `Cpu` takes any for the service. A refusal hands machine and blank
@@ -45,10 +45,11 @@ impl<D: Device + Drop, A: Allocator + Copy, L: Origin<D>> Service<D, A, L> {
         blank: Blank,
     ) -> Result<(Self, Vec<Cpu<D, A, L>, A>), (Refusal, Machine<D, A>, Blank)>
         requires fresh { IsFresh machine.state }
-        requires origin { L.start ≡ Some machine }
+        requires origin { (L.start ≡ Some machine) × (IsCapacity capacity → L.capacity ≡ capacity) }
         requires name { blank.name ≡ L.name }
         requires parts { (blank.parts ≡ L.parts) × (L.all ≡ L.parts)
             × (blank.parts ≡ length machine.state.hardware.shootdown.processors) }
+        ensures capacity { IfOk result (λ _. IsCapacity capacity) }
         ensures count { IfOk result (λ started.
             length started.1.items ≡ length machine.state.hardware.shootdown.processors) }
         ensures cpus { IfOk result (λ started. (i : ℕ) → i < length started.1.items
@@ -79,8 +80,9 @@ impl<D: Device + Drop, A: Allocator + Copy, L: Origin<D>> Service<D, A, L> {
     ) -> Result<(Machine<D, A>, Vec<Entry, A>), (Refusal, Self, Vec<Cpu<D, A, L>, A>)>
         requires { L.all ≡ L.parts }
         ensures gathered { IfOk result (λ gathered.
-            HasGathered D.Device L.start cpus.items gathered.0 gathered.1.items) }
-        ensures refused { IfErr result (λ refused. (refused.0 ≡ Refusal.Einval) × (refused.2.items ≡ cpus.items)) }
+            HasGathered D.Device L.start L.capacity cpus.items gathered.0 gathered.1.items) }
+        ensures refused { IfErr result (λ refused. (refused.0 ≡ Refusal.Einval) × (refused.1 ≡ self)
+            × (refused.2.items ≡ cpus.items)) }
     {
         if !are_all(cpus.as_slice(), self.cpus) {
             return Err((Refusal::Einval, self, cpus));

@@ -1,5 +1,5 @@
 // What threads share: a machine with the trace of its steps.
-ghost use Rattle.std.specs.Prelude.{ℕ, ◌≡◌, ◌==◌, ◌≢◌, ◌↔◌, ◌<◌, ◌≤◌, List, [], length, false, IsTrue, IfOk, IfErr};
+ghost use Rattle.std.specs.Prelude.{ℕ, ◌≡◌, ◌==◌, ◌≢◌, ◌↔◌, ◌<◌, ◌≤◌, List, [], ◌∷◌, ◌++◌, length, false, IsTrue, IfOk, IfErr};
 ghost use Rattle.std.specs.Vec.{vec_capacity};
 ghost use Rattle.page_entry.specs.declared.refusal.Refusal.{Refusal};
 ghost use Rattle.shootdown.specs.Shootdown.{is_there, state_of};
@@ -8,10 +8,14 @@ ghost use Rattle.machine.specs.declared.act.Reply.{Reply};
 ghost use Rattle.machine.specs.Crashes.{Begins};
 ghost use Rattle.machine.specs.Fresh.{IsFresh};
 ghost use Rattle.machine.specs.State.{Whole};
+ghost use Rattle.service.specs.declared.entry.Entry.{Entry};
+ghost use Rattle.service.specs.Marks.{has_unmarked};
+ghost use Rattle.service.specs.inside.Raising.{raise_by};
 ghost use Rattle.service.specs.Serving.{SharedState, IsServing, KeepsLaws, HasEntered, IsCapacity, RefusesCapacity};
 
 use crate::Entry;
 use crate::entry::{progress_with, step_of};
+use crate::raising::{Raise, raise_by};
 use device::Device;
 use machine::{Act, Machine, ProcState, Reply};
 use page_entry::{ProcessorNumber, Refusal};
@@ -164,16 +168,23 @@ impl<D: Device, A: Allocator + Copy> Shared<D, A> {
         self.trace.as_slice()
     }
 
-    // Whether nothing was stored, and no length set, between the last entry and the mark before it, or the start.
-    pub(crate) fn is_quiet(&self) -> bool {
-        for entry in self.trace.as_slice().iter().rev().skip(1) {
-            match &entry.reply {
-                Reply::Stored | Reply::Resized => return false,
-                Reply::Marked(_) => return true,
-                _ => {}
-            }
-        }
-        true
+    // All entries but the last.
+    fn before_last(&self) -> &[Entry]
+        requires { 0 < length self.now.trace }
+        ensures { (before : List Entry) (last : Entry) → self.now.trace ≡ before ++ last ∷ []
+            → result.now ≡ before }
+    {
+        let trace = self.trace.as_slice();
+        &trace[..trace.len() - 1]
+    }
+
+    // What the reply of the last entry raises.
+    pub(crate) fn last_raise(&self, reply: &Reply) -> Raise
+        requires { 0 < length self.now.trace }
+        ensures { (before : List Entry) (last : Entry) → self.now.trace ≡ before ++ last ∷ []
+            → result ≡ raise_by (has_unmarked before) reply.now }
+    {
+        raise_by(self.before_last(), reply)
     }
 
     // The machine and its trace.

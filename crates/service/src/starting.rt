@@ -117,9 +117,10 @@ impl<D: Device + Drop, A: Allocator + Copy, L: Origin<D>> Unstarted<D, A, L> {
         count: u8,
     ) -> Result<(Service<D, A, L>, Vec<Cpu<D, A, L>, A>), (Machine<D, A>, Blank)>
         requires fresh { IsFresh machine.state }
-        requires origin { L.start ≡ Some machine }
+        requires origin { (L.start ≡ Some machine) × (L.capacity ≡ capacity) }
         requires name { blank.name ≡ L.name }
         requires parts { (blank.parts ≡ L.parts) × (L.all ≡ L.parts) × (blank.parts ≡ count) }
+        requires all { L.all ≡ length machine.state.hardware.shootdown.processors }
         requires capacity { IsCapacity capacity × (capacity ≤ vec_capacity self.trace) }
         requires seats { vec_len self.seats ≡ count }
         ensures count { IfOk result (λ started. length started.1.items ≡ count) }
@@ -176,8 +177,9 @@ fn put_in<D: Device + Drop, A: Allocator + Copy, L: Origin<D>>(
     blank: Blank,
 ) -> Result<Share<L>, (Machine<D, A>, Blank)>
     requires fresh { IsFresh machine.state }
-    requires origin { L.start ≡ Some machine }
+    requires origin { (L.start ≡ Some machine) × (L.capacity ≡ capacity) }
     requires blank { (blank.name ≡ L.name) × (blank.parts ≡ L.parts) }
+    requires all { L.all ≡ length machine.state.hardware.shootdown.processors }
     requires trace { (trace.items ≡ []) × IsCapacity capacity × (capacity ≤ vec_capacity trace) }
     ensures opened { IfOk result (λ all. (all.parts ≡ L.parts) × (all.amount ≡ 0)) }
     ensures refused { IfErr result (λ refused. (refused.0 ≡ machine) × (refused.1 ≡ blank)) }

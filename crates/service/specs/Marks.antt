@@ -1,0 +1,43 @@
+-- How far the marks of a trace have come, read off its replies.
+use Rattle.std.specs.Prelude.{ℕ, ◌≡◌, ◌≤◌, ⊤, Bool, true, false, if◌then◌else◌, List, Option, Some, None, unwrap_or}
+use Rattle.std.specs.List.{fold}
+use Rattle.machine.specs.declared.act.Reply.{Reply}
+use Rattle.machine.specs.declared.act.Reply.TheVariants as replies
+use Rattle.service.specs.declared.entry.Entry.{Entry}
+
+-- what a reply says of stores and lengths that no mark holds yet: there are some, there are none, or nothing of them
+abbrev pub settles : Reply → Option Bool
+settles replies.Stored = Some true
+settles replies.Resized = Some true
+settles (replies.Marked number) = Some false
+settles reply = None
+
+-- whether there are some after one more reply
+abbrev pub unmarked_with : Bool → Reply → Bool
+unmarked_with unmarked reply = unwrap_or (settles reply) unmarked
+
+-- whether something was stored, or a length set, since the last mark of a trace, or since its start
+abbrev pub has_unmarked : List Entry → Bool
+has_unmarked trace = fold (λ unmarked e. unmarked_with unmarked e.reply) false trace
+
+-- the number of the last acknowledged mark after one more reply: a commit acknowledges its mark, and a mark itself
+-- where nothing was stored, and no length set, since the mark before
+abbrev pub acknowledged_with : ℕ → Bool → Reply → ℕ
+acknowledged_with number unmarked (replies.Marked new) = if unmarked then number else new
+acknowledged_with number unmarked (replies.Committed new) = new
+acknowledged_with number unmarked reply = number
+
+-- the number of the last acknowledged mark of a trace, 0 where there is none, and whether something is unmarked
+abbrev pub marks_of : List Entry → ℕ × Bool
+marks_of trace =
+    fold (λ marks e. (acknowledged_with marks.0 marks.1 e.reply, unmarked_with marks.1 e.reply)) (0, false) trace
+
+abbrev pub last_acknowledged : List Entry → ℕ
+last_acknowledged trace = (marks_of trace).0
+
+-- the horizon has reached the mark that a reply makes or acknowledges, where something was unmarked before it or not
+abbrev pub HasReached : Bool → Reply → ℕ → ℕ → Type 0
+HasReached unmarked (replies.Marked number) stalled committed =
+    (number ≤ stalled) × (unmarked ≡ false → number ≤ committed)
+HasReached unmarked (replies.Committed number) stalled committed = (number ≤ stalled) × (number ≤ committed)
+HasReached unmarked reply stalled committed = ⊤

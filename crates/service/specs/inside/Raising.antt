@@ -1,0 +1,18 @@
+-- How far one reply raises the horizon.
+use Rattle.std.specs.Prelude.{ℕ, ◌≤◌, ⊤, Bool, if◌then◌else◌}
+use Rattle.machine.specs.declared.act.Reply.{Reply}
+use Rattle.machine.specs.declared.act.Reply.TheVariants as replies
+use Rattle.service.specs.declared.raising.Raise.{Raise}
+use Rattle.service.specs.declared.raising.Raise.TheVariants as raises
+
+-- a mark raises `stalled`, and `committed` with it where nothing was unmarked; a commit raises both
+abbrev pub raise_by : Bool → Reply → Raise
+raise_by unmarked (replies.Marked number) = if unmarked then raises.Stalled number else raises.Committed number
+raise_by unmarked (replies.Committed number) = raises.Committed number
+raise_by unmarked reply = raises.Nothing
+
+-- the horizon has reached this
+abbrev pub Reaches : Raise → ℕ → ℕ → Type 0
+Reaches raises.Nothing stalled committed = ⊤
+Reaches (raises.Stalled number) stalled committed = number ≤ stalled
+Reaches (raises.Committed number) stalled committed = (number ≤ stalled) × (number ≤ committed)

@@ -1,0 +1,58 @@
+// How far the horizon is raised: by the last entry of the trace, and by what of the trace no mark holds yet.
+ghost use Rattle.std.specs.Prelude.{◌≡◌};
+ghost use Rattle.service.specs.Marks.{settles, has_unmarked};
+ghost use Rattle.service.specs.inside.Raising.{raise_by};
+
+use crate::Entry;
+use machine::Reply;
+
+// Nothing, the number of the last mark, or both numbers, to that of a mark that is acknowledged.
+#[derive(Clone, Copy)]
+pub(crate) enum Raise {
+    Nothing,
+    Stalled(u64),
+    Committed(u64),
+}
+
+// What a reply says of stores and lengths that no mark holds yet.
+fn settles(reply: &Reply) -> Option<bool>
+    ensures { result ≡ settles reply.now }
+{
+    match reply {
+        Reply::Stored | Reply::Resized => Some(true),
+        Reply::Marked(_) => Some(false),
+        _ => None,
+    }
+}
+
+// Whether something was stored, or a length set, since the last mark of these entries, or since their start.
+pub(crate) fn has_unmarked(trace: &[Entry]) -> bool
+    ensures { result ≡ has_unmarked trace.now }
+{
+    let mut left = trace.len();
+    while left > 0 {
+        left -= 1;
+        match settles(&trace[left].reply) {
+            Some(unmarked) => return unmarked,
+            None => {}
+        }
+    }
+    false
+}
+
+// What a reply raises after these entries.
+pub(crate) fn raise_by(before: &[Entry], reply: &Reply) -> Raise
+    ensures { result ≡ raise_by (has_unmarked before.now) reply.now }
+{
+    match reply {
+        Reply::Marked(mark) => {
+            if has_unmarked(before) {
+                Raise::Stalled(u64::from(*mark))
+            } else {
+                Raise::Committed(u64::from(*mark))
+            }
+        }
+        Reply::Committed(mark) => Raise::Committed(u64::from(*mark)),
+        _ => Raise::Nothing,
+    }
+}
