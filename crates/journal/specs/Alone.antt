@@ -1,5 +1,5 @@
--- How the write-out of one batch, alone in its volume, stands with the device: what has led there, from a volume at rest
--- on. Old is what the volume holds before the write-out, New the same with the batch's blocks.
+-- How the write-out of one batch, alone in its volume, stands with the device: what has led there, from a volume at
+-- rest on. Old is what the volume holds before the write-out, New the same with the batch's blocks.
 use Rattle.std.specs.Prelude.{ℕ, ◌≡◌, ◌⊎◌, false, List, [], length, Contains, Some, IsSome}
 use Rattle.device.specs.Device.{Only}
 use Rattle.device.specs.Did.{Did}

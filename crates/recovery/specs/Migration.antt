@@ -39,8 +39,8 @@ pub record IsFilled {D : Type 0} (disk : Ghosts D) (volume : VolumeState D) (tab
   pub tails : disk.is_honest volume.device → AreZeroPast table volume.lengths bytes
 
 -- What a crash leaves of a volume that is being made from this one, on a device that might have been left as one of
--- these lists: such a list, with other bytes in the volume's blocks alone. Block 0 is as it was, or else all the rest is
--- filled.
+-- these lists: such a list, with other bytes in the volume's blocks alone. Block 0 is as it was, or else all the rest
+-- is filled.
 pub record IsPartlyMigrated {D : Type 0} (disk : Ghosts D) (volume : VolumeState D) (table : SuperValue)
     (lists : List ℕ → Type 0) (c : List ℕ) : Type 0 where
   pub before : List ℕ

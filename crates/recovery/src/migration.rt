@@ -164,9 +164,9 @@ fn copy_files<D: Device, E: Device, A: Allocator + Copy>(
 ///
 /// The volume isn't written at any moment, whatever the other device is and whatever is answered. What lies past the new
 /// volume stays. The new volume is laid out as `format_as` does it, then the files are copied, 32,768 bytes at a time
-/// and each up to its length, and both are synced before the super block is written and synced. A crash meanwhile leaves
-/// block 0 of the other device as it was, or any bytes in it and all the rest of the volume filled: the lengths, the
-/// files' bytes with zeros past them, and closed gates.
+/// and each up to its length, and both are synced before the super block is written and synced. A crash meanwhile
+/// leaves block 0 of the other device as it was, or any bytes in it and all the rest of the volume filled: the
+/// lengths, the files' bytes with zeros past them, and closed gates.
 pub fn migrate<D: Device, E: Device, A: Allocator + Copy>(
     alloc: A,
     old: &mut Volume<D, A>,
