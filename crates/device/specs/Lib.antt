@@ -6,6 +6,7 @@ pub mod Work
 pub mod Did
 pub mod Failing
 pub mod File
+pub mod Lent
 pub mod Memory
 pub mod Overlay
 pub mod inside

@@ -4,7 +4,6 @@ pub mod Codes
 pub mod Deferring
 pub mod Fitted
 pub mod Laws
-pub mod Lent
 pub mod Logged
 pub mod Replay
 pub mod Spoiling

@@ -7,7 +7,7 @@ ghost use Rattle.device.specs.Memory.{seen_of};
 ghost use Rattle.device.specs.Memory.DiskChange.{write, sync};
 ghost use Rattle.device.specs.Deferred.{deferred, as_recorded, carried_out, block_of, with_known, first_block, end_block, lacked_by_read, lacked_by_write, IsSuppliedWell, after_read, after_write, after_sync, after_refusal, after_supply, after_forget, reaches, one_reaches, with_waiting, oldest, work_of};
 ghost use Rattle.device.specs.Work.{TornByWork};
-ghost use Rattle.device.specs.inside.Lent.{change_lent};
+ghost use Rattle.device.specs.Lent.{change_lent};
 ghost use Rattle.device.specs.inside.Logged.{change_of, changes_of};
 ghost use Rattle.device.specs.inside.Replay.{AreWithin};
 
