@@ -54,6 +54,7 @@ pub use Rattle.journal.specs.inside.Sound.{AreInOrder, IsOlder}
 pub use Rattle.journal.specs.inside.Standing.{IsStanding}
 pub use Rattle.journal.specs.inside.Tied.{IsTied}
 pub use Rattle.machine.specs.Calls.{CallsOf, Counts, has_failed}
+pub use Rattle.machine.specs.Devices.{DeviceAfterFix, DeviceAfter}
 pub use Rattle.machine.specs.Crashes.{Begins, StepIsSafe, Throughout}
 pub use Rattle.machine.specs.Durability.{AreFrozenProtected, HasPart, IsInFile, file_homes, frozen_homes}
 pub use Rattle.machine.specs.Durability.{waiting_homes}

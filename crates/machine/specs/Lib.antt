@@ -3,6 +3,7 @@ pub mod State
 pub mod Refusals
 pub mod Rules
 pub mod Calls
+pub mod Devices
 pub mod History
 pub mod Told
 pub mod Laws

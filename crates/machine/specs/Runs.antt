@@ -6,14 +6,16 @@ use Rattle.machine.specs.declared.act.Step.{Step}
 use Rattle.machine.specs.State.{Whole}
 use Rattle.machine.specs.Rules.{Rules}
 use Rattle.machine.specs.Calls.{CallsOf}
+use Rattle.machine.specs.Devices.{DeviceAfter}
 use Rattle.machine.specs.Steps.{StepMade}
 
 -- One step of a machine over any device, honest or not: there are bytes for which the rules hold, and of an honest
--- device they are its own; its device calls, and those that failed.
+-- device they are its own; the device after it; its device calls, and those that failed.
 pub record StepTaken {D : Type 0} (disk : Ghosts D) (old : Whole D) (step : Step) (reply : Reply)
     (new : Whole D) : Type 0 where
   pub answered : (d d' : List ℕ) × Rules old.state d step reply new.state d'
   pub made : disk.is_honest old.device → StepMade disk old step reply new
+  pub device : DeviceAfter disk old.state step.p step.act reply old.device new.device
   pub calls : CallsOf old.state step.p step.act reply (disk.calls_made old.device) (disk.calls_made new.device)
       (disk.faults_met old.device) (disk.faults_met new.device)
   pub honest : disk.is_honest new.device ↔ disk.is_honest old.device

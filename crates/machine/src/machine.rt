@@ -9,6 +9,7 @@ ghost use Rattle.machine.specs.Calls.{CallsOf};
 ghost use Rattle.machine.specs.Rules.{Rules, WantsMemory};
 ghost use Rattle.machine.specs.Runs.{StepsTaken};
 ghost use Rattle.machine.specs.Steps.{StepMade};
+ghost use Rattle.machine.specs.Devices.{DeviceAfter};
 ghost use Rattle.machine.specs.inside.Layers.{reply_to};
 ghost use Rattle.machine.specs.inside.Booting.{IsRoom};
 
@@ -154,6 +155,8 @@ impl<D: Device, A: Allocator + Copy> Machine<D, A> {
         // Over any device there are bytes for which the rules hold.
         ensures rules { (disk disk' : List ℕ) × Rules self.old.state disk step.now result self.new.state disk' }
         ensures made { D.is_honest self.old.device → StepMade D.Device self.old step.now result self.new }
+        ensures device { DeviceAfter D.Device self.old.state step.now.p step.now.act result self.old.device
+            self.new.device }
         ensures calls { CallsOf self.old.state step.now.p step.now.act result (D.calls_made self.old.device)
             (D.calls_made self.new.device) (D.faults_met self.old.device) (D.faults_met self.new.device) }
         ensures honest { D.is_honest self.new.device ↔ D.is_honest self.old.device }

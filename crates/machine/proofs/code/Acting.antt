@@ -3,8 +3,8 @@ use Rattle.machine.proofs.Names.{ℕ, ◌≡◌, ◌≢◌, ◌+◌, ◌-◌, �
 use Rattle.machine.proofs.Names.{Result, Ok, Err, is_err, is_none, refl, sym, ap, ◌∙◌, subst, arith, raised, LeavesOnly}
 use Rattle.machine.proofs.Names.{Ghosts, Did, leaves_at_start, Refusal, Work, WriteAt, CopyBlock, Sync, Nothing}
 use Rattle.machine.proofs.Names.{TornFromWork, calls_of, ReadsOnce, Act, Reply, Step, Layers, State, reason_against, Acts}
-use Rattle.machine.proofs.Names.{Answers, CallsOf, Counts, reads_page, has_failed}
-use Rattle.machine.proofs.Names.{step_work, state_in, AnswersBy, KeepsReserved, IsQuiet, ActDone}
+use Rattle.machine.proofs.Names.{Answers, CallsOf, Counts, DeviceAfterFix, DeviceAfter, reads_page, has_failed}
+use Rattle.machine.proofs.Names.{step_work, state_in, AnswersBy, KeepsReserved, IsQuiet, ActDone, false≢true}
 use Rattle.page_entry.specs.declared.refusal.Refusal.TheVariants as refusals
 use Rattle.machine.specs.declared.act.Act.TheVariants as acts
 use Rattle.machine.specs.declared.act.Reply.TheVariants as replies
@@ -26,9 +26,10 @@ module _ {D Z : Type 0} (disk : Ghosts D) (since_now : SinceNow disk) (old new :
   still_done : (p : ℕ) (act : Act) (reply : Reply)
       → AnswersBy (disk.is_honest old.device) (λ d d'. Acts (state_in old) d p act reply (state_in new) d') (disk.seen old.device) (disk.seen new.device)
       → new.device ≡ old.device → step_work (state_in old) act reply ≡ Nothing
+      → DeviceAfter disk (state_in old) p act reply old.device old.device
       → CallsOf (state_in old) p act reply (disk.calls_made old.device) (disk.calls_made old.device) (disk.faults_met old.device) (disk.faults_met old.device)
       → KeepsReserved old new → ActDone disk old (record { p = p; act = act }) reply new
-  still_done p act reply rules same work calls kept = record {
+  still_done p act reply rules same work after calls kept = record {
     rules = rules;
     left = λ c may. subst (λ (w : Work). TornFromWork w (disk.may_leave old.device) c) (sym work) (subst (λ (x : D). disk.may_leave x c) same may);
     sure = λ honest other sync. absurd (let both = sym work ∙ sync in cc);
@@ -37,6 +38,7 @@ module _ {D Z : Type 0} (disk : Ghosts D) (since_now : SinceNow disk) (old new :
         (subst (λ (w : Work). LeavesOnly disk.moment disk.left_since old.device old.device (TornFromWork w (disk.may_leave old.device))) (sym work) (leaves_at_start (λ c left. since_now old.device c left)));
     honest = (λ h. subst disk.is_honest same h, λ h. subst disk.is_honest (sym same) h);
     len = ap (λ (x : D). length (disk.seen x)) same;
+    device = subst (λ (x : D). DeviceAfter disk (state_in old) p act reply old.device x) (sym same) after;
     calls = subst (λ (x : D). CallsOf (state_in old) p act reply (disk.calls_made old.device) (disk.calls_made x) (disk.faults_met old.device) (disk.faults_met x)) (sym same) calls;
     kept = kept;
   }
@@ -44,13 +46,14 @@ module _ {D Z : Type 0} (disk : Ghosts D) (since_now : SinceNow disk) (old new :
   pub quiet_done : (step : Step) (act : Act) → step.act ≡ act → (reply : Reply) → IsQuiet old new
       → ((d : List ℕ) → Acts (state_in old) d step.p act reply (state_in new) d)
       → step_work (state_in old) act reply ≡ Nothing
+      → ((device : D) → DeviceAfter disk (state_in old) step.p act reply device device)
       → ((calls faults : ℕ) → CallsOf (state_in old) step.p act reply calls calls faults faults)
       → ActDone disk old step reply new
-  quiet_done step act is reply quiet rules work counts =
+  quiet_done step act is reply quiet rules work after counts =
       act_as disk old new step act reply is (still_done step.p act reply (record {
         some_disk = ([], [], rules []);
         own_disk = λ h. subst (λ (x : D). Acts (state_in old) (disk.seen old.device) step.p act reply (state_in new) (disk.seen x)) (sym quiet.same_device) (rules (disk.seen old.device));
-      }) quiet.same_device work (counts _ _) (record { same_table = quiet.same_table; still_reserved = quiet.still_reserved }))
+      }) quiet.same_device work (after _) (counts _ _) (record { same_table = quiet.same_table; still_reserved = quiet.still_reserved }))
 
 -- ---- a step of the write-outs
 
@@ -93,6 +96,7 @@ flush_done {D} disk old new step reply is rules did kept =
       time = did.time;
       honest = did.honest;
       len = did.same_length;
+      device = λ none. did.still none;
       calls = (
         counts_by disk old.device new.device (step_work (state_in old) acts.Flush reply) (has_failed reply) did,
         faults_by disk old.device new.device (step_work (state_in old) acts.Flush reply) (has_failed reply) did,
@@ -132,6 +136,7 @@ fix_done {D} disk since_now old new step va write result is rules fixed untouche
         → ActDone disk old (record { p = step.p; act = acts.Fix va write }) (reply_to result) new
     by false e =
         still_done disk since_now old new step.p (acts.Fix va write) (reply_to result) rules (untouched e) refl
+        (subst (λ b. DeviceAfterFix disk b (reply_to result) old.device old.device) (sym e) (record { untouched = λ _. refl; read = λ reads. absurd (false≢true reads) }))
         (subst (λ b. FixCalls b (reply_to result) (disk.calls_made old.device) (disk.calls_made old.device) (disk.faults_met old.device) (disk.faults_met old.device)) (sym e)
         (refl, refl)) kept
     by true e =
@@ -145,6 +150,10 @@ fix_done {D} disk since_now old new step va write result is rules fixed untouche
           time = made.time;
           honest = made.honest;
           len = made.len;
+          device = subst (λ b. DeviceAfterFix disk b (reply_to result) old.device new.device) (sym e) (record {
+            untouched = λ other. absurd (false≢true (sym other));
+            read = λ _. subst (λ b. ReadsOnce disk.seen disk.may_leave disk.is_honest disk.moment disk.left_since disk.calls_made disk.faults_met b old.device new.device) failed made;
+          });
           calls = subst (λ b. FixCalls b (reply_to result) (disk.calls_made old.device) (disk.calls_made new.device) (disk.faults_met old.device) (disk.faults_met new.device)) (sym e)
               (made.one_call, made.one_fault ∙ ap (λ b. cond b (raised (disk.faults_met old.device)) (disk.faults_met old.device)) failed);
           kept = kept;

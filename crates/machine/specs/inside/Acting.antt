@@ -14,6 +14,7 @@ use Rattle.machine.specs.declared.layers.Layers.{Layers}
 use Rattle.machine.specs.Rules.{Rules}
 use Rattle.machine.specs.Calls.{CallsOf, has_failed}
 use Rattle.machine.specs.Steps.{step_work}
+use Rattle.machine.specs.Devices.{DeviceAfter}
 use Rattle.machine.specs.inside.Layers.{state_in, AnswersBy, KeepsReserved}
 
 pub record ActDone {D Z : Type 0} (disk : Ghosts D) (old : Layers D Z) (step : Step) (reply : Reply)
@@ -31,6 +32,7 @@ pub record ActDone {D Z : Type 0} (disk : Ghosts D) (old : Layers D Z) (step : S
       → disk.calls_made new.device ≡ disk.calls_made old.device + 1 → disk.seen new.device ≡ disk.seen old.device
   pub honest : disk.is_honest new.device ↔ disk.is_honest old.device
   pub len : length (disk.seen new.device) ≡ length (disk.seen old.device)
+  pub device : DeviceAfter disk (state_in old) step.p step.act reply old.device new.device
   pub calls : CallsOf (state_in old) step.p step.act reply (disk.calls_made old.device) (disk.calls_made new.device)
       (disk.faults_met old.device) (disk.faults_met new.device)
   pub kept : KeepsReserved old new

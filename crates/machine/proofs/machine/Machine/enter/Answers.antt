@@ -7,7 +7,7 @@ use Rattle.machine.proofs.code.Runs.{steps_more}
 module _ (g : _) (c : goal.After-step g) where
   -- the step was taken
   taken : StepTaken g.D.Device c.args.self.now c.args.step.now c.step.result c.step.new.self
-  taken = record { answered = c.step.ensures.rules; made = c.step.ensures.made; calls = c.step.ensures.calls; honest = c.step.ensures.honest; len = c.step.ensures.len }
+  taken = record { answered = c.step.ensures.rules; made = c.step.ensures.made; device = c.step.ensures.device; calls = c.step.ensures.calls; honest = c.step.ensures.honest; len = c.step.ensures.len }
 
 pub returns-clause-longer : goal.returns-clause-longer
 returns-clause-longer g c = λ start steps replies before. steps_more g.D.Device start steps replies c.args.self.now c.args.step.now c.step.result c.step.new.self before (taken g c)

@@ -15,7 +15,7 @@ loop-i-preserved g c =
     let replies : take (i + 1) (set c.loop-i.replies i c.step.result) ≡ take i c.loop-i.replies ++ c.step.result ∷ [] = grind (arith, common_steps) in
     record {
       taken = rw (steps, replies) (steps_more g.D.Device c.args.self.now _ _ c.loop-i.self _ c.step.result c.step.new.self c.loop-i.invariant.taken
-          (record { answered = c.step.ensures.rules; made = c.step.ensures.made; calls = c.step.ensures.calls; honest = c.step.ensures.honest; len = c.step.ensures.len }));
+          (record { answered = c.step.ensures.rules; made = c.step.ensures.made; device = c.step.ensures.device; calls = c.step.ensures.calls; honest = c.step.ensures.honest; len = c.step.ensures.len }));
       within = omega arith;
     }
 

@@ -1,5 +1,5 @@
 use Rattle.machine.proofs.Names.{ℕ, ◌≡◌, List, sym, subst, Reply, Whole, Rules, WantsMemory, StepMade, state_in}
-use Rattle.machine.proofs.Names.{whole_in, ActDone}
+use Rattle.machine.proofs.Names.{whole_in, ActDone, DeviceAfter}
 use Rattle.page_entry.specs.declared.refusal.Refusal.TheVariants as refusals
 use Rattle.machine.specs.declared.act.Reply.TheVariants as replies
 use Rattle.machine.proofs.machine.Machine.step.Goals as goal
@@ -22,6 +22,10 @@ returns-clause-made g c =
     subst (λ (w : Whole g.row.D.Denot). g.D.Device.is_honest w.device
     → StepMade g.D.Device w c.args.step.now c.reply_to.result (whole_in c.act.new.self)) c.self.view_is
     (step_made g.D.Device c.self.inside.layers c.act.new.self c.args.step.now c.reply_to.result (done g c))
+
+pub returns-clause-device : goal.returns-clause-device
+returns-clause-device g c =
+    subst (λ (w : Whole g.row.D.Denot). DeviceAfter g.D.Device w.state c.args.step.now.p c.args.step.now.act c.reply_to.result w.device c.act.new.self.device) c.self.view_is (done g c).device
 
 pub returns-clause-not_full : goal.returns-clause-not_full
 returns-clause-not_full g c = not_full g.D.Device c.self.inside.layers c.act.new.self c.args.step.now c.reply_to.result (done g c)
