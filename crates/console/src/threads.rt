@@ -3,7 +3,7 @@
 use crate::failure::Failure;
 use crate::printer::is_failure;
 use crate::shape::{NotBooted, ShapeCause, refused_to_run};
-use driver::{NotRun, Ran, run_programs};
+use driver::{Ended, NotRun, Ran, run_programs};
 use page_entry::Refusal;
 use scripts::{ScriptFault, ThreadScript};
 use service::Entry;
@@ -44,11 +44,11 @@ where
             let Ran {
                 device,
                 trace,
-                ran_out,
+                ended,
             } = ran;
             *note = device.into_file().into_note(mark);
             print_trace(rt.alloc(), &programs, &trace, out)?;
-            outcome(script, &trace, ran_out)
+            outcome(script, &trace, ended)
         }
         Err(refused) => Err(refused_to_thread(
             rt.alloc(),
@@ -91,8 +91,8 @@ fn print_trace<'a, W: io::Write>(
 }
 
 // How programs ended whose trace was printed: a wait ran out, an act was answered that the device failed, or neither.
-fn outcome<'a>(path: &'a str, trace: &[Entry], ran_out: bool) -> Result<(), Failure<'a>> {
-    if ran_out {
+fn outcome<'a>(path: &'a str, trace: &[Entry], ended: Ended) -> Result<(), Failure<'a>> {
+    if ended == Ended::RanOut {
         return Err(Failure::Wait { path });
     }
     match trace.iter().position(|entry| is_failure(&entry.reply)) {

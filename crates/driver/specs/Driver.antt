@@ -1,5 +1,5 @@
 -- Programs are run on a machine that was booted over a device: what is left of them, and why there is nothing.
-use Rattle.std.specs.Prelude.{ℕ, ◌≡◌, List, Option, Some, None, ⊤}
+use Rattle.std.specs.Prelude.{ℕ, ◌≡◌, ◌≢◌, List, Option, Some, None, ⊤}
 use Rattle.device.specs.declared.device.Device.{Ghosts}
 use Rattle.machine.specs.declared.act.Reply.{Reply}
 use Rattle.machine.specs.declared.act.Shape.{Shape}
@@ -7,8 +7,16 @@ use Rattle.machine.specs.declared.act.Step.{Step}
 use Rattle.machine.specs.State.{Whole}
 use Rattle.engine.specs.Engine.{HasNotStarted, HasRun, HasStarted}
 use Rattle.service.specs.Serving.{RefusesCapacity}
+use Rattle.driver.specs.declared.running.Ended.{Ended}
+use Rattle.driver.specs.declared.running.Ended.TheVariants as ended
 use Rattle.driver.specs.declared.running.NotRun.{NotRun}
 use Rattle.driver.specs.declared.running.NotRun.TheVariants.{Start, Share, Gather}
+
+-- how threads can have ended whose trace may have this many entries and has so many
+abbrev pub IsEnd : ℕ → ℕ → Ended → Type 0
+IsEnd capacity entries ended.Done = entries ≢ capacity
+IsEnd capacity entries ended.Full = entries ≡ capacity
+IsEnd capacity entries ended.RanOut = ⊤
 
 -- whatever this machine was booted over, these steps of it, answered so, are a run that left this device
 abbrev pub RunsFrom : {D : Type 0} → Ghosts D → Whole D → List Step → List Reply → D → Type 0

@@ -1,4 +1,5 @@
 // One act of a processor, made again for as long as it has to wait for other processors.
+ghost use Rattle.std.specs.Prelude.{◌≡◌, IfErr};
 
 use device::Device;
 use machine::{Act, ProcState, Reply};
@@ -84,7 +85,9 @@ fn called<D: Device, L: Origin<D>, R: Wait>(
     rt: &R,
     cpu: &mut Cpu<D, Global, L>,
     act: &Act,
-) -> Result<Reply, Stop> {
+) -> Result<Reply, Stop>
+    ensures { IfErr result (λ why. why ≡ Stop.Full) }
+{
     match cpu.call(rt, *act) {
         Reply::Refused(Refusal::TraceFull) => Err(Stop::Full),
         reply => Ok(reply),
@@ -97,7 +100,9 @@ pub fn waited<D: Device, L: Origin<D>, R: Wait>(
     cpu: &Cpu<D, Global, L>,
     seen: u64,
     turns: u64,
-) -> Result<(), Stop> {
+) -> Result<(), Stop>
+    ensures { IfErr result (λ why. why ≡ Stop.RanOut) }
+{
     if cpu.wait(rt, seen, turns) {
         Ok(())
     } else {

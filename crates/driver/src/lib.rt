@@ -7,4 +7,4 @@ mod acts;
 mod commands;
 mod running;
 
-pub use running::{NotRun, Ran, run_programs};
+pub use running::{Ended, NotRun, Ran, run_programs};

@@ -1,10 +1,11 @@
 // Programs are run over a disk: a machine is booted over its volume and shared, and each thread has a processor of it.
-ghost use Rattle.std.specs.Prelude.{ℕ, ◌≡◌, length, Some, IfOk, IfErr};
+ghost use Rattle.std.specs.Prelude.{ℕ, ◌≡◌, ◌↔◌, length, Some, IsTrue, IfOk, IfErr};
 ghost use Rattle.engine.specs.Engine.{HasRun};
 ghost use Rattle.machine.specs.Fresh.{IsFresh};
 ghost use Rattle.machine.specs.State.{Whole};
 ghost use Rattle.service.specs.Trace.{steps_of, replies_of};
-ghost use Rattle.driver.specs.Driver.{RunsFrom, IsLeft, HasNotShared, HasNotRun};
+ghost use Rattle.driver.specs.declared.running.Ended.{Ended};
+ghost use Rattle.driver.specs.Driver.{RunsFrom, IsEnd, IsLeft, HasNotShared, HasNotRun};
 
 use crate::acts::Stop;
 use crate::commands::worked;
@@ -26,8 +27,18 @@ use std::thread::{Threads, for_each_mut};
 pub struct Ran<D> {
     pub device: D,
     pub trace: Vec<Entry>,
-    /// Whether a thread ended since a wait of it ran out.
-    pub ran_out: bool,
+    pub ended: Ended,
+}
+
+/// How the threads ended.
+#[derive(Clone, Copy, Debug, PartialEq, Eq)]
+pub enum Ended {
+    /// No wait ran out, and the trace has room for more.
+    Done,
+    /// No wait ran out, and the trace is full.
+    Full,
+    /// A wait ran out, whether the trace is full or not.
+    RanOut,
 }
 
 /// Why there is no trace.
@@ -59,6 +70,7 @@ pub fn run_programs<D: Device + Send + Drop, R: Threads + Wait + Sync>(
 ) -> Result<Ran<D>, NotRun<D>>
     ensures ran { IfOk result (λ ran. HasRun D.Device device script.now.shape (steps_of ran.trace.items)
         (replies_of ran.trace.items) ran.device) }
+    ensures ended { IfOk result (λ ran. IsEnd script.now.trace (length ran.trace.items) ran.ended) }
     ensures refused { IfErr result (HasNotRun D.Device device script.now.shape script.now.trace) }
 {
     match start(alloc, device, script.shape) {
@@ -81,6 +93,7 @@ fn named<D: Device + Send + Drop, R: Threads + Wait + Sync>(
     requires fresh { IsFresh machine.state }
     ensures ran { IfOk result (λ ran. RunsFrom D.Device machine (steps_of ran.trace.items)
         (replies_of ran.trace.items) ran.device) }
+    ensures ended { IfOk result (λ ran. IsEnd script.now.trace (length ran.trace.items) ran.ended) }
     ensures refused { IfErr result (HasNotShared D.Device machine script.now.trace) }
 {
     let blank = Blank::new(u64::from(machine.processors()));
@@ -96,19 +109,20 @@ fn serve<D: Device + Send + Drop, L: Origin<D> + Send + Sync, R: Threads + Wait 
     blank: Blank,
 ) -> Result<Ran<D>, NotRun<D>>
     requires fresh { IsFresh machine.state }
-    requires origin { L.start ≡ Some machine }
+    requires origin { (L.start ≡ Some machine) × (L.capacity ≡ script.now.trace) }
     requires name { blank.name ≡ L.name }
     requires parts { (blank.parts ≡ L.parts) × (L.all ≡ L.parts)
         × (blank.parts ≡ length machine.state.hardware.shootdown.processors) }
     ensures ran { IfOk result (λ ran. RunsFrom D.Device machine (steps_of ran.trace.items)
         (replies_of ran.trace.items) ran.device) }
+    ensures ended { IfOk result (λ ran. IsEnd script.now.trace (length ran.trace.items) ran.ended) }
     ensures refused { IfErr result (HasNotShared D.Device machine script.now.trace) }
 {
     match Service::<D, Global, L>::start(alloc, alloc, machine, script.trace, blank) {
         Ok((service, mut cpus)) => {
             make_steps(rt, &mut cpus, &script.steps);
             let ran_out = run_threads(rt, &mut cpus, &script.programs, turns);
-            gathered(rt, service, cpus, ran_out)
+            gathered(rt, service, cpus, script.trace, ran_out)
         }
         Err((refusal, machine, _)) => Err(NotRun::Share(refusal, machine.into_device())),
     }
@@ -160,26 +174,43 @@ fn run_program<D: Device, L: Origin<D>, R: Wait>(
     }
 }
 
+// How threads ended whose trace may have this many entries and has so many.
+fn end_of(ran_out: bool, entries: u64, capacity: u64) -> Ended
+    ensures end { IsEnd capacity entries result }
+    ensures ran_out { IsTrue ran_out ↔ (result ≡ Ended.RanOut) }
+{
+    if ran_out {
+        Ended::RanOut
+    } else if entries == capacity {
+        Ended::Full
+    } else {
+        Ended::Done
+    }
+}
+
 // Takes the machine and the trace out of the service.
 fn gathered<D: Device + Drop, L: Origin<D>, R: Wait>(
     rt: &R,
     service: Service<D, Global, L>,
     cpus: Vec<Cpu<D, Global, L>>,
+    capacity: u64,
     ran_out: bool,
 ) -> Result<Ran<D>, NotRun<D>>
     requires { L.all ≡ L.parts }
     ensures ran { IfOk result (λ ran. (start : Whole D) → L.start ≡ Some start
         → RunsFrom D.Device start (steps_of ran.trace.items) (replies_of ran.trace.items) ran.device) }
+    ensures ended { IfOk result (λ ran. IsEnd capacity (length ran.trace.items) ran.ended) }
     ensures refused { IfErr result (λ refused. (start : Whole D) → L.start ≡ Some start → (capacity : ℕ)
         → HasNotShared D.Device start capacity refused) }
 {
     match service.gather(rt, cpus) {
         Ok((machine, trace)) => {
             ran_since_start(&machine);
+            let ended = end_of(ran_out, trace.len() as u64, capacity);
             Ok(Ran {
                 device: machine.into_device(),
                 trace,
-                ran_out,
+                ended,
             })
         }
         Err((refusal, service, _)) => Err(NotRun::Gather(refusal, abandoned(rt, service))),

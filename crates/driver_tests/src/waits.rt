@@ -1,6 +1,6 @@
 // Waits that run out, and refusals, which hand the disk back.
 use device::{Device, MemDisk};
-use driver::{NotRun, Ran, run_programs};
+use driver::{Ended, NotRun, Ran, run_programs};
 use page_entry::Refusal;
 use recovery::format_as;
 use scripts::ThreadScript;
@@ -60,10 +60,10 @@ const ASLEEP: &str =
 #[test]
 fn a_wait_that_runs_out_ends_the_thread(rt: HostRuntime) {
     let awaited = ran(&rt, AWAITED);
-    assert!(rt; awaited.ran_out);
+    assert!(rt; awaited.ended == Ended::RanOut);
     assert!(rt; awaited.trace.len() == 6);
     let asleep = ran(&rt, ASLEEP);
-    assert!(rt; asleep.ran_out);
+    assert!(rt; asleep.ended == Ended::RanOut);
     assert!(rt; asleep.trace.len() == 2);
     assert!(rt; asleep.device.len() == BYTES);
 }
@@ -95,5 +95,33 @@ const ONE_WAITS: &str =
 
 #[test]
 fn one_thread_waits_in_vain(rt: HostRuntime) {
-    assert!(rt; ran(&rt, ONE_WAITS).ran_out);
+    assert!(rt; ran(&rt, ONE_WAITS).ended == Ended::RanOut);
+}
+
+// The trace has room for one of the two steps, for both, or for more than the program makes.
+const FULL_IN_THE_STEPS: &str =
+    r#"{"cpus":1,"tlb":2,"frames":4,"copies":0,"trace":1,"steps":[[0,"create"],[0,"switch",1,"drop"]],"programs":[[]]}"#;
+
+const FULL_IN_THE_PROGRAM: &str =
+    r#"{"cpus":1,"tlb":2,"frames":4,"copies":0,"trace":3,"steps":[[0,"create"],[0,"switch",1,"drop"]],"programs":[[]]}"#;
+
+const NOT_FULL: &str =
+    r#"{"cpus":1,"tlb":2,"frames":4,"copies":0,"trace":5,"steps":[[0,"create"],[0,"switch",1,"drop"]],"programs":[[]]}"#;
+
+// Whether so many entries were made, and the threads ended so.
+fn ends<R: Threads + Wait + Sync + Abort + AllocGlobal>(
+    rt: &R,
+    text: &str,
+    entries: usize,
+    ended: Ended,
+) -> bool {
+    let ran = ran(rt, text);
+    ran.trace.len() == entries && ran.ended == ended
+}
+
+#[test]
+fn a_full_trace_is_told_apart_from_a_wait_that_ran_out(rt: HostRuntime) {
+    assert!(rt; ends(&rt, FULL_IN_THE_STEPS, 1, Ended::Full));
+    assert!(rt; ends(&rt, FULL_IN_THE_PROGRAM, 3, Ended::Full));
+    assert!(rt; ends(&rt, NOT_FULL, 4, Ended::Done));
 }

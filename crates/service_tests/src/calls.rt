@@ -144,10 +144,10 @@ fn refused<L: Origin<Disk>, R: Wait + Abort>(
     }
 }
 
-// Fills a trace, and gathers the service with one processor, with the other, and with both.
+// Fills a trace, and gathers the service with one processor, and with both.
 fn serve_three<L: Origin<Disk>, R: Wait + Abort + AllocGlobal>(rt: &R, machine: Trial, blank: Blank)
     requires fresh { IsFresh machine.state }
-    requires origin { L.start ≡ Some machine }
+    requires origin { (L.start ≡ Some machine) × (L.capacity ≡ 3) }
     requires name { blank.name ≡ L.name }
     requires parts { (blank.parts ≡ L.parts) × (L.all ≡ L.parts)
         × (blank.parts ≡ length machine.state.hardware.shootdown.processors) }
@@ -162,6 +162,38 @@ fn serve_three<L: Origin<Disk>, R: Wait + Abort + AllocGlobal>(rt: &R, machine: 
     let (mut machine, trace) = gathered(rt, service, cpus);
     assert!(rt; is_of_three(trace.as_slice()));
     assert!(rt; is_after_three(&mut machine));
+}
+
+// Makes one call, and gathers the service without the processor that made none, and with both.
+fn serve_one<L: Origin<Disk>, R: Wait + Abort + AllocGlobal>(rt: &R, machine: Trial, blank: Blank)
+    requires fresh { IsFresh machine.state }
+    requires origin { (L.start ≡ Some machine) × (L.capacity ≡ 3) }
+    requires name { blank.name ≡ L.name }
+    requires parts { (blank.parts ≡ L.parts) × (L.all ≡ L.parts)
+        × (blank.parts ≡ length machine.state.hardware.shootdown.processors) }
+{
+    let (service, mut cpus) = started::<L, R>(rt, machine, 3, blank);
+    let idle = cpus.pop().expect(rt, "a processor");
+    assert!(rt; idle.calls() == 0 && cpus.len() == 1);
+    assert!(rt; cpus[0].call(rt, Act::Create) == Reply::Space(1));
+    let (service, mut cpus) = refused(rt, service, cpus);
+    if cpus.push(idle).is_err() {
+        panic!(rt; "no memory for a processor");
+    }
+    let (machine, trace) = gathered(rt, service, cpus);
+    assert!(rt; trace.as_slice() == [entry(0, Act::Create, Reply::Space(1))].as_slice());
+    assert!(rt; machine.state(1) == Ok(ProcState::Active));
+}
+
+fn one_is_served<R: Wait + Abort + AllocGlobal>(rt: &R) {
+    let machine = booted(rt, rt.alloc(), 2);
+    let blank = Blank::new(u64::from(machine.processors()));
+    serve_one::<Brand, R>(rt, machine, blank);
+}
+
+#[test]
+fn a_service_is_not_gathered_without_an_idle_processor(rt: HostRuntime) {
+    one_is_served(&rt);
 }
 
 fn three_are_served<R: Wait + Abort + AllocGlobal>(rt: &R) {

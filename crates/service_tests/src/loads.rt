@@ -71,7 +71,7 @@ fn call<L: Origin<Disk>, R: Wait + Abort + AllocGlobal>(
     count: u64,
 )
     requires fresh { IsFresh machine.state }
-    requires origin { L.start ≡ Some machine }
+    requires origin { (L.start ≡ Some machine) × (L.capacity ≡ 3010) }
     requires name { blank.name ≡ L.name }
     requires parts { (blank.parts ≡ L.parts) × (L.all ≡ L.parts)
         × (blank.parts ≡ length machine.state.hardware.shootdown.processors) }

@@ -1,6 +1,7 @@
 // What `Service::start` answers where memory is refused, by an allocator that counts and refuses.
 ghost use Rattle.std.specs.Prelude.{◌≡◌, length, Some};
 ghost use Rattle.machine.specs.Fresh.{IsFresh};
+ghost use Rattle.service.specs.Serving.{IsCapacity};
 
 use crate::setting::{Disk, booted};
 use counting_alloc::CountingAllocator;
@@ -29,7 +30,7 @@ fn handed_back<'a, L: Origin<Disk>, R: Abort + AllocGlobal>(
     why: Refusal,
 ) -> (Machine<Disk, &'a Counting>, Blank)
     requires fresh { IsFresh machine.state }
-    requires origin { L.start ≡ Some machine }
+    requires origin { (L.start ≡ Some machine) × (IsCapacity capacity → L.capacity ≡ capacity) }
     requires name { blank.name ≡ L.name }
     requires parts { (blank.parts ≡ L.parts) × (L.all ≡ L.parts)
         × (blank.parts ≡ length machine.state.hardware.shootdown.processors) }
@@ -59,8 +60,9 @@ fn start_again<'a, L: Origin<Disk>, R: Wait + Abort + AllocGlobal>(
     capacity: u64,
     why: Refusal,
 )
+    requires second { L.capacity ≡ 5 }
     requires fresh { IsFresh machine.state }
-    requires origin { L.start ≡ Some machine }
+    requires origin { (L.start ≡ Some machine) × (IsCapacity capacity → L.capacity ≡ capacity) }
     requires name { blank.name ≡ L.name }
     requires parts { (blank.parts ≡ L.parts) × (L.all ≡ L.parts)
         × (blank.parts ≡ length machine.state.hardware.shootdown.processors) }
@@ -90,7 +92,9 @@ fn started_again<R: Wait + Abort + AllocGlobal>(
     n: u64,
     capacity: u64,
     why: Refusal,
-) {
+)
+    requires { IsCapacity capacity → capacity ≡ 5 }
+{
     let machine = booted(rt, alloc, 2);
     let blank = Blank::new(u64::from(machine.processors()));
     start_again::<Brand, R>(rt, alloc, machine, blank, n, capacity, why);
@@ -108,8 +112,7 @@ fn a_refused_service_can_be_started_at_once(rt: HostRuntime) {
 #[test]
 fn another_capacity_is_refused_before_memory_is_asked_for(rt: HostRuntime) {
     let alloc = Counting::new(rt.alloc());
-    for capacity in [0, 1_000_001] {
-        started_again(&rt, &alloc, 0, capacity, Refusal::BadShape);
-        assert!(rt; alloc.held() == 0);
-    }
+    started_again(&rt, &alloc, 0, 0, Refusal::BadShape);
+    started_again(&rt, &alloc, 0, 1_000_001, Refusal::BadShape);
+    assert!(rt; alloc.held() == 0);
 }

@@ -73,7 +73,7 @@ pub(crate) fn started<L: Origin<Disk>, R: Abort + AllocGlobal>(
     blank: Blank,
 ) -> (Service<Disk, Global, L>, Vec<Cpu<Disk, Global, L>>)
     requires fresh { IsFresh machine.state }
-    requires origin { L.start ≡ Some machine }
+    requires origin { (L.start ≡ Some machine) × (L.capacity ≡ capacity) }
     requires name { blank.name ≡ L.name }
     requires parts { (blank.parts ≡ L.parts) × (L.all ≡ L.parts)
         × (blank.parts ≡ length machine.state.hardware.shootdown.processors) }

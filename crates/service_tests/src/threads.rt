@@ -202,7 +202,7 @@ fn serve<L: Origin<Disk> + Send + Sync, R: Threads + Wait + Sync + Abort + Alloc
     blank: Blank,
 ) -> (Trial, Vec<Entry>, (u64, u64))
     requires fresh { IsFresh machine.state }
-    requires origin { L.start ≡ Some machine }
+    requires origin { (L.start ≡ Some machine) × (L.capacity ≡ 50000) }
     requires name { blank.name ≡ L.name }
     requires parts { (blank.parts ≡ L.parts) × (L.all ≡ L.parts)
         × (blank.parts ≡ length machine.state.hardware.shootdown.processors) }

@@ -135,6 +135,7 @@ module _ {D : Type 0} (disk : Ghosts D) (since_now : SinceNow disk) (device : D)
       within = leaves_at_start (λ c left. since_now device c left);
       unread = λ from to refused copy few calls. absurd (cc);
     };
+    device = refl;
     calls = (refl, refl);
     honest = (λ h. h, λ h. h);
     len = refl;
@@ -148,6 +149,7 @@ module _ {D : Type 0} (disk : Ghosts D) (since_now : SinceNow disk) (device : D)
       within = leaves_at_start (λ c left. since_now device c left);
       unread = λ from to refused copy few calls. absurd (cc);
     };
+    device = refl;
     calls = (refl, refl);
     honest = (λ h. h, λ h. h);
     len = refl;
