@@ -6,3 +6,4 @@ pub mod Lengths
 pub mod Lines
 pub mod Writing
 pub mod Served
+pub mod ListedMore

@@ -8,4 +8,5 @@ pub mod Ranges
 pub mod Lines
 pub mod Answers
 pub mod Serving
+pub mod Files
 pub mod inside

@@ -1,6 +1,9 @@
-// The files of a volume, as a session tells them, and the order in which their pages are taken out of memory.
+// The files of a volume, as a session lists them, and the order in which their pages are taken out of memory.
+ghost use Rattle.std.specs.Prelude.{◌≡◌, ◌-◌, ◌^◌, ◌≤◌, length, min, slice_get, IfOk};
+ghost use Rattle.session.specs.Files.{AreFiles, pages_in, pages_of_line, page_after};
+
 use device::Device;
-use page_entry::FilePage;
+use page_entry::{FileNumber, FilePage};
 use recovery::Volume;
 use std::alloc::{AllocError, Allocator};
 
@@ -20,8 +23,11 @@ pub struct Files<A: Allocator + Copy> {
 }
 
 impl<A: Allocator + Copy> Files<A> {
-    /// The files of a volume.
-    pub fn of<D: Device>(alloc: A, volume: &Volume<D, A>) -> Result<Self, AllocError> {
+    /// The files of a volume; the first page of all is to be taken out first.
+    pub fn of<D: Device>(alloc: A, volume: &Volume<D, A>) -> Result<Self, AllocError>
+        ensures files { IfOk result (λ files. AreFiles volume.now.table volume.now.lengths files.lines.items) }
+        ensures first { IfOk result (λ files. files.next ≡ record { file = 0; page = 0 }) }
+    {
         let mut lines = Vec::new(alloc);
         for file in 0..volume.file_count() {
             lines.push(FileLine {
@@ -36,8 +42,10 @@ impl<A: Allocator + Copy> Files<A> {
         })
     }
 
-    /// How many pages all files have.
-    pub fn pages(&self) -> u64 {
+    /// How many pages all files may have, as far as 64 bits count.
+    pub fn pages(&self) -> u64
+        ensures { result ≡ min (pages_in self.now.lines.items) (2 ^ 64 - 1) }
+    {
         let mut pages = 0u64;
         for line in &self.lines {
             pages = pages.saturating_add(u64::from(line.pages));
@@ -45,20 +53,45 @@ impl<A: Allocator + Copy> Files<A> {
         pages
     }
 
-    /// The page after the one that was answered last; after the last page of all comes the first.
-    pub fn turn(&mut self) -> FilePage {
+    /// The page after the one that was answered last; after the last page of all comes the first. (A volume has at most
+    /// 64 files.)
+    pub fn turn(&mut self) -> FilePage
+        ensures page { result ≡ self.old.next }
+        ensures next { length self.old.lines.items ≤ 65536
+            → self.new.next ≡ page_after self.old.lines.items self.old.next }
+        ensures lines { self.new.lines ≡ self.old.lines }
+    {
         let now = self.next;
-        self.next = match self.lines.get(usize::from(now.file)) {
-            Some(line) if now.page.saturating_add(1) < line.pages => FilePage {
+        self.next = self.after(now);
+        now
+    }
+
+    // The page after a page.
+    fn after(&self, now: FilePage) -> FilePage
+        ensures { length self.now.lines.items ≤ 65536 → result ≡ page_after self.now.lines.items now }
+    {
+        if now.page < self.last_page(now.file) {
+            return FilePage {
                 file: now.file,
-                page: now.page.saturating_add(1),
-            },
-            _ if usize::from(now.file).saturating_add(1) < self.lines.len() => FilePage {
+                page: now.page + 1,
+            };
+        }
+        if usize::from(now.file) + 1 < self.lines.len() {
+            return FilePage {
                 file: now.file.saturating_add(1),
                 page: 0,
-            },
-            _ => FilePage { file: 0, page: 0 },
-        };
-        now
+            };
+        }
+        FilePage { file: 0, page: 0 }
+    }
+
+    // The number of the last page of a file; 0 where it has none.
+    fn last_page(&self, file: FileNumber) -> u32
+        ensures { result ≡ pages_of_line (slice_get self.now.lines.items file) - 1 }
+    {
+        match self.lines.get(usize::from(file)) {
+            Some(line) => line.pages.saturating_sub(1),
+            None => 0,
+        }
     }
 }
