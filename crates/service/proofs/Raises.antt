@@ -1,25 +1,16 @@
 -- How far a reply raises the horizon, and what of the trace it goes by.
-use Rattle.std.proofs.Common.{◌≡◌, ℕ, ◌+◌, ◌<◌, ◌≤◌, Bool, true, false, List, [], ◌∷◌, ◌++◌, take, length, get_or, sym, ap, ◌∙◌, subst, arith, length-append}
+use Rattle.std.proofs.Common.{◌≡◌, ℕ, Bool, true, false, List, [], ◌∷◌, ◌++◌, refl, sym, ap, ◌∙◌, subst}
 use Rattle.std.proofs.lemmas.Bool.{false≢true}
-use Rattle.std.proofs.lemmas.List.{take_at}
-use Rattle.std.proofs.lemmas.List.Sums.{fold_more}
+use Rattle.std.proofs.lemmas.List.Sums.{fold_push}
+use Rattle.std.specs.List.{fold}
 use Rattle.machine.specs.declared.act.Reply.{Reply}
 use Rattle.machine.specs.declared.act.Reply.TheVariants as replies
 use Rattle.service.specs.declared.entry.Entry.{Entry}
-use Rattle.service.specs.Marks.{unmarked_with, has_unmarked, HasReached}
+use Rattle.service.specs.declared.raising.Raise.TheVariants as raises
+use Rattle.service.specs.Marks.{unmarked_with, has_unmarked, HasReached, acknowledged_with, marks_of, last_acknowledged}
 use Rattle.service.specs.inside.Raising.{raise_by, Reaches}
 
--- what the last of some entries says of stores and lengths
-pub one_less : (trace : List Entry) (i : ℕ) (e : Entry) → i < length trace
-    → has_unmarked (take (i + 1) trace) ≡ unmarked_with (has_unmarked (take i trace)) (get_or trace i e).reply
-one_less trace i e within = fold_more (λ (unmarked : Bool) (x : Entry). unmarked_with unmarked x.reply) false trace i e within
-
-pub all_but_last : (trace before : List Entry) (last : Entry) (n : ℕ) → n + 1 ≡ length trace → trace ≡ before ++ last ∷ []
-    → take n trace ≡ before
-all_but_last trace before last n one is =
-    let before_n : length before ≡ n = omega (arith, one, ap (λ (l : List Entry). length l) is, length-append before (last ∷ [])) in
-    ap (λ (l : List Entry). take n l) is ∙ take_at before (last ∷ []) n before_n
-
+-- what a raise reaches
 pub reached : (unmarked : Bool) (reply : Reply) (stalled committed : ℕ) → Reaches (raise_by unmarked reply) stalled committed
     → HasReached unmarked reply stalled committed
 reached true (replies.Marked number) stalled committed so = (so, λ none. absurd (false≢true (sym none)))
@@ -27,14 +18,27 @@ reached false (replies.Marked number) stalled committed so = (so.0, λ none. so.
 reached unmarked (replies.Committed number) stalled committed so = so
 reached unmarked reply stalled committed so = tt
 
-pub marked : (unmarked : Bool) (reply : Reply) (stalled committed : ℕ) → HasReached unmarked reply stalled committed
-    → (mark : ℕ) → reply ≡ replies.Marked mark → mark ≤ stalled
-marked unmarked reply stalled committed so mark is =
-    let at : HasReached unmarked (replies.Marked mark) stalled committed = subst (λ (r : Reply). HasReached unmarked r stalled committed) is so in
-    at.0
+-- of what is unmarked, the marks of a trace say the same as it says itself
+same_unmarked : (trace : List Entry) (number : ℕ) (unmarked : Bool)
+    → (fold (λ (marks : ℕ × Bool) (e : Entry). (acknowledged_with marks.0 marks.1 e.reply, unmarked_with marks.1 e.reply)) (number, unmarked) trace).1
+    ≡ fold (λ (was : Bool) (e : Entry). unmarked_with was e.reply) unmarked trace
+same_unmarked [] number unmarked = refl
+same_unmarked (e ∷ trace) number unmarked = same_unmarked trace (acknowledged_with number unmarked e.reply) (unmarked_with unmarked e.reply)
 
-pub acknowledged : (unmarked : Bool) (reply : Reply) (stalled committed : ℕ) → HasReached unmarked reply stalled committed
-    → (mark : ℕ) → reply ≡ replies.Committed mark → mark ≤ committed
-acknowledged unmarked reply stalled committed so mark is =
-    let at : HasReached unmarked (replies.Committed mark) stalled committed = subst (λ (r : Reply). HasReached unmarked r stalled committed) is so in
-    at.1
+acknowledges : (number : ℕ) (unmarked : Bool) (reply : Reply) (mark : ℕ) → raise_by unmarked reply ≡ raises.Committed mark
+    → acknowledged_with number unmarked reply ≡ mark
+acknowledges number true (replies.Marked new) mark is = cc
+acknowledges number false (replies.Marked new) mark is = cc
+acknowledges number unmarked (replies.Committed new) mark is = cc
+acknowledges number unmarked reply mark is = cc
+
+-- committed is raised to the number of the last acknowledged mark
+pub is_acknowledged : (trace before : List Entry) (last : Entry) (mark : ℕ) → trace ≡ before ++ last ∷ []
+    → raise_by (has_unmarked before) last.reply ≡ raises.Committed mark → last_acknowledged trace ≡ mark
+is_acknowledged trace before last mark is raised =
+    let step : ℕ × Bool → Entry → ℕ × Bool = λ marks e. (acknowledged_with marks.0 marks.1 e.reply, unmarked_with marks.1 e.reply) in
+    let marks : ℕ × Bool = marks_of before in
+    let same : has_unmarked before ≡ marks.1 = sym (same_unmarked before 0 false) in
+    ap (λ (t : List Entry). last_acknowledged t) is
+    ∙ ap (λ (m : ℕ × Bool). m.0) (fold_push step (0, false) before last)
+    ∙ acknowledges marks.0 marks.1 last.reply mark (subst (λ (b : Bool). raise_by b last.reply ≡ raises.Committed mark) same raised)

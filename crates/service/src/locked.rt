@@ -3,7 +3,7 @@ ghost use Rattle.std.specs.Prelude.{ℕ, ◌≡◌, ◌≢◌, ◌↔◌, ◌+�
 ghost use Rattle.page_entry.specs.declared.refusal.Refusal.{Refusal};
 ghost use Rattle.machine.specs.declared.act.Reply.{Reply};
 ghost use Rattle.machine.specs.State.{Whole};
-ghost use Rattle.service.specs.Marks.{has_unmarked};
+ghost use Rattle.service.specs.Marks.{has_unmarked, last_acknowledged};
 ghost use Rattle.service.specs.Serving.{ServesFrom, HasEntered};
 ghost use Rattle.service.specs.declared.raising.Raise.{Raise};
 ghost use Rattle.service.specs.inside.Raising.{raise_by};
@@ -106,6 +106,8 @@ impl<D: Device, A: Allocator + Copy, L: Origin<D>> Locked<D, A, L> {
         ensures entered { result.0 ≢ Reply.Refused Refusal.TraceFull
             → HasEntered D.Device self.old (record { p = p; act = act.now }) result.0 self.new }
         ensures raise { result.1 ≡ raise_by (has_unmarked self.old.trace) result.0 }
+        ensures acknowledged { (mark : ℕ) → result.1 ≡ Raise.Committed mark
+            → last_acknowledged self.new.trace ≡ mark }
         ensures counted { result.0 ≢ Reply.Refused Refusal.TraceFull → mine.new.amount ≡ mine.old.amount + 1 }
         ensures full { result.0 ≡ Reply.Refused Refusal.TraceFull
             → (mine.new.amount ≡ mine.old.amount) × (self.new ≡ self.old) }

@@ -3,6 +3,7 @@ use Rattle.std.proofs.lemmas.Bool.{false≢true}
 use Rattle.service.specs.Marks.{has_unmarked}
 use Rattle.service.specs.Serving.{SharedState, ServesFrom, HasEntered}
 use Rattle.service.specs.inside.Raising.{raise_by}
+use Rattle.service.proofs.Raises.{is_acknowledged}
 use Rattle.service.proofs.Traces.{one_longer}
 use Rattle.service.proofs.locked.Locked.call.Goals as goal
 
@@ -37,3 +38,8 @@ returns-clause-raise g c =
     let entered = c.enter-reply.ensures.entered (λ is. absurd (false≢true (sym c.if-is_trace_full.false ∙ c.is_trace_full.ensures.1 is))) in
     c.last_raise-raise.ensures _ _ entered.entry
     ∙ ap (λ (s : SharedState g.row.D.Denot). raise_by (has_unmarked s.trace) c.enter-reply.result) c.self.view_is
+
+pub returns-clause-acknowledged : goal.returns-clause-acknowledged
+returns-clause-acknowledged g c = λ mark is.
+    let entered = c.enter-reply.ensures.entered (λ is. absurd (false≢true (sym c.if-is_trace_full.false ∙ c.is_trace_full.ensures.1 is))) in
+    is_acknowledged _ _ _ mark entered.entry (sym (c.last_raise-raise.ensures _ _ entered.entry) ∙ is)
