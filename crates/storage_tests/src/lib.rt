@@ -5,6 +5,8 @@
 #[cfg(test)]
 mod codec;
 #[cfg(test)]
+mod deferring;
+#[cfg(test)]
 mod disks;
 #[cfg(test)]
 mod migrations;
