@@ -1,7 +1,6 @@
 -- A change's answer tells which change was begun: that of a reclaim, or of a mark.
-use Rattle.std.proofs.Common.{◌≡◌, inl, inr, ℕ, Bool, true, false, List, [], ◌∷◌, ◌++◌, Option, Some, None, refl, sym, ◌∙◌, ap, subst, Contains}
+use Rattle.std.proofs.Common.{◌≡◌, inl, inr, ℕ, Bool, true, false, List, [], ◌∷◌, ◌++◌, Option, Some, None, refl, sym, ◌∙◌, ap, subst}
 use Rattle.std.proofs.lemmas.Bool.{false≢true}
-use Rattle.std.proofs.lemmas.List.Elements.{Contains-append_left, Contains-append_right, Contains-push}
 use Rattle.device.specs.declared.device.Device.{Ghosts}
 use Rattle.spaces.specs.declared.change.Change.{Change}
 use Rattle.spaces.specs.declared.change.Change.TheVariants as changes
@@ -15,11 +14,12 @@ use Rattle.machine.specs.Rules.{Acts}
 use Rattle.machine.specs.Runs.{StepTaken, StepsTaken}
 use Rattle.machine.specs.State.{State, Whole}
 use Rattle.session.specs.declared.notes.Notes.{Notes}
-use Rattle.session.specs.Lengths.{tells_begun, AreAll, AnswersChange}
+use Rattle.session.specs.Lengths.{tells_begun, AnswersChange}
 use Rattle.session.specs.Ranges.{MakesStepsThat}
-use Rattle.session.specs.Steps.{Makes, Says, is_aside, is_of_commit, tells_reclaim, tells_mark, AreAside, AreOfCommit}
-use Rattle.session.specs.inside.Aside.{GoesAside}
-use Rattle.session.specs.inside.Made.{BeginsMark}
+use Rattle.session.specs.Commits.{AreWaits, BeginsMark, msync_by}
+use Rattle.session.specs.Ends.{MakesRoom, tells_reclaimed}
+use Rattle.session.specs.Steps.{Makes, tells_reclaim, tells_mark}
+use Rattle.session.proofs.Rooms.{reclaim_room}
 use Rattle.session.proofs.Stretches.{makes_then}
 
 -- the change that the lock is held for
@@ -177,29 +177,6 @@ mark_begun s d p va len flags new d' ((reason, done), same) = ap (λ t. held_for
 
 -- ---- a change, after those who stall and before those who go on
 
-all_aside : (act : Act) → ((reply : Reply) → is_aside act reply ≡ true) → (steps : List Step) (replies : List Reply) → AreAll act steps replies → AreAside steps replies
-all_aside act is [] [] all = all
-all_aside act is (step ∷ steps) (reply ∷ replies) all = (subst (λ (a : Act). is_aside a reply ≡ true) (sym all.0) (is reply), all_aside act is steps replies all.1)
-all_aside act is [] (reply ∷ replies) all = absurd all
-all_aside act is (step ∷ steps) [] all = absurd all
-
-all_of_commit : (act : Act) → ((reply : Reply) → is_of_commit act reply ≡ true) → (steps : List Step) (replies : List Reply) → AreAll act steps replies → AreOfCommit steps replies
-all_of_commit act is [] [] all = all
-all_of_commit act is (step ∷ steps) (reply ∷ replies) all = (subst (λ (a : Act). is_of_commit a reply ≡ true) (sym all.0) (is reply), all_of_commit act is steps replies all.1)
-all_of_commit act is [] (reply ∷ replies) all = absurd all
-all_of_commit act is (step ∷ steps) [] all = absurd all
-
--- ---- a mark is begun
-
-pub begins_mark : (p : ℕ) (reply : Reply) → tells_begun reply ≡ true → BeginsMark (record { p = p; act = acts.Msync 0 0 4 } ∷ []) (reply ∷ [])
-begins_mark p reply is = inr (refl, begun_is reply is, refl, refl)
-
-pub begins_mark_later : (steps : List Step) (replies : List Reply) (steps' : List Step) (replies' : List Reply) → AreOfCommit steps replies → BeginsMark steps' replies' → BeginsMark (steps ++ steps') (replies ++ replies')
-begins_mark_later [] [] steps' replies' first later = later
-begins_mark_later (step ∷ steps) (reply ∷ replies) steps' replies' first later = inl (first.0, begins_mark_later steps replies steps' replies' first.1 later)
-begins_mark_later [] (reply ∷ replies) steps' replies' first later = absurd first
-begins_mark_later (step ∷ steps) [] steps' replies' first later = absurd first
-
 module _ {D : Type 0} (disk : Ghosts D) where
   -- the lock after a processor stalled
   stall_keeps : (old mid : Whole D) (step : Step) (reply : Reply) → step.act ≡ acts.Ack → StepTaken disk old step reply mid → lock_of mid.state ≡ lock_of old.state
@@ -213,57 +190,40 @@ module _ {D : Type 0} (disk : Ghosts D) where
       let P : Step → Type 0 = λ s. Acts old.state here.answered.0 s.p s.act reply mid.state here.answered.1 in
       subst P is here.answered.2
 
-  change_aside : (p : ℕ) (answer : Reply) (old new : Whole D) (steps : List Step) (replies : List Reply) → held_for takes_out (lock_of old.state) ≡ true → AnswersChange p answer steps replies → StepsTaken disk old steps replies new → AreAside steps replies
-  change_aside p answer old new (step ∷ steps) (reply ∷ replies) held (inl (is, more)) (mid, here, taken) = (
-    subst (λ (a : Act). is_aside a reply ≡ true) (sym is) refl,
-    change_aside p answer mid new steps replies (ap (held_for takes_out) (stall_keeps old mid step reply is here) ∙ held) more taken,
-  )
-  change_aside p answer old new (step ∷ steps) (reply ∷ replies) held (inr (is, told, resumes)) (mid, here, taken) = (
-    subst (λ (s : Step). is_aside s.act reply ≡ true) (sym is) (change_of_reclaim old.state here.answered.0 p reply mid.state here.answered.1 held (change_taken old mid p step reply is here)),
-    all_aside acts.Resume (λ r. refl) steps replies resumes,
-  )
-  change_aside p answer old new [] [] held it taken = absurd it
-  change_aside p answer old new [] (reply ∷ replies) held it taken = absurd it
-  change_aside p answer old new (step ∷ steps) [] held it taken = absurd it
+  -- the answer of the change that a reclaim began
+  reclaim_told : (p : ℕ) (answer : Reply) (old new : Whole D) (steps : List Step) (replies : List Reply) → held_for takes_out (lock_of old.state) ≡ true → AnswersChange p answer steps replies → StepsTaken disk old steps replies new → tells_reclaim answer ≡ true
+  reclaim_told p answer old new (step ∷ steps) (reply ∷ replies) held (inl (is, more)) (mid, here, taken) =
+      reclaim_told p answer mid new steps replies (ap (held_for takes_out) (stall_keeps old mid step reply is here) ∙ held) more taken
+  reclaim_told p answer old new (step ∷ steps) (reply ∷ replies) held (inr (is, told, resumes)) (mid, here, taken) =
+      ap tells_reclaim (sym told) ∙ change_of_reclaim old.state here.answered.0 p reply mid.state here.answered.1 held (change_taken old mid p step reply is here)
+  reclaim_told p answer old new [] [] held it taken = absurd it
+  reclaim_told p answer old new [] (reply ∷ replies) held it taken = absurd it
+  reclaim_told p answer old new (step ∷ steps) [] held it taken = absurd it
 
-  change_of_commit : (p : ℕ) (answer : Reply) (old new : Whole D) (steps : List Step) (replies : List Reply) → held_for makes_mark (lock_of old.state) ≡ true → AnswersChange p answer steps replies → StepsTaken disk old steps replies new → AreOfCommit steps replies
-  change_of_commit p answer old new (step ∷ steps) (reply ∷ replies) held (inl (is, more)) (mid, here, taken) = (
-    subst (λ (a : Act). is_of_commit a reply ≡ true) (sym is) refl,
-    change_of_commit p answer mid new steps replies (ap (held_for makes_mark) (stall_keeps old mid step reply is here) ∙ held) more taken,
-  )
-  change_of_commit p answer old new (step ∷ steps) (reply ∷ replies) held (inr (is, told, resumes)) (mid, here, taken) = (
-    subst (λ (s : Step). is_of_commit s.act reply ≡ true) (sym is) (change_of_mark old.state here.answered.0 p reply mid.state here.answered.1 held (change_taken old mid p step reply is here)),
-    all_of_commit acts.Resume (λ r. refl) steps replies resumes,
-  )
-  change_of_commit p answer old new [] [] held it taken = absurd it
-  change_of_commit p answer old new [] (reply ∷ replies) held it taken = absurd it
-  change_of_commit p answer old new (step ∷ steps) [] held it taken = absurd it
-
-  -- the answer is one of the replies
-  answer_told : (p : ℕ) (answer : Reply) (steps : List Step) (replies : List Reply) → AnswersChange p answer steps replies → Contains replies answer
-  answer_told p answer (step ∷ steps) (reply ∷ replies) (inl (is, more)) = Contains-append_right (reply ∷ []) replies answer (answer_told p answer steps replies more)
-  answer_told p answer (step ∷ steps) (reply ∷ replies) (inr (is, told, resumes)) = subst (λ (r : Reply). Contains (reply ∷ replies) r) told (Contains-append_left (reply ∷ []) replies reply (Contains-push [] reply))
-  answer_told p answer [] [] it = absurd it
-  answer_told p answer [] (reply ∷ replies) it = absurd it
-  answer_told p answer (step ∷ steps) [] it = absurd it
+  -- of the one that began a mark
+  mark_told : (p : ℕ) (answer : Reply) (old new : Whole D) (steps : List Step) (replies : List Reply) → held_for makes_mark (lock_of old.state) ≡ true → AnswersChange p answer steps replies → StepsTaken disk old steps replies new → tells_mark answer ≡ true
+  mark_told p answer old new (step ∷ steps) (reply ∷ replies) held (inl (is, more)) (mid, here, taken) =
+      mark_told p answer mid new steps replies (ap (held_for makes_mark) (stall_keeps old mid step reply is here) ∙ held) more taken
+  mark_told p answer old new (step ∷ steps) (reply ∷ replies) held (inr (is, told, resumes)) (mid, here, taken) =
+      ap tells_mark (sym told) ∙ change_of_mark old.state here.answered.0 p reply mid.state here.answered.1 held (change_taken old mid p step reply is here)
+  mark_told p answer old new [] [] held it taken = absurd it
+  mark_told p answer old new [] (reply ∷ replies) held it taken = absurd it
+  mark_told p answer old new (step ∷ steps) [] held it taken = absurd it
 
   -- the lock after the steps that began a mark
-  begun_for_mark : (old new : Whole D) (steps : List Step) (replies : List Reply) → BeginsMark steps replies → StepsTaken disk old steps replies new → held_for makes_mark (lock_of new.state) ≡ true
-  begun_for_mark old new (step ∷ steps) (reply ∷ replies) (inl (is, more)) (mid, here, taken) = begun_for_mark mid new steps replies more taken
-  begun_for_mark old new (step ∷ steps) (reply ∷ replies) (inr (is, told, none, silent)) (mid, here, taken) =
-      let A : Act → Type 0 = λ a. Acts old.state here.answered.0 step.p a reply mid.state here.answered.1 in
-      let R : Reply → Type 0 = λ r. Acts old.state here.answered.0 step.p (acts.Msync 0 0 4) r mid.state here.answered.1 in
-      let S : List Step → Type 0 = λ l. StepsTaken disk mid l replies new in
-      let T : List Reply → Type 0 = λ l. StepsTaken disk mid [] l new in
-      let ends : new ≡ mid = subst T silent (subst S none taken) in
-      ap (λ (m : Whole D). held_for makes_mark (lock_of m.state)) ends ∙ mark_begun old.state here.answered.0 step.p 0 0 4 mid.state here.answered.1 (subst R told (subst A is here.answered.2))
-  begun_for_mark old new [] [] it taken = absurd it
-  begun_for_mark old new [] (reply ∷ replies) it taken = absurd it
-  begun_for_mark old new (step ∷ steps) [] it taken = absurd it
+  lock_of_mark : (p : ℕ) (old new : Whole D) (steps : List Step) (told : List Reply) → AreWaits p steps told → StepsTaken disk old (steps ++ msync_by p ∷ []) (told ++ replies.Begun ∷ []) new → held_for makes_mark (lock_of new.state) ≡ true
+  lock_of_mark p old new [] [] waits (mid, here, ends) =
+      ap (λ (m : Whole D). held_for makes_mark (lock_of m.state)) ends ∙ mark_begun old.state here.answered.0 p 0 0 4 mid.state here.answered.1 here.answered.2
+  lock_of_mark p old new (attempt ∷ step ∷ steps) (busy ∷ reply ∷ told) waits (mid, here, (next, there, taken)) = lock_of_mark p next new steps told waits.4 taken
+  lock_of_mark p old new [] (reply ∷ told) waits taken = absurd waits
+  lock_of_mark p old new (step ∷ []) [] waits taken = absurd waits
+  lock_of_mark p old new (step ∷ []) (reply ∷ told) waits taken = absurd waits
+  lock_of_mark p old new (attempt ∷ step ∷ steps) [] waits taken = absurd waits
+  lock_of_mark p old new (attempt ∷ step ∷ steps) (reply ∷ []) waits taken = absurd waits
 
   -- a page that is taken out of memory
   pub reclaim_changes : (old mid new : Whole D) (before between after : Notes) (p file page : ℕ) (begun reply : Reply) → tells_begun begun ≡ true
-      → Makes disk old before (record { p = p; act = acts.Reclaim file page } ∷ []) (begun ∷ []) mid between → MakesStepsThat disk mid between (AnswersChange p reply) new after → GoesAside disk old before new after
+      → Makes disk old before (record { p = p; act = acts.Reclaim file page } ∷ []) (begun ∷ []) mid between → MakesStepsThat disk mid between (AnswersChange p reply) new after → MakesStepsThat disk old before (MakesRoom (tells_reclaimed reply)) new after
   reclaim_changes old mid new before between after p file page begun reply is made changes =
       let here = made.taken.1 in
       let next = made.taken.0 in
@@ -274,15 +234,13 @@ module _ {D : Type 0} (disk : Ghosts D) where
         steps = record { p = p; act = acts.Reclaim file page } ∷ changes.steps;
         replies = begun ∷ changes.replies;
         makes = makes_then disk old mid new before between after (record { p = p; act = acts.Reclaim file page } ∷ []) (begun ∷ []) changes.steps changes.replies made changes.makes;
-        aside = (refl, change_aside p reply mid new changes.steps changes.replies held changes.holds changes.makes.taken);
+        holds = reclaim_room p file page begun reply changes.steps changes.replies (reclaim_told p reply mid new changes.steps changes.replies held changes.holds changes.makes.taken) changes.holds;
       }
 
   -- a mark that is made
-  pub mark_says : (old mid new : Whole D) (before between after : Notes) (p : ℕ) (reply : Reply) → MakesStepsThat disk old before BeginsMark mid between → MakesStepsThat disk mid between (AnswersChange p reply) new after → Says disk mid between reply new after
-  mark_says old mid new before between after p reply begins changes = record {
-    steps = changes.steps;
-    replies = changes.replies;
-    makes = changes.makes;
-    of_commit = change_of_commit p reply mid new changes.steps changes.replies (begun_for_mark old mid begins.steps begins.replies begins.holds begins.makes.taken) changes.holds changes.makes.taken;
-    told = answer_told p reply changes.steps changes.replies changes.holds;
-  }
+  pub mark_answered : (old mid new : Whole D) (before between after : Notes) (p : ℕ) (reply : Reply) → MakesStepsThat disk old before (BeginsMark p) mid between → MakesStepsThat disk mid between (AnswersChange p reply) new after → tells_mark reply ≡ true
+  mark_answered old mid new before between after p reply begins changes =
+      let S : List Step → Type 0 = λ l. StepsTaken disk old l begins.replies mid in
+      let T : List Reply → Type 0 = λ l. StepsTaken disk old (begins.holds.waits ++ msync_by p ∷ []) l mid in
+      mark_told p reply mid new changes.steps changes.replies
+      (lock_of_mark p old mid begins.holds.waits begins.holds.waited begins.holds.busy (subst T begins.holds.replies_are (subst S begins.holds.steps_are begins.makes.taken))) changes.holds changes.makes.taken

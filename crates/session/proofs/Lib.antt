@@ -1,6 +1,11 @@
 pub mod Stretches
 pub mod Pieces
+pub mod Rooms
 pub mod Changes
+pub mod Left
+pub mod Commits
 pub mod Lengths
 pub mod Lines
 pub mod Writing
+pub mod Marks
+pub mod Served

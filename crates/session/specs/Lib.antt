@@ -2,8 +2,11 @@ pub mod Notes
 pub mod Requests
 pub mod Asked
 pub mod Steps
+pub mod Ends
 pub mod Lengths
+pub mod Commits
 pub mod Ranges
 pub mod Lines
 pub mod Answers
+pub mod Sessions
 pub mod inside
