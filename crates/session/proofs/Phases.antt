@@ -92,6 +92,9 @@ keeps_is old new is = keeps_same old new (same_is old.hardware.shootdown new.har
 pub keeps_none : (s : State) → KeepsPhases s s
 keeps_none s = record { lock = refl; phases = λ q. refl }
 
+pub keeps_from : {D : Type 0} (old mid : Whole D) (new : State) → mid ≡ old → KeepsPhases mid.state new → KeepsPhases old.state new
+keeps_from {D} old mid new is kept = subst (λ (m : Whole D). KeepsPhases m.state new) is kept
+
 pub keeps_then : (old mid new : State) → KeepsPhases old mid → KeepsPhases mid new → KeepsPhases old new
 keeps_then old mid new first later = record { lock = later.lock ∙ first.lock; phases = λ q. later.phases q ∙ first.phases q }
 
