@@ -1,19 +1,17 @@
 -- Steps by which a processor commits.
-use Rattle.std.proofs.Common.{◌≡◌, ◌≢◌, inl, inr, ℕ, Bool, true, false, List, [], ◌∷◌, ◌++◌, append-nil, Result, Ok, Err, IfOk, IfErr, refl, sym, ◌∙◌, ap, subst}
+use Rattle.std.proofs.Common.{◌≡◌, ◌≢◌, inl, inr, ℕ, true, false, List, [], ◌∷◌, ◌++◌, append-nil, Result, Ok, Err, IfOk, IfErr, refl, sym, ◌∙◌, ap, subst}
 use Rattle.std.proofs.lemmas.Bool.{false≢true}
 use Rattle.device.specs.declared.device.Device.{Ghosts}
 use Rattle.page_entry.specs.declared.refusal.Refusal.TheVariants.{Busy}
-use Rattle.machine.specs.declared.act.Act.{Act}
 use Rattle.machine.specs.declared.act.Act.TheVariants as acts
 use Rattle.machine.specs.declared.act.Reply.{Reply}
 use Rattle.machine.specs.declared.act.Reply.TheVariants as replies
 use Rattle.machine.specs.declared.act.Step.{Step}
 use Rattle.machine.specs.declared.msync_flags.MsyncFlags.{MsyncFlags}
 use Rattle.machine.specs.Rules.{Acts}
-use Rattle.machine.specs.Runs.{StepTaken, StepsTaken}
 use Rattle.machine.specs.State.{State, Whole}
 use Rattle.session.specs.declared.notes.Notes.{Notes}
-use Rattle.session.specs.Commits.{AreWaits, BeginsMark, RefusesMark, IsLastAttempt, IsOfOther, IsWritten, WritesUntil, CommitsMark, StopsWriting, StopsCommit, AnswersCommit, msync_by, tells_unmade}
+use Rattle.session.specs.Commits.{AreWaits, BeginsMark, RefusesMark, IsLastAttempt, IsOfOther, IsWritten, WritesUntil, CommitsMark, StopsCommit, AnswersCommit, msync_by, tells_unmade}
 use Rattle.session.specs.Lengths.{AnswersChange, change_steps, change_replies, flush_by, tells_begun, tells_flushed, tells_refused}
 use Rattle.session.specs.Notes.{noted_all}
 use Rattle.session.specs.Ranges.{MakesStepsThat}

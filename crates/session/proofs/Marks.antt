@@ -1,5 +1,5 @@
 -- A mark that a commit acknowledges is acknowledged by the history of its steps, whatever was made before them and after.
-use Rattle.std.proofs.Common.{◌≡◌, ◌≢◌, inl, inr, ℕ, ◌==◌, Bool, true, false, ◌||◌, if◌then◌else◌, List, [], ◌∷◌, ◌++◌, append-nil, drop, get_or, Result, Ok, Err, codes, refl, sym, ◌∙◌, ap, subst, Contains}
+use Rattle.std.proofs.Common.{◌≡◌, ◌≢◌, inl, inr, ℕ, ◌==◌, Bool, true, false, ◌||◌, if◌then◌else◌, List, [], ◌∷◌, ◌++◌, append-nil, drop, get_or, Ok, Err, codes, refl, sym, ◌∙◌, ap, subst, Contains}
 use Rattle.std.proofs.lemmas.Bool.{false≢true}
 use Rattle.std.proofs.lemmas.List.Folds.{list_any-append}
 use Rattle.std.proofs.lemmas.List.Sums.{fold-append}
@@ -17,15 +17,14 @@ use Rattle.machine.specs.declared.act.Reply.{Reply}
 use Rattle.machine.specs.declared.act.Reply.TheVariants as replies
 use Rattle.machine.specs.declared.act.Step.{Step}
 use Rattle.machine.specs.History.{Event, Mark, Acknowledge, is_change, since_mark, has_unmarked, with_event}
-use Rattle.machine.specs.Rules.{Acts}
-use Rattle.machine.specs.Runs.{StepTaken, StepsTaken}
-use Rattle.machine.specs.State.{State, Whole}
+use Rattle.machine.specs.Runs.{StepsTaken}
+use Rattle.machine.specs.State.{Whole}
 use Rattle.machine.specs.Steps.{told_first}
 use Rattle.machine.specs.Told.{Told, tell, tell_all, events_of}
 use Rattle.engine.specs.Survival.{history_of}
 use Rattle.session.specs.declared.notes.Notes.{Notes}
 use Rattle.session.specs.Answers.{AnswersRequest, committed_text}
-use Rattle.session.specs.Commits.{AreWaits, BeginsMark, CommitsMark, IsWritten, WritesUntil, AnswersCommit, tells_unmade}
+use Rattle.session.specs.Commits.{CommitsMark, IsWritten, WritesUntil, tells_unmade}
 use Rattle.session.specs.Lengths.{AnswersChange, change_steps, change_replies}
 use Rattle.session.specs.Notes.{noted_after, noted_all}
 use Rattle.session.specs.Requests.{asks_commit}

@@ -1,5 +1,5 @@
 -- Steps that may make a frame free, and how faults are served and ranges end.
-use Rattle.std.proofs.Common.{◌≡◌, ◌≢◌, inl, inr, ℕ, ◌/◌, ◌==◌, arith, Bool, true, false, not, List, [], ◌∷◌, ◌++◌, refl, sym, ◌∙◌, ap, subst, Contains}
+use Rattle.std.proofs.Common.{◌≡◌, inl, inr, ℕ, ◌/◌, ◌==◌, arith, Bool, true, false, not, List, [], ◌∷◌, ◌++◌, refl, sym, ◌∙◌, ap, subst, Contains}
 use Rattle.std.proofs.lemmas.Bool.{false≢true}
 use Rattle.std.proofs.lemmas.Bool.Decides.{nat_tests}
 use Rattle.std.proofs.lemmas.List.Elements.{Contains-append_left, Contains-append_right, Contains-push}
@@ -12,10 +12,10 @@ use Rattle.machine.specs.declared.act.Reply.TheVariants as replies
 use Rattle.machine.specs.declared.act.Step.{Step}
 use Rattle.machine.specs.Laws.{FaultsAreServed, IsAccessOf, IsAnswered}
 use Rattle.machine.specs.Rules.{Acts}
-use Rattle.machine.specs.Runs.{StepTaken, StepsTaken}
+use Rattle.machine.specs.Runs.{StepsTaken}
 use Rattle.machine.specs.State.{State, Whole}
 use Rattle.session.specs.declared.notes.Notes.{Notes}
-use Rattle.session.specs.Ends.{tells_fault, tells_kept, tells_reclaimed, is_access, is_access_at, is_fix_at, is_served, is_for_room, AreForRoom, is_fruitless, AreFruitless, MakesRoom, IsUnserved, EndsRange}
+use Rattle.session.specs.Ends.{tells_fault, tells_kept, tells_reclaimed, is_access, is_access_at, is_served, is_for_room, AreForRoom, is_fruitless, AreFruitless, MakesRoom, IsUnserved, EndsRange}
 use Rattle.session.specs.Lengths.{AnswersChange, change_steps, change_replies, flush_by}
 use Rattle.session.specs.Ranges.{MakesStepsThat}
 use Rattle.session.specs.Steps.{Makes, is_aside, AreAside, tells_bytes, tells_stored, tells_fixed, tells_reclaim}

@@ -1,5 +1,5 @@
 -- What a session has noted is noted of the steps since its start.
-use Rattle.std.proofs.Common.{List, [], ◌∷◌, ◌++◌, refl}
+use Rattle.std.proofs.Common.{[], ◌∷◌, ◌++◌}
 use Rattle.device.specs.declared.device.Device.{Ghosts}
 use Rattle.machine.specs.declared.act.Reply.{Reply}
 use Rattle.machine.specs.declared.act.Shape.{Shape}
@@ -7,7 +7,7 @@ use Rattle.machine.specs.declared.act.Step.{Step}
 use Rattle.machine.specs.State.{Whole}
 use Rattle.engine.specs.Engine.{HasStarted}
 use Rattle.session.specs.declared.notes.Notes.{Notes}
-use Rattle.session.specs.Sessions.{HasServed, IsServing, no_notes}
+use Rattle.session.specs.Sessions.{IsServing, no_notes}
 use Rattle.session.specs.Steps.{Makes}
 use Rattle.session.proofs.Stretches.{makes_none, makes_then}
 

@@ -1,10 +1,10 @@
 -- What steps a request makes, and what they are answered.
-use Rattle.std.specs.Prelude.{ℕ, ◌≡◌, ◌⊎◌, ◌+◌, ◌-◌, ◌^◌, ◌==◌, ◌&&◌, min, Bool, true, false, not, ⊤, List, [], ◌∷◌, ◌++◌, length, Contains}
+use Rattle.std.specs.Prelude.{ℕ, ◌≡◌, ◌⊎◌, ◌+◌, ◌-◌, ◌^◌, min, Bool, true, false, not, ⊤, List, [], ◌∷◌, ◌++◌, length}
 use Rattle.device.specs.declared.device.Device.{Ghosts}
 use Rattle.machine.specs.declared.act.Act.{Act}
 use Rattle.machine.specs.declared.act.Act.TheVariants.{Load, Store, Fix, Reclaim, Msync, Ack, Change, Resume, Flush}
 use Rattle.machine.specs.declared.act.Reply.{Reply}
-use Rattle.machine.specs.declared.act.Reply.TheVariants.{Bytes, Stored, Fixed, Reclaimed, Kept, Marked, Acked, Resumed, Committed}
+use Rattle.machine.specs.declared.act.Reply.TheVariants.{Bytes, Stored, Fixed, Reclaimed, Kept, Marked, Acked, Resumed}
 use Rattle.machine.specs.declared.act.Step.{Step}
 use Rattle.machine.specs.State.{Whole}
 use Rattle.machine.specs.Runs.{StepsTaken}

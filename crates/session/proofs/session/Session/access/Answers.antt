@@ -1,4 +1,4 @@
-use Rattle.std.proofs.Common.{refl, sym}
+use Rattle.std.proofs.Common.{sym}
 use Rattle.session.proofs.Phases.{access_keeps, keeps_then}
 use Rattle.session.proofs.Rooms.{access_aside, access_at, access_loads, answered_no_fault, answers_served, stops_unserved}
 use Rattle.session.proofs.Stretches.{answers_one}

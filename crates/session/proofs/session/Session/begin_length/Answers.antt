@@ -1,4 +1,4 @@
-use Rattle.std.proofs.Common.{◌≡◌, inl, inr, refl, sym, ◌∙◌, ap, subst, arith}
+use Rattle.std.proofs.Common.{inl, inr, refl, sym, ◌∙◌, ap, subst, arith}
 use Rattle.std.proofs.lemmas.Bool.{false≢true}
 use Rattle.machine.specs.declared.act.Reply.{Reply}
 use Rattle.session.specs.Lengths.{tells_begun, tells_later}
@@ -8,7 +8,7 @@ use Rattle.session.proofs.Changes.{flush_is_other}
 use Rattle.session.proofs.Phases.{begins_kept, flushes_keep, keeps_none, keeps_then}
 use Rattle.session.proofs.Commits.{refused_is, step_unmade}
 use Rattle.session.proofs.Left.{attempts_left, flushed_fewer}
-use Rattle.session.proofs.Lengths.{IsNext, begins_attempted, begins_later, refuses_attempted, refuses_busy, refuses_later, tries_aside, tries_attempted, tries_then}
+use Rattle.session.proofs.Lengths.{IsNext, begins_attempted, begins_later, refuses_attempted, refuses_busy, refuses_later, tries_attempted, tries_then}
 use Rattle.session.proofs.Pieces.{does_more, does_nothing}
 use Rattle.session.proofs.Stretches.{does_one, does_then}
 use Rattle.session.proofs.session.Session.begin_length.Goals as goal

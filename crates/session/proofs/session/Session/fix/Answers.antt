@@ -1,4 +1,4 @@
-use Rattle.std.proofs.Common.{true, false, [], refl, sym, ◌∙◌, ap}
+use Rattle.std.proofs.Common.{[], refl, sym, ◌∙◌, ap}
 use Rattle.std.proofs.lemmas.Bool.{false≢true}
 use Rattle.session.specs.Steps.{tells_fixed}
 use Rattle.session.proofs.Phases.{fixes_keep, keeps_then}
