@@ -42,7 +42,7 @@ where
     match start(alloc, disk, shape) {
         Ok(mut session) => {
             let served = serve_session(rt.alloc(), alloc, &mut session, &mut input, out);
-            let failed = session.notes.has_failed;
+            let failed = session.notes().has_failed;
             *note = session.into_device().into_file().into_note();
             outcome(path, served, failed)
         }
@@ -93,7 +93,7 @@ where
     I: BufRead,
     W: io::Write,
 {
-    match greet(&session.files.lines, out) {
+    match greet(&session.files().lines, out) {
         Ok(()) => serve_on(global, alloc, session, input, out),
         Err(cause) => Err(SessionFault::Output(cause)),
     }

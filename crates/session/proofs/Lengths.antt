@@ -1,13 +1,20 @@
 -- Steps by which the length of a file is set.
-use Rattle.std.proofs.Common.{◌≡◌, inl, inr, ℕ, true, false, List, [], ◌∷◌, ◌++◌, refl, sym, subst}
-use Rattle.machine.specs.declared.act.Act.TheVariants.{SetLength, Flush}
+use Rattle.std.proofs.Common.{◌≡◌, ◌≢◌, ◌⊎◌, inl, inr, ℕ, true, false, List, [], ◌∷◌, ◌++◌, refl, sym, ◌∙◌, ap, subst}
+use Rattle.std.proofs.lemmas.Bool.{false≢true}
+use Rattle.page_entry.specs.declared.refusal.Refusal.TheVariants.{Busy, NoFrame}
 use Rattle.machine.specs.declared.act.Reply.{Reply}
+use Rattle.machine.specs.declared.act.Reply.TheVariants.{Begun, Nothing, Refused}
 use Rattle.machine.specs.declared.act.Step.{Step}
-use Rattle.session.specs.Lengths.{tells_begun, tells_flushed, AnswersChange, IsTry, IsObstacle, ChangesLength, RefusesLength}
-use Rattle.session.specs.Steps.{is_aside, AreAside}
-use Rattle.session.specs.inside.Made.{AreTries, BeginsLength}
-use Rattle.session.proofs.Changes.{begun_is}
-use Rattle.session.proofs.Stretches.{aside_all}
+use Rattle.session.specs.Ends.{AreFruitless}
+use Rattle.session.specs.Lengths.{tells_begun, tells_later, tells_refused, flush_by, set_length_by, AnswersChange, IsTry, IsLeft, ChangesLength, RefusesLength}
+use Rattle.session.specs.Steps.{AreAside}
+use Rattle.session.specs.inside.Made.{AreTries, BeginsLength, AttemptsLength}
+use Rattle.session.proofs.Phases.{begun_is}
+use Rattle.session.proofs.Rooms.{vain_aside}
+
+-- one step of the write-outs alone
+abbrev pub IsNext : ℕ → Reply → List Step → List Reply → Type 0
+IsNext p reply steps replies = (steps ≡ flush_by p ∷ []) × (replies ≡ reply ∷ [])
 
 module _ (p file to : ℕ) where
   -- ---- tries
@@ -26,9 +33,6 @@ module _ (p file to : ℕ) where
 
   -- ---- it is begun
 
-  pub begins_one : (reply : Reply) → tells_begun reply ≡ true → BeginsLength p file to (record { p = p; act = SetLength file to } ∷ []) (reply ∷ [])
-  begins_one reply is = inr (refl, begun_is reply is, refl, refl)
-
   pub begins_later : (steps : List Step) (replies : List Reply) (steps' : List Step) (replies' : List Reply) → AreTries p file to steps replies → BeginsLength p file to steps' replies' → BeginsLength p file to (steps ++ steps') (replies ++ replies')
   begins_later [] [] steps' replies' first later = later
   begins_later (step ∷ steps) (reply ∷ replies) steps' replies' first later = inl (first.0, begins_later steps replies steps' replies' first.1 later)
@@ -46,35 +50,99 @@ module _ (p file to : ℕ) where
   begins_then answer [] (reply ∷ replies) steps' replies' it later = absurd it
   begins_then answer (step ∷ steps) [] steps' replies' it later = absurd it
 
-  -- ---- it isn't
+  -- ---- attempts
 
-  pub refuses_one : (reply : Reply) → tells_begun reply ≡ false → RefusesLength p file to reply (record { p = p; act = SetLength file to } ∷ []) (reply ∷ [])
-  refuses_one reply vain = inr (inl (refl, vain), refl, tt)
+  pub attempts_later : (answer : Reply) (steps : List Step) (replies : List Reply) (steps' : List Step) (replies' : List Reply) → AreTries p file to steps replies → AttemptsLength p file to answer steps' replies' → AttemptsLength p file to answer (steps ++ steps') (replies ++ replies')
+  attempts_later answer [] [] steps' replies' first later = later
+  attempts_later answer (step ∷ steps) (reply ∷ replies) steps' replies' first later = inl (first.0, attempts_later answer steps replies steps' replies' first.1 later)
+  attempts_later answer [] (reply ∷ replies) steps' replies' first later = absurd first
+  attempts_later answer (step ∷ steps) [] steps' replies' first later = absurd first
 
-  pub refuses_flushed : (reply : Reply) → tells_flushed reply ≡ false → RefusesLength p file to reply (record { p = p; act = Flush } ∷ []) (reply ∷ [])
-  refuses_flushed reply unmade = inr (inr (refl, unmade), refl, tt)
+  pub attempts_one : (answer : Reply) → AttemptsLength p file to answer (set_length_by p file to ∷ []) (answer ∷ [])
+  attempts_one answer = inr (refl, refl, inl (refl, refl))
+
+  -- one attempt alone
+  abbrev pub IsAttempt : Reply → List Step → List Reply → Type 0
+  IsAttempt answer steps replies = (steps ≡ set_length_by p file to ∷ []) × (replies ≡ answer ∷ [])
+
+  pub attempts_first : (answer : Reply) → answer ≡ Refused NoFrame → (steps : List Step) (replies : List Reply) (steps' : List Step) (replies' : List Reply) → IsAttempt answer steps replies → AreFruitless steps' replies' → AttemptsLength p file to answer (steps ++ steps') (replies ++ replies')
+  attempts_first answer is steps replies steps' replies' first vain =
+      let S : List Step → Type 0 = λ l. AttemptsLength p file to answer (l ++ steps') (replies ++ replies') in
+      let T : List Reply → Type 0 = λ l. AttemptsLength p file to answer (set_length_by p file to ∷ steps') (l ++ replies') in
+      subst S (sym first.0) (subst T (sym first.1) (inr (refl, refl, inr (is, vain))))
+
+  -- an attempt that is refused for a while is made again
+  pub tries_one : (reply : Reply) → tells_later reply ≡ true → AreTries p file to (set_length_by p file to ∷ []) (reply ∷ [])
+  tries_one reply later = (inl (refl, later), tt)
+
+  tries_step : (step : Step) (reply : Reply) → step ≡ set_length_by p file to → tells_later reply ≡ true → IsTry p file to step reply
+  tries_step step reply is later = inl (is, later)
+
+  pub tries_attempted : (answer : Reply) → tells_later answer ≡ true → (steps : List Step) (replies : List Reply) → AttemptsLength p file to answer steps replies → AreTries p file to steps replies
+  tries_attempted answer later (step ∷ steps) (reply ∷ replies) (inl (try, more)) = (try, tries_attempted answer later steps replies more)
+  tries_attempted answer later (step ∷ steps) (reply ∷ replies) (inr (is, told, inl (none, silent))) =
+      let S : List Step → Type 0 = λ l. AreTries p file to l replies in
+      let T : List Reply → Type 0 = λ l. AreTries p file to [] l in
+      (tries_step step reply is (ap tells_later told ∙ later), subst S (sym none) (subst T (sym silent) tt))
+  tries_attempted answer later (step ∷ steps) (reply ∷ replies) (inr (is, told, inr (no-frame, vain))) =
+      (tries_step step reply is (ap tells_later told ∙ later), tries_aside steps replies (vain_aside steps replies vain))
+  tries_attempted answer later [] [] it = absurd it
+  tries_attempted answer later [] (reply ∷ replies) it = absurd it
+  tries_attempted answer later (step ∷ steps) [] it = absurd it
+
+  -- ---- the last one begins it
+
+  pub begins_attempted : (answer : Reply) → tells_begun answer ≡ true → (steps : List Step) (replies : List Reply) → AttemptsLength p file to answer steps replies → BeginsLength p file to steps replies
+  begins_attempted answer is (step ∷ steps) (reply ∷ replies) (inl (try, more)) = inl (try, begins_attempted answer is steps replies more)
+  begins_attempted answer is (step ∷ steps) (reply ∷ replies) (inr (attempt, told, inl (none, silent))) = inr (attempt, told ∙ begun_is answer is, none, silent)
+  begins_attempted answer is (step ∷ steps) (reply ∷ replies) (inr (attempt, told, inr (no-frame, vain))) = absurd (false≢true (ap tells_begun (sym no-frame) ∙ is))
+  begins_attempted answer is [] [] it = absurd it
+  begins_attempted answer is [] (reply ∷ replies) it = absurd it
+  begins_attempted answer is (step ∷ steps) [] it = absurd it
+
+  -- ---- or it isn't begun
+
+  -- for good, or for want of frames
+  left_unbusy : (answer reply : Reply) → reply ≡ answer → tells_begun answer ≡ false → answer ≢ Refused Busy → (steps : List Step) (replies : List Reply) → steps ≡ [] → replies ≡ [] → IsLeft p answer reply steps replies
+  left_unbusy (Refused Busy) reply told vain other steps replies none silent = absurd (other refl)
+  left_unbusy (Refused NoFrame) reply told vain other steps replies none silent =
+      let S : List Step → Type 0 = λ l. AreFruitless l replies in
+      let T : List Reply → Type 0 = λ l. AreFruitless [] l in
+      inr (inl (told, refl, subst S (sym none) (subst T (sym silent) tt)))
+  left_unbusy (Refused why) reply told vain other steps replies none silent = inl (told, refl, refl, none, silent)
+  left_unbusy Begun reply told vain other steps replies none silent = absurd (false≢true (sym vain))
+  left_unbusy answer reply told vain other steps replies none silent = inl (told, refl, refl, none, silent)
+
+  pub refuses_attempted : (answer : Reply) → tells_begun answer ≡ false → answer ≢ Refused Busy → (steps : List Step) (replies : List Reply) → AttemptsLength p file to answer steps replies → RefusesLength p file to answer steps replies
+  refuses_attempted answer vain other (step ∷ steps) (reply ∷ replies) (inl (try, more)) = inl (try, refuses_attempted answer vain other steps replies more)
+  refuses_attempted answer vain other (step ∷ steps) (reply ∷ replies) (inr (is, told, inl (none, silent))) = inr (is, left_unbusy answer reply told vain other steps replies none silent)
+  refuses_attempted answer vain other (step ∷ steps) (reply ∷ replies) (inr (is, told, inr (no-frame, fruitless))) = inr (is, inr (inl (told ∙ no-frame, no-frame, fruitless)))
+  refuses_attempted answer vain other [] [] it = absurd it
+  refuses_attempted answer vain other [] (reply ∷ replies) it = absurd it
+  refuses_attempted answer vain other (step ∷ steps) [] it = absurd it
+
+  -- the write-outs have no step left, or the next one is refused
+  ends_busy : (answer reply : Reply) → ((reply ≡ Nothing) × (answer ≡ Refused Busy)) ⊎ ((reply ≡ answer) × (tells_refused answer ≡ true)) → (steps : List Step) (replies : List Reply) → AttemptsLength p file to (Refused Busy) steps replies
+      → RefusesLength p file to answer (steps ++ flush_by p ∷ []) (replies ++ reply ∷ [])
+  ends_busy answer reply why (step ∷ steps) (busy ∷ replies) (inl (try, more)) = inl (try, ends_busy answer reply why steps replies more)
+  ends_busy answer reply (inl (nothing, is-busy)) (step ∷ steps) (busy ∷ replies) (inr (is, told, inl (none, silent))) =
+      inr (is, inr (inr (inl (told, is-busy, ap (λ l. l ++ flush_by p ∷ []) none, ap (λ l. l ++ reply ∷ []) silent ∙ ap (λ r. r ∷ []) nothing))))
+  ends_busy answer reply (inr (same, refused)) (step ∷ steps) (busy ∷ replies) (inr (is, told, inl (none, silent))) =
+      inr (is, inr (inr (inr (told, refused, ap (λ l. l ++ flush_by p ∷ []) none, ap (λ l. l ++ reply ∷ []) silent ∙ ap (λ r. r ∷ []) same))))
+  ends_busy answer reply why (step ∷ steps) (busy ∷ replies) (inr (is, told, inr (no-frame, vain))) = absurd (cc)
+  ends_busy answer reply why [] [] it = absurd it
+  ends_busy answer reply why [] (busy ∷ replies) it = absurd it
+  ends_busy answer reply why (step ∷ steps) [] it = absurd it
+
+  pub refuses_busy : (answer reply : Reply) → ((reply ≡ Nothing) × (answer ≡ Refused Busy)) ⊎ ((reply ≡ answer) × (tells_refused answer ≡ true)) → (steps : List Step) (replies : List Reply) (steps' : List Step) (replies' : List Reply)
+      → AttemptsLength p file to (Refused Busy) steps replies → IsNext p reply steps' replies' → RefusesLength p file to answer (steps ++ steps') (replies ++ replies')
+  refuses_busy answer reply why steps replies steps' replies' busy next =
+      let S : List Step → Type 0 = λ l. RefusesLength p file to answer (steps ++ l) (replies ++ replies') in
+      let T : List Reply → Type 0 = λ l. RefusesLength p file to answer (steps ++ flush_by p ∷ []) (replies ++ l) in
+      subst S (sym next.0) (subst T (sym next.1) (ends_busy answer reply why steps replies busy))
 
   pub refuses_later : (answer : Reply) (steps : List Step) (replies : List Reply) (steps' : List Step) (replies' : List Reply) → AreTries p file to steps replies → RefusesLength p file to answer steps' replies' → RefusesLength p file to answer (steps ++ steps') (replies ++ replies')
   refuses_later answer [] [] steps' replies' first later = later
   refuses_later answer (step ∷ steps) (reply ∷ replies) steps' replies' first later = inl (first.0, refuses_later answer steps replies steps' replies' first.1 later)
   refuses_later answer [] (reply ∷ replies) steps' replies' first later = absurd first
   refuses_later answer (step ∷ steps) [] steps' replies' first later = absurd first
-
-  pub refuses_before : (answer : Reply) (steps : List Step) (replies : List Reply) (steps' : List Step) (replies' : List Reply) → RefusesLength p file to answer steps replies → AreAside steps' replies' → RefusesLength p file to answer (steps ++ steps') (replies ++ replies')
-  refuses_before answer (step ∷ steps) (reply ∷ replies) steps' replies' (inl (try, more)) later = inl (try, refuses_before answer steps replies steps' replies' more later)
-  refuses_before answer (step ∷ steps) (reply ∷ replies) steps' replies' (inr (is, told, aside)) later = inr (is, told, aside_all steps replies steps' replies' aside later)
-  refuses_before answer [] [] steps' replies' it later = absurd it
-  refuses_before answer [] (reply ∷ replies) steps' replies' it later = absurd it
-  refuses_before answer (step ∷ steps) [] steps' replies' it later = absurd it
-
-  obstacle_is_try : (step : Step) (reply : Reply) → IsObstacle p file to step reply → IsTry p file to step reply
-  obstacle_is_try step reply (inl vain) = inl vain
-  obstacle_is_try step reply (inr flushed) = inr (subst (λ (s : Step). is_aside s.act reply ≡ true) (sym flushed.0) refl)
-
-  -- so it may be tried again
-  pub tries_refused : (answer : Reply) (steps : List Step) (replies : List Reply) → RefusesLength p file to answer steps replies → AreTries p file to steps replies
-  tries_refused answer (step ∷ steps) (reply ∷ replies) (inl (try, more)) = (try, tries_refused answer steps replies more)
-  tries_refused answer (step ∷ steps) (reply ∷ replies) (inr (is, told, aside)) = (obstacle_is_try step reply is, tries_aside steps replies aside)
-  tries_refused answer [] [] it = absurd it
-  tries_refused answer [] (reply ∷ replies) it = absurd it
-  tries_refused answer (step ∷ steps) [] it = absurd it

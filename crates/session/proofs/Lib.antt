@@ -1,10 +1,15 @@
 pub mod Phases
 pub mod Stretches
 pub mod Pieces
+pub mod Rooms
 pub mod Changes
+pub mod Left
+pub mod Commits
 pub mod Lengths
 pub mod Lines
 pub mod Writing
 pub mod Served
 pub mod ListedMore
 pub mod Listed
+pub mod Marks
+pub mod Serves

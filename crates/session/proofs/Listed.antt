@@ -1,5 +1,5 @@
 -- The files that are listed are those that the bytes of the device recover to.
-use Rattle.std.proofs.Common.{◌≡◌, ℕ, zero, suc, ◌+◌, ◌*◌, ◌/◌, ◌≤◌, min, arith, List, [], ◌∷◌, ◌++◌, length, length-append, length-take, length-drop, map, take, drop, Option, Some, slice_get, Ok, refl, sym, ◌∙◌, ap, subst, string_bytes}
+use Rattle.std.proofs.Common.{◌≡◌, ℕ, zero, suc, ◌+◌, ◌*◌, ◌≤◌, arith, List, [], ◌∷◌, length, length-append, length-take, length-drop, map, take, drop, Some, slice_get, refl, sym, ◌∙◌, ap}
 use Rattle.device.specs.declared.device.Device.{Ghosts}
 use Rattle.volume_codec.specs.Files.{File, TableFile}
 use Rattle.volume_codec.specs.Layout.{block_at, first_file_home}
@@ -9,7 +9,7 @@ use Rattle.volume_codec.specs.Super.{SuperValue, names_in, pages_of, total_pages
 use Rattle.recovery.specs.Opening.{HasOpened}
 use Rattle.recovery.specs.Volume.{files_of}
 use Rattle.machine.specs.declared.act.Shape.{Shape}
-use Rattle.machine.specs.State.{State, Whole}
+use Rattle.machine.specs.State.{Whole}
 use Rattle.engine.specs.Engine.{HasStarted}
 use Rattle.session.specs.declared.files.FileLine.{FileLine}
 use Rattle.session.specs.Files.{AreFiles, AreListed}

@@ -1,5 +1,5 @@
 -- One file more is listed.
-use Rattle.std.proofs.Common.{◌≡◌, ℕ, zero, suc, ◌+◌, ◌<◌, arith, List, [], ◌∷◌, ◌++◌, length, map, take, Option, Some, None, is_some, slice_get, slice_index, refl, sym, ◌∙◌, ap, true≢false}
+use Rattle.std.proofs.Common.{◌≡◌, ℕ, zero, suc, ◌+◌, ◌<◌, arith, List, [], ◌∷◌, ◌++◌, length, map, take, Some, is_some, slice_get, slice_index, refl, sym, ◌∙◌, ap, true≢false}
 use Rattle.std.proofs.lemmas.List.{map_push}
 
 some_is : {Y : Type 0} (x y : Y) → Some x ≡ Some y → x ≡ y

@@ -7,32 +7,29 @@ use Rattle.std.proofs.lemmas.List.{get_or_past}
 use Rattle.std.proofs.lemmas.List.Sums.{sum_by-cons}
 use Rattle.device.specs.declared.device.Device.{Ghosts}
 use Rattle.page_entry.specs.Entry.{Mapped}
-use Rattle.page_entry.specs.declared.numbers.FilePage.{FilePage}
 use Rattle.page_entry.specs.declared.refusal.Refusal.{Refusal}
 use Rattle.page_entry.specs.declared.refusal.Refusal.TheVariants as refusals
 use Rattle.pcid_tlb.specs.Tlb.{TlbState, cached, without_page}
 use Rattle.pcid_tlb.specs.declared.CachedEntry.{CachedEntry}
 use Rattle.spaces.specs.declared.change.Change.{Change}
 use Rattle.spaces.specs.declared.change.Change.TheVariants as changes
-use Rattle.spaces.specs.Spaces.{Spaces, entry_at}
+use Rattle.spaces.specs.Spaces.{entry_at}
 use Rattle.spaces.specs.Changes.{touches}
 use Rattle.shootdown.specs.declared.lock.Lock.{Lock}
 use Rattle.shootdown.specs.declared.proc_state.ProcState.{ProcState}
 use Rattle.shootdown.specs.declared.proc_state.ProcState.TheVariants.{Active, Interrupted, Stalled, Initiating, Idle}
 use Rattle.shootdown.specs.Processors.{Processor, fresh_processor, is_running, woken}
-use Rattle.shootdown.specs.Shootdown.{ShootdownState, IsShootdown, processor_at, state_of, current, tlb_of, with_processor, with_tlb, is_there, not_running, not_free, is_interrupted, interrupted, state_when_begun, begun, stalled, finished, resumed}
+use Rattle.shootdown.specs.Shootdown.{ShootdownState, IsShootdown, processor_at, state_of, current, tlb_of, with_processor, with_tlb, not_running, not_free, is_interrupted, interrupted, state_when_begun, begun, stalled, finished, resumed}
 use Rattle.shootdown.specs.Calls.{not_there, lock_refusal, change_refusal, is_stalled, wait_refusal}
-use Rattle.shootdown.proofs.Public.{processor_at-with_same, processor_at-with_other, length-with_processor, processor_at-begun, state-begun_one, length-begun, admitted, running, is_there_below}
-use Rattle.cpu.specs.Access.{Hardware, serves, walk, walked, walked_to, translated_by, translated, faulted}
+use Rattle.shootdown.proofs.Public.{processor_at-with_same, processor_at-with_other, length-with_processor, processor_at-begun, state-begun_one, length-begun, admitted, running}
+use Rattle.cpu.specs.Access.{Hardware, serves, walk, walked_to, translated_by, translated, faulted}
 use Rattle.machine.specs.declared.act.Act.{Act}
 use Rattle.machine.specs.declared.act.Act.TheVariants as acts
 use Rattle.machine.specs.declared.act.Reply.{Reply}
 use Rattle.machine.specs.declared.act.Reply.TheVariants as replies
 use Rattle.machine.specs.declared.act.Step.{Step}
 use Rattle.machine.specs.declared.msync_flags.MsyncFlags.{MsyncFlags}
-use Rattle.machine.specs.Refusals.{first_of}
 use Rattle.machine.specs.Rules.{Accesses, Acts, begin_change, after_record, is_page_next}
-use Rattle.machine.specs.Runs.{StepTaken, StepsTaken}
 use Rattle.machine.specs.State.{State, Whole}
 use Rattle.session.specs.declared.notes.Notes.{Notes}
 use Rattle.session.specs.Lengths.{tells_begun, tells_changed}
@@ -91,6 +88,9 @@ keeps_is old new is = keeps_same old new (same_is old.hardware.shootdown new.har
 -- nothing is done
 pub keeps_none : (s : State) → KeepsPhases s s
 keeps_none s = record { lock = refl; phases = λ q. refl }
+
+pub keeps_from : {D : Type 0} (old mid : Whole D) (new : State) → mid ≡ old → KeepsPhases mid.state new → KeepsPhases old.state new
+keeps_from {D} old mid new is kept = subst (λ (m : Whole D). KeepsPhases m.state new) is kept
 
 pub keeps_then : (old mid new : State) → KeepsPhases old mid → KeepsPhases mid new → KeepsPhases old new
 keeps_then old mid new first later = record { lock = later.lock ∙ first.lock; phases = λ q. later.phases q ∙ first.phases q }

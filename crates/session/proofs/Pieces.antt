@@ -9,8 +9,9 @@ use Rattle.device.specs.declared.device.Device.{Ghosts}
 use Rattle.machine.specs.State.{Whole}
 use Rattle.session.specs.declared.notes.Notes.{Notes}
 use Rattle.session.specs.declared.ranges.Reached.TheVariants.{All, Refused, NoMemory}
+use Rattle.session.specs.Ends.{EndsRange}
 use Rattle.session.specs.Ranges.{MakesStepsThat, LoadsRange, LoadsReached, StoresRange, StoresReached}
-use Rattle.session.specs.Steps.{Makes, AreAside, behind, EndsAt, AreLoads, AreStores}
+use Rattle.session.specs.Steps.{Makes, AreAside, behind, AreLoads, AreStores}
 use Rattle.session.specs.inside.Aside.{AnswersAfter, StopsAt}
 use Rattle.session.specs.inside.Made.{HasMade}
 use Rattle.session.proofs.Stretches.{makes_none, makes_then}
@@ -68,18 +69,18 @@ stores_then p va from (step ∷ steps) [] bytes steps' replies' bytes' first lat
 
 -- what ends a range comes after its pieces
 loads_ended : (p va from to : ℕ) (steps : List Step) (replies : List Reply) (bytes : List ℕ) (at : ℕ) (reply : Reply) (steps' : List Step) (replies' : List Reply)
-    → AreLoads p va from to steps replies bytes → EndsAt p at reply steps' replies' → EndsAt p at reply (steps ++ steps') (replies ++ replies')
+    → AreLoads p va from to steps replies bytes → EndsRange p at reply steps' replies' → EndsRange p at reply (steps ++ steps') (replies ++ replies')
 loads_ended p va from to [] [] bytes at reply steps' replies' first ended = ended
-loads_ended p va from to (step ∷ steps) (other ∷ replies) bytes at reply steps' replies' (inl aside) ended = inr (loads_ended p va from to steps replies bytes at reply steps' replies' aside.1 ended)
-loads_ended p va from to (step ∷ steps) (other ∷ replies) bytes at reply steps' replies' (inr (count, few, rest, step-is, reply-is, bytes-are, more)) ended = inr (loads_ended p va (from + count) to steps replies rest at reply steps' replies' more ended)
+loads_ended p va from to (step ∷ steps) (other ∷ replies) bytes at reply steps' replies' (inl aside) ended = inl (loads_ended p va from to steps replies bytes at reply steps' replies' aside.1 ended)
+loads_ended p va from to (step ∷ steps) (other ∷ replies) bytes at reply steps' replies' (inr (count, few, rest, step-is, reply-is, bytes-are, more)) ended = inl (loads_ended p va (from + count) to steps replies rest at reply steps' replies' more ended)
 loads_ended p va from to [] (other ∷ replies) bytes at reply steps' replies' first ended = absurd first
 loads_ended p va from to (step ∷ steps) [] bytes at reply steps' replies' first ended = absurd first
 
 stores_ended : (p va from : ℕ) (steps : List Step) (replies : List Reply) (bytes : List ℕ) (at : ℕ) (reply : Reply) (steps' : List Step) (replies' : List Reply)
-    → AreStores p va from steps replies bytes → EndsAt p at reply steps' replies' → EndsAt p at reply (steps ++ steps') (replies ++ replies')
+    → AreStores p va from steps replies bytes → EndsRange p at reply steps' replies' → EndsRange p at reply (steps ++ steps') (replies ++ replies')
 stores_ended p va from [] [] bytes at reply steps' replies' first ended = ended
-stores_ended p va from (step ∷ steps) (other ∷ replies) bytes at reply steps' replies' (inl aside) ended = inr (stores_ended p va from steps replies bytes at reply steps' replies' aside.1 ended)
-stores_ended p va from (step ∷ steps) (other ∷ replies) bytes at reply steps' replies' (inr (few, rest, step-is, reply-is, bytes-are, more)) ended = inr (stores_ended p va (from + length few) steps replies rest at reply steps' replies' more ended)
+stores_ended p va from (step ∷ steps) (other ∷ replies) bytes at reply steps' replies' (inl aside) ended = inl (stores_ended p va from steps replies bytes at reply steps' replies' aside.1 ended)
+stores_ended p va from (step ∷ steps) (other ∷ replies) bytes at reply steps' replies' (inr (few, rest, step-is, reply-is, bytes-are, more)) ended = inl (stores_ended p va (from + length few) steps replies rest at reply steps' replies' more ended)
 stores_ended p va from [] (other ∷ replies) bytes at reply steps' replies' first ended = absurd first
 stores_ended p va from (step ∷ steps) [] bytes at reply steps' replies' first ended = absurd first
 
@@ -167,6 +168,11 @@ made_does disk old new before after what it = record { steps = it.steps; replies
 
 pub does_nothing : {D : Type 0} (disk : Ghosts D) (old : Whole D) (before : Notes) (what : List Step → List Reply → Type 0) → what [] [] → MakesStepsThat disk old before what old before
 does_nothing disk old before what holds = record { steps = []; replies = []; makes = makes_none disk old before; holds = holds }
+
+-- from the same machine
+pub does_from : {D : Type 0} (disk : Ghosts D) (old same new : Whole D) (before noted after : Notes) (what : List Step → List Reply → Type 0) → same ≡ old → noted ≡ before → MakesStepsThat disk same noted what new after → MakesStepsThat disk old before what new after
+does_from disk old same new before noted after what is are it =
+    subst (λ m. MakesStepsThat disk m before what new after) is (subst (λ n. MakesStepsThat disk same n what new after) are it)
 
 -- what was done is more than was asked
 pub does_more : {D : Type 0} (disk : Ghosts D) (old new : Whole D) (before after : Notes) (what more : List Step → List Reply → Type 0) → ((steps : List Step) (replies : List Reply) → what steps replies → more steps replies) → MakesStepsThat disk old before what new after

@@ -1,35 +1,32 @@
 -- What was done for a line, and what is answered to it: one list of steps.
-use Rattle.std.proofs.Common.{◌≡◌, ◌⊎◌, inl, inr, ℕ, List, [], length, take, Option, Some, Result, Ok, Err, OnOk, refl, sym, ◌∙◌, arith}
+use Rattle.std.proofs.Common.{◌≡◌, ◌⊎◌, inl, inr, ℕ, List, length, Option, Some, Result, Ok, Err, OnOk, sym, ◌∙◌, arith}
 use Rattle.std.proofs.lemmas.List.{take_all}
 use Rattle.device.specs.declared.device.Device.{Ghosts}
 use Rattle.machine.specs.declared.act.Reply.{Reply}
 use Rattle.machine.specs.declared.act.Step.{Step}
 use Rattle.machine.specs.State.{State, Whole}
 use Rattle.session.specs.declared.notes.Notes.{Notes}
-use Rattle.session.specs.Answers.{AnswersRequest, AnswersLine, Commits, WritesAnswerOf}
+use Rattle.session.specs.Answers.{AnswersRequest, AnswersLine, WritesAnswerOf}
 use Rattle.session.specs.Asked.{IsDoneFor, IsServedFor}
 use Rattle.session.specs.Locks.{AsksSteps, KeepsPhases, KeepsPhasesFor}
 use Rattle.session.specs.Ranges.{MakesStepsThat}
 use Rattle.session.specs.Requests.{Asked, asks_steps, asks_load, asks_store, asks_commit, asks_length, request_in}
 use Rattle.session.specs.Serving.{ServesLine}
-use Rattle.session.specs.Steps.{Makes, AreOfCommit}
+use Rattle.session.specs.Steps.{Makes}
 use Rattle.session.specs.inside.Made.{HasMade}
+use Rattle.session.proofs.Commits.{answers_of_commit}
 
 -- ---- what was answered was done
-
-commits_do : (before : Notes) (committed : Result ℕ Reply) (steps : List Step) (replies : List Reply) → Commits before committed steps replies → AreOfCommit steps replies
-commits_do before (Ok mark) steps replies it = it.0
-commits_do before (Err reply) steps replies it = it.0
 
 answers_do : (before : Notes) (what : Asked) (answer : List ℕ) (steps : List Step) (replies : List Reply) → AnswersRequest before what answer steps replies → IsDoneFor what steps replies
 answers_do before (asks_steps wanted) answer steps replies it = (length wanted, it.0 ∙ sym (take_all (length wanted) wanted (omega arith)))
 answers_do before (asks_load p va count) answer steps replies (bytes, reached, it, told) = (bytes, reached, it)
 answers_do before (asks_store p va bytes) answer steps replies (reached, it, told) = (reached, it)
-answers_do before (asks_commit p) answer steps replies (committed, it, told) = commits_do before committed steps replies it
+answers_do before (asks_commit p) answer steps replies (committed, it, told) = answers_of_commit p before committed steps replies it
 answers_do before (asks_length p file to) answer steps replies (reply, it, told) = (reply, it)
 
 answers_serve : (before : Notes) (line answer : List ℕ) (steps : List Step) (replies : List Reply) → AnswersLine before line answer steps replies → IsServedFor line steps replies
-answers_serve before line answer steps replies (inl (none, (cause, text, no-steps, no-replies))) = inl (no-steps, no-replies)
+answers_serve before line answer steps replies (inl (none, (cause, one-line, text, no-steps, no-replies))) = inl (no-steps, no-replies)
 answers_serve before line answer steps replies (inr (what, is, it)) = inr (what, is, answers_do before what answer steps replies it)
 
 -- ---- one list of steps

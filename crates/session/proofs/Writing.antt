@@ -1,5 +1,5 @@
 -- The lines that answer requests: what is written, one thing after the other, and what it says.
-use Rattle.std.proofs.Common.{◌≡◌, ◌⊎◌, inl, inr, ℕ, ◌+◌, ◌<◌, ◌≤◌, List, [], ◌∷◌, ◌++◌, length, length-append, take, get_or, ◌-◌, ◌^◌, Bool, true, false, true≢false, if◌then◌else◌, Option, Some, None, OnSome, Result, Ok, Err, OnOk, IsOk, IfOk, IfErr, is_ok, codes, refl, sym, ◌∙◌, ap, subst, arith}
+use Rattle.std.proofs.Common.{◌≡◌, ◌⊎◌, inl, inr, ℕ, ◌+◌, ◌<◌, ◌≤◌, List, [], ◌∷◌, ◌++◌, length, length-append, take, get_or, ◌-◌, ◌^◌, Bool, true, false, true≢false, if◌then◌else◌, Option, Some, None, OnSome, Result, Ok, Err, OnOk, IsOk, IfOk, is_ok, codes, refl, sym, ◌∙◌, ap, subst, arith}
 use Rattle.std.proofs.lemmas.List.{append_assoc, append-nil, take_more, take_all}
 use Rattle.std.specs.Io.KnownBytes.{Appends, IsAtEnd, Keeps}
 use Rattle.hex.specs.Hex.{encode_with, encode_lower}
@@ -16,12 +16,13 @@ use Rattle.session.specs.declared.request_fault.RequestFault.{RequestFault}
 use Rattle.session.specs.declared.request_fault.RequestFault.TheVariants as fault
 use Rattle.session.specs.Notes.{noted_after, noted_all}
 use Rattle.session.specs.Answers.{steps_text, reply_after, refusal_text, reached_text, text_after_space, digits_text, TellsLoaded, stored_text, committed_text, AsksNothing, WritesAnswer, WritesAnswerOf, AnswersLines, WritesAnswers, AnswersInput}
-use Rattle.session.specs.Lines.{ReadsLines}
+use Rattle.session.specs.Commits.{AnswersCommit}
+use Rattle.session.specs.Lines.{HasNoFeed, ReadsLines}
 use Rattle.session.specs.Asked.{AreFirst, IsMemory}
 use Rattle.session.specs.Lengths.{AnswersLength}
 use Rattle.session.specs.Ranges.{MakesStepsThat, LoadsReached, StoresReached}
 use Rattle.session.specs.Requests.{Asked, asks_steps, asks_load, asks_store, asks_commit, asks_length, request_in}
-use Rattle.session.specs.Steps.{Makes, Says, CommitsMark}
+use Rattle.session.specs.Steps.{Makes}
 use Rattle.session.proofs.Lines.{reads_both, end_after_lines}
 use Rattle.session.proofs.Stretches.{makes_none, makes_then}
 
@@ -131,12 +132,10 @@ store_answered disk old new before after p va bytes reached a b it wrote =
     record { steps = it.steps; replies = it.replies; makes = it.makes; holds = (stored_text reached (length bytes), (reached, it.holds, refl), wrote) }
 
 -- a commit came to this
-pub commit_answered : {D : Type 0} (disk : Ghosts D) (old new : Whole D) (before after : Notes) (p : ℕ) (committed : Result ℕ Reply) (a b : Option (List ℕ)) → IfOk committed (λ mark. CommitsMark disk old before mark new after)
-    → IfErr committed (λ reply. Says disk old before reply new after) → Appends a b (committed_text committed ++ 10 ∷ []) → MakesStepsThat disk old before (WritesAnswer before (asks_commit p) a b) new after
-commit_answered disk old new before after p (Ok mark) a b ok err wrote =
-    record { steps = ok.steps; replies = ok.replies; makes = ok.makes; holds = (committed_text (Ok mark), (Ok mark, (ok.of_commit, ok.acknowledged), refl), wrote) }
-commit_answered disk old new before after p (Err reply) a b ok err wrote =
-    record { steps = err.steps; replies = err.replies; makes = err.makes; holds = (committed_text (Err reply), (Err reply, (err.of_commit, err.told), refl), wrote) }
+pub commit_answered : {D : Type 0} (disk : Ghosts D) (old new : Whole D) (before after : Notes) (p : ℕ) (committed : Result ℕ Reply) (a b : Option (List ℕ)) → MakesStepsThat disk old before (AnswersCommit p before committed) new after
+    → Appends a b (committed_text committed ++ 10 ∷ []) → MakesStepsThat disk old before (WritesAnswer before (asks_commit p) a b) new after
+commit_answered disk old new before after p committed a b it wrote =
+    record { steps = it.steps; replies = it.replies; makes = it.makes; holds = (committed_text committed, (committed, it.holds, refl), wrote) }
 
 -- a length was set, or refused
 pub length_answered : {D : Type 0} (disk : Ghosts D) (old new : Whole D) (before after : Notes) (p file to : ℕ) (reply : Reply) (a b : Option (List ℕ)) → MakesStepsThat disk old before (AnswersLength p file to reply) new after
@@ -169,9 +168,9 @@ asks_nothing line cause (inr is) not = is
 
 -- a line that asks for nothing
 pub line_refused : {D : Type 0} (disk : Ghosts D) (old : Whole D) (before : Notes) (line : List ℕ) (cause : RequestFault) (a b : Option (List ℕ)) → IsMemory cause ⊎ AsksNothing line
-    → ¬ (IsMemory cause) × ((text : List ℕ) × Appends a b (codes "badline " ++ text ++ 10 ∷ [])) → MakesStepsThat disk old before (WritesAnswerOf before line a b) old before
-line_refused disk old before line cause a b why (not, (text, wrote)) =
-    record { steps = []; replies = []; makes = makes_none disk old before; holds = (codes "badline " ++ text, inl (asks_nothing line cause why not, (text, refl, refl, refl)), wrote) }
+    → ¬ (IsMemory cause) × ((text : List ℕ) × HasNoFeed text × Appends a b (codes "badline " ++ text ++ 10 ∷ [])) → MakesStepsThat disk old before (WritesAnswerOf before line a b) old before
+line_refused disk old before line cause a b why (not, (text, plain, wrote)) =
+    record { steps = []; replies = []; makes = makes_none disk old before; holds = (codes "badline " ++ text, inl (asks_nothing line cause why not, (text, plain, refl, refl, refl)), wrote) }
 
 -- the same, and then nothing
 appends_kept : (a b c : Option (List ℕ)) (bytes : List ℕ) → Appends a b bytes → Keeps b c → Appends a c bytes
@@ -237,9 +236,9 @@ answers_one disk old new before after line input rest a b c read it kept =
     }
 
 -- one line that is too long
-answers_bad : {D : Type 0} (disk : Ghosts D) (old : Whole D) (before : Notes) (input rest a b c : Option (List ℕ)) → ReadsLines input rest (None ∷ []) → ((text : List ℕ) × Appends a b (codes "badline " ++ text ++ 10 ∷ [])) → Keeps b c
+answers_bad : {D : Type 0} (disk : Ghosts D) (old : Whole D) (before : Notes) (input rest a b c : Option (List ℕ)) → ReadsLines input rest (None ∷ []) → ((text : List ℕ) × HasNoFeed text × Appends a b (codes "badline " ++ text ++ 10 ∷ [])) → Keeps b c
     → MakesStepsThat disk old before (WritesAnswers before 1 input rest a c) old before
-answers_bad disk old before input rest a b c read (text, wrote) kept =
+answers_bad disk old before input rest a b c read (text, plain, wrote) kept =
     let answer : List ℕ = codes "badline " ++ text in
     record {
       steps = [];
@@ -250,7 +249,7 @@ answers_bad disk old before input rest a b c read (text, wrote) kept =
         answer ++ 10 ∷ [],
         refl,
         read,
-        (answer, [], [], [], [], [], (text, refl, refl, refl), (refl, refl, refl), refl, refl, refl),
+        (answer, [], [], [], [], [], (text, plain, refl, refl, refl), (refl, refl, refl), refl, refl, refl),
         appends_kept a b c (answer ++ 10 ∷ []) wrote kept,
       );
     }
@@ -267,7 +266,7 @@ line_flushed disk old new before after line input rest a b c written (Ok more) r
     subst (WritesNext disk old new before after input rest a c) (sym was) (answers_one disk old new before after line input rest a b c read (on_ok_at written wrote told) kept)
 
 pub bad_flushed : {D S E F : Type 0} (disk : Ghosts D) (old : Whole D) (before : Notes) (cause : RequestFault) (input rest a b c : Option (List ℕ)) (written : Result S E) (flushed : Result Bool F) → ReadsLines input rest (None ∷ [])
-    → OnOk written (¬ (IsMemory cause) × ((text : List ℕ) × Appends a b (codes "badline " ++ text ++ 10 ∷ []))) → IfOk flushed (λ more. (more ≡ true) × IsOk written × Keeps b c) → IfOk flushed (WritesNext disk old old before before input rest a c)
+    → OnOk written (¬ (IsMemory cause) × ((text : List ℕ) × HasNoFeed text × Appends a b (codes "badline " ++ text ++ 10 ∷ []))) → IfOk flushed (λ more. (more ≡ true) × IsOk written × Keeps b c) → IfOk flushed (WritesNext disk old old before before input rest a c)
 bad_flushed disk old before cause input rest a b c written (Err fault) read told is = tt
 bad_flushed disk old before cause input rest a b c written (Ok more) read told (was, wrote, kept) =
     subst (WritesNext disk old old before before input rest a c) (sym was) (answers_bad disk old before input rest a b c read (on_ok_at written wrote told).1 kept)

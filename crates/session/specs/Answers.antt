@@ -1,5 +1,5 @@
 -- The line that answers a request, without its line feed, and what was done for it.
-use Rattle.std.specs.Prelude.{ℕ, zero, suc, ◌≡◌, ◌⊎◌, ◌-◌, ◌^◌, ◌<◌, List, [], ◌∷◌, ◌++◌, length, Contains, Option, Some, None, OnSome, Result, Ok, Err, codes, IsUtf8}
+use Rattle.std.specs.Prelude.{ℕ, zero, suc, ◌≡◌, ◌⊎◌, ◌-◌, ◌^◌, ◌<◌, List, [], ◌∷◌, ◌++◌, length, Option, Some, None, OnSome, Result, Ok, Err, codes, IsUtf8}
 use Rattle.std.specs.Fmt.{decimal}
 use Rattle.std.specs.Io.KnownBytes.{Appends, IsAtEnd}
 use Rattle.hex.specs.Hex.{encode_lower}
@@ -9,12 +9,12 @@ use Rattle.machine.specs.Words.{reply_text}
 use Rattle.session.specs.declared.notes.Notes.{Notes}
 use Rattle.session.specs.declared.ranges.Reached.{Reached}
 use Rattle.session.specs.declared.ranges.Reached.TheVariants.{All, Refused, NoMemory}
+use Rattle.session.specs.Commits.{AnswersCommit}
 use Rattle.session.specs.Lengths.{AnswersLength}
-use Rattle.session.specs.Lines.{ReadsLines}
+use Rattle.session.specs.Lines.{HasNoFeed, ReadsLines}
 use Rattle.session.specs.Notes.{noted_all}
 use Rattle.session.specs.Ranges.{LoadsReached, StoresReached}
 use Rattle.session.specs.Requests.{Asked, asks_steps, asks_load, asks_store, asks_commit, asks_length, request_in}
-use Rattle.session.specs.Steps.{AreOfCommit, IsMarkDurable}
 
 -- the replies of steps, with "; " between them
 abbrev pub steps_text : List Reply → List ℕ
@@ -62,11 +62,6 @@ abbrev pub committed_text : Result ℕ Reply → List ℕ
 committed_text (Ok mark) = codes "committed " ++ decimal mark
 committed_text (Err reply) = reply_text reply
 
--- steps of a commit that came to this
-abbrev pub Commits : Notes → Result ℕ Reply → List Step → List Reply → Type 0
-Commits before (Ok mark) steps replies = AreOfCommit steps replies × IsMarkDurable before replies mark
-Commits before (Err reply) steps replies = AreOfCommit steps replies × Contains replies reply
-
 -- All that was asked for was done by these steps, as far as the machine makes them, and this is what is answered.
 abbrev pub AnswersRequest : Notes → Asked → List ℕ → List Step → List Reply → Type 0
 AnswersRequest before (asks_steps wanted) answer steps replies = (steps ≡ wanted) × (answer ≡ steps_text replies)
@@ -76,7 +71,7 @@ AnswersRequest before (asks_load p va count) answer steps replies =
 AnswersRequest before (asks_store p va bytes) answer steps replies =
     (reached : Reached) × StoresReached p va bytes reached steps replies × (answer ≡ stored_text reached (length bytes))
 AnswersRequest before (asks_commit p) answer steps replies =
-    (committed : Result ℕ Reply) × Commits before committed steps replies × (answer ≡ committed_text committed)
+    (committed : Result ℕ Reply) × AnswersCommit p before committed steps replies × (answer ≡ committed_text committed)
 AnswersRequest before (asks_length p file to) answer steps replies =
     (reply : Reply) × AnswersLength p file to reply steps replies × (answer ≡ reply_text reply)
 
@@ -89,10 +84,10 @@ WritesAnswer before what old new steps replies =
 abbrev pub AsksNothing : List ℕ → Type 0
 AsksNothing line = (request_in line ≡ None) ⊎ ¬ (IsUtf8 line)
 
--- A line that asks for nothing is a bad one, and no step is made for it.
+-- A line that asks for nothing is a bad one, and no step is made for it. The cause is text of one line.
 abbrev pub IsBad : List ℕ → List Step → List Reply → Type 0
 IsBad answer steps replies =
-    (cause : List ℕ) × (answer ≡ codes "badline " ++ cause) × (steps ≡ []) × (replies ≡ [])
+    (cause : List ℕ) × HasNoFeed cause × (answer ≡ codes "badline " ++ cause) × (steps ≡ []) × (replies ≡ [])
 
 -- A line was answered so, by what it asks for.
 abbrev pub AnswersLine : Notes → List ℕ → List ℕ → List Step → List Reply → Type 0

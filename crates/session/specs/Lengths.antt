@@ -1,11 +1,12 @@
 -- How a processor sets the length of a file, and what it is answered.
 use Rattle.std.specs.Prelude.{ℕ, ◌≡◌, ◌⊎◌, Bool, true, false, List, [], ◌∷◌, ◌++◌}
-use Rattle.machine.specs.declared.act.Act.{Act}
+use Rattle.page_entry.specs.declared.refusal.Refusal.TheVariants.{Busy, NoFrame}
 use Rattle.machine.specs.declared.act.Act.TheVariants.{SetLength, Ack, Change, Resume, Flush}
 use Rattle.machine.specs.declared.act.Reply.{Reply}
-use Rattle.machine.specs.declared.act.Reply.TheVariants.{Begun, Unmapped, Protected, Resized, Reclaimed, Kept, Marked, Acked, Resumed, Going, Committed, Done}
+use Rattle.machine.specs.declared.act.Reply.TheVariants.{Begun, Unmapped, Protected, Resized, Reclaimed, Kept, Marked, Acked, Resumed, Going, Committed, Done, Nothing, Refused}
 use Rattle.machine.specs.declared.act.Step.{Step}
-use Rattle.session.specs.Steps.{is_aside, AreAside}
+use Rattle.session.specs.Ends.{AreFruitless}
+use Rattle.session.specs.Steps.{is_aside}
 
 -- that a change was begun
 abbrev pub tells_begun : Reply → Bool
@@ -18,6 +19,11 @@ tells_flushed Going = true
 tells_flushed (Committed number) = true
 tells_flushed (Done number) = true
 tells_flushed _ = false
+
+-- that a step was refused
+abbrev pub tells_refused : Reply → Bool
+tells_refused (Refused why) = true
+tells_refused _ = false
 
 -- that a change was made
 abbrev pub tells_changed : Reply → Bool
@@ -48,31 +54,47 @@ pub record AnswersChange (p : ℕ) (answer : Reply) (steps : List Step) (replies
   pub steps_are : steps ≡ change_steps p others
   pub replies_are : replies ≡ change_replies answer others
 
--- the step by which processor p would begin to set the length of a file, and that doesn't
-abbrev pub IsInVain : ℕ → ℕ → ℕ → Step → Reply → Type 0
-IsInVain p file to step reply = (step ≡ record { p = p; act = SetLength file to }) × (tells_begun reply ≡ false)
+-- the step by which processor p begins to set the length of a file, and its step of the write-outs
+abbrev pub set_length_by : ℕ → ℕ → ℕ → Step
+set_length_by p file to = record { p = p; act = SetLength file to }
 
--- a step before a length's change is begun: an attempt in vain, or one that reads and stores nothing
+abbrev pub flush_by : ℕ → Step
+flush_by p = record { p = p; act = Flush }
+
+-- an attempt that is refused for a while: write-outs have to be done first, or too few frames are free
+abbrev pub tells_later : Reply → Bool
+tells_later (Refused Busy) = true
+tells_later (Refused NoFrame) = true
+tells_later _ = false
+
+-- a step before a length's change is begun: an attempt that is refused for a while, or one that reads and stores nothing
 abbrev pub IsTry : ℕ → ℕ → ℕ → Step → Reply → Type 0
-IsTry p file to step reply = IsInVain p file to step reply ⊎ (is_aside step.act reply ≡ true)
+IsTry p file to step reply =
+    ((step ≡ set_length_by p file to) × (tells_later reply ≡ true)) ⊎ (is_aside step.act reply ≡ true)
 
 -- It is begun, and the answer is that of its change.
 abbrev pub ChangesLength : ℕ → ℕ → ℕ → Reply → List Step → List Reply → Type 0
 ChangesLength p file to answer (step ∷ steps) (reply ∷ replies) =
     (IsTry p file to step reply × ChangesLength p file to answer steps replies)
-    ⊎ ((step ≡ record { p = p; act = SetLength file to }) × (reply ≡ Begun) × AnswersChange p answer steps replies)
+    ⊎ ((step ≡ set_length_by p file to) × (reply ≡ Begun) × AnswersChange p answer steps replies)
 ChangesLength p file to answer steps replies = ⊥
 
--- what keeps a length from being set: an attempt in vain, or a step of a write-out that isn't made
-abbrev pub IsObstacle : ℕ → ℕ → ℕ → Step → Reply → Type 0
-IsObstacle p file to step reply = IsInVain p file to step reply
-    ⊎ ((step ≡ record { p = p; act = Flush }) × (tells_flushed reply ≡ false))
+-- What comes after the last attempt, which was answered so, and why no other one is made: it is for good; or too few
+-- frames are free, and none became free; or it is busy, and the write-outs have no step left; or it is busy, and the
+-- step of the write-outs that would be made for it is refused, which is the answer.
+abbrev pub IsLeft : ℕ → Reply → Reply → List Step → List Reply → Type 0
+IsLeft p answer reply steps replies =
+    ((reply ≡ answer) × (tells_begun answer ≡ false) × (tells_later answer ≡ false) × (steps ≡ []) × (replies ≡ []))
+    ⊎ ((reply ≡ Refused NoFrame) × (answer ≡ Refused NoFrame) × AreFruitless steps replies)
+    ⊎ ((reply ≡ Refused Busy) × (answer ≡ Refused Busy) × (steps ≡ flush_by p ∷ []) × (replies ≡ Nothing ∷ []))
+    ⊎ ((reply ≡ Refused Busy) × (tells_refused answer ≡ true) × (steps ≡ flush_by p ∷ [])
+    × (replies ≡ answer ∷ []))
 
--- It isn't begun, and the answer is that of an attempt, or of a step of a write-out that it waits for.
+-- It isn't begun, and the answer is that of the last attempt, or of the step of the write-outs that it waits for.
 abbrev pub RefusesLength : ℕ → ℕ → ℕ → Reply → List Step → List Reply → Type 0
 RefusesLength p file to answer (step ∷ steps) (reply ∷ replies) =
     (IsTry p file to step reply × RefusesLength p file to answer steps replies)
-    ⊎ (IsObstacle p file to step reply × (reply ≡ answer) × AreAside steps replies)
+    ⊎ ((step ≡ set_length_by p file to) × IsLeft p answer reply steps replies)
 RefusesLength p file to answer steps replies = ⊥
 
 -- Processor p set the length of a file, or was refused it, and this is the answer.

@@ -3,10 +3,13 @@ pub mod Requests
 pub mod Locks
 pub mod Asked
 pub mod Steps
+pub mod Ends
 pub mod Lengths
+pub mod Commits
 pub mod Ranges
 pub mod Lines
 pub mod Answers
 pub mod Serving
 pub mod Files
+pub mod Sessions
 pub mod inside

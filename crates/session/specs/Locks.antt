@@ -1,5 +1,5 @@
 -- What a request leaves of the lock and of the processors' phases.
-use Rattle.std.specs.Prelude.{ℕ, ◌≡◌, ◌⊎◌, ⊤, List, Some}
+use Rattle.std.specs.Prelude.{ℕ, ◌≡◌, ⊤, List, Some}
 use Rattle.shootdown.specs.Shootdown.{state_of}
 use Rattle.machine.specs.declared.act.Step.{Step}
 use Rattle.machine.specs.State.{State}

@@ -7,19 +7,20 @@ use Rattle.machine.specs.State.{Whole}
 use Rattle.session.specs.declared.notes.Notes.{Notes}
 use Rattle.session.specs.declared.ranges.Reached.{Reached}
 use Rattle.session.specs.declared.ranges.Reached.TheVariants.{All, Refused, NoMemory}
-use Rattle.session.specs.Steps.{Makes, behind, EndsAt, AreLoads, AreStores}
+use Rattle.session.specs.Ends.{EndsRange}
+use Rattle.session.specs.Steps.{Makes, behind, AreLoads, AreStores}
 
 -- so many bytes from an address on were loaded, which are these
 abbrev pub LoadsRange : ℕ → ℕ → ℕ → List ℕ → List Step → List Reply → Type 0
 LoadsRange p va count bytes steps replies = AreLoads p va 0 count steps replies bytes
 
--- All bytes of a range were loaded; or fewer, and the load of the next one was tried, and answered so, or its fault; or
--- so many as were loaded when memory was refused.
+-- All bytes of a range were loaded; or fewer, and the last attempt at the next one was answered so (`EndsRange`); or so
+-- many as were loaded when memory was refused.
 abbrev pub LoadsReached : ℕ → ℕ → ℕ → List ℕ → Reached → List Step → List Reply → Type 0
 LoadsReached p va count bytes All steps replies = LoadsRange p va count bytes steps replies
 LoadsReached p va count bytes (Refused reached reply) steps replies =
     (reached < count) × LoadsRange p va reached bytes steps replies
-    × EndsAt p (behind va reached) reply steps replies
+    × EndsRange p (behind va reached) reply steps replies
 LoadsReached p va count bytes NoMemory steps replies =
     (reached : ℕ) × (some : List ℕ) × (reached ≤ count) × LoadsRange p va reached some steps replies
 
@@ -27,13 +28,13 @@ LoadsReached p va count bytes NoMemory steps replies =
 abbrev pub StoresRange : ℕ → ℕ → List ℕ → List Step → List Reply → Type 0
 StoresRange p va bytes steps replies = AreStores p va 0 steps replies bytes
 
--- All bytes were stored from an address on; or fewer, and the store of the next one was tried, and answered so, or its
--- fault. It asks for no memory.
+-- All bytes were stored from an address on; or fewer, and the last attempt at the next one was answered so (`EndsRange`).
+-- It asks for no memory.
 abbrev pub StoresReached : ℕ → ℕ → List ℕ → Reached → List Step → List Reply → Type 0
 StoresReached p va bytes All steps replies = StoresRange p va bytes steps replies
 StoresReached p va bytes (Refused reached reply) steps replies =
     (reached < length bytes) × StoresRange p va (take reached bytes) steps replies
-    × EndsAt p (behind va reached) reply steps replies
+    × EndsRange p (behind va reached) reply steps replies
 StoresReached p va bytes NoMemory steps replies = ⊥
 
 -- Steps were made of which this holds.

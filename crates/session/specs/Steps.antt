@@ -1,10 +1,10 @@
 -- What steps a request makes, and what they are answered.
-use Rattle.std.specs.Prelude.{ℕ, ◌≡◌, ◌⊎◌, ◌+◌, ◌-◌, ◌^◌, ◌==◌, ◌&&◌, min, Bool, true, false, not, ⊤, List, [], ◌∷◌, ◌++◌, length, Contains}
+use Rattle.std.specs.Prelude.{ℕ, ◌≡◌, ◌⊎◌, ◌+◌, ◌-◌, ◌^◌, min, Bool, true, false, not, ⊤, List, [], ◌∷◌, ◌++◌, length}
 use Rattle.device.specs.declared.device.Device.{Ghosts}
 use Rattle.machine.specs.declared.act.Act.{Act}
 use Rattle.machine.specs.declared.act.Act.TheVariants.{Load, Store, Fix, Reclaim, Msync, Ack, Change, Resume, Flush}
 use Rattle.machine.specs.declared.act.Reply.{Reply}
-use Rattle.machine.specs.declared.act.Reply.TheVariants.{Bytes, Stored, Fixed, Reclaimed, Kept, Marked, Acked, Resumed, Committed}
+use Rattle.machine.specs.declared.act.Reply.TheVariants.{Bytes, Stored, Fixed, Reclaimed, Kept, Marked, Acked, Resumed}
 use Rattle.machine.specs.declared.act.Step.{Step}
 use Rattle.machine.specs.State.{Whole}
 use Rattle.machine.specs.Runs.{StepsTaken}
@@ -79,15 +79,6 @@ AreOfCommit (step ∷ steps) (reply ∷ replies) =
     (is_of_commit step.act reply ≡ true) × AreOfCommit steps replies
 AreOfCommit steps replies = ⊥
 
--- Steps of a commit were made, and this is one of their replies.
-pub record Says {D : Type 0} (disk : Ghosts D) (old : Whole D) (before : Notes) (reply : Reply) (new : Whole D)
-    (after : Notes) : Type 0 where
-  pub steps : List Step
-  pub replies : List Reply
-  pub makes : Makes disk old before steps replies new after
-  pub of_commit : AreOfCommit steps replies
-  pub told : Contains replies reply
-
 -- the address that lies so far behind another one
 abbrev pub behind : ℕ → ℕ → ℕ
 behind va count = min (va + count) (2 ^ 64 - 1)
@@ -96,19 +87,6 @@ behind va count = min (va + count) (2 ^ 64 - 1)
 abbrev pub tells_fixed : Reply → Bool
 tells_fixed Fixed = true
 tells_fixed _ = false
-
--- how a step may end a range at an address: a load or a store there that isn't made, or a fault there that isn't served
-abbrev pub may_end : ℕ → Act → Reply → Bool
-may_end at (Load va count) reply = (va == at) && not (tells_bytes reply)
-may_end at (Store va bytes) reply = (va == at) && not (tells_stored reply)
-may_end at (Fix va write) reply = (va == at) && not (tells_fixed reply)
-may_end at act reply = false
-
--- one of the steps is of this processor, and may end a range at this address with this reply
-abbrev pub EndsAt : ℕ → ℕ → Reply → List Step → List Reply → Type 0
-EndsAt p at reply (step ∷ steps) (other ∷ replies) =
-    ((step.p ≡ p) × (may_end at step.act other ≡ true) × (other ≡ reply)) ⊎ EndsAt p at reply steps replies
-EndsAt p at reply steps replies = ⊥
 
 -- Of a range from an address on, the bytes from one offset to another were loaded, piece by piece in order: these
 -- bytes are what the loads among the steps were answered, and the other steps read and store nothing.
@@ -129,22 +107,3 @@ AreStores p va from (step ∷ steps) (reply ∷ replies) bytes =
     ⊎ ((few rest : List ℕ) × (step ≡ record { p = p; act = Store (behind va from) few })
     × (reply ≡ Stored) × (bytes ≡ few ++ rest) × AreStores p va (from + length few) steps replies rest)
 AreStores p va from steps replies bytes = ⊥
-
--- A mark was made by some of the steps, and is acknowledged: it was committed after them, or before them there was no
--- store that no mark had yet.
-pub record IsMarkDurable (before : Notes) (replies : List Reply) (mark : ℕ) : Type 0 where
-  pub earlier : List Reply
-  pub during : List Reply
-  pub later : List Reply
-  pub split : replies ≡ earlier ++ during ++ later
-  pub marked : Contains during (Marked mark)
-  pub durable : Contains later (Committed mark) ⊎ ((noted_all before earlier).has_unmarked ≡ false)
-
--- Steps of a commit were made, by which this mark is acknowledged.
-pub record CommitsMark {D : Type 0} (disk : Ghosts D) (old : Whole D) (before : Notes) (mark : ℕ) (new : Whole D)
-    (after : Notes) : Type 0 where
-  pub steps : List Step
-  pub replies : List Reply
-  pub makes : Makes disk old before steps replies new after
-  pub of_commit : AreOfCommit steps replies
-  pub acknowledged : IsMarkDurable before replies mark

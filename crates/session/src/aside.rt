@@ -1,14 +1,17 @@
 // Steps that a session makes beside those that it was asked for: faults are served, and frames are made free.
 ghost use Rattle.std.specs.Prelude.{◌≡◌, ◌↔◌, [], ◌∷◌, true, false, IsTrue};
+ghost use Rattle.page_entry.specs.declared.refusal.Refusal.{Refusal};
 ghost use Rattle.spaces.specs.declared.change.Change.{Change};
 ghost use Rattle.shootdown.specs.declared.proc_state.ProcState.TheVariants.{Interrupted};
 ghost use Rattle.shootdown.specs.Shootdown.{state_of};
 ghost use Rattle.machine.specs.declared.act.Act.TheVariants as acts;
+ghost use Rattle.machine.specs.declared.act.Reply.TheVariants as told;
+ghost use Rattle.session.specs.Ends.{MakesRoom, AreFruitless, tells_reclaimed, IsUnserved};
 ghost use Rattle.session.specs.Lengths.{tells_begun, tells_flushed, AnswersChange};
 ghost use Rattle.session.specs.Locks.{KeepsPhases};
 ghost use Rattle.session.specs.Ranges.{MakesStepsThat};
 ghost use Rattle.session.specs.Steps.{Makes, tells_fixed};
-ghost use Rattle.session.specs.inside.Aside.{GoesAside, IsTold, StopsAt};
+ghost use Rattle.session.specs.inside.Aside.{Serves, IsUnservedAside};
 ghost use Rattle.session.specs.inside.Changing.{AreCalm, HoldsLock, IsOver, tells_made};
 
 use crate::session::Session;
@@ -24,9 +27,10 @@ impl<D: Device, A: Allocator + Copy> Session<D, A> {
     /// Serves a fault of a processor, and makes a frame free for it where none is. Answers `Fixed`, or why it isn't
     /// served.
     pub(crate) fn fix(&mut self, p: ProcessorNumber, va: u64, write: bool) -> Reply
-        ensures told { IsTold D.Device self.old.machine self.old.notes result self.new.machine self.new.notes }
-        ensures ends { tells_fixed result ≡ false → StopsAt D.Device self.old.machine self.old.notes p va result
-            self.new.machine self.new.notes }
+        ensures served { tells_fixed result ≡ true → MakesStepsThat D.Device self.old.machine self.old.notes
+            (Serves p va write) self.new.machine self.new.notes }
+        ensures ends { tells_fixed result ≡ false → MakesStepsThat D.Device self.old.machine self.old.notes
+            (IsUnservedAside p va result) self.new.machine self.new.notes }
         ensures phases { KeepsPhases self.old.machine.state self.new.machine.state }
     {
         let fix = Step {
@@ -43,9 +47,11 @@ impl<D: Device, A: Allocator + Copy> Session<D, A> {
         self.make(&fix)
     }
 
-    /// Makes a frame free, if that can be done.
+    /// Makes a frame free, if that can be done. Answers whether one is.
     pub(crate) fn make_room(&mut self, p: ProcessorNumber) -> bool
-        ensures { GoesAside D.Device self.old.machine self.old.notes self.new.machine self.new.notes }
+        ensures room { MakesStepsThat D.Device self.old.machine self.old.notes (MakesRoom result)
+            self.new.machine self.new.notes }
+        ensures phases { KeepsPhases self.old.machine.state self.new.machine.state }
     {
         if self.take_next_out(p) {
             return true;
@@ -55,7 +61,9 @@ impl<D: Device, A: Allocator + Copy> Session<D, A> {
 
     // Makes a frame free, once the write-outs are done: a page that belongs to one stays in memory until then.
     fn make_room_later(&mut self, p: ProcessorNumber) -> bool
-        ensures { GoesAside D.Device self.old.machine self.old.notes self.new.machine self.new.notes }
+        ensures room { MakesStepsThat D.Device self.old.machine self.old.notes (MakesRoom result)
+            self.new.machine self.new.notes }
+        ensures phases { KeepsPhases self.old.machine.state self.new.machine.state }
     {
         if !self.write_home(p) {
             return false;
@@ -65,10 +73,12 @@ impl<D: Device, A: Allocator + Copy> Session<D, A> {
 
     // Takes the next page that is clean out of memory. Answers whether there was one.
     fn take_next_out(&mut self, p: ProcessorNumber) -> bool
-        ensures { GoesAside D.Device self.old.machine self.old.notes self.new.machine self.new.notes }
+        ensures room { MakesStepsThat D.Device self.old.machine self.old.notes (MakesRoom result)
+            self.new.machine self.new.notes }
+        ensures phases { KeepsPhases self.old.machine.state self.new.machine.state }
     {
-        for _ in 0..self.files.pages() {
-            let page = self.files.turn();
+        for _ in 0..self.files().pages() {
+            let page = self.turn();
             if self.take_out(p, page) {
                 return true;
             }
@@ -78,7 +88,9 @@ impl<D: Device, A: Allocator + Copy> Session<D, A> {
 
     // Makes all steps of the write-outs that are left. Answers whether there was one.
     fn write_home(&mut self, p: ProcessorNumber) -> bool
-        ensures { GoesAside D.Device self.old.machine self.old.notes self.new.machine self.new.notes }
+        ensures fruitless { MakesStepsThat D.Device self.old.machine self.old.notes AreFruitless
+            self.new.machine self.new.notes }
+        ensures phases { KeepsPhases self.old.machine.state self.new.machine.state }
     {
         let mut has_made = false;
         for _ in 0..u64::MAX {
@@ -100,9 +112,11 @@ impl<D: Device, A: Allocator + Copy> Session<D, A> {
         self.make(&flush)
     }
 
-    // Takes a page out of memory, if it is there and clean.
+    // Takes a page out of memory, if it is there and clean. Answers whether it was.
     fn take_out(&mut self, p: ProcessorNumber, page: FilePage) -> bool
-        ensures { GoesAside D.Device self.old.machine self.old.notes self.new.machine self.new.notes }
+        ensures room { MakesStepsThat D.Device self.old.machine self.old.notes (MakesRoom result)
+            self.new.machine self.new.notes }
+        ensures phases { KeepsPhases self.old.machine.state self.new.machine.state }
     {
         let reclaim = Step {
             p,
@@ -111,7 +125,7 @@ impl<D: Device, A: Allocator + Copy> Session<D, A> {
                 page: page.page,
             },
         };
-        self.machine.is_coherent();
+        self.has_phases();
         let begun = self.make(&reclaim);
         if !is_begun(&begun) {
             return false;
@@ -172,7 +186,7 @@ impl<D: Device, A: Allocator + Copy> Session<D, A> {
         ensures made { (change : Change) → HoldsLock p change self.old.machine.state
             → tells_made change result ≡ true }
     {
-        self.machine.is_coherent();
+        self.has_phases();
         let change = Step {
             p,
             act: Act::Change,
@@ -183,7 +197,7 @@ impl<D: Device, A: Allocator + Copy> Session<D, A> {
     fn is_interrupted(&self, p: ProcessorNumber) -> bool
         ensures { IsTrue result ↔ (state_of self.now.machine.state.hardware.shootdown p ≡ Interrupted) }
     {
-        matches!(self.machine.state(p), Ok(ProcState::Interrupted))
+        matches!(self.machine().state(p), Ok(ProcState::Interrupted))
     }
 }
 
@@ -194,13 +208,16 @@ pub(crate) fn is_begun(reply: &Reply) -> bool
     matches!(reply, Reply::Begun)
 }
 
-fn is_reclaimed(reply: &Reply) -> bool {
+// Whether a page left memory.
+fn is_reclaimed(reply: &Reply) -> bool
+    ensures { result ≡ tells_reclaimed reply.now }
+{
     matches!(reply, Reply::Reclaimed)
 }
 
 /// Whether no frame, or too few, were free.
 pub(crate) fn is_no_frame(reply: &Reply) -> bool
-    ensures { IsTrue result → tells_begun reply.now ≡ false }
+    ensures { IsTrue result ↔ (reply.now ≡ told.Refused Refusal.NoFrame) }
 {
     matches!(reply, Reply::Refused(Refusal::NoFrame))
 }

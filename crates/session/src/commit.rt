@@ -1,13 +1,13 @@
 // A commit: from the beginning of its mark to the acknowledgement.
-ghost use Rattle.std.specs.Prelude.{◌≡◌, true, false, IfOk, IfErr, IfSome, IsTrue};
+ghost use Rattle.std.specs.Prelude.{ℕ, ◌≡◌, ◌≢◌, ◌↔◌, true, false, IfOk, IfErr, IfSome, IfNone, IsTrue};
+ghost use Rattle.page_entry.specs.declared.refusal.Refusal.{Refusal};
 ghost use Rattle.spaces.specs.declared.change.Change.TheVariants.{Checkpoint};
 ghost use Rattle.machine.specs.declared.act.Reply.TheVariants as told;
+ghost use Rattle.session.specs.Commits.{BeginsMark, RefusesMark, WritesUntil, CommitsMark, StopsCommit, tells_unmade};
 ghost use Rattle.session.specs.Lengths.{tells_begun};
 ghost use Rattle.session.specs.Locks.{KeepsPhases};
 ghost use Rattle.session.specs.Ranges.{MakesStepsThat};
-ghost use Rattle.session.specs.Steps.{CommitsMark, Says};
 ghost use Rattle.session.specs.inside.Changing.{HasBegun};
-ghost use Rattle.session.specs.inside.Made.{BeginsMark};
 
 use crate::aside::{is_begun, is_flushed};
 use crate::session::Session;
@@ -17,19 +17,21 @@ use page_entry::{ProcessorNumber, Refusal};
 use std::alloc::Allocator;
 
 impl<D: Device, A: Allocator + Copy> Session<D, A> {
-    /// Commits all stores. Answers the number of the mark, which is acknowledged, or what a step was answered instead.
+    /// Commits all stores. Answers the number of the mark, which is durable; or what the step was answered that stopped
+    /// the commit: a refusal, or that there was nothing to do.
     pub fn commit(&mut self, p: ProcessorNumber) -> Result<u32, Reply>
-        ensures ok { IfOk result (λ mark. CommitsMark D.Device self.old.machine self.old.notes mark
-            self.new.machine self.new.notes) }
-        ensures err { IfErr result (λ reply. Says D.Device self.old.machine self.old.notes reply
-            self.new.machine self.new.notes) }
+        ensures ok { IfOk result (λ mark. MakesStepsThat D.Device self.old.machine self.old.notes
+            (CommitsMark p self.old.notes mark) self.new.machine self.new.notes) }
+        ensures err { IfErr result (λ reply. MakesStepsThat D.Device self.old.machine self.old.notes
+            (StopsCommit p self.old.notes reply) self.new.machine self.new.notes) }
+        ensures unmade { IfErr result (λ reply. tells_unmade reply ≡ true) }
         ensures phases { KeepsPhases self.old.machine.state self.new.machine.state }
     {
         let begun = self.begin_mark(p);
         if !is_begun(&begun) {
             return Err(begun);
         }
-        let before = self.notes;
+        let before = self.notes();
         let changed = self.change(p);
         let Some(mark) = mark_of(&changed) else {
             return Err(changed);
@@ -47,8 +49,9 @@ impl<D: Device, A: Allocator + Copy> Session<D, A> {
     // Begins a mark. Where write-outs have to be done first, it makes steps of them.
     fn begin_mark(&mut self, p: ProcessorNumber) -> Reply
         ensures begins { tells_begun result ≡ true → MakesStepsThat D.Device self.old.machine self.old.notes
-            BeginsMark self.new.machine self.new.notes }
-        ensures says { Says D.Device self.old.machine self.old.notes result self.new.machine self.new.notes }
+            (BeginsMark p) self.new.machine self.new.notes }
+        ensures refuses { tells_begun result ≡ false → MakesStepsThat D.Device self.old.machine self.old.notes
+            (RefusesMark p result) self.new.machine self.new.notes }
         ensures held { tells_begun result ≡ true → HasBegun p Checkpoint self.old.machine.state
             self.new.machine.state }
         ensures phases { tells_begun result ≡ false → KeepsPhases self.old.machine.state self.new.machine.state }
@@ -61,8 +64,8 @@ impl<D: Device, A: Allocator + Copy> Session<D, A> {
                 flags: MsyncFlags::SYNC,
             },
         };
-        for _ in 0..u64::MAX {
-            self.machine.is_coherent();
+        loop {
+            self.has_phases();
             let begun = self.make(&msync);
             if !is_busy(&begun) {
                 return begun;
@@ -75,16 +78,16 @@ impl<D: Device, A: Allocator + Copy> Session<D, A> {
                 return flushed;
             }
         }
-        self.machine.is_coherent();
-        self.make(&msync)
     }
 
-    // Makes steps of the write-outs until a mark is acknowledged, or one isn't made.
+    // Makes steps of the write-outs until one commits the mark, or isn't made. Answers what the last one was answered.
     fn write_out(&mut self, p: ProcessorNumber, mark: u32) -> Reply
-        ensures says { Says D.Device self.old.machine self.old.notes result self.new.machine self.new.notes }
+        ensures writes { MakesStepsThat D.Device self.old.machine self.old.notes (WritesUntil p mark result)
+            self.new.machine self.new.notes }
+        ensures ends { result ≢ told.Committed mark → tells_unmade result ≡ true }
         ensures phases { KeepsPhases self.old.machine.state self.new.machine.state }
     {
-        for _ in 0..u64::MAX {
+        loop {
             let flushed = self.flush(p);
             if is_committed(&flushed, mark) {
                 return flushed;
@@ -93,13 +96,13 @@ impl<D: Device, A: Allocator + Copy> Session<D, A> {
                 return flushed;
             }
         }
-        self.flush(p)
     }
 }
 
 // The mark that was made, where a reply tells it.
 fn mark_of(reply: &Reply) -> Option<u32>
-    ensures { IfSome result (λ mark. reply.now ≡ told.Marked mark) }
+    ensures some { IfSome result (λ mark. reply.now ≡ told.Marked mark) }
+    ensures none { IfNone result ((mark : ℕ) → reply.now ≢ told.Marked mark) }
 {
     match reply {
         Reply::Marked(mark) => Some(*mark),
@@ -109,7 +112,7 @@ fn mark_of(reply: &Reply) -> Option<u32>
 
 // Whether a mark was committed.
 fn is_committed(reply: &Reply, mark: u32) -> bool
-    ensures { IsTrue result → reply.now ≡ told.Committed mark }
+    ensures { IsTrue result ↔ (reply.now ≡ told.Committed mark) }
 {
     match reply {
         Reply::Committed(committed) => *committed == mark,
@@ -119,12 +122,14 @@ fn is_committed(reply: &Reply, mark: u32) -> bool
 
 /// Whether commits have to be done first.
 pub(crate) fn is_busy(reply: &Reply) -> bool
-    ensures { IsTrue result → tells_begun reply.now ≡ false }
+    ensures { IsTrue result ↔ (reply.now ≡ told.Refused Refusal.Busy) }
 {
     matches!(reply, Reply::Refused(Refusal::Busy))
 }
 
 /// Whether there was nothing to do.
-pub(crate) fn is_nothing(reply: &Reply) -> bool {
+pub(crate) fn is_nothing(reply: &Reply) -> bool
+    ensures { IsTrue result ↔ (reply.now ≡ told.Nothing) }
+{
     matches!(reply, Reply::Nothing)
 }

@@ -5,6 +5,7 @@ mod answer;
 mod aside;
 mod commit;
 mod files;
+mod history;
 mod line;
 mod notes;
 mod ranges;
@@ -16,6 +17,7 @@ mod session;
 mod session_fault;
 
 pub use files::{FileLine, Files};
+pub use history::acknowledges;
 pub use line::{Line, read_line};
 pub use notes::Notes;
 pub use ranges::Reached;

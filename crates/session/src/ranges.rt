@@ -1,14 +1,15 @@
 // Ranges of addresses, loaded and stored in steps of up to eight bytes.
 ghost use Rattle.std.specs.Prelude.{◌≡◌, ◌<◌, ◌≤◌, length, [], true, false, IfOk, IfErr, IfSome, IfNone, IsTrue};
 ghost use Rattle.machine.specs.declared.act.Reply.TheVariants as told;
+ghost use Rattle.session.specs.Ends.{tells_fault};
 ghost use Rattle.session.specs.Locks.{KeepsPhases};
 ghost use Rattle.session.specs.Steps.{tells_bytes, tells_stored, tells_fixed};
-ghost use Rattle.session.specs.inside.Aside.{StopsAt, AnswersAfter, LoadsOrStores, TellsOrIsAside};
+ghost use Rattle.session.specs.inside.Aside.{StopsAt, AnswersAfter, IsAccessFor};
 ghost use Rattle.session.specs.Ranges.{MakesStepsThat, LoadsReached, StoresReached};
 
 use crate::session::Session;
 use device::Device;
-use machine::{Act, FewBytes, Reply, Step};
+use machine::{Act, FewBytes, Reply, Step, faults_are_served};
 use page_entry::{PAGE, ProcessorNumber, Refusal};
 use std::alloc::Allocator;
 
@@ -98,28 +99,27 @@ impl<D: Device, A: Allocator + Copy> Session<D, A> {
         Reached::All
     }
 
-    // Makes a load or a store at an address, and serves its faults. Answers what it is answered in the end; or else why
-    // a fault isn't served.
+    // Makes a load or a store at an address, and serves its fault. Answers what it is answered in the end, which is no
+    // fault; or else why its fault isn't served.
     fn access(&mut self, step: &Step, va: u64, write: bool) -> Result<Reply, Reply>
-        requires tells { TellsOrIsAside step.now.act }
-        requires accesses { LoadsOrStores step.now.act }
+        requires { IsAccessFor va write step.now.act }
         ensures ok { IfOk result (λ reply. AnswersAfter D.Device self.old.machine self.old.notes step.now reply
             self.new.machine self.new.notes) }
+        ensures no_fault { IfOk result (λ reply. tells_fault reply ≡ false) }
         ensures err { IfErr result (λ reply. StopsAt D.Device self.old.machine self.old.notes step.now.p va reply
             self.new.machine self.new.notes) }
         ensures phases { KeepsPhases self.old.machine.state self.new.machine.state }
     {
-        for _ in 0..u64::MAX {
-            let reply = self.make(step);
-            if !is_fault(&reply) {
-                return Ok(reply);
-            }
-            let fixed = self.fix(step.p, va, write);
-            if !is_fixed(&fixed) {
-                return Err(fixed);
-            }
+        let reply = self.make(step);
+        if !is_fault(&reply) {
+            return Ok(reply);
+        }
+        let fixed = self.fix(step.p, va, write);
+        if !is_fixed(&fixed) {
+            return Err(fixed);
         }
         let last = self.make(step);
+        faults_are_served(self.machine().device());
         Ok(last)
     }
 }
@@ -155,7 +155,7 @@ fn bytes_of(reply: &Reply) -> Option<&FewBytes>
 }
 
 fn is_fault(reply: &Reply) -> bool
-    ensures { IsTrue result → (tells_bytes reply.now ≡ false) × (tells_stored reply.now ≡ false) }
+    ensures { result ≡ tells_fault reply.now }
 {
     matches!(reply, Reply::Refused(Refusal::Fault(_)))
 }

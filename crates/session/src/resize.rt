@@ -1,11 +1,13 @@
 // A new length of a file: from its beginning to the end of its change.
-ghost use Rattle.std.specs.Prelude.{◌≡◌, true, false};
+ghost use Rattle.std.specs.Prelude.{◌≡◌, ◌≢◌, true, false};
+ghost use Rattle.page_entry.specs.declared.refusal.Refusal.{Refusal};
 ghost use Rattle.spaces.specs.declared.change.Change.TheVariants.{SetLength};
+ghost use Rattle.machine.specs.declared.act.Reply.TheVariants as told;
 ghost use Rattle.session.specs.Lengths.{tells_begun, AnswersLength, RefusesLength};
 ghost use Rattle.session.specs.Locks.{KeepsPhases};
 ghost use Rattle.session.specs.Ranges.{MakesStepsThat};
 ghost use Rattle.session.specs.inside.Changing.{HasBegun};
-ghost use Rattle.session.specs.inside.Made.{BeginsLength};
+ghost use Rattle.session.specs.inside.Made.{BeginsLength, AttemptsLength};
 
 use crate::aside::{is_begun, is_flushed, is_no_frame};
 use crate::commit::{is_busy, is_nothing};
@@ -16,9 +18,10 @@ use page_entry::ProcessorNumber;
 use std::alloc::Allocator;
 
 impl<D: Device, A: Allocator + Copy> Session<D, A> {
-    /// Sets the length of a file. Answers what the change was answered; or, where none was begun, the step that would
-    /// have begun it, or that of a write-out which it waits for: `Fine` where the file has this length already, or why
-    /// it isn't set. It isn't committed by that.
+    /// Sets the length of a file. Answers what the change was answered; or, where none was begun, what the last step
+    /// was answered that would have begun it: `Fine` where the file has this length already, or why it isn't set. Where
+    /// that step was busy, and the step of the write-outs that would be made for it was refused, it answers that
+    /// refusal. A new length isn't committed by that.
     pub fn set_length(&mut self, p: ProcessorNumber, file: u16, length: u64) -> Reply
         ensures answers { MakesStepsThat D.Device self.old.machine self.old.notes (AnswersLength p file length result)
             self.new.machine self.new.notes }
@@ -41,7 +44,7 @@ impl<D: Device, A: Allocator + Copy> Session<D, A> {
             self.new.machine.state }
         ensures phases { tells_begun result ≡ false → KeepsPhases self.old.machine.state self.new.machine.state }
     {
-        for _ in 0..u64::MAX {
+        loop {
             let begun = self.begin_in_room(p, file, length);
             if !is_busy(&begun) {
                 return begun;
@@ -54,15 +57,12 @@ impl<D: Device, A: Allocator + Copy> Session<D, A> {
                 return flushed;
             }
         }
-        self.begin_in_room(p, file, length)
     }
 
     // Begins to set a length. Where too few frames are free for the pages that the file gets, it makes more free.
     fn begin_in_room(&mut self, p: ProcessorNumber, file: u16, length: u64) -> Reply
-        ensures begins { tells_begun result ≡ true → MakesStepsThat D.Device self.old.machine self.old.notes
-            (BeginsLength p file length) self.new.machine self.new.notes }
-        ensures refuses { tells_begun result ≡ false → MakesStepsThat D.Device self.old.machine self.old.notes
-            (RefusesLength p file length result) self.new.machine self.new.notes }
+        ensures attempts { MakesStepsThat D.Device self.old.machine self.old.notes (AttemptsLength p file length result)
+            self.new.machine self.new.notes }
         ensures held { tells_begun result ≡ true → HasBegun p (SetLength file length) self.old.machine.state
             self.new.machine.state }
         ensures phases { tells_begun result ≡ false → KeepsPhases self.old.machine.state self.new.machine.state }
@@ -72,7 +72,7 @@ impl<D: Device, A: Allocator + Copy> Session<D, A> {
             act: Act::SetLength { file, length },
         };
         for _ in 0..u64::MAX {
-            self.machine.is_coherent();
+            self.has_phases();
             let begun = self.make(&set);
             if !is_no_frame(&begun) {
                 return begun;
@@ -81,7 +81,7 @@ impl<D: Device, A: Allocator + Copy> Session<D, A> {
                 return begun;
             }
         }
-        self.machine.is_coherent();
+        self.has_phases();
         self.make(&set)
     }
 }

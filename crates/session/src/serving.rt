@@ -1,10 +1,11 @@
 // The lines of a session, one after the other.
-ghost use Rattle.std.specs.Prelude.{◌≡◌, ◌⊎◌, List, ℕ, [], ◌∷◌, ◌++◌, Ok, true, false, if◌then◌else◌, IsOk, IfOk, OnOk, OnSome, codes};
+ghost use Rattle.std.specs.Prelude.{◌≡◌, ◌≢◌, ◌⊎◌, List, ℕ, [], ◌∷◌, ◌++◌, Ok, true, false, if◌then◌else◌, IsOk, IfOk, OnOk, OnSome, codes};
 ghost use Rattle.std.specs.Io.KnownBytes.{Appends, IsAtEnd, Keeps};
 ghost use Rattle.machine.specs.declared.act.Shape.{Shape};
 ghost use Rattle.engine.specs.Engine.{HasStarted, HasRun};
 ghost use Rattle.session.specs.Answers.{AnswersInput, WritesAnswers};
 ghost use Rattle.session.specs.Asked.{IsMemory};
+ghost use Rattle.session.specs.Lines.{HasNoFeed};
 ghost use Rattle.session.specs.Locks.{AsksSteps, KeepsPhases};
 ghost use Rattle.session.specs.Ranges.{MakesStepsThat};
 ghost use Rattle.session.specs.Serving.{ServesLine};
@@ -44,7 +45,7 @@ pub fn serve_on<D: Device, A: Allocator + Copy, I: BufRead, W: io::Write>(
         (W.contents out.old) (W.contents out.new) steps replies)) session.new.machine session.new.notes }
 {
     let served = serve_lines(global, alloc, session, input, out);
-    ran_since_start(&session.machine);
+    ran_since_start(session.machine());
     served
 }
 
@@ -133,23 +134,50 @@ fn write_bad<A: Allocator + Copy, W: io::Write>(
     cause: &RequestFault,
     out: &mut W,
 ) -> Result<(), SessionFault>
-    ensures { OnOk result (¬ (IsMemory cause.now) × ((text : List ℕ)
+    ensures { OnOk result (¬ (IsMemory cause.now) × ((text : List ℕ) × HasNoFeed text
         × Appends (W.contents out.old) (W.contents out.new) (codes "badline " ++ text ++ 10 ∷ []))) }
 {
     if let RequestFault::Memory(_) = cause {
         return Err(SessionFault::Memory(AllocError));
     }
-    match cause.to_string(alloc) {
-        Ok(text) => write_cause(text.as_str(), out).map_err(SessionFault::Output),
+    match cause_line(alloc, cause) {
+        Ok(text) => write_cause(&text, out).map_err(SessionFault::Output),
         Err(fault) => Err(SessionFault::Memory(fault)),
     }
 }
 
-fn write_cause<W: io::Write>(cause: &str, out: &mut W) -> io::Result<()>
+// The text of a cause, in one line.
+fn cause_line<A: Allocator + Copy>(alloc: A, cause: &RequestFault) -> Result<Vec<u8, A>, AllocError>
+    ensures { IfOk result (λ line. HasNoFeed line.items) }
+{
+    let text = cause.to_string(alloc)?;
+    in_one_line(alloc, text.as_str())
+}
+
+// The bytes of a text, with a space in place of each line feed.
+fn in_one_line<A: Allocator + Copy>(alloc: A, text: &str) -> Result<Vec<u8, A>, AllocError>
+    ensures { IfOk result (λ line. HasNoFeed line.items) }
+{
+    let mut line = Vec::with_capacity(alloc, text.len())?;
+    for byte in text.as_bytes() {
+        line.push(space_for_feed(*byte))?;
+    }
+    Ok(line)
+}
+
+fn space_for_feed(byte: u8) -> u8
+    ensures { result ≢ 10 }
+{
+    if byte == b'\n' { b' ' } else { byte }
+}
+
+fn write_cause<W: io::Write>(cause: &[u8], out: &mut W) -> io::Result<()>
     ensures { OnOk result (Appends (W.contents out.old) (W.contents out.new)
         (codes "badline " ++ cause.now ++ 10 ∷ [])) }
 {
-    writeln!(out, "badline {cause}")
+    out.write_all(b"badline ")?;
+    out.write_all(cause)?;
+    out.write_all(b"\n")
 }
 
 // Flushes the output after an answer that was written.

@@ -1,26 +1,45 @@
 // A session: a machine, and what has to be known of the steps that were made on it.
-ghost use Rattle.std.specs.Prelude.{◌≡◌, List, [], ◌∷◌, IfOk, IfErr, true, false};
+ghost use Rattle.std.specs.Prelude.{◌≡◌, List, [], ◌∷◌, IfOk, IfErr};
 ghost use Rattle.volume_codec.specs.Files.{File};
 ghost use Rattle.volume_codec.specs.Recovery.{RecoversTo};
+ghost use Rattle.shootdown.specs.Shootdown.{IsShootdown};
 ghost use Rattle.engine.specs.Engine.{HasStarted, HasNotStarted};
 ghost use Rattle.session.specs.Files.{AreFiles, AreListed};
+ghost use Rattle.session.specs.Sessions.{IsServing, no_notes};
 ghost use Rattle.session.specs.Steps.{Makes};
 
 use crate::files::Files;
 use crate::notes::Notes;
 use device::Device;
 use machine::{Machine, Reply, Shape, Step};
-use page_entry::Refusal;
+use page_entry::{FilePage, Refusal};
 use recovery::opened_as_recovered;
 use std::alloc::Allocator;
+use std::marker::Model;
 
 /// A machine on which requests are carried out.
+///
+/// Contracts see the machine, what is noted of the steps that were made on it since it was started, and the files.
 #[derive(Drop)]
 pub struct Session<D: Device, A: Allocator + Copy> {
-    pub machine: Machine<D, A>,
-    /// What was noted of the steps that were made.
-    pub notes: Notes,
-    pub files: Files<A>,
+    machine: Machine<D, A>,
+    // What was noted of the steps that were made.
+    notes: Notes,
+    files: Files<A>,
+}
+
+impl<D: Device, A: Allocator + Copy> Model for Session<D, A> {
+    ghost use Rattle.std.specs.Coded.{codes};
+    ghost use Rattle.machine.specs.inside.Codes.{map_code};
+    ghost use Rattle.session.specs.Sessions.{SessionState, IsServing};
+
+    ghost Value = { SessionState D A };
+
+    ghost coded = { Prim.hlevel (codes, map_code, D.code) };
+
+    ghost view = { λ s. record { machine = s.machine; notes = s.notes; files = s.files } };
+
+    ghost invariant = { λ s. IsServing D.Device s.machine s.notes };
 }
 
 /// Opens the volume of a device, and boots a machine of this shape over it. The session lists the files of the volume
@@ -39,12 +58,12 @@ pub fn start<D: Device, A: Allocator + Copy>(
         session.files.lines.items) }
     ensures listed { IfOk result (λ session. D.is_honest device → (files : List File)
         × RecoversTo (D.seen device) files × AreListed files session.files.lines.items) }
-    ensures nothing { IfOk result (λ session. session.notes ≡ record { has_unmarked = false; has_failed = false }) }
+    ensures nothing { IfOk result (λ session. session.notes ≡ no_notes) }
     ensures refused { IfErr result (λ refused. HasNotStarted D.Device device shape refused.1 refused.0) }
 {
     match open_and_boot(alloc, device, shape) {
         Ok(session) => {
-            opened_as_recovered(session.machine.device());
+            opened_as_recovered(session.machine().device());
             Ok(session)
         }
         Err(refused) => Err(refused),
@@ -59,7 +78,7 @@ fn open_and_boot<D: Device, A: Allocator + Copy>(
     ensures started { IfOk result (λ session. HasStarted D.Device device shape session.machine) }
     ensures files { IfOk result (λ session. AreFiles session.machine.state.table session.machine.state.lengths
         session.files.lines.items) }
-    ensures nothing { IfOk result (λ session. session.notes ≡ record { has_unmarked = false; has_failed = false }) }
+    ensures nothing { IfOk result (λ session. session.notes ≡ no_notes) }
     ensures refused { IfErr result (λ refused. HasNotStarted D.Device device shape refused.1 refused.0) }
 {
     let volume = match recovery::open(alloc, device) {
@@ -93,6 +112,50 @@ impl<D: Device, A: Allocator + Copy> Session<D, A> {
 }
 
 impl<D: Device, A: Allocator + Copy> Session<D, A> {
+    /// The machine on which the steps are made.
+    pub fn machine(&self) -> &Machine<D, A>
+        ensures { result.now ≡ self.now.machine }
+    {
+        &self.machine
+    }
+
+    /// What was noted of the steps that were made.
+    pub fn notes(&self) -> Notes
+        ensures { result ≡ self.now.notes }
+    {
+        self.notes
+    }
+
+    // The page that is to be taken out of memory next.
+    pub(crate) fn turn(&mut self) -> FilePage
+        ensures machine { self.new.machine ≡ self.old.machine }
+        ensures notes { self.new.notes ≡ self.old.notes }
+    {
+        self.files.turn()
+    }
+
+    /// The volume's files.
+    pub fn files(&self) -> &Files<A>
+        ensures { result.now ≡ self.now.files }
+    {
+        &self.files
+    }
+
+    // One change at most is under way on the machine, and the phases of its processors fit together.
+    pub(crate) fn has_phases(&self)
+        ensures { IsShootdown self.now.machine.state.hardware.shootdown }
+    {
+        self.machine.is_coherent();
+    }
+
+    /// Of every session: its machine was started over a device, and from there steps and their replies led to it, of
+    /// which exactly this is noted.
+    pub fn has_served(&self)
+        ensures { IsServing D.Device self.now.machine self.now.notes }
+    {
+        self.machine.is_coherent();
+    }
+
     /// The device, as it is.
     pub fn into_device(self) -> D
         ensures { result ≡ self.machine.device }

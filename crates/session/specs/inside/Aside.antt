@@ -1,43 +1,27 @@
 -- Steps that read and store nothing.
-use Rattle.std.specs.Prelude.{ℕ, ◌≡◌, true, false, ⊤, List, [], ◌∷◌, ◌++◌, Contains}
+use Rattle.std.specs.Prelude.{ℕ, ◌≡◌, Bool, true, ⊤, List, [], ◌∷◌, ◌++◌}
 use Rattle.device.specs.declared.device.Device.{Ghosts}
 use Rattle.machine.specs.declared.act.Act.{Act}
-use Rattle.machine.specs.declared.act.Act.TheVariants.{Load, Store}
+use Rattle.machine.specs.declared.act.Act.TheVariants.{Load, Store, Fix}
 use Rattle.machine.specs.declared.act.Reply.{Reply}
+use Rattle.machine.specs.declared.act.Reply.TheVariants.{Fixed}
 use Rattle.machine.specs.declared.act.Step.{Step}
 use Rattle.machine.specs.State.{Whole}
 use Rattle.session.specs.declared.notes.Notes.{Notes}
-use Rattle.session.specs.Locks.{KeepsPhases}
-use Rattle.session.specs.Steps.{Makes, is_aside, AreAside, tells_bytes, tells_stored, EndsAt}
+use Rattle.session.specs.Ends.{IsUnserved, EndsRange}
+use Rattle.session.specs.Steps.{Makes, AreAside}
 
--- an act that reads and stores nothing unless it is answered so
-abbrev pub TellsOrIsAside : Act → Type 0
-TellsOrIsAside act =
-    (reply : Reply) → tells_bytes reply ≡ false → tells_stored reply ≡ false → is_aside act reply ≡ true
+-- a load at this address, or a store there for whose faults a right to write is asked
+abbrev pub IsAccessFor : ℕ → Bool → Act → Type 0
+IsAccessFor at write (Load va count) = va ≡ at
+IsAccessFor at write (Store va bytes) = (va ≡ at) × (write ≡ true)
+IsAccessFor at write _ = ⊥
 
 -- an act that loads or stores
 abbrev pub LoadsOrStores : Act → Type 0
 LoadsOrStores (Load va count) = ⊤
 LoadsOrStores (Store va bytes) = ⊤
 LoadsOrStores _ = ⊥
-
--- Steps were made that read and store nothing, and the lock and the processors' phases are as before.
-pub record GoesAside {D : Type 0} (disk : Ghosts D) (old : Whole D) (before : Notes) (new : Whole D)
-    (after : Notes) : Type 0 where
-  pub steps : List Step
-  pub replies : List Reply
-  pub makes : Makes disk old before steps replies new after
-  pub aside : AreAside steps replies
-  pub phases : KeepsPhases old.state new.state
-
--- Such steps were made, and this is one of their replies.
-pub record IsTold {D : Type 0} (disk : Ghosts D) (old : Whole D) (before : Notes) (reply : Reply) (new : Whole D)
-    (after : Notes) : Type 0 where
-  pub steps : List Step
-  pub replies : List Reply
-  pub makes : Makes disk old before steps replies new after
-  pub aside : AreAside steps replies
-  pub told : Contains replies reply
 
 -- A step was made, after others that read and store nothing.
 pub record AnswersAfter {D : Type 0} (disk : Ghosts D) (old : Whole D) (before : Notes) (step : Step) (reply : Reply)
@@ -47,11 +31,23 @@ pub record AnswersAfter {D : Type 0} (disk : Ghosts D) (old : Whole D) (before :
   pub makes : Makes disk old before (steps ++ step ∷ []) (replies ++ reply ∷ []) new after
   pub aside : AreAside steps replies
 
--- Steps were made that read and store nothing, and one of them may end a range at this address with this reply.
+-- A fault of processor p at this address was served by the last of these steps; the others read and store nothing.
+pub record Serves (p va : ℕ) (write : Bool) (steps : List Step) (replies : List Reply) : Type 0 where
+  pub front : List Step
+  pub told : List Reply
+  pub aside : AreAside front told
+  pub steps_are : steps ≡ front ++ record { p = p; act = Fix va write } ∷ []
+  pub replies_are : replies ≡ told ++ Fixed ∷ []
+
+-- It wasn't, and the steps read and store nothing.
+abbrev pub IsUnservedAside : ℕ → ℕ → Reply → List Step → List Reply → Type 0
+IsUnservedAside p at answer steps replies = AreAside steps replies × IsUnserved p at answer steps replies
+
+-- Steps were made that read and store nothing, and they end a range at this address with this answer.
 pub record StopsAt {D : Type 0} (disk : Ghosts D) (old : Whole D) (before : Notes) (p at : ℕ) (reply : Reply)
     (new : Whole D) (after : Notes) : Type 0 where
   pub steps : List Step
   pub replies : List Reply
   pub makes : Makes disk old before steps replies new after
   pub aside : AreAside steps replies
-  pub ends : EndsAt p at reply steps replies
+  pub ends : EndsRange p at reply steps replies

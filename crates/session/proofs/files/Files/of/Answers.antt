@@ -1,4 +1,4 @@
-use Rattle.std.proofs.Common.{◌≡◌, ◌<◌, ◌∙◌, length, map, Some, slice_get, string_bytes, slice_index, sym, ap, arith}
+use Rattle.std.proofs.Common.{◌<◌, ◌∙◌, length, map, Some, string_bytes, slice_index, sym, ap, arith}
 use Rattle.volume_codec.specs.Files.{TableFile}
 use Rattle.volume_codec.specs.Super.{names_in, capacities_in, pages_of}
 use Rattle.session.proofs.ListedMore.{listed_more, long_as, mapped_at}

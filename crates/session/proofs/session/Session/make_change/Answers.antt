@@ -5,11 +5,11 @@ use Rattle.session.proofs.session.Session.make_change.Goals as goal
 
 pub returns-clause-answers : goal.returns-clause-answers
 returns-clause-answers g c =
-    let is = change_is g.D.Device _ _ _ _ _ _ _ c.is_coherent.ensures.phases c.requires.held.1 c.requires.calm c.make.ensures in
+    let is = change_is g.D.Device _ _ _ _ _ _ _ c.has_phases.ensures c.requires.held.1 c.requires.calm c.make.ensures in
     does_one g.D.Device _ _ _ _ _ _ _ (answers_alone c.args.p _ is.0) c.make.ensures
 
 pub returns-clause-over : goal.returns-clause-over
-returns-clause-over g c = (change_is g.D.Device _ _ _ _ _ _ _ c.is_coherent.ensures.phases c.requires.held.1 c.requires.calm c.make.ensures).2
+returns-clause-over g c = (change_is g.D.Device _ _ _ _ _ _ _ c.has_phases.ensures c.requires.held.1 c.requires.calm c.make.ensures).2
 
 pub returns-clause-made : goal.returns-clause-made
-returns-clause-made g c = λ change held. (change_is g.D.Device _ _ _ _ _ _ change c.is_coherent.ensures.phases held c.requires.calm c.make.ensures).1
+returns-clause-made g c = λ change held. (change_is g.D.Device _ _ _ _ _ _ change c.has_phases.ensures held c.requires.calm c.make.ensures).1

@@ -7,7 +7,8 @@ use Rattle.session.specs.Steps.{behind}
 use Rattle.session.specs.inside.Aside.{StopsAt, AnswersAfter}
 use Rattle.session.proofs.Pieces.{stores_more, stores_refused, stores_all}
 use Rattle.session.proofs.Phases.{keeps_none, keeps_then}
-use Rattle.session.proofs.Stretches.{makes_none, answers_stop, same_and_not}
+use Rattle.session.proofs.Rooms.{same, stops_answered}
+use Rattle.session.proofs.Stretches.{makes_none}
 use Rattle.session.proofs.session.Session.store.Goals as goal
 
 pub loop-done-init : goal.loop-done-init
@@ -22,7 +23,7 @@ pub returns-then-not-is_stored-clause-reached : goal.returns-then-not-is_stored-
 returns-then-not-is_stored-clause-reached g c =
     let P : ℕ → Type 0 = λ at. StopsAt g.D.Device c.loop-done.self.machine c.loop-done.self.notes c.args.p at c.in-Ok.answer c.access.new.self.machine c.access.new.self.notes in
     stores_refused g.D.Device _ _ _ _ _ _ c.args.p c.args.va c.loop-done.done c.args.bytes.now c.in-Ok.answer (omega (arith, c.loop-done-test.true)) c.loop-done.invariant.1 (subst P c.saturating_add-from.ensures
-    (answers_stop g.D.Device _ _ _ _ _ c.saturating_add-from.result _ (ap not (sym c.if-not-is_stored.ensures.value)) (same_and_not c.saturating_add-from.result _ (sym c.if-not-is_stored.ensures.value)) c.in-Ok.ensures.ok))
+    (stops_answered g.D.Device _ _ _ _ _ c.saturating_add-from.result _ (ap not (sym c.if-not-is_stored.ensures.value)) (same c.saturating_add-from.result) c.in-Ok.ensures.no_fault c.in-Ok.ensures.ok))
 
 pub loop-done-preserved : goal.loop-done-preserved
 loop-done-preserved g c =

@@ -1,0 +1,30 @@
+-- What a session has noted is noted of the steps since its start.
+use Rattle.std.proofs.Common.{[], ◌∷◌, ◌++◌}
+use Rattle.device.specs.declared.device.Device.{Ghosts}
+use Rattle.machine.specs.declared.act.Reply.{Reply}
+use Rattle.machine.specs.declared.act.Shape.{Shape}
+use Rattle.machine.specs.declared.act.Step.{Step}
+use Rattle.machine.specs.State.{Whole}
+use Rattle.engine.specs.Engine.{HasStarted}
+use Rattle.session.specs.declared.notes.Notes.{Notes}
+use Rattle.session.specs.Sessions.{IsServing, no_notes}
+use Rattle.session.specs.Steps.{Makes}
+use Rattle.session.proofs.Stretches.{makes_none, makes_then}
+
+-- before the first step
+pub served_none : {D : Type 0} (disk : Ghosts D) (before : D) (shape : Shape) (start : Whole D) → HasStarted disk before shape start → IsServing disk start no_notes
+served_none disk before shape start started = (start, [], [], record { before = before; shape = shape; started = started; makes = makes_none disk start no_notes })
+
+-- after one more
+pub served_more : {D : Type 0} (disk : Ghosts D) (old new : Whole D) (before after : Notes) (step : Step) (reply : Reply) → IsServing disk old before → Makes disk old before (step ∷ []) (reply ∷ []) new after → IsServing disk new after
+served_more disk old new before after step reply (start, steps, replies, it) makes = (
+  start,
+  steps ++ step ∷ [],
+  replies ++ reply ∷ [],
+  record {
+    before = it.before;
+    shape = it.shape;
+    started = it.started;
+    makes = makes_then disk start old new no_notes before after steps replies (step ∷ []) (reply ∷ []) it.makes makes;
+  },
+)

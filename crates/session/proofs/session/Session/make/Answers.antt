@@ -1,0 +1,16 @@
+use Rattle.std.proofs.Common.{[], ◌∷◌, refl, subst}
+use Rattle.session.specs.Sessions.{SessionState}
+use Rattle.session.specs.Steps.{Makes}
+use Rattle.session.proofs.Serves.{served_more}
+use Rattle.session.proofs.session.Session.make.Goals as goal
+
+pub invariant_of-self : goal.invariant_of-self
+invariant_of-self g c =
+    let inside = c.self.inside in
+    served_more g.D.Device inside.machine c.enter-reply.new.self inside.notes c.after-self-inside.result c.args.step.now c.enter-reply.result c.self.invariant
+    (record { taken = (c.enter-reply.new.self, c.enter-reply.ensures.taken, refl); notes = c.after-self-inside.ensures })
+
+pub returns : goal.returns
+returns g c =
+    let P : SessionState g.row.D.Denot g.row.A.Denot → Type 0 = λ s. Makes g.D.Device s.machine s.notes (c.args.step.now ∷ []) (c.enter-reply.result ∷ []) c.enter-reply.new.self c.after-self-inside.result in
+    subst P c.self.view_is (record { taken = (c.enter-reply.new.self, c.enter-reply.ensures.taken, refl); notes = c.after-self-inside.ensures })

@@ -1,0 +1,118 @@
+-- How a processor commits, step by step, and what it is answered.
+use Rattle.std.specs.Prelude.{ℕ, ◌≡◌, ◌≢◌, ◌⊎◌, Bool, true, false, ⊤, List, [], ◌∷◌, ◌++◌, Result, Ok, Err}
+use Rattle.page_entry.specs.declared.refusal.Refusal.TheVariants.{Busy}
+use Rattle.machine.specs.declared.act.Act.TheVariants.{Msync}
+use Rattle.machine.specs.declared.act.Reply.{Reply}
+use Rattle.machine.specs.declared.act.Reply.TheVariants.{Begun, Marked, Committed, Nothing, Refused}
+use Rattle.machine.specs.declared.act.Step.{Step}
+use Rattle.session.specs.declared.notes.Notes.{Notes}
+use Rattle.session.specs.Lengths.{flush_by, tells_flushed, tells_refused, AnswersChange}
+use Rattle.session.specs.Notes.{noted_all}
+
+-- the step by which processor p begins a commit of all stores
+abbrev pub msync_by : ℕ → Step
+msync_by p = record { p = p; act = Msync 0 0 (record { 0 = 4 }) }
+
+-- that a step wasn't made: it was refused, or there was nothing to do
+abbrev pub tells_unmade : Reply → Bool
+tells_unmade Nothing = true
+tells_unmade reply = tells_refused reply
+
+-- attempts to begin a mark that were busy, and after each of them a step of the write-outs that was made
+abbrev pub AreWaits : ℕ → List Step → List Reply → Type 0
+AreWaits p [] [] = ⊤
+AreWaits p (attempt ∷ step ∷ steps) (reply ∷ told ∷ replies) =
+    (attempt ≡ msync_by p) × (reply ≡ Refused Busy) × (step ≡ flush_by p) × (tells_flushed told ≡ true)
+    × AreWaits p steps replies
+AreWaits p steps replies = ⊥
+
+-- Processor p began a mark: where write-outs had to be done first, it made steps of them.
+pub record BeginsMark (p : ℕ) (steps : List Step) (replies : List Reply) : Type 0 where
+  pub waits : List Step
+  pub waited : List Reply
+  pub busy : AreWaits p waits waited
+  pub steps_are : steps ≡ waits ++ msync_by p ∷ []
+  pub replies_are : replies ≡ waited ++ Begun ∷ []
+
+-- The last attempt to begin a mark, and why no other one is made: it is refused, but not as busy; or it is busy, and
+-- the write-outs have no step left; or it is busy, and the step of the write-outs that would be made for it is refused.
+abbrev pub IsLastAttempt : ℕ → Reply → List Step → List Reply → Type 0
+IsLastAttempt p answer steps replies =
+    ((steps ≡ msync_by p ∷ []) × (replies ≡ answer ∷ []) × (tells_refused answer ≡ true) × (answer ≢ Refused Busy))
+    ⊎ ((steps ≡ msync_by p ∷ flush_by p ∷ []) × (replies ≡ Refused Busy ∷ Nothing ∷ []) × (answer ≡ Refused Busy))
+    ⊎ ((steps ≡ msync_by p ∷ flush_by p ∷ []) × (replies ≡ Refused Busy ∷ answer ∷ [])
+    × (tells_refused answer ≡ true))
+
+-- Processor p was refused a mark, and this is the answer.
+pub record RefusesMark (p : ℕ) (answer : Reply) (steps : List Step) (replies : List Reply) : Type 0 where
+  pub waits : List Step
+  pub waited : List Reply
+  pub busy : AreWaits p waits waited
+  pub last : List Step
+  pub told : List Reply
+  pub refused : IsLastAttempt p answer last told
+  pub steps_are : steps ≡ waits ++ last
+  pub replies_are : replies ≡ waited ++ told
+
+-- a step of the write-outs that was made, and doesn't commit this mark
+abbrev pub IsOfOther : ℕ → Reply → Type 0
+IsOfOther mark reply = (tells_flushed reply ≡ true) × (reply ≢ Committed mark)
+
+-- Steps of the write-outs, each made, none of which commits this mark, up to the last one, which is answered so.
+abbrev pub WritesUntil : ℕ → ℕ → Reply → List Step → List Reply → Type 0
+WritesUntil p mark answer (step ∷ steps) (reply ∷ replies) =
+    (step ≡ flush_by p) × (((reply ≡ answer) × (steps ≡ []) × (replies ≡ []))
+    ⊎ (IsOfOther mark reply × WritesUntil p mark answer steps replies))
+WritesUntil p mark answer steps replies = ⊥
+
+-- What makes a mark durable: nothing more, where before it no store was made, and no length set, that no mark has; else
+-- the steps of the write-outs up to the one that commits it.
+abbrev pub IsWritten : ℕ → Notes → ℕ → List Step → List Reply → Type 0
+IsWritten p before mark steps replies =
+    ((before.has_unmarked ≡ false) × (steps ≡ []) × (replies ≡ []))
+    ⊎ ((before.has_unmarked ≡ true) × WritesUntil p mark (Committed mark) steps replies)
+
+-- Processor p began a mark, made it and wrote it, where that is needed: so the mark is durable.
+pub record CommitsMark (p : ℕ) (before : Notes) (mark : ℕ) (steps : List Step) (replies : List Reply) : Type 0 where
+  pub beginning : List Step
+  pub begun : List Reply
+  pub begins : BeginsMark p beginning begun
+  pub marking : List Step
+  pub marked : List Reply
+  pub makes : AnswersChange p (Marked mark) marking marked
+  pub writing : List Step
+  pub written : List Reply
+  pub durable : IsWritten p (noted_all before begun) mark writing written
+  pub steps_are : steps ≡ beginning ++ (marking ++ writing)
+  pub replies_are : replies ≡ begun ++ (marked ++ written)
+
+-- The mark was made, and a step of the write-outs that was to write it wasn't made, which is the answer.
+pub record StopsWriting (p : ℕ) (before : Notes) (answer : Reply) (steps : List Step) (replies : List Reply)
+    : Type 0 where
+  pub mark : ℕ
+  pub beginning : List Step
+  pub begun : List Reply
+  pub begins : BeginsMark p beginning begun
+  pub marking : List Step
+  pub marked : List Reply
+  pub makes : AnswersChange p (Marked mark) marking marked
+  pub unmarked : (noted_all before begun).has_unmarked ≡ true
+  pub writing : List Step
+  pub written : List Reply
+  pub writes : WritesUntil p mark answer writing written
+  pub unmade : tells_unmade answer ≡ true
+  pub steps_are : steps ≡ beginning ++ (marking ++ writing)
+  pub replies_are : replies ≡ begun ++ (marked ++ written)
+
+-- The answer is that of the step that stopped the commit: an attempt to begin its mark, or a step of the write-outs that
+-- it waits for; or a step of the write-outs that was to write it. The change that makes the mark is never refused.
+abbrev pub StopsCommit : ℕ → Notes → Reply → List Step → List Reply → Type 0
+StopsCommit p before answer steps replies =
+    RefusesMark p answer steps replies ⊎ StopsWriting p before answer steps replies
+
+-- Steps of a commit by processor p that came to this: a mark that is durable, or what the step that stopped it was
+-- answered, which wasn't made.
+abbrev pub AnswersCommit : ℕ → Notes → Result ℕ Reply → List Step → List Reply → Type 0
+AnswersCommit p before (Ok mark) steps replies = CommitsMark p before mark steps replies
+AnswersCommit p before (Err answer) steps replies =
+    StopsCommit p before answer steps replies × (tells_unmade answer ≡ true)

@@ -1,0 +1,96 @@
+-- Where a range ends before its end.
+use Rattle.std.specs.Prelude.{ℕ, ◌≡◌, ◌⊎◌, ◌==◌, Bool, true, false, ⊤, List, [], ◌∷◌, Contains}
+use Rattle.page_entry.specs.declared.refusal.Refusal.TheVariants.{Fault}
+use Rattle.machine.specs.declared.act.Act.{Act}
+use Rattle.machine.specs.declared.act.Act.TheVariants.{Load, Store, Fix, Reclaim, Ack, Change, Resume, Flush}
+use Rattle.machine.specs.declared.act.Reply.{Reply}
+use Rattle.machine.specs.declared.act.Reply.TheVariants.{Reclaimed, Kept, Refused}
+use Rattle.machine.specs.declared.act.Step.{Step}
+use Rattle.session.specs.Steps.{is_aside, tells_acked, tells_fixed, tells_reclaim, tells_resumed}
+
+-- that an access met a page fault
+abbrev pub tells_fault : Reply → Bool
+tells_fault (Refused (Fault code)) = true
+tells_fault _ = false
+
+-- that a page stays in memory
+abbrev pub tells_kept : Reply → Bool
+tells_kept Kept = true
+tells_kept _ = false
+
+-- that a page left memory, so that a frame is free
+abbrev pub tells_reclaimed : Reply → Bool
+tells_reclaimed Reclaimed = true
+tells_reclaimed _ = false
+
+-- a load or a store
+abbrev pub is_access : Act → Bool
+is_access (Load va count) = true
+is_access (Store va bytes) = true
+is_access _ = false
+
+-- a load or a store at this address
+abbrev pub is_access_at : ℕ → Act → Bool
+is_access_at at (Load va count) = va == at
+is_access_at at (Store va bytes) = va == at
+is_access_at at _ = false
+
+-- an attempt to serve a fault at this address
+abbrev pub is_fix_at : ℕ → Act → Bool
+is_fix_at at (Fix va write) = va == at
+is_fix_at at _ = false
+
+-- a fault that is served
+abbrev pub is_served : Act → Reply → Bool
+is_served (Fix va write) reply = tells_fixed reply
+is_served _ reply = false
+
+-- a step that may make a frame free: a page is taken out of memory, where the others stall before it and go on after it,
+-- or a step of the write-outs is made first
+abbrev pub is_for_room : Act → Reply → Bool
+is_for_room (Reclaim file page) reply = true
+is_for_room Ack reply = tells_acked reply
+is_for_room Change reply = tells_reclaim reply
+is_for_room Resume reply = tells_resumed reply
+is_for_room Flush reply = true
+is_for_room _ reply = false
+
+abbrev pub AreForRoom : List Step → List Reply → Type 0
+AreForRoom [] [] = ⊤
+AreForRoom (step ∷ steps) (reply ∷ replies) = (is_for_room step.act reply ≡ true) × AreForRoom steps replies
+AreForRoom steps replies = ⊥
+
+-- such a step, by which none became free
+abbrev pub is_fruitless : Act → Reply → Bool
+is_fruitless Change reply = tells_kept reply
+is_fruitless act reply = is_for_room act reply
+
+abbrev pub AreFruitless : List Step → List Reply → Type 0
+AreFruitless [] [] = ⊤
+AreFruitless (step ∷ steps) (reply ∷ replies) = (is_fruitless step.act reply ≡ true) × AreFruitless steps replies
+AreFruitless steps replies = ⊥
+
+-- A frame was made free by such steps, or none was.
+abbrev pub MakesRoom : Bool → List Step → List Reply → Type 0
+MakesRoom true steps replies = AreForRoom steps replies × Contains replies Reclaimed
+MakesRoom false steps replies = AreFruitless steps replies
+
+-- A fault at this address isn't served: no fault is, the last attempt of processor p to serve one is at this address and
+-- answered so, and after it no frame became free.
+abbrev pub IsUnserved : ℕ → ℕ → Reply → List Step → List Reply → Type 0
+IsUnserved p at answer (step ∷ steps) (reply ∷ replies) =
+    ((is_access step.act ≡ false) × (is_served step.act reply ≡ false) × IsUnserved p at answer steps replies)
+    ⊎ ((step.p ≡ p) × (is_fix_at at step.act ≡ true) × (reply ≡ answer) × (tells_fixed answer ≡ false)
+    × AreFruitless steps replies)
+IsUnserved p at answer steps replies = ⊥
+
+-- Of these steps, the last load or store is of processor p at this address. It isn't made, and the answer is its reply,
+-- which is no fault; or it meets a fault, which isn't served, and the answer is that of the last attempt to serve it.
+abbrev pub EndsRange : ℕ → ℕ → Reply → List Step → List Reply → Type 0
+EndsRange p at answer (step ∷ steps) (reply ∷ replies) =
+    EndsRange p at answer steps replies
+    ⊎ ((step.p ≡ p) × (is_access_at at step.act ≡ true) × (is_aside step.act reply ≡ true) × (reply ≡ answer)
+    × (tells_fault answer ≡ false) × (steps ≡ []) × (replies ≡ []))
+    ⊎ ((step.p ≡ p) × (is_access_at at step.act ≡ true) × (tells_fault reply ≡ true)
+    × IsUnserved p at answer steps replies)
+EndsRange p at answer steps replies = ⊥

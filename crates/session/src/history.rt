@@ -1,0 +1,34 @@
+// What follows of the steps of a session.
+ghost use Rattle.std.specs.Prelude.{ℕ, ◌≡◌, List, ◌++◌, Contains, codes};
+ghost use Rattle.std.specs.Fmt.{decimal};
+ghost use Rattle.volume_codec.specs.Files.{File};
+ghost use Rattle.machine.specs.declared.act.Reply.{Reply};
+ghost use Rattle.machine.specs.declared.act.Step.{Step};
+ghost use Rattle.machine.specs.History.{Acknowledge};
+ghost use Rattle.machine.specs.State.{Whole};
+ghost use Rattle.engine.specs.Survival.{history_of};
+ghost use Rattle.session.specs.declared.notes.Notes.{Notes};
+ghost use Rattle.session.specs.Answers.{AnswersRequest};
+ghost use Rattle.session.specs.Commits.{CommitsMark};
+ghost use Rattle.session.specs.Requests.{asks_commit};
+ghost use Rattle.session.specs.Sessions.{no_notes};
+ghost use Rattle.session.specs.Steps.{Makes};
+
+use device::Device;
+
+/// A mark that a commit answers is acknowledged by the history of the steps since the session's start, of which
+/// `engine` says that it survives: by those before the commit, its own, and any later ones (`mark`). So it is where the
+/// line that answers a commit is `committed` and a number (`line`).
+pub fn acknowledges<D: Device>(device: &D)
+    ensures mark { (files : List File) (start mid new : Whole D) (between after : Notes)
+        (earlier steps later : List Step) (told replies more : List Reply) (p mark : ℕ)
+        → Makes D.Device start no_notes earlier told mid between → Makes D.Device mid between steps replies new after
+        → CommitsMark p between mark steps replies
+        → Contains (history_of files start (earlier ++ (steps ++ later)) (told ++ (replies ++ more))) (Acknowledge mark) }
+    ensures line { (files : List File) (start mid new : Whole D) (between after : Notes)
+        (earlier steps later : List Step) (told replies more : List Reply) (p : ℕ) (number : List ℕ)
+        → Makes D.Device start no_notes earlier told mid between → Makes D.Device mid between steps replies new after
+        → AnswersRequest between (asks_commit p) (codes "committed " ++ number) steps replies
+        → (mark : ℕ) × (number ≡ decimal mark)
+        × Contains (history_of files start (earlier ++ (steps ++ later)) (told ++ (replies ++ more))) (Acknowledge mark) }
+{}
