@@ -1,5 +1,5 @@
 -- How far a reply raises the horizon, and what of the trace it goes by.
-use Rattle.std.proofs.Common.{◌≡◌, ℕ, Bool, true, false, List, [], ◌∷◌, ◌++◌, refl, sym, ap, ◌∙◌, subst}
+use Rattle.std.proofs.Common.{◌⊎◌, inl, inr, ◌≡◌, ℕ, Bool, true, false, List, [], ◌∷◌, ◌++◌, refl, sym, ap, ◌∙◌, subst}
 use Rattle.std.proofs.lemmas.Bool.{false≢true}
 use Rattle.std.proofs.lemmas.List.Sums.{fold_push}
 use Rattle.std.specs.List.{fold}
@@ -7,8 +7,11 @@ use Rattle.machine.specs.declared.act.Reply.{Reply}
 use Rattle.machine.specs.declared.act.Reply.TheVariants as replies
 use Rattle.service.specs.declared.entry.Entry.{Entry}
 use Rattle.service.specs.declared.raising.Raise.TheVariants as raises
-use Rattle.service.specs.Marks.{unmarked_with, has_unmarked, HasReached, acknowledged_with, marks_of, last_acknowledged}
-use Rattle.service.specs.inside.Raising.{raise_by, Reaches}
+use Rattle.horizon.specs.Seen.{SeenState, IsRaisedTo}
+use Rattle.service.specs.declared.raising.Raise.{Raise}
+use Rattle.service.specs.Marks.{unmarked_with, has_unmarked, HasReached, acknowledged_with, marks_of, last_acknowledged, Words, LeavesCommitted, RaisesCommitted, HasRaised}
+use Rattle.service.specs.inside.Raising.{raise_by, Reaches, RaisesSo}
+use Rattle.service.specs.inside.Rising.{seen_words}
 
 -- what a raise reaches
 pub reached : (unmarked : Bool) (reply : Reply) (stalled committed : ℕ) → Reaches (raise_by unmarked reply) stalled committed
@@ -42,3 +45,21 @@ is_acknowledged trace before last mark is raised =
     ap (λ (t : List Entry). last_acknowledged t) is
     ∙ ap (λ (m : ℕ × Bool). m.0) (fold_push step (0, false) before last)
     ∙ acknowledges marks.0 marks.1 last.reply mark (subst (λ (b : Bool). raise_by b last.reply ≡ raises.Committed mark) same raised)
+
+-- what a raise does to the two words
+pub raised : (unmarked : Bool) (reply : Reply) (old new : SeenState) → RaisesSo (raise_by unmarked reply) old new
+    → HasRaised unmarked reply (seen_words old) (seen_words new)
+raised true (replies.Marked number) old new so = (so.stalled, so.committed)
+raised false (replies.Marked number) old new so = (so.stalled, so.committed)
+raised true (replies.Committed number) old new so = (so.stalled, so.committed)
+raised false (replies.Committed number) old new so = (so.stalled, so.committed)
+raised unmarked reply old new so = ap seen_words so
+
+-- it raises committed to no other number than that of the last acknowledged mark
+pub to_acknowledged : (raise : Raise) (last : ℕ) (old new : SeenState) → RaisesSo raise old new
+    → ((mark : ℕ) → raise ≡ raises.Committed mark → last ≡ mark)
+    → LeavesCommitted (seen_words old) (seen_words new) ⊎ RaisesCommitted last (seen_words old) (seen_words new)
+to_acknowledged raises.Nothing last old new so is = inl (ap (λ (s : SeenState). s.committed_raised) so)
+to_acknowledged (raises.Stalled number) last old new so is = inl so.committed
+to_acknowledged (raises.Committed number) last old new so is =
+    inr (subst (λ (n : ℕ). RaisesCommitted n (seen_words old) (seen_words new)) (sym (is number refl)) so.committed)

@@ -7,19 +7,38 @@ use Rattle.machine.specs.Fresh.{IsFresh}
 use Rattle.machine.specs.Runs.{StepsTaken}
 use Rattle.machine.specs.State.{Whole}
 use Rattle.service.specs.declared.entry.Entry.{Entry}
+use Rattle.service.specs.Marks.{Words}
 use Rattle.service.specs.Trace.{steps_of, replies_of, of_processor}
 
--- a processor of a service: its number, its acts with their replies, in order, and the greatest numbers of marks that
--- it has seen stalled and committed
+-- a processor of a service: its number, its acts with their replies, in order, the greatest numbers of marks that it
+-- has seen stalled and committed, and by how much its own calls have raised each of the two in all
 pub record CpuState : Type 0 where
   pub number : ℕ
   pub answered : List (Act × Reply)
   pub stalled : ℕ
   pub committed : ℕ
+  pub stalled_raised : ℕ
+  pub committed_raised : ℕ
+
+-- the words of the horizon as a processor has seen them
+abbrev pub words_of : CpuState → Words
+words_of cpu = record {
+  stalled = cpu.stalled;
+  committed = cpu.committed;
+  stalled_raised = cpu.stalled_raised;
+  committed_raised = cpu.committed_raised;
+}
 
 -- a processor that has done nothing yet
 abbrev pub idle_cpu : ℕ → CpuState
-idle_cpu number = record { number = number; answered = []; stalled = 0; committed = 0 }
+idle_cpu number = record {
+  number = number;
+  answered = [];
+  stalled = 0;
+  committed = 0;
+  stalled_raised = 0;
+  committed_raised = 0;
+}
 
 -- the processor of this number is among these
 abbrev pub IsAmong : List CpuState → ℕ → Type 0

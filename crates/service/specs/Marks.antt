@@ -1,6 +1,7 @@
 -- How far the marks of a trace have come, read off its replies.
 use Rattle.std.specs.Prelude.{ℕ, ◌≡◌, ◌≤◌, ⊤, Bool, true, false, if◌then◌else◌, List, Option, Some, None, unwrap_or}
 use Rattle.std.specs.List.{fold}
+use Rattle.horizon.specs.Seen.{IsRaisedTo}
 use Rattle.machine.specs.declared.act.Reply.{Reply}
 use Rattle.machine.specs.declared.act.Reply.TheVariants as replies
 use Rattle.service.specs.declared.entry.Entry.{Entry}
@@ -41,3 +42,32 @@ HasReached unmarked (replies.Marked number) stalled committed =
     (number ≤ stalled) × (unmarked ≡ false → number ≤ committed)
 HasReached unmarked (replies.Committed number) stalled committed = (number ≤ stalled) × (number ≤ committed)
 HasReached unmarked reply stalled committed = ⊤
+
+-- the two words of the horizon as one processor has seen them, and by how much its own calls have raised each in all
+pub record Words : Type 0 where
+  pub stalled : ℕ
+  pub committed : ℕ
+  pub stalled_raised : ℕ
+  pub committed_raised : ℕ
+
+-- a call left committed as it was
+abbrev pub LeavesCommitted : Words → Words → Type 0
+LeavesCommitted old new = new.committed_raised ≡ old.committed_raised
+
+-- a call made committed the greater of itself and a number, in one step
+abbrev pub RaisesCommitted : ℕ → Words → Words → Type 0
+RaisesCommitted number old new =
+    IsRaisedTo number old.committed old.committed_raised new.committed new.committed_raised
+
+-- a call made stalled the greater of itself and a number, in one step
+abbrev pub RaisesStalled : ℕ → Words → Words → Type 0
+RaisesStalled number old new = IsRaisedTo number old.stalled old.stalled_raised new.stalled new.stalled_raised
+
+-- What a call that was answered so did to the horizon, where something was unmarked before it or not: a commit raises
+-- both words to its mark's number; a mark raises stalled, and committed with it where nothing was unmarked; no other
+-- reply raises any.
+abbrev pub HasRaised : Bool → Reply → Words → Words → Type 0
+HasRaised true (replies.Marked number) old new = RaisesStalled number old new × LeavesCommitted old new
+HasRaised false (replies.Marked number) old new = RaisesStalled number old new × RaisesCommitted number old new
+HasRaised unmarked (replies.Committed number) old new = RaisesStalled number old new × RaisesCommitted number old new
+HasRaised unmarked reply old new = new ≡ old

@@ -1,5 +1,5 @@
 -- A machine with the trace that led to it.
-use Rattle.std.specs.Prelude.{ℕ, ◌≡◌, ◌<◌, ◌≤◌, List, [], ◌∷◌, ◌++◌, length, Option, Some}
+use Rattle.std.specs.Prelude.{ℕ, ◌≡◌, ◌<◌, ◌≤◌, ◌⊎◌, List, [], ◌∷◌, ◌++◌, length, Option, Some}
 use Rattle.device.specs.declared.device.Device.{Ghosts}
 use Rattle.page_entry.specs.declared.refusal.Refusal.{Refusal}
 use Rattle.page_entry.specs.declared.refusal.Refusal.TheVariants.{BadShape, OutOfMemory}
@@ -14,7 +14,7 @@ use Rattle.machine.specs.State.{Whole}
 use Rattle.machine.specs.Steps.{told_first}
 use Rattle.machine.specs.Told.{Told, tell_all}
 use Rattle.service.specs.declared.entry.Entry.{Entry}
-use Rattle.service.specs.Marks.{has_unmarked, HasReached}
+use Rattle.service.specs.Marks.{has_unmarked, last_acknowledged, HasReached, Words, LeavesCommitted, RaisesCommitted, HasRaised}
 use Rattle.service.specs.Trace.{progress_of, steps_of, replies_of}
 
 -- what is locked: a machine, the trace of its steps, the most entries that the trace may have, and how many of its
@@ -75,14 +75,18 @@ pub record HasEntered {D : Type 0} (disk : Ghosts D) (old : SharedState D) (step
       → StepIsSafe disk files (told_by files start old.trace) old.machine step reply new.machine
 
 -- One call of a processor that was answered: what the lock kept is a trace of the service, the act that was called and
--- its reply are one more entry of it, and the horizon, as this processor sees it, has reached what the entry raises.
+-- its reply are one more entry of it, and the call did to the horizon what the entry says. The words are those that
+-- this processor has seen before the call and after it.
 pub record HasCalled {D : Type 0} (disk : Ghosts D) (start : Option (Whole D)) (all capacity : ℕ) (step : Step)
-    (reply : Reply) (stalled committed : ℕ) : Type 0 where
+    (reply : Reply) (old new : Words) : Type 0 where
   pub before : SharedState D
   pub after : SharedState D
   pub serves : ServesFrom disk start all capacity before
   pub entered : HasEntered disk before step reply after
-  pub reached : HasReached (has_unmarked before.trace) reply stalled committed
+  pub reached : HasReached (has_unmarked before.trace) reply new.stalled new.committed
+  pub raised : HasRaised (has_unmarked before.trace) reply old new
+  -- what this call raises committed to is the number of the last acknowledged mark of the trace
+  pub acknowledged : LeavesCommitted old new ⊎ RaisesCommitted (last_acknowledged after.trace) old new
 
 -- the most entries that a trace may be asked to hold
 abbrev pub max_entries : ℕ

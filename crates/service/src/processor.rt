@@ -2,10 +2,11 @@
 ghost use Rattle.std.specs.Prelude.{ℕ, ◌≡◌, ◌≢◌, ◌++◌, ◌∷◌, [], ◌+◌, ◌<◌, ◌≤◌, length};
 ghost use Rattle.page_entry.specs.declared.refusal.Refusal.{Refusal};
 ghost use Rattle.machine.specs.declared.act.Reply.{Reply};
+ghost use Rattle.service.specs.Gathering.{words_of};
 ghost use Rattle.service.specs.Serving.{HasCalled};
 ghost use Rattle.service.specs.declared.raising.Raise.{Raise};
-ghost use Rattle.service.specs.inside.Raising.{Reaches};
-ghost use Rattle.service.specs.inside.Rising.{HasRisen};
+ghost use Rattle.service.specs.inside.Raising.{Reaches, RaisesSo};
+ghost use Rattle.service.specs.inside.Rising.{HasRisen, seen_words};
 
 use crate::Origin;
 use crate::locked::{Room, is_trace_full};
@@ -47,6 +48,8 @@ impl<D: Device, A: Allocator + Copy, L: Origin<D>> Model for Cpu<D, A, L> {
       answered = c.answered.items;
       stalled = c.seen.stalled;
       committed = c.seen.committed;
+      stalled_raised = c.seen.stalled_raised;
+      committed_raised = c.seen.committed_raised;
     } };
 
     ghost invariant = { λ c. (c.share.parts ≡ 1) × (c.share.amount ≡ length c.answered.items)
@@ -75,7 +78,7 @@ impl<D: Device, A: Allocator + Copy, L: Origin<D>> Cpu<D, A, L> {
             → self.new.answered ≡ self.old.answered ++ (act, result) ∷ [] }
         ensures called { result ≢ Reply.Refused Refusal.TraceFull
             → HasCalled D.Device L.start L.all L.capacity (record { p = self.old.number; act = act }) result
-            self.new.stalled self.new.committed }
+            (words_of self.old) (words_of self.new) }
         ensures number { self.new.number ≡ self.old.number }
         ensures rises { (self.old.stalled ≤ self.new.stalled) × (self.old.committed ≤ self.new.committed) }
         ensures marked { (mark : ℕ) → result ≡ Reply.Marked mark → mark ≤ self.new.stalled }
@@ -189,7 +192,7 @@ fn call_locked<D: Device, A: Allocator + Copy, L: Origin<D>, R: Wait>(
     ensures risen { HasRisen seen.old seen.new }
     ensures called { result ≢ Reply.Refused Refusal.TraceFull
         → HasCalled D.Device L.start L.all L.capacity (record { p = p; act = act.now }) result
-        seen.new.stalled seen.new.committed }
+        (seen_words seen.old) (seen_words seen.new) }
     ensures marked { (mark : ℕ) → result ≡ Reply.Marked mark → mark ≤ seen.new.stalled }
     ensures committed { (mark : ℕ) → result ≡ Reply.Committed mark → mark ≤ seen.new.committed }
 {
@@ -202,10 +205,11 @@ fn call_locked<D: Device, A: Allocator + Copy, L: Origin<D>, R: Wait>(
     reply
 }
 
-// Raises the horizon so far.
+// Raises the horizon so far, and no further.
 fn raise_horizon<R: Wait>(rt: &R, horizon: &Horizon, seen: &mut Seen, raise: Raise)
     requires own { seen.old.cell ≡ horizon.now }
     ensures nothing { raise ≡ Raise.Nothing → seen.new ≡ seen.old }
+    ensures exact { RaisesSo raise seen.old seen.new }
     ensures risen { HasRisen seen.old seen.new }
     ensures reached { Reaches raise seen.new.stalled seen.new.committed }
 {

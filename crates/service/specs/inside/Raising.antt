@@ -1,5 +1,6 @@
 -- How far one reply raises the horizon.
-use Rattle.std.specs.Prelude.{ℕ, ◌≤◌, ⊤, Bool, if◌then◌else◌}
+use Rattle.std.specs.Prelude.{ℕ, ◌≡◌, ◌≤◌, ⊤, Bool, if◌then◌else◌}
+use Rattle.horizon.specs.Seen.{SeenState, HasRaisedStalled, HasRaisedBoth}
 use Rattle.machine.specs.declared.act.Reply.{Reply}
 use Rattle.machine.specs.declared.act.Reply.TheVariants as replies
 use Rattle.service.specs.declared.raising.Raise.{Raise}
@@ -16,3 +17,9 @@ abbrev pub Reaches : Raise → ℕ → ℕ → Type 0
 Reaches raises.Nothing stalled committed = ⊤
 Reaches (raises.Stalled number) stalled committed = number ≤ stalled
 Reaches (raises.Committed number) stalled committed = (number ≤ stalled) × (number ≤ committed)
+
+-- this raise was made, and nothing else: each word that it names became the greater of itself and the number
+abbrev pub RaisesSo : Raise → SeenState → SeenState → Type 0
+RaisesSo raises.Nothing old new = new ≡ old
+RaisesSo (raises.Stalled number) old new = HasRaisedStalled number old new
+RaisesSo (raises.Committed number) old new = HasRaisedBoth number old new

@@ -2,7 +2,8 @@ use Rattle.std.proofs.Common.{◌+◌, ◌++◌, ◌∷◌, [], List, length, le
 use Rattle.std.proofs.lemmas.Bool.{false≢true}
 use Rattle.machine.specs.declared.act.Act.{Act}
 use Rattle.machine.specs.declared.act.Reply.{Reply}
-use Rattle.service.specs.Gathering.{CpuState}
+use Rattle.service.specs.Gathering.{CpuState, words_of}
+use Rattle.service.specs.inside.Rising.{seen_words}
 use Rattle.service.specs.Serving.{HasCalled}
 use Rattle.service.proofs.processor.Cpu.call.Goals as goal
 
@@ -27,5 +28,5 @@ returns-then-not-is_trace_full-clause-answered g c = λ _.
 pub returns-then-not-is_trace_full-clause-called : goal.returns-then-not-is_trace_full-clause-called
 returns-then-not-is_trace_full-clause-called g c = λ answered.
     let seen = c.call_locked-reply.new.seen in
-    let P : CpuState → Type 0 = λ s. HasCalled g.D.Device g.L.Origin.start g.L.Origin.all g.L.Origin.capacity (record { p = s.number; act = c.args.act }) c.call_locked-reply.result seen.stalled seen.committed in
+    let P : CpuState → Type 0 = λ s. HasCalled g.D.Device g.L.Origin.start g.L.Origin.all g.L.Origin.capacity (record { p = s.number; act = c.args.act }) c.call_locked-reply.result (words_of s) (seen_words seen) in
     subst P c.self.view_is (c.call_locked-reply.ensures.called answered)
