@@ -1,4 +1,5 @@
 pub mod Disks
+pub mod Calls
 pub mod Crashes
 pub mod Trials
 pub mod Rows

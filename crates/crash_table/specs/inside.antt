@@ -1,3 +1,4 @@
 -- What ties private code to the definitions that public clauses name.
 pub mod Kept
 pub mod Reading
+pub mod Codes
