@@ -19,7 +19,7 @@ use Rattle.machine.specs.State.{Whole}
 use Rattle.machine.specs.Told.{Told, tell_all}
 use Rattle.engine.specs.Engine.{HasStarted}
 use Rattle.crash_table.specs.Disks.{failing_memory}
-use Rattle.crash_table.specs.Crashes.{history_of, HasEnded, LeavesMark}
+use Rattle.crash_table.specs.Crashes.{history_of, HasEnded, IsUpTo, LeavesMark}
 use Rattle.crash_table.specs.declared.found.MarkFiles.{MarkFiles}
 use Rattle.crash_table.specs.inside.Kept.{contents_of, AreKept, IsNewest, HasKept}
 use Rattle.crash_table.proofs.Marks.{IsOneReading, OpensAsRecovered, ReadsBackLater, on_track, told_is, taken_length}
@@ -64,13 +64,13 @@ only_first image c left = ext_get_or 0 c image left.same_length (λ i lt. left.s
 
 -- a trial: what was left of it by a stop, and what was found
 pub leaves_mark : {A : Type 0} → IsOneReading → (image : List ℕ) (shape : Shape) (steps : List Step) (first : List Reply) (marks : List (MarkFiles A)) (kept : HasKept image shape steps first marks)
-    → (fails : ℕ) (choice : List ℕ) (replies : List Reply) (after : Failing Recorded) → HasEnded failing_memory (failing (new_disk image) fails) shape steps replies after
+    → (calls fails : ℕ) (choice : List ℕ) (replies : List Reply) (after : Failing Recorded) → HasEnded failing_memory (failing (new_disk image) fails) shape steps replies after
     → ((files : List File) → RecoversTo image files → (c : List ℕ) → may_leave_of after.inner c → ReadsBack files (history_of files shape (take (length replies) steps) replies) c)
-    → after.inner.faults ≡ 0 → (0 < after.faults) ⊎ (length replies ≡ length steps)
+    → after.inner.faults ≡ 0 → IsUpTo calls fails steps replies after
     → (stopped : Recorded) → stopped ≡ after_stop after.inner choice → may_leave_of after.inner (seen_of stopped)
     → (read : List (List ℕ)) → (found : List File) × RecoversTo (seen_of stopped) found × (read ≡ contents_of found)
-    → (number : ℕ) → IsNewest kept.files shape steps replies read number → LeavesMark image shape steps fails choice number
-leaves_mark one image shape steps first marks kept fails choice replies after ended back sound up stopped is left read opened number newest =
+    → (number : ℕ) → IsNewest kept.files shape steps replies read number → LeavesMark image shape steps calls fails choice number
+leaves_mark one image shape steps first marks kept calls fails choice replies after ended back sound up stopped is left read opened number newest =
     let long = few_replies failing_memory (failing (new_disk image) fails) shape steps replies after ended in
     let P : Recorded → Type 0 = λ s. may_leave_of after.inner (seen_of s) in
     let Q : Recorded → Type 0 = λ s. RecoversTo (seen_of s) opened.0 in
@@ -91,20 +91,20 @@ leaves_mark one image shape steps first marks kept fails choice replies after en
 
 -- so it is of the newest mark that was looked for among the marks that were kept
 pub leaves_newest : {A E : Type 0} → IsOneReading → (image : List ℕ) (shape : Shape) (steps : List Step) (first : List Reply) (marks : List (MarkFiles A)) (kept : HasKept image shape steps first marks)
-    → (fails : ℕ) (choice : List ℕ) (replies : List Reply) (after : Failing Recorded) → HasEnded failing_memory (failing (new_disk image) fails) shape steps replies after
+    → (calls fails : ℕ) (choice : List ℕ) (replies : List Reply) (after : Failing Recorded) → HasEnded failing_memory (failing (new_disk image) fails) shape steps replies after
     → ((files : List File) → RecoversTo image files → (c : List ℕ) → may_leave_of after.inner c → ReadsBack files (history_of files shape (take (length replies) steps) replies) c)
-    → after.inner.faults ≡ 0 → (0 < after.faults) ⊎ (length replies ≡ length steps)
+    → after.inner.faults ≡ 0 → IsUpTo calls fails steps replies after
     → (stopped : Recorded) → stopped ≡ after_stop after.inner choice → may_leave_of after.inner (seen_of stopped)
     → (read : List (List ℕ)) → (found : List File) × RecoversTo (seen_of stopped) found × (read ≡ contents_of found)
     → (result : Result ℕ E) (kept_marks : List (MarkFiles A)) (told again : List Reply) (bytes : List (List ℕ)) → kept_marks ≡ marks → told ≡ first → again ≡ replies → bytes ≡ read
     → ((files : List File) (shape : Shape) (steps : List Step) → AreKept files shape steps told kept_marks → IfOk result (IsNewest files shape steps again bytes))
-    → IfOk result (LeavesMark image shape steps fails choice)
-leaves_newest {A} {E} one image shape steps first marks kept fails choice replies after ended back sound up stopped is left read opened result kept_marks told again bytes marks_are told_are again_are bytes_are newest =
+    → IfOk result (LeavesMark image shape steps calls fails choice)
+leaves_newest {A} {E} one image shape steps first marks kept calls fails choice replies after ended back sound up stopped is left read opened result kept_marks told again bytes marks_are told_are again_are bytes_are newest =
     let M : List (MarkFiles A) → Type 0 = λ l. AreKept kept.files shape steps told l in
     let T : List Reply → Type 0 = λ l. AreKept kept.files shape steps l marks in
     IfOk-weaker result _ _
     (λ number has.
     let R : List Reply → Type 0 = λ l. IsNewest kept.files shape steps l bytes number in
     let B : List (List ℕ) → Type 0 = λ l. IsNewest kept.files shape steps replies l number in
-    leaves_mark one image shape steps first marks kept fails choice replies after ended back sound up stopped is left read opened number (subst B bytes_are (subst R again_are has)))
+    leaves_mark one image shape steps first marks kept calls fails choice replies after ended back sound up stopped is left read opened number (subst B bytes_are (subst R again_are has)))
     (newest kept.files shape steps (subst M (sym marks_are) (subst T (sym told_are) kept.kept)))

@@ -41,17 +41,23 @@ pub record IsAtMark (files : List File) (history : List Event) (found : List Fil
   pub newest : (other : List Event) → IsDurablePrefix other history → found ≡ files_after files other
       → length other ≤ length prefix
 
--- A run was made on a disk in memory with these bytes whose device call of one number fails (0: none), and no other
--- call failed: up to that call, or to the end of the steps where it wasn't made. Then a crash left this choice in the
+-- Of a run that has so many calls the one of this number, counted from 1, failed, and it was the last that was made; or
+-- there is none of this number: then no call failed, and all steps were made.
+pub record IsUpTo (calls fails : ℕ) (steps : List Step) (replies : List Reply) (after : Failing Recorded) : Type 0 where
+  pub failed : 0 < fails → fails ≤ calls → (after.calls ≡ fails) × (after.faults ≡ 1)
+  pub whole : (fails ≡ 0) ⊎ (calls < fails) → (after.faults ≡ 0) × (length replies ≡ length steps)
+
+-- A run that has so many device calls was made on a disk in memory with these bytes, up to the call of one number, which
+-- failed, or to its end where there is none of that number; no other call failed. Then a crash left this choice in the
 -- places that were written and not synced, which is one of the contents that it may leave. It recovers to the files at
 -- the mark of this number, by what can be read off the replies before the call failed.
-pub record LeavesMark (image : List ℕ) (shape : Shape) (steps : List Step) (fails : ℕ) (choice : List ℕ)
+pub record LeavesMark (image : List ℕ) (shape : Shape) (steps : List Step) (calls fails : ℕ) (choice : List ℕ)
     (number : ℕ) : Type 0 where
   pub replies : List Reply
   pub after : Failing Recorded
   pub ended : HasEnded failing_memory (failing (new_disk image) fails) shape steps replies after
   pub sound : after.inner.faults ≡ 0
-  pub up_to_call : (0 < after.faults) ⊎ (length replies ≡ length steps)
+  pub up_to_call : IsUpTo calls fails steps replies after
   pub left : may_leave_of after.inner (seen_of (after_stop after.inner choice))
   pub files : List File
   pub before : RecoversTo image files

@@ -1,3 +1,5 @@
+pub mod Calls
+pub mod Choices
 pub mod Disks
 pub mod Crashes
 pub mod Trials

@@ -1,15 +1,18 @@
 // The rows of the table: what crashes within each device call leave.
-ghost use Rattle.std.specs.Prelude.{◌≡◌, ◌==◌, IfOk, IfSome, Contains};
+ghost use Rattle.std.specs.Prelude.{◌≡◌, ◌==◌, ◌+◌, ◌<◌, ◌≤◌, length, map, IfOk, OnOk, Contains};
 ghost use Rattle.std.specs.List.{count_by};
-ghost use Rattle.crash_table.specs.Trials.{LeavesSome};
-ghost use Rattle.crash_table.specs.Rows.{IsRowOf};
+ghost use Rattle.crash_table.specs.declared.choice.Choice.TheVariants as choices;
+ghost use Rattle.crash_table.specs.Choices.{content_before, content_within, left_by};
+ghost use Rattle.crash_table.specs.Trials.{Leaves};
+ghost use Rattle.crash_table.specs.Rows.{IsRowOf, IsNext};
 ghost use Rattle.crash_table.specs.declared.row.Found.{Found};
+ghost use Rattle.crash_table.specs.inside.Contents.{content_of};
 
-use crate::call::Call;
 use crate::choice::{Choice, Contents};
 use crate::crash_fault::CrashFault;
 use crate::trial::Trial;
 use std::alloc::Allocator;
+use std::marker::Model;
 
 /// A crash state, and the mark whose files an opening of it finds.
 #[derive(Clone, Copy, Debug, PartialEq, Eq)]
@@ -47,89 +50,149 @@ impl<A: Allocator + Copy> Row<A> {
     }
 }
 
-/// The rows, one after the other.
+/// The rows, one after the other. After an `Err` there is no further one.
 #[derive(Drop)]
 pub struct Rows<'a, A: Allocator + Copy> {
     alloc: A,
     trial: &'a Trial<'a, A>,
     contents: Contents<A>,
     next: usize,
+    // A row is begun that was not finished.
+    begun: bool,
+}
+
+impl<'a, A: Allocator + Copy> Model for Rows<'a, A> {
+    ghost use Rattle.std.specs.Prelude.{◌≡◌, false};
+    ghost use Rattle.crash_table.specs.Choices.{content_before};
+    ghost use Rattle.crash_table.specs.Rows.{RowsValue};
+    ghost use Rattle.crash_table.specs.inside.Contents.{content_of};
+
+    ghost Value = { RowsValue };
+
+    ghost view = { λ r. record { trial = r.trial.now; next = r.next } };
+
+    ghost invariant = { λ r. r.begun ≡ false
+        → content_of r.contents ≡ content_before r.trial.now.image r.trial.now.calls r.next };
 }
 
 impl<'a, A: Allocator + Copy> Rows<'a, A> {
     /// The rows of a run.
     pub fn new(alloc: A, trial: &'a Trial<'a, A>) -> Result<Self, CrashFault>
-        ensures { IfOk result (λ rows. rows.trial.now ≡ trial.now) }
+        ensures { IfOk result (λ rows. rows ≡ record { trial = trial.now; next = 0 }) }
     {
         Ok(Rows {
             alloc,
             trial,
             contents: Contents::new(alloc, trial.image())?,
             next: 0,
+            begun: false,
         })
     }
 
-    /// The next row: one for each device call of the run, and one for its end.
+    /// The next row: one for each device call of the run, in their order, and one for its end. After an `Err` there is
+    /// none: `Otherwise`.
     pub fn next(&mut self) -> Result<Option<Row<A>>, CrashFault>
-        ensures row { IfOk result (λ next. IfSome next (IsRowOf self.old.trial.now)) }
-        ensures trial { self.new.trial ≡ self.old.trial }
+        ensures { IfOk result (λ next. IsNext self.old next self.new) }
     {
         let trial = self.trial;
         let calls = trial.calls();
+        if self.begun {
+            return Err(CrashFault::Otherwise);
+        }
         if self.next > calls.len() {
             return Ok(None);
         }
-        let number = (self.next as u64).saturating_add(1);
-        let row = match calls.get(self.next) {
-            Some(call) => self.within(number, call)?,
-            None => self.row(number)?,
+        let Some(number) = self.next.checked_add(1) else {
+            return Err(CrashFault::Otherwise);
         };
-        self.next = self.next.saturating_add(1);
+        self.begun = true;
+        let row = make_row(self.alloc, trial, &mut self.contents, self.next)?;
+        self.next = number;
+        self.begun = false;
         Ok(Some(row))
     }
+}
 
-    // Crashes within a call.
-    fn within(&mut self, number: u64, call: &Call<A>) -> Result<Row<A>, CrashFault>
-        ensures row { IfOk result (IsRowOf self.old.trial.now) }
-        ensures trial { self.new.trial ≡ self.old.trial }
-    {
-        self.contents.begin(call)?;
-        let row = self.row(number)?;
-        self.contents.end(call)?;
-        Ok(row)
-    }
-
-    // Crashes within the call of this number, or at the end where there is none.
-    fn row(&self, number: u64) -> Result<Row<A>, CrashFault>
-        ensures { IfOk result (IsRowOf self.now.trial.now) }
-    {
-        Ok(Row {
-            number,
-            unsynced: self.contents.unsynced(),
-            found: self.states(number)?,
-        })
-    }
-
-    // Each state that is tried of a crash within the call of this number.
-    fn states(&self, number: u64) -> Result<Vec<Found, A>, CrashFault>
-        ensures { IfOk result (λ states. (found : Found) → Contains states.items found
-            → LeavesSome self.now.trial.now number found.mark) }
-    {
-        let choices = self.contents.choices()?;
-        let mut states = Vec::new(self.alloc);
-        for choice in &choices {
-            let mark = self.crash(number, *choice)?;
-            states.push(Found {
-                choice: *choice,
-                mark,
-            })?;
+// The row of the call of this index, or of the run's end, which makes the call of a copy of the disk.
+fn make_row<A: Allocator + Copy>(
+    alloc: A,
+    trial: &Trial<'_, A>,
+    contents: &mut Contents<A>,
+    index: usize,
+) -> Result<Row<A>, CrashFault>
+    requires { index ≤ length trial.now.calls }
+    ensures row { content_of contents.old ≡ content_before trial.now.image trial.now.calls index
+        → IfOk result (IsRowOf trial.now index) }
+    ensures after { content_of contents.old ≡ content_before trial.now.image trial.now.calls index
+        → OnOk result (content_of contents.new ≡ content_before trial.now.image trial.now.calls (index + 1)) }
+{
+    match trial.calls().get(index) {
+        Some(call) => {
+            contents.begin(call)?;
+            let row = row_of(alloc, trial, contents, index)?;
+            contents.end(call)?;
+            Ok(row)
         }
-        Ok(states)
+        None => row_of(alloc, trial, contents, index),
     }
+}
 
-    fn crash(&self, number: u64, choice: Choice) -> Result<u32, CrashFault>
-        ensures { IfOk result (LeavesSome self.now.trial.now number) }
-    {
-        self.trial.crash(number, &self.contents.bytes_of(choice)?)
+// The row of the call of this index, or of the run's end, where a copy of the disk holds this.
+fn row_of<A: Allocator + Copy>(
+    alloc: A,
+    trial: &Trial<'_, A>,
+    contents: &Contents<A>,
+    index: usize,
+) -> Result<Row<A>, CrashFault>
+    requires { index ≤ length trial.now.calls }
+    ensures { content_of contents.now ≡ content_within trial.now.image trial.now.calls index
+        → IfOk result (IsRowOf trial.now index) }
+{
+    let Some(number) = index.checked_add(1) else {
+        return Err(CrashFault::Otherwise);
+    };
+    let number = number as u64;
+    Ok(Row {
+        number,
+        unsynced: contents.unsynced(),
+        found: states(alloc, trial, contents, number)?,
+    })
+}
+
+// Each state that is tried of a crash within the call of this number.
+fn states<A: Allocator + Copy>(
+    alloc: A,
+    trial: &Trial<'_, A>,
+    contents: &Contents<A>,
+    number: u64,
+) -> Result<Vec<Found, A>, CrashFault>
+    ensures each { IfOk result (λ states. (found : Found) → Contains states.items found
+        → Leaves trial.now number (left_by found.choice (content_of contents.now)) found.mark) }
+    ensures old { IfOk result (λ states. Contains (map (λ f. f.choice) states.items) choices.Old) }
+    ensures new { IfOk result (λ states. 0 < length contents.now.unsynced.items
+        → Contains (map (λ f. f.choice) states.items) choices.New) }
+{
+    let tried = contents.choices()?;
+    let mut states = Vec::new(alloc);
+    for choice in &tried {
+        let state = state_of(trial, contents, number, *choice)?;
+        states.push(state)?;
     }
+    Ok(states)
+}
+
+// The state that a choice leaves of a crash within the call of this number.
+fn state_of<A: Allocator + Copy>(
+    trial: &Trial<'_, A>,
+    contents: &Contents<A>,
+    number: u64,
+    choice: Choice,
+) -> Result<Found, CrashFault>
+    ensures leaves { IfOk result (λ found.
+        Leaves trial.now number (left_by found.choice (content_of contents.now)) found.mark) }
+    ensures named { IfOk result (λ found. found.choice ≡ choice) }
+{
+    let bytes = contents.bytes_of(choice)?;
+    let mark = trial.crash(number, &bytes)?;
+    Ok(Found { choice, mark })
 }

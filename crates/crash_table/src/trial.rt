@@ -1,10 +1,13 @@
 // A run, made once to learn its calls, its replies and the files at its marks, and again for each crash.
-ghost use Rattle.std.specs.Prelude.{◌≡◌, ◌⊎◌, ◌<◌, IsTrue, List, length, slice_get, Some, IfOk, OnOk};
-ghost use Rattle.device.specs.Memory.{new_disk};
+ghost use Rattle.std.specs.Prelude.{◌≡◌, ◌⊎◌, ◌<◌, ◌≤◌, IsTrue, List, length, slice_get, Some, IfOk, OnOk};
+ghost use Rattle.device.specs.Memory.{Recorded, new_disk};
 ghost use Rattle.volume_codec.specs.Files.{File};
 ghost use Rattle.volume_codec.specs.Recovery.{RecoversTo};
 ghost use Rattle.machine.specs.declared.act.Reply.TheVariants.{Marked};
-ghost use Rattle.crash_table.specs.Crashes.{LeavesMark};
+ghost use Rattle.engine.specs.Engine.{HasStarted};
+ghost use Rattle.machine.specs.declared.act.Shape.{Shape};
+ghost use Rattle.crash_table.specs.Calls.{ListedDisk, AreMade, AreCallsOf, calls_of, listing_memory};
+ghost use Rattle.crash_table.specs.Trials.{HasItsCalls, Leaves};
 ghost use Rattle.crash_table.specs.inside.Kept.{IsKept, AreKept};
 
 use crate::call::{Call, Listing};
@@ -14,6 +17,7 @@ use crate::found::{MarkFiles, Plan, files_at, newest};
 use crate::make::run_on;
 use crate::same::are_same_replies;
 use device::{Device, FailingDisk, MemDisk};
+use engine::ran_since_start;
 use machine::{Machine, Reply, Shape, Step};
 use recovery::opened_as_recovered;
 use std::alloc::{AllocError, Allocator};
@@ -41,15 +45,21 @@ struct Listed<A: Allocator + Copy> {
 }
 
 impl<'a, A: Allocator + Copy> Model for Trial<'a, A> {
+    ghost use Rattle.crash_table.specs.Calls.{AreCallsOf, calls_of};
     ghost use Rattle.crash_table.specs.Trials.{TrialValue};
     ghost use Rattle.crash_table.specs.inside.Kept.{HasKept};
 
     ghost Value = { TrialValue };
 
-    ghost view = { λ t. record { image = t.plan.image.now; shape = t.plan.shape; steps = t.plan.steps.now } };
+    ghost view = { λ t. record {
+      image = t.plan.image.now;
+      shape = t.plan.shape;
+      steps = t.plan.steps.now;
+      calls = calls_of t.listed.calls.items;
+    } };
 
     ghost invariant = { λ t. HasKept t.plan.image.now t.plan.shape t.plan.steps.now t.listed.replies.items
-        t.marks.items };
+        t.marks.items × AreCallsOf t.plan.image.now t.plan.shape t.plan.steps.now (calls_of t.listed.calls.items) };
 }
 
 // A copy of a disk that holds these bytes.
@@ -67,8 +77,9 @@ impl<'a, A: Allocator + Copy> Trial<'a, A> {
         shape: Shape,
         steps: &'a [Step],
     ) -> Result<Self, CrashFault>
-        ensures { IfOk result (λ trial. trial
-            ≡ record { image = image.now; shape = shape; steps = steps.now }) }
+        ensures made { IfOk result (λ trial. trial
+            ≡ record { image = image.now; shape = shape; steps = steps.now; calls = trial.calls }) }
+        ensures calls { IfOk result HasItsCalls }
     {
         let plan = Plan {
             image,
@@ -86,7 +97,10 @@ impl<'a, A: Allocator + Copy> Trial<'a, A> {
     }
 
     /// The device calls of the run, in order. The first ones open the volume.
-    pub fn calls(&self) -> &[Call<A>] {
+    pub fn calls(&self) -> &[Call<A>]
+        ensures calls { calls_of result.now ≡ self.now.calls }
+        ensures run { HasItsCalls self.now }
+    {
         &self.listed.calls
     }
 
@@ -123,17 +137,17 @@ impl<'a, A: Allocator + Copy> Trial<'a, A> {
     /// that are found are always those at a mark, and never older than the last one that was acknowledged. `Otherwise`
     /// where memory was refused to a run and another answer came of that, or the choice isn't as long as the disk.
     pub fn crash(&self, fails: u64, choice: &[u8]) -> Result<u32, CrashFault>
-        ensures { IfOk result (LeavesMark self.now.image self.now.shape self.now.steps fails choice.now) }
+        ensures { IfOk result (Leaves self.now fails choice.now) }
     {
         let disk = FailingDisk::new(copy_of(self.alloc, self.plan.image)?, fails);
         let (disk, replies) = run_on(self.alloc, disk, self.plan.shape, self.plan.steps)?;
-        let failed = disk.faults() > 0;
+        let is_up_to_call = self.is_up_to(fails, disk.calls(), disk.faults(), replies.len());
         let mut disk = disk.into_inner();
         if disk.faults() > 0 {
             // A disk in memory fails where memory is refused, and for no other reason.
             return Err(CrashFault::Memory(AllocError));
         }
-        if choice.len() != disk.bytes().len() || !self.is_run_up_to(fails, failed, &replies) {
+        if choice.len() != disk.bytes().len() || !is_up_to_call || !self.is_same(fails, &replies) {
             return Err(CrashFault::Otherwise);
         }
         disk.stop(choice);
@@ -142,18 +156,26 @@ impl<'a, A: Allocator + Copy> Trial<'a, A> {
         newest(&self.marks, &self.listed.replies, &replies, &found)
     }
 
-    // Whether a run with these replies is the first one up to the device call of this number, which fails, where there
-    // is one, and else up to its end.
-    fn is_run_up_to(&self, fails: u64, failed: bool, replies: &[Reply]) -> bool
-        ensures { IsTrue result → (IsTrue failed ⊎ (length replies.now ≡ length self.now.steps)) }
+    // Whether a run of so many calls, so many of which failed, with so many replies, was made up to the device call of
+    // this number, which failed, where there is one, and else up to its end.
+    fn is_up_to(&self, fails: u64, calls: u64, faults: u64, replies: usize) -> bool
+        ensures failed { IsTrue result → 0 < fails → fails ≤ length self.now.calls
+            → (calls ≡ fails) × (faults ≡ 1) }
+        ensures whole { IsTrue result → (fails ≡ 0) ⊎ (length self.now.calls < fails)
+            → (faults ≡ 0) × (replies ≡ length self.now.steps) }
     {
-        if !failed && replies.len() != self.plan.steps.len() {
-            return false;
+        if fails > 0 && fails <= self.listed.calls.len() as u64 {
+            calls == fails && faults == 1
+        } else {
+            faults == 0 && replies == self.plan.steps.len()
         }
+    }
+
+    // Whether these replies are those of the first run, up to the device call of this number.
+    fn is_same(&self, fails: u64, replies: &[Reply]) -> bool {
         let before = self.replies_before(fails);
-        let due = fails <= self.listed.calls.len() as u64;
         match (self.listed.replies.get(0..before), replies.get(0..before)) {
-            (Some(first), Some(again)) => failed == due && are_same_replies(first, again),
+            (Some(first), Some(again)) => are_same_replies(first, again),
             _ => false,
         }
     }
@@ -161,7 +183,9 @@ impl<'a, A: Allocator + Copy> Trial<'a, A> {
 
 // Makes a run on a copy of a disk once. A machine was started on it, so its bytes recover to files.
 fn list<A: Allocator + Copy>(alloc: A, plan: &Plan<'_>) -> Result<Listed<A>, CrashFault>
-    ensures { IfOk result (λ listed. (files : List File) × RecoversTo plan.now.image.now files) }
+    ensures files { IfOk result (λ listed. (files : List File) × RecoversTo plan.now.image.now files) }
+    ensures calls { IfOk result (λ listed.
+        AreCallsOf plan.now.image.now plan.now.shape plan.now.steps.now (calls_of listed.calls.items)) }
 {
     let copy = copy_of(alloc, plan.image)?;
     let disk = Listing::new(alloc, copy);
@@ -177,7 +201,10 @@ fn list_steps<A: Allocator + Copy>(
     alloc: A,
     mut machine: Machine<Listing<MemDisk<A>, A>, A>,
     steps: &[Step],
-) -> Result<Listed<A>, CrashFault> {
+) -> Result<Listed<A>, CrashFault>
+    ensures { (before : ListedDisk Recorded) (shape : Shape) → HasStarted listing_memory before shape machine
+        → IfOk result (λ listed. AreMade before shape steps.now (calls_of listed.calls.items)) }
+{
     let opening = machine.device().count();
     let mut replies = Vec::new(alloc);
     let mut made = Vec::new(alloc);
@@ -185,10 +212,12 @@ fn list_steps<A: Allocator + Copy>(
         replies.push(machine.enter(step))?;
         made.push(machine.device().count())?;
     }
-    if machine.device().faults() > 0 {
+    ran_since_start(&machine);
+    let device = machine.into_device();
+    if device.faults() > 0 {
         return Err(CrashFault::Memory(AllocError));
     }
-    let calls = machine.into_device().into_calls()?;
+    let calls = device.into_calls()?;
     Ok(Listed {
         replies,
         made,

@@ -4,9 +4,10 @@ use Rattle.device.specs.Device.{Only}
 use Rattle.device.specs.Failing.{Failing, failing}
 use Rattle.device.specs.Memory.{Recorded, new_disk, seen_of, may_leave_of, after_stop}
 use Rattle.volume_codec.specs.Recovery.{RecoversTo}
-use Rattle.crash_table.specs.Crashes.{HasEnded, LeavesMark}
+use Rattle.crash_table.specs.Calls.{calls_of}
+use Rattle.crash_table.specs.Crashes.{HasEnded, IsUpTo}
 use Rattle.crash_table.specs.Disks.{failing_memory}
-use Rattle.crash_table.specs.Trials.{TrialValue}
+use Rattle.crash_table.specs.Trials.{TrialValue, Leaves}
 use Rattle.crash_table.proofs.Left.{only_first, leaves_newest}
 use Rattle.crash_table.proofs.trial.Trial.crash.Goals as goal
 
@@ -24,15 +25,22 @@ returns g c =
     let inner_is : inner ≡ after.inner = c.into_inner-disk.ensures in
     let disk_is : c.new-disk.result ≡ failing (new_disk image) fails = c.new-disk.ensures ∙ ap (λ (d : Recorded). failing d fails) c.in_ok-copy_of.ensures in
     let none : inner.faults ≡ 0 = omega (arith, c.faults.ensures, c.if-faults-gt0.false) in
-    let up : (0 < after.faults) ⊎ (length replies ≡ length steps) =
-    ⊎_elim (λ failed. inl (subst (λ (n : ℕ). 0 < n) c.faults-failed.ensures (ltb-true _ _ failed)))
-    (λ same. inr (ap length (sym c.deref.ensures.value) ∙ same ∙ sym (ap (λ (t : TrialValue). length t.steps) c.self.view_is)))
-    (c.if-not-is_run_up_to.ensures refl) in
+    let calls = length (calls_of inside.listed.calls.items) in
+    let count : length c.args.self.now.calls ≡ calls = sym (ap (λ (t : TrialValue). length t.calls) c.self.view_is) in
+    let up : IsUpTo calls fails steps replies after = record {
+      failed = λ some le.
+          let is = c.is_up_to-is_up_to_call.ensures.failed c.if-is_up_to_call.true some (omega (arith, le, count)) in
+          (sym c.calls.ensures ∙ is.0, sym c.faults.ensures ∙ is.1);
+      whole = λ none.
+          let P : ℕ → Type 0 = λ n. (fails ≡ 0) ⊎ (n < fails) in
+          let is = c.is_up_to-is_up_to_call.ensures.whole c.if-is_up_to_call.true (subst P (sym count) none) in
+          (sym c.faults.ensures ∙ is.0, sym c.len.ensures ∙ is.1 ∙ sym (ap (λ (t : TrialValue). length t.steps) c.self.view_is));
+    } in
     let E : Failing Recorded → Type 0 = λ d. HasEnded failing_memory d shape steps replies after in
     let Q : Failing Recorded → Type 0 = λ d. Only (may_leave_of d.inner) (seen_of d.inner) in
     let L : Recorded → Type 0 = λ d. may_leave_of d (seen_of c.stop.new.self) in
-    subst (λ (t : TrialValue). IfOk c.newest.result (LeavesMark t.image t.shape t.steps fails choice)) c.self.view_is
-    (leaves_newest c.one_reading.ensures.files image shape steps inside.listed.replies.items inside.marks.items c.self.invariant fails choice replies after
+    subst (λ (t : TrialValue). IfOk c.newest.result (Leaves t fails choice)) c.self.view_is
+    (leaves_newest c.one_reading.ensures.files image shape steps inside.listed.replies.items inside.marks.items c.self.invariant.0 calls fails choice replies after
     (subst E disk_is c.in_ok-disk.ensures.ended)
     (λ files recovered left may. c.in_ok-disk.ensures.back tt (subst Q (sym disk_is) (only_first image)) files (subst (λ (d : Failing Recorded). RecoversTo (seen_of d.inner) files) (sym disk_is) recovered) left may)
     (sym (ap (λ (d : Recorded). d.faults) inner_is) ∙ none) up
