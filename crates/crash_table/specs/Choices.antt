@@ -11,12 +11,12 @@ use Rattle.crash_table.specs.Calls.{DeviceCall}
 
 -- what a disk held at the last sync, what a read gives, and the blocks that were written since, each once
 pub record Content : Type 0 where
-  pub old : List ℕ
-  pub new : List ℕ
+  pub synced : List ℕ
+  pub seen : List ℕ
   pub unsynced : List ℕ
 
-abbrev pub synced : List ℕ → Content
-synced bytes = record { old = bytes; new = bytes; unsynced = [] }
+abbrev pub all_synced : List ℕ → Content
+all_synced bytes = record { synced = bytes; seen = bytes; unsynced = [] }
 
 -- one block more, unless it is among them
 abbrev pub with_block : List ℕ → ℕ → List ℕ
@@ -35,7 +35,7 @@ blocks_touched at len = (at + len - 1) / 4096 + 1 - at / 4096
 abbrev pub begun_write : Content → ℕ → List ℕ → Content
 begun_write content at [] = content
 begun_write content at (byte ∷ bytes) = record content {
-  new = written content.new at (byte ∷ bytes);
+  seen = written content.seen at (byte ∷ bytes);
   unsynced = with_blocks content.unsynced (at / 4096) (blocks_touched at (length (byte ∷ bytes)));
 }
 
@@ -49,7 +49,7 @@ begun_as Sync content call = content
 abbrev pub ended_as : CallKind → Content → Content
 ended_as Read content = content
 ended_as Write content = content
-ended_as Sync content = synced content.new
+ended_as Sync content = all_synced content.seen
 
 -- so it is where there is such a call
 abbrev pub begun : Content → Option DeviceCall → Content
@@ -62,7 +62,7 @@ ended content (Some call) = ended_as call.kind content
 
 -- before the call of this index, which is counted from 0, and within it
 abbrev pub content_before : List ℕ → List DeviceCall → ℕ → Content
-content_before image calls zero = synced image
+content_before image calls zero = all_synced image
 content_before image calls (suc i) =
     ended (begun (content_before image calls i) (slice_get calls i)) (slice_get calls i)
 
@@ -89,11 +89,11 @@ copied bytes others at n = take at bytes ++ take n (drop at others) ++ drop (at 
 
 -- with what is left of the first n blocks as it was written
 abbrev pub left_of_blocks : Choice → Content → ℕ → List ℕ
-left_of_blocks choice content zero = content.old
+left_of_blocks choice content zero = content.synced
 left_of_blocks choice content (suc n) =
-    copied (left_of_blocks choice content n) content.new (4096 * slice_index content.unsynced n) (new_bytes choice n)
+    copied (left_of_blocks choice content n) content.seen (4096 * slice_index content.unsynced n) (new_bytes choice n)
 
 -- what a choice leaves
 abbrev pub left_by : Choice → Content → List ℕ
-left_by (Fill byte) content = replicate (length content.old) byte
+left_by (Fill byte) content = replicate (length content.synced) byte
 left_by choice content = left_of_blocks choice content (length content.unsynced)

@@ -5,7 +5,7 @@ ghost use Rattle.device.specs.Device.{written};
 ghost use Rattle.crash_table.specs.declared.choice.Choice.{Choice};
 ghost use Rattle.crash_table.specs.declared.choice.Choice.TheVariants as choices;
 ghost use Rattle.crash_table.specs.Calls.{call_of};
-ghost use Rattle.crash_table.specs.Choices.{synced, with_block, with_blocks, begun_write, begun, ended, has_bit as is_set, new_bytes, copied, left_of_blocks, left_by};
+ghost use Rattle.crash_table.specs.Choices.{all_synced, with_block, with_blocks, begun_write, begun, ended, has_bit as is_set, new_bytes, copied, left_of_blocks, left_by};
 ghost use Rattle.crash_table.specs.inside.Contents.{content_of};
 
 use crate::call::{Call, CallKind};
@@ -47,9 +47,9 @@ const HALF: u64 = PAGE / 2;
 pub struct Contents<A: Allocator + Copy> {
     alloc: A,
     /// What it held at the last sync.
-    old: Vec<u8, A>,
+    synced: Vec<u8, A>,
     /// What a read gives.
-    new: Vec<u8, A>,
+    seen: Vec<u8, A>,
     /// The blocks that were written since, each once.
     unsynced: Vec<u64, A>,
 }
@@ -57,12 +57,12 @@ pub struct Contents<A: Allocator + Copy> {
 impl<A: Allocator + Copy> Contents<A> {
     /// A disk with these bytes, all of them synced.
     pub fn new(alloc: A, image: &[u8]) -> Result<Self, AllocError>
-        ensures { IfOk result (λ contents. content_of contents ≡ synced image.now) }
+        ensures { IfOk result (λ contents. content_of contents ≡ all_synced image.now) }
     {
         Ok(Contents {
             alloc,
-            old: Vec::from_slice(alloc, image)?,
-            new: Vec::from_slice(alloc, image)?,
+            synced: Vec::from_slice(alloc, image)?,
+            seen: Vec::from_slice(alloc, image)?,
             unsynced: Vec::new(alloc),
         })
     }
@@ -83,8 +83,8 @@ impl<A: Allocator + Copy> Contents<A> {
         if bytes.is_empty() {
             return Ok(());
         }
-        let end = end_of(at, bytes.len(), self.new.len())?;
-        put(&mut self.new, at, bytes);
+        let end = end_of(at, bytes.len(), self.seen.len())?;
+        put(&mut self.seen, at, bytes);
         add_blocks(&mut self.unsynced, at, end)
     }
 
@@ -99,9 +99,9 @@ impl<A: Allocator + Copy> Contents<A> {
     }
 
     fn end_sync(&mut self) -> Result<(), AllocError>
-        ensures { OnOk result (content_of self.new ≡ synced self.old.new.items) }
+        ensures { OnOk result (content_of self.new ≡ all_synced self.old.seen.items) }
     {
-        self.old = Vec::from_slice(self.alloc, &self.new)?;
+        self.synced = Vec::from_slice(self.alloc, &self.seen)?;
         self.unsynced = Vec::new(self.alloc);
         Ok(())
     }
@@ -134,9 +134,9 @@ impl<A: Allocator + Copy> Contents<A> {
         ensures { IfOk result (λ bytes. bytes.items ≡ left_by choice (content_of self.now)) }
     {
         if let Choice::Fill(byte) = choice {
-            return Ok(vec![in self.alloc; byte; self.old.len()]?);
+            return Ok(vec![in self.alloc; byte; self.synced.len()]?);
         }
-        if self.new.len() != self.old.len() {
+        if self.seen.len() != self.synced.len() {
             return Err(CrashFault::Otherwise);
         }
         self.mixed(choice)
@@ -144,14 +144,14 @@ impl<A: Allocator + Copy> Contents<A> {
 
     // Bytes of which those are new that a choice leaves new, block by block.
     fn mixed(&self, choice: Choice) -> Result<Vec<u8, A>, CrashFault>
-        requires { length self.now.new.items ≡ length self.now.old.items }
+        requires { length self.now.seen.items ≡ length self.now.synced.items }
         ensures { IfOk result (λ bytes. bytes.items
             ≡ left_of_blocks choice (content_of self.now) (length self.now.unsynced.items)) }
     {
-        let mut bytes = Vec::from_slice(self.alloc, &self.old)?;
+        let mut bytes = Vec::from_slice(self.alloc, &self.synced)?;
         for i in 0..self.unsynced.len() {
             let at = self.unsynced[i].saturating_mul(PAGE);
-            copy(&mut bytes, &self.new, at, new_part(choice, i as u64));
+            copy(&mut bytes, &self.seen, at, new_part(choice, i as u64));
         }
         Ok(bytes)
     }

@@ -4,4 +4,4 @@ use Rattle.crash_table.specs.Choices.{Content}
 
 -- what it holds
 abbrev pub content_of : {A : Type 0} → Contents A → Content
-content_of contents = record { old = contents.old.items; new = contents.new.items; unsynced = contents.unsynced.items }
+content_of contents = record { synced = contents.synced.items; seen = contents.seen.items; unsynced = contents.unsynced.items }
