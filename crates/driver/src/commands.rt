@@ -1,4 +1,5 @@
 // The commands of a program, one after the other.
+ghost use Rattle.driver.specs.inside.Begun.{GoesOn};
 
 use crate::acts::{Answer, Stop, made, waited};
 use bitflags::Flags;
@@ -16,7 +17,9 @@ pub fn worked<D: Device, L: Origin<D>, R: Wait>(
     cpu: &mut Cpu<D, Global, L>,
     turns: u64,
     program: &[Command],
-) -> Result<(), Stop> {
+) -> Result<(), Stop>
+    ensures { GoesOn cpu.old cpu.new }
+{
     for command in program {
         obeyed(rt, cpu, turns, command)?;
     }
@@ -30,7 +33,9 @@ fn obeyed<D: Device, L: Origin<D>, R: Wait>(
     cpu: &mut Cpu<D, Global, L>,
     turns: u64,
     command: &Command,
-) -> Result<(), Stop> {
+) -> Result<(), Stop>
+    ensures { GoesOn cpu.old cpu.new }
+{
     match command {
         Command::Do(act) => done(rt, cpu, turns, act),
         Command::Await { va, byte } => awaited(rt, cpu, turns, *va, *byte),
@@ -43,7 +48,9 @@ fn done<D: Device, L: Origin<D>, R: Wait>(
     cpu: &mut Cpu<D, Global, L>,
     turns: u64,
     act: &Act,
-) -> Result<(), Stop> {
+) -> Result<(), Stop>
+    ensures { GoesOn cpu.old cpu.new }
+{
     let begun = served(rt, cpu, turns, act)?;
     if !matches!(begun.reply, Reply::Begun) {
         return Ok(());
@@ -71,7 +78,9 @@ fn committed<D: Device, L: Origin<D>, R: Wait>(
     cpu: &mut Cpu<D, Global, L>,
     turns: u64,
     mark: u64,
-) -> Result<(), Stop> {
+) -> Result<(), Stop>
+    ensures { GoesOn cpu.old cpu.new }
+{
     for _ in rt.forever() {
         let (_, committed) = cpu.horizon(rt);
         if committed >= mark {
@@ -90,7 +99,9 @@ fn flushed<D: Device, L: Origin<D>, R: Wait>(
     rt: &R,
     cpu: &mut Cpu<D, Global, L>,
     turns: u64,
-) -> Result<(), Stop> {
+) -> Result<(), Stop>
+    ensures { GoesOn cpu.old cpu.new }
+{
     for _ in rt.forever() {
         let flushed = made(rt, cpu, turns, &Act::Flush)?;
         if matches!(flushed.reply, Reply::Nothing | Reply::Refused(_)) {
@@ -107,7 +118,9 @@ fn awaited<D: Device, L: Origin<D>, R: Wait>(
     turns: u64,
     va: u64,
     byte: u8,
-) -> Result<(), Stop> {
+) -> Result<(), Stop>
+    ensures { GoesOn cpu.old cpu.new }
+{
     let load = Act::Load { va, count: 1 };
     for _ in rt.forever() {
         let loaded = served(rt, cpu, turns, &load)?;
@@ -133,7 +146,9 @@ fn served<D: Device, L: Origin<D>, R: Wait>(
     cpu: &mut Cpu<D, Global, L>,
     turns: u64,
     act: &Act,
-) -> Result<Answer, Stop> {
+) -> Result<Answer, Stop>
+    ensures { GoesOn cpu.old cpu.new }
+{
     let mut answer = made(rt, cpu, turns, act)?;
     for _ in rt.forever() {
         let Some(fix) = fix_for(act, &answer.reply) else {
