@@ -1,4 +1,7 @@
 // A session on the volume in a file: requests are read from the input, and answered on the output.
+ghost use Rattle.std.specs.Prelude.{OnOk};
+ghost use Rattle.std.specs.Io.KnownBytes.{Appends};
+ghost use Rattle.session.specs.Files.{greeting_text};
 
 use crate::failure::Failure;
 use crate::shape::refused_to_run;
@@ -100,7 +103,9 @@ where
 }
 
 // Prints a line with the number of files, and a line with the name and the length of each.
-fn greet<A: Allocator + Copy, W: io::Write>(files: &[FileLine<A>], out: &mut W) -> io::Result<()> {
+fn greet<A: Allocator + Copy, W: io::Write>(files: &[FileLine<A>], out: &mut W) -> io::Result<()>
+    ensures { OnOk result (Appends (W.contents out.old) (W.contents out.new) (greeting_text files.now)) }
+{
     writeln!(out, "ready {}", files.len())?;
     for line in files {
         writeln!(out, "{} {}", line.name, line.length)?;

@@ -7,3 +7,4 @@ pub mod Lines
 pub mod Writing
 pub mod Served
 pub mod ListedMore
+pub mod Listed

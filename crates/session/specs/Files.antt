@@ -1,6 +1,9 @@
 -- The files that a session lists, and the order in which their pages are taken out of memory.
-use Rattle.std.specs.Prelude.{ℕ, ◌≡◌, ◌+◌, nat_lt, List, length, map, sum_by, string_bytes, Option, Some, None, slice_get, if◌then◌else◌}
+use Rattle.std.specs.Prelude.{ℕ, ◌≡◌, ◌+◌, ◌<◌, nat_lt, List, [], ◌∷◌, ◌++◌, length, map, sum_by, string_bytes, codes, Option, Some, None, slice_get, if◌then◌else◌}
+use Rattle.std.specs.List.{flat_map}
+use Rattle.std.specs.Fmt.{decimal}
 use Rattle.page_entry.specs.declared.numbers.FilePage.{FilePage}
+use Rattle.volume_codec.specs.Files.{File}
 use Rattle.volume_codec.specs.Super.{SuperValue, names_in, capacities_in, pages_of}
 use Rattle.session.specs.declared.files.FileLine.{FileLine}
 
@@ -10,6 +13,11 @@ pub record AreFiles {A : Type 0} (table : SuperValue) (lengths : List ℕ) (line
   pub names_are : map (λ line. string_bytes line.name) lines ≡ names_in table
   pub lengths_are : map (λ line. line.length) lines ≡ lengths
   pub pages_are : map (λ line. line.pages) lines ≡ map pages_of (capacities_in table)
+
+-- They have the names and the lengths of these files, in order.
+pub record AreListed {A : Type 0} (files : List File) (lines : List (FileLine A)) : Type 0 where
+  pub names_are : map (λ line. string_bytes line.name) lines ≡ map (λ f. f.name) files
+  pub lengths_are : map (λ line. line.length) lines ≡ map (λ f. length f.bytes) files
 
 -- how many pages all files may have
 abbrev pub pages_in : {A : Type 0} → List (FileLine A) → ℕ
@@ -27,3 +35,11 @@ page_after lines now =
     if nat_lt (now.page + 1) (pages_of_line (slice_get lines now.file)) then record now { page = now.page + 1 }
     else (if nat_lt (now.file + 1) (length lines) then record { file = now.file + 1; page = 0 }
     else record { file = 0; page = 0 })
+
+-- a line with the name and the length of a file
+abbrev pub file_text : {A : Type 0} → FileLine A → List ℕ
+file_text line = string_bytes line.name ++ 32 ∷ decimal line.length ++ 10 ∷ []
+
+-- what is said before the first request: a line with the number of files, and a line for each
+abbrev pub greeting_text : {A : Type 0} → List (FileLine A) → List ℕ
+greeting_text lines = codes "ready " ++ decimal (length lines) ++ 10 ∷ flat_map file_text lines

@@ -1,6 +1,9 @@
 // A session: a machine, and what has to be known of the steps that were made on it.
-ghost use Rattle.std.specs.Prelude.{◌≡◌, [], ◌∷◌, IfOk, IfErr, true, false};
+ghost use Rattle.std.specs.Prelude.{◌≡◌, List, [], ◌∷◌, IfOk, IfErr, true, false};
+ghost use Rattle.volume_codec.specs.Files.{File};
+ghost use Rattle.volume_codec.specs.Recovery.{RecoversTo};
 ghost use Rattle.engine.specs.Engine.{HasStarted, HasNotStarted};
+ghost use Rattle.session.specs.Files.{AreFiles, AreListed};
 ghost use Rattle.session.specs.Steps.{Makes};
 
 use crate::files::Files;
@@ -8,6 +11,7 @@ use crate::notes::Notes;
 use device::Device;
 use machine::{Machine, Reply, Shape, Step};
 use page_entry::Refusal;
+use recovery::opened_as_recovered;
 use std::alloc::Allocator;
 
 /// A machine on which requests are carried out.
@@ -19,7 +23,9 @@ pub struct Session<D: Device, A: Allocator + Copy> {
     pub files: Files<A>,
 }
 
-/// Opens the volume of a device, and boots a machine of this shape over it. A refusal hands the device back.
+/// Opens the volume of a device, and boots a machine of this shape over it. The session lists the files of the volume
+/// with their lengths, as they were opened: those that the device's bytes recover to (`listed`). A refusal hands the
+/// device back.
 ///
 /// `NotAVolume`, `Damaged` and `Device` as `recovery::open`, `BadShape` as `Machine::boot`, and `OutOfMemory` where
 /// memory was refused.
@@ -29,6 +35,30 @@ pub fn start<D: Device, A: Allocator + Copy>(
     shape: Shape,
 ) -> Result<Session<D, A>, (Refusal, D)>
     ensures started { IfOk result (λ session. HasStarted D.Device device shape session.machine) }
+    ensures files { IfOk result (λ session. AreFiles session.machine.state.table session.machine.state.lengths
+        session.files.lines.items) }
+    ensures listed { IfOk result (λ session. D.is_honest device → (files : List File)
+        × RecoversTo (D.seen device) files × AreListed files session.files.lines.items) }
+    ensures nothing { IfOk result (λ session. session.notes ≡ record { has_unmarked = false; has_failed = false }) }
+    ensures refused { IfErr result (λ refused. HasNotStarted D.Device device shape refused.1 refused.0) }
+{
+    match open_and_boot(alloc, device, shape) {
+        Ok(session) => {
+            opened_as_recovered(session.machine.device());
+            Ok(session)
+        }
+        Err(refused) => Err(refused),
+    }
+}
+
+fn open_and_boot<D: Device, A: Allocator + Copy>(
+    alloc: A,
+    device: D,
+    shape: Shape,
+) -> Result<Session<D, A>, (Refusal, D)>
+    ensures started { IfOk result (λ session. HasStarted D.Device device shape session.machine) }
+    ensures files { IfOk result (λ session. AreFiles session.machine.state.table session.machine.state.lengths
+        session.files.lines.items) }
     ensures nothing { IfOk result (λ session. session.notes ≡ record { has_unmarked = false; has_failed = false }) }
     ensures refused { IfErr result (λ refused. HasNotStarted D.Device device shape refused.1 refused.0) }
 {
