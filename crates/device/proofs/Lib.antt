@@ -8,5 +8,6 @@ mod Overlays
 mod Patches
 pub mod Ranges
 mod Replay
+mod Rooms
 mod Spoiling
 pub mod Public
