@@ -1,4 +1,10 @@
 // A session on the volume in a file: requests are read from the input, and answered on the output.
+ghost use Rattle.std.specs.Prelude.{◌++◌, ◌∷◌, [], codes, OnOk};
+ghost use Rattle.std.specs.Fmt.{decimal};
+ghost use Rattle.std.specs.Io.KnownBytes.{Appends};
+ghost use Rattle.std.specs.List.{flat_map};
+ghost use Rattle.session.specs.Ranges.{MakesStepsThat};
+ghost use Rattle.console.specs.inside.Greeting.{file_text, greeting_text, ListsAndAnswers};
 
 use crate::failure::Failure;
 use crate::shape::refused_to_run;
@@ -79,7 +85,7 @@ where
     }
 }
 
-// Says which files there are, and answers the requests.
+// Says which files there are, and answers the requests. Where it answers `Ok`, nothing else was written.
 fn serve_session<D, A, I, W>(
     global: Global,
     alloc: A,
@@ -92,6 +98,9 @@ where
     A: Allocator + Copy,
     I: BufRead,
     W: io::Write,
+    ensures { OnOk result (MakesStepsThat D.Device session.old.machine session.old.notes
+        (ListsAndAnswers session.old.files.lines.items session.old.notes (I.remaining input.old) (I.remaining input.new)
+        (W.contents out.old) (W.contents out.new)) session.new.machine session.new.notes) }
 {
     match greet(&session.files().lines, out) {
         Ok(()) => serve_on(global, alloc, session, input, out),
@@ -100,12 +109,37 @@ where
 }
 
 // Prints a line with the number of files, and a line with the name and the length of each.
-fn greet<A: Allocator + Copy, W: io::Write>(files: &[FileLine<A>], out: &mut W) -> io::Result<()> {
-    writeln!(out, "ready {}", files.len())?;
-    for line in files {
-        writeln!(out, "{} {}", line.name, line.length)?;
-    }
+fn greet<A: Allocator + Copy, W: io::Write>(files: &[FileLine<A>], out: &mut W) -> io::Result<()>
+    ensures { OnOk result (Appends (W.contents out.old) (W.contents out.new) (greeting_text files.now)) }
+{
+    write_count(files.len(), out)?;
+    write_files(files, out)?;
     out.flush()
+}
+
+fn write_count<W: io::Write>(count: usize, out: &mut W) -> io::Result<()>
+    ensures { OnOk result (Appends (W.contents out.old) (W.contents out.new)
+        (codes "ready " ++ decimal count ++ 10 ∷ [])) }
+{
+    writeln!(out, "ready {count}")
+}
+
+fn write_files<A: Allocator + Copy, W: io::Write>(
+    files: &[FileLine<A>],
+    out: &mut W,
+) -> io::Result<()>
+    ensures { OnOk result (Appends (W.contents out.old) (W.contents out.new) (flat_map file_text files.now)) }
+{
+    for file in files {
+        write_file(file, out)?;
+    }
+    Ok(())
+}
+
+fn write_file<A: Allocator + Copy, W: io::Write>(file: &FileLine<A>, out: &mut W) -> io::Result<()>
+    ensures { OnOk result (Appends (W.contents out.old) (W.contents out.new) (file_text file.now)) }
+{
+    writeln!(out, "{} {}", file.name, file.length)
 }
 
 // How a session ended: before its input did, or with a step that was answered that the device failed, or neither.

@@ -1,4 +1,9 @@
 // The table of crashes as text.
+ghost use Rattle.std.specs.Prelude.{◌+◌, ◌++◌, List, ℕ, OnOk};
+ghost use Rattle.std.specs.Io.KnownBytes.{Appends};
+ghost use Rattle.crash_table.specs.Rows.{newest_of};
+ghost use Rattle.crash_report.specs.Text.{mark_text, marks_text, found_text};
+
 use crate::printed::Printed;
 use crash_table::{Call, CallKind, MOST_MIXTURES, Part, Places, Row};
 use machine::Reply;
@@ -53,35 +58,99 @@ pub fn text_reply<W: io::Write>(reply: &Reply, out: &mut W) -> io::Result<()> {
     writeln!(out, "            {reply}")
 }
 
-/// A line for a call, or for the end of the run.
+/// A line for a call, or for the end of the run. It ends with each mark at which crash states have the files.
 pub fn text_row<A: Allocator + Copy, W: io::Write>(
     alloc: A,
     places: &Places<A>,
     call: Option<&Call<A>>,
     row: &Row<A>,
     out: &mut W,
-) -> io::Result<()> {
+) -> io::Result<()>
+    ensures { OnOk result ((head : List ℕ)
+        × Appends (W.contents out.old) (W.contents out.new) (head ++ found_text row.now)) }
+{
+    text_head(alloc, places, call, row.number, out)?;
+    text_found(row, out)
+}
+
+// What a line begins with: a call, or the end of the run.
+fn text_head<A: Allocator + Copy, W: io::Write>(
+    alloc: A,
+    places: &Places<A>,
+    call: Option<&Call<A>>,
+    number: u64,
+    out: &mut W,
+) -> io::Result<()>
+    ensures { OnOk result ((head : List ℕ) × Appends (W.contents out.old) (W.contents out.new) head) }
+{
     match call {
-        Some(call) => {
-            let number = row.number;
-            let word = word_of(call.kind);
-            let touched = format!(in alloc; "{}", Touched { places, call })?;
-            let touched = touched.as_str();
-            let bytes = call.len;
-            write!(out, "{number:>5} {word:<5} {touched:<24} {bytes:>5} ")?;
-        }
-        None => {
-            let end = "  end";
-            write!(out, "{end:<42} ")?;
-        }
+        Some(call) => text_call(alloc, places, call, number, out),
+        None => text_end_head(out),
     }
-    for mark in 0..=row.newest() {
-        let states = row.count(mark);
-        if states > 0 {
-            write!(out, "  mark {mark} x{states}")?;
-        }
-    }
+}
+
+// The call of this number.
+fn text_call<A: Allocator + Copy, W: io::Write>(
+    alloc: A,
+    places: &Places<A>,
+    call: &Call<A>,
+    number: u64,
+    out: &mut W,
+) -> io::Result<()>
+    ensures { OnOk result ((head : List ℕ) × Appends (W.contents out.old) (W.contents out.new) head) }
+{
+    let word = word_of(call.kind);
+    let touched = format!(in alloc; "{}", Touched { places, call })?;
+    let touched = touched.as_str();
+    write_call(number, word, touched, call.len, out)
+}
+
+fn write_call<W: io::Write>(
+    number: u64,
+    word: &str,
+    touched: &str,
+    bytes: u64,
+    out: &mut W,
+) -> io::Result<()>
+    ensures { OnOk result ((head : List ℕ) × Appends (W.contents out.old) (W.contents out.new) head) }
+{
+    write!(out, "{number:>5} {word:<5} {touched:<24} {bytes:>5} ")
+}
+
+fn text_end_head<W: io::Write>(out: &mut W) -> io::Result<()>
+    ensures { OnOk result ((head : List ℕ) × Appends (W.contents out.old) (W.contents out.new) head) }
+{
+    let end = "  end";
+    write!(out, "{end:<42} ")
+}
+
+// The end of a line: the marks at which crash states have the files, and how many states each.
+fn text_found<A: Allocator + Copy, W: io::Write>(row: &Row<A>, out: &mut W) -> io::Result<()>
+    ensures { OnOk result (Appends (W.contents out.old) (W.contents out.new) (found_text row.now)) }
+{
+    text_marks(row, out)?;
     writeln!(out)
+}
+
+// Each mark at which crash states have the files, in order.
+fn text_marks<A: Allocator + Copy, W: io::Write>(row: &Row<A>, out: &mut W) -> io::Result<()>
+    ensures { OnOk result (Appends (W.contents out.old) (W.contents out.new)
+        (marks_text row.now.found.items (newest_of row.now.found.items + 1))) }
+{
+    for mark in 0..u64::from(row.newest()) + 1 {
+        text_mark(mark as u32, row.count(mark as u32), out)?;
+    }
+    Ok(())
+}
+
+// A mark, and how many states have the files at it, if any.
+fn text_mark<W: io::Write>(mark: u32, states: u64, out: &mut W) -> io::Result<()>
+    ensures { OnOk result (Appends (W.contents out.old) (W.contents out.new) (mark_text mark states)) }
+{
+    if states == 0 {
+        return Ok(());
+    }
+    write!(out, "  mark {mark} x{states}")
 }
 
 /// The last line.

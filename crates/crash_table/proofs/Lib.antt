@@ -6,3 +6,4 @@ pub mod Newest
 pub mod Left
 pub mod Making
 pub mod Ended
+mod Contents

@@ -1,5 +1,6 @@
-pub mod Disks
 pub mod Calls
+pub mod Choices
+pub mod Disks
 pub mod Crashes
 pub mod Trials
 pub mod Rows

@@ -1,22 +1,43 @@
 -- The rows of the table.
-use Rattle.std.specs.Prelude.{ℕ, ◌≡◌, ◌+◌, ◌<◌, ◌≤◌, length, Option, Some, None, Contains}
-use Rattle.crash_table.specs.Trials.{TrialValue, LeavesSome}
+use Rattle.std.specs.Prelude.{ℕ, ◌≡◌, ◌+◌, ◌<◌, ◌≤◌, List, [], ◌∷◌, length, max, slice_get, Option, Some, None, Contains}
+use Rattle.crash_table.specs.declared.call.CallKind.TheVariants.{Write}
+use Rattle.crash_table.specs.declared.choice.Choice.{Choice}
+use Rattle.crash_table.specs.declared.choice.Choice.TheVariants.{Old, New}
 use Rattle.crash_table.specs.declared.row.Found.{Found}
 use Rattle.crash_table.specs.declared.row.Row.{Row}
+use Rattle.crash_table.specs.Calls.{DeviceCall}
+use Rattle.crash_table.specs.Choices.{content_within, left_by}
+use Rattle.crash_table.specs.Trials.{TrialValue, Leaves}
 
 -- rows that are made one by one: the run, and how many were made
 pub record RowsValue : Type 0 where
   pub trial : TrialValue
   pub next : ℕ
 
--- the row of the call of this number, or of the run's end: each crash state is one that a crash within the call left,
--- with the files at the mark that is said
-pub record IsRowOf {A : Type 0} (trial : TrialValue) (call : ℕ) (row : Row A) : Type 0 where
-  pub number : row.number ≡ call
-  pub each : (found : Found) → Contains row.found.items found → LeavesSome trial row.number found.mark
+-- the newest mark that is found
+abbrev pub newest_of : List Found → ℕ
+newest_of [] = 0
+newest_of (found ∷ others) = max found.mark (newest_of others)
 
--- the next row, if there is one: the calls' rows in order, numbered from 1, then that of the run's end, and no more
+-- a row has a state that this choice leaves
+abbrev pub HasState : {A : Type 0} → Row A → Choice → Type 0
+HasState row choice = (found : Found) × Contains row.found.items found × (found.choice ≡ choice)
+
+-- the row of the call of this index, which is counted from 0, or of the run's end
+pub record IsRowOf {A : Type 0} (trial : TrialValue) (i : ℕ) (row : Row A) : Type 0 where
+  pub number : row.number ≡ i + 1
+  pub unsynced : row.unsynced ≡ length (content_within trial.image trial.calls i).unsynced
+  -- each crash state is what the choice leaves that is named, with the files at the mark that is said
+  pub each : (found : Found) → Contains row.found.items found
+      → Leaves trial row.number (left_by found.choice (content_within trial.image trial.calls i)) found.mark
+  pub old : HasState row Old
+  -- where a block may be torn, also within the call of the row
+  pub new : 0 < row.unsynced → HasState row New
+  pub torn : (call : DeviceCall) → slice_get trial.calls i ≡ Some call → call.kind ≡ Write → 0 < length call.written
+      → HasState row New
+
+-- the next row, if there is one: the calls' rows in their order, then that of the run's end, and no more
 abbrev pub IsNext : {A : Type 0} → RowsValue → Option (Row A) → RowsValue → Type 0
 IsNext old None new = (length old.trial.calls < old.next) × (new ≡ old)
-IsNext old (Some row) new = (old.next ≤ length old.trial.calls) × IsRowOf old.trial (old.next + 1) row
+IsNext old (Some row) new = (old.next ≤ length old.trial.calls) × IsRowOf old.trial old.next row
     × (new ≡ record old { next = old.next + 1 })

@@ -19,7 +19,3 @@ HasItsCalls trial = AreCallsOf trial.image trial.shape trial.steps trial.calls
 -- a crash within the device call of this number left, by this choice, the files at this mark
 abbrev pub Leaves : TrialValue → ℕ → List ℕ → ℕ → Type 0
 Leaves trial call choice mark = LeavesMark trial.image trial.shape trial.steps (length trial.calls) call choice mark
-
--- so it did by some choice
-abbrev pub LeavesSome : TrialValue → ℕ → ℕ → Type 0
-LeavesSome trial call mark = (choice : List ℕ) × Leaves trial call choice mark

@@ -1,4 +1,5 @@
 -- What ties private code to the definitions that public clauses name.
+pub mod Codes
+pub mod Contents
 pub mod Kept
 pub mod Reading
-pub mod Codes

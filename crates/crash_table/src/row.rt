@@ -1,9 +1,12 @@
 // The rows of the table: what crashes within each device call leave.
-ghost use Rattle.std.specs.Prelude.{◌≡◌, ◌==◌, ◌+◌, IfOk, Contains};
+ghost use Rattle.std.specs.Prelude.{◌≡◌, ◌==◌, ◌+◌, ◌<◌, ◌≤◌, length, map, IfOk, OnOk, Contains};
 ghost use Rattle.std.specs.List.{count_by};
-ghost use Rattle.crash_table.specs.Trials.{LeavesSome};
-ghost use Rattle.crash_table.specs.Rows.{IsRowOf, IsNext};
+ghost use Rattle.crash_table.specs.declared.choice.Choice.TheVariants as choices;
+ghost use Rattle.crash_table.specs.Choices.{content_before, content_within, left_by};
+ghost use Rattle.crash_table.specs.Trials.{Leaves};
+ghost use Rattle.crash_table.specs.Rows.{newest_of, IsRowOf, IsNext};
 ghost use Rattle.crash_table.specs.declared.row.Found.{Found};
+ghost use Rattle.crash_table.specs.inside.Contents.{content_of};
 
 use crate::choice::{Choice, Contents};
 use crate::crash_fault::CrashFault;
@@ -37,8 +40,10 @@ impl<A: Allocator + Copy> Row<A> {
         self.found.iter().filter(|found| found.mark == mark).count() as u64
     }
 
-    /// The newest mark whose files are found.
-    pub fn newest(&self) -> u32 {
+    /// The newest mark whose files are found; 0 where there is no state.
+    pub fn newest(&self) -> u32
+        ensures { result ≡ newest_of self.now.found.items }
+    {
         let mut newest = 0u32;
         for found in &self.found {
             newest = newest.max(found.mark);
@@ -47,21 +52,29 @@ impl<A: Allocator + Copy> Row<A> {
     }
 }
 
-/// The rows, one after the other.
+/// The rows, one after the other. After an `Err` there is no further one.
 #[derive(Drop)]
 pub struct Rows<'a, A: Allocator + Copy> {
     alloc: A,
     trial: &'a Trial<'a, A>,
     contents: Contents<A>,
     next: usize,
+    // A row is begun that was not finished.
+    begun: bool,
 }
 
 impl<'a, A: Allocator + Copy> Model for Rows<'a, A> {
+    ghost use Rattle.std.specs.Prelude.{◌≡◌, false};
+    ghost use Rattle.crash_table.specs.Choices.{content_before};
     ghost use Rattle.crash_table.specs.Rows.{RowsValue};
+    ghost use Rattle.crash_table.specs.inside.Contents.{content_of};
 
     ghost Value = { RowsValue };
 
     ghost view = { λ r. record { trial = r.trial.now; next = r.next } };
+
+    ghost invariant = { λ r. r.begun ≡ false
+        → content_of r.contents ≡ content_before r.trial.now.image r.trial.now.calls r.next };
 }
 
 impl<'a, A: Allocator + Copy> Rows<'a, A> {
@@ -74,56 +87,72 @@ impl<'a, A: Allocator + Copy> Rows<'a, A> {
             trial,
             contents: Contents::new(alloc, trial.image())?,
             next: 0,
+            begun: false,
         })
     }
 
-    /// The next row: one for each device call of the run, in their order, and one for its end.
+    /// The next row: one for each device call of the run, in their order, and one for its end. After an `Err` there is
+    /// none: `Otherwise`.
     pub fn next(&mut self) -> Result<Option<Row<A>>, CrashFault>
         ensures row { IfOk result (λ next. IsNext self.old next self.new) }
         ensures trial { self.new.trial ≡ self.old.trial }
     {
         let trial = self.trial;
+        if self.begun {
+            return Err(CrashFault::Otherwise);
+        }
         if self.next > trial.call_count() {
             return Ok(None);
         }
         let Some(number) = self.next.checked_add(1) else {
             return Err(CrashFault::Otherwise);
         };
-        let row = make_row(self.alloc, trial, &mut self.contents, number)?;
+        self.begun = true;
+        let row = make_row(self.alloc, trial, &mut self.contents, self.next)?;
         self.next = number;
+        self.begun = false;
         Ok(Some(row))
     }
 }
 
-// The row of the call of this number, which is made of a copy of the disk, or of the run's end.
+// The row of the call of this index, or of the run's end, which makes the call of a copy of the disk.
 fn make_row<A: Allocator + Copy>(
     alloc: A,
     trial: &Trial<'_, A>,
     contents: &mut Contents<A>,
-    number: usize,
+    index: usize,
 ) -> Result<Row<A>, CrashFault>
-    ensures { IfOk result (IsRowOf trial.now number) }
+    requires { index ≤ length trial.now.calls }
+    ensures row { content_of contents.old ≡ content_before trial.now.image trial.now.calls index
+        → IfOk result (IsRowOf trial.now index) }
+    ensures after { content_of contents.old ≡ content_before trial.now.image trial.now.calls index
+        → OnOk result (content_of contents.new ≡ content_before trial.now.image trial.now.calls (index + 1)) }
 {
-    match trial.calls().get(number.saturating_sub(1)) {
+    match trial.calls().get(index) {
         Some(call) => {
             contents.begin(call)?;
-            let row = row_of(alloc, trial, contents, number)?;
+            let row = row_of(alloc, trial, contents, index)?;
             contents.end(call)?;
             Ok(row)
         }
-        None => row_of(alloc, trial, contents, number),
+        None => row_of(alloc, trial, contents, index),
     }
 }
 
-// The row of the call of this number, or of the run's end, where a copy of the disk holds this.
+// The row of the call of this index, or of the run's end, where a copy of the disk holds this.
 fn row_of<A: Allocator + Copy>(
     alloc: A,
     trial: &Trial<'_, A>,
     contents: &Contents<A>,
-    number: usize,
+    index: usize,
 ) -> Result<Row<A>, CrashFault>
-    ensures { IfOk result (IsRowOf trial.now number) }
+    requires { index ≤ length trial.now.calls }
+    ensures { content_of contents.now ≡ content_within trial.now.image trial.now.calls index
+        → IfOk result (IsRowOf trial.now index) }
 {
+    let Some(number) = index.checked_add(1) else {
+        return Err(CrashFault::Otherwise);
+    };
     let number = number as u64;
     Ok(Row {
         number,
@@ -139,12 +168,15 @@ fn states<A: Allocator + Copy>(
     contents: &Contents<A>,
     number: u64,
 ) -> Result<Vec<Found, A>, CrashFault>
-    ensures { IfOk result (λ states. (found : Found) → Contains states.items found
-        → LeavesSome trial.now number found.mark) }
+    ensures each { IfOk result (λ states. (found : Found) → Contains states.items found
+        → Leaves trial.now number (left_by found.choice (content_of contents.now)) found.mark) }
+    ensures old { IfOk result (λ states. Contains (map (λ f. f.choice) states.items) choices.Old) }
+    ensures new { IfOk result (λ states. 0 < length contents.now.unsynced.items
+        → Contains (map (λ f. f.choice) states.items) choices.New) }
 {
-    let choices = contents.choices()?;
+    let tried = contents.choices()?;
     let mut states = Vec::new(alloc);
-    for choice in &choices {
+    for choice in &tried {
         let state = state_of(trial, contents, number, *choice)?;
         states.push(state)?;
     }
@@ -158,7 +190,9 @@ fn state_of<A: Allocator + Copy>(
     number: u64,
     choice: Choice,
 ) -> Result<Found, CrashFault>
-    ensures { IfOk result (λ found. LeavesSome trial.now number found.mark) }
+    ensures leaves { IfOk result (λ found.
+        Leaves trial.now number (left_by found.choice (content_of contents.now)) found.mark) }
+    ensures named { IfOk result (λ found. found.choice ≡ choice) }
 {
     let bytes = contents.bytes_of(choice)?;
     let mark = trial.crash(number, &bytes)?;

@@ -1,5 +1,5 @@
 // A run, made once to learn its calls, its replies and the files at its marks, and again for each crash.
-ghost use Rattle.std.specs.Prelude.{◌≡◌, ◌<◌, ◌≤◌, IsTrue, List, length, slice_get, Some, IfOk, OnOk};
+ghost use Rattle.std.specs.Prelude.{◌≡◌, ◌↔◌, ◌<◌, ◌≤◌, IsTrue, List, length, slice_get, Some, IfOk, OnOk};
 ghost use Rattle.device.specs.Memory.{Recorded, new_disk};
 ghost use Rattle.volume_codec.specs.Files.{File};
 ghost use Rattle.volume_codec.specs.Recovery.{RecoversTo};
@@ -166,11 +166,11 @@ impl<'a, A: Allocator + Copy> Trial<'a, A> {
     // Whether a run of so many calls, so many of which failed, with so many replies, was made up to the device call of
     // this number, which failed, where there is one, and else up to its end.
     fn is_up_to(&self, fails: u64, calls: u64, faults: u64, replies: usize) -> bool
-        ensures failed { IsTrue result → 0 < fails → fails ≤ length self.now.calls
-            → (calls ≡ fails) × (faults ≡ 1) }
-        ensures none { IsTrue result → fails ≡ 0 → (faults ≡ 0) × (replies ≡ length self.now.steps) }
-        ensures past { IsTrue result → length self.now.calls < fails
-            → (faults ≡ 0) × (replies ≡ length self.now.steps) }
+        ensures failed { 0 < fails → fails ≤ length self.now.calls
+            → (IsTrue result ↔ ((calls ≡ fails) × (faults ≡ 1))) }
+        ensures none { fails ≡ 0 → (IsTrue result ↔ ((faults ≡ 0) × (replies ≡ length self.now.steps))) }
+        ensures past { length self.now.calls < fails
+            → (IsTrue result ↔ ((faults ≡ 0) × (replies ≡ length self.now.steps))) }
     {
         if fails > 0 && fails <= self.listed.calls.len() as u64 {
             calls == fails && faults == 1

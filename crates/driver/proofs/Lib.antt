@@ -1,1 +1,3 @@
+mod Going
 mod Runs
+mod Steps

@@ -17,7 +17,7 @@ value_or other None = other
 value_or other (Some value) = value
 
 -- an option has one value
-one_value : {A : Type 0} (option : Option A) (a b : A) → option ≡ Some a → option ≡ Some b → a ≡ b
+pub one_value : {A : Type 0} (option : Option A) (a b : A) → option ≡ Some a → option ≡ Some b → a ≡ b
 one_value option a b is_a is_b = ap (value_or a) (sym is_a ∙ is_b)
 
 -- what the law of the engine says of any start holds of the one that the service's name stands for

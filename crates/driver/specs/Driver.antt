@@ -1,16 +1,33 @@
 -- Programs are run on a machine that was booted over a device: what is left of them, and why there is nothing.
-use Rattle.std.specs.Prelude.{ℕ, ◌≡◌, ◌≢◌, List, Option, Some, None, ⊤}
+use Rattle.std.specs.Prelude.{ℕ, ◌≡◌, ◌≢◌, ◌==◌, ◌<◌, ◌⊎◌, ⊤, List, ◌++◌, length, map, filter, Option, Some, None}
 use Rattle.device.specs.declared.device.Device.{Ghosts}
+use Rattle.machine.specs.declared.act.Act.{Act}
 use Rattle.machine.specs.declared.act.Reply.{Reply}
 use Rattle.machine.specs.declared.act.Shape.{Shape}
 use Rattle.machine.specs.declared.act.Step.{Step}
 use Rattle.machine.specs.State.{Whole}
 use Rattle.engine.specs.Engine.{HasNotStarted, HasRun, HasStarted}
+use Rattle.service.specs.declared.entry.Entry.{Entry}
 use Rattle.service.specs.Serving.{RefusesCapacity}
+use Rattle.service.specs.Trace.{of_processor}
 use Rattle.driver.specs.declared.running.Ended.{Ended}
 use Rattle.driver.specs.declared.running.Ended.TheVariants as ended
 use Rattle.driver.specs.declared.running.NotRun.{NotRun}
 use Rattle.driver.specs.declared.running.NotRun.TheVariants.{Start, Share, Gather}
+
+-- the acts of one processor among steps, in order
+abbrev pub acts_of : ℕ → List Step → List Act
+acts_of p steps = map (λ s. s.act) (filter (λ s. s.p == p) steps)
+
+-- a list begins with another
+abbrev pub BeginsWith : {A : Type 0} → List A → List A → Type 0
+BeginsWith {A} first all = (rest : List A) × (all ≡ first ++ rest)
+
+-- In a trace that may have this many entries, the acts of each of so many processors begin with its steps of these, in
+-- order; only where the trace is full they may not.
+abbrev pub AreSetUp : ℕ → List Step → ℕ → List Entry → Type 0
+AreSetUp processors steps capacity trace = (length trace ≡ capacity)
+    ⊎ ((p : ℕ) → p < processors → BeginsWith (acts_of p steps) (map (λ a. a.0) (of_processor p trace)))
 
 -- how threads can have ended whose trace may have this many entries and has so many
 abbrev pub IsEnd : ℕ → ℕ → Ended → Type 0

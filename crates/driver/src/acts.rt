@@ -1,5 +1,8 @@
 // One act of a processor, made again for as long as it has to wait for other processors.
-ghost use Rattle.std.specs.Prelude.{◌≡◌, IfErr};
+ghost use Rattle.std.specs.Prelude.{◌≡◌, ◌↔◌, IsTrue, IfErr};
+ghost use Rattle.page_entry.specs.declared.refusal.Refusal.{Refusal};
+ghost use Rattle.machine.specs.declared.act.Reply.{Reply};
+ghost use Rattle.driver.specs.inside.Begun.{GoesOn};
 
 use device::Device;
 use machine::{Act, ProcState, Reply};
@@ -26,12 +29,15 @@ pub struct Answer {
 
 // Makes an act until it is answered otherwise than that it has to wait or to flush. Before each time, what interrupts
 // the processor is acknowledged, and its stalls are ended.
+#[tactic(auto, using(crate::proofs::Going::goes_nowhere, crate::proofs::Going::goes_further))]
 pub fn made<D: Device, L: Origin<D>, R: Wait>(
     rt: &R,
     cpu: &mut Cpu<D, Global, L>,
     turns: u64,
     act: &Act,
-) -> Result<Answer, Stop> {
+) -> Result<Answer, Stop>
+    ensures { GoesOn cpu.old cpu.new }
+{
     let mut answer = Answer {
         reply: Reply::Nothing,
         seen: 0,
@@ -53,11 +59,14 @@ pub fn made<D: Device, L: Origin<D>, R: Wait>(
 
 // Waits until the processor is neither interrupted nor stalled. Answers how many entries of the trace are progress
 // then.
+#[tactic(auto, using(crate::proofs::Going::goes_nowhere, crate::proofs::Going::goes_further))]
 fn ready<D: Device, L: Origin<D>, R: Wait>(
     rt: &R,
     cpu: &mut Cpu<D, Global, L>,
     turns: u64,
-) -> Result<u64, Stop> {
+) -> Result<u64, Stop>
+    ensures { GoesOn cpu.old cpu.new }
+{
     let mut found = 0;
     for _ in rt.forever() {
         let (state, seen) = cpu.look(rt);
@@ -86,12 +95,21 @@ fn called<D: Device, L: Origin<D>, R: Wait>(
     cpu: &mut Cpu<D, Global, L>,
     act: &Act,
 ) -> Result<Reply, Stop>
-    ensures { IfErr result (λ why. why ≡ Stop.Full) }
+    ensures full { IfErr result (λ why. why ≡ Stop.Full) }
+    ensures goes_on { GoesOn cpu.old cpu.new }
 {
-    match cpu.call(rt, *act) {
-        Reply::Refused(Refusal::TraceFull) => Err(Stop::Full),
-        reply => Ok(reply),
+    let reply = cpu.call(rt, *act);
+    if is_trace_full(&reply) {
+        return Err(Stop::Full);
     }
+    Ok(reply)
+}
+
+// Whether a reply says that the trace is full.
+pub fn is_trace_full(reply: &Reply) -> bool
+    ensures { IsTrue result ↔ (reply.now ≡ Reply.Refused Refusal.TraceFull) }
+{
+    matches!(reply, Reply::Refused(Refusal::TraceFull))
 }
 
 // Waits until more entries of the trace are progress than were seen.

@@ -1,4 +1,5 @@
 // The commands of a program, one after the other.
+ghost use Rattle.driver.specs.inside.Begun.{GoesOn};
 
 use crate::acts::{Answer, Stop, made, waited};
 use bitflags::Flags;
@@ -11,12 +12,15 @@ use std::alloc::Global;
 use std::sync::Wait;
 
 // Carries out the commands of a program, makes the steps of the write-outs that are left, and lets the processor sleep.
+#[tactic(auto, using(crate::proofs::Going::goes_nowhere, crate::proofs::Going::goes_further))]
 pub fn worked<D: Device, L: Origin<D>, R: Wait>(
     rt: &R,
     cpu: &mut Cpu<D, Global, L>,
     turns: u64,
     program: &[Command],
-) -> Result<(), Stop> {
+) -> Result<(), Stop>
+    ensures { GoesOn cpu.old cpu.new }
+{
     for command in program {
         obeyed(rt, cpu, turns, command)?;
     }
@@ -25,12 +29,15 @@ pub fn worked<D: Device, L: Origin<D>, R: Wait>(
     Ok(())
 }
 
+#[tactic(auto, using(crate::proofs::Going::goes_nowhere, crate::proofs::Going::goes_further))]
 fn obeyed<D: Device, L: Origin<D>, R: Wait>(
     rt: &R,
     cpu: &mut Cpu<D, Global, L>,
     turns: u64,
     command: &Command,
-) -> Result<(), Stop> {
+) -> Result<(), Stop>
+    ensures { GoesOn cpu.old cpu.new }
+{
     match command {
         Command::Do(act) => done(rt, cpu, turns, act),
         Command::Await { va, byte } => awaited(rt, cpu, turns, *va, *byte),
@@ -38,12 +45,15 @@ fn obeyed<D: Device, L: Origin<D>, R: Wait>(
 }
 
 // Makes an act, and the change that it began, and waits until a mark that is to be durable is.
+#[tactic(auto, using(crate::proofs::Going::goes_nowhere, crate::proofs::Going::goes_further))]
 fn done<D: Device, L: Origin<D>, R: Wait>(
     rt: &R,
     cpu: &mut Cpu<D, Global, L>,
     turns: u64,
     act: &Act,
-) -> Result<(), Stop> {
+) -> Result<(), Stop>
+    ensures { GoesOn cpu.old cpu.new }
+{
     let begun = served(rt, cpu, turns, act)?;
     if !matches!(begun.reply, Reply::Begun) {
         return Ok(());
@@ -66,15 +76,17 @@ fn mark_to_sync(act: &Act, changed: &Reply) -> Option<u64> {
 }
 
 // Makes steps of the write-outs until a mark is durable, or one is refused.
+#[tactic(auto, using(crate::proofs::Going::goes_nowhere, crate::proofs::Going::goes_further))]
 fn committed<D: Device, L: Origin<D>, R: Wait>(
     rt: &R,
     cpu: &mut Cpu<D, Global, L>,
     turns: u64,
     mark: u64,
-) -> Result<(), Stop> {
+) -> Result<(), Stop>
+    ensures { GoesOn cpu.old cpu.new }
+{
     for _ in rt.forever() {
-        let (_, committed) = cpu.horizon(rt);
-        if committed >= mark {
+        if is_committed(rt, cpu, mark) {
             break;
         }
         let flushed = made(rt, cpu, turns, &Act::Flush)?;
@@ -85,12 +97,28 @@ fn committed<D: Device, L: Origin<D>, R: Wait>(
     Ok(())
 }
 
+// Whether a mark is durable.
+#[tactic(auto, using(crate::proofs::Going::answered_same))]
+fn is_committed<D: Device, L: Origin<D>, R: Wait>(
+    rt: &R,
+    cpu: &mut Cpu<D, Global, L>,
+    mark: u64,
+) -> bool
+    ensures { GoesOn cpu.old cpu.new }
+{
+    let (_, committed) = cpu.horizon(rt);
+    committed >= mark
+}
+
 // Makes steps of the write-outs until there are none, or one is refused.
+#[tactic(auto, using(crate::proofs::Going::goes_nowhere, crate::proofs::Going::goes_further))]
 fn flushed<D: Device, L: Origin<D>, R: Wait>(
     rt: &R,
     cpu: &mut Cpu<D, Global, L>,
     turns: u64,
-) -> Result<(), Stop> {
+) -> Result<(), Stop>
+    ensures { GoesOn cpu.old cpu.new }
+{
     for _ in rt.forever() {
         let flushed = made(rt, cpu, turns, &Act::Flush)?;
         if matches!(flushed.reply, Reply::Nothing | Reply::Refused(_)) {
@@ -101,13 +129,16 @@ fn flushed<D: Device, L: Origin<D>, R: Wait>(
 }
 
 // Loads the byte at an address until it is this one, or a load is refused. Between two loads it waits for progress.
+#[tactic(auto, using(crate::proofs::Going::goes_nowhere, crate::proofs::Going::goes_further))]
 fn awaited<D: Device, L: Origin<D>, R: Wait>(
     rt: &R,
     cpu: &mut Cpu<D, Global, L>,
     turns: u64,
     va: u64,
     byte: u8,
-) -> Result<(), Stop> {
+) -> Result<(), Stop>
+    ensures { GoesOn cpu.old cpu.new }
+{
     let load = Act::Load { va, count: 1 };
     for _ in rt.forever() {
         let loaded = served(rt, cpu, turns, &load)?;
@@ -128,12 +159,15 @@ fn has_other_byte(reply: &Reply, byte: u8) -> bool {
 }
 
 // Makes an act, and serves its faults, until it is answered otherwise. Where a fault isn't served, the answer is why.
+#[tactic(auto, using(crate::proofs::Going::goes_nowhere, crate::proofs::Going::goes_further))]
 fn served<D: Device, L: Origin<D>, R: Wait>(
     rt: &R,
     cpu: &mut Cpu<D, Global, L>,
     turns: u64,
     act: &Act,
-) -> Result<Answer, Stop> {
+) -> Result<Answer, Stop>
+    ensures { GoesOn cpu.old cpu.new }
+{
     let mut answer = made(rt, cpu, turns, act)?;
     for _ in rt.forever() {
         let Some(fix) = fix_for(act, &answer.reply) else {

@@ -1,17 +1,20 @@
 // Programs are run over a disk: a machine is booted over its volume and shared, and each thread has a processor of it.
-ghost use Rattle.std.specs.Prelude.{ℕ, ◌≡◌, ◌↔◌, length, Some, IsTrue, IfOk, IfErr};
+ghost use Rattle.std.specs.Prelude.{ℕ, ◌≡◌, ◌≢◌, ◌↔◌, ◌<◌, ◌++◌, ◌∷◌, [], false, length, slice_get, Some, IsTrue, IfOk, IfErr};
 ghost use Rattle.engine.specs.Engine.{HasRun};
 ghost use Rattle.machine.specs.Fresh.{IsFresh};
 ghost use Rattle.machine.specs.State.{Whole};
+ghost use Rattle.machine.specs.declared.act.Reply.{Reply};
+ghost use Rattle.service.specs.Gathering.{answered_calls, idle_cpu};
 ghost use Rattle.service.specs.Trace.{steps_of, replies_of};
 ghost use Rattle.driver.specs.declared.running.Ended.{Ended};
-ghost use Rattle.driver.specs.Driver.{RunsFrom, IsEnd, IsLeft, HasNotShared, HasNotRun};
+ghost use Rattle.driver.specs.Driver.{RunsFrom, AreSetUp, IsEnd, IsLeft, HasNotShared, HasNotRun};
+ghost use Rattle.driver.specs.inside.Begun.{HaveBegun, GoesOn, AreReady};
 
-use crate::acts::Stop;
+use crate::acts::{Stop, is_trace_full};
 use crate::commands::worked;
 use device::Device;
 use engine::{ran_since_start, start};
-use machine::{Machine, Step};
+use machine::{Act, Machine, Reply, Step};
 use page_entry::Refusal;
 use scripts::{Command, ThreadScript};
 use service::{Cpu, Entry, Origin, Service};
@@ -56,7 +59,8 @@ pub enum NotRun<D> {
 /// Opens the volume of a device, boots a machine of the script's shape over it, and shares it with a trace of the
 /// script's capacity. Each step of the script is made by its processor, one after the other, before any thread starts;
 /// one of a processor that isn't there is left out. Then each processor gets a thread, which carries out its program. A
-/// wait of a thread looks at most `turns` times for progress; where that isn't enough, the thread ends.
+/// wait of a thread looks at most `turns` times for progress; where that isn't enough, the thread ends. Where the trace
+/// is full before all steps are made, no thread starts.
 ///
 /// The trace and the device are those of a run of the engine, with all that holds of one (`HasRun`). That the threads
 /// run at the same time is promised by nothing: where no thread can be made, they run one after the other, and waits
@@ -70,6 +74,8 @@ pub fn run_programs<D: Device + Send + Drop, R: Threads + Wait + Sync>(
 ) -> Result<Ran<D>, NotRun<D>>
     ensures ran { IfOk result (λ ran. HasRun D.Device device script.now.shape (steps_of ran.trace.items)
         (replies_of ran.trace.items) ran.device) }
+    ensures set_up { IfOk result (λ ran. AreSetUp script.now.shape.cpus script.now.steps.items script.now.trace
+        ran.trace.items) }
     ensures ended { IfOk result (λ ran. IsEnd script.now.trace (length ran.trace.items) ran.ended) }
     ensures refused { IfErr result (HasNotRun D.Device device script.now.shape script.now.trace) }
 {
@@ -93,6 +99,8 @@ fn named<D: Device + Send + Drop, R: Threads + Wait + Sync>(
     requires fresh { IsFresh machine.state }
     ensures ran { IfOk result (λ ran. RunsFrom D.Device machine (steps_of ran.trace.items)
         (replies_of ran.trace.items) ran.device) }
+    ensures set_up { IfOk result (λ ran. AreSetUp (length machine.state.hardware.shootdown.processors)
+        script.now.steps.items script.now.trace ran.trace.items) }
     ensures ended { IfOk result (λ ran. IsEnd script.now.trace (length ran.trace.items) ran.ended) }
     ensures refused { IfErr result (HasNotShared D.Device machine script.now.trace) }
 {
@@ -115,50 +123,107 @@ fn serve<D: Device + Send + Drop, L: Origin<D> + Send + Sync, R: Threads + Wait 
         × (blank.parts ≡ length machine.state.hardware.shootdown.processors) }
     ensures ran { IfOk result (λ ran. RunsFrom D.Device machine (steps_of ran.trace.items)
         (replies_of ran.trace.items) ran.device) }
+    ensures set_up { IfOk result (λ ran. AreSetUp (length machine.state.hardware.shootdown.processors)
+        script.now.steps.items script.now.trace ran.trace.items) }
     ensures ended { IfOk result (λ ran. IsEnd script.now.trace (length ran.trace.items) ran.ended) }
     ensures refused { IfErr result (HasNotShared D.Device machine script.now.trace) }
 {
     match Service::<D, Global, L>::start(alloc, alloc, machine, script.trace, blank) {
         Ok((service, mut cpus)) => {
-            make_steps(rt, &mut cpus, &script.steps);
-            let ran_out = run_threads(rt, &mut cpus, &script.programs, turns);
-            gathered(rt, service, cpus, script.trace, ran_out)
+            let ran_out = carried_out(rt, &mut cpus, script, turns);
+            gathered(rt, service, cpus, script, ran_out)
         }
         Err((refusal, machine, _)) => Err(NotRun::Share(refusal, machine.into_device())),
     }
 }
 
-// Makes steps by their processors, one after the other.
+// Makes the steps of a script, and then runs its programs, unless the steps fill the trace. Answers whether a wait ran
+// out.
+fn carried_out<D: Device + Send + Drop, L: Origin<D> + Send + Sync, R: Threads + Wait + Sync>(
+    rt: &R,
+    cpus: &mut [Cpu<D, Global, L>],
+    script: &ThreadScript<Global>,
+    turns: u64,
+) -> bool
+    requires { (i : ℕ) → i < length cpus.old → slice_get cpus.old i ≡ Some (idle_cpu i) }
+    ensures { AreReady script.now.steps.items script.now.trace cpus.new }
+{
+    let are_made = make_steps(rt, cpus, &script.steps, script.trace);
+    if !are_made {
+        return false;
+    }
+    run_threads(rt, cpus, &script.steps, &script.programs, turns)
+}
+
+// Makes steps by their processors, one after the other, until the trace is full. Answers whether all were made.
 fn make_steps<D: Device, L: Origin<D>, R: Wait>(
     rt: &R,
     cpus: &mut [Cpu<D, Global, L>],
     steps: &[Step],
-) {
-    for step in steps {
-        if let Some(cpu) = cpus.get_mut(usize::from(step.p)) {
-            cpu.call(rt, step.act);
+    capacity: u64,
+) -> bool
+    requires { (i : ℕ) → i < length cpus.old → slice_get cpus.old i ≡ Some (idle_cpu i) }
+    ensures all { IsTrue result → HaveBegun steps.now cpus.new }
+    ensures full { result ≡ false → answered_calls cpus.new ≡ capacity }
+{
+    let mut made: u64 = 0;
+    for i in 0..steps.len() {
+        let step = &steps[i];
+        let p = usize::from(step.p);
+        if p < cpus.len() {
+            if made == capacity {
+                return false;
+            }
+            make_step(rt, &mut cpus[p], &step.act);
+            made += 1;
         }
     }
+    true
+}
+
+// Makes an act where the trace has room for it: the first call is answered.
+fn make_step<D: Device, L: Origin<D>, R: Wait>(
+    rt: &R,
+    cpu: &mut Cpu<D, Global, L>,
+    act: &Act,
+) -> Reply
+    ensures number { cpu.new.number ≡ cpu.old.number }
+    ensures answered { cpu.new.answered ≡ cpu.old.answered ++ (act.now, result) ∷ [] }
+{
+    for _ in rt.forever() {
+        let reply = cpu.call(rt, *act);
+        if !is_trace_full(&reply) {
+            return reply;
+        }
+    }
+    unreachable!()
 }
 
 // Runs the program of each processor in a thread of its own. Answers whether a wait ran out.
 fn run_threads<D: Device + Send + Drop, L: Origin<D> + Send + Sync, R: Threads + Wait + Sync>(
     rt: &R,
     cpus: &mut [Cpu<D, Global, L>],
+    steps: &[Step],
     programs: &[Vec<Command>],
     turns: u64,
-) -> bool {
+) -> bool
+    requires { HaveBegun steps.now cpus.old }
+    ensures { HaveBegun steps.now cpus.new }
+{
     let ran_out = AtomicBool::new(false);
     for_each_mut(
         rt,
         cpus,
         16,
-        &|i, cpu| run_program(rt, cpu, programs, i, turns, &ran_out),
+        &|i, cpu: &mut Cpu<D, Global, L>|
+            ensures { GoesOn cpu.old cpu.new }
+        { run_program(rt, cpu, programs, i, turns, &ran_out) },
     );
     ran_out.load(Ordering::SeqCst)
 }
 
 // Runs the program of this number, and notes whether a wait ran out.
+#[tactic(auto, using(crate::proofs::Going::goes_nowhere, crate::proofs::Going::goes_further))]
 fn run_program<D: Device, L: Origin<D>, R: Wait>(
     rt: &R,
     cpu: &mut Cpu<D, Global, L>,
@@ -166,7 +231,9 @@ fn run_program<D: Device, L: Origin<D>, R: Wait>(
     number: usize,
     turns: u64,
     ran_out: &AtomicBool,
-) {
+)
+    ensures { GoesOn cpu.old cpu.new }
+{
     if let Some(program) = programs.get(number) {
         if worked(rt, cpu, turns, program) == Err(Stop::RanOut) {
             ran_out.store(true, Ordering::SeqCst);
@@ -193,20 +260,24 @@ fn gathered<D: Device + Drop, L: Origin<D>, R: Wait>(
     rt: &R,
     service: Service<D, Global, L>,
     cpus: Vec<Cpu<D, Global, L>>,
-    capacity: u64,
+    script: &ThreadScript<Global>,
     ran_out: bool,
 ) -> Result<Ran<D>, NotRun<D>>
-    requires { L.all ≡ L.parts }
+    requires all { L.all ≡ L.parts }
+    requires ready { AreReady script.now.steps.items script.now.trace cpus.items }
     ensures ran { IfOk result (λ ran. (start : Whole D) → L.start ≡ Some start
         → RunsFrom D.Device start (steps_of ran.trace.items) (replies_of ran.trace.items) ran.device) }
-    ensures ended { IfOk result (λ ran. IsEnd capacity (length ran.trace.items) ran.ended) }
+    ensures set_up { IfOk result (λ ran. (start : Whole D) → L.start ≡ Some start
+        → AreSetUp (length start.state.hardware.shootdown.processors) script.now.steps.items script.now.trace
+        ran.trace.items) }
+    ensures ended { IfOk result (λ ran. IsEnd script.now.trace (length ran.trace.items) ran.ended) }
     ensures refused { IfErr result (λ refused. (start : Whole D) → L.start ≡ Some start → (capacity : ℕ)
         → HasNotShared D.Device start capacity refused) }
 {
     match service.gather(rt, cpus) {
         Ok((machine, trace)) => {
             ran_since_start(&machine);
-            let ended = end_of(ran_out, trace.len() as u64, capacity);
+            let ended = end_of(ran_out, trace.len() as u64, script.trace);
             Ok(Ran {
                 device: machine.into_device(),
                 trace,

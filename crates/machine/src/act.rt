@@ -1,4 +1,6 @@
 // What a processor does in one step, and what it is answered.
+ghost use Rattle.std.specs.Prelude.{◌≡◌, ◌↔◌, IsTrue};
+
 use crate::{FewBytes, MsyncFlags};
 use mappings::Rights;
 use page_entry::{FileNumber, PageIndex, Pcid, ProcessorNumber, Refusal};
@@ -106,6 +108,15 @@ pub enum Act {
     Resume,
     /// Does the next step of the write-outs.
     Flush,
+}
+
+impl Act {
+    /// Whether it is the other act: the same kind, with the same values.
+    pub fn is_same(&self, other: &Act) -> bool
+        ensures { IsTrue result ↔ (self.now ≡ other.now) }
+    {
+        *self == *other
+    }
 }
 
 /// An act, and the processor that does it.

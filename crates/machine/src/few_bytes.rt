@@ -1,10 +1,12 @@
 // The bytes of one load or store.
-ghost use Rattle.std.specs.Prelude.{◌≡◌, ◌<◌, ◌≤◌, length, IsSome, IfSome, ◌↔◌};
+ghost use Rattle.std.specs.Prelude.{◌≡◌, ◌<◌, ◌≤◌, length, nat_eq, IsSome, IfSome, ◌↔◌};
+ghost use Rattle.std.specs.Cmp.{partial_equiv_from_equiv};
+ghost use Rattle.std.specs.Cmp.Lexicographic.{pointwise, nat_list_eq_equiv};
 
 use std::marker::Model;
 
 /// The bytes of one load or store: at most 8.
-#[derive(Clone, Copy, Debug, PartialEq, Eq)]
+#[derive(Clone, Copy, Debug)]
 pub struct FewBytes {
     bytes: [u8; 8],
     len: u8,
@@ -27,6 +29,20 @@ impl Model for FewBytes {
     ghost inverse_ok = { λ few is. let both : (bytes : List ℕ) (len : ℕ)
         → Inside = λ bytes len. record { bytes = bytes; len = len } in
         λ i. both (padded_again few.bytes few.len is i) (is.counted i) };
+}
+
+impl PartialEq for FewBytes {
+    ghost eq = { pointwise nat_eq };
+
+    ghost laws = { partial_equiv_from_equiv nat_list_eq_equiv };
+
+    fn eq(&self, other: &FewBytes) -> bool {
+        self.as_slice() == other.as_slice()
+    }
+}
+
+impl Eq for FewBytes {
+    ghost laws = { nat_list_eq_equiv };
 }
 
 impl FewBytes {

@@ -21,6 +21,7 @@ mod paging;
 mod running;
 mod stepping;
 mod switching;
+mod tending;
 
 pub use act::{Act, Reply, Shape, Step};
 pub use few_bytes::FewBytes;
@@ -31,3 +32,4 @@ pub use laws::{
 pub use machine::Machine;
 pub use msync_flags::MsyncFlags;
 pub use shootdown::ProcState;
+pub use tending::Tender;

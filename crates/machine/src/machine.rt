@@ -22,6 +22,7 @@ use recovery::Volume;
 use shootdown::ProcState;
 use std::alloc::Allocator;
 use std::marker::Model;
+use volume_codec::Super;
 
 /// A machine over a volume: processors with TLBs, address spaces, frames, and the write-outs that aren't done.
 #[derive(Drop)]
@@ -178,6 +179,13 @@ impl<D: Device, A: Allocator + Copy> Machine<D, A> {
         for (i, step) in steps.iter().enumerate() {
             replies[i] = self.step(step);
         }
+    }
+
+    /// The table of the volume's files.
+    pub fn table(&self) -> &Super<A>
+        ensures { result.now ≡ self.now.state.table }
+    {
+        &self.layers.table
     }
 
     /// The machine's device, to look at.

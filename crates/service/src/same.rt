@@ -1,169 +1,21 @@
-// Whether two acts or two replies are the same, by their variants and what these carry.
+// Whether two replies are the same, by their variants and what these carry.
 ghost use Rattle.std.specs.Prelude.{◌≡◌, IsTrue};
 
 use crate::Entry;
 use machine::{Act, FewBytes, Reply};
-use mappings::Rights;
 use page_entry::Refusal;
 
 // Whether an answer is that of an entry.
 pub(crate) fn is_answer_of(entry: &Entry, answer: &(Act, Reply)) -> bool
     ensures { IsTrue result → answer.now ≡ (entry.now.step.act, entry.now.reply) }
 {
-    is_same_act(&answer.0, &entry.step.act) && is_same_reply(&answer.1, &entry.reply)
+    answer.0.is_same(&entry.step.act) && is_same_reply(&answer.1, &entry.reply)
 }
 
 fn are_same_bytes(a: &FewBytes, b: &FewBytes) -> bool
     ensures { IsTrue result → a.now ≡ b.now }
 {
     a.as_slice() == b.as_slice()
-}
-
-fn are_same_rights(a: &Rights, b: &Rights) -> bool
-    ensures { IsTrue result → a.now ≡ b.now }
-{
-    match (a, b) {
-        (Rights::Read, Rights::Read) | (Rights::ReadWrite, Rights::ReadWrite) => true,
-        _ => false,
-    }
-}
-
-fn is_same_use(a: &Act, b: &Act) -> bool
-    ensures { IsTrue result → a.now ≡ b.now }
-{
-    match (a, b) {
-        (
-            Act::Load { va, count },
-            Act::Load {
-                va: va_b,
-                count: count_b,
-            },
-        ) => *va == *va_b && *count == *count_b,
-        (
-            Act::Store { va, bytes },
-            Act::Store {
-                va: va_b,
-                bytes: bytes_b,
-            },
-        ) => *va == *va_b && are_same_bytes(bytes, bytes_b),
-        (Act::Fill { page }, Act::Fill { page: page_b }) => *page == *page_b,
-        (Act::Evict { slot }, Act::Evict { slot: slot_b }) => *slot == *slot_b,
-        (
-            Act::Switch { space, keep },
-            Act::Switch {
-                space: space_b,
-                keep: keep_b,
-            },
-        ) => *space == *space_b && *keep == *keep_b,
-        (Act::Idle, Act::Idle) => true,
-        (Act::Wake, Act::Wake) => true,
-        _ => false,
-    }
-}
-
-fn is_same_turn(a: &Act, b: &Act) -> bool
-    ensures { IsTrue result → a.now ≡ b.now }
-{
-    match (a, b) {
-        (
-            Act::Fix { va, write },
-            Act::Fix {
-                va: va_b,
-                write: write_b,
-            },
-        ) => *va == *va_b && *write == *write_b,
-        (Act::Create, Act::Create) => true,
-        (Act::Destroy { space }, Act::Destroy { space: space_b }) => *space == *space_b,
-        (Act::Ack, Act::Ack) => true,
-        (Act::Change, Act::Change) => true,
-        (Act::Resume, Act::Resume) => true,
-        (Act::Flush, Act::Flush) => true,
-        _ => false,
-    }
-}
-
-fn is_same_request(a: &Act, b: &Act) -> bool
-    ensures { IsTrue result → a.now ≡ b.now }
-{
-    match (a, b) {
-        (
-            Act::Map {
-                space,
-                va,
-                len,
-                file,
-                offset,
-                prot,
-                access,
-            },
-            Act::Map {
-                space: space_b,
-                va: va_b,
-                len: len_b,
-                file: file_b,
-                offset: offset_b,
-                prot: prot_b,
-                access: access_b,
-            },
-        ) => *space == *space_b
-            && *va == *va_b
-            && *len == *len_b
-            && *file == *file_b
-            && *offset == *offset_b
-            && are_same_rights(prot, prot_b)
-            && are_same_rights(access, access_b),
-        (
-            Act::Unmap { space, va, len },
-            Act::Unmap {
-                space: space_b,
-                va: va_b,
-                len: len_b,
-            },
-        ) => *space == *space_b && *va == *va_b && *len == *len_b,
-        (
-            Act::Protect {
-                space,
-                va,
-                len,
-                prot,
-            },
-            Act::Protect {
-                space: space_b,
-                va: va_b,
-                len: len_b,
-                prot: prot_b,
-            },
-        ) => *space == *space_b && *va == *va_b && *len == *len_b && are_same_rights(prot, prot_b),
-        (
-            Act::Reclaim { file, page },
-            Act::Reclaim {
-                file: file_b,
-                page: page_b,
-            },
-        ) => *file == *file_b && *page == *page_b,
-        (
-            Act::Msync { va, len, flags },
-            Act::Msync {
-                va: va_b,
-                len: len_b,
-                flags: flags_b,
-            },
-        ) => *va == *va_b && *len == *len_b && *flags == *flags_b,
-        (
-            Act::SetLength { file, length },
-            Act::SetLength {
-                file: file_b,
-                length: length_b,
-            },
-        ) => *file == *file_b && *length == *length_b,
-        _ => false,
-    }
-}
-
-fn is_same_act(a: &Act, b: &Act) -> bool
-    ensures { IsTrue result → a.now ≡ b.now }
-{
-    is_same_use(a, b) || is_same_turn(a, b) || is_same_request(a, b)
 }
 
 fn is_same_access(a: &Reply, b: &Reply) -> bool

@@ -34,6 +34,9 @@ impl<D: Device + Drop, A: Allocator + Copy, L: Origin<D>> Service<D, A, L> {
     /// gives a `Cpu` for each of its processors, in order. The type `L` stands for this machine and this capacity, and
     /// for the ledger of which `blank` is the blank, with a part for each processor.
     ///
+    /// `origin` speaks of ghost members of `L`, and excludes no machine and no capacity: a caller passes `Brand`, and
+    /// its proof picks the members.
+    ///
     /// `BadShape` for another capacity, which is judged before memory is taken; `OutOfMemory` where memory is refused,
     /// all of which is taken here: no call of a `Cpu` takes any for the service. A refusal hands machine and blank
     /// back. The horizon's memory is `global`'s, and all other `alloc`'s.

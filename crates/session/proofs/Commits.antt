@@ -12,10 +12,10 @@ use Rattle.machine.specs.Rules.{Acts}
 use Rattle.machine.specs.State.{State, Whole}
 use Rattle.session.specs.declared.notes.Notes.{Notes}
 use Rattle.session.specs.Commits.{AreWaits, BeginsMark, RefusesMark, IsLastAttempt, IsOfOther, IsWritten, WritesUntil, CommitsMark, StopsCommit, AnswersCommit, msync_by, tells_unmade}
-use Rattle.session.specs.Lengths.{AnswersChange, change_steps, change_replies, flush_by, tells_begun, tells_flushed, tells_refused}
+use Rattle.session.specs.Lengths.{AnswersChange, AreOthers, change_steps, change_replies, flush_by, tells_begun, tells_flushed, tells_refused}
 use Rattle.session.specs.Notes.{noted_all}
 use Rattle.session.specs.Ranges.{MakesStepsThat}
-use Rattle.session.specs.Steps.{Makes, AreOfCommit, is_of_commit, tells_mark}
+use Rattle.session.specs.Steps.{Makes, IsOfCommit, AreOfCommit, tells_mark}
 use Rattle.session.proofs.Phases.{begun_is}
 use Rattle.session.proofs.Rooms.{change_has}
 use Rattle.session.proofs.Stretches.{makes_then}
@@ -120,67 +120,67 @@ module _ (p : ℕ) where
 
 -- ---- steps of a commit read and store nothing
 
-commit_all : (steps : List Step) (told : List Reply) (steps' : List Step) (told' : List Reply) → AreOfCommit steps told → AreOfCommit steps' told' → AreOfCommit (steps ++ steps') (told ++ told')
-commit_all [] [] steps' told' first later = later
-commit_all (step ∷ steps) (reply ∷ told) steps' told' first later = (first.0, commit_all steps told steps' told' first.1 later)
-commit_all [] (reply ∷ told) steps' told' first later = absurd first
-commit_all (step ∷ steps) [] steps' told' first later = absurd first
+commit_all : (p : ℕ) (steps : List Step) (told : List Reply) (steps' : List Step) (told' : List Reply) → AreOfCommit p steps told → AreOfCommit p steps' told' → AreOfCommit p (steps ++ steps') (told ++ told')
+commit_all p [] [] steps' told' first later = later
+commit_all p (step ∷ steps) (reply ∷ told) steps' told' first later = (first.0, commit_all p steps told steps' told' first.1 later)
+commit_all p [] (reply ∷ told) steps' told' first later = absurd first
+commit_all p (step ∷ steps) [] steps' told' first later = absurd first
 
-of_step : (step other : Step) (reply : Reply) → step ≡ other → is_of_commit other.act reply ≡ true → is_of_commit step.act reply ≡ true
-of_step step other reply is of = ap (λ (s : Step). is_of_commit s.act reply) is ∙ of
+of_step : (p : ℕ) (step other : Step) (reply : Reply) → step ≡ other → IsOfCommit p other reply → IsOfCommit p step reply
+of_step p step other reply is of = subst (λ (s : Step). IsOfCommit p s reply) (sym is) of
 
-waits_of_commit : (p : ℕ) (steps : List Step) (told : List Reply) → AreWaits p steps told → AreOfCommit steps told
+waits_of_commit : (p : ℕ) (steps : List Step) (told : List Reply) → AreWaits p steps told → AreOfCommit p steps told
 waits_of_commit p [] [] waits = tt
-waits_of_commit p (attempt ∷ step ∷ steps) (busy ∷ reply ∷ told) (a, b, s, r, more) = (of_step attempt (msync_by p) busy a refl, (of_step step (flush_by p) reply s refl, waits_of_commit p steps told more))
+waits_of_commit p (attempt ∷ step ∷ steps) (busy ∷ reply ∷ told) (a, b, s, r, more) = (of_step p attempt (msync_by p) busy a (refl, refl), (of_step p step (flush_by p) reply s (refl, refl), waits_of_commit p steps told more))
 waits_of_commit p [] (reply ∷ told) waits = absurd waits
 waits_of_commit p (step ∷ []) [] waits = absurd waits
 waits_of_commit p (step ∷ []) (reply ∷ told) waits = absurd waits
 waits_of_commit p (attempt ∷ step ∷ steps) [] waits = absurd waits
 waits_of_commit p (attempt ∷ step ∷ steps) (reply ∷ []) waits = absurd waits
 
-change_list : (p : ℕ) (answer : Reply) (others : List ℕ) → tells_mark answer ≡ true → AreOfCommit (change_steps p others) (change_replies answer others)
-change_list p answer [] is = (is, tt)
-change_list p answer (other ∷ others) is =
-    (refl, commit_all (change_steps p others) (change_replies answer others) (record { p = other; act = acts.Resume } ∷ []) (replies.Resumed ∷ []) (change_list p answer others is) (refl, tt))
+change_list : (p : ℕ) (answer : Reply) (others : List ℕ) → AreOthers p others → tells_mark answer ≡ true → AreOfCommit p (change_steps p others) (change_replies answer others)
+change_list p answer [] differ is = ((is, refl), tt)
+change_list p answer (other ∷ others) differ is =
+    ((refl, differ.0), commit_all p (change_steps p others) (change_replies answer others) (record { p = other; act = acts.Resume } ∷ []) (replies.Resumed ∷ []) (change_list p answer others differ.1 is) ((refl, differ.0), tt))
 
-pub change_of_commit : (p : ℕ) (answer : Reply) → tells_mark answer ≡ true → (steps : List Step) (told : List Reply) → AnswersChange p answer steps told → AreOfCommit steps told
-change_of_commit p answer is steps told it = change_has AreOfCommit p answer steps told it (change_list p answer it.others is)
+pub change_of_commit : (p : ℕ) (answer : Reply) → tells_mark answer ≡ true → (steps : List Step) (told : List Reply) → AnswersChange p answer steps told → AreOfCommit p steps told
+change_of_commit p answer is steps told it = change_has (AreOfCommit p) p answer steps told it (change_list p answer it.others it.differ is)
 
-writes_of_commit : (p mark : ℕ) (answer : Reply) (steps : List Step) (told : List Reply) → WritesUntil p mark answer steps told → AreOfCommit steps told
+writes_of_commit : (p mark : ℕ) (answer : Reply) (steps : List Step) (told : List Reply) → WritesUntil p mark answer steps told → AreOfCommit p steps told
 writes_of_commit p mark answer (step ∷ steps) (reply ∷ told) (is, inl (last, none, silent)) =
-    (of_step step (flush_by p) reply is refl, subst (λ l. AreOfCommit l told) (sym none) (subst (λ l. AreOfCommit [] l) (sym silent) tt))
-writes_of_commit p mark answer (step ∷ steps) (reply ∷ told) (is, inr (other, more)) = (of_step step (flush_by p) reply is refl, writes_of_commit p mark answer steps told more)
+    (of_step p step (flush_by p) reply is (refl, refl), subst (λ l. AreOfCommit p l told) (sym none) (subst (λ l. AreOfCommit p [] l) (sym silent) tt))
+writes_of_commit p mark answer (step ∷ steps) (reply ∷ told) (is, inr (other, more)) = (of_step p step (flush_by p) reply is (refl, refl), writes_of_commit p mark answer steps told more)
 writes_of_commit p mark answer [] [] it = absurd it
 writes_of_commit p mark answer [] (reply ∷ told) it = absurd it
 writes_of_commit p mark answer (step ∷ steps) [] it = absurd it
 
-are : (steps front : List Step) (told now : List Reply) → steps ≡ front → told ≡ now → AreOfCommit front now → AreOfCommit steps told
-are steps front told now s r of = subst (λ l. AreOfCommit l told) (sym s) (subst (λ l. AreOfCommit front l) (sym r) of)
+are : (p : ℕ) (steps front : List Step) (told now : List Reply) → steps ≡ front → told ≡ now → AreOfCommit p front now → AreOfCommit p steps told
+are p steps front told now s r of = subst (λ l. AreOfCommit p l told) (sym s) (subst (λ l. AreOfCommit p front l) (sym r) of)
 
-pub begins_of_commit : (p : ℕ) (steps : List Step) (told : List Reply) → BeginsMark p steps told → AreOfCommit steps told
-begins_of_commit p steps told it = are steps _ told _ it.steps_are it.replies_are (commit_all it.waits it.waited (msync_by p ∷ []) (replies.Begun ∷ []) (waits_of_commit p it.waits it.waited it.busy) (refl, tt))
+pub begins_of_commit : (p : ℕ) (steps : List Step) (told : List Reply) → BeginsMark p steps told → AreOfCommit p steps told
+begins_of_commit p steps told it = are p steps _ told _ it.steps_are it.replies_are (commit_all p it.waits it.waited (msync_by p ∷ []) (replies.Begun ∷ []) (waits_of_commit p it.waits it.waited it.busy) ((refl, refl), tt))
 
-last_of_commit : (p : ℕ) (answer : Reply) (steps : List Step) (told : List Reply) → IsLastAttempt p answer steps told → AreOfCommit steps told
-last_of_commit p answer steps told (inl (s, r, refused, other)) = are steps _ told _ s r (refl, tt)
-last_of_commit p answer steps told (inr (inl (s, r, busy))) = are steps _ told _ s r (refl, (refl, tt))
-last_of_commit p answer steps told (inr (inr (s, r, refused))) = are steps _ told _ s r (refl, (refl, tt))
+last_of_commit : (p : ℕ) (answer : Reply) (steps : List Step) (told : List Reply) → IsLastAttempt p answer steps told → AreOfCommit p steps told
+last_of_commit p answer steps told (inl (s, r, refused, other)) = are p steps _ told _ s r ((refl, refl), tt)
+last_of_commit p answer steps told (inr (inl (s, r, busy))) = are p steps _ told _ s r ((refl, refl), ((refl, refl), tt))
+last_of_commit p answer steps told (inr (inr (s, r, refused))) = are p steps _ told _ s r ((refl, refl), ((refl, refl), tt))
 
-written_of_commit : (p : ℕ) (before : Notes) (mark : ℕ) (steps : List Step) (told : List Reply) → IsWritten p before mark steps told → AreOfCommit steps told
-written_of_commit p before mark steps told (inl (none, s, r)) = are steps [] told [] s r tt
+written_of_commit : (p : ℕ) (before : Notes) (mark : ℕ) (steps : List Step) (told : List Reply) → IsWritten p before mark steps told → AreOfCommit p steps told
+written_of_commit p before mark steps told (inl (none, s, r)) = are p steps [] told [] s r tt
 written_of_commit p before mark steps told (inr (some, writes)) = writes_of_commit p mark (replies.Committed mark) steps told writes
 
-pub commits_of_commit : (p : ℕ) (before : Notes) (mark : ℕ) (steps : List Step) (told : List Reply) → CommitsMark p before mark steps told → AreOfCommit steps told
-commits_of_commit p before mark steps told it = are steps _ told _ it.steps_are it.replies_are
-    (commit_all it.beginning it.begun (it.marking ++ it.writing) (it.marked ++ it.written) (begins_of_commit p it.beginning it.begun it.begins)
-    (commit_all it.marking it.marked it.writing it.written (change_of_commit p (replies.Marked mark) refl it.marking it.marked it.makes) (written_of_commit p (noted_all before it.begun) mark it.writing it.written it.durable)))
+pub commits_of_commit : (p : ℕ) (before : Notes) (mark : ℕ) (steps : List Step) (told : List Reply) → CommitsMark p before mark steps told → AreOfCommit p steps told
+commits_of_commit p before mark steps told it = are p steps _ told _ it.steps_are it.replies_are
+    (commit_all p it.beginning it.begun (it.marking ++ it.writing) (it.marked ++ it.written) (begins_of_commit p it.beginning it.begun it.begins)
+    (commit_all p it.marking it.marked it.writing it.written (change_of_commit p (replies.Marked mark) refl it.marking it.marked it.makes) (written_of_commit p (noted_all before it.begun) mark it.writing it.written it.durable)))
 
-pub stops_of_commit : (p : ℕ) (before : Notes) (answer : Reply) (steps : List Step) (told : List Reply) → StopsCommit p before answer steps told → AreOfCommit steps told
-stops_of_commit p before answer steps told (inl it) = are steps _ told _ it.steps_are it.replies_are (commit_all it.waits it.waited it.last it.told (waits_of_commit p it.waits it.waited it.busy) (last_of_commit p answer it.last it.told it.refused))
-stops_of_commit p before answer steps told (inr it) = are steps _ told _ it.steps_are it.replies_are
-    (commit_all it.beginning it.begun (it.marking ++ it.writing) (it.marked ++ it.written) (begins_of_commit p it.beginning it.begun it.begins)
-    (commit_all it.marking it.marked it.writing it.written (change_of_commit p (replies.Marked it.mark) refl it.marking it.marked it.makes) (writes_of_commit p it.mark answer it.writing it.written it.writes)))
+pub stops_of_commit : (p : ℕ) (before : Notes) (answer : Reply) (steps : List Step) (told : List Reply) → StopsCommit p before answer steps told → AreOfCommit p steps told
+stops_of_commit p before answer steps told (inl it) = are p steps _ told _ it.steps_are it.replies_are (commit_all p it.waits it.waited it.last it.told (waits_of_commit p it.waits it.waited it.busy) (last_of_commit p answer it.last it.told it.refused))
+stops_of_commit p before answer steps told (inr it) = are p steps _ told _ it.steps_are it.replies_are
+    (commit_all p it.beginning it.begun (it.marking ++ it.writing) (it.marked ++ it.written) (begins_of_commit p it.beginning it.begun it.begins)
+    (commit_all p it.marking it.marked it.writing it.written (change_of_commit p (replies.Marked it.mark) refl it.marking it.marked it.makes) (writes_of_commit p it.mark answer it.writing it.written it.writes)))
 
-pub answers_of_commit : (p : ℕ) (before : Notes) (committed : Result ℕ Reply) (steps : List Step) (told : List Reply) → AnswersCommit p before committed steps told → AreOfCommit steps told
+pub answers_of_commit : (p : ℕ) (before : Notes) (committed : Result ℕ Reply) (steps : List Step) (told : List Reply) → AnswersCommit p before committed steps told → AreOfCommit p steps told
 answers_of_commit p before (Ok mark) steps told it = commits_of_commit p before mark steps told it
 answers_of_commit p before (Err answer) steps told it = stops_of_commit p before answer steps told it.0
 

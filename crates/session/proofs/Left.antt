@@ -166,7 +166,7 @@ module _ {D : Type 0} (disk : Ghosts D) where
 
   try_taken : (old mid : Whole D) (p file to : ℕ) (step : Step) (reply : Reply) → IsTry p file to step reply → StepTaken disk old step reply mid → LeftAfter old mid
   try_taken old mid p file to step reply (inl (is, later)) here = later_taken old mid p file to step reply is later here
-  try_taken old mid p file to step reply (inr aside) here = aside_taken old mid step reply aside here
+  try_taken old mid p file to step reply (inr aside) here = aside_taken old mid step reply aside.0 here
 
   -- attempts to begin to set a length, the last of which is busy
   attempts_keep : (old new : Whole D) (p file to : ℕ) (steps : List Step) (told : List Reply) → AttemptsLength p file to (replies.Refused refusals.Busy) steps told → StepsTaken disk old steps told new → LeftAfter old new

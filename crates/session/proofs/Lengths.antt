@@ -25,7 +25,7 @@ module _ (p file to : ℕ) where
   tries_then [] (reply ∷ replies) steps' replies' first later = absurd first
   tries_then (step ∷ steps) [] steps' replies' first later = absurd first
 
-  pub tries_aside : (steps : List Step) (replies : List Reply) → AreAside steps replies → AreTries p file to steps replies
+  pub tries_aside : (steps : List Step) (replies : List Reply) → AreAside p steps replies → AreTries p file to steps replies
   tries_aside [] [] aside = aside
   tries_aside (step ∷ steps) (reply ∷ replies) aside = (inr aside.0, tries_aside steps replies aside.1)
   tries_aside [] (reply ∷ replies) aside = absurd aside
@@ -65,7 +65,7 @@ module _ (p file to : ℕ) where
   abbrev pub IsAttempt : Reply → List Step → List Reply → Type 0
   IsAttempt answer steps replies = (steps ≡ set_length_by p file to ∷ []) × (replies ≡ answer ∷ [])
 
-  pub attempts_first : (answer : Reply) → answer ≡ Refused NoFrame → (steps : List Step) (replies : List Reply) (steps' : List Step) (replies' : List Reply) → IsAttempt answer steps replies → AreFruitless steps' replies' → AttemptsLength p file to answer (steps ++ steps') (replies ++ replies')
+  pub attempts_first : (answer : Reply) → answer ≡ Refused NoFrame → (steps : List Step) (replies : List Reply) (steps' : List Step) (replies' : List Reply) → IsAttempt answer steps replies → AreFruitless p steps' replies' → AttemptsLength p file to answer (steps ++ steps') (replies ++ replies')
   attempts_first answer is steps replies steps' replies' first vain =
       let S : List Step → Type 0 = λ l. AttemptsLength p file to answer (l ++ steps') (replies ++ replies') in
       let T : List Reply → Type 0 = λ l. AttemptsLength p file to answer (set_length_by p file to ∷ steps') (l ++ replies') in
@@ -74,6 +74,10 @@ module _ (p file to : ℕ) where
   -- an attempt that is refused for a while is made again
   pub tries_one : (reply : Reply) → tells_later reply ≡ true → AreTries p file to (set_length_by p file to ∷ []) (reply ∷ [])
   tries_one reply later = (inl (refl, later), tt)
+
+  -- a step of the write-outs
+  pub tries_flush : (reply : Reply) → AreTries p file to (flush_by p ∷ []) (reply ∷ [])
+  tries_flush reply = (inr (refl, refl), tt)
 
   tries_step : (step : Step) (reply : Reply) → step ≡ set_length_by p file to → tells_later reply ≡ true → IsTry p file to step reply
   tries_step step reply is later = inl (is, later)
@@ -85,7 +89,7 @@ module _ (p file to : ℕ) where
       let T : List Reply → Type 0 = λ l. AreTries p file to [] l in
       (tries_step step reply is (ap tells_later told ∙ later), subst S (sym none) (subst T (sym silent) tt))
   tries_attempted answer later (step ∷ steps) (reply ∷ replies) (inr (is, told, inr (no-frame, vain))) =
-      (tries_step step reply is (ap tells_later told ∙ later), tries_aside steps replies (vain_aside steps replies vain))
+      (tries_step step reply is (ap tells_later told ∙ later), tries_aside steps replies (vain_aside p steps replies vain))
   tries_attempted answer later [] [] it = absurd it
   tries_attempted answer later [] (reply ∷ replies) it = absurd it
   tries_attempted answer later (step ∷ steps) [] it = absurd it
@@ -106,8 +110,8 @@ module _ (p file to : ℕ) where
   left_unbusy : (answer reply : Reply) → reply ≡ answer → tells_begun answer ≡ false → answer ≢ Refused Busy → (steps : List Step) (replies : List Reply) → steps ≡ [] → replies ≡ [] → IsLeft p answer reply steps replies
   left_unbusy (Refused Busy) reply told vain other steps replies none silent = absurd (other refl)
   left_unbusy (Refused NoFrame) reply told vain other steps replies none silent =
-      let S : List Step → Type 0 = λ l. AreFruitless l replies in
-      let T : List Reply → Type 0 = λ l. AreFruitless [] l in
+      let S : List Step → Type 0 = λ l. AreFruitless p l replies in
+      let T : List Reply → Type 0 = λ l. AreFruitless p [] l in
       inr (inl (told, refl, subst S (sym none) (subst T (sym silent) tt)))
   left_unbusy (Refused why) reply told vain other steps replies none silent = inl (told, refl, refl, none, silent)
   left_unbusy Begun reply told vain other steps replies none silent = absurd (false≢true (sym vain))

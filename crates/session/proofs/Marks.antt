@@ -25,7 +25,7 @@ use Rattle.engine.specs.Survival.{history_of}
 use Rattle.session.specs.declared.notes.Notes.{Notes}
 use Rattle.session.specs.Answers.{AnswersRequest, committed_text}
 use Rattle.session.specs.Commits.{CommitsMark, IsWritten, WritesUntil, tells_unmade}
-use Rattle.session.specs.Lengths.{AnswersChange, change_steps, change_replies}
+use Rattle.session.specs.Lengths.{AnswersChange, AreOthers, change_steps, change_replies}
 use Rattle.session.specs.Notes.{noted_after, noted_all}
 use Rattle.session.specs.Requests.{asks_commit}
 use Rattle.session.specs.Sessions.{no_notes}
@@ -40,11 +40,11 @@ AreEven [] [] = Unit {0}
 AreEven (step ∷ steps) (reply ∷ told) = AreEven steps told
 AreEven steps told = ⊥
 
-even_commit : (steps : List Step) (told : List Reply) → AreOfCommit steps told → AreEven steps told
-even_commit [] [] of = tt
-even_commit (step ∷ steps) (reply ∷ told) of = even_commit steps told of.1
-even_commit [] (reply ∷ told) of = absurd of
-even_commit (step ∷ steps) [] of = absurd of
+even_commit : (p : ℕ) (steps : List Step) (told : List Reply) → AreOfCommit p steps told → AreEven steps told
+even_commit p [] [] of = tt
+even_commit p (step ∷ steps) (reply ∷ told) of = even_commit p steps told of.1
+even_commit p [] (reply ∷ told) of = absurd of
+even_commit p (step ∷ steps) [] of = absurd of
 
 module _ {D : Type 0} (disk : Ghosts D) where
   even_taken : (old new : Whole D) (steps : List Step) (told : List Reply) → StepsTaken disk old steps told new → AreEven steps told
@@ -125,25 +125,25 @@ agree_all t n (step ∷ steps) [] even agree = absurd even
 
 module _ {D : Type 0} (disk : Ghosts D) (p mark : ℕ) where
   even_change : (steps : List Step) (told : List Reply) → AnswersChange p (replies.Marked mark) steps told → AreEven steps told
-  even_change steps told it = even_commit steps told (change_of_commit p (replies.Marked mark) refl steps told it)
+  even_change steps told it = even_commit p steps told (change_of_commit p (replies.Marked mark) refl steps told it)
 
-  even_list : (others : List ℕ) → AreEven (change_steps p others) (change_replies (replies.Marked mark) others)
-  even_list others = even_change (change_steps p others) (change_replies (replies.Marked mark) others) (record { made = refl; others = others; steps_are = refl; replies_are = refl })
+  even_list : (others : List ℕ) → AreOthers p others → AreEven (change_steps p others) (change_replies (replies.Marked mark) others)
+  even_list others differ = even_change (change_steps p others) (change_replies (replies.Marked mark) others) (record { made = refl; others = others; differ = differ; steps_are = refl; replies_are = refl })
 
   -- it is acknowledged as it is made, where nothing is unmarked
-  at_once_list : (t : Told) (others : List ℕ) → has_unmarked t.history ≡ false → Contains (tell_all t (change_steps p others) (change_replies (replies.Marked mark) others)).history (Acknowledge mark)
-  at_once_list t [] quiet =
+  at_once_list : (t : Told) (others : List ℕ) → AreOthers p others → has_unmarked t.history ≡ false → Contains (tell_all t (change_steps p others) (change_replies (replies.Marked mark) others)).history (Acknowledge mark)
+  at_once_list t [] differ quiet =
       let events : events_of t p acts.Change (replies.Marked mark) ≡ Mark mark ∷ Acknowledge mark ∷ [] =
       marked_events t p acts.Change mark ∙ ap (λ b. Mark mark ∷ (if b then [] else Acknowledge mark ∷ [])) quiet in
       subst (λ e. Contains (t.history ++ e) (Acknowledge mark)) (sym events) (Contains-append_right t.history (Mark mark ∷ Acknowledge mark ∷ []) (Acknowledge mark) (Contains-push (Mark mark ∷ []) (Acknowledge mark)))
-  at_once_list t (other ∷ others) quiet =
+  at_once_list t (other ∷ others) differ quiet =
       let stalled : Told = tell t (record { p = other; act = acts.Ack }) replies.Acked in
-      let more = at_once_list stalled others (ap (λ e. has_unmarked (t.history ++ e)) (plain_events t other acts.Ack replies.Acked refl) ∙ ap has_unmarked (append-nil t.history) ∙ quiet) in
-      subst (λ (x : Told). Contains x.history (Acknowledge mark)) (sym (told_then stalled (change_steps p others) (change_replies (replies.Marked mark) others) (record { p = other; act = acts.Resume } ∷ []) (replies.Resumed ∷ []) (even_list others)))
+      let more = at_once_list stalled others differ.1 (ap (λ e. has_unmarked (t.history ++ e)) (plain_events t other acts.Ack replies.Acked refl) ∙ ap has_unmarked (append-nil t.history) ∙ quiet) in
+      subst (λ (x : Told). Contains x.history (Acknowledge mark)) (sym (told_then stalled (change_steps p others) (change_replies (replies.Marked mark) others) (record { p = other; act = acts.Resume } ∷ []) (replies.Resumed ∷ []) (even_list others differ.1)))
       (stays (tell_all stalled (change_steps p others) (change_replies (replies.Marked mark) others)) (record { p = other; act = acts.Resume } ∷ []) (replies.Resumed ∷ []) (Acknowledge mark) more)
 
   at_once : (t : Told) (steps : List Step) (told : List Reply) → AnswersChange p (replies.Marked mark) steps told → has_unmarked t.history ≡ false → Contains (tell_all t steps told).history (Acknowledge mark)
-  at_once t steps told it quiet = change_has (λ steps told. Contains (tell_all t steps told).history (Acknowledge mark)) p (replies.Marked mark) steps told it (at_once_list t it.others quiet)
+  at_once t steps told it quiet = change_has (λ steps told. Contains (tell_all t steps told).history (Acknowledge mark)) p (replies.Marked mark) steps told it (at_once_list t it.others it.differ quiet)
 
   -- or as it is committed
   later : (t : Told) (steps : List Step) (told : List Reply) → WritesUntil p mark (replies.Committed mark) steps told → Contains (tell_all t steps told).history (Acknowledge mark)
@@ -157,7 +157,7 @@ module _ {D : Type 0} (disk : Ghosts D) (p mark : ℕ) where
 
   made : (t : Told) (n : Notes) (steps : List Step) (told : List Reply) → Agree t n → CommitsMark p n mark steps told → Contains (tell_all t steps told).history (Acknowledge mark)
   made t n steps told agree it =
-      let begun = even_commit it.beginning it.begun (begins_of_commit p it.beginning it.begun it.begins) in
+      let begun = even_commit p it.beginning it.begun (begins_of_commit p it.beginning it.begun it.begins) in
       let marked = even_change it.marking it.marked it.makes in
       let there = tell_all t it.beginning it.begun in
       let is : tell_all t steps told ≡ tell_all (tell_all there it.marking it.marked) it.writing it.written =
@@ -175,7 +175,7 @@ module _ {D : Type 0} (disk : Ghosts D) (p mark : ℕ) where
       → Contains (history_of files start (earlier ++ (steps ++ later)) (told ++ (now ++ more))) (Acknowledge mark)
   acknowledged files start mid new between after earlier steps later told now more before makes it =
       let first = even_taken disk start mid earlier told before.taken in
-      let even = even_commit steps now (commits_of_commit p between mark steps now it) in
+      let even = even_commit p steps now (commits_of_commit p between mark steps now it) in
       let t = told_first files start.state in
       let there = tell_all t earlier told in
       let agree : Agree there between = subst (Agree there) (sym before.notes) (agree_all t no_notes earlier told first (λ _. refl)) in

@@ -262,7 +262,7 @@ load_keeps : (s : State) (d : List ℕ) (p va count : ℕ) (reply : Reply) (new 
 load_keeps s d p va count reply new d' ((hw, did, done), same) =
     keeps_same s new (same_then s.hardware.shootdown hw.shootdown new.hardware.shootdown (loads_same s.hardware p va count reply hw did) (same_is hw.shootdown new.hardware.shootdown (ap (λ (t : State). t.hardware.shootdown) done)))
 
-store_keeps : (s : State) (d : List ℕ) (p va : ℕ) (bytes : List ℕ) (reply : Reply) (new : State) (d' : List ℕ) → Acts s d p (acts.Store va bytes) reply new d' → KeepsPhases s new
+pub store_keeps : (s : State) (d : List ℕ) (p va : ℕ) (bytes : List ℕ) (reply : Reply) (new : State) (d' : List ℕ) → Acts s d p (acts.Store va bytes) reply new d' → KeepsPhases s new
 store_keeps s d p va bytes reply new d' ((hw, did, done), same) =
     keeps_same s new (same_then s.hardware.shootdown hw.shootdown new.hardware.shootdown (stores_same s.hardware p va bytes reply hw did) (same_is hw.shootdown new.hardware.shootdown (ap (λ (t : State). t.hardware.shootdown) done)))
 
@@ -829,6 +829,13 @@ begun_over old mid new p change begins over = record { lock = over.lock ∙ sym 
 -- steps after which nothing is other, and then the begin of a change
 pub begins_kept : (old mid new : State) (p : ℕ) (change : Change) → KeepsPhases old mid → HasBegun p change mid new → HasBegun p change old new
 begins_kept old mid new p change kept begins = record { free = sym kept.lock ∙ begins.free; held = begins.held; phases = λ q. begins.phases q ∙ kept.phases q }
+
+-- who is interrupted by a change isn't the one that began it
+pub interrupted_other : (s : State) (p next : ℕ) (change : Change) → IsShootdown s.hardware.shootdown → HoldsLock p change s → state_of s.hardware.shootdown next ≡ Interrupted → next ≢ p
+interrupted_other s p next change is held was same =
+    let lock = is.held (record { holder = p; change = change }) held in
+    let now : state_of s.hardware.shootdown p ≡ Interrupted = subst (λ n. state_of s.hardware.shootdown n ≡ Interrupted) same was in
+    true≢false (sym (ap is_interrupted now) ∙ ap is_interrupted ((lock.1 p lock.0).1 refl))
 
 -- the lock is held while one stalls
 pub held_stalled : (s mid : State) (p q : ℕ) (change : Change) → HoldsLock p change s → mid.hardware.shootdown ≡ stalled s.hardware.shootdown q → HoldsLock p change mid

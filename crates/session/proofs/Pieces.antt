@@ -17,7 +17,7 @@ use Rattle.session.specs.inside.Made.{HasMade}
 use Rattle.session.proofs.Stretches.{makes_none, makes_then}
 
 -- steps that read and store nothing
-pub loads_none : (p va at : ℕ) (steps : List Step) (replies : List Reply) → AreAside steps replies → AreLoads p va at at steps replies []
+pub loads_none : (p va at : ℕ) (steps : List Step) (replies : List Reply) → AreAside p steps replies → AreLoads p va at at steps replies []
 loads_none p va at [] [] aside = (refl, refl)
 loads_none p va at (step ∷ steps) (reply ∷ replies) aside = inl (aside.0, loads_none p va at steps replies aside.1)
 loads_none p va at [] (reply ∷ replies) aside = absurd aside
@@ -41,7 +41,7 @@ loads_then p va from mid to [] (reply ∷ replies) bytes steps' replies' bytes' 
 loads_then p va from mid to (step ∷ steps) [] bytes steps' replies' bytes' first later = absurd first
 
 -- steps that read and store nothing
-pub stores_none : (p va at : ℕ) (steps : List Step) (replies : List Reply) → AreAside steps replies → AreStores p va at steps replies []
+pub stores_none : (p va at : ℕ) (steps : List Step) (replies : List Reply) → AreAside p steps replies → AreStores p va at steps replies []
 stores_none p va at [] [] aside = refl
 stores_none p va at (step ∷ steps) (reply ∷ replies) aside = inl (aside.0, stores_none p va at steps replies aside.1)
 stores_none p va at [] (reply ∷ replies) aside = absurd aside

@@ -16,9 +16,9 @@ use Rattle.machine.specs.Runs.{StepsTaken}
 use Rattle.machine.specs.State.{State, Whole}
 use Rattle.session.specs.declared.notes.Notes.{Notes}
 use Rattle.session.specs.Ends.{tells_fault, tells_kept, tells_reclaimed, is_access, is_access_at, is_served, is_for_room, AreForRoom, is_fruitless, AreFruitless, MakesRoom, IsUnserved, EndsRange}
-use Rattle.session.specs.Lengths.{AnswersChange, change_steps, change_replies, flush_by}
+use Rattle.session.specs.Lengths.{AnswersChange, AreOthers, change_steps, change_replies, flush_by}
 use Rattle.session.specs.Ranges.{MakesStepsThat}
-use Rattle.session.specs.Steps.{Makes, is_aside, AreAside, tells_bytes, tells_stored, tells_fixed, tells_reclaim}
+use Rattle.session.specs.Steps.{Makes, is_aside, IsAside, IsMadeFor, AreAside, tells_bytes, tells_stored, tells_fixed, tells_reclaim}
 use Rattle.session.specs.inside.Aside.{IsAccessFor, LoadsOrStores, Serves, IsUnservedAside, AnswersAfter, StopsAt}
 use Rattle.session.proofs.Stretches.{aside_all, makes_then}
 
@@ -68,40 +68,43 @@ not_fault reply is = absurd (false≢true is)
 
 -- ---- one after the other
 
-pub room_then : (steps : List Step) (told : List Reply) (steps' : List Step) (told' : List Reply) → AreForRoom steps told → AreForRoom steps' told' → AreForRoom (steps ++ steps') (told ++ told')
-room_then [] [] steps' told' first later = later
-room_then (step ∷ steps) (reply ∷ told) steps' told' (is, first) later = (is, room_then steps told steps' told' first later)
-room_then [] (reply ∷ told) steps' told' first later = absurd first
-room_then (step ∷ steps) [] steps' told' first later = absurd first
+pub room_then : (p : ℕ) (steps : List Step) (told : List Reply) (steps' : List Step) (told' : List Reply) → AreForRoom p steps told → AreForRoom p steps' told' → AreForRoom p (steps ++ steps') (told ++ told')
+room_then p [] [] steps' told' first later = later
+room_then p (step ∷ steps) (reply ∷ told) steps' told' (is, first) later = (is, room_then p steps told steps' told' first later)
+room_then p [] (reply ∷ told) steps' told' first later = absurd first
+room_then p (step ∷ steps) [] steps' told' first later = absurd first
 
-pub vain_then : (steps : List Step) (told : List Reply) (steps' : List Step) (told' : List Reply) → AreFruitless steps told → AreFruitless steps' told' → AreFruitless (steps ++ steps') (told ++ told')
-vain_then [] [] steps' told' first later = later
-vain_then (step ∷ steps) (reply ∷ told) steps' told' (is, first) later = (is, vain_then steps told steps' told' first later)
-vain_then [] (reply ∷ told) steps' told' first later = absurd first
-vain_then (step ∷ steps) [] steps' told' first later = absurd first
+pub vain_then : (p : ℕ) (steps : List Step) (told : List Reply) (steps' : List Step) (told' : List Reply) → AreFruitless p steps told → AreFruitless p steps' told' → AreFruitless p (steps ++ steps') (told ++ told')
+vain_then p [] [] steps' told' first later = later
+vain_then p (step ∷ steps) (reply ∷ told) steps' told' (is, first) later = (is, vain_then p steps told steps' told' first later)
+vain_then p [] (reply ∷ told) steps' told' first later = absurd first
+vain_then p (step ∷ steps) [] steps' told' first later = absurd first
 
-vain_room : (steps : List Step) (told : List Reply) → AreFruitless steps told → AreForRoom steps told
-vain_room [] [] vain = tt
-vain_room (step ∷ steps) (reply ∷ told) (is, more) = (fruitless_room step.act reply is, vain_room steps told more)
-vain_room [] (reply ∷ told) vain = absurd vain
-vain_room (step ∷ steps) [] vain = absurd vain
+vain_room : (p : ℕ) (steps : List Step) (told : List Reply) → AreFruitless p steps told → AreForRoom p steps told
+vain_room p [] [] vain = tt
+vain_room p (step ∷ steps) (reply ∷ told) ((is, mine), more) = ((fruitless_room step.act reply is, mine), vain_room p steps told more)
+vain_room p [] (reply ∷ told) vain = absurd vain
+vain_room p (step ∷ steps) [] vain = absurd vain
 
-pub are_aside : (steps : List Step) (told : List Reply) → AreForRoom steps told → AreAside steps told
-are_aside [] [] room = tt
-are_aside (step ∷ steps) (reply ∷ told) (is, more) = (room_aside step.act reply is, are_aside steps told more)
-are_aside [] (reply ∷ told) room = absurd room
-are_aside (step ∷ steps) [] room = absurd room
+pub are_aside : (p : ℕ) (steps : List Step) (told : List Reply) → AreForRoom p steps told → AreAside p steps told
+are_aside p [] [] room = tt
+are_aside p (step ∷ steps) (reply ∷ told) ((is, mine), more) = ((room_aside step.act reply is, mine), are_aside p steps told more)
+are_aside p [] (reply ∷ told) room = absurd room
+are_aside p (step ∷ steps) [] room = absurd room
 
-pub vain_aside : (steps : List Step) (told : List Reply) → AreFruitless steps told → AreAside steps told
-vain_aside steps told vain = are_aside steps told (vain_room steps told vain)
+pub vain_aside : (p : ℕ) (steps : List Step) (told : List Reply) → AreFruitless p steps told → AreAside p steps told
+vain_aside p steps told vain = are_aside p steps told (vain_room p steps told vain)
 
 -- no frame became free, and then one did or didn't
-pub makes_room_then : (made : Bool) (steps : List Step) (told : List Reply) (steps' : List Step) (told' : List Reply) → AreFruitless steps told → MakesRoom made steps' told' → MakesRoom made (steps ++ steps') (told ++ told')
-makes_room_then true steps told steps' told' first later = (room_then steps told steps' told' (vain_room steps told first) later.0, Contains-append_right told told' replies.Reclaimed later.1)
-makes_room_then false steps told steps' told' first later = vain_then steps told steps' told' first later
+pub makes_room_then : (p : ℕ) (made : Bool) (steps : List Step) (told : List Reply) (steps' : List Step) (told' : List Reply) → AreFruitless p steps told → MakesRoom p made steps' told' → MakesRoom p made (steps ++ steps') (told ++ told')
+makes_room_then p true steps told steps' told' first later = (room_then p steps told steps' told' (vain_room p steps told first) later.0, Contains-append_right told told' replies.Reclaimed later.1)
+makes_room_then p false steps told steps' told' first later = vain_then p steps told steps' told' first later
 
-pub flush_vain : (p : ℕ) (reply : Reply) → AreFruitless (flush_by p ∷ []) (reply ∷ [])
-flush_vain p reply = (refl, tt)
+pub flush_vain : (p : ℕ) (reply : Reply) → AreFruitless p (flush_by p ∷ []) (reply ∷ [])
+flush_vain p reply = ((refl, refl), tt)
+
+pub reclaim_vain : (p file page : ℕ) (reply : Reply) → AreFruitless p (record { p = p; act = acts.Reclaim file page } ∷ []) (reply ∷ [])
+reclaim_vain p file page reply = ((refl, refl), tt)
 
 -- ---- a page is taken out
 
@@ -110,15 +113,15 @@ pub change_has : (P : List Step → List Reply → Type 0) (p : ℕ) (answer : R
 change_has P p answer steps replies it holds = subst (P steps) (sym it.replies_are) (subst (λ (l : List Step). P l (change_replies answer it.others)) (sym it.steps_are) holds)
 
 -- the change of a reclaim, which is answered so
-change_vain : (p : ℕ) (answer : Reply) (others : List ℕ) → tells_kept answer ≡ true → AreFruitless (change_steps p others) (change_replies answer others)
-change_vain p answer [] is = (is, tt)
-change_vain p answer (other ∷ others) is =
-    (refl, vain_then (change_steps p others) (change_replies answer others) (record { p = other; act = acts.Resume } ∷ []) (replies.Resumed ∷ []) (change_vain p answer others is) (refl, tt))
+change_vain : (p : ℕ) (answer : Reply) (others : List ℕ) → AreOthers p others → tells_kept answer ≡ true → AreFruitless p (change_steps p others) (change_replies answer others)
+change_vain p answer [] differ is = ((is, refl), tt)
+change_vain p answer (other ∷ others) differ is =
+    ((refl, differ.0), vain_then p (change_steps p others) (change_replies answer others) (record { p = other; act = acts.Resume } ∷ []) (replies.Resumed ∷ []) (change_vain p answer others differ.1 is) ((refl, differ.0), tt))
 
-change_room : (p : ℕ) (answer : Reply) (others : List ℕ) → tells_reclaim answer ≡ true → AreForRoom (change_steps p others) (change_replies answer others)
-change_room p answer [] is = (is, tt)
-change_room p answer (other ∷ others) is =
-    (refl, room_then (change_steps p others) (change_replies answer others) (record { p = other; act = acts.Resume } ∷ []) (replies.Resumed ∷ []) (change_room p answer others is) (refl, tt))
+change_room : (p : ℕ) (answer : Reply) (others : List ℕ) → AreOthers p others → tells_reclaim answer ≡ true → AreForRoom p (change_steps p others) (change_replies answer others)
+change_room p answer [] differ is = ((is, refl), tt)
+change_room p answer (other ∷ others) differ is =
+    ((refl, differ.0), room_then p (change_steps p others) (change_replies answer others) (record { p = other; act = acts.Resume } ∷ []) (replies.Resumed ∷ []) (change_room p answer others differ.1 is) ((refl, differ.0), tt))
 
 -- the answer is one of the replies
 change_told : (answer : Reply) (others : List ℕ) → Contains (change_replies answer others) answer
@@ -127,15 +130,15 @@ change_told answer (other ∷ others) =
     Contains-append_right (replies.Acked ∷ []) (change_replies answer others ++ replies.Resumed ∷ []) answer (Contains-append_left (change_replies answer others) (replies.Resumed ∷ []) answer (change_told answer others))
 
 pub reclaim_room : (p file page : ℕ) (begun answer : Reply) (steps : List Step) (told : List Reply) → tells_reclaim answer ≡ true → AnswersChange p answer steps told
-    → MakesRoom (tells_reclaimed answer) (record { p = p; act = acts.Reclaim file page } ∷ steps) (begun ∷ told)
+    → MakesRoom p (tells_reclaimed answer) (record { p = p; act = acts.Reclaim file page } ∷ steps) (begun ∷ told)
 reclaim_room p file page begun answer steps told is change = go (tells_reclaimed answer) refl
   where
     has : Contains told answer
     has = change_has (λ steps told. Contains told answer) p answer steps told change (change_told answer change.others)
 
-    go : (b : Bool) → tells_reclaimed answer ≡ b → MakesRoom b (record { p = p; act = acts.Reclaim file page } ∷ steps) (begun ∷ told)
-    go true made = ((refl, change_has AreForRoom p answer steps told change (change_room p answer change.others is)), Contains-append_right (begun ∷ []) told replies.Reclaimed (subst (Contains told) (reclaimed_is answer made) has))
-    go false kept = (refl, change_has AreFruitless p answer steps told change (change_vain p answer change.others (reclaim_kept answer is kept)))
+    go : (b : Bool) → tells_reclaimed answer ≡ b → MakesRoom p b (record { p = p; act = acts.Reclaim file page } ∷ steps) (begun ∷ told)
+    go true made = (((refl, refl), change_has (AreForRoom p) p answer steps told change (change_room p answer change.others change.differ is)), Contains-append_right (begun ∷ []) told replies.Reclaimed (subst (Contains told) (reclaimed_is answer made) has))
+    go false kept = ((refl, refl), change_has (AreFruitless p) p answer steps told change (change_vain p answer change.others change.differ (reclaim_kept answer is kept)))
 
 -- ---- a fault is served, or isn't
 
@@ -149,24 +152,24 @@ module _ (p at : ℕ) (write : Bool) where
   pub serves_one : (reply : Reply) → tells_fixed reply ≡ true → Serves p at write (fix_by ∷ []) (reply ∷ [])
   serves_one reply is = record { front = []; told = []; aside = tt; steps_are = refl; replies_are = ap (λ r. r ∷ []) (fixed_is reply is) }
 
-  pub serves_later : (reply : Reply) → tells_fixed reply ≡ true → (steps : List Step) (told : List Reply) → AreAside steps told → Serves p at write (steps ++ fix_by ∷ []) (told ++ reply ∷ [])
+  pub serves_later : (reply : Reply) → tells_fixed reply ≡ true → (steps : List Step) (told : List Reply) → AreAside p steps told → Serves p at write (steps ++ fix_by ∷ []) (told ++ reply ∷ [])
   serves_later reply is steps told aside = record { front = steps; told = told; aside = aside; steps_are = refl; replies_are = ap (λ r. told ++ r ∷ []) (fixed_is reply is) }
 
-  pub unserved_one : (answer : Reply) → tells_fixed answer ≡ false → (steps : List Step) (told : List Reply) → AreFruitless steps told → IsUnservedAside p at answer (fix_by ∷ steps) (answer ∷ told)
-  unserved_one answer not steps told vain = ((refl, vain_aside steps told vain), inr (refl, same at, refl, not, vain))
+  pub unserved_one : (answer : Reply) → tells_fixed answer ≡ false → (steps : List Step) (told : List Reply) → AreFruitless p steps told → IsUnservedAside p at answer (fix_by ∷ steps) (answer ∷ told)
+  unserved_one answer not steps told vain = (((refl, refl), vain_aside p steps told vain), inr (refl, same at, refl, not, vain))
 
-  unserved_after : (answer : Reply) (steps : List Step) (told : List Reply) (steps' : List Step) (told' : List Reply) → AreForRoom steps told → IsUnserved p at answer steps' told' → IsUnserved p at answer (steps ++ steps') (told ++ told')
+  unserved_after : (answer : Reply) (steps : List Step) (told : List Reply) (steps' : List Step) (told' : List Reply) → AreForRoom p steps told → IsUnserved p at answer steps' told' → IsUnserved p at answer (steps ++ steps') (told ++ told')
   unserved_after answer [] [] steps' told' room later = later
-  unserved_after answer (step ∷ steps) (reply ∷ told) steps' told' (is, more) later = inl (room_no_access step.act reply is, room_not_served step.act reply is, unserved_after answer steps told steps' told' more later)
+  unserved_after answer (step ∷ steps) (reply ∷ told) steps' told' ((is, mine), more) later = inl (room_no_access step.act reply is, room_not_served step.act reply is, unserved_after answer steps told steps' told' more later)
   unserved_after answer [] (reply ∷ told) steps' told' room later = absurd room
   unserved_after answer (step ∷ steps) [] steps' told' room later = absurd room
 
   -- a second attempt, after a frame was made free
-  pub unserved_again : (first answer : Reply) → tells_fixed first ≡ false → tells_fixed answer ≡ false → (steps : List Step) (told : List Reply) → AreForRoom steps told
+  pub unserved_again : (first answer : Reply) → tells_fixed first ≡ false → tells_fixed answer ≡ false → (steps : List Step) (told : List Reply) → AreForRoom p steps told
       → IsUnservedAside p at answer (fix_by ∷ (steps ++ fix_by ∷ [])) (first ∷ (told ++ answer ∷ []))
   unserved_again first answer one not steps told room =
       let last = unserved_one answer not [] [] tt in (
-        (refl, aside_all steps told (fix_by ∷ []) (answer ∷ []) (are_aside steps told room) last.0),
+        ((refl, refl), aside_all p steps told (fix_by ∷ []) (answer ∷ []) (are_aside p steps told room) last.0),
         inl (refl, one, unserved_after answer steps told (fix_by ∷ []) (answer ∷ []) room last.1),
       )
 
@@ -176,6 +179,12 @@ pub access_aside : (at : ℕ) (write : Bool) (act : Act) (reply : Reply) → IsA
 access_aside at write (acts.Load va count) reply is fault = ap not (not_fault reply fault).0
 access_aside at write (acts.Store va bytes) reply is fault = ap not (not_fault reply fault).1
 access_aside at write act reply is fault = absurd is
+
+-- whose it is
+pub access_own : (at : ℕ) (write : Bool) (p : ℕ) (act : Act) → IsAccessFor at write act → IsMadeFor p p act
+access_own at write p (acts.Load va count) is = refl
+access_own at write p (acts.Store va bytes) is = refl
+access_own at write p act is = absurd is
 
 pub access_at : (at : ℕ) (write : Bool) (act : Act) → IsAccessFor at write act → is_access_at at act ≡ true
 access_at at write (acts.Load va count) is = ap (λ n. n == at) is ∙ same at
@@ -188,7 +197,7 @@ access_loads at write (acts.Store va bytes) is = tt
 access_loads at write act is = absurd is
 
 -- what ends a range comes after other steps
-pub ends_after : (p at : ℕ) (answer : Reply) (steps : List Step) (told : List Reply) (steps' : List Step) (told' : List Reply) → AreAside steps told → EndsRange p at answer steps' told' → EndsRange p at answer (steps ++ steps') (told ++ told')
+pub ends_after : (p at : ℕ) (answer : Reply) (steps : List Step) (told : List Reply) (steps' : List Step) (told' : List Reply) → AreAside p steps told → EndsRange p at answer steps' told' → EndsRange p at answer (steps ++ steps') (told ++ told')
 ends_after p at answer [] [] steps' told' aside ended = ended
 ends_after p at answer (step ∷ steps) (reply ∷ told) steps' told' aside ended = inl (ends_after p at answer steps told steps' told' aside.1 ended)
 ends_after p at answer [] (reply ∷ told) steps' told' aside ended = absurd aside
@@ -196,24 +205,24 @@ ends_after p at answer (step ∷ steps) [] steps' told' aside ended = absurd asi
 
 module _ {D : Type 0} (disk : Ghosts D) (old mid new : Whole D) (before between after : Notes) where
   -- an access that met a fault, which isn't served
-  pub stops_unserved : (step : Step) (at : ℕ) (fault answer : Reply) → is_aside step.act fault ≡ true → is_access_at at step.act ≡ true → tells_fault fault ≡ true → Makes disk old before (step ∷ []) (fault ∷ []) mid between
+  pub stops_unserved : (step : Step) (at : ℕ) (fault answer : Reply) → IsAside step.p step fault → is_access_at at step.act ≡ true → tells_fault fault ≡ true → Makes disk old before (step ∷ []) (fault ∷ []) mid between
       → MakesStepsThat disk mid between (IsUnservedAside step.p at answer) new after → StopsAt disk old before step.p at answer new after
-  stops_unserved step at fault answer aside here met first later = record {
+  stops_unserved step at fault answer (aside, mine) here met first later = record {
     steps = step ∷ later.steps;
     replies = fault ∷ later.replies;
     makes = makes_then disk old mid new before between after (step ∷ []) (fault ∷ []) later.steps later.replies first later.makes;
-    aside = (aside, later.holds.0);
+    aside = ((aside, mine), later.holds.0);
     ends = inr (inr (refl, here, met, later.holds.1));
   }
 
 -- an access that isn't made, and meets no fault
-pub stops_answered : {D : Type 0} (disk : Ghosts D) (old new : Whole D) (before after : Notes) (step : Step) (at : ℕ) (answer : Reply) → is_aside step.act answer ≡ true → is_access_at at step.act ≡ true → tells_fault answer ≡ false
+pub stops_answered : {D : Type 0} (disk : Ghosts D) (old new : Whole D) (before after : Notes) (step : Step) (at : ℕ) (answer : Reply) → IsAside step.p step answer → is_access_at at step.act ≡ true → tells_fault answer ≡ false
     → AnswersAfter disk old before step answer new after → StopsAt disk old before step.p at answer new after
-stops_answered disk old new before after step at answer aside here no-fault it = record {
+stops_answered disk old new before after step at answer (aside, mine) here no-fault it = record {
   steps = it.steps ++ step ∷ [];
   replies = it.replies ++ answer ∷ [];
   makes = it.makes;
-  aside = aside_all it.steps it.replies (step ∷ []) (answer ∷ []) it.aside (aside, tt);
+  aside = aside_all step.p it.steps it.replies (step ∷ []) (answer ∷ []) it.aside ((aside, mine), tt);
   ends = ends_after step.p at answer it.steps it.replies (step ∷ []) (answer ∷ []) it.aside (inr (inl (refl, here, aside, refl, no-fault, refl, refl)));
 }
 
@@ -232,7 +241,7 @@ no_fault s d p at write act reply new d' is rule answered = absurd is
 
 module _ {D : Type 0} (disk : Ghosts D) where
   -- the last of the steps
-  served_last : (p at : ℕ) (write : Bool) (step : Step) (reply : Reply) → step.p ≡ p → IsAccessFor at write step.act → (old new : Whole D) (front : List Step) (told : List Reply) → AreAside front told
+  served_last : (p at : ℕ) (write : Bool) (step : Step) (reply : Reply) → step.p ≡ p → IsAccessFor at write step.act → (old new : Whole D) (front : List Step) (told : List Reply) → AreAside p front told
       → StepsTaken disk old ((front ++ record { p = p; act = acts.Fix at write } ∷ []) ++ step ∷ []) ((told ++ replies.Fixed ∷ []) ++ reply ∷ []) new
       → FaultsAreServed ((front ++ record { p = p; act = acts.Fix at write } ∷ []) ++ step ∷ []) ((told ++ replies.Fixed ∷ []) ++ reply ∷ []) → tells_fault reply ≡ false
   served_last p at write step reply mine is old new [] [] aside (mid, fixed, (last, here, ends)) served =
@@ -253,12 +262,12 @@ module _ {D : Type 0} (disk : Ghosts D) where
       served_last step.p at write step reply refl is old new it.holds.front it.holds.told it.holds.aside taken (law old new _ _ taken)
 
   -- an access after its fault was served
-  pub answers_served : (old mid last new : Whole D) (before between next after : Notes) (at : ℕ) (write : Bool) (step : Step) (fault reply : Reply) → is_aside step.act fault ≡ true
+  pub answers_served : (old mid last new : Whole D) (before between next after : Notes) (at : ℕ) (write : Bool) (step : Step) (fault reply : Reply) → IsAside step.p step fault
       → Makes disk old before (step ∷ []) (fault ∷ []) mid between → MakesStepsThat disk mid between (Serves step.p at write) last next → Makes disk last next (step ∷ []) (reply ∷ []) new after → AnswersAfter disk old before step reply new after
   answers_served old mid last new before between next after at write step fault reply aside first it made =
-      let S : List Step → Type 0 = λ l. AreAside l it.replies in
-      let T : List Reply → Type 0 = λ l. AreAside (it.holds.front ++ record { p = step.p; act = acts.Fix at write } ∷ []) l in
-      let front = aside_all it.holds.front it.holds.told (record { p = step.p; act = acts.Fix at write } ∷ []) (replies.Fixed ∷ []) it.holds.aside (refl, tt) in
+      let S : List Step → Type 0 = λ l. AreAside step.p l it.replies in
+      let T : List Reply → Type 0 = λ l. AreAside step.p (it.holds.front ++ record { p = step.p; act = acts.Fix at write } ∷ []) l in
+      let front = aside_all step.p it.holds.front it.holds.told (record { p = step.p; act = acts.Fix at write } ∷ []) (replies.Fixed ∷ []) it.holds.aside ((refl, refl), tt) in
       record {
         steps = step ∷ it.steps;
         replies = fault ∷ it.replies;
@@ -272,7 +281,7 @@ module _ {D : Type 0} (disk : Ghosts D) where
 module _ {D : Type 0} (disk : Ghosts D) where
   -- no frame could be made free for it
   pub unserved_vain : (old mid new : Whole D) (before between after : Notes) (p at : ℕ) (write : Bool) (answer : Reply) → tells_fixed answer ≡ false → Makes disk old before (fix_by p at write ∷ []) (answer ∷ []) mid between
-      → MakesStepsThat disk mid between (MakesRoom false) new after → MakesStepsThat disk old before (IsUnservedAside p at answer) new after
+      → MakesStepsThat disk mid between (MakesRoom p false) new after → MakesStepsThat disk old before (IsUnservedAside p at answer) new after
   unserved_vain old mid new before between after p at write answer not made room = record {
     steps = fix_by p at write ∷ room.steps;
     replies = answer ∷ room.replies;
@@ -281,23 +290,23 @@ module _ {D : Type 0} (disk : Ghosts D) where
   }
 
   module _ (old mid last new : Whole D) (before between next after : Notes) (p at : ℕ) (write : Bool) (first answer : Reply) where
-    all_made : Makes disk old before (fix_by p at write ∷ []) (first ∷ []) mid between → (room : MakesStepsThat disk mid between (MakesRoom true) last next) → Makes disk last next (fix_by p at write ∷ []) (answer ∷ []) new after
+    all_made : Makes disk old before (fix_by p at write ∷ []) (first ∷ []) mid between → (room : MakesStepsThat disk mid between (MakesRoom p true) last next) → Makes disk last next (fix_by p at write ∷ []) (answer ∷ []) new after
         → Makes disk old before (fix_by p at write ∷ (room.steps ++ fix_by p at write ∷ [])) (first ∷ (room.replies ++ answer ∷ [])) new after
     all_made made room again = makes_then disk old mid new before between after (fix_by p at write ∷ []) (first ∷ []) (room.steps ++ fix_by p at write ∷ []) (room.replies ++ answer ∷ []) made
         (makes_then disk mid last new between next after room.steps room.replies (fix_by p at write ∷ []) (answer ∷ []) room.makes again)
 
     -- one was, and it was served
-    pub serves_again : tells_fixed answer ≡ true → Makes disk old before (fix_by p at write ∷ []) (first ∷ []) mid between → MakesStepsThat disk mid between (MakesRoom true) last next → Makes disk last next (fix_by p at write ∷ []) (answer ∷ []) new after
+    pub serves_again : tells_fixed answer ≡ true → Makes disk old before (fix_by p at write ∷ []) (first ∷ []) mid between → MakesStepsThat disk mid between (MakesRoom p true) last next → Makes disk last next (fix_by p at write ∷ []) (answer ∷ []) new after
         → MakesStepsThat disk old before (Serves p at write) new after
     serves_again is made room again = record {
       steps = fix_by p at write ∷ (room.steps ++ fix_by p at write ∷ []);
       replies = first ∷ (room.replies ++ answer ∷ []);
       makes = all_made made room again;
-      holds = serves_later p at write answer is (fix_by p at write ∷ room.steps) (first ∷ room.replies) (refl, are_aside room.steps room.replies room.holds.0);
+      holds = serves_later p at write answer is (fix_by p at write ∷ room.steps) (first ∷ room.replies) ((refl, refl), are_aside p room.steps room.replies room.holds.0);
     }
 
     -- and it wasn't
-    pub unserved_after_room : tells_fixed first ≡ false → tells_fixed answer ≡ false → Makes disk old before (fix_by p at write ∷ []) (first ∷ []) mid between → MakesStepsThat disk mid between (MakesRoom true) last next
+    pub unserved_after_room : tells_fixed first ≡ false → tells_fixed answer ≡ false → Makes disk old before (fix_by p at write ∷ []) (first ∷ []) mid between → MakesStepsThat disk mid between (MakesRoom p true) last next
         → Makes disk last next (fix_by p at write ∷ []) (answer ∷ []) new after → MakesStepsThat disk old before (IsUnservedAside p at answer) new after
     unserved_after_room one not made room again = record {
       steps = fix_by p at write ∷ (room.steps ++ fix_by p at write ∷ []);

@@ -1,5 +1,5 @@
 -- What a session has noted is noted of the steps since its start.
-use Rattle.std.proofs.Common.{[], ◌∷◌, ◌++◌}
+use Rattle.std.proofs.Common.{List, [], ◌∷◌, ◌++◌}
 use Rattle.device.specs.declared.device.Device.{Ghosts}
 use Rattle.machine.specs.declared.act.Reply.{Reply}
 use Rattle.machine.specs.declared.act.Shape.{Shape}
@@ -7,6 +7,7 @@ use Rattle.machine.specs.declared.act.Step.{Step}
 use Rattle.machine.specs.State.{Whole}
 use Rattle.engine.specs.Engine.{HasStarted}
 use Rattle.session.specs.declared.notes.Notes.{Notes}
+use Rattle.session.specs.Ranges.{MakesStepsThat}
 use Rattle.session.specs.Sessions.{IsServing, no_notes}
 use Rattle.session.specs.Steps.{Makes}
 use Rattle.session.proofs.Stretches.{makes_none, makes_then}
@@ -26,5 +27,19 @@ served_more disk old new before after step reply (start, steps, replies, it) mak
     shape = it.shape;
     started = it.started;
     makes = makes_then disk start old new no_notes before after steps replies (step ∷ []) (reply ∷ []) it.makes makes;
+  },
+)
+
+-- after any more
+pub served_does : {D : Type 0} (disk : Ghosts D) (old new : Whole D) (before after : Notes) (what : List Step → List Reply → Type 0) → IsServing disk old before → MakesStepsThat disk old before what new after → IsServing disk new after
+served_does disk old new before after what (start, steps, replies, it) more = (
+  start,
+  steps ++ more.steps,
+  replies ++ more.replies,
+  record {
+    before = it.before;
+    shape = it.shape;
+    started = it.started;
+    makes = makes_then disk start old new no_notes before after steps replies more.steps more.replies it.makes more.makes;
   },
 )

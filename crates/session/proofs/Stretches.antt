@@ -1,5 +1,5 @@
 -- Steps after steps: what was made, and that it reads and stores nothing.
-use Rattle.std.proofs.Common.{◌≡◌, Bool, true, false, not, List, [], ◌∷◌, ◌++◌, refl, sym, ◌∙◌, ap, subst}
+use Rattle.std.proofs.Common.{◌≡◌, ℕ, Bool, true, false, not, List, [], ◌∷◌, ◌++◌, refl, sym, ◌∙◌, ap, subst}
 use Rattle.device.specs.declared.device.Device.{Ghosts}
 use Rattle.machine.specs.declared.act.Reply.{Reply}
 use Rattle.machine.specs.declared.act.Step.{Step}
@@ -34,11 +34,11 @@ makes_then disk old mid new before between after steps replies steps' replies' f
   notes = later.notes ∙ ap (λ n. noted_all n replies') first.notes ∙ sym (noted_then before replies replies');
 }
 
-pub aside_all : (steps : List Step) (replies : List Reply) (steps' : List Step) (replies' : List Reply) → AreAside steps replies → AreAside steps' replies' → AreAside (steps ++ steps') (replies ++ replies')
-aside_all [] [] steps' replies' first later = later
-aside_all (step ∷ steps) (reply ∷ replies) steps' replies' first later = (first.0, aside_all steps replies steps' replies' first.1 later)
-aside_all [] (reply ∷ replies) steps' replies' first later = absurd first
-aside_all (step ∷ steps) [] steps' replies' first later = absurd first
+pub aside_all : (p : ℕ) (steps : List Step) (replies : List Reply) (steps' : List Step) (replies' : List Reply) → AreAside p steps replies → AreAside p steps' replies' → AreAside p (steps ++ steps') (replies ++ replies')
+aside_all p [] [] steps' replies' first later = later
+aside_all p (step ∷ steps) (reply ∷ replies) steps' replies' first later = (first.0, aside_all p steps replies steps' replies' first.1 later)
+aside_all p [] (reply ∷ replies) steps' replies' first later = absurd first
+aside_all p (step ∷ steps) [] steps' replies' first later = absurd first
 
 -- ---- steps of which something holds
 

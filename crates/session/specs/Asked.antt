@@ -44,7 +44,7 @@ IsDoneFor (asks_steps wanted) steps replies = AreFirst wanted steps replies
 IsDoneFor (asks_load p va count) steps replies =
     (bytes : List ℕ) × (reached : Reached) × LoadsReached p va count bytes reached steps replies
 IsDoneFor (asks_store p va bytes) steps replies = (reached : Reached) × StoresReached p va bytes reached steps replies
-IsDoneFor (asks_commit p) steps replies = AreOfCommit steps replies
+IsDoneFor (asks_commit p) steps replies = AreOfCommit p steps replies
 IsDoneFor (asks_length p file length) steps replies = (reply : Reply) × AnswersLength p file length reply steps replies
 
 -- What was done for a line: nothing, or what it asks for.

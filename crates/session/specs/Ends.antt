@@ -6,7 +6,7 @@ use Rattle.machine.specs.declared.act.Act.TheVariants.{Load, Store, Fix, Reclaim
 use Rattle.machine.specs.declared.act.Reply.{Reply}
 use Rattle.machine.specs.declared.act.Reply.TheVariants.{Reclaimed, Kept, Refused}
 use Rattle.machine.specs.declared.act.Step.{Step}
-use Rattle.session.specs.Steps.{is_aside, tells_acked, tells_fixed, tells_reclaim, tells_resumed}
+use Rattle.session.specs.Steps.{is_aside, IsMadeFor, tells_acked, tells_fixed, tells_reclaim, tells_resumed}
 
 -- that an access met a page fault
 abbrev pub tells_fault : Reply → Bool
@@ -55,25 +55,32 @@ is_for_room Resume reply = tells_resumed reply
 is_for_room Flush reply = true
 is_for_room _ reply = false
 
-abbrev pub AreForRoom : List Step → List Reply → Type 0
-AreForRoom [] [] = ⊤
-AreForRoom (step ∷ steps) (reply ∷ replies) = (is_for_room step.act reply ≡ true) × AreForRoom steps replies
-AreForRoom steps replies = ⊥
+-- such a step of what processor p does
+abbrev pub IsForRoom : ℕ → Step → Reply → Type 0
+IsForRoom p step reply = (is_for_room step.act reply ≡ true) × IsMadeFor p step.p step.act
+
+abbrev pub AreForRoom : ℕ → List Step → List Reply → Type 0
+AreForRoom p [] [] = ⊤
+AreForRoom p (step ∷ steps) (reply ∷ replies) = IsForRoom p step reply × AreForRoom p steps replies
+AreForRoom p steps replies = ⊥
 
 -- such a step, by which none became free
 abbrev pub is_fruitless : Act → Reply → Bool
 is_fruitless Change reply = tells_kept reply
 is_fruitless act reply = is_for_room act reply
 
-abbrev pub AreFruitless : List Step → List Reply → Type 0
-AreFruitless [] [] = ⊤
-AreFruitless (step ∷ steps) (reply ∷ replies) = (is_fruitless step.act reply ≡ true) × AreFruitless steps replies
-AreFruitless steps replies = ⊥
+abbrev pub IsFruitless : ℕ → Step → Reply → Type 0
+IsFruitless p step reply = (is_fruitless step.act reply ≡ true) × IsMadeFor p step.p step.act
+
+abbrev pub AreFruitless : ℕ → List Step → List Reply → Type 0
+AreFruitless p [] [] = ⊤
+AreFruitless p (step ∷ steps) (reply ∷ replies) = IsFruitless p step reply × AreFruitless p steps replies
+AreFruitless p steps replies = ⊥
 
 -- A frame was made free by such steps, or none was.
-abbrev pub MakesRoom : Bool → List Step → List Reply → Type 0
-MakesRoom true steps replies = AreForRoom steps replies × Contains replies Reclaimed
-MakesRoom false steps replies = AreFruitless steps replies
+abbrev pub MakesRoom : ℕ → Bool → List Step → List Reply → Type 0
+MakesRoom p true steps replies = AreForRoom p steps replies × Contains replies Reclaimed
+MakesRoom p false steps replies = AreFruitless p steps replies
 
 -- A fault at this address isn't served: no fault is, the last attempt of processor p to serve one is at this address and
 -- answered so, and after it no frame became free.
@@ -81,7 +88,7 @@ abbrev pub IsUnserved : ℕ → ℕ → Reply → List Step → List Reply → T
 IsUnserved p at answer (step ∷ steps) (reply ∷ replies) =
     ((is_access step.act ≡ false) × (is_served step.act reply ≡ false) × IsUnserved p at answer steps replies)
     ⊎ ((step.p ≡ p) × (is_fix_at at step.act ≡ true) × (reply ≡ answer) × (tells_fixed answer ≡ false)
-    × AreFruitless steps replies)
+    × AreFruitless p steps replies)
 IsUnserved p at answer steps replies = ⊥
 
 -- Of these steps, the last load or store is of processor p at this address. It isn't made, and the answer is its reply,

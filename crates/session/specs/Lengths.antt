@@ -1,12 +1,12 @@
 -- How a processor sets the length of a file, and what it is answered.
-use Rattle.std.specs.Prelude.{ℕ, ◌≡◌, ◌⊎◌, Bool, true, false, List, [], ◌∷◌, ◌++◌}
+use Rattle.std.specs.Prelude.{ℕ, ◌≡◌, ◌≢◌, ◌⊎◌, Bool, true, false, ⊤, List, [], ◌∷◌, ◌++◌}
 use Rattle.page_entry.specs.declared.refusal.Refusal.TheVariants.{Busy, NoFrame}
 use Rattle.machine.specs.declared.act.Act.TheVariants.{SetLength, Ack, Change, Resume, Flush}
 use Rattle.machine.specs.declared.act.Reply.{Reply}
 use Rattle.machine.specs.declared.act.Reply.TheVariants.{Begun, Unmapped, Protected, Resized, Reclaimed, Kept, Marked, Acked, Resumed, Going, Committed, Done, Nothing, Refused}
 use Rattle.machine.specs.declared.act.Step.{Step}
 use Rattle.session.specs.Ends.{AreFruitless}
-use Rattle.session.specs.Steps.{is_aside}
+use Rattle.session.specs.Steps.{IsAside}
 
 -- that a change was begun
 abbrev pub tells_begun : Reply → Bool
@@ -46,11 +46,17 @@ abbrev pub change_replies : Reply → List ℕ → List Reply
 change_replies answer [] = answer ∷ []
 change_replies answer (other ∷ others) = Acked ∷ (change_replies answer others ++ Resumed ∷ [])
 
+-- processors other than p
+abbrev pub AreOthers : ℕ → List ℕ → Type 0
+AreOthers p [] = ⊤
+AreOthers p (other ∷ others) = (other ≢ p) × AreOthers p others
+
 -- A change that processor p began was made, and answered so. Those that it interrupted stalled before it, and went on
 -- after it.
 pub record AnswersChange (p : ℕ) (answer : Reply) (steps : List Step) (replies : List Reply) : Type 0 where
   pub made : tells_changed answer ≡ true
   pub others : List ℕ
+  pub differ : AreOthers p others
   pub steps_are : steps ≡ change_steps p others
   pub replies_are : replies ≡ change_replies answer others
 
@@ -70,7 +76,7 @@ tells_later _ = false
 -- a step before a length's change is begun: an attempt that is refused for a while, or one that reads and stores nothing
 abbrev pub IsTry : ℕ → ℕ → ℕ → Step → Reply → Type 0
 IsTry p file to step reply =
-    ((step ≡ set_length_by p file to) × (tells_later reply ≡ true)) ⊎ (is_aside step.act reply ≡ true)
+    ((step ≡ set_length_by p file to) × (tells_later reply ≡ true)) ⊎ IsAside p step reply
 
 -- It is begun, and the answer is that of its change.
 abbrev pub ChangesLength : ℕ → ℕ → ℕ → Reply → List Step → List Reply → Type 0
@@ -85,7 +91,7 @@ ChangesLength p file to answer steps replies = ⊥
 abbrev pub IsLeft : ℕ → Reply → Reply → List Step → List Reply → Type 0
 IsLeft p answer reply steps replies =
     ((reply ≡ answer) × (tells_begun answer ≡ false) × (tells_later answer ≡ false) × (steps ≡ []) × (replies ≡ []))
-    ⊎ ((reply ≡ Refused NoFrame) × (answer ≡ Refused NoFrame) × AreFruitless steps replies)
+    ⊎ ((reply ≡ Refused NoFrame) × (answer ≡ Refused NoFrame) × AreFruitless p steps replies)
     ⊎ ((reply ≡ Refused Busy) × (answer ≡ Refused Busy) × (steps ≡ flush_by p ∷ []) × (replies ≡ Nothing ∷ []))
     ⊎ ((reply ≡ Refused Busy) × (tells_refused answer ≡ true) × (steps ≡ flush_by p ∷ [])
     × (replies ≡ answer ∷ []))

@@ -1,5 +1,5 @@
 -- What steps a request makes, and what they are answered.
-use Rattle.std.specs.Prelude.{ℕ, ◌≡◌, ◌⊎◌, ◌+◌, ◌-◌, ◌^◌, min, Bool, true, false, not, ⊤, List, [], ◌∷◌, ◌++◌, length}
+use Rattle.std.specs.Prelude.{ℕ, ◌≡◌, ◌≢◌, ◌⊎◌, ◌+◌, ◌-◌, ◌^◌, min, Bool, true, false, not, ⊤, List, [], ◌∷◌, ◌++◌, length}
 use Rattle.device.specs.declared.device.Device.{Ghosts}
 use Rattle.machine.specs.declared.act.Act.{Act}
 use Rattle.machine.specs.declared.act.Act.TheVariants.{Load, Store, Fix, Reclaim, Msync, Ack, Change, Resume, Flush}
@@ -43,9 +43,17 @@ abbrev pub tells_resumed : Reply → Bool
 tells_resumed Resumed = true
 tells_resumed _ = false
 
+-- Who makes a step of what processor p does: the processors that a change of p interrupts stall before it and go on
+-- after it, and they are others than p; every other step is p's own.
+abbrev pub IsMadeFor : ℕ → ℕ → Act → Type 0
+IsMadeFor p maker Ack = maker ≢ p
+IsMadeFor p maker Resume = maker ≢ p
+IsMadeFor p maker act = maker ≡ p
+
 -- A step that reads and stores nothing: a load or a store that isn't made, or what makes one possible. It changes no
 -- mapping and no length, and makes no mark. A change is that of a page that was to leave memory; the others stall
--- before it and go on after it.
+-- before it and go on after it. (Where such a page's change is begun, it is made among the same steps: it holds the
+-- lock until it is made, and a request leaves the lock as it was, `KeepsPhases`.)
 abbrev pub is_aside : Act → Reply → Bool
 is_aside (Load va count) reply = not (tells_bytes reply)
 is_aside (Store va bytes) reply = not (tells_stored reply)
@@ -68,16 +76,22 @@ is_of_commit (Msync va len flags) reply = true
 is_of_commit Change reply = tells_mark reply
 is_of_commit act reply = is_aside act reply
 
-abbrev pub AreAside : List Step → List Reply → Type 0
-AreAside [] [] = ⊤
-AreAside (step ∷ steps) (reply ∷ replies) = (is_aside step.act reply ≡ true) × AreAside steps replies
-AreAside steps replies = ⊥
+-- such a step of what processor p does
+abbrev pub IsAside : ℕ → Step → Reply → Type 0
+IsAside p step reply = (is_aside step.act reply ≡ true) × IsMadeFor p step.p step.act
 
-abbrev pub AreOfCommit : List Step → List Reply → Type 0
-AreOfCommit [] [] = ⊤
-AreOfCommit (step ∷ steps) (reply ∷ replies) =
-    (is_of_commit step.act reply ≡ true) × AreOfCommit steps replies
-AreOfCommit steps replies = ⊥
+abbrev pub IsOfCommit : ℕ → Step → Reply → Type 0
+IsOfCommit p step reply = (is_of_commit step.act reply ≡ true) × IsMadeFor p step.p step.act
+
+abbrev pub AreAside : ℕ → List Step → List Reply → Type 0
+AreAside p [] [] = ⊤
+AreAside p (step ∷ steps) (reply ∷ replies) = IsAside p step reply × AreAside p steps replies
+AreAside p steps replies = ⊥
+
+abbrev pub AreOfCommit : ℕ → List Step → List Reply → Type 0
+AreOfCommit p [] [] = ⊤
+AreOfCommit p (step ∷ steps) (reply ∷ replies) = IsOfCommit p step reply × AreOfCommit p steps replies
+AreOfCommit p steps replies = ⊥
 
 -- the address that lies so far behind another one
 abbrev pub behind : ℕ → ℕ → ℕ
@@ -88,22 +102,22 @@ abbrev pub tells_fixed : Reply → Bool
 tells_fixed Fixed = true
 tells_fixed _ = false
 
--- Of a range from an address on, the bytes from one offset to another were loaded, piece by piece in order: these
--- bytes are what the loads among the steps were answered, and the other steps read and store nothing.
+-- Of a range from an address on, the bytes from one offset to another were loaded by processor p, piece by piece in
+-- order: these bytes are what the loads among the steps were answered, and the other steps read and store nothing.
 abbrev pub AreLoads : ℕ → ℕ → ℕ → ℕ → List Step → List Reply → List ℕ → Type 0
 AreLoads p va from to [] [] bytes = (from ≡ to) × (bytes ≡ [])
 AreLoads p va from to (step ∷ steps) (reply ∷ replies) bytes =
-    ((is_aside step.act reply ≡ true) × AreLoads p va from to steps replies bytes)
+    (IsAside p step reply × AreLoads p va from to steps replies bytes)
     ⊎ ((count : ℕ) × (few rest : List ℕ) × (step ≡ record { p = p; act = Load (behind va from) count })
     × (reply ≡ Bytes few) × (bytes ≡ few ++ rest) × AreLoads p va (from + count) to steps replies rest)
 AreLoads p va from to steps replies bytes = ⊥
 
--- Of a range from an address on, these bytes were stored from an offset on, piece by piece in order, and the other
--- steps read and store nothing.
+-- Of a range from an address on, these bytes were stored from an offset on by processor p, piece by piece in order, and
+-- the other steps read and store nothing.
 abbrev pub AreStores : ℕ → ℕ → ℕ → List Step → List Reply → List ℕ → Type 0
 AreStores p va from [] [] bytes = bytes ≡ []
 AreStores p va from (step ∷ steps) (reply ∷ replies) bytes =
-    ((is_aside step.act reply ≡ true) × AreStores p va from steps replies bytes)
+    (IsAside p step reply × AreStores p va from steps replies bytes)
     ⊎ ((few rest : List ℕ) × (step ≡ record { p = p; act = Store (behind va from) few })
     × (reply ≡ Stored) × (bytes ≡ few ++ rest) × AreStores p va (from + length few) steps replies rest)
 AreStores p va from steps replies bytes = ⊥

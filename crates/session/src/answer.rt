@@ -10,7 +10,7 @@ ghost use Rattle.session.specs.Requests.{asks_steps, asks_load, asks_store, asks
 
 use crate::ranges::Reached;
 use crate::request::Request;
-use crate::session::Session;
+use crate::requests::Requests;
 use crate::session_fault::SessionFault;
 use device::Device;
 use machine::{Reply, Step};
@@ -18,7 +18,7 @@ use page_entry::ProcessorNumber;
 use std::alloc::{AllocError, Allocator};
 use std::io;
 
-impl<D: Device, A: Allocator + Copy> Session<D, A> {
+impl<D: Device, A: Allocator + Copy> Requests<D, A> {
     /// Carries out a request, and writes the line that answers it.
     pub(crate) fn answer<W: io::Write>(
         &mut self,

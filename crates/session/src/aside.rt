@@ -14,7 +14,7 @@ ghost use Rattle.session.specs.Steps.{Makes, tells_fixed};
 ghost use Rattle.session.specs.inside.Aside.{Serves, IsUnservedAside};
 ghost use Rattle.session.specs.inside.Changing.{AreCalm, HoldsLock, IsOver, tells_made};
 
-use crate::session::Session;
+use crate::requests::Requests;
 use device::Device;
 use machine::{Act, ProcState, Reply, Step};
 use page_entry::{FilePage, ProcessorNumber, Refusal};
@@ -23,7 +23,7 @@ use std::alloc::Allocator;
 /// The most processors that a machine has.
 const PROCESSORS: u8 = 16;
 
-impl<D: Device, A: Allocator + Copy> Session<D, A> {
+impl<D: Device, A: Allocator + Copy> Requests<D, A> {
     /// Serves a fault of a processor, and makes a frame free for it where none is. Answers `Fixed`, or why it isn't
     /// served.
     pub(crate) fn fix(&mut self, p: ProcessorNumber, va: u64, write: bool) -> Reply
@@ -49,7 +49,7 @@ impl<D: Device, A: Allocator + Copy> Session<D, A> {
 
     /// Makes a frame free, if that can be done. Answers whether one is.
     pub(crate) fn make_room(&mut self, p: ProcessorNumber) -> bool
-        ensures room { MakesStepsThat D.Device self.old.machine self.old.notes (MakesRoom result)
+        ensures room { MakesStepsThat D.Device self.old.machine self.old.notes (MakesRoom p result)
             self.new.machine self.new.notes }
         ensures phases { KeepsPhases self.old.machine.state self.new.machine.state }
     {
@@ -61,7 +61,7 @@ impl<D: Device, A: Allocator + Copy> Session<D, A> {
 
     // Makes a frame free, once the write-outs are done: a page that belongs to one stays in memory until then.
     fn make_room_later(&mut self, p: ProcessorNumber) -> bool
-        ensures room { MakesStepsThat D.Device self.old.machine self.old.notes (MakesRoom result)
+        ensures room { MakesStepsThat D.Device self.old.machine self.old.notes (MakesRoom p result)
             self.new.machine self.new.notes }
         ensures phases { KeepsPhases self.old.machine.state self.new.machine.state }
     {
@@ -73,7 +73,7 @@ impl<D: Device, A: Allocator + Copy> Session<D, A> {
 
     // Takes the next page that is clean out of memory. Answers whether there was one.
     fn take_next_out(&mut self, p: ProcessorNumber) -> bool
-        ensures room { MakesStepsThat D.Device self.old.machine self.old.notes (MakesRoom result)
+        ensures room { MakesStepsThat D.Device self.old.machine self.old.notes (MakesRoom p result)
             self.new.machine self.new.notes }
         ensures phases { KeepsPhases self.old.machine.state self.new.machine.state }
     {
@@ -88,7 +88,7 @@ impl<D: Device, A: Allocator + Copy> Session<D, A> {
 
     // Makes all steps of the write-outs that are left. Answers whether there was one.
     fn write_home(&mut self, p: ProcessorNumber) -> bool
-        ensures fruitless { MakesStepsThat D.Device self.old.machine self.old.notes AreFruitless
+        ensures fruitless { MakesStepsThat D.Device self.old.machine self.old.notes (AreFruitless p)
             self.new.machine self.new.notes }
         ensures phases { KeepsPhases self.old.machine.state self.new.machine.state }
     {
@@ -114,7 +114,7 @@ impl<D: Device, A: Allocator + Copy> Session<D, A> {
 
     // Takes a page out of memory, if it is there and clean. Answers whether it was.
     fn take_out(&mut self, p: ProcessorNumber, page: FilePage) -> bool
-        ensures room { MakesStepsThat D.Device self.old.machine self.old.notes (MakesRoom result)
+        ensures room { MakesStepsThat D.Device self.old.machine self.old.notes (MakesRoom p result)
             self.new.machine self.new.notes }
         ensures phases { KeepsPhases self.old.machine.state self.new.machine.state }
     {
@@ -159,6 +159,7 @@ impl<D: Device, A: Allocator + Copy> Session<D, A> {
         if next >= PROCESSORS {
             return self.make_change(p);
         }
+        self.has_phases();
         if !self.is_interrupted(next) {
             return self.change_from(p, next + 1);
         }

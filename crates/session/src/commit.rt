@@ -10,13 +10,13 @@ ghost use Rattle.session.specs.Ranges.{MakesStepsThat};
 ghost use Rattle.session.specs.inside.Changing.{HasBegun};
 
 use crate::aside::{is_begun, is_flushed};
-use crate::session::Session;
+use crate::requests::Requests;
 use device::Device;
 use machine::{Act, MsyncFlags, Reply, Step};
 use page_entry::{ProcessorNumber, Refusal};
 use std::alloc::Allocator;
 
-impl<D: Device, A: Allocator + Copy> Session<D, A> {
+impl<D: Device, A: Allocator + Copy> Requests<D, A> {
     /// Commits all stores. Answers the number of the mark, which is durable; or what the step was answered that stopped
     /// the commit: a refusal, or that there was nothing to do.
     pub fn commit(&mut self, p: ProcessorNumber) -> Result<u32, Reply>

@@ -1,6 +1,7 @@
 // What a session notes of the steps that were made.
-ghost use Rattle.std.specs.Prelude.{◌≡◌, false};
-ghost use Rattle.session.specs.Notes.{noted_after, unmarked_by, failed_by};
+ghost use Rattle.std.specs.Prelude.{ℕ, ◌≡◌, false, List, length};
+ghost use Rattle.machine.specs.AtOnce.{store_replies};
+ghost use Rattle.session.specs.Notes.{noted_after, noted_all, unmarked_by, failed_by};
 
 use machine::Reply;
 use page_entry::Refusal;
@@ -32,6 +33,19 @@ impl Notes {
         Notes {
             has_unmarked: unmarked_by(self.has_unmarked, reply),
             has_failed: failed_by(self.has_failed, reply),
+        }
+    }
+}
+
+impl Notes {
+    /// These, and what is noted of so many stores.
+    pub(crate) fn after_stores(self, count: usize) -> Self
+        ensures { (bytes : List ℕ) → length bytes ≡ count → result ≡ noted_all self (store_replies bytes) }
+    {
+        if count == 0 {
+            self
+        } else {
+            self.after(&Reply::Stored)
         }
     }
 }

@@ -1,17 +1,18 @@
-// Ranges of addresses, loaded and stored in steps of up to eight bytes.
+// Ranges of addresses, loaded and stored: of each page a piece of up to eight bytes, for which its fault is served, and
+// then the rest at once, as far as that serves it.
 ghost use Rattle.std.specs.Prelude.{◌≡◌, ◌<◌, ◌≤◌, length, [], true, false, IfOk, IfErr, IfSome, IfNone, IsTrue};
 ghost use Rattle.machine.specs.declared.act.Reply.TheVariants as told;
 ghost use Rattle.session.specs.Ends.{tells_fault};
 ghost use Rattle.session.specs.Locks.{KeepsPhases};
 ghost use Rattle.session.specs.Steps.{tells_bytes, tells_stored, tells_fixed};
-ghost use Rattle.session.specs.inside.Aside.{StopsAt, AnswersAfter, IsAccessFor};
+ghost use Rattle.session.specs.inside.Aside.{StopsAt, AnswersAfter, IsAccessFor, LoadsOn};
 ghost use Rattle.session.specs.Ranges.{MakesStepsThat, LoadsReached, StoresReached};
 
-use crate::session::Session;
+use crate::requests::Requests;
 use device::Device;
 use machine::{Act, FewBytes, Reply, Step, faults_are_served};
 use page_entry::{PAGE, ProcessorNumber, Refusal};
-use std::alloc::Allocator;
+use std::alloc::{AllocError, Allocator};
 
 /// How far a range was loaded or stored.
 #[derive(Clone, Copy)]
@@ -24,7 +25,7 @@ pub enum Reached {
     NoMemory,
 }
 
-impl<D: Device, A: Allocator + Copy> Session<D, A> {
+impl<D: Device, A: Allocator + Copy> Requests<D, A> {
     /// Loads so many bytes from an address on.
     pub fn load(
         &mut self,
@@ -63,6 +64,10 @@ impl<D: Device, A: Allocator + Copy> Session<D, A> {
                 return Reached::NoMemory;
             }
             done += few;
+            match self.load_on(p, va, done, count - done, bytes) {
+                Ok(more) => done += more,
+                Err(_) => return Reached::NoMemory,
+            }
         }
         Reached::All
     }
@@ -95,8 +100,31 @@ impl<D: Device, A: Allocator + Copy> Session<D, A> {
                 };
             }
             done += few;
+            let next = va.saturating_add(done as u64);
+            let more = self.store_run(p, next, &bytes[done..]);
+            done += more;
         }
         Reached::All
+    }
+
+    // Loads on at once, from the byte of this number of a range, of which so many are left. Answers how many were
+    // loaded.
+    fn load_on(
+        &self,
+        p: ProcessorNumber,
+        va: u64,
+        done: usize,
+        left: usize,
+        bytes: &mut Vec<u8, A>,
+    ) -> Result<usize, AllocError>
+        ensures loads { IfOk result (λ more. LoadsOn D.Device self.now.machine self.now.notes p va done more
+            bytes.old.items bytes.new.items) }
+        ensures few { IfOk result (λ more. more ≤ left) }
+    {
+        let from = va.saturating_add(done as u64);
+        let run = self.load_run(p, from, left);
+        bytes.extend_from_slice(run)?;
+        Ok(run.len())
     }
 
     // Makes a load or a store at an address, and serves its fault. Answers what it is answered in the end, which is no

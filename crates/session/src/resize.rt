@@ -11,13 +11,13 @@ ghost use Rattle.session.specs.inside.Made.{BeginsLength, AttemptsLength};
 
 use crate::aside::{is_begun, is_flushed, is_no_frame};
 use crate::commit::{is_busy, is_nothing};
-use crate::session::Session;
+use crate::requests::Requests;
 use device::Device;
 use machine::{Act, Reply, Step};
 use page_entry::ProcessorNumber;
 use std::alloc::Allocator;
 
-impl<D: Device, A: Allocator + Copy> Session<D, A> {
+impl<D: Device, A: Allocator + Copy> Requests<D, A> {
     /// Sets the length of a file. Answers what the change was answered; or, where none was begun, what the last step
     /// was answered that would have begun it: `Fine` where the file has this length already, or why it isn't set. Where
     /// that step was busy, and the step of the write-outs that would be made for it was refused, it answers that

@@ -1,31 +1,37 @@
-// A session: a machine, and what has to be known of the steps that were made on it.
-ghost use Rattle.std.specs.Prelude.{◌≡◌, List, [], ◌∷◌, IfOk, IfErr};
+// A session: a machine on which requests are carried out, reached by steps from its start.
+ghost use Rattle.std.specs.Prelude.{◌≡◌, true, List, [], ◌∷◌, IfOk, IfErr, OnOk};
 ghost use Rattle.volume_codec.specs.Files.{File};
 ghost use Rattle.volume_codec.specs.Recovery.{RecoversTo};
-ghost use Rattle.shootdown.specs.Shootdown.{IsShootdown};
 ghost use Rattle.engine.specs.Engine.{HasStarted, HasNotStarted};
+ghost use Rattle.session.specs.Answers.{WritesAnswer};
+ghost use Rattle.session.specs.Asked.{asked, IsDoneFor};
+ghost use Rattle.session.specs.Commits.{CommitsMark, StopsCommit, tells_unmade};
 ghost use Rattle.session.specs.Files.{AreFiles, AreListed};
+ghost use Rattle.session.specs.Lengths.{AnswersLength};
+ghost use Rattle.session.specs.Locks.{KeepsPhases, KeepsPhasesFor};
+ghost use Rattle.session.specs.Ranges.{MakesStepsThat, LoadsReached, StoresReached};
 ghost use Rattle.session.specs.Sessions.{IsServing, no_notes};
 ghost use Rattle.session.specs.Steps.{Makes};
 
 use crate::files::Files;
 use crate::notes::Notes;
+use crate::ranges::Reached;
+use crate::request::Request;
+use crate::requests::Requests;
+use crate::session_fault::SessionFault;
 use device::Device;
 use machine::{Machine, Reply, Shape, Step};
-use page_entry::{FilePage, Refusal};
-use recovery::opened_as_recovered;
+use page_entry::{ProcessorNumber, Refusal};
 use std::alloc::Allocator;
+use std::io;
 use std::marker::Model;
 
-/// A machine on which requests are carried out.
+/// A machine on which requests are carried out, and no other steps are made.
 ///
 /// Contracts see the machine, what is noted of the steps that were made on it since it was started, and the files.
 #[derive(Drop)]
 pub struct Session<D: Device, A: Allocator + Copy> {
-    machine: Machine<D, A>,
-    // What was noted of the steps that were made.
-    notes: Notes,
-    files: Files<A>,
+    requests: Requests<D, A>,
 }
 
 impl<D: Device, A: Allocator + Copy> Model for Session<D, A> {
@@ -37,9 +43,9 @@ impl<D: Device, A: Allocator + Copy> Model for Session<D, A> {
 
     ghost coded = { Prim.hlevel (codes, map_code, D.code) };
 
-    ghost view = { λ s. record { machine = s.machine; notes = s.notes; files = s.files } };
+    ghost view = { λ s. s.requests };
 
-    ghost invariant = { λ s. IsServing D.Device s.machine s.notes };
+    ghost invariant = { λ s. IsServing D.Device s.requests.machine s.requests.notes };
 }
 
 /// Opens the volume of a device, and boots a machine of this shape over it. The session lists the files of the volume
@@ -61,41 +67,9 @@ pub fn start<D: Device, A: Allocator + Copy>(
     ensures nothing { IfOk result (λ session. session.notes ≡ no_notes) }
     ensures refused { IfErr result (λ refused. HasNotStarted D.Device device shape refused.1 refused.0) }
 {
-    match open_and_boot(alloc, device, shape) {
-        Ok(session) => {
-            opened_as_recovered(session.machine().device());
-            Ok(session)
-        }
+    match Requests::start(alloc, device, shape) {
+        Ok(requests) => Ok(Session { requests }),
         Err(refused) => Err(refused),
-    }
-}
-
-fn open_and_boot<D: Device, A: Allocator + Copy>(
-    alloc: A,
-    device: D,
-    shape: Shape,
-) -> Result<Session<D, A>, (Refusal, D)>
-    ensures started { IfOk result (λ session. HasStarted D.Device device shape session.machine) }
-    ensures files { IfOk result (λ session. AreFiles session.machine.state.table session.machine.state.lengths
-        session.files.lines.items) }
-    ensures nothing { IfOk result (λ session. session.notes ≡ no_notes) }
-    ensures refused { IfErr result (λ refused. HasNotStarted D.Device device shape refused.1 refused.0) }
-{
-    let volume = match recovery::open(alloc, device) {
-        Ok(volume) => volume,
-        Err(refused) => return Err(refused),
-    };
-    let files = Files::of(alloc, &volume);
-    match Machine::boot(alloc, volume, shape) {
-        Ok(machine) => match files {
-            Ok(files) => Ok(Session {
-                machine,
-                notes: Notes::new(),
-                files,
-            }),
-            Err(_) => Err((Refusal::OutOfMemory, machine.into_device())),
-        },
-        Err((refusal, volume)) => Err((refusal, volume.into_device())),
     }
 }
 
@@ -105,47 +79,95 @@ impl<D: Device, A: Allocator + Copy> Session<D, A> {
         ensures { Makes D.Device self.old.machine self.old.notes (step.now ∷ []) (result ∷ []) self.new.machine
             self.new.notes }
     {
-        let reply = self.machine.enter(step);
-        self.notes = self.notes.after(&reply);
-        reply
+        self.requests.make(step)
     }
-}
 
-impl<D: Device, A: Allocator + Copy> Session<D, A> {
+    /// Loads so many bytes from an address on.
+    pub fn load(
+        &mut self,
+        p: ProcessorNumber,
+        va: u64,
+        count: usize,
+        bytes: &mut Vec<u8, A>,
+    ) -> Reached
+        requires { bytes.old.items ≡ [] }
+        ensures reached { MakesStepsThat D.Device self.old.machine self.old.notes
+            (LoadsReached p va count bytes.new.items result) self.new.machine self.new.notes }
+        ensures phases { KeepsPhases self.old.machine.state self.new.machine.state }
+    {
+        self.requests.load(p, va, count, bytes)
+    }
+
+    /// Stores bytes from an address on.
+    pub fn store(&mut self, p: ProcessorNumber, va: u64, bytes: &[u8]) -> Reached
+        ensures reached { MakesStepsThat D.Device self.old.machine self.old.notes (StoresReached p va bytes.now result)
+            self.new.machine self.new.notes }
+        ensures phases { KeepsPhases self.old.machine.state self.new.machine.state }
+    {
+        self.requests.store(p, va, bytes)
+    }
+
+    /// Commits all stores. Answers the number of the mark, which is durable; or what the step was answered that stopped
+    /// the commit: a refusal, or that there was nothing to do.
+    pub fn commit(&mut self, p: ProcessorNumber) -> Result<u32, Reply>
+        ensures ok { IfOk result (λ mark. MakesStepsThat D.Device self.old.machine self.old.notes
+            (CommitsMark p self.old.notes mark) self.new.machine self.new.notes) }
+        ensures err { IfErr result (λ reply. MakesStepsThat D.Device self.old.machine self.old.notes
+            (StopsCommit p self.old.notes reply) self.new.machine self.new.notes) }
+        ensures unmade { IfErr result (λ reply. tells_unmade reply ≡ true) }
+        ensures phases { KeepsPhases self.old.machine.state self.new.machine.state }
+    {
+        self.requests.commit(p)
+    }
+
+    /// Sets the length of a file. Answers what the change was answered; or, where none was begun, what the last step
+    /// was answered that would have begun it: `Fine` where the file has this length already, or why it isn't set. Where
+    /// that step was busy, and the step of the write-outs that would be made for it was refused, it answers that
+    /// refusal. A new length isn't committed by that.
+    pub fn set_length(&mut self, p: ProcessorNumber, file: u16, length: u64) -> Reply
+        ensures answers { MakesStepsThat D.Device self.old.machine self.old.notes (AnswersLength p file length result)
+            self.new.machine self.new.notes }
+        ensures phases { KeepsPhases self.old.machine.state self.new.machine.state }
+    {
+        self.requests.set_length(p, file, length)
+    }
+
+    /// Carries out a request, and writes the line that answers it.
+    pub(crate) fn answer<W: io::Write>(
+        &mut self,
+        alloc: A,
+        request: &Request<A>,
+        out: &mut W,
+    ) -> Result<(), SessionFault>
+        ensures does { MakesStepsThat D.Device self.old.machine self.old.notes (IsDoneFor (asked request.now))
+            self.new.machine self.new.notes }
+        ensures answers { OnOk result (MakesStepsThat D.Device self.old.machine self.old.notes
+            (WritesAnswer self.old.notes (asked request.now) (W.contents out.old) (W.contents out.new))
+            self.new.machine self.new.notes) }
+        ensures phases { KeepsPhasesFor (asked request.now) self.old.machine.state self.new.machine.state }
+    {
+        self.requests.answer(alloc, request, out)
+    }
+
     /// The machine on which the steps are made.
     pub fn machine(&self) -> &Machine<D, A>
         ensures { result.now ≡ self.now.machine }
     {
-        &self.machine
+        self.requests.machine()
     }
 
     /// What was noted of the steps that were made.
     pub fn notes(&self) -> Notes
         ensures { result ≡ self.now.notes }
     {
-        self.notes
-    }
-
-    // The page that is to be taken out of memory next.
-    pub(crate) fn turn(&mut self) -> FilePage
-        ensures machine { self.new.machine ≡ self.old.machine }
-        ensures notes { self.new.notes ≡ self.old.notes }
-    {
-        self.files.turn()
+        self.requests.notes()
     }
 
     /// The volume's files.
     pub fn files(&self) -> &Files<A>
         ensures { result.now ≡ self.now.files }
     {
-        &self.files
-    }
-
-    // One change at most is under way on the machine, and the phases of its processors fit together.
-    pub(crate) fn has_phases(&self)
-        ensures { IsShootdown self.now.machine.state.hardware.shootdown }
-    {
-        self.machine.is_coherent();
+        self.requests.files()
     }
 
     /// Of every session: its machine was started over a device, and from there steps and their replies led to it, of
@@ -153,14 +175,14 @@ impl<D: Device, A: Allocator + Copy> Session<D, A> {
     pub fn has_served(&self)
         ensures { IsServing D.Device self.now.machine self.now.notes }
     {
-        self.machine.is_coherent();
+        self.requests.has_phases();
     }
 
     /// The device, as it is.
     pub fn into_device(self) -> D
         ensures { result ≡ self.machine.device }
     {
-        let Session { machine, .. } = self;
-        machine.into_device()
+        let Session { requests } = self;
+        requests.into_device()
     }
 }

@@ -1,5 +1,5 @@
 -- Steps that read and store nothing.
-use Rattle.std.specs.Prelude.{ℕ, ◌≡◌, Bool, true, ⊤, List, [], ◌∷◌, ◌++◌}
+use Rattle.std.specs.Prelude.{ℕ, ◌≡◌, ◌+◌, Bool, true, ⊤, List, [], ◌∷◌, ◌++◌}
 use Rattle.device.specs.declared.device.Device.{Ghosts}
 use Rattle.machine.specs.declared.act.Act.{Act}
 use Rattle.machine.specs.declared.act.Act.TheVariants.{Load, Store, Fix}
@@ -9,7 +9,7 @@ use Rattle.machine.specs.declared.act.Step.{Step}
 use Rattle.machine.specs.State.{Whole}
 use Rattle.session.specs.declared.notes.Notes.{Notes}
 use Rattle.session.specs.Ends.{IsUnserved, EndsRange}
-use Rattle.session.specs.Steps.{Makes, AreAside}
+use Rattle.session.specs.Steps.{Makes, AreAside, AreLoads}
 
 -- a load at this address, or a store there for whose faults a right to write is asked
 abbrev pub IsAccessFor : ℕ → Bool → Act → Type 0
@@ -29,19 +29,19 @@ pub record AnswersAfter {D : Type 0} (disk : Ghosts D) (old : Whole D) (before :
   pub steps : List Step
   pub replies : List Reply
   pub makes : Makes disk old before (steps ++ step ∷ []) (replies ++ reply ∷ []) new after
-  pub aside : AreAside steps replies
+  pub aside : AreAside step.p steps replies
 
 -- A fault of processor p at this address was served by the last of these steps; the others read and store nothing.
 pub record Serves (p va : ℕ) (write : Bool) (steps : List Step) (replies : List Reply) : Type 0 where
   pub front : List Step
   pub told : List Reply
-  pub aside : AreAside front told
+  pub aside : AreAside p front told
   pub steps_are : steps ≡ front ++ record { p = p; act = Fix va write } ∷ []
   pub replies_are : replies ≡ told ++ Fixed ∷ []
 
 -- It wasn't, and the steps read and store nothing.
 abbrev pub IsUnservedAside : ℕ → ℕ → Reply → List Step → List Reply → Type 0
-IsUnservedAside p at answer steps replies = AreAside steps replies × IsUnserved p at answer steps replies
+IsUnservedAside p at answer steps replies = AreAside p steps replies × IsUnserved p at answer steps replies
 
 -- Steps were made that read and store nothing, and they end a range at this address with this answer.
 pub record StopsAt {D : Type 0} (disk : Ghosts D) (old : Whole D) (before : Notes) (p at : ℕ) (reply : Reply)
@@ -49,5 +49,15 @@ pub record StopsAt {D : Type 0} (disk : Ghosts D) (old : Whole D) (before : Note
   pub steps : List Step
   pub replies : List Reply
   pub makes : Makes disk old before steps replies new after
-  pub aside : AreAside steps replies
+  pub aside : AreAside p steps replies
   pub ends : EndsRange p at reply steps replies
+
+-- Of a range, so many bytes more were loaded from this one on, and the machine stays as it is.
+pub record LoadsOn {D : Type 0} (disk : Ghosts D) (machine : Whole D) (notes : Notes) (p va done more : ℕ)
+    (old new : List ℕ) : Type 0 where
+  pub steps : List Step
+  pub replies : List Reply
+  pub makes : Makes disk machine notes steps replies machine notes
+  pub bytes : List ℕ
+  pub loads : AreLoads p va done (done + more) steps replies bytes
+  pub new_is : new ≡ old ++ bytes

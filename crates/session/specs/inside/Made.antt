@@ -38,5 +38,5 @@ abbrev pub AttemptsLength : ℕ → ℕ → ℕ → Reply → List Step → List
 AttemptsLength p file to answer (step ∷ steps) (reply ∷ replies) =
     (IsTry p file to step reply × AttemptsLength p file to answer steps replies)
     ⊎ ((step ≡ set_length_by p file to) × (reply ≡ answer) × (((steps ≡ []) × (replies ≡ []))
-    ⊎ ((answer ≡ Refused NoFrame) × AreFruitless steps replies)))
+    ⊎ ((answer ≡ Refused NoFrame) × AreFruitless p steps replies)))
 AttemptsLength p file to answer steps replies = ⊥

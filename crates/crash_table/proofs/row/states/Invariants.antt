@@ -1,7 +1,13 @@
-use Rattle.std.proofs.Common.{Contains}
-use Rattle.crash_table.specs.Trials.{LeavesSome}
+use Rattle.std.proofs.Common.{◌≡◌, map, take}
+use Rattle.std.specs.List.{Contains}
+use Rattle.crash_table.specs.Choices.{left_by}
+use Rattle.crash_table.specs.Trials.{Leaves}
 use Rattle.crash_table.specs.declared.row.Found.{Found}
+use Rattle.crash_table.specs.inside.Contents.{content_of}
 use Rattle.crash_table.proofs.row.states.Given as goal
 
 abbrev pub invariant-loop-choice : goal.invariant-loop-choice
-invariant-loop-choice g l = (found : Found) → Contains l.states.items found → LeavesSome l.trial l.number found.mark
+invariant-loop-choice g l = record {
+  each : (found : Found) → Contains l.states.items found → Leaves l.trial l.number (left_by found.choice (content_of l.contents)) found.mark;
+  named : map (λ (f : Found). f.choice) l.states.items ≡ take l.choice-index l.choice-items;
+}

@@ -1,7 +1,11 @@
+use Rattle.std.proofs.Common.{ℕ, ◌≡◌, ◌∙◌, ◌++◌, List, length, take, drop, sym, ap, subst, arith}
+use Rattle.std.proofs.Math.Seq.{take-append_seam}
+use Rattle.service.specs.Gathering.{CpuState}
+use Rattle.driver.specs.inside.Begun.{AreReady}
 use Rattle.machine.specs.State.{Whole}
 use Rattle.service.specs.Trace.{steps_of, replies_of}
 use Rattle.driver.specs.declared.running.Ran.{Ran}
-use Rattle.driver.specs.Driver.{RunsFrom}
+use Rattle.driver.specs.Driver.{AreSetUp, RunsFrom}
 use Rattle.driver.proofs.Runs.{of_the_one}
 use Rattle.driver.proofs.running.serve.Goals as goal
 
@@ -9,3 +13,21 @@ pub returns-in-Ok-clause-ran : goal.returns-in-Ok-clause-ran
 returns-in-Ok-clause-ran g c =
     let P : Whole g.row.D.Denot → Ran g.row.D.Denot → Type 0 = λ start ran. RunsFrom g.D.Device start (steps_of ran.trace.items) (replies_of ran.trace.items) ran.device in
     of_the_one c.gathered.result g.L.Origin.start P c.args.machine c.requires.origin.0 c.gathered.ensures.ran
+
+pub returns-in-Ok-clause-set_up : goal.returns-in-Ok-clause-set_up
+returns-in-Ok-clause-set_up g c =
+    let script = c.args.script.now in
+    let count : Whole g.row.D.Denot → ℕ = λ start. length start.state.hardware.shootdown.processors in
+    let P : Whole g.row.D.Denot → Ran g.row.D.Denot → Type 0 =
+    λ start ran. AreSetUp (count start) script.steps.items script.trace ran.trace.items in
+    of_the_one c.gathered.result g.L.Origin.start P c.args.machine c.requires.origin.0 c.gathered.ensures.set_up
+
+pub gathered-requires-clause-ready : goal.gathered-requires-clause-ready
+gathered-requires-clause-ready g c =
+    let script = c.args.script.now in
+    let old = c.in-Ok.cpus.items in
+    let new = c.carried_out-ran_out.new.cpus in
+    let rest = drop (length new) old in
+    let same : c.in-Ok.cpus.len ≡ length new = grind (arith, c.carried_out-ran_out.auto.cpus, c.deref_mut.ensures.len, c.deref_mut.ensures.value) in
+    let all : take c.in-Ok.cpus.len (new ++ rest) ≡ new = ap (λ (n : ℕ). take n (new ++ rest)) same ∙ take-append_seam new rest in
+    subst (λ (cpus : List CpuState). AreReady script.steps.items script.trace cpus) (sym all) c.carried_out-ran_out.ensures

@@ -29,12 +29,12 @@ returns g c =
     let count : length c.args.self.now.calls ≡ calls = sym (ap (λ (t : TrialValue). length t.calls) c.self.view_is) in
     let up : IsUpTo calls fails steps replies after = record {
       failed = λ some le.
-          let is = c.is_up_to-is_up_to_call.ensures.failed c.if-not-is_up_to_call.false some (omega (arith, le, count)) in
+          let is = (c.is_up_to-is_up_to_call.ensures.failed some (omega (arith, le, count))).0 c.if-not-is_up_to_call.false in
           (sym c.calls.ensures ∙ is.0, sym c.faults.ensures ∙ is.1);
       whole = λ none.
           let P : ℕ → Type 0 = λ n. (fails ≡ 0) ⊎ (n < fails) in
           let end = c.is_up_to-is_up_to_call.ensures in
-          let is = ⊎_elim (end.none c.if-not-is_up_to_call.false) (end.past c.if-not-is_up_to_call.false) (subst P (sym count) none) in
+          let is = ⊎_elim (λ (e : fails ≡ 0). (end.none e).0 c.if-not-is_up_to_call.false) (λ (e : length c.args.self.now.calls < fails). (end.past e).0 c.if-not-is_up_to_call.false) (subst P (sym count) none) in
           (sym c.faults.ensures ∙ is.0, sym c.in_ok-disk.replies.ok.0 ∙ sym c.len.ensures ∙ is.1 ∙ sym (ap (λ (t : TrialValue). length t.steps) c.self.view_is));
     } in
     let E : Failing Recorded → Type 0 = λ d. HasEnded failing_memory d shape steps replies after in

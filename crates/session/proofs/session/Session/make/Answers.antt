@@ -1,4 +1,4 @@
-use Rattle.std.proofs.Common.{[], ◌∷◌, refl, subst}
+use Rattle.std.proofs.Common.{[], ◌∷◌, subst}
 use Rattle.session.specs.Sessions.{SessionState}
 use Rattle.session.specs.Steps.{Makes}
 use Rattle.session.proofs.Serves.{served_more}
@@ -7,10 +7,9 @@ use Rattle.session.proofs.session.Session.make.Goals as goal
 pub invariant_of-self : goal.invariant_of-self
 invariant_of-self g c =
     let inside = c.self.inside in
-    served_more g.D.Device inside.machine c.enter-reply.new.self inside.notes c.after-self-inside.result c.args.step.now c.enter-reply.result c.self.invariant
-    (record { taken = (c.enter-reply.new.self, c.enter-reply.ensures.taken, refl); notes = c.after-self-inside.ensures })
+    served_more g.D.Device inside.requests.machine c.make.new.self.machine inside.requests.notes c.make.new.self.notes c.args.step.now c.make.result c.self.invariant c.make.ensures
 
 pub returns : goal.returns
 returns g c =
-    let P : SessionState g.row.D.Denot g.row.A.Denot → Type 0 = λ s. Makes g.D.Device s.machine s.notes (c.args.step.now ∷ []) (c.enter-reply.result ∷ []) c.enter-reply.new.self c.after-self-inside.result in
-    subst P c.self.view_is (record { taken = (c.enter-reply.new.self, c.enter-reply.ensures.taken, refl); notes = c.after-self-inside.ensures })
+    let P : SessionState g.row.D.Denot g.row.A.Denot → Type 0 = λ s. Makes g.D.Device s.machine s.notes (c.args.step.now ∷ []) (c.make.result ∷ []) c.make.new.self.machine c.make.new.self.notes in
+    subst P c.self.view_is c.make.ensures

@@ -1,26 +1,20 @@
-use Rattle.std.proofs.Common.{inl, inr, sym}
-use Rattle.session.proofs.Lengths.{begins_then}
-use Rattle.session.proofs.Phases.{begun_over}
-use Rattle.session.proofs.Pieces.{does_more}
-use Rattle.session.proofs.Stretches.{does_then}
+use Rattle.std.proofs.Common.{subst}
+use Rattle.session.specs.Locks.{KeepsPhases}
+use Rattle.session.specs.Ranges.{MakesStepsThat}
+use Rattle.session.specs.Lengths.{AnswersLength}
+use Rattle.session.specs.Sessions.{SessionState}
+use Rattle.session.proofs.Serves.{served_does}
 use Rattle.session.proofs.session.Session.set_length.Goals as goal
 
-pub returns-then-not-is_begun-clause-answers : goal.returns-then-not-is_begun-clause-answers
-returns-then-not-is_begun-clause-answers g c = does_more g.D.Device _ _ _ _ _ _ (λ steps replies it. inr it) (c.begin_length-begun.ensures.refuses (sym c.if-not-is_begun.ensures))
-
-pub returns-then-not-is_begun-clause-phases : goal.returns-then-not-is_begun-clause-phases
-returns-then-not-is_begun-clause-phases g c = c.begin_length-begun.ensures.phases (sym c.if-not-is_begun.ensures)
-
-pub change-requires : goal.change-requires
-change-requires g c = (_, (c.begin_length-begun.ensures.held (sym c.if-not-is_begun.ensures)).held)
+pub invariant_of-self : goal.invariant_of-self
+invariant_of-self g c = served_does g.D.Device _ _ _ _ _ c.self.invariant c.set_length.ensures.answers
 
 pub returns-clause-answers : goal.returns-clause-answers
 returns-clause-answers g c =
-    let p = c.args.p in
-    let file = c.args.file in
-    let to = c.args.length in
-    let begun = c.begin_length-begun.ensures.begins (sym c.if-not-is_begun.ensures) in
-    does_then g.D.Device _ _ _ _ _ _ _ _ _ (λ steps replies steps' replies' first later. inl (begins_then p file to _ steps replies steps' replies' first later)) begun c.change.ensures.answers
+    let P : SessionState g.row.D.Denot g.row.A.Denot → Type 0 = λ s. MakesStepsThat g.D.Device s.machine s.notes (AnswersLength c.args.p c.args.file c.args.length c.set_length.result) c.set_length.new.self.machine c.set_length.new.self.notes in
+    subst P c.self.view_is c.set_length.ensures.answers
 
 pub returns-clause-phases : goal.returns-clause-phases
-returns-clause-phases g c = begun_over _ _ _ _ _ (c.begin_length-begun.ensures.held (sym c.if-not-is_begun.ensures)) c.change.ensures.over
+returns-clause-phases g c =
+    let P : SessionState g.row.D.Denot g.row.A.Denot → Type 0 = λ s. KeepsPhases s.machine.state c.set_length.new.self.machine.state in
+    subst P c.self.view_is c.set_length.ensures.phases

@@ -1,50 +1,19 @@
-use Rattle.std.proofs.Common.{◌≡◌, ℕ, ◌+◌, ◌-◌, not, [], ◌++◌, length, length-take, take, drop, refl, sym, ◌∙◌, ap, subst, arith}
-use Rattle.std.proofs.lemmas.List.{take_all}
-use Rattle.std.proofs.Math.Seq.{take-add}
-use Rattle.machine.specs.declared.act.Act.TheVariants.{Store}
-use Rattle.machine.specs.declared.act.Reply.{Reply}
-use Rattle.session.specs.Steps.{behind}
-use Rattle.session.specs.inside.Aside.{StopsAt, AnswersAfter}
-use Rattle.session.proofs.Pieces.{stores_more, stores_refused, stores_all}
-use Rattle.session.proofs.Phases.{keeps_none, keeps_then}
-use Rattle.session.proofs.Rooms.{same, stops_answered}
-use Rattle.session.proofs.Stretches.{makes_none}
+use Rattle.std.proofs.Common.{subst}
+use Rattle.session.specs.Locks.{KeepsPhases}
+use Rattle.session.specs.Ranges.{MakesStepsThat, StoresReached}
+use Rattle.session.specs.Sessions.{SessionState}
+use Rattle.session.proofs.Serves.{served_does}
 use Rattle.session.proofs.session.Session.store.Goals as goal
 
-pub loop-done-init : goal.loop-done-init
-loop-done-init g c = (omega arith, record { steps = []; replies = []; makes = makes_none g.D.Device _ _; holds = refl }, keeps_none _)
-
-pub returns-in-Err-clause-reached : goal.returns-in-Err-clause-reached
-returns-in-Err-clause-reached g c =
-    let P : ℕ → Type 0 = λ at. StopsAt g.D.Device c.loop-done.self.machine c.loop-done.self.notes c.args.p at c.in-Err.reply c.access.new.self.machine c.access.new.self.notes in
-    stores_refused g.D.Device _ _ _ _ _ _ c.args.p c.args.va c.loop-done.done c.args.bytes.now c.in-Err.reply (omega (arith, c.loop-done-test.true)) c.loop-done.invariant.1 (subst P c.saturating_add-from.ensures c.in-Err.ensures.err)
-
-pub returns-then-not-is_stored-clause-reached : goal.returns-then-not-is_stored-clause-reached
-returns-then-not-is_stored-clause-reached g c =
-    let P : ℕ → Type 0 = λ at. StopsAt g.D.Device c.loop-done.self.machine c.loop-done.self.notes c.args.p at c.in-Ok.answer c.access.new.self.machine c.access.new.self.notes in
-    stores_refused g.D.Device _ _ _ _ _ _ c.args.p c.args.va c.loop-done.done c.args.bytes.now c.in-Ok.answer (omega (arith, c.loop-done-test.true)) c.loop-done.invariant.1 (subst P c.saturating_add-from.ensures
-    (stops_answered g.D.Device _ _ _ _ _ c.saturating_add-from.result _ (ap not (sym c.if-not-is_stored.ensures.value)) (same c.saturating_add-from.result) c.in-Ok.ensures.no_fault c.in-Ok.ensures.ok))
-
-pub loop-done-preserved : goal.loop-done-preserved
-loop-done-preserved g c =
-    let bytes = c.args.bytes.now in
-    let few = c.piece-few.result in
-    let P : ℕ → Type 0 = λ at. AnswersAfter g.D.Device c.loop-done.self.machine c.loop-done.self.notes (record { p = c.args.p; act = Store at c.part.result }) c.in-Ok.answer c.access.new.self.machine c.access.new.self.notes in
-    let Q : Reply → Type 0 = λ r. AnswersAfter g.D.Device c.loop-done.self.machine c.loop-done.self.notes (record { p = c.args.p; act = Store (behind c.args.va c.loop-done.done) c.part.result }) r c.access.new.self.machine c.access.new.self.notes in
-    let answer = subst Q (c.if-not-is_stored.ensures.is refl) (subst P c.saturating_add-from.ensures c.in-Ok.ensures.ok) in
-    let span : c.loop-done.done + few - c.loop-done.done ≡ few = omega arith in
-    let long : length (take c.loop-done.done bytes) ≡ c.loop-done.done = omega (arith, length-take c.loop-done.done bytes, c.loop-done.invariant.0) in
-    let all : take c.loop-done.done bytes ++ c.part.result ≡ take (c.loop-done.done + few) bytes = ap (λ l. take c.loop-done.done bytes ++ l) (c.part.ensures ∙ ap (λ m. take m (drop c.loop-done.done bytes)) span) ∙ sym (take-add c.loop-done.done few bytes) in
-    (omega (arith, c.piece-few.ensures.left, c.loop-done.invariant.0, c.loop-done-test.true), stores_more g.D.Device _ _ _ _ _ _ c.args.p c.args.va c.loop-done.done (take c.loop-done.done bytes) c.part.result (take (c.loop-done.done + few) bytes) long all c.loop-done.invariant.1 answer, keeps_then _ _ _ c.loop-done.invariant.2 c.access.ensures.phases)
+pub invariant_of-self : goal.invariant_of-self
+invariant_of-self g c = served_does g.D.Device _ _ _ _ _ c.self.invariant c.store.ensures.reached
 
 pub returns-clause-reached : goal.returns-clause-reached
-returns-clause-reached g c = stores_all g.D.Device _ _ _ _ c.args.p c.args.va (take c.loop-done.done c.args.bytes.now) c.args.bytes.now (take_all c.loop-done.done c.args.bytes.now c.loop-done-test.false) c.loop-done.invariant.1
-
-pub returns-in-Err-clause-phases : goal.returns-in-Err-clause-phases
-returns-in-Err-clause-phases g c = keeps_then _ _ _ c.loop-done.invariant.2 c.access.ensures.phases
-
-pub returns-then-not-is_stored-clause-phases : goal.returns-then-not-is_stored-clause-phases
-returns-then-not-is_stored-clause-phases g c = keeps_then _ _ _ c.loop-done.invariant.2 c.access.ensures.phases
+returns-clause-reached g c =
+    let P : SessionState g.row.D.Denot g.row.A.Denot → Type 0 = λ s. MakesStepsThat g.D.Device s.machine s.notes (StoresReached c.args.p c.args.va c.args.bytes.now c.store.result) c.store.new.self.machine c.store.new.self.notes in
+    subst P c.self.view_is c.store.ensures.reached
 
 pub returns-clause-phases : goal.returns-clause-phases
-returns-clause-phases g c = c.loop-done.invariant.2
+returns-clause-phases g c =
+    let P : SessionState g.row.D.Denot g.row.A.Denot → Type 0 = λ s. KeepsPhases s.machine.state c.store.new.self.machine.state in
+    subst P c.self.view_is c.store.ensures.phases

@@ -1,0 +1,88 @@
+/* Commits: one that is asked for while another is being made waits for the next, which it shares with all that came
+   meanwhile. */
+#include "inside.h"
+
+/* Makes a commit in the core, and what it records; it is acknowledged once all that was made. */
+static int commit(famsync *handle, uint64_t *mark)
+{
+    uint32_t number = 0;
+    int code = code_of(famsync_core_commit(handle->core, &number, &handle->core.at));
+    int drained = drain(handle);
+    if (drained != FAMSYNC_OK)
+        return drained;
+    if (code != FAMSYNC_OK)
+        return code;
+    int64_t acknowledged = famsync_core_acknowledged(handle->core, &handle->core.at);
+    if (acknowledged < 0 || (uint64_t)acknowledged < number)
+        return FAMSYNC_BROKEN;
+    atomic_store(&handle->acknowledged, number);
+    handle->left = true;
+    *mark = number;
+    return FAMSYNC_OK;
+}
+
+/* Takes all stores to plain memory, and commits all stores; the caller has its turn. */
+static int commit_stores(famsync *handle, uint64_t *mark)
+{
+    int code;
+    if (handle->torn)
+        return FAMSYNC_TORN;
+    code = take_stores(handle);
+    if (code == FAMSYNC_OK)
+        code = commit(handle, mark);
+    if (code == FAMSYNC_OK)
+        stores_are_committed(handle);
+    else
+        put_stores_back(handle);
+    return code;
+}
+
+/* Makes a commit for all that wait for one. They came before its turn begins, and so did what they stored. */
+static void commit_for_waiters(famsync *handle)
+{
+    struct waiter *waiters, *next;
+    uint64_t mark = 0;
+    int code = enter(handle);
+    pthread_mutex_lock(&handle->queue);
+    waiters = handle->waiters;
+    handle->waiters = NULL;
+    pthread_mutex_unlock(&handle->queue);
+    if (code == FAMSYNC_OK)
+        code = leave(handle, commit_stores(handle, &mark));
+    pthread_mutex_lock(&handle->queue);
+    for (struct waiter *waiter = waiters; waiter; waiter = next) {
+        next = waiter->next;
+        waiter->code = code;
+        waiter->mark = mark;
+        waiter->done = true;
+    }
+    handle->committing = false;
+    pthread_cond_broadcast(&handle->answered);
+    pthread_mutex_unlock(&handle->queue);
+}
+
+int famsync_msync(famsync *handle, uint64_t *mark)
+{
+    struct waiter mine = {0};
+    if (!handle)
+        return FAMSYNC_ARGUMENT;
+    if (is_forked(handle))
+        return FAMSYNC_FORKED;
+    pthread_mutex_lock(&handle->queue);
+    mine.next = handle->waiters;
+    handle->waiters = &mine;
+    while (!mine.done) {
+        if (handle->committing) {
+            pthread_cond_wait(&handle->answered, &handle->queue);
+            continue;
+        }
+        handle->committing = true;
+        pthread_mutex_unlock(&handle->queue);
+        commit_for_waiters(handle);
+        pthread_mutex_lock(&handle->queue);
+    }
+    pthread_mutex_unlock(&handle->queue);
+    if (mine.code == FAMSYNC_OK && mark)
+        *mark = mine.mark;
+    return mine.code;
+}

@@ -1,0 +1,202 @@
+/* Mappings, loads, stores and lengths. What the core does for them may record calls, as pages leave memory to make room
+   or older commits are written to their places: these are made before the call answers. */
+#include "inside.h"
+
+#include <stdlib.h>
+#include <string.h>
+
+/* The most pages of one `map` of the core, and the first address that no mapping can have. */
+#define MAP_PAGES 65536u
+#define LAST_ADDRESS (UINT64_C(1) << 47)
+/* The most bytes that the core is asked to load or store at once: it takes memory for as many. */
+#define AT_ONCE ((size_t)MOST_READ * PAGE)
+
+/* Maps so many pages in the core. */
+static int map_in_core(famsync *handle, const struct mapping *mapping, int protection)
+{
+    uint32_t rights = protection == FAMSYNC_READ ? 1 : 3;
+    int code = FAMSYNC_OK;
+    for (uint64_t done = 0; done < mapping->pages && code == FAMSYNC_OK; done += MAP_PAGES) {
+        uint64_t some = mapping->pages - done < MAP_PAGES ? mapping->pages - done : MAP_PAGES;
+        code = code_of(famsync_core_map(handle->core, mapping->file, (mapping->first + done) * PAGE, some * PAGE,
+                                        rights, mapping->address + done * PAGE, &handle->core.at));
+    }
+    return code;
+}
+
+/* A page between two mappings stays free, so that no range runs from one into the other. Where a mapping is refused its
+   addresses aren't used again. */
+int map_pages(famsync *handle, unsigned file, uint64_t offset, uint64_t length, int protection, uint64_t *address)
+{
+    struct mapping *mapping;
+    uint64_t pages;
+    int code;
+    if (length == 0 && offset < handle->file[file].length)
+        length = handle->file[file].length - offset;
+    if (offset % PAGE != 0 || length == 0 || length > LAST_ADDRESS || protection < 1 || protection > 3)
+        return FAMSYNC_ARGUMENT;
+    pages = (length + PAGE - 1) / PAGE;
+    if (pages * PAGE + PAGE > LAST_ADDRESS - handle->next_address)
+        return FAMSYNC_ENOMEM;
+    mapping = malloc(sizeof *mapping);
+    if (!mapping)
+        return FAMSYNC_NOMEMORY;
+    *mapping = (struct mapping){handle->mappings, handle->next_address, offset / PAGE, pages, file};
+    handle->next_address += pages * PAGE + PAGE;
+    code = map_in_core(handle, mapping, protection);
+    if (code != FAMSYNC_OK) {
+        free(mapping);
+        return code;
+    }
+    handle->mappings = mapping;
+    *address = mapping->address;
+    return FAMSYNC_OK;
+}
+
+/* What is recorded is made, whatever came of the call: an error of that is told first. */
+static int settle(famsync *handle, int code)
+{
+    int drained = drain(handle);
+    return drained != FAMSYNC_OK ? drained : code;
+}
+
+int load_range(famsync *handle, uint64_t address, unsigned char *bytes, size_t count, size_t *done)
+{
+    int code = FAMSYNC_OK;
+    *done = 0;
+    while (*done < count && code == FAMSYNC_OK) {
+        uint64_t some = 0;
+        uint32_t wanted = 0;
+        size_t left = count - *done;
+        int32_t answer = famsync_core_load(handle->core, address + *done, bytes + *done,
+                                           left < AT_ONCE ? left : AT_ONCE, &some, &wanted, &handle->core.at);
+        *done += some;
+        code = answer == FAMSYNC_CORE_WANTED ? supply(handle, wanted, count - *done) : code_of(answer);
+    }
+    return settle(handle, code);
+}
+
+int store_range(famsync *handle, uint64_t address, const unsigned char *bytes, size_t count, size_t *done)
+{
+    int code = FAMSYNC_OK;
+    *done = 0;
+    while (*done < count && code == FAMSYNC_OK) {
+        uint64_t some = 0;
+        uint32_t wanted = 0;
+        size_t left = count - *done;
+        int32_t answer = famsync_core_store(handle->core, address + *done, bytes + *done,
+                                            left < AT_ONCE ? left : AT_ONCE, &some, &wanted, &handle->core.at);
+        *done += some;
+        code = answer == FAMSYNC_CORE_WANTED ? supply(handle, wanted, count - *done) : code_of(answer);
+    }
+    return settle(handle, code);
+}
+
+int famsync_map(famsync *handle, const char *file, uint64_t offset, uint64_t length, int protection, uint64_t *address)
+{
+    int code;
+    unsigned number;
+    if (!file || !address)
+        return FAMSYNC_ARGUMENT;
+    code = enter(handle);
+    if (code != FAMSYNC_OK)
+        return code;
+    number = number_of(handle, file);
+    if (number == handle->files)
+        return leave(handle, FAMSYNC_NOFILE);
+    return leave(handle, map_pages(handle, number, offset, length, protection, address));
+}
+
+/* Whether an access has arguments that make one, and then the turn. */
+static int enter_range(famsync *handle, uint64_t address, const void *bytes, size_t count)
+{
+    if (count > 0 && !bytes)
+        return FAMSYNC_ARGUMENT;
+    if (count > UINT64_MAX - address)
+        return is_forked(handle) ? FAMSYNC_FORKED : FAMSYNC_ARGUMENT;
+    return enter(handle);
+}
+
+int famsync_load(famsync *handle, uint64_t address, void *bytes, size_t count, size_t *done)
+{
+    size_t counted = 0;
+    int code = enter_range(handle, address, bytes, count);
+    if (code == FAMSYNC_OK)
+        code = leave(handle, load_range(handle, address, bytes, count, &counted));
+    if (done)
+        *done = counted;
+    return code;
+}
+
+int famsync_store(famsync *handle, uint64_t address, const void *bytes, size_t count, size_t *done)
+{
+    size_t counted = 0;
+    int code = enter_range(handle, address, bytes, count);
+    if (code == FAMSYNC_OK)
+        code = leave(handle, store_range(handle, address, bytes, count, &counted));
+    if (done)
+        *done = counted;
+    return code;
+}
+
+/* Asks once for another length of a file, or as often as a block is wanted for it. */
+static int32_t ask_length(famsync *handle, unsigned file, uint64_t length)
+{
+    for (;;) {
+        uint32_t wanted = 0;
+        int32_t answer = famsync_core_set_length(handle->core, file, length, &wanted, &handle->core.at);
+        if (answer != FAMSYNC_CORE_WANTED)
+            return answer;
+        if (supply(handle, wanted, 0) != FAMSYNC_OK)
+            return FAMSYNC_CORE_DEVICE;
+    }
+}
+
+/* Brings the page in which a file ends into memory: a byte of it is loaded through a mapping that has it. */
+static int load_last_page(famsync *handle, unsigned file)
+{
+    uint64_t page = handle->file[file].length / PAGE, address = 0;
+    unsigned char byte;
+    size_t done;
+    int code = FAMSYNC_OK;
+    for (struct mapping *mapping = handle->mappings; mapping && address == 0; mapping = mapping->next)
+        if (mapping->file == file && page >= mapping->first && page - mapping->first < mapping->pages)
+            address = mapping->address + (page - mapping->first) * PAGE;
+    if (address == 0)
+        code = map_pages(handle, file, page * PAGE, PAGE, FAMSYNC_READ, &address);
+    return code == FAMSYNC_OK ? load_range(handle, address, &byte, 1, &done) : code;
+}
+
+static int set_length(famsync *handle, unsigned file, uint64_t length)
+{
+    int code = FAMSYNC_OK;
+    int32_t answer = ask_length(handle, file, length);
+    /* Where the core takes that page out again to make room, it takes others first the second time. */
+    for (unsigned tries = 0; answer == FAMSYNC_CORE_NOTRESIDENT && tries < 2 && code == FAMSYNC_OK; tries++) {
+        code = load_last_page(handle, file);
+        if (code == FAMSYNC_OK)
+            answer = ask_length(handle, file, length);
+    }
+    if (code == FAMSYNC_OK)
+        code = code_of(answer);
+    if (code == FAMSYNC_OK)
+        atomic_store(&handle->file[file].length, length);
+    return settle(handle, code);
+}
+
+int famsync_setlength(famsync *handle, const char *file, uint64_t length)
+{
+    unsigned number;
+    int code;
+    if (!file)
+        return FAMSYNC_ARGUMENT;
+    code = enter(handle);
+    if (code != FAMSYNC_OK)
+        return code;
+    number = number_of(handle, file);
+    if (number == handle->files)
+        return leave(handle, FAMSYNC_NOFILE);
+    if (has_memory(handle, number))
+        return leave(handle, FAMSYNC_BUSY);
+    return leave(handle, set_length(handle, number, length));
+}

@@ -1,0 +1,236 @@
+/* How a session ends: by a close, which leaves nothing to be carried out; in a process that was forked, which leaves it
+   to the other; and what the thread in the background does of that meanwhile. */
+#include "test.h"
+
+#include <stdatomic.h>
+
+/* Whether the gate of the first journal is open: a commit isn't written to its place yet. */
+static bool gate_is_open(void)
+{
+    unsigned char gate = 0;
+    int file = open(volume, O_RDONLY | O_CLOEXEC);
+    WANT(file >= 0 && pread(file, &gate, 1, 4096) == 1 && close(file) == 0);
+    return gate == 0xA7;
+}
+
+static uint64_t mapped(famsync *handle, const char *file)
+{
+    uint64_t address;
+    WANT_CODE(famsync_map(handle, file, 0, 0, FAMSYNC_READ | FAMSYNC_WRITE, &address), FAMSYNC_OK);
+    return address;
+}
+
+static void in_the_background(void)
+{
+    for (unsigned layout = 1; layout <= 3; layout++) {
+        make_volume_of(layout, 16, "a=65536");
+        famsync *handle = opened();
+        uint64_t address = mapped(handle, "a"), mark;
+        for (uint64_t round = 1; round <= 20; round++) {
+            unsigned waited = 0;
+            WANT_CODE(famsync_store(handle, address + round * 512, &round, 8, NULL), FAMSYNC_OK);
+            WANT_CODE(famsync_msync(handle, &mark), FAMSYNC_OK);
+            WANT(mark == round);
+            for (; gate_is_open(); waited++) {
+                WANT(waited < 20000);
+                usleep(1000);
+            }
+        }
+        WANT_CODE(famsync_close(handle), FAMSYNC_OK);
+    }
+}
+
+static void in_the_foreground(void)
+{
+    uint64_t value = 0;
+    make_volume(16, "a=65536");
+    famsync *handle = opened_with((struct famsync_options){.foreground = 1});
+    uint64_t address = mapped(handle, "a");
+    for (uint64_t round = 1; round <= 5; round++) {
+        WANT_CODE(famsync_store(handle, address + round * 4096, &round, 8, NULL), FAMSYNC_OK);
+        WANT_CODE(famsync_msync(handle, NULL), FAMSYNC_OK);
+        usleep(2000);
+        WANT(gate_is_open());
+    }
+    WANT_CODE(famsync_close(handle), FAMSYNC_OK);
+    WANT(!gate_is_open());
+    handle = opened();
+    address = mapped(handle, "a");
+    for (uint64_t round = 1; round <= 5; round++) {
+        WANT_CODE(famsync_load(handle, address + round * 4096, &value, 8, NULL), FAMSYNC_OK);
+        WANT(value == round);
+    }
+    WANT_CODE(famsync_close(handle), FAMSYNC_OK);
+}
+
+/* A session that is cut off after its commit: the next one carries it out, in each layout and from either journal. */
+static void cut_off(void)
+{
+    for (unsigned layout = 1; layout <= 3; layout++)
+        for (uint64_t rounds = 1; rounds <= 3; rounds++) {
+            int status;
+            make_volume_of(layout, 16, "a=65536");
+            pid_t child = fork();
+            if (child == 0) {
+                famsync *handle = opened_with((struct famsync_options){.foreground = 1});
+                uint64_t address = mapped(handle, "a");
+                for (uint64_t round = 1; round <= rounds; round++) {
+                    WANT_CODE(famsync_store(handle, address + round * 4096, &round, 8, NULL), FAMSYNC_OK);
+                    WANT_CODE(famsync_store(handle, address, &round, 8, NULL), FAMSYNC_OK);
+                    WANT_CODE(famsync_msync(handle, NULL), FAMSYNC_OK);
+                }
+                kill(getpid(), SIGKILL);
+            }
+            WANT(waitpid(child, &status, 0) == child && WIFSIGNALED(status));
+            famsync *handle = opened();
+            uint64_t address = mapped(handle, "a"), value;
+            for (uint64_t round = 0; round <= rounds; round++) {
+                WANT_CODE(famsync_load(handle, address + round * 4096, &value, 8, NULL), FAMSYNC_OK);
+                WANT(value == (round == 0 ? rounds : round));
+            }
+            WANT_CODE(famsync_close(handle), FAMSYNC_OK);
+        }
+}
+
+static void in_child(famsync *handle, famsync_memory *memory)
+{
+    int *at = famsync_memory_at(memory);
+    uint64_t address = 0;
+    unsigned char byte = 0;
+    at[0] = 77;
+    at[1500] = 78;
+    bool right = at[0] == 77 && famsync_msync(handle, NULL) == FAMSYNC_FORKED;
+    right &= famsync_map(handle, "a", 0, 0, FAMSYNC_READ, &address) == FAMSYNC_FORKED;
+    right &= famsync_load(handle, 65536, &byte, 1, NULL) == FAMSYNC_FORKED;
+    right &= famsync_store(handle, 65536, &byte, 1, NULL) == FAMSYNC_FORKED;
+    right &= famsync_memory_dirty(memory) == 0;
+    right &= famsync_memory_close(memory) == FAMSYNC_OK && famsync_close(handle) == FAMSYNC_OK;
+    _exit(right ? 0 : 1);
+}
+
+static void forked(void)
+{
+    famsync_memory *memory;
+    int status;
+    make_volume(16, "a=65536");
+    famsync *handle = opened();
+    WANT_CODE(famsync_memory_open(handle, "a", &memory), FAMSYNC_OK);
+    int *at = famsync_memory_at(memory);
+    at[3000] = 5;
+    pid_t child = fork();
+    if (child == 0)
+        in_child(handle, memory);
+    WANT(waitpid(child, &status, 0) == child && WIFEXITED(status) && WEXITSTATUS(status) == 0);
+    WANT(at[0] == 0 && at[3000] == 5);
+    WANT_CODE(famsync_msync(handle, NULL), FAMSYNC_OK);
+    /* it has let the volume go: whoever is forked doesn't keep it in use */
+    child = fork();
+    if (child == 0) {
+        alarm(60);
+        pause();
+        _exit(0);
+    }
+    WANT_CODE(famsync_memory_close(memory), FAMSYNC_OK);
+    WANT_CODE(famsync_close(handle), FAMSYNC_OK);
+    for (unsigned waited = 0; famsync_open(volume, NULL, &handle) == FAMSYNC_INUSE; waited++) {
+        WANT(waited < 20000); /* until the child has begun */
+        usleep(1000);
+    }
+    WANT(handle != NULL && waitpid(child, &status, WNOHANG) == 0);
+    WANT_CODE(famsync_close(handle), FAMSYNC_OK);
+    WANT(kill(child, SIGKILL) == 0 && waitpid(child, &status, 0) == child);
+}
+
+/* A process forks while another of its threads commits. */
+static void *commits(void *argument)
+{
+    famsync *handle = argument;
+    uint64_t address = mapped(handle, "a");
+    for (uint64_t round = 1; round <= 300; round++) {
+        WANT_CODE(famsync_store(handle, address + round * 8, &round, 8, NULL), FAMSYNC_OK);
+        WANT_CODE(famsync_msync(handle, NULL), FAMSYNC_OK);
+    }
+    return NULL;
+}
+
+static void forked_meanwhile(void)
+{
+    pthread_t thread;
+    int status;
+    make_volume_of(2, 16, "a=65536");
+    famsync *handle = opened();
+    WANT(pthread_create(&thread, NULL, commits, handle) == 0);
+    for (unsigned i = 0; i < 30; i++) {
+        pid_t child = fork();
+        if (child == 0)
+            _exit(famsync_msync(handle, NULL) == FAMSYNC_FORKED && famsync_close(handle) == FAMSYNC_OK ? 0 : 1);
+        WANT(waitpid(child, &status, 0) == child && WIFEXITED(status) && WEXITSTATUS(status) == 0);
+    }
+    WANT(pthread_join(thread, NULL) == 0);
+    WANT(famsync_acknowledged(handle) == 300);
+    WANT_CODE(famsync_close(handle), FAMSYNC_OK);
+}
+
+/* Threads that commit at once: each answer is a mark that has this thread's store. */
+static void *shares(void *argument)
+{
+    famsync *handle = argument;
+    static atomic_uint number;
+    uint64_t address = mapped(handle, "a") + 4096 * (uint64_t)atomic_fetch_add(&number, 1), last = 0, mark;
+    for (uint64_t round = 1; round <= 100; round++) {
+        WANT_CODE(famsync_store(handle, address, &round, 8, NULL), FAMSYNC_OK);
+        WANT_CODE(famsync_msync(handle, &mark), FAMSYNC_OK);
+        WANT(mark > last && famsync_acknowledged(handle) >= mark);
+        last = mark;
+    }
+    return NULL;
+}
+
+static void shared_commits(void)
+{
+    pthread_t thread[4];
+    make_volume_of(2, 16, "a=65536");
+    famsync *handle = opened();
+    for (unsigned i = 0; i < 4; i++)
+        WANT(pthread_create(&thread[i], NULL, shares, handle) == 0);
+    for (unsigned i = 0; i < 4; i++)
+        WANT(pthread_join(thread[i], NULL) == 0);
+    WANT(famsync_acknowledged(handle) >= 100 && famsync_acknowledged(handle) <= 400);
+    printf("clients/embedded: ending: 400 msyncs of 4 threads were %u commits\n",
+           (unsigned)famsync_acknowledged(handle));
+    WANT_CODE(famsync_close(handle), FAMSYNC_OK);
+}
+
+static void two_volumes(void)
+{
+    famsync *first, *second;
+    char moved[100];
+    make_volume(16, "a=65536");
+    snprintf(moved, sizeof moved, "%s/w.img", folder);
+    WANT(rename(volume, moved) == 0);
+    make_volume_of(3, 16, "b=5000/9000");
+    first = opened();
+    WANT_CODE(famsync_open(moved, NULL, &second), FAMSYNC_OK);
+    uint64_t b = mapped(first, "b"), a = mapped(second, "a");
+    for (unsigned char i = 1; i < 20; i++) {
+        WANT_CODE(famsync_store(first, b + i, &i, 1, NULL), FAMSYNC_OK);
+        WANT_CODE(famsync_store(second, a + i * 3000u, &i, 1, NULL), FAMSYNC_OK);
+        WANT_CODE(famsync_msync(i % 2 ? first : second, NULL), FAMSYNC_OK);
+    }
+    WANT(famsync_acknowledged(first) == 10 && famsync_acknowledged(second) == 9);
+    WANT_CODE(famsync_close(first), FAMSYNC_OK);
+    WANT_CODE(famsync_close(second), FAMSYNC_OK);
+}
+
+int main(void)
+{
+    in_the_background();
+    in_the_foreground();
+    cut_off();
+    forked();
+    forked_meanwhile();
+    shared_commits();
+    two_volumes();
+    printf("clients/embedded: ending: as it should be\n");
+    return 0;
+}

@@ -1,0 +1,196 @@
+/* Lengths that are set: what a file has after it, in this session and the next one, and what is refused. */
+#include "test.h"
+
+#define CAPACITY 40000
+
+static uint64_t mapped(famsync *handle, const char *file, uint64_t length)
+{
+    uint64_t address;
+    WANT_CODE(famsync_map(handle, file, 0, length, FAMSYNC_READ | FAMSYNC_WRITE, &address), FAMSYNC_OK);
+    return address;
+}
+
+static void grows_and_shrinks(void)
+{
+    static unsigned char bytes[CAPACITY], found[CAPACITY], none[CAPACITY];
+    uint64_t address;
+    size_t done;
+    make_volume_of(3, 12, "a=5000/40000 b=0/4096");
+    famsync *handle = opened();
+    WANT(famsync_frames(handle) == 11 && famsync_file_length(handle, 0) == 5000 && famsync_file_length(handle, 1) == 0);
+    memset(bytes, 7, sizeof bytes);
+    address = mapped(handle, "a", CAPACITY);
+    WANT_CODE(famsync_store(handle, address, bytes, 5000, NULL), FAMSYNC_OK);
+    WANT_CODE(famsync_store(handle, address + 8192, bytes, 1, &done), FAMSYNC_BUSADRERR);
+    WANT_CODE(famsync_msync(handle, NULL), FAMSYNC_OK);
+    /* what it grows by is zeros, which can be stored to; nothing of it is durable yet */
+    WANT_CODE(famsync_setlength(handle, "a", 20000), FAMSYNC_OK);
+    WANT(famsync_file_length(handle, 0) == 20000);
+    WANT_CODE(famsync_load(handle, address, found, 20000, NULL), FAMSYNC_OK);
+    WANT(memcmp(found, bytes, 5000) == 0 && memcmp(found + 5000, none, 15000) == 0);
+    WANT_CODE(famsync_store(handle, address + 19999, bytes, 1, NULL), FAMSYNC_OK);
+    WANT_CODE(famsync_close(handle), FAMSYNC_OK);
+    handle = opened();
+    WANT(famsync_file_length(handle, 0) == 5000);
+    address = mapped(handle, "a", CAPACITY);
+    /* the page in which it ends isn't in memory yet, and is brought there */
+    WANT_CODE(famsync_setlength(handle, "a", 20000), FAMSYNC_OK);
+    WANT_CODE(famsync_store(handle, address + 19999, bytes, 1, NULL), FAMSYNC_OK);
+    WANT_CODE(famsync_setlength(handle, "a", 20000), FAMSYNC_OK);
+    WANT_CODE(famsync_msync(handle, NULL), FAMSYNC_OK);
+    WANT_CODE(famsync_close(handle), FAMSYNC_OK);
+    handle = opened();
+    WANT(famsync_file_length(handle, 0) == 20000);
+    address = mapped(handle, "a", CAPACITY);
+    WANT_CODE(famsync_load(handle, address, found, 20000, NULL), FAMSYNC_OK);
+    WANT(memcmp(found, bytes, 5000) == 0 && memcmp(found + 5000, none, 14999) == 0 && found[19999] == 7);
+    /* what is cut off is gone, also where it grows again */
+    WANT_CODE(famsync_setlength(handle, "a", 100), FAMSYNC_OK);
+    WANT_CODE(famsync_load(handle, address + 4090, found, 10, &done), FAMSYNC_BUSADRERR);
+    WANT(done == 6);
+    WANT_CODE(famsync_setlength(handle, "a", CAPACITY), FAMSYNC_OK);
+    WANT_CODE(famsync_load(handle, address, found, CAPACITY, NULL), FAMSYNC_OK);
+    WANT(memcmp(found, bytes, 100) == 0 && memcmp(found + 100, none, CAPACITY - 100) == 0);
+    WANT_CODE(famsync_msync(handle, NULL), FAMSYNC_OK);
+    WANT_CODE(famsync_setlength(handle, "a", 0), FAMSYNC_OK);
+    WANT_CODE(famsync_msync(handle, NULL), FAMSYNC_OK);
+    WANT_CODE(famsync_close(handle), FAMSYNC_OK);
+    handle = opened();
+    WANT(famsync_file_length(handle, 0) == 0);
+    WANT_CODE(famsync_close(handle), FAMSYNC_OK);
+}
+
+static void plain_memory(void)
+{
+    famsync_memory *memory;
+    make_volume_of(3, 12, "a=5000/40000 b=0/4096");
+    famsync *handle = opened();
+    WANT_CODE(famsync_memory_open(handle, "b", &memory), FAMSYNC_ARGUMENT);
+    WANT_CODE(famsync_memory_open(handle, "a", &memory), FAMSYNC_OK);
+    unsigned char *at = famsync_memory_at(memory);
+    at[4999] = 5;
+    /* as long as it is open the file keeps its length, and another file doesn't */
+    WANT_CODE(famsync_setlength(handle, "a", 20000), FAMSYNC_BUSY);
+    WANT_CODE(famsync_setlength(handle, "b", 4096), FAMSYNC_OK);
+    WANT(famsync_memory_length(memory) == 5000 && famsync_file_length(handle, 0) == 5000);
+    WANT_CODE(famsync_msync(handle, NULL), FAMSYNC_OK);
+    WANT_CODE(famsync_memory_close(memory), FAMSYNC_OK);
+    WANT_CODE(famsync_setlength(handle, "a", 20000), FAMSYNC_OK);
+    WANT_CODE(famsync_memory_open(handle, "a", &memory), FAMSYNC_OK);
+    at = famsync_memory_at(memory);
+    WANT(famsync_memory_length(memory) == 20000 && at[4999] == 5 && at[5000] == 0);
+    at[19999] = 6;
+    WANT_CODE(famsync_msync(handle, NULL), FAMSYNC_OK);
+    WANT_CODE(famsync_memory_close(memory), FAMSYNC_OK);
+    WANT_CODE(famsync_close(handle), FAMSYNC_OK);
+    handle = opened();
+    WANT(famsync_file_length(handle, 0) == 20000 && famsync_file_length(handle, 1) == 4096);
+    WANT_CODE(famsync_memory_open(handle, "a", &memory), FAMSYNC_OK);
+    at = famsync_memory_at(memory);
+    WANT(at[4999] == 5 && at[19999] == 6);
+    WANT_CODE(famsync_memory_close(memory), FAMSYNC_OK);
+    WANT_CODE(famsync_close(handle), FAMSYNC_OK);
+}
+
+static void refusals(void)
+{
+    static unsigned char bytes[4 * 4096];
+    uint64_t address;
+    make_volume_of(3, 6, "a=5000/40000 b=16384");
+    famsync *handle = opened();
+    WANT_CODE(famsync_setlength(handle, "a", CAPACITY + 1), FAMSYNC_EINVAL);
+    WANT_CODE(famsync_setlength(handle, "a", UINT64_MAX), FAMSYNC_EINVAL);
+    WANT_CODE(famsync_setlength(handle, "c", 1), FAMSYNC_NOFILE);
+    WANT_CODE(famsync_setlength(handle, NULL, 1), FAMSYNC_ARGUMENT);
+    WANT_CODE(famsync_setlength(NULL, "a", 1), FAMSYNC_ARGUMENT);
+    /* more pages than one commit can have: it grows in parts */
+    WANT_CODE(famsync_setlength(handle, "a", CAPACITY), FAMSYNC_NOFRAME);
+    WANT(famsync_file_length(handle, 0) == 5000 && famsync_frames(handle) == 5);
+    WANT_CODE(famsync_setlength(handle, "a", 20000), FAMSYNC_OK);
+    WANT_CODE(famsync_msync(handle, NULL), FAMSYNC_OK);
+    WANT_CODE(famsync_setlength(handle, "a", 32000), FAMSYNC_OK);
+    WANT_CODE(famsync_msync(handle, NULL), FAMSYNC_OK);
+    WANT_CODE(famsync_setlength(handle, "a", CAPACITY), FAMSYNC_OK);
+    WANT_CODE(famsync_msync(handle, NULL), FAMSYNC_OK);
+    /* clean pages make room for those that a file grows by, and dirty ones don't */
+    WANT_CODE(famsync_setlength(handle, "a", 4096), FAMSYNC_OK);
+    WANT_CODE(famsync_msync(handle, NULL), FAMSYNC_OK);
+    address = mapped(handle, "b", 0);
+    WANT_CODE(famsync_load(handle, address, bytes, sizeof bytes, NULL), FAMSYNC_OK);
+    WANT_CODE(famsync_setlength(handle, "a", 16384), FAMSYNC_OK);
+    WANT_CODE(famsync_msync(handle, NULL), FAMSYNC_OK);
+    WANT_CODE(famsync_setlength(handle, "a", 4096), FAMSYNC_OK);
+    WANT_CODE(famsync_msync(handle, NULL), FAMSYNC_OK);
+    WANT_CODE(famsync_store(handle, address, bytes, sizeof bytes, NULL), FAMSYNC_OK);
+    WANT_CODE(famsync_setlength(handle, "a", 16384), FAMSYNC_NOFRAME);
+    WANT_CODE(famsync_msync(handle, NULL), FAMSYNC_OK);
+    WANT_CODE(famsync_setlength(handle, "a", 16384), FAMSYNC_OK);
+    WANT_CODE(famsync_close(handle), FAMSYNC_OK);
+    /* layouts without lengths */
+    for (unsigned layout = 1; layout <= 2; layout++) {
+        make_volume_of(layout, 6, "a=5000");
+        handle = opened();
+        WANT_CODE(famsync_setlength(handle, "a", 5000), FAMSYNC_EINVAL);
+        WANT_CODE(famsync_setlength(handle, "a", 4000), FAMSYNC_EINVAL);
+        WANT_CODE(famsync_msync(handle, NULL), FAMSYNC_OK);
+        WANT_CODE(famsync_close(handle), FAMSYNC_OK);
+    }
+}
+
+struct work {
+    famsync *handle;
+    uint64_t address;
+};
+
+static void *stores(void *argument)
+{
+    struct work *work = argument;
+    for (unsigned round = 0; round < 50; round++) {
+        unsigned char byte = (unsigned char)round;
+        WANT_CODE(famsync_store(work->handle, work->address, &byte, 1, NULL), FAMSYNC_OK);
+        WANT_CODE(famsync_msync(work->handle, NULL), FAMSYNC_OK);
+        WANT(famsync_file_length(work->handle, 0) >= 4096);
+    }
+    return NULL;
+}
+
+/* One thread sets lengths, and others store and commit meanwhile. */
+static void threads(void)
+{
+    pthread_t thread[2];
+    make_volume_of(3, 12, "a=4096/40000");
+    famsync *handle = opened();
+    struct work work = {handle, mapped(handle, "a", CAPACITY)};
+    for (unsigned i = 0; i < 2; i++)
+        WANT(pthread_create(&thread[i], NULL, stores, &work) == 0);
+    for (unsigned round = 0; round < 50; round++)
+        WANT_CODE(famsync_setlength(handle, "a", round % 2 == 0 ? 20000 : 4096), FAMSYNC_OK);
+    for (unsigned i = 0; i < 2; i++)
+        WANT(pthread_join(thread[i], NULL) == 0);
+    WANT(famsync_file_length(handle, 0) == 4096);
+    WANT_CODE(famsync_close(handle), FAMSYNC_OK);
+}
+
+static void forked(void)
+{
+    int status;
+    make_volume_of(3, 12, "a=5000/40000");
+    famsync *handle = opened();
+    pid_t child = fork();
+    if (child == 0)
+        _exit(famsync_setlength(handle, "a", 1) == FAMSYNC_FORKED ? 0 : 1);
+    WANT(waitpid(child, &status, 0) == child && status == 0);
+    WANT(famsync_file_length(handle, 0) == 5000);
+    WANT_CODE(famsync_close(handle), FAMSYNC_OK);
+}
+
+int main(void)
+{
+    grows_and_shrinks();
+    plain_memory();
+    refusals();
+    threads();
+    forked();
+    printf("clients/embedded: lengths: as it should be\n");
+    return 0;
+}

@@ -1,0 +1,275 @@
+/* Plain memory: stores are kept by an msync and by nothing else, in whole pages or part of one; faults that aren't its
+   own go to the handler that was there; more pages than a commit has are refused before any is stored. */
+#include "test.h"
+
+#include <setjmp.h>
+#include <sys/mman.h>
+
+static sigjmp_buf back;
+static volatile sig_atomic_t others;
+
+static void other_handler(int number)
+{
+    (void)number;
+    others = others + 1;
+    siglongjmp(back, 1);
+}
+
+static famsync_memory *memory_of(famsync *handle, const char *file)
+{
+    famsync_memory *memory;
+    WANT_CODE(famsync_memory_open(handle, file, &memory), FAMSYNC_OK);
+    return memory;
+}
+
+static void stores_are_kept(void)
+{
+    make_volume(16, "a=20000 b=5000");
+    famsync *handle = opened();
+    famsync_memory *a = memory_of(handle, "a"), *b = memory_of(handle, "b"), *again;
+    unsigned char *at = famsync_memory_at(a), *other = famsync_memory_at(b);
+    WANT(famsync_memory_length(a) == 20000 && famsync_memory_length(b) == 5000);
+    WANT_CODE(famsync_memory_open(handle, "a", &again), FAMSYNC_OVERLAP);
+    WANT_CODE(famsync_memory_open(handle, "c", &again), FAMSYNC_NOFILE);
+    WANT(again == NULL && famsync_memory_dirty(a) == 0);
+    for (size_t i = 0; i < 20000; i++)
+        WANT(at[i] == 0);
+    at[0] = 1;
+    at[4095] = 2;
+    at[4096] = 3;
+    at[19999] = 4;
+    other[4999] = 5;
+    WANT(famsync_memory_dirty(a) == 3 && famsync_memory_dirty(b) == 1);
+    uint64_t mark = 0;
+    WANT_CODE(famsync_msync(handle, &mark), FAMSYNC_OK);
+    WANT(mark == 1 && famsync_memory_dirty(a) == 0);
+    at[1] = 6;
+    WANT(famsync_memory_dirty(a) == 1);
+    WANT_CODE(famsync_close(handle), FAMSYNC_ARGUMENT);
+    WANT_CODE(famsync_memory_close(a), FAMSYNC_OK);
+    WANT_CODE(famsync_memory_close(b), FAMSYNC_OK);
+    WANT_CODE(famsync_close(handle), FAMSYNC_OK);
+    handle = opened();
+    a = memory_of(handle, "a");
+    b = memory_of(handle, "b");
+    at = famsync_memory_at(a);
+    other = famsync_memory_at(b);
+    WANT(at[0] == 1 && at[1] == 0 && at[4095] == 2 && at[4096] == 3 && at[19999] == 4 && other[4999] == 5);
+    /* loads and stores see what was committed */
+    uint64_t address;
+    unsigned char found[4];
+    WANT_CODE(famsync_map(handle, "a", 4096, 0, FAMSYNC_READ, &address), FAMSYNC_OK);
+    at[4097] = 9;
+    WANT_CODE(famsync_load(handle, address, found, 2, NULL), FAMSYNC_OK);
+    WANT(found[0] == 3 && found[1] == 0);
+    WANT_CODE(famsync_msync(handle, NULL), FAMSYNC_OK);
+    /* and a load may go into plain memory */
+    WANT_CODE(famsync_load(handle, address, at + 8192, 2, NULL), FAMSYNC_OK);
+    WANT(at[8192] == 3 && at[8193] == 9 && famsync_memory_dirty(a) == 1);
+    WANT_CODE(famsync_memory_close(a), FAMSYNC_OK);
+    WANT_CODE(famsync_memory_close(b), FAMSYNC_OK);
+    WANT_CODE(famsync_close(handle), FAMSYNC_OK);
+}
+
+static void other_faults(void)
+{
+    struct sigaction action = {.sa_handler = other_handler}, now;
+    char *volatile elsewhere = mmap(NULL, 4096, PROT_READ, MAP_PRIVATE | MAP_ANONYMOUS, -1, 0);
+    /* it was installed after the library's, and gives it back */
+    WANT(sigaction(SIGSEGV, &action, &now) == 0);
+    if (sigsetjmp(back, 1) == 0)
+        elsewhere[0] = 1;
+    WANT(others == 1);
+    WANT(sigaction(SIGSEGV, &now, NULL) == 0);
+    munmap(elsewhere, 4096);
+    /* a process whose fault is nobody's ends by it */
+    pid_t child = fork();
+    if (child == 0) {
+        alarm(20);
+        signal(SIGABRT, SIG_DFL);
+        elsewhere = mmap(NULL, 4096, PROT_READ, MAP_PRIVATE | MAP_ANONYMOUS, -1, 0);
+        close(2);
+        elsewhere[0] = 1;
+        _exit(0);
+    }
+    int status;
+    WANT(waitpid(child, &status, 0) == child && !(WIFEXITED(status) && WEXITSTATUS(status) == 0));
+    WANT(!(WIFSIGNALED(status) && WTERMSIG(status) == SIGALRM));
+}
+
+static void handler_before(void)
+{
+    /* In a process where another handler was there before the first memory was opened. */
+    pid_t child = fork();
+    if (child == 0) {
+        struct sigaction action = {.sa_handler = other_handler};
+        alarm(60);
+        WANT(sigaction(SIGSEGV, &action, NULL) == 0);
+        famsync *handle = opened();
+        famsync_memory *a = memory_of(handle, "a");
+        unsigned char *at = famsync_memory_at(a);
+        char *volatile elsewhere = mmap(NULL, 4096, PROT_READ, MAP_PRIVATE | MAP_ANONYMOUS, -1, 0);
+        for (int i = 1; i <= 3; i++) {
+            if (sigsetjmp(back, 1) == 0)
+                elsewhere[0] = 1;
+            WANT(others == i);
+            at[i * 4096] = (unsigned char)i;
+        }
+        /* one that was sent, too */
+        if (sigsetjmp(back, 1) == 0)
+            raise(SIGSEGV);
+        WANT(others == 4 && famsync_memory_dirty(a) == 3);
+        munmap(elsewhere, 4096);
+        WANT_CODE(famsync_memory_close(a), FAMSYNC_OK);
+        WANT_CODE(famsync_close(handle), FAMSYNC_OK);
+        exit(0);
+    }
+    int status;
+    WANT(waitpid(child, &status, 0) == child && WIFEXITED(status) && WEXITSTATUS(status) == 0);
+}
+
+static void past_the_end(void)
+{
+    /* A store just past the memory, or before it, isn't the library's; one past the file's end, in its last page, is
+       memory that isn't kept. */
+    pid_t child = fork();
+    if (child == 0) {
+        struct sigaction action = {.sa_handler = other_handler};
+        alarm(60);
+        WANT(sigaction(SIGSEGV, &action, NULL) == 0);
+        famsync *handle = opened();
+        famsync_memory *b = memory_of(handle, "b");
+        unsigned char *volatile at = famsync_memory_at(b);
+        at[4999] = 5;
+        at[5000] = at[8191] = 7;
+        if (sigsetjmp(back, 1) == 0)
+            at[8192] = 7;
+        WANT(others == 1);
+        if (sigsetjmp(back, 1) == 0)
+            at[-1] = 7;
+        WANT(others == 2);
+        WANT_CODE(famsync_msync(handle, NULL), FAMSYNC_OK);
+        WANT_CODE(famsync_memory_close(b), FAMSYNC_OK);
+        b = memory_of(handle, "b");
+        at = famsync_memory_at(b);
+        WANT(at[4999] == 5 && at[5000] == 0 && at[8191] == 0);
+        WANT_CODE(famsync_memory_close(b), FAMSYNC_OK);
+        WANT_CODE(famsync_close(handle), FAMSYNC_OK);
+        raise(SIGKILL); /* so that valgrind, which has its own word on these stores, doesn't say how it ends */
+    }
+    int status;
+    WANT(waitpid(child, &status, 0) == child && WIFSIGNALED(status) && WTERMSIG(status) == SIGKILL);
+}
+
+static void too_many_pages(void)
+{
+    make_volume(8, "a=81920");
+    famsync *handle = opened();
+    famsync_memory *a = memory_of(handle, "a");
+    unsigned char *at = famsync_memory_at(a);
+    for (int i = 0; i < 8; i++)
+        at[i * 2 * 4096] = 1;
+    WANT_CODE(famsync_msync(handle, NULL), FAMSYNC_OK);
+    for (int i = 0; i < 9; i++)
+        at[i * 2 * 4096] = 2;
+    WANT(famsync_memory_dirty(a) == 9);
+    WANT_CODE(famsync_msync(handle, NULL), FAMSYNC_NOFRAME);
+    WANT(famsync_memory_dirty(a) == 9 && famsync_acknowledged(handle) == 1);
+    WANT_CODE(famsync_msync(handle, NULL), FAMSYNC_NOFRAME);
+    WANT_CODE(famsync_memory_close(a), FAMSYNC_OK);
+    /* nothing of it was stored */
+    WANT_CODE(famsync_msync(handle, NULL), FAMSYNC_OK);
+    WANT_CODE(famsync_close(handle), FAMSYNC_OK);
+    handle = opened();
+    a = memory_of(handle, "a");
+    at = famsync_memory_at(a);
+    for (int i = 0; i < 8; i++)
+        WANT(at[i * 2 * 4096] == 1);
+    WANT(at[8 * 2 * 4096] == 0);
+    /* Pages that famsync_store wrote count, too, and are found by the core alone: then a part was stored, which no
+       later call may commit. */
+    uint64_t address;
+    static unsigned char bytes[4 * 4096];
+    memset(bytes, 9, sizeof bytes);
+    WANT_CODE(famsync_map(handle, "a", 16 * 4096, 0, FAMSYNC_READ | FAMSYNC_WRITE, &address), FAMSYNC_OK);
+    WANT_CODE(famsync_store(handle, address, bytes, sizeof bytes, NULL), FAMSYNC_OK);
+    for (int i = 0; i < 6; i++)
+        at[i * 2 * 4096] = 3;
+    WANT_CODE(famsync_msync(handle, NULL), FAMSYNC_NOFRAME);
+    WANT(famsync_memory_dirty(a) == 6);
+    WANT_CODE(famsync_msync(handle, NULL), FAMSYNC_NOFRAME);
+    WANT_CODE(famsync_memory_close(a), FAMSYNC_OK);
+    WANT_CODE(famsync_msync(handle, NULL), FAMSYNC_TORN);
+    WANT_CODE(famsync_close(handle), FAMSYNC_OK);
+    handle = opened();
+    a = memory_of(handle, "a");
+    at = famsync_memory_at(a);
+    for (int i = 0; i < 8; i++)
+        WANT(at[i * 2 * 4096] == 1);
+    WANT_CODE(famsync_memory_close(a), FAMSYNC_OK);
+    WANT_CODE(famsync_close(handle), FAMSYNC_OK);
+}
+
+/* Stores that come to one page after the other open some pages ahead; those that weren't stored to don't count. */
+static void rising_stores(void)
+{
+    make_volume(64, "a=819200");
+    famsync *handle = opened();
+    famsync_memory *a = memory_of(handle, "a");
+    unsigned char *at = famsync_memory_at(a);
+    for (size_t round = 1; round <= 3; round++) {
+        for (size_t count = 1; count <= 64; count += 9) {
+            size_t first = round * 40 + count % 7;
+            for (size_t page = first; page < first + count; page++)
+                at[page * 4096 + count] = (unsigned char)(round + count);
+            WANT(famsync_memory_dirty(a) == count);
+            at[(first + count) * 4096 - 1] = 1;
+            WANT(famsync_memory_dirty(a) == count);
+            WANT_CODE(famsync_msync(handle, NULL), FAMSYNC_OK);
+            WANT(famsync_memory_dirty(a) == 0);
+        }
+        /* what is refused counts as it did, and what was committed before doesn't */
+        for (size_t page = 0; page < 65; page++)
+            at[page * 4096 + 4000] = (unsigned char)round;
+        WANT_CODE(famsync_msync(handle, NULL), FAMSYNC_NOFRAME);
+        WANT(famsync_memory_dirty(a) == 65);
+        WANT_CODE(famsync_memory_close(a), FAMSYNC_OK);
+        a = memory_of(handle, "a");
+        at = famsync_memory_at(a);
+        WANT(famsync_memory_dirty(a) == 0 && at[4000] == 0 && at[(round * 40 + 1) * 4096 + 64] == round + 64);
+    }
+    WANT_CODE(famsync_memory_close(a), FAMSYNC_OK);
+    WANT_CODE(famsync_close(handle), FAMSYNC_OK);
+}
+
+static void many_handles(void)
+{
+    /* opened and closed again, so that places in the handler's table are used again */
+    make_volume(8, "a=8192 b=8192");
+    for (int i = 1; i <= 30; i++) {
+        famsync *handle = opened();
+        famsync_memory *a = memory_of(handle, "a"), *b = memory_of(handle, "b");
+        int *first = famsync_memory_at(a), *second = famsync_memory_at(b);
+        WANT(*first == i - 1 && *second == i - 1);
+        *first = *second = i;
+        WANT_CODE(famsync_msync(handle, NULL), FAMSYNC_OK);
+        WANT_CODE(famsync_memory_close(a), FAMSYNC_OK);
+        *second = 99;
+        WANT_CODE(famsync_memory_close(b), FAMSYNC_OK);
+        WANT_CODE(famsync_close(handle), FAMSYNC_OK);
+    }
+}
+
+int main(void)
+{
+    make_volume(16, "a=20000 b=5000");
+    handler_before();
+    past_the_end();
+    stores_are_kept();
+    other_faults();
+    too_many_pages();
+    rising_stores();
+    many_handles();
+    printf("clients/embedded: memory: as it should be\n");
+    return 0;
+}

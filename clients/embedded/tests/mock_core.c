@@ -1,0 +1,818 @@
+/*
+ * A core for tests of the host alone: it keeps the calls of famsync_core.h over a volume in the format of
+ * docs/FORMATS.md, with a journal, by plain code that nobody proved. What it is for: the host is linked with it where
+ * the real core isn't built, and its recorded calls can be logged and compared with those that the host makes.
+ *
+ *   MOCK_LOG=PATH   each call that is recorded is written there, a line each: W OFFSET HEX, or S
+ */
+#define _DEFAULT_SOURCE
+#include "famsync_core.h"
+
+#include <fcntl.h>
+#include <stdbool.h>
+#include <stdio.h>
+#include <stdlib.h>
+#include <string.h>
+#include <sys/syscall.h>
+#include <unistd.h>
+
+#define PAGE 4096u
+#define MOST_FILES 64u
+#define MOST_SLOTS 1020u
+#define GATE_OPEN 0xA7
+
+enum { KIND_WRITE = 1, KIND_SYNC = 2 };
+
+struct call {
+    uint32_t kind;
+    uint64_t offset, length;
+    uint8_t *bytes;
+};
+
+struct page {
+    uint8_t *bytes; /* in a frame, or a null pointer */
+    bool dirty;
+};
+
+struct file {
+    uint8_t name[32];
+    uint64_t length, capacity;
+    uint32_t home, pages;
+    struct page *page;
+};
+
+/* A journal, and how far its commit is written home. */
+struct journal {
+    uint32_t gate; /* its block; the descriptor's is the next, and then come the records */
+    bool open;
+    uint32_t mark, count, made;
+    uint32_t home[MOST_SLOTS];
+    uint8_t *record[MOST_SLOTS];
+};
+
+struct mapping {
+    uint64_t address, pages, first;
+    uint32_t file, rights;
+};
+
+struct core {
+    uint32_t blocks;
+    uint8_t **block;
+    struct call *call;
+    size_t calls, first, room;  /* those from `first` on wait */
+    uint64_t recorded, carried; /* calls ever */
+    bool open, broken;
+    unsigned layout;
+    uint32_t slots, head, files;
+    struct file file[MOST_FILES];
+    struct journal journal[2];
+    struct mapping *mapping;
+    size_t mappings;
+    uint32_t frames, resident, turn;
+    uint32_t mark, acknowledged;
+    uint64_t durable; /* how many calls have to be carried out until `mark` is */
+    bool resized;
+};
+
+static struct core *core_of(famsync_core handle)
+{
+    return (struct core *)(void *)handle.at;
+}
+
+static void *memory(size_t bytes)
+{
+    struct rattle_tried tried = rattle_alloc(bytes, 16);
+    return tried.ok ? memset(tried.p, 0, bytes) : NULL;
+}
+
+/* Room for more, with what was there before; where it is refused that stays as it is. */
+static void *more_memory(void *old, size_t kept, size_t bytes)
+{
+    struct rattle_tried tried = old ? rattle_realloc(old, kept, bytes, 16) : rattle_alloc(bytes, 16);
+    return tried.ok ? tried.p : NULL;
+}
+
+static void give_back(void *at)
+{
+    if (at)
+        rattle_dealloc(at);
+}
+
+static uint64_t number_at(const uint8_t *bytes, unsigned count)
+{
+    uint64_t number = 0;
+    for (unsigned i = 0; i < count; i++)
+        number = number << 8 | bytes[i];
+    return number;
+}
+
+static void put_number(uint8_t *bytes, unsigned count, uint64_t number)
+{
+    for (unsigned i = count; i > 0; i--, number >>= 8)
+        bytes[i - 1] = (uint8_t)number;
+}
+
+/* Calls. */
+
+static void note(const struct call *call)
+{
+    static const char DIGITS[] = "0123456789abcdef";
+    const char *path = getenv("MOCK_LOG");
+    char line[3 * PAGE];
+    if (!path)
+        return;
+    int length = snprintf(line, 64, call->kind == KIND_SYNC ? "S" : "W %llu ", (unsigned long long)call->offset);
+    for (uint64_t i = 0; i < call->length; i++) {
+        line[length++] = DIGITS[call->bytes[i] / 16];
+        line[length++] = DIGITS[call->bytes[i] % 16];
+    }
+    line[length++] = '\n';
+    int file = open(path, O_WRONLY | O_CREAT | O_APPEND, 0600);
+    if (syscall(SYS_write, file, line, (size_t)length) != length)
+        abort();
+    close(file);
+}
+
+static bool record(struct core *core, struct call call)
+{
+    if (core->broken)
+        return false;
+    if (core->calls == core->room) {
+        size_t room = core->room ? 2 * core->room : 64;
+        void *more = more_memory(core->call, core->room * sizeof call, room * sizeof call);
+        if (!more)
+            return false;
+        core->call = more;
+        core->room = room;
+    }
+    core->call[core->calls++] = call;
+    core->recorded++;
+    note(&call);
+    return true;
+}
+
+/* Records a write within one block, and makes it on what is known. */
+static bool put(struct core *core, uint32_t block, const uint8_t *bytes, size_t count)
+{
+    struct call call = {KIND_WRITE, (uint64_t)block * PAGE, count, NULL};
+    if (!core->block[block] && count == PAGE)
+        core->block[block] = memory(PAGE);
+    if (!core->block[block] || !(call.bytes = memory(count)))
+        return false;
+    memcpy(call.bytes, bytes, count);
+    if (!record(core, call)) {
+        give_back(call.bytes);
+        return false;
+    }
+    memcpy(core->block[block], bytes, count);
+    return true;
+}
+
+static bool sync_disk(struct core *core)
+{
+    return record(core, (struct call){KIND_SYNC, 0, 0, NULL});
+}
+
+static int32_t broken(struct core *core)
+{
+    core->broken = true;
+    return FAMSYNC_CORE_DEVICE;
+}
+
+int32_t famsync_core_begin(uint32_t blocks, uint8_t **at)
+{
+    struct core *core;
+    if (blocks == 0)
+        return FAMSYNC_CORE_ARGUMENT;
+    core = memory(sizeof *core);
+    if (!core)
+        return FAMSYNC_CORE_NOMEMORY;
+    core->blocks = blocks;
+    core->block = memory(blocks * sizeof *core->block);
+    if (!core->block) {
+        give_back(core);
+        return FAMSYNC_CORE_NOMEMORY;
+    }
+    *at = (uint8_t *)core;
+    return FAMSYNC_CORE_OK;
+}
+
+int32_t famsync_core_supply(famsync_core handle, uint32_t block, const uint8_t *bytes, size_t count, uint8_t **at)
+{
+    struct core *core = core_of(handle);
+    *at = handle.at;
+    if (block >= core->blocks || count != PAGE)
+        return FAMSYNC_CORE_ARGUMENT;
+    if (core->block[block])
+        return FAMSYNC_CORE_OK;
+    core->block[block] = memory(PAGE);
+    if (!core->block[block])
+        return FAMSYNC_CORE_NOMEMORY;
+    memcpy(core->block[block], bytes, PAGE);
+    return FAMSYNC_CORE_OK;
+}
+
+int32_t famsync_core_is_known(famsync_core handle, uint32_t block, uint8_t **at)
+{
+    struct core *core = core_of(handle);
+    *at = handle.at;
+    return block < core->blocks && core->block[block];
+}
+
+int32_t famsync_core_forget(famsync_core handle, uint32_t block, uint8_t **at)
+{
+    struct core *core = core_of(handle);
+    *at = handle.at;
+    if (block >= core->blocks)
+        return FAMSYNC_CORE_ARGUMENT;
+    for (size_t i = core->first; i < core->calls; i++)
+        if (core->call[i].kind == KIND_WRITE && core->call[i].offset / PAGE == block)
+            return FAMSYNC_CORE_NONE;
+    give_back(core->block[block]);
+    core->block[block] = NULL;
+    return FAMSYNC_CORE_OK;
+}
+
+int64_t famsync_core_waiting(famsync_core handle, uint8_t **at)
+{
+    struct core *core = core_of(handle);
+    *at = handle.at;
+    return (int64_t)(core->calls - core->first);
+}
+
+int32_t famsync_core_call(famsync_core handle, uint32_t index, uint32_t *kind, uint64_t *offset, const uint8_t **bytes,
+                          uint64_t *length, uint8_t **at)
+{
+    struct core *core = core_of(handle);
+    struct call *call = core->call + core->first + index;
+    *at = handle.at;
+    if (index >= core->calls - core->first)
+        return FAMSYNC_CORE_NONE;
+    *kind = call->kind;
+    *offset = call->offset;
+    *bytes = call->bytes;
+    *length = call->length;
+    return FAMSYNC_CORE_OK;
+}
+
+int32_t famsync_core_carried_out(famsync_core handle, uint32_t count, uint8_t **at)
+{
+    struct core *core = core_of(handle);
+    *at = handle.at;
+    if (count > core->calls - core->first)
+        return FAMSYNC_CORE_ARGUMENT;
+    for (uint32_t i = 0; i < count; i++) {
+        struct call *call = &core->call[core->first++];
+        give_back(call->bytes);
+    }
+    if (core->first == core->calls)
+        core->first = core->calls = 0;
+    core->carried += count;
+    if (core->carried >= core->durable)
+        core->acknowledged = core->mark;
+    return FAMSYNC_CORE_OK;
+}
+
+/* Opening. */
+
+static int read_head(struct core *core)
+{
+    const uint8_t *super = core->block[0];
+    uint32_t files;
+    if (!super)
+        return FAMSYNC_CORE_ARGUMENT;
+    if (memcmp(super, "FAMSYNC", 7) != 0 || super[7] < '1' || super[7] > '3')
+        return FAMSYNC_CORE_NOTAVOLUME;
+    core->layout = super[7] - '0';
+    files = (uint32_t)number_at(super + 8, 4);
+    core->slots = (uint32_t)number_at(super + 12, 4);
+    if (files < 1 || files > MOST_FILES || core->slots < (core->layout == 3 ? 2 : 1) || core->slots > MOST_SLOTS)
+        return FAMSYNC_CORE_DAMAGED;
+    core->files = files;
+    core->head = core->layout == 1 ? 3 + core->slots : 5 + 2 * core->slots + (core->layout == 3);
+    core->journal[0].gate = 1;
+    core->journal[1].gate = 3 + core->slots;
+    return FAMSYNC_CORE_OK;
+}
+
+int64_t famsync_core_head(famsync_core handle, uint8_t **at)
+{
+    struct core *core = core_of(handle);
+    int code = read_head(core);
+    *at = handle.at;
+    return core->open ? FAMSYNC_CORE_ORDER : code != FAMSYNC_CORE_OK ? code : (int64_t)core->head;
+}
+
+static int read_table(struct core *core)
+{
+    const uint8_t *super = core->block[0];
+    uint64_t home = core->head;
+    for (uint32_t i = 0; i < core->files; i++) {
+        struct file *file = &core->file[i];
+        memcpy(file->name, super + 32 + 48 * i, 32);
+        file->capacity = file->length = number_at(super + 64 + 48 * i, 8);
+        file->home = (uint32_t)number_at(super + 72 + 48 * i, 4);
+        file->pages = (uint32_t)number_at(super + 76 + 48 * i, 4);
+        if (file->capacity == 0 || file->home != home || file->pages != (file->capacity + PAGE - 1) / PAGE)
+            return FAMSYNC_CORE_DAMAGED;
+        home += file->pages;
+    }
+    return home == number_at(super + 16, 4) && home <= core->blocks ? FAMSYNC_CORE_OK : FAMSYNC_CORE_DAMAGED;
+}
+
+static unsigned journals(const struct core *core)
+{
+    return core->layout == 1 ? 1 : 2;
+}
+
+static bool is_open(const struct core *core, const struct journal *journal)
+{
+    return core->block[journal->gate][0] == GATE_OPEN;
+}
+
+/* Writes the records of an open journal home, and closes it. */
+static int recover(struct core *core, const struct journal *journal)
+{
+    const uint8_t *descriptor = core->block[journal->gate + 1];
+    uint32_t count = (uint32_t)number_at(descriptor + 8, 4);
+    static const uint8_t closed[1];
+    if (count < 1 || count > core->slots)
+        return FAMSYNC_CORE_DAMAGED;
+    for (uint32_t i = 0; i < count; i++) {
+        uint32_t home = (uint32_t)number_at(descriptor + 16 + 4 * i, 4);
+        if (home < core->head - (core->layout == 3) || home >= core->blocks)
+            return FAMSYNC_CORE_DAMAGED;
+        if (!put(core, home, core->block[journal->gate + 2 + i], PAGE))
+            return FAMSYNC_CORE_NOMEMORY;
+    }
+    return sync_disk(core) && put(core, journal->gate, closed, 1) && sync_disk(core) ? FAMSYNC_CORE_OK
+                                                                                     : FAMSYNC_CORE_NOMEMORY;
+}
+
+static int recover_all(struct core *core)
+{
+    int code = FAMSYNC_CORE_OK;
+    for (unsigned round = 0; round < 2 && code == FAMSYNC_CORE_OK; round++) {
+        const struct journal *oldest = NULL;
+        for (unsigned i = 0; i < journals(core); i++) {
+            const struct journal *journal = &core->journal[i];
+            if (is_open(core, journal) &&
+                (!oldest || number_at(core->block[journal->gate + 1], 8) < number_at(core->block[oldest->gate + 1], 8)))
+                oldest = journal;
+        }
+        if (oldest)
+            code = recover(core, oldest);
+    }
+    return code;
+}
+
+static int read_lengths(struct core *core)
+{
+    for (uint32_t i = 0; i < core->files; i++) {
+        struct file *file = &core->file[i];
+        if (core->layout == 3)
+            file->length = number_at(core->block[core->head - 1] + 8 * i, 8);
+        if (file->length > file->capacity)
+            return FAMSYNC_CORE_DAMAGED;
+        file->page = memory(file->pages * sizeof *file->page);
+        if (!file->page)
+            return FAMSYNC_CORE_NOMEMORY;
+    }
+    return FAMSYNC_CORE_OK;
+}
+
+int32_t famsync_core_open(famsync_core handle, uint32_t frames, uint32_t copies, uint32_t *wanted, uint8_t **at)
+{
+    struct core *core = core_of(handle);
+    uint32_t most;
+    int code = core->open ? FAMSYNC_CORE_ORDER : read_head(core);
+    *at = handle.at;
+    for (uint32_t block = 0; code == FAMSYNC_CORE_OK && block < core->head; block++)
+        if (block >= core->blocks) {
+            code = FAMSYNC_CORE_DAMAGED;
+        } else if (!core->block[block]) {
+            *wanted = block;
+            code = FAMSYNC_CORE_WANTED;
+        }
+    if (code == FAMSYNC_CORE_OK)
+        code = read_table(core);
+    most = core->slots - (core->layout == 3);
+    if (code == FAMSYNC_CORE_OK && (frames > most || copies > 64))
+        code = FAMSYNC_CORE_BADSHAPE;
+    if (code == FAMSYNC_CORE_OK)
+        code = recover_all(core);
+    if (code == FAMSYNC_CORE_OK)
+        code = read_lengths(core);
+    core->frames = frames ? frames : most;
+    core->open = code == FAMSYNC_CORE_OK;
+    return code;
+}
+
+int64_t famsync_core_files(famsync_core handle, uint8_t **at)
+{
+    *at = handle.at;
+    return core_of(handle)->open ? (int64_t)core_of(handle)->files : FAMSYNC_CORE_ORDER;
+}
+
+int64_t famsync_core_frames(famsync_core handle, uint8_t **at)
+{
+    *at = handle.at;
+    return core_of(handle)->open ? (int64_t)core_of(handle)->frames : FAMSYNC_CORE_ORDER;
+}
+
+int32_t famsync_core_file(famsync_core handle, uint32_t file, uint64_t *length, uint64_t *pages, uint8_t **at)
+{
+    struct core *core = core_of(handle);
+    *at = handle.at;
+    if (!core->open || file >= core->files)
+        return core->open ? FAMSYNC_CORE_ARGUMENT : FAMSYNC_CORE_ORDER;
+    *length = core->file[file].length;
+    *pages = core->file[file].pages;
+    return FAMSYNC_CORE_OK;
+}
+
+int64_t famsync_core_file_name(famsync_core handle, uint32_t file, uint8_t *name, size_t count, uint8_t **at)
+{
+    struct core *core = core_of(handle);
+    size_t length = 0;
+    *at = handle.at;
+    if (!core->open || file >= core->files)
+        return core->open ? FAMSYNC_CORE_ARGUMENT : FAMSYNC_CORE_ORDER;
+    while (length < 32 && core->file[file].name[length])
+        length++;
+    if (length > count)
+        return FAMSYNC_CORE_ARGUMENT;
+    memcpy(name, core->file[file].name, length);
+    return (int64_t)length;
+}
+
+/* Commits. */
+
+static struct journal *oldest_open(struct core *core)
+{
+    struct journal *oldest = NULL;
+    for (unsigned i = 0; i < 2; i++)
+        if (core->journal[i].open && (!oldest || core->journal[i].mark < oldest->mark))
+            oldest = &core->journal[i];
+    return oldest;
+}
+
+static void drop_records(struct journal *journal)
+{
+    for (uint32_t i = 0; i < journal->count; i++)
+        give_back(journal->record[i]);
+    journal->count = 0;
+    journal->open = false;
+}
+
+/* A step of the oldest commit that is being written home. */
+static bool step(struct core *core, struct journal *journal)
+{
+    static const uint8_t closed[1];
+    bool made;
+    if (journal->made < journal->count)
+        made = put(core, journal->home[journal->made], journal->record[journal->made], PAGE);
+    else if (journal->made == journal->count + 1)
+        made = put(core, journal->gate, closed, 1);
+    else
+        made = sync_disk(core);
+    if (made && journal->made++ == journal->count + 2)
+        drop_records(journal);
+    return made;
+}
+
+int32_t famsync_core_write_out(famsync_core handle, uint32_t most, uint8_t **at)
+{
+    struct core *core = core_of(handle);
+    struct journal *journal;
+    *at = handle.at;
+    if (!core->open)
+        return FAMSYNC_CORE_ORDER;
+    for (; (journal = oldest_open(core)) && most > 0; most--)
+        if (!step(core, journal))
+            return broken(core);
+    return journal ? FAMSYNC_CORE_OK : FAMSYNC_CORE_NONE;
+}
+
+static bool add_record(struct journal *journal, uint32_t home, const uint8_t *bytes)
+{
+    uint8_t *copy = memory(PAGE);
+    if (!copy)
+        return false;
+    memcpy(copy, bytes, PAGE);
+    journal->home[journal->count] = home;
+    journal->record[journal->count++] = copy;
+    return true;
+}
+
+/* What a commit has: the lengths where one was set, and the pages that were stored to, in the order of their blocks. */
+static bool collect(struct core *core, struct journal *journal)
+{
+    uint8_t lengths[PAGE] = {0};
+    bool all = true;
+    if (core->resized) {
+        for (uint32_t i = 0; i < core->files; i++)
+            put_number(lengths + 8 * i, 8, core->file[i].length);
+        all = add_record(journal, core->head - 1, lengths);
+    }
+    for (uint32_t i = 0; i < core->files; i++)
+        for (uint32_t page = 0; page < core->file[i].pages && all; page++)
+            if (core->file[i].page[page].dirty)
+                all = add_record(journal, core->file[i].home + page, core->file[i].page[page].bytes);
+    return all;
+}
+
+static bool write_journal(struct core *core, struct journal *journal)
+{
+    static const uint8_t open_gate[1] = {GATE_OPEN};
+    uint8_t descriptor[PAGE] = {0};
+    put_number(descriptor, 8, journal->mark);
+    put_number(descriptor + 8, 4, journal->count);
+    for (uint32_t i = 0; i < journal->count; i++) {
+        put_number(descriptor + 16 + 4 * i, 4, journal->home[i]);
+        if (!put(core, journal->gate + 2 + i, journal->record[i], PAGE))
+            return false;
+    }
+    return put(core, journal->gate + 1, descriptor, PAGE) && sync_disk(core) &&
+           put(core, journal->gate, open_gate, 1) && sync_disk(core);
+}
+
+static void clean(struct core *core)
+{
+    for (uint32_t i = 0; i < core->files; i++)
+        for (uint32_t page = 0; page < core->file[i].pages; page++)
+            core->file[i].page[page].dirty = false;
+    core->resized = false;
+}
+
+int32_t famsync_core_commit(famsync_core handle, uint32_t *mark, uint8_t **at)
+{
+    struct core *core = core_of(handle);
+    struct journal *journal = &core->journal[(core->mark + 1) % journals(core)];
+    *at = handle.at;
+    if (!core->open || core->broken)
+        return core->open ? FAMSYNC_CORE_BROKEN : FAMSYNC_CORE_ORDER;
+    while (journal->open)
+        if (!step(core, oldest_open(core)))
+            return broken(core);
+    if (!collect(core, journal)) {
+        drop_records(journal);
+        return FAMSYNC_CORE_OUTOFMEMORY;
+    }
+    *mark = ++core->mark;
+    if (journal->count == 0) {
+        core->acknowledged = core->carried >= core->durable ? core->mark : core->acknowledged;
+        return FAMSYNC_CORE_OK;
+    }
+    journal->mark = core->mark;
+    journal->made = 0;
+    if (!write_journal(core, journal)) {
+        drop_records(journal);
+        return broken(core);
+    }
+    journal->open = true;
+    core->durable = core->recorded;
+    clean(core);
+    return FAMSYNC_CORE_OK;
+}
+
+int64_t famsync_core_acknowledged(famsync_core handle, uint8_t **at)
+{
+    *at = handle.at;
+    return core_of(handle)->open ? (int64_t)core_of(handle)->acknowledged : FAMSYNC_CORE_ORDER;
+}
+
+/* Accesses. */
+
+int32_t famsync_core_map(famsync_core handle, uint32_t file, uint64_t offset, uint64_t length, uint32_t rights,
+                         uint64_t address, uint8_t **at)
+{
+    struct core *core = core_of(handle);
+    size_t bytes = core->mappings * sizeof *core->mapping;
+    void *more;
+    *at = handle.at;
+    if (!core->open)
+        return FAMSYNC_CORE_ORDER;
+    if (file >= core->files)
+        return FAMSYNC_CORE_NOFILE;
+    if (rights != 1 && rights != 3)
+        return FAMSYNC_CORE_ARGUMENT;
+    if (offset % PAGE || length == 0 || length > 65536 * (uint64_t)PAGE || address % PAGE)
+        return FAMSYNC_CORE_EINVAL;
+    more = more_memory(core->mapping, bytes, bytes + sizeof *core->mapping);
+    if (!more)
+        return FAMSYNC_CORE_OUTOFMEMORY;
+    core->mapping = more;
+    core->mapping[core->mappings++] = (struct mapping){address, (length + PAGE - 1) / PAGE, offset / PAGE, file,
+                                                       rights};
+    return FAMSYNC_CORE_OK;
+}
+
+static void drop_page(struct core *core, struct page *page)
+{
+    if (!page->bytes)
+        return;
+    give_back(page->bytes);
+    *page = (struct page){NULL, false};
+    core->resident--;
+}
+
+/* Takes a clean page out of memory, if there is one, in turn; what is left of commits is written before. */
+static bool make_room(struct core *core)
+{
+    struct journal *journal;
+    while ((journal = oldest_open(core)))
+        if (!step(core, journal))
+            break;
+    for (uint32_t tries = 0; tries < 2 * core->blocks; tries++) {
+        uint32_t block = core->turn++ % core->blocks;
+        for (uint32_t i = 0; i < core->files; i++) {
+            struct file *file = &core->file[i];
+            if (block < file->home || block - file->home >= file->pages)
+                continue;
+            struct page *page = &file->page[block - file->home];
+            if (page->bytes && !page->dirty) {
+                drop_page(core, page);
+                return true;
+            }
+        }
+    }
+    return false;
+}
+
+static int add_page(struct core *core, struct page *page)
+{
+    if (core->resident == core->frames && !make_room(core))
+        return FAMSYNC_CORE_NOFRAME;
+    page->bytes = memory(PAGE);
+    if (!page->bytes)
+        return FAMSYNC_CORE_OUTOFMEMORY;
+    core->resident++;
+    return FAMSYNC_CORE_OK;
+}
+
+static int bring(struct core *core, struct file *file, uint64_t number, uint32_t *wanted)
+{
+    struct page *page = &file->page[number];
+    uint32_t block = file->home + (uint32_t)number;
+    int code;
+    if (page->bytes)
+        return FAMSYNC_CORE_OK;
+    if (!core->block[block]) {
+        *wanted = block;
+        return FAMSYNC_CORE_WANTED;
+    }
+    code = add_page(core, page);
+    if (code == FAMSYNC_CORE_OK)
+        memcpy(page->bytes, core->block[block], PAGE);
+    return code;
+}
+
+/* The page at an address, in memory. */
+static int page_at(struct core *core, uint64_t address, bool writes, struct page **page, uint32_t *wanted)
+{
+    if (address >= UINT64_C(1) << 47)
+        return FAMSYNC_CORE_EINVAL;
+    for (size_t i = 0; i < core->mappings; i++) {
+        struct mapping *mapping = &core->mapping[i];
+        struct file *file = &core->file[mapping->file];
+        uint64_t number;
+        int code;
+        if (address < mapping->address || address - mapping->address >= mapping->pages * PAGE)
+            continue;
+        number = (address - mapping->address) / PAGE + mapping->first;
+        if (writes && mapping->rights == 1)
+            return FAMSYNC_CORE_SEGVACCERR;
+        if (number >= (file->length + PAGE - 1) / PAGE)
+            return FAMSYNC_CORE_BUSADRERR;
+        code = bring(core, file, number, wanted);
+        *page = &file->page[number];
+        return code;
+    }
+    return FAMSYNC_CORE_SEGVMAPERR;
+}
+
+static int32_t access_of(struct core *core, uint64_t address, uint8_t *loaded, const uint8_t *stored, size_t count,
+                         uint64_t *done, uint32_t *wanted)
+{
+    *done = 0;
+    if (!core->open)
+        return FAMSYNC_CORE_ORDER;
+    while (*done < count) {
+        uint64_t at = address + *done, within = at % PAGE;
+        uint64_t some = count - *done < PAGE - within ? count - *done : PAGE - within;
+        struct page *page;
+        int code = page_at(core, at, stored != NULL, &page, wanted);
+        if (code != FAMSYNC_CORE_OK)
+            return code;
+        if (loaded)
+            memcpy(loaded + *done, page->bytes + within, some);
+        else
+            memcpy(page->bytes + within, stored + *done, some);
+        page->dirty |= stored != NULL;
+        *done += some;
+    }
+    return FAMSYNC_CORE_OK;
+}
+
+int32_t famsync_core_load(famsync_core handle, uint64_t address, uint8_t *bytes, size_t count, uint64_t *done,
+                          uint32_t *wanted, uint8_t **at)
+{
+    *at = handle.at;
+    return access_of(core_of(handle), address, bytes, NULL, count, done, wanted);
+}
+
+int32_t famsync_core_store(famsync_core handle, uint64_t address, const uint8_t *bytes, size_t count, uint64_t *done,
+                           uint32_t *wanted, uint8_t **at)
+{
+    *at = handle.at;
+    return access_of(core_of(handle), address, NULL, bytes, count, done, wanted);
+}
+
+static uint32_t pages_of(uint64_t length)
+{
+    return (uint32_t)((length + PAGE - 1) / PAGE);
+}
+
+static uint32_t dirty_pages(const struct core *core)
+{
+    uint32_t count = 0;
+    for (uint32_t i = 0; i < core->files; i++)
+        for (uint32_t page = 0; page < core->file[i].pages; page++)
+            count += core->file[i].page[page].dirty;
+    return count;
+}
+
+static int grow(struct core *core, struct file *file, uint64_t length)
+{
+    uint32_t first = pages_of(file->length), end = pages_of(length);
+    struct page *last = file->length % PAGE ? &file->page[first - 1] : NULL;
+    if (last && !last->bytes)
+        return FAMSYNC_CORE_NOTRESIDENT;
+    if (dirty_pages(core) + (end - first) + (last && !last->dirty) > core->frames)
+        return FAMSYNC_CORE_NOFRAME;
+    if (last) {
+        memset(last->bytes + file->length % PAGE, 0, PAGE - file->length % PAGE);
+        last->dirty = true;
+    }
+    for (uint32_t page = first; page < end; page++) {
+        int code = file->page[page].bytes ? FAMSYNC_CORE_OK : add_page(core, &file->page[page]);
+        if (code != FAMSYNC_CORE_OK)
+            return code;
+        file->page[page].dirty = true;
+    }
+    return FAMSYNC_CORE_OK;
+}
+
+static void shrink(struct core *core, struct file *file, uint64_t length)
+{
+    struct page *last = length % PAGE ? &file->page[pages_of(length) - 1] : NULL;
+    for (uint32_t page = pages_of(length); page < file->pages; page++)
+        drop_page(core, &file->page[page]);
+    if (last && last->bytes)
+        memset(last->bytes + length % PAGE, 0, PAGE - length % PAGE);
+}
+
+int32_t famsync_core_set_length(famsync_core handle, uint32_t number, uint64_t length, uint32_t *wanted, uint8_t **at)
+{
+    struct core *core = core_of(handle);
+    struct file *file = &core->file[number < MOST_FILES ? number : 0];
+    int code = FAMSYNC_CORE_OK;
+    (void)wanted;
+    *at = handle.at;
+    if (!core->open)
+        return FAMSYNC_CORE_ORDER;
+    if (number >= core->files)
+        return FAMSYNC_CORE_NOFILE;
+    if (core->layout != 3 || length > file->capacity)
+        return FAMSYNC_CORE_EINVAL;
+    if (length > file->length)
+        code = grow(core, file, length);
+    else
+        shrink(core, file, length);
+    if (code == FAMSYNC_CORE_OK && length != file->length) {
+        file->length = length;
+        core->resized = true;
+    }
+    return code;
+}
+
+void famsync_core_close(famsync_core handle)
+{
+    struct core *core = core_of(handle);
+    for (size_t i = core->first; i < core->calls; i++)
+        give_back(core->call[i].bytes);
+    give_back(core->call);
+    for (uint32_t i = 0; i < MOST_FILES; i++) {
+        for (uint32_t page = 0; core->file[i].page && page < core->file[i].pages; page++)
+            drop_page(core, &core->file[i].page[page]);
+        give_back(core->file[i].page);
+    }
+    for (unsigned i = 0; i < 2; i++)
+        drop_records(&core->journal[i]);
+    for (uint32_t block = 0; block < core->blocks; block++)
+        give_back(core->block[block]);
+    give_back(core->block);
+    give_back(core->mapping);
+    give_back(core);
+}

@@ -1,0 +1,223 @@
+/* What is no volume isn't opened, by its own code, and isn't changed; nor is one that somebody has, by whatever name.
+ */
+#include "test.h"
+
+#include <sys/file.h>
+#include <sys/resource.h>
+
+static char other[100], mark[100];
+
+/* How many descriptors this process has. */
+static unsigned descriptors(void)
+{
+    unsigned count = 0;
+    for (int file = 0; file < 64; file++)
+        count += fcntl(file, F_GETFD) != -1;
+    return count;
+}
+
+static int code_of(const char *path)
+{
+    famsync *handle = (famsync *)1;
+    char message[300] = "";
+    struct famsync_options options = {.message = message, .message_size = sizeof message};
+    unsigned before = descriptors();
+    int code = famsync_open(path, &options, &handle), error = errno;
+    WANT(code == FAMSYNC_OK ? famsync_close(handle) == FAMSYNC_OK : handle == NULL && strlen(message) > 0);
+    WANT(descriptors() == before);
+    errno = error;
+    return code;
+}
+
+static void arguments(void)
+{
+    famsync *handle = (famsync *)1;
+    uint64_t address;
+    WANT_CODE(famsync_open(NULL, NULL, &handle), FAMSYNC_ARGUMENT);
+    WANT_CODE(famsync_open("", NULL, &handle), FAMSYNC_ARGUMENT);
+    WANT_CODE(famsync_open(volume, NULL, NULL), FAMSYNC_ARGUMENT);
+    WANT(handle == NULL);
+    WANT_CODE(famsync_msync(NULL, NULL), FAMSYNC_ARGUMENT);
+    WANT_CODE(famsync_map(NULL, "a", 0, 0, FAMSYNC_READ, &address), FAMSYNC_ARGUMENT);
+    WANT_CODE(famsync_close(NULL), FAMSYNC_OK);
+    WANT_CODE(famsync_memory_close(NULL), FAMSYNC_OK);
+    WANT(famsync_files(NULL) == 0 && famsync_frames(NULL) == 0 && famsync_acknowledged(NULL) == 0);
+    for (int code = -50; code < 2; code++)
+        WANT(strlen(famsync_strerror(code)) > 0);
+    handle = opened();
+    WANT_CODE(famsync_map(handle, NULL, 0, 0, FAMSYNC_READ, &address), FAMSYNC_ARGUMENT);
+    WANT_CODE(famsync_memory_open(handle, "a", NULL), FAMSYNC_ARGUMENT);
+    WANT_CODE(famsync_close(handle), FAMSYNC_OK);
+}
+
+static void other_files(void)
+{
+    snprintf(other, sizeof other, "%s/other", folder);
+    WANT_CODE(code_of("/nowhere/v.img"), FAMSYNC_SYSTEM);
+    WANT(errno == ENOENT);
+    WANT_CODE(code_of("/dev/null"), FAMSYNC_NOTREGULAR);
+    WANT_CODE(code_of(folder), FAMSYNC_NOTREGULAR);
+    WANT(mkfifo(other, 0600) == 0);
+    WANT_CODE(code_of(other), FAMSYNC_NOTREGULAR);
+    WANT(unlink(other) == 0);
+    WANT(symlink("nowhere", other) == 0);
+    WANT_CODE(code_of(other), FAMSYNC_SYSTEM);
+    WANT(unlink(other) == 0);
+}
+
+static void set_bytes(off_t at, const char *bytes, size_t count)
+{
+    int file = open(volume, O_WRONLY | O_CLOEXEC);
+    WANT(file >= 0 && pwrite(file, bytes, count, at) == (ssize_t)count && close(file) == 0);
+}
+
+static void spoilt_volumes(void)
+{
+    WANT(truncate(volume, 0) == 0);
+    WANT_CODE(code_of(volume), FAMSYNC_NOTAVOLUME);
+    WANT(truncate(volume, 4095) == 0);
+    WANT_CODE(code_of(volume), FAMSYNC_NOTAVOLUME);
+    WANT(truncate(volume, 1 << 20) == 0);
+    WANT_CODE(code_of(volume), FAMSYNC_NOTAVOLUME);
+    make_volume(16, "a=65536");
+    set_bytes(0, "FAMSYNC9", 8);
+    WANT_CODE(code_of(volume), FAMSYNC_NOTAVOLUME);
+    make_volume(16, "a=65536");
+    set_bytes(8, "\377\377\377\377", 4); /* files */
+    WANT_CODE(code_of(volume), FAMSYNC_DAMAGED);
+    make_volume(16, "a=65536");
+    set_bytes(12, "\377\377\377\377", 4); /* slots */
+    WANT_CODE(code_of(volume), FAMSYNC_DAMAGED);
+    make_volume(16, "a=65536");
+    set_bytes(16, "\377\377\377\377", 4); /* blocks */
+    WANT_CODE(code_of(volume), FAMSYNC_DAMAGED);
+    make_volume(16, "a=65536");
+    set_bytes(64, "\377\377\377\377\377\377\377\377", 8); /* a capacity */
+    WANT_CODE(code_of(volume), FAMSYNC_DAMAGED);
+    make_volume(16, "a=65536");
+    set_bytes(4096, "\247", 1); /* an open gate, and no descriptor */
+    WANT_CODE(code_of(volume), FAMSYNC_DAMAGED);
+}
+
+static void other_lengths(void)
+{
+    struct stat found;
+    make_volume(16, "a=65536");
+    WANT(stat(volume, &found) == 0);
+    WANT(truncate(volume, found.st_size - 1) == 0);
+    WANT_CODE(code_of(volume), FAMSYNC_DAMAGED);
+    for (off_t blocks = 1; blocks < found.st_size / 4096; blocks++) {
+        WANT(truncate(volume, blocks * 4096) == 0);
+        make_volume(16, "a=65536");
+        WANT(truncate(volume, blocks * 4096) == 0);
+        WANT_CODE(code_of(volume), FAMSYNC_DAMAGED);
+    }
+    make_volume(16, "a=65536");
+    WANT(truncate(volume, found.st_size + 5000) == 0);
+    WANT_CODE(code_of(volume), FAMSYNC_OK);
+    make_volume(16, "a=65536");
+}
+
+static void other_names(void)
+{
+    WANT(symlink("v.img", other) == 0);
+    WANT_CODE(code_of(other), FAMSYNC_OK);
+    /* the mark of what a link leads to is beside that */
+    snprintf(mark, sizeof mark, "%s/v.img.suspect", folder);
+    int file = open(mark, O_WRONLY | O_CREAT | O_CLOEXEC, 0600);
+    WANT(file >= 0 && close(file) == 0);
+    WANT_CODE(code_of(other), FAMSYNC_SUSPECT);
+    WANT(unlink(mark) == 0 && unlink(other) == 0);
+    WANT(link(volume, other) == 0);
+    WANT_CODE(code_of(volume), FAMSYNC_NAMES);
+    WANT_CODE(code_of(other), FAMSYNC_NAMES);
+    WANT(unlink(other) == 0);
+    WANT_CODE(code_of(volume), FAMSYNC_OK);
+}
+
+static void marked(void)
+{
+    famsync *handle;
+    int file = open(mark, O_WRONLY | O_CREAT | O_CLOEXEC, 0600);
+    WANT(file >= 0 && close(file) == 0);
+    WANT_CODE(code_of(volume), FAMSYNC_SUSPECT);
+    WANT(access(mark, F_OK) == 0);
+    handle = opened_with((struct famsync_options){.trust = 1});
+    WANT(access(mark, F_OK) != 0);
+    WANT_CODE(famsync_close(handle), FAMSYNC_OK);
+    WANT_CODE(code_of(volume), FAMSYNC_OK);
+}
+
+static void in_use(void)
+{
+    famsync *handle = opened(), *same;
+    int status;
+    WANT_CODE(famsync_open(volume, NULL, &same), FAMSYNC_INUSE);
+    pid_t child = fork();
+    if (child == 0)
+        _exit(famsync_open(volume, NULL, &same) == FAMSYNC_INUSE ? 0 : 1);
+    WANT(waitpid(child, &status, 0) == child && status == 0);
+    WANT_CODE(famsync_close(handle), FAMSYNC_OK);
+    /* one who reads it is in the way, too */
+    int file = open(volume, O_RDONLY | O_CLOEXEC);
+    WANT(file >= 0 && flock(file, LOCK_SH | LOCK_NB) == 0);
+    WANT_CODE(code_of(volume), FAMSYNC_INUSE);
+    WANT(close(file) == 0);
+    WANT_CODE(code_of(volume), FAMSYNC_OK);
+}
+
+static void shapes(void)
+{
+    famsync *handle;
+    struct famsync_options options = {.frames = 17};
+    WANT_CODE(famsync_open(volume, &options, &handle), FAMSYNC_SHAPE);
+    options = (struct famsync_options){.copies = 65};
+    WANT_CODE(famsync_open(volume, &options, &handle), FAMSYNC_SHAPE);
+    handle = opened_with((struct famsync_options){.frames = 3, .copies = 2});
+    WANT(famsync_frames(handle) == 3);
+    WANT_CODE(famsync_close(handle), FAMSYNC_OK);
+}
+
+static void closed_descriptors(void)
+{
+    pid_t child = fork();
+    int status;
+    if (child == 0) {
+        for (int file = 0; file < 3; file++)
+            close(file);
+        famsync *handle = opened();
+        for (int file = 0; file < 3; file++)
+            WANT(fcntl(file, F_GETFD) == -1);
+        WANT_CODE(famsync_close(handle), FAMSYNC_OK);
+        _exit(0);
+    }
+    WANT(waitpid(child, &status, 0) == child && WIFEXITED(status) && WEXITSTATUS(status) == 0);
+    /* and where there is no descriptor left */
+    struct rlimit before, few;
+    WANT(getrlimit(RLIMIT_NOFILE, &before) == 0);
+    for (rlim_t limit = 3; limit < 9; limit++) {
+        famsync *handle;
+        few = before;
+        few.rlim_cur = limit;
+        WANT(setrlimit(RLIMIT_NOFILE, &few) == 0);
+        int code = famsync_open(volume, NULL, &handle);
+        WANT(setrlimit(RLIMIT_NOFILE, &before) == 0);
+        WANT(code == FAMSYNC_OK ? famsync_close(handle) == FAMSYNC_OK : code == FAMSYNC_SYSTEM && handle == NULL);
+    }
+}
+
+int main(void)
+{
+    make_volume(16, "a=65536");
+    arguments();
+    other_files();
+    spoilt_volumes();
+    other_lengths();
+    other_names();
+    marked();
+    in_use();
+    shapes();
+    closed_descriptors();
+    printf("clients/embedded: opening: as it should be\n");
+    return 0;
+}

@@ -1,0 +1,144 @@
+/*
+ * A session for tests that cut it off or make a call of it fail. Of the file `a` the first ten pages have one number in
+ * each, the same in all, that is raised by one and committed, round by round; `b` has the number as its length.
+ *
+ *   session VOLUME make [FILES]               makes a volume
+ *   session VOLUME work ROUNDS [foreground]   prints each call that didn't succeed, and the number of each round that
+ * did session VOLUME load                       the same for ever, by three threads, each with pages of its own session
+ * VOLUME find [trust]               prints the numbers that are there
+ */
+#include "test.h"
+
+#include <stdatomic.h>
+
+#define PAGES 10
+#define THREADS 3
+
+static int failures;
+
+static int tell(const char *call, int code)
+{
+    if (code == FAMSYNC_OK)
+        return 0;
+    failures++;
+    printf("%s %d\n", call, code);
+    return 1;
+}
+
+/* The half of the pages is stored to by plain memory, and the other half by famsync_store. */
+static int one_round(famsync *handle, famsync_memory *memory, uint64_t address, uint64_t number)
+{
+    uint64_t mark;
+    int failed = 0;
+    for (unsigned page = 0; page < PAGES; page += 2) {
+        memcpy((unsigned char *)famsync_memory_at(memory) + page * 4096 + 8 * (number % 16), &number, 8);
+        memcpy((unsigned char *)famsync_memory_at(memory) + page * 4096 + 4000, &number, 8);
+        failed |= tell("store", famsync_store(handle, address + (page + 1) * 4096 + 4000, &number, 8, NULL));
+    }
+    failed |= tell("setlength", famsync_setlength(handle, "b", number));
+    failed |= tell("msync", failed ? FAMSYNC_OK : famsync_msync(handle, &mark));
+    if (!failed)
+        printf("%llu\n", (unsigned long long)number);
+    return failed;
+}
+
+static int work(uint64_t rounds, bool foreground)
+{
+    famsync *handle;
+    famsync_memory *memory;
+    uint64_t address, number;
+    struct famsync_options options = {.foreground = foreground};
+    if (tell("open", famsync_open(volume, &options, &handle)))
+        return 0;
+    if (!tell("memory", famsync_memory_open(handle, "a", &memory))) {
+        if (!tell("map", famsync_map(handle, "a", 0, 0, 3, &address)) &&
+            !tell("load", famsync_load(handle, address + 4096 + 4000, &number, 8, NULL))) {
+            int left = 3; /* a call that failed may be tried again */
+            for (uint64_t round = number + 1; round <= number + rounds && left > 0;)
+                if (one_round(handle, memory, address, round))
+                    left--;
+                else
+                    round++;
+        }
+        tell("forget", famsync_memory_close(memory));
+    }
+    tell("close", famsync_close(handle));
+    return 0;
+}
+
+static famsync *shared;
+static famsync_memory *plain;
+
+static void *load(void *argument)
+{
+    unsigned worker = (unsigned)(uintptr_t)argument;
+    unsigned char *at = (unsigned char *)famsync_memory_at(plain) + 4000 + 4096 * PAGES * (worker + 1);
+    uint64_t number;
+    memcpy(&number, at, 8);
+    for (number += number == 0;; number++) { /* a round that was cut off is made whole before the next */
+        for (unsigned page = 0; page < PAGES; page++)
+            memcpy(at + 4096 * page, &number, 8);
+        WANT_CODE(famsync_msync(shared, NULL), FAMSYNC_OK);
+        char line[64];
+        int length = snprintf(line, sizeof line, "%u %llu\n", worker, (unsigned long long)number);
+        WANT(write(1, line, (size_t)length) == length);
+    }
+    return NULL;
+}
+
+static int loaded(void)
+{
+    pthread_t thread[THREADS];
+    shared = opened();
+    WANT_CODE(famsync_memory_open(shared, "a", &plain), FAMSYNC_OK);
+    for (uintptr_t i = 0; i < THREADS; i++)
+        WANT(pthread_create(&thread[i], NULL, load, (void *)i) == 0);
+    for (unsigned i = 0; i < THREADS; i++)
+        pthread_join(thread[i], NULL);
+    return 1;
+}
+
+/* One number for each ten pages, or `torn`; pages of the threads may differ by one within a round that wasn't answered,
+   as others commit meanwhile. */
+static int find(bool trust)
+{
+    famsync *handle;
+    uint64_t address;
+    struct famsync_options options = {.trust = trust};
+    int code = famsync_open(volume, &options, &handle);
+    if (code != FAMSYNC_OK) {
+        printf("open %d\n", code);
+        return 0;
+    }
+    WANT_CODE(famsync_map(handle, "a", 0, 0, 1, &address), FAMSYNC_OK);
+    for (unsigned part = 0; part <= THREADS; part++) {
+        uint64_t first = 0, number, bad = 0;
+        for (unsigned page = 0; page < PAGES; page++) {
+            WANT_CODE(famsync_load(handle, address + 4096 * (PAGES * part + page) + 4000, &number, 8, NULL),
+                      FAMSYNC_OK);
+            first = page == 0 ? number : first;
+            bad |= number != first && (part == 0 || number + 1 != first);
+        }
+        printf(bad ? "torn " : "%llu ", (unsigned long long)first);
+    }
+    printf("%llu\n", (unsigned long long)famsync_file_length(handle, 1));
+    WANT_CODE(famsync_close(handle), FAMSYNC_OK);
+    return 0;
+}
+
+int main(int count, char **words)
+{
+    WANT(count >= 3);
+    setvbuf(stdout, NULL, _IOLBF, 0); /* what was acknowledged is told also where the process is killed then */
+    snprintf(volume, sizeof volume, "%s", words[1]);
+    if (strcmp(words[2], "make") == 0) {
+        strcpy(folder, ".");
+        make_volume_of(3, 48, count > 3 ? words[3] : "a=163840 b=0/5000");
+        return 0;
+    }
+    if (strcmp(words[2], "work") == 0)
+        return work((uint64_t)atoi(words[3]), count > 4);
+    if (strcmp(words[2], "load") == 0)
+        return loaded();
+    return find(count > 3);
+}

@@ -1,0 +1,143 @@
+-- What an embedded machine has served, seen over the disk in memory that made the calls.
+use Rattle.std.proofs.Common.{◌≡◌, ℕ, List, [], ◌++◌, Option, Some, None, IfSome, Result, Ok, Err, IfOk, IfErr}
+use Rattle.device.specs.Deferred.{Deferred, as_recorded, IsSuppliedWell}
+use Rattle.device.specs.Memory.{Recorded}
+use Rattle.machine.specs.declared.act.Reply.{Reply}
+use Rattle.machine.specs.declared.act.Shape.{Shape}
+use Rattle.machine.specs.declared.act.Step.{Step}
+use Rattle.machine.specs.Runs.{StepTaken}
+use Rattle.machine.specs.State.{Whole}
+use Rattle.engine.specs.Engine.{HasStarted}
+use Rattle.session.specs.declared.notes.Notes.{Notes}
+use Rattle.session.specs.Commits.{CommitsMark, StopsCommit}
+use Rattle.session.specs.Ranges.{MakesStepsThat}
+use Rattle.session.specs.Sessions.{IsServing, no_notes}
+use Rattle.session.specs.Steps.{Makes}
+use Rattle.session.proofs.Serves.{served_none, served_does}
+use Rattle.session.proofs.Stretches.{makes_none, makes_then}
+use Rattle.embedded.specs.Recorded.{deferred_disk, recorded_disk, recorded}
+use Rattle.embedded.specs.Embedded.{last_committed, HasCommitted, ServesWell}
+use Rattle.embedded.proofs.Through.{step_through, makes_through, makes_honest, does_through, started_through, started_honest}
+
+-- ---- over the disk in memory
+
+pub start_recorded : (before : Deferred) (shape : Shape) (start : Whole Deferred) → IsSuppliedWell before → HasStarted deferred_disk before shape start → HasStarted recorded_disk (as_recorded before) shape (recorded start)
+start_recorded before shape start well it = started_through as_recorded recorded_disk IsSuppliedWell (λ _. tt) before shape start well it
+
+pub step_recorded : (old new : Whole Deferred) (step : Step) (reply : Reply) → IsSuppliedWell old.device → StepTaken deferred_disk old step reply new → StepTaken recorded_disk (recorded old) step reply (recorded new)
+step_recorded old new step reply well it = step_through as_recorded recorded_disk IsSuppliedWell (λ _. tt) old new step reply well it
+
+pub does_recorded : (old new : Whole Deferred) (before after : Notes) (what : List Step → List Reply → Type 0) → IsSuppliedWell old.device → MakesStepsThat deferred_disk old before what new after
+    → MakesStepsThat recorded_disk (recorded old) before what (recorded new) after
+does_recorded old new before after what well it = does_through as_recorded recorded_disk IsSuppliedWell (λ _. tt) old new before after what well it
+
+pub makes_recorded : (old new : Whole Deferred) (before after : Notes) (steps : List Step) (replies : List Reply) → IsSuppliedWell old.device → Makes deferred_disk old before steps replies new after
+    → Makes recorded_disk (recorded old) before steps replies (recorded new) after
+makes_recorded old new before after steps replies well it = makes_through as_recorded recorded_disk IsSuppliedWell (λ _. tt) old new before after steps replies well it
+
+pub makes_well : (old new : Whole Deferred) (before after : Notes) (steps : List Step) (replies : List Reply) → Makes deferred_disk old before steps replies new after → IsSuppliedWell new.device → IsSuppliedWell old.device
+makes_well old new before after steps replies it well = makes_honest as_recorded recorded_disk IsSuppliedWell (λ _. tt) old new before after steps replies it well
+
+pub does_well : (old new : Whole Deferred) (before after : Notes) (what : List Step → List Reply → Type 0) → MakesStepsThat deferred_disk old before what new after → IsSuppliedWell new.device → IsSuppliedWell old.device
+does_well old new before after what it well = makes_honest as_recorded recorded_disk IsSuppliedWell (λ _. tt) old new before after it.steps it.replies it.makes well
+
+-- ---- further steps
+
+module _ (mark : ℕ) (old new : Whole Recorded) (before after : Notes) (steps : List Step) (replies : List Reply) (it : Makes recorded_disk old before steps replies new after) where
+  committed_more : HasCommitted mark old before → HasCommitted mark new after
+  committed_more c = record {
+    before = c.before;
+    shape = c.shape;
+    start = c.start;
+    started = c.started;
+    earlier = c.earlier;
+    told = c.told;
+    old = c.old;
+    between = c.between;
+    makes_earlier = c.makes_earlier;
+    p = c.p;
+    steps = c.steps;
+    replies = c.replies;
+    new = c.new;
+    after = c.after;
+    makes = c.makes;
+    commits = c.commits;
+    later = c.later ++ steps;
+    more = c.more ++ replies;
+    makes_later = makes_then recorded_disk c.new old new c.after before after c.later c.more steps replies c.makes_later it;
+  }
+
+commits_more : (committed : Option ℕ) (old new : Whole Recorded) (before after : Notes) (steps : List Step) (replies : List Reply) → Makes recorded_disk old before steps replies new after
+    → IfSome committed (λ mark. HasCommitted mark old before) → IfSome committed (λ mark. HasCommitted mark new after)
+commits_more None old new before after steps replies it c = tt
+commits_more (Some mark) old new before after steps replies it c = committed_more mark old new before after steps replies it c
+
+-- what was served goes on with further steps
+pub serves_more : (committed acknowledged : Option ℕ) (old new : Whole Deferred) (before after : Notes) (what : List Step → List Reply → Type 0) → ServesWell old before committed acknowledged
+    → MakesStepsThat deferred_disk old before what new after → ServesWell new after committed acknowledged
+serves_more committed acknowledged old new before after what served it = λ well.
+    let first = does_well old new before after what it well in
+    let seen = does_recorded old new before after what first it in
+    let had = served first in
+    record {
+      serving = served_does recorded_disk (recorded old) (recorded new) before after what had.serving seen;
+      commits = commits_more committed (recorded old) (recorded new) before after seen.steps seen.replies seen.makes had.commits;
+      sure = commits_more acknowledged (recorded old) (recorded new) before after seen.steps seen.replies seen.makes had.sure;
+    }
+
+-- a start
+pub serves_none : (before : Deferred) (shape : Shape) (start : Whole Deferred) → HasStarted deferred_disk before shape start → ServesWell start no_notes None None
+serves_none before shape start it = λ well.
+    let first = started_honest as_recorded recorded_disk IsSuppliedWell (λ _. tt) before shape start it well in
+    record {
+      serving = served_none recorded_disk (as_recorded before) shape (recorded start) (start_recorded before shape start first it);
+      commits = tt;
+      sure = tt;
+    }
+
+-- a commit
+pub serves_commit : (committed acknowledged : Option ℕ) (p mark : ℕ) (old new : Whole Deferred) (before after : Notes) → ServesWell old before committed acknowledged
+    → MakesStepsThat deferred_disk old before (CommitsMark p before mark) new after → ServesWell new after (Some mark) acknowledged
+serves_commit committed acknowledged p mark old new before after served it = λ well.
+    let first = does_well old new before after (CommitsMark p before mark) it well in
+    let seen = does_recorded old new before after (CommitsMark p before mark) first it in
+    let had = served first in
+    let (start, earlier, told, was) = had.serving in
+    record {
+      serving = served_does recorded_disk (recorded old) (recorded new) before after (CommitsMark p before mark) had.serving seen;
+      commits = record {
+        before = was.before;
+        shape = was.shape;
+        start = start;
+        started = was.started;
+        earlier = earlier;
+        told = told;
+        old = recorded old;
+        between = before;
+        makes_earlier = was.makes;
+        p = p;
+        steps = seen.steps;
+        replies = seen.replies;
+        new = recorded new;
+        after = after;
+        makes = seen.makes;
+        commits = seen.holds;
+        later = [];
+        more = [];
+        makes_later = makes_none recorded_disk (recorded new) after;
+      };
+      sure = commits_more acknowledged (recorded old) (recorded new) before after seen.steps seen.replies seen.makes had.sure;
+    }
+
+-- a commit, whatever it came to
+pub serves_commits : (committed acknowledged : Option ℕ) (p : ℕ) (result : Result ℕ Reply) (old new : Whole Deferred) (before after : Notes) → ServesWell old before committed acknowledged
+    → IfOk result (λ mark. MakesStepsThat deferred_disk old before (CommitsMark p before mark) new after) → IfErr result (λ reply. MakesStepsThat deferred_disk old before (StopsCommit p before reply) new after)
+    → ServesWell new after (last_committed result committed) acknowledged
+serves_commits committed acknowledged p (Ok mark) old new before after served ok err = serves_commit committed acknowledged p mark old new before after served ok
+serves_commits committed acknowledged p (Err reply) old new before after served ok err = serves_more committed acknowledged old new before after (StopsCommit p before reply) served err
+
+-- the mark of the last commit was committed
+pub serves_drained : (committed acknowledged : Option ℕ) (machine : Whole Deferred) (notes : Notes) → ServesWell machine notes committed acknowledged → ServesWell machine notes committed committed
+serves_drained committed acknowledged machine notes served = λ well.
+    let had = served well in
+    record { serving = had.serving; commits = had.commits; sure = had.commits }

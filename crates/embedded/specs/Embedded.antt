@@ -1,0 +1,65 @@
+-- A machine whose device calls a host makes, and the marks that it committed.
+use Rattle.std.specs.Prelude.{ℕ, ◌≡◌, List, Option, Some, IfSome, Result, Ok, Err}
+use Rattle.device.specs.Deferred.{Deferred, IsSuppliedWell}
+use Rattle.device.specs.Memory.{Recorded}
+use Rattle.machine.specs.declared.act.Reply.{Reply}
+use Rattle.machine.specs.declared.act.Shape.{Shape}
+use Rattle.machine.specs.declared.act.Step.{Step}
+use Rattle.machine.specs.State.{Whole}
+use Rattle.engine.specs.Engine.{HasStarted}
+use Rattle.session.specs.declared.files.Files.{Files}
+use Rattle.session.specs.declared.notes.Notes.{Notes}
+use Rattle.session.specs.Commits.{CommitsMark}
+use Rattle.session.specs.Sessions.{IsServing, no_notes}
+use Rattle.session.specs.Steps.{Makes}
+use Rattle.embedded.specs.Recorded.{recorded_disk, recorded}
+
+-- what an embedded volume is to its users: its machine, what is noted of the steps that were made, the volume's files,
+-- the mark of the last commit, and the last mark that is acknowledged
+pub record EmbeddedState (A : Type 0) : Type 0 where
+  pub machine : Whole Deferred
+  pub notes : Notes
+  pub files : Files A
+  pub committed : Option ℕ
+  pub acknowledged : Option ℕ
+
+-- the mark of the last commit, after one that came to this
+abbrev pub last_committed : Result ℕ Reply → Option ℕ → Option ℕ
+last_committed (Ok mark) before = Some mark
+last_committed (Err answer) before = before
+
+-- From a start, steps led to a machine, a commit of this mark by a processor followed, and later steps led to this
+-- machine.
+pub record HasCommitted (mark : ℕ) (machine : Whole Recorded) (notes : Notes) : Type 0 where
+  pub before : Recorded
+  pub shape : Shape
+  pub start : Whole Recorded
+  pub started : HasStarted recorded_disk before shape start
+  pub earlier : List Step
+  pub told : List Reply
+  pub old : Whole Recorded
+  pub between : Notes
+  pub makes_earlier : Makes recorded_disk start no_notes earlier told old between
+  pub p : ℕ
+  pub steps : List Step
+  pub replies : List Reply
+  pub new : Whole Recorded
+  pub after : Notes
+  pub makes : Makes recorded_disk old between steps replies new after
+  pub commits : CommitsMark p between mark steps replies
+  pub later : List Step
+  pub more : List Reply
+  pub makes_later : Makes recorded_disk new after later more machine notes
+
+-- Of the machine over the disk in memory that made the calls: it was started over a device, and from there steps led to
+-- it, of which exactly this is noted; and by these steps the mark of the last commit was committed, and the one that is
+-- acknowledged.
+pub record HasServed (machine : Whole Recorded) (notes : Notes) (committed acknowledged : Option ℕ) : Type 0 where
+  pub serving : IsServing recorded_disk machine notes
+  pub commits : IfSome committed (λ mark. HasCommitted mark machine notes)
+  pub sure : IfSome acknowledged (λ mark. HasCommitted mark machine notes)
+
+-- So it is as long as the host supplied each block as it was.
+abbrev pub ServesWell : Whole Deferred → Notes → Option ℕ → Option ℕ → Type 0
+ServesWell machine notes committed acknowledged =
+    IsSuppliedWell machine.device → HasServed (recorded machine) notes committed acknowledged

@@ -1,0 +1,5 @@
+pub mod Recorded
+pub mod Embedded
+pub mod Progress
+pub mod Supplying
+pub mod inside

@@ -1,0 +1,28 @@
+-- Blocks that a host supplies, and that it needn't keep, whatever their numbers.
+use Rattle.std.specs.Prelude.{ℕ, ◌+◌, ◌*◌, nat_le, Bool, not, ◌&&◌, if◌then◌else◌, List, length, take}
+use Rattle.device.specs.Deferred.{Deferred, as_recorded, after_supply, one_reaches}
+use Rattle.device.specs.Memory.{seen_of}
+use Rattle.volume_codec.specs.Layout.{first_file_home}
+use Rattle.machine.specs.State.{Whole}
+
+-- the block is one of the disk
+abbrev pub is_of_disk : Deferred → ℕ → Bool
+is_of_disk disk block = nat_le (4096 * block + 4096) (length (seen_of (as_recorded disk)))
+
+-- the disk after a block was supplied; one past its end changes nothing
+abbrev pub supplied : Deferred → ℕ → List ℕ → Deferred
+supplied disk block bytes = if is_of_disk disk block then after_supply disk block bytes else disk
+
+-- the block is one of the disk, and no call that waits writes to it
+abbrev pub is_free : Deferred → ℕ → Bool
+is_free disk block = is_of_disk disk block && not (one_reaches (take disk.waiting disk.changes) block)
+
+-- so is this block, and it lies in a file
+abbrev pub may_forget : Whole Deferred → ℕ → Bool
+may_forget machine block =
+    nat_le (first_file_home machine.state.table.layout machine.state.table.slots) block
+    && is_free machine.device block
+
+-- the machine with another device
+abbrev pub with_device : {D : Type 0} → Whole D → D → Whole D
+with_device machine device = record { state = machine.state; device = device }

@@ -1,0 +1,22 @@
+-- What is done with the disk of an embedded machine between two requests.
+use Rattle.std.specs.Prelude.{ℕ, ◌≡◌, ◌-◌, Bool, true, false}
+use Rattle.device.specs.Deferred.{Deferred, after_forget, with_waiting}
+use Rattle.embedded.specs.declared.tending.Supplying.{Supplying}
+use Rattle.embedded.specs.declared.tending.Forgetting.{Forgetting}
+use Rattle.embedded.specs.declared.tending.Carrying.{Carrying}
+use Rattle.embedded.specs.Supplying.{supplied, is_free}
+
+-- a block was supplied, or memory was refused for it
+pub record HasSupplied (old : Supplying) (before after : Deferred) (new : Supplying) : Type 0 where
+  pub ok : new.refused ≡ false → after ≡ supplied before old.block old.bytes.now
+  pub err : new.refused ≡ true → after ≡ before
+
+-- a block was forgotten, if it is free
+pub record HasForgotten (old : Forgetting) (before after : Deferred) (new : Forgetting) : Type 0 where
+  pub free : new.done ≡ is_free before old.block
+  pub forgotten : new.done ≡ true → after ≡ after_forget before old.block
+  pub kept : new.done ≡ false → after ≡ before
+
+-- the oldest call was carried out
+abbrev pub HasCarried : Carrying → Deferred → Deferred → Carrying → Type 0
+HasCarried old before after new = after ≡ with_waiting before (before.waiting - 1)

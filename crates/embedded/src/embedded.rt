@@ -1,0 +1,126 @@
+// A volume whose device calls a host makes.
+ghost use Rattle.std.specs.Prelude.{◌≡◌, List, None, IfOk, IfErr};
+ghost use Rattle.device.specs.Deferred.{as_recorded, IsSuppliedWell};
+ghost use Rattle.device.specs.Memory.{seen_of};
+ghost use Rattle.volume_codec.specs.Files.{File};
+ghost use Rattle.volume_codec.specs.Recovery.{RecoversTo};
+ghost use Rattle.engine.specs.Engine.{HasStarted, HasNotStarted};
+ghost use Rattle.session.specs.Files.{AreFiles, AreListed};
+ghost use Rattle.session.specs.Sessions.{no_notes};
+ghost use Rattle.embedded.specs.Recorded.{deferred_disk};
+ghost use Rattle.embedded.specs.Embedded.{ServesWell};
+
+use device::DeferredDisk;
+use machine::Shape;
+use page_entry::Refusal;
+use session::{Files, Requests};
+use std::alloc::Allocator;
+use std::marker::Model;
+
+/// A volume inside the user's process: requests are carried out on a machine over a disk that makes no call itself. The
+/// host supplies the blocks that are wanted, and makes the calls that wait, in their order.
+///
+/// As long as it supplies each block as it is on its device, the machine is one over a disk in memory that made each
+/// call at once, with all that holds of such a machine (`has_served`).
+#[derive(Drop)]
+pub struct Embedded<A: Allocator + Copy> {
+    pub(crate) requests: Requests<DeferredDisk<A>, A>,
+    // The mark of the last commit.
+    pub(crate) committed: Option<u32>,
+    // That of the last commit when no call was left to be made.
+    pub(crate) acknowledged: Option<u32>,
+}
+
+impl<A: Allocator + Copy> Model for Embedded<A> {
+    ghost use Rattle.std.specs.Coded.{codes};
+    ghost use Rattle.device.specs.inside.Deferring.{deferred_code};
+    ghost use Rattle.machine.specs.inside.Codes.{map_code};
+    ghost use Rattle.embedded.specs.Embedded.{EmbeddedState, ServesWell};
+
+    ghost Value = { EmbeddedState A };
+
+    ghost coded = { Prim.hlevel (codes, map_code, deferred_code) };
+
+    ghost view = { λ e. record {
+      machine = e.requests.machine;
+      notes = e.requests.notes;
+      files = e.requests.files;
+      committed = e.committed;
+      acknowledged = e.acknowledged;
+    } };
+
+    ghost invariant = { λ e. ServesWell e.requests.machine e.requests.notes e.committed e.acknowledged };
+}
+
+/// Opens the volume of a disk, and boots a machine of this shape over it. It lists the files of the volume with their
+/// lengths, as they were opened: those that the disk's bytes recover to (`listed`). A refusal hands the disk back.
+///
+/// `Device` where a block was lacking, which the disk says (`wanted`): the host supplies it, and opens again. So it is
+/// best to supply all blocks below the first file's home before. `NotAVolume`, `Damaged` as `recovery::open`,
+/// `BadShape` as `Machine::boot`, and `OutOfMemory` where memory was refused.
+pub fn open<A: Allocator + Copy>(
+    alloc: A,
+    disk: DeferredDisk<A>,
+    shape: Shape,
+) -> Result<Embedded<A>, (Refusal, DeferredDisk<A>)>
+    ensures started { IfOk result (λ embedded. HasStarted deferred_disk disk shape embedded.machine) }
+    ensures files { IfOk result (λ embedded. AreFiles embedded.machine.state.table embedded.machine.state.lengths
+        embedded.files.lines.items) }
+    ensures listed { IfOk result (λ embedded. IsSuppliedWell disk → (files : List File)
+        × RecoversTo (seen_of (as_recorded disk)) files × AreListed files embedded.files.lines.items) }
+    ensures nothing { IfOk result (λ embedded. embedded.notes ≡ no_notes) }
+    ensures committed { IfOk result (λ embedded. embedded.committed ≡ None) }
+    ensures acknowledged { IfOk result (λ embedded. embedded.acknowledged ≡ None) }
+    ensures refused { IfErr result (λ refused. HasNotStarted deferred_disk disk shape refused.1 refused.0) }
+{
+    match Requests::start(alloc, disk, shape) {
+        Ok(requests) => Ok(Embedded {
+            requests,
+            committed: None,
+            acknowledged: None,
+        }),
+        Err(refused) => Err(refused),
+    }
+}
+
+impl<A: Allocator + Copy> Embedded<A> {
+    /// The volume's files, as they were opened.
+    pub fn files(&self) -> &Files<A>
+        ensures { result.now ≡ self.now.files }
+    {
+        self.requests.files()
+    }
+
+    /// The disk, as it is.
+    pub fn disk(&self) -> &DeferredDisk<A>
+        ensures { result.now ≡ self.now.machine.device }
+    {
+        self.requests.machine().device()
+    }
+
+    /// The mark that is acknowledged: that of the last commit when no device call was left to be made, which is told by
+    /// `commit` and by `carried_out`.
+    pub fn acknowledged(&self) -> Option<u32>
+        ensures { result ≡ self.now.acknowledged }
+    {
+        self.acknowledged
+    }
+
+    /// Of every embedded volume, as long as the host supplied each block as it was: its machine, over the disk in
+    /// memory that made the calls, was started over a device, and steps led to it, of which exactly this is noted. By
+    /// these steps the mark of the last commit was committed, and the one that is acknowledged.
+    pub fn has_served(&self)
+        ensures { ServesWell self.now.machine self.now.notes self.now.committed self.now.acknowledged }
+    {
+        let _files = self.requests.files();
+    }
+
+    /// The disk, as it is: what was not written out by then is lost, and what was committed is found by the next
+    /// opening once the calls that wait were made.
+    pub fn into_disk(self) -> DeferredDisk<A>
+        ensures { result ≡ self.machine.device }
+    {
+        let Embedded { requests, .. } = self;
+        requests.into_device()
+    }
+}

@@ -1,0 +1,106 @@
+// What a host does for an embedded volume: it supplies blocks, and makes the calls that wait.
+ghost use Rattle.std.specs.Prelude.{◌≡◌, ◌==◌, ◌-◌, true, false, get_or, option_map, if◌then◌else◌, OnOk, OnErr};
+ghost use Rattle.device.specs.Deferred.{after_forget, oldest, with_waiting};
+ghost use Rattle.device.specs.Lent.{change_lent};
+ghost use Rattle.embedded.specs.Recorded.{recorded};
+ghost use Rattle.embedded.specs.Supplying.{may_forget, supplied, with_device};
+
+use crate::embedded::Embedded;
+use crate::requesting::settled;
+use crate::tending::{Carrying, Forgetting, Supplying};
+use device::DeferredCall;
+use std::alloc::{AllocError, Allocator};
+
+impl<A: Allocator + Copy> Embedded<A> {
+    /// The host has read this block. One that is known keeps its bytes: what was written there, or supplied before. One
+    /// past the end of the disk is left alone.
+    pub fn supply(&mut self, block: u32, bytes: &[u8; 4096]) -> Result<(), AllocError>
+        ensures ok { OnOk result (self.new.machine
+            ≡ with_device self.old.machine (supplied self.old.machine.device block bytes.now)) }
+        ensures err { OnErr result (self.new.machine ≡ self.old.machine) }
+        ensures notes { self.new.notes ≡ self.old.notes }
+        ensures files { self.new.files ≡ self.old.files }
+        ensures committed { self.new.committed ≡ self.old.committed }
+        ensures acknowledged { self.new.acknowledged ≡ self.old.acknowledged }
+
+        // What a read gives, and what a crash may leave, stays.
+        ensures recorded { recorded self.new.machine ≡ recorded self.old.machine }
+    {
+        let mut supplying = Supplying {
+            block,
+            bytes,
+            refused: false,
+        };
+        self.requests.tend(&mut supplying);
+        if supplying.refused {
+            Err(AllocError)
+        } else {
+            Ok(())
+        }
+    }
+
+    /// Forgets a block of a file, unless a call that waits writes to it: whether it isn't known any more. Where its
+    /// bytes are wanted, the host supplies them again. Blocks before the first file's home are kept, since write-outs
+    /// read them.
+    pub fn forget(&mut self, block: u32) -> bool
+        ensures result { result ≡ may_forget self.old.machine block }
+        ensures forgotten { result ≡ true → self.new.machine
+            ≡ with_device self.old.machine (after_forget self.old.machine.device block) }
+        ensures kept { result ≡ false → self.new.machine ≡ self.old.machine }
+        ensures notes { self.new.notes ≡ self.old.notes }
+        ensures files { self.new.files ≡ self.old.files }
+        ensures committed { self.new.committed ≡ self.old.committed }
+        ensures acknowledged { self.new.acknowledged ≡ self.old.acknowledged }
+
+        // What a read gives, and what a crash may leave, stays.
+        ensures recorded { recorded self.new.machine ≡ recorded self.old.machine }
+    {
+        if block < self.requests.machine().table().geometry().first_file_home() {
+            return false;
+        }
+        let mut forgetting = Forgetting { block, done: false };
+        self.requests.tend(&mut forgetting);
+        forgetting.done
+    }
+
+    /// Whether a block is known, so that it needn't be supplied.
+    pub fn is_known(&self, block: u32) -> bool
+        ensures { result ≡ get_or self.now.machine.device.known block false }
+    {
+        self.disk().is_known(block)
+    }
+
+    /// How many device calls wait for the host to make them.
+    pub fn waiting(&self) -> usize
+        ensures { result ≡ self.now.machine.device.waiting }
+    {
+        self.disk().waiting()
+    }
+
+    /// The oldest device call that waits: the host makes it, and says so by `carried_out`.
+    pub fn next_call(&self) -> Option<DeferredCall<'_>>
+        ensures { option_map change_lent result ≡ oldest self.now.machine.device }
+    {
+        self.disk().next_call()
+    }
+
+    /// The host has made the oldest device call that waited. Where none is left, the mark of the last commit is
+    /// acknowledged.
+    pub fn carried_out(&mut self)
+        ensures carried { self.new.machine ≡ with_device self.old.machine
+            (with_waiting self.old.machine.device (self.old.machine.device.waiting - 1)) }
+        ensures notes { self.new.notes ≡ self.old.notes }
+        ensures files { self.new.files ≡ self.old.files }
+        ensures committed { self.new.committed ≡ self.old.committed }
+        ensures acknowledged { self.new.acknowledged ≡ (if self.old.machine.device.waiting - 1 == 0
+            then self.old.committed else self.old.acknowledged) }
+
+        // What a read gives, and what a crash may leave, stays.
+        ensures recorded { recorded self.new.machine ≡ recorded self.old.machine }
+    {
+        self.requests.tend(&mut Carrying);
+        let waiting = self.requests.machine().device().waiting();
+        let acknowledged = settled(waiting, self.committed, self.acknowledged);
+        self.acknowledged = acknowledged;
+    }
+}

@@ -1,0 +1,13 @@
+//! A volume inside the user's process, without IO: requests in, and the device calls that they want out.
+#![tactic(auto)]
+
+mod embedded;
+mod hosting;
+mod laws;
+mod progress;
+mod requesting;
+mod tending;
+
+pub use embedded::{Embedded, open};
+pub use laws::{ran_as_recorded, seen_as_recorded};
+pub use progress::Progress;

@@ -1,0 +1,126 @@
+// What is asked of an embedded volume.
+ghost use Rattle.std.specs.Prelude.{◌≡◌, [], ◌∷◌, true, ◌==◌, if◌then◌else◌, IfOk, IfErr};
+ghost use Rattle.session.specs.Commits.{CommitsMark, StopsCommit, tells_unmade};
+ghost use Rattle.session.specs.Lengths.{AnswersLength};
+ghost use Rattle.session.specs.Locks.{KeepsPhases};
+ghost use Rattle.session.specs.Ranges.{MakesStepsThat, LoadsReached, StoresReached};
+ghost use Rattle.session.specs.Steps.{Makes};
+ghost use Rattle.embedded.specs.Embedded.{last_committed};
+ghost use Rattle.embedded.specs.Recorded.{deferred_disk};
+ghost use Rattle.embedded.specs.Progress.{reached_by, TellsWanted};
+
+use crate::embedded::Embedded;
+use crate::progress::{Progress, block_number};
+use machine::{Reply, Step};
+use page_entry::ProcessorNumber;
+use std::alloc::Allocator;
+
+impl<A: Allocator + Copy> Embedded<A> {
+    /// Makes a step, such as one that creates a space, switches to it or maps a file.
+    pub fn make(&mut self, step: &Step) -> Reply
+        ensures makes { Makes deferred_disk self.old.machine self.old.notes (step.now ∷ []) (result ∷ [])
+            self.new.machine self.new.notes }
+        ensures committed { self.new.committed ≡ self.old.committed }
+        ensures acknowledged { self.new.acknowledged ≡ self.old.acknowledged }
+    {
+        self.requests.make(step)
+    }
+
+    /// Loads so many bytes from an address on. Where a block is wanted, these are the bytes before it.
+    pub fn load(
+        &mut self,
+        p: ProcessorNumber,
+        va: u64,
+        count: usize,
+        bytes: &mut Vec<u8, A>,
+    ) -> Progress
+        requires { bytes.old.items ≡ [] }
+        ensures reached { MakesStepsThat deferred_disk self.old.machine self.old.notes
+            (LoadsReached p va count bytes.new.items (reached_by result)) self.new.machine self.new.notes }
+        ensures wanted { TellsWanted self.new.machine.device.wanted result }
+        ensures phases { KeepsPhases self.old.machine.state self.new.machine.state }
+        ensures committed { self.new.committed ≡ self.old.committed }
+        ensures acknowledged { self.new.acknowledged ≡ self.old.acknowledged }
+    {
+        let reached = self.requests.load(p, va, count, bytes);
+        Progress::of(
+            &reached,
+            block_number(self.requests.machine().device().wanted()),
+        )
+    }
+
+    /// Stores bytes from an address on. Where a block is wanted, so many of them were stored.
+    pub fn store(&mut self, p: ProcessorNumber, va: u64, bytes: &[u8]) -> Progress
+        ensures reached { MakesStepsThat deferred_disk self.old.machine self.old.notes
+            (StoresReached p va bytes.now (reached_by result)) self.new.machine self.new.notes }
+        ensures wanted { TellsWanted self.new.machine.device.wanted result }
+        ensures phases { KeepsPhases self.old.machine.state self.new.machine.state }
+        ensures committed { self.new.committed ≡ self.old.committed }
+        ensures acknowledged { self.new.acknowledged ≡ self.old.acknowledged }
+    {
+        let reached = self.requests.store(p, va, bytes);
+        Progress::of(
+            &reached,
+            block_number(self.requests.machine().device().wanted()),
+        )
+    }
+
+    /// Sets the length of a file. It answers as a session does; where a block is wanted, a device call failed.
+    pub fn set_length(&mut self, p: ProcessorNumber, file: u16, length: u64) -> Reply
+        ensures answers { MakesStepsThat deferred_disk self.old.machine self.old.notes
+            (AnswersLength p file length result) self.new.machine self.new.notes }
+        ensures phases { KeepsPhases self.old.machine.state self.new.machine.state }
+        ensures committed { self.new.committed ≡ self.old.committed }
+        ensures acknowledged { self.new.acknowledged ≡ self.old.acknowledged }
+    {
+        self.requests.set_length(p, file, length)
+    }
+
+    /// Commits all stores. Answers the number of the mark, which is durable once the calls that wait now were made:
+    /// `acknowledged` says so. Or it answers what the step was answered that stopped the commit.
+    pub fn commit(&mut self, p: ProcessorNumber) -> Result<u32, Reply>
+        ensures ok { IfOk result (λ mark. MakesStepsThat deferred_disk self.old.machine self.old.notes
+            (CommitsMark p self.old.notes mark) self.new.machine self.new.notes) }
+        ensures err { IfErr result (λ reply. MakesStepsThat deferred_disk self.old.machine self.old.notes
+            (StopsCommit p self.old.notes reply) self.new.machine self.new.notes) }
+        ensures unmade { IfErr result (λ reply. tells_unmade reply ≡ true) }
+        ensures phases { KeepsPhases self.old.machine.state self.new.machine.state }
+        ensures committed { self.new.committed ≡ last_committed result self.old.committed }
+        ensures acknowledged { self.new.acknowledged ≡ (if self.new.machine.device.waiting == 0
+            then self.new.committed else self.old.acknowledged) }
+    {
+        let answer = self.requests.commit(p);
+        let committed = committed_by(&answer, self.committed);
+        let waiting = self.requests.machine().device().waiting();
+        let acknowledged = settled(waiting, committed, self.acknowledged);
+        self.committed = committed;
+        self.acknowledged = acknowledged;
+        answer
+    }
+}
+
+// The mark of the last commit, after one that came to this.
+fn committed_by(answer: &Result<u32, Reply>, before: Option<u32>) -> Option<u32>
+    ensures { result ≡ last_committed answer.now before }
+{
+    match answer {
+        Ok(mark) => Some(*mark),
+        Err(_) => before,
+    }
+}
+
+// The last mark that is acknowledged where so many calls are left to be made: that of the last commit where none is,
+// and else the one before.
+pub(crate) fn settled(
+    waiting: usize,
+    committed: Option<u32>,
+    acknowledged: Option<u32>,
+) -> Option<u32>
+    ensures { result ≡ (if waiting == 0 then committed else acknowledged) }
+{
+    if waiting == 0 {
+        committed
+    } else {
+        acknowledged
+    }
+}

@@ -1,5 +1,0 @@
-use Rattle.std.proofs.Common.{◌-◌}
-use Rattle.session.proofs.session.Session.+change_from.Given as goal
-
-abbrev pub decreases-change_from : goal.decreases-change_from
-decreases-change_from g l = 16 - l.next

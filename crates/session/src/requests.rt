@@ -1,0 +1,187 @@
+// A machine on which requests are carried out, and what has to be known of the steps that were made on it.
+ghost use Rattle.std.specs.Prelude.{◌≡◌, ◌+◌, ◌^◌, ◌≤◌, List, [], ◌∷◌, length, take, IfOk, IfErr};
+ghost use Rattle.volume_codec.specs.Files.{File};
+ghost use Rattle.volume_codec.specs.Recovery.{RecoversTo};
+ghost use Rattle.shootdown.specs.Shootdown.{IsShootdown};
+ghost use Rattle.machine.specs.AtOnce.{load_steps, load_replies, store_steps, store_replies};
+ghost use Rattle.engine.specs.Engine.{HasStarted, HasNotStarted};
+ghost use Rattle.session.specs.Files.{AreFiles, AreListed};
+ghost use Rattle.session.specs.Sessions.{no_notes};
+ghost use Rattle.session.specs.Steps.{Makes};
+
+use crate::files::Files;
+use crate::notes::Notes;
+use device::Device;
+use machine::{Machine, Reply, Shape, Step, Tender};
+use page_entry::{FilePage, ProcessorNumber, Refusal};
+use recovery::opened_as_recovered;
+use std::alloc::Allocator;
+use std::marker::Model;
+
+/// A machine on which requests are carried out, whoever else tends its device between them. What a request's contract
+/// says, it says of the machine as it was before the request and as it is after it. (Of a `Session`, whose device no
+/// one else reaches, it is known besides that its machine was reached by steps from its start.)
+///
+/// Contracts see the machine, what is noted of the steps that were made on it since it was started, and the files.
+#[derive(Drop)]
+pub struct Requests<D: Device, A: Allocator + Copy> {
+    machine: Machine<D, A>,
+    // What was noted of the steps that were made.
+    notes: Notes,
+    files: Files<A>,
+}
+
+impl<D: Device, A: Allocator + Copy> Model for Requests<D, A> {
+    ghost use Rattle.std.specs.Coded.{codes};
+    ghost use Rattle.machine.specs.inside.Codes.{map_code};
+    ghost use Rattle.session.specs.Sessions.{SessionState};
+
+    ghost Value = { SessionState D A };
+
+    ghost coded = { Prim.hlevel (codes, map_code, D.code) };
+
+    ghost view = { λ s. record { machine = s.machine; notes = s.notes; files = s.files } };
+}
+
+fn open_and_boot<D: Device, A: Allocator + Copy>(
+    alloc: A,
+    device: D,
+    shape: Shape,
+) -> Result<Requests<D, A>, (Refusal, D)>
+    ensures started { IfOk result (λ requests. HasStarted D.Device device shape requests.machine) }
+    ensures files { IfOk result (λ requests. AreFiles requests.machine.state.table requests.machine.state.lengths
+        requests.files.lines.items) }
+    ensures nothing { IfOk result (λ requests. requests.notes ≡ no_notes) }
+    ensures refused { IfErr result (λ refused. HasNotStarted D.Device device shape refused.1 refused.0) }
+{
+    let volume = match recovery::open(alloc, device) {
+        Ok(volume) => volume,
+        Err(refused) => return Err(refused),
+    };
+    let files = Files::of(alloc, &volume);
+    match Machine::boot(alloc, volume, shape) {
+        Ok(machine) => match files {
+            Ok(files) => Ok(Requests {
+                machine,
+                notes: Notes::new(),
+                files,
+            }),
+            Err(_) => Err((Refusal::OutOfMemory, machine.into_device())),
+        },
+        Err((refusal, volume)) => Err((refusal, volume.into_device())),
+    }
+}
+
+impl<D: Device, A: Allocator + Copy> Requests<D, A> {
+    /// Opens the volume of a device, and boots a machine of this shape over it. It lists the files of the volume with
+    /// their lengths, as they were opened: those that the device's bytes recover to (`listed`). A refusal hands the
+    /// device back.
+    ///
+    /// `NotAVolume`, `Damaged` and `Device` as `recovery::open`, `BadShape` as `Machine::boot`, and `OutOfMemory` where
+    /// memory was refused.
+    pub fn start(alloc: A, device: D, shape: Shape) -> Result<Self, (Refusal, D)>
+        ensures started { IfOk result (λ requests. HasStarted D.Device device shape requests.machine) }
+        ensures files { IfOk result (λ requests. AreFiles requests.machine.state.table requests.machine.state.lengths
+            requests.files.lines.items) }
+        ensures listed { IfOk result (λ requests. D.is_honest device → (files : List File)
+            × RecoversTo (D.seen device) files × AreListed files requests.files.lines.items) }
+        ensures nothing { IfOk result (λ requests. requests.notes ≡ no_notes) }
+        ensures refused { IfErr result (λ refused. HasNotStarted D.Device device shape refused.1 refused.0) }
+    {
+        match open_and_boot(alloc, device, shape) {
+            Ok(requests) => {
+                opened_as_recovered(requests.machine().device());
+                Ok(requests)
+            }
+            Err(refused) => Err(refused),
+        }
+    }
+
+    /// Makes a step, and notes what its reply says.
+    pub fn make(&mut self, step: &Step) -> Reply
+        ensures { Makes D.Device self.old.machine self.old.notes (step.now ∷ []) (result ∷ []) self.new.machine
+            self.new.notes }
+    {
+        let reply = self.machine.enter(step);
+        self.notes = self.notes.after(&reply);
+        reply
+    }
+
+    /// Loads up to so many bytes from an address on at once, each as by a step: those in the page of the address, where
+    /// the processor has cached an entry that serves them, and otherwise none.
+    pub(crate) fn load_run(&self, p: ProcessorNumber, va: u64, count: usize) -> &[u8]
+        ensures makes { Makes D.Device self.now.machine self.now.notes (load_steps p va result.now)
+            (load_replies result.now) self.now.machine self.now.notes }
+        ensures few { length result.now ≤ count }
+        ensures below { va + length result.now ≤ 2 ^ 64 }
+    {
+        self.machine.load_run(p, va, count)
+    }
+
+    /// Stores bytes from an address on at once, each as by a step: those in the page of the address, where the
+    /// processor has cached an entry that serves them, and otherwise none. Answers how many.
+    pub(crate) fn store_run(&mut self, p: ProcessorNumber, va: u64, bytes: &[u8]) -> usize
+        ensures makes { Makes D.Device self.old.machine self.old.notes (store_steps p va (take result bytes.now))
+            (store_replies (take result bytes.now)) self.new.machine self.new.notes }
+        ensures few { result ≤ length bytes.now }
+        ensures below { va + result ≤ 2 ^ 64 }
+    {
+        let count = self.machine.store_run(p, va, bytes);
+        self.notes = self.notes.after_stores(count);
+        count
+    }
+
+    /// The machine on which the steps are made.
+    pub fn machine(&self) -> &Machine<D, A>
+        ensures { result.now ≡ self.now.machine }
+    {
+        &self.machine
+    }
+
+    /// What was noted of the steps that were made.
+    pub fn notes(&self) -> Notes
+        ensures { result ≡ self.now.notes }
+    {
+        self.notes
+    }
+
+    // The page that is to be taken out of memory next.
+    pub(crate) fn turn(&mut self) -> FilePage
+        ensures machine { self.new.machine ≡ self.old.machine }
+        ensures notes { self.new.notes ≡ self.old.notes }
+    {
+        self.files.turn()
+    }
+
+    /// The volume's files.
+    pub fn files(&self) -> &Files<A>
+        ensures { result.now ≡ self.now.files }
+    {
+        &self.files
+    }
+
+    // One change at most is under way on the machine, and the phases of its processors fit together.
+    pub(crate) fn has_phases(&self)
+        ensures { IsShootdown self.now.machine.state.hardware.shootdown }
+    {
+        self.machine.is_coherent();
+    }
+
+    /// Lets the machine's device be tended between two requests. Nothing but the device changes.
+    pub fn tend<T: Tender<D>>(&mut self, tender: &mut T)
+        ensures state { self.new.machine.state ≡ self.old.machine.state }
+        ensures tended { T.tends tender.old self.old.machine.device self.new.machine.device tender.new }
+        ensures notes { self.new.notes ≡ self.old.notes }
+        ensures files { self.new.files ≡ self.old.files }
+    {
+        self.machine.tend(tender);
+    }
+
+    /// The device, as it is.
+    pub fn into_device(self) -> D
+        ensures { result ≡ self.machine.device }
+    {
+        let Requests { machine, .. } = self;
+        machine.into_device()
+    }
+}
