@@ -42,7 +42,7 @@ impl Progress {
 fn stopped(count: usize, reply: &Reply, wanted: Option<u32>) -> Progress
     ensures reached { reached_by result ≡ reached.Refused count reply.now }
     ensures wanted { (disk : Option ℕ) → IfSome wanted (λ block. disk ≡ Some block)
-            → IfNone wanted ((block : ℕ) → disk ≡ Some block → 2 ^ 32 ≤ block) → TellsWanted disk result }
+        → IfNone wanted ((block : ℕ) → disk ≡ Some block → 2 ^ 32 ≤ block) → TellsWanted disk result }
 {
     match wanted {
         Some(block) if has_failed(reply) => Progress::Wanted { block, count },
