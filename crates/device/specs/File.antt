@@ -2,11 +2,13 @@
 use Rattle.std.specs.Prelude.{⊤, ◌≡◌, ℕ, Bool, if◌then◌else◌, List, [], ◌∷◌, ◌++◌, length, take, replicate, Option, Some, None}
 use Rattle.device.specs.Count.{raised}
 
--- a call of a file: the offset and what the buffer then holds, or the offset and the bytes; and whether it succeeded
+-- a call of a file: the offset and what the buffer then holds, the offset and the bytes, or a sync of all that is known
+-- of the file, or of its data and what is needed to read them; and whether it succeeded
 pub data FileCall : Type 0 where
   read : ℕ → List ℕ → Bool → FileCall
   write : ℕ → List ℕ → Bool → FileCall
-  sync : Bool → FileCall
+  sync_all : Bool → FileCall
+  sync_data : Bool → FileCall
 
 -- of the calls of a file, where they are known, there is this one more
 abbrev pub IsCalledOnce : Option (List FileCall) → Option (List FileCall) → FileCall → Type 0

@@ -2,7 +2,7 @@
 ghost use Rattle.std.specs.Prelude.{◌≡◌, ◌↔◌, ℕ, ◌+◌, ◌≤◌, List, [], length, slice_range, Option, None, IfOk, OnOk, IsErr, is_ok};
 ghost use Rattle.device.specs.Device.{written, Torn, TornFrom, Only, LeavesOnly};
 ghost use Rattle.device.specs.File.{FileCall, IsCalledOnce};
-ghost use Rattle.device.specs.File.FileCall.{read, write, sync};
+ghost use Rattle.device.specs.File.FileCall.{read, write, sync_all, sync_data};
 
 use std::fs::File;
 use std::io;
@@ -59,14 +59,24 @@ pub trait BlockFile {
         ensures len { is_honest self.old → length (seen self.new) ≡ length (seen self.old) }
         ensures called { IsCalledOnce (calls_made self.old) (calls_made self.new) (write at bytes.now (is_ok result)) };
 
-    /// Brings what was written to the disk (POSIX.1-2024, `fsync`).
+    /// Brings what was written to the disk, and all else that is known of the file (POSIX.1-2024, `fsync`).
     fn sync_all(&mut self) -> io::Result<()>
         ensures same { is_honest self.old → seen self.new ≡ seen self.old }
         ensures durable { is_honest self.old → OnOk result (Only (may_leave self.new) (seen self.old)) }
         ensures left { (c : List ℕ) → may_leave self.new c → may_leave self.old c }
         ensures time { LeavesOnly moment left_since self.old self.new (may_leave self.old) }
         ensures honest { is_honest self.new ↔ is_honest self.old }
-        ensures called { IsCalledOnce (calls_made self.old) (calls_made self.new) (sync (is_ok result)) };
+        ensures called { IsCalledOnce (calls_made self.old) (calls_made self.new) (sync_all (is_ok result)) };
+
+    /// Brings what was written to the disk, and of the file what is needed to read that again (POSIX.1-2024,
+    /// `fdatasync`).
+    fn sync_data(&mut self) -> io::Result<()>
+        ensures same { is_honest self.old → seen self.new ≡ seen self.old }
+        ensures durable { is_honest self.old → OnOk result (Only (may_leave self.new) (seen self.old)) }
+        ensures left { (c : List ℕ) → may_leave self.new c → may_leave self.old c }
+        ensures time { LeavesOnly moment left_since self.old self.new (may_leave self.old) }
+        ensures honest { is_honest self.new ↔ is_honest self.old }
+        ensures called { IsCalledOnce (calls_made self.old) (calls_made self.new) (sync_data (is_ok result)) };
 
     /// What a read gives may be left.
     ghost seen_is_left: { (file : Self) → is_honest file → may_leave file (seen file) };
@@ -120,5 +130,9 @@ impl BlockFile for File {
 
     fn sync_all(&mut self) -> io::Result<()> {
         File::sync_all(&*self)
+    }
+
+    fn sync_data(&mut self) -> io::Result<()> {
+        File::sync_data(&*self)
     }
 }

@@ -2,7 +2,7 @@
 ghost use Rattle.std.specs.Prelude.{◌≡◌, ◌↔◌, ℕ, ◌+◌, ◌≤◌, true, List, length, slice_range, IfOk, OnOk, IsErr, is_ok};
 ghost use Rattle.device.specs.Device.{written, Torn, TornFrom, Only, LeavesOnly};
 ghost use Rattle.device.specs.File.{IsCalledOnce, IsOverHonest, disk_over, after_call};
-ghost use Rattle.device.specs.File.FileCall.{read, write, sync};
+ghost use Rattle.device.specs.File.FileCall.{read, write, sync_all, sync_data};
 
 use crate::count::raise;
 use crate::{BlockFile, Device, DeviceFault};
@@ -10,7 +10,7 @@ use std::io;
 use std::marker::Model;
 
 /// A disk over a file: each of its calls makes one call of the file, with the same arguments, and passes its error on
-/// as a [`DeviceFault`]. It is as honest as its file, which has to keep the length that it had when the disk was made.
+/// as a [`DeviceFault`]. A sync is one of the file's data: its length stays, and was synced as the disk was made. It is as honest as its file, which has to keep the length that it had when the disk was made.
 ///
 /// No contract can say what a real file gives, or what it keeps, so a real file isn't known to be honest. What is proved
 /// of devices is proved of every honest [`Device`], and so of this disk over every honest file; the step from there to
@@ -45,7 +45,7 @@ impl<F: BlockFile> FileDisk<F> {
     /// isn't; this is no call of the disk's. With an error the file is handed back.
     pub fn over(mut file: F) -> Result<FileDisk<F>, (io::Error, F)>
         ensures fresh { IfOk result (λ disk. disk ≡ disk_over disk.file disk.size) }
-        ensures synced { IfOk result (λ disk. IsCalledOnce (F.calls_made file) (F.calls_made disk.file) (sync true)) }
+        ensures synced { IfOk result (λ disk. IsCalledOnce (F.calls_made file) (F.calls_made disk.file) (sync_all true)) }
 
         // Over an honest file.
         ensures honest { F.is_honest file → IfOk result (IsOverHonest F.is_honest F.seen) }
@@ -166,7 +166,7 @@ impl<F: BlockFile> Device for FileDisk<F> {
 
     fn sync(&mut self) -> Result<(), DeviceFault>
         ensures asked { IsCalledOnce (F.calls_made self.old.file) (F.calls_made self.new.file)
-            (sync (is_ok result)) }
+            (sync_data (is_ok result)) }
         ensures counted { self.new ≡ after_call self.old self.new.file (is_ok result) }
 
         // What the file says of its call.
@@ -177,7 +177,7 @@ impl<F: BlockFile> Device for FileDisk<F> {
         ensures time { LeavesOnly F.moment F.left_since self.old.file self.new.file (F.may_leave self.old.file) }
         ensures honest { F.is_honest self.new.file ↔ F.is_honest self.old.file }
     {
-        let outcome = self.file.sync_all();
+        let outcome = self.file.sync_data();
         self.count(outcome)
     }
 

@@ -59,6 +59,10 @@ impl<A: Allocator + Copy> BlockFile for MemDisk<A> {
             Err(DeviceFault) => Err(refused()),
         }
     }
+
+    fn sync_data(&mut self) -> io::Result<()> {
+        BlockFile::sync_all(self)
+    }
 }
 
 // Whether this many bytes from an offset on are within a length.

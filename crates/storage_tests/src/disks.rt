@@ -14,7 +14,8 @@ use std::{fs, io};
 enum Call {
     Read(u64, Vec<u8>, bool),
     Write(u64, Vec<u8>, bool),
-    Sync(bool),
+    SyncAll(bool),
+    SyncData(bool),
 }
 
 // A file of 8 bytes in memory that keeps its calls, and fails those that pass its end and each one while it is broken.
@@ -60,8 +61,8 @@ fn outcome(done: bool) -> io::Result<()>
 impl<R: Abort> BlockFile for CountedFile<'_, R> {
     ghost use Rattle.std.specs.Prelude.{Some, map};
     ghost use Rattle.device.specs.File.{any_list, any_time};
-    ghost use Rattle.device.specs.File.FileCall.{read, write, sync};
-    ghost use Rattle.storage_tests.specs.declared.disks.Call.TheVariants.{Read, Write, Sync};
+    ghost use Rattle.device.specs.File.FileCall.{read, write, sync_all, sync_data};
+    ghost use Rattle.storage_tests.specs.declared.disks.Call.TheVariants.{Read, Write, SyncAll, SyncData};
 
     ghost seen = { λ file. [] };
 
@@ -84,7 +85,8 @@ impl<R: Abort> BlockFile for CountedFile<'_, R> {
     ghost calls_made = { λ file. Some (map (λ call. elim call [
       | Read at bytes done ↦ read at bytes.items done
       | Write at bytes done ↦ write at bytes.items done
-      | Sync done ↦ sync done
+      | SyncAll done ↦ sync_all done
+      | SyncData done ↦ sync_data done
     ]) file.calls.items) };
 
     fn size(&self) -> io::Result<u64> {
@@ -115,7 +117,13 @@ impl<R: Abort> BlockFile for CountedFile<'_, R> {
 
     fn sync_all(&mut self) -> io::Result<()> {
         let done = !self.broken;
-        self.note(Call::Sync(done));
+        self.note(Call::SyncAll(done));
+        outcome(done)
+    }
+
+    fn sync_data(&mut self) -> io::Result<()> {
+        let done = !self.broken;
+        self.note(Call::SyncData(done));
         outcome(done)
     }
 }
@@ -349,11 +357,11 @@ fn a_device_behind_a_reference_is_one(rt: HostRuntime) {
 fn are_the_calls(calls: &[Call]) -> bool {
     match calls {
         [
-            Call::Sync(true),
+            Call::SyncAll(true),
             Call::Write(2, written, true),
-            Call::Sync(true),
+            Call::SyncData(true),
             Call::Read(1, found, true),
-            Call::Sync(false),
+            Call::SyncAll(false),
         ] => {
             written.as_slice() == [7, 8, 9].as_slice()
                 && found.as_slice() == [0, 7, 8, 9].as_slice()

@@ -1,4 +1,6 @@
 // The file of a volume for a disk that goes to threads: its failed syncs are noted, and marked when the disk is back.
+ghost use Rattle.std.specs.Prelude.{◌≡◌};
+
 use crate::disk::VolumeDisk;
 use crate::failure::FileFailure;
 use crate::mark::Mark;
@@ -24,6 +26,15 @@ impl<F: BlockFile> NotedFile<F> {
         NotedFile {
             file,
             failed: false,
+        }
+    }
+
+    // Notes where a sync failed.
+    fn note(&mut self, synced: &io::Result<()>)
+        ensures { self.new.file ≡ self.old.file }
+    {
+        if synced.is_err() {
+            self.failed = true;
         }
     }
 }
@@ -79,9 +90,13 @@ impl<F: BlockFile> BlockFile for NotedFile<F> {
 
     fn sync_all(&mut self) -> io::Result<()> {
         let synced = self.file.sync_all();
-        if synced.is_err() {
-            self.failed = true;
-        }
+        self.note(&synced);
+        synced
+    }
+
+    fn sync_data(&mut self) -> io::Result<()> {
+        let synced = self.file.sync_data();
+        self.note(&synced);
         synced
     }
 }

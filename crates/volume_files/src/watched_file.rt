@@ -1,4 +1,6 @@
 // The file of a volume, whose failed syncs are marked.
+ghost use Rattle.std.specs.Prelude.{◌≡◌};
+
 use crate::mark::Mark;
 use device::BlockFile;
 use std::fs::{File, Files};
@@ -21,6 +23,15 @@ impl<'a, F: BlockFile, R: Files<File = File> + AllocGlobal> WatchedFile<'a, F, R
             file,
             mark,
             marked: None,
+        }
+    }
+
+    // Marks the volume where a sync of it failed.
+    fn watch(&mut self, synced: &io::Result<()>)
+        ensures { self.new.file ≡ self.old.file }
+    {
+        if synced.is_err() {
+            self.marked = Some(self.mark.make());
         }
     }
 }
@@ -86,9 +97,13 @@ impl<F: BlockFile, R: Files<File = File> + AllocGlobal> BlockFile for WatchedFil
 
     fn sync_all(&mut self) -> io::Result<()> {
         let synced = self.file.sync_all();
-        if synced.is_err() {
-            self.marked = Some(self.mark.make());
-        }
+        self.watch(&synced);
+        synced
+    }
+
+    fn sync_data(&mut self) -> io::Result<()> {
+        let synced = self.file.sync_data();
+        self.watch(&synced);
         synced
     }
 }
