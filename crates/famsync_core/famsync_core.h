@@ -24,7 +24,8 @@
  * The handle goes in by value and comes back through the last argument: pass `&core.at` of the same handle. Nothing
  * checks a handle: it has to be the one that the last call gave back (never null, never one that was closed), and one
  * call at a time uses it. Each pointer has to point to as much as it says; one with a count of 0 may be anything but
- * null. Pointers that the core gives out (famsync_core_call) are valid until the next call with the same handle.
+ * null. Pointers that the core gives out (famsync_core_call) are valid until a call of another kind with the same
+ * handle.
  *
  * The program that the library is linked into defines the three functions by which the core asks for memory
  * (rattle_alloc and the next two, below).
@@ -152,7 +153,7 @@ int64_t famsync_core_waiting(famsync_core core, uint8_t **at);
 
 /* A recorded call; index 0 is the oldest that waits, and they are made in this order. `*kind` is 1 for a write of
    `*length` bytes, which stand at `*bytes`, at `*offset` of the volume's file, and 2 for a sync of it. OK, NONE (no
-   call of this index waits, or this version doesn't show it yet: of index 0 it always does). At any time. */
+   call of this index waits). At any time. */
 int32_t famsync_core_call(famsync_core core, uint32_t index, uint32_t *kind, uint64_t *offset, const uint8_t **bytes,
                           uint64_t *length, uint8_t **at);
 

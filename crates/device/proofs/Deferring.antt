@@ -275,6 +275,20 @@ front_is_oldest (e ∷ log) changes waits =
     ∙ ap (λ (l : List DiskChange). slice_get l (length (changes_of log))) (sym (take-append-drop m changes) ∙ ap (λ (l : List DiskChange). l ++ drop m changes) (sym waits))
     ∙ got_at (changes_of log) (drop m changes) (change_of e)
 
+-- The call at an index of the log is the one that waits behind as many others.
+pub waits_at : {A : Type 0} (log : List (Logged A)) (changes : List DiskChange) (i : ℕ) → changes_of log ≡ take (length (changes_of log)) changes → made_before (length log - i) changes ≡ option_map change_of (slice_get log i)
+waits_at log changes zero waits =
+    let whole : length log - 0 ≡ length log = omega (arith) in
+    ap (λ (n : ℕ). made_before n changes) whole ∙ front_is_oldest log changes waits
+waits_at {A} [] changes (suc i) waits =
+    let none : 0 - suc i ≡ 0 = omega (arith) in
+    ap (λ (n : ℕ). made_before n changes) none
+waits_at (e ∷ log) changes (suc i) waits =
+    let m = length (changes_of (e ∷ log)) in
+    let less : suc (length log) - suc i ≡ length log - i = omega (arith) in
+    ap (λ (n : ℕ). made_before n changes) less
+    ∙ waits_at log changes i (prefix_taken (changes_of log) (change_of e ∷ []) changes m (omega (arith, length-append (changes_of log) (change_of e ∷ []))) waits)
+
 -- The front of the log is taken away.
 pub kept_without_front : {A : Type 0} (first : List ℕ) (changes : List DiskChange) (supplied : List (List ℕ × List ℕ)) (bytes : List ℕ) (flags : List Bool) (log new : List (Logged A)) (len : ℕ) → new ≡ drop 1 log → IsKept first changes supplied bytes flags (changes_of log) len → IsKept first changes supplied bytes flags (changes_of new) len
 kept_without_front first changes supplied bytes flags [] new len rest kept = subst (λ (l : List (Logged _)). IsKept first changes supplied bytes flags (changes_of l) len) (sym rest) kept

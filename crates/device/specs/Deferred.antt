@@ -164,6 +164,10 @@ made_before (suc newer) changes = slice_get changes newer
 abbrev pub oldest : Deferred → Option DiskChange
 oldest disk = made_before disk.waiting disk.changes
 
+-- the call that waits behind so many others that wait
+abbrev pub waits_behind : ℕ → Deferred → Option DiskChange
+waits_behind others disk = made_before (disk.waiting - others) disk.changes
+
 -- what it asks of a device
 abbrev pub work_of : Option DiskChange → Work
 work_of None = Nothing

@@ -5,7 +5,7 @@ ghost use Rattle.device.specs.Device.{written};
 ghost use Rattle.device.specs.Did.{Did};
 ghost use Rattle.device.specs.Memory.{seen_of};
 ghost use Rattle.device.specs.Memory.DiskChange.{write, sync};
-ghost use Rattle.device.specs.Deferred.{deferred, as_recorded, carried_out, block_of, with_known, first_block, end_block, lacked_by_read, lacked_by_write, IsSuppliedWell, after_read, after_write, after_sync, after_refusal, after_supply, after_forget, reaches, one_reaches, with_waiting, oldest, work_of};
+ghost use Rattle.device.specs.Deferred.{deferred, as_recorded, carried_out, block_of, with_known, first_block, end_block, lacked_by_read, lacked_by_write, IsSuppliedWell, after_read, after_write, after_sync, after_refusal, after_supply, after_forget, reaches, one_reaches, with_waiting, oldest, waits_behind, work_of};
 ghost use Rattle.device.specs.Work.{TornByWork};
 ghost use Rattle.device.specs.Lent.{change_lent};
 ghost use Rattle.device.specs.inside.Logged.{change_of, changes_of};
@@ -155,11 +155,12 @@ impl<A: Allocator + Copy> DeferredDisk<A> {
         self.log.len()
     }
 
-    /// The oldest call that waits: the host makes it, and says so by `carried_out`.
-    pub fn next_call(&self) -> Option<DeferredCall<'_>>
-        ensures { option_map change_lent result ≡ oldest self.now }
+    /// The call that waits behind so many older ones that wait: the host makes them in their order, and says of the
+    /// oldest that it was made by `carried_out`.
+    pub fn call(&self, others: usize) -> Option<DeferredCall<'_>>
+        ensures { option_map change_lent result ≡ waits_behind others self.now }
     {
-        lend_first(&self.log)
+        lend_at(&self.log, others)
     }
 
     /// The oldest call that waits was made.
@@ -383,11 +384,14 @@ fn writes_to<A: Allocator + Copy>(call: &Logged<A>, block: u32) -> bool
     }
 }
 
-// Lends the first call of a log.
-fn lend_first<A: Allocator + Copy>(log: &VecDeque<Logged<A>, A>) -> Option<DeferredCall<'_>>
-    ensures { option_map change_lent result ≡ option_map change_of (slice_get log.now.items 0) }
+// Lends the call of a log that has this index.
+fn lend_at<A: Allocator + Copy>(
+    log: &VecDeque<Logged<A>, A>,
+    index: usize,
+) -> Option<DeferredCall<'_>>
+    ensures { option_map change_lent result ≡ option_map change_of (slice_get log.now.items index) }
 {
-    match log.front() {
+    match log.get(index) {
         Some(call) => Some(lend(call)),
         None => None,
     }

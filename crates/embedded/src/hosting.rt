@@ -1,6 +1,6 @@
 // What a host does for an embedded volume: it supplies blocks, and makes the calls that wait.
 ghost use Rattle.std.specs.Prelude.{◌≡◌, ◌==◌, ◌-◌, true, false, get_or, option_map, if◌then◌else◌, OnOk, OnErr};
-ghost use Rattle.device.specs.Deferred.{after_forget, oldest, with_waiting};
+ghost use Rattle.device.specs.Deferred.{after_forget, waits_behind, with_waiting};
 ghost use Rattle.device.specs.Lent.{change_lent};
 ghost use Rattle.embedded.specs.Recorded.{recorded};
 ghost use Rattle.embedded.specs.Supplying.{may_forget, supplied, with_device};
@@ -77,11 +77,12 @@ impl<A: Allocator + Copy> Embedded<A> {
         self.disk().waiting()
     }
 
-    /// The oldest device call that waits: the host makes it, and says so by `carried_out`.
-    pub fn next_call(&self) -> Option<DeferredCall<'_>>
-        ensures { option_map change_lent result ≡ oldest self.now.machine.device }
+    /// The device call that waits behind so many older ones that wait: the host makes them in their order, and says of
+    /// the oldest that it was made by `carried_out`.
+    pub fn call(&self, others: usize) -> Option<DeferredCall<'_>>
+        ensures { option_map change_lent result ≡ waits_behind others self.now.machine.device }
     {
-        self.disk().next_call()
+        self.disk().call(others)
     }
 
     /// The host has made the oldest device call that waited. Where none is left, the mark of the last commit is

@@ -393,7 +393,7 @@ impl State {
 }
 
 impl State {
-    /// A call that waits, as numbers: the oldest.
+    /// The call that waits behind so many others, as numbers.
     pub(crate) fn call(
         &self,
         index: u32,
@@ -402,12 +402,10 @@ impl State {
         bytes: &mut *const u8,
         length: &mut u64,
     ) -> i32 {
-        if index > 0 {
-            return NONE;
-        }
+        let others = index as usize;
         let call = match (&self.session, &self.disk) {
-            (Some(session), _) => session.next_call(),
-            (None, Some(disk)) => disk.next_call(),
+            (Some(session), _) => session.call(others),
+            (None, Some(disk)) => disk.call(others),
             (None, None) => None,
         };
         match call {
