@@ -134,7 +134,7 @@ fn text<'a>(words: &ArgMatches<'a>, name: &str) -> &'a str {
 
 fn program<'a>(alloc: Global) -> Result<Command<'a>, AllocError> {
     Command::new(alloc, "famsync")
-        .version("0.1.0")
+        .version("0.2.0")
         .about(
             "Commits all stores to the files of a volume at once, whatever moment a crash comes at",
         )

@@ -796,7 +796,7 @@ fn help_is_printed(rt: HostRuntime) {
             "Usage: famsync format [OPTIONS] <DISK> <SLOTS> <FILE>...",
         ),
         ("dump|-h", "Usage: famsync dump [OPTIONS] <DISK>"),
-        ("--version", "famsync 0.1.0\n"),
+        ("--version", "famsync 0.2.0\n"),
     ] {
         assert!(rt; shows(&rt, line, text), "{line}");
     }
