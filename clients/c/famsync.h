@@ -1,24 +1,23 @@
 /*
- * libfamsync: files whose stores become durable together.
+ * libfamsync: files whose stores become durable together, in this process.
  *
- * A handle is a session with one volume, which `famsync format` made. The library starts `famsync serve` as a child
- * process and speaks with it over a socket pair, so that no stray pointer of this process reaches the volume. A volume
- * has one session at a time.
+ * A handle is a session with one volume, which `famsync format` made. The library opens and locks the volume's file
+ * itself; a volume has one session at a time, of this library or of the program `famsync`.
  *
  * There are two ways to the bytes of a file, and both may be used in one session:
  *
- *   mapped in the service    famsync_map, famsync_load, famsync_store, famsync_msync: any address, any count
- *   plain memory             famsync_memory_open, famsync_memory_at, famsync_msync: a pointer to store through
+ *   load and store   famsync_map, famsync_load, famsync_store, famsync_msync: any address, any count
+ *   plain memory     famsync_memory_open, famsync_memory_at, famsync_msync: a pointer to store through
  *
- * Whatever ends this process, the service or the system, the next session finds the files as they were at some msync,
- * all of it and nothing else, and not before the last one that was acknowledged.
+ * Whatever ends this process or the system, the next session finds the files as they were at some msync, all of it and
+ * nothing else, and not before the last one that was acknowledged.
  *
- * Each call answers FAMSYNC_OK or one of the codes below, which are negative; famsync_strerror names them. Once the
- * service has ended, or has said what the protocol doesn't have, this call and all later ones of the handle answer so.
- * No call waits for ever: see `timeout`. Any number of threads may call with one handle; the calls take turns.
+ * Each call answers FAMSYNC_OK or one of the codes below, which are negative; famsync_strerror names them. Any number
+ * of threads may call with one handle; the calls take turns.
  *
  * A process that was forked has a copy of the handle, with which each call answers FAMSYNC_FORKED, but for
- * famsync_close: that frees the copy, and leaves the session to the process that began it.
+ * famsync_close: that does nothing, and leaves the session to the process that began it. The copy stays in memory until
+ * the process ends or starts another program; it doesn't keep the volume in use.
  *
  * Not in this version: a file doesn't grow past the capacity that it was given when the volume was made, and in a
  * volume of layout 1 or 2 it keeps its length.
@@ -36,21 +35,23 @@ extern "C" {
 enum famsync_code {
     FAMSYNC_OK = 0,
 
-    /* of the library */
-    FAMSYNC_ARGUMENT = -1,  /* an argument isn't one that this call takes */
-    FAMSYNC_NOMEMORY = -2,  /* this process was refused memory */
-    FAMSYNC_SYSTEM = -3,    /* a call of the system failed; errno says how */
-    FAMSYNC_NOPROGRAM = -4, /* the program famsync couldn't be started */
-    FAMSYNC_REFUSED = -5,   /* the service didn't open the volume; its message says why */
-    FAMSYNC_INUSE = -6,     /* another process has the volume open */
-    FAMSYNC_SUSPECT = -7,   /* a sync of the volume failed once; it opens where it is trusted */
-    FAMSYNC_GONE = -8,      /* the service ended in the middle of the session */
-    FAMSYNC_NONSENSE = -9,  /* the service said what the protocol doesn't have, and was ended */
-    FAMSYNC_TIMEOUT = -10,  /* the service didn't answer in time, and was ended */
-    FAMSYNC_FORKED = -11,   /* the handle is of the process from which this one was forked */
-    FAMSYNC_TORN = -12,     /* memory was closed of which a refused msync had sent a part: commit no more */
+    FAMSYNC_ARGUMENT = -1, /* an argument isn't one that this call takes */
+    FAMSYNC_NOMEMORY = -2, /* this process was refused memory */
+    FAMSYNC_SYSTEM = -3,   /* a call of the system failed; errno says how */
+    FAMSYNC_INUSE = -6,    /* the volume is open already: in another process, or in this one */
+    FAMSYNC_SUSPECT = -7,  /* a sync of the volume failed once; it opens where it is trusted */
+    FAMSYNC_FORKED = -11,  /* the handle is of the process from which this one was forked */
+    FAMSYNC_TORN = -12,    /* memory was closed of which a refused msync had stored a part: commit no more */
 
-    /* of the service: its refusals, as docs/PROGRAM.md has them */
+    /* why a volume isn't opened */
+    FAMSYNC_NOTREGULAR = -13, /* it is a folder, a device, a pipe or a socket, and no regular file */
+    FAMSYNC_NAMES = -14,      /* its file has several names, by which others may use it */
+    FAMSYNC_REPLACED = -15,   /* whenever its file was locked, the path named another one */
+    FAMSYNC_NOTAVOLUME = -16, /* the file doesn't begin as a volume */
+    FAMSYNC_DAMAGED = -17,    /* the file begins as a volume, and its bytes or its length break the format */
+    FAMSYNC_SHAPE = -18,      /* the volume doesn't serve so many frames or copies */
+
+    /* why an access or a commit is refused */
     FAMSYNC_STALLED = -21,
     FAMSYNC_LOCKED = -22,
     FAMSYNC_SEGVMAPERR = -23, /* the address isn't mapped */
@@ -59,15 +60,13 @@ enum famsync_code {
     FAMSYNC_HELD = -26,
     FAMSYNC_NOFRAME = -27, /* more pages were stored to, or added to a file, than one commit can have */
     FAMSYNC_DEVICE = -28,  /* a read, a write or a sync of the volume failed */
-    FAMSYNC_BROKEN = -29,  /* that happened earlier, and nothing can be committed any more in this session */
+    FAMSYNC_BROKEN = -29,  /* a write or a sync failed earlier, and the session is over */
     FAMSYNC_EINVAL = -30,
     FAMSYNC_ENOMEM = -31,
     FAMSYNC_EACCES = -32,
     FAMSYNC_OVERLAP = -33,
     FAMSYNC_NOFILE = -34, /* the volume has no such file */
-    FAMSYNC_BUSY = -35,
-    FAMSYNC_OUTOFMEMORY = -36, /* the service was refused memory */
-    FAMSYNC_NOTRESIDENT = -37  /* the page in which the file ends isn't in memory: famsync_setlength brings it there */
+    FAMSYNC_BUSY = -35
 };
 
 enum famsync_protection { FAMSYNC_READ = 1, FAMSYNC_WRITE = 2 };
@@ -77,20 +76,22 @@ typedef struct famsync_memory famsync_memory;
 
 /* How a session is begun. All zero is what famsync_open takes for a null pointer. */
 struct famsync_options {
-    const char *program; /* of the service; a null pointer: what FAMSYNC in the environment says, or famsync on PATH */
-    int trust;           /* not 0: a volume whose sync failed is opened all the same (--trust) */
+    int trust;           /* not 0: a volume whose sync failed is opened all the same, and isn't marked any more */
     unsigned frames;     /* pages in memory; 0: as many as one commit can have */
     unsigned copies;     /* frames more, for pages that are stored to while a commit writes them; 0 to 64 */
-    int timeout;         /* milliseconds for one answer; 0: two minutes; negative: for ever */
-    char *message;       /* the service's line about a fault is put here, where there is one */
+    int foreground;      /* not 0: no thread of the library's own (see famsync_msync) */
+    char *message;       /* a line about why the volume wasn't opened is put here */
     size_t message_size; /* and how much there is room for */
 };
 
-/* Begins a session with a volume. `*handle` is a null pointer afterwards where it didn't succeed. */
+/* Begins a session with a volume, a regular file with one name; where the path is a link, the file that it leads to is
+   meant. The file is locked until the session ends. `*handle` is a null pointer afterwards where it didn't succeed. */
 int famsync_open(const char *volume, const struct famsync_options *options, famsync **handle);
 
 /* Ends a session and frees the handle; stores since the last msync are gone. Plain memory of this handle has to be
-   closed before. Answers FAMSYNC_DEVICE where the service ended so, or how the session ended earlier. */
+   closed before (FAMSYNC_ARGUMENT), and no other call with it may be under way. What was committed is written to its
+   place in the volume before. FAMSYNC_DEVICE where a write or a sync failed, in this call or earlier: what was
+   acknowledged is kept. */
 int famsync_close(famsync *handle);
 
 /* The files of the volume, numbered from 0, and their lengths as this session has set them. */
@@ -98,9 +99,8 @@ unsigned famsync_files(const famsync *handle);
 const char *famsync_file_name(const famsync *handle, unsigned file);
 uint64_t famsync_file_length(const famsync *handle, unsigned file);
 
-/* How many pages a commit of this session can have, and the process of the service, for whoever watches it. */
+/* How many pages a commit of this session can have. */
 unsigned famsync_frames(const famsync *handle);
-long famsync_service(const famsync *handle);
 
 /* Sets the length of a file, as ftruncate does: up to its capacity, in a volume of layout 3; else FAMSYNC_EINVAL. Bytes
    past a new end are gone, and what a file grows by is zeros. Like a store it is durable after the next famsync_msync
@@ -109,12 +109,12 @@ long famsync_service(const famsync *handle);
    grow it less at a time, with an msync in between. Nothing is changed where it is refused.
 
    Plain memory has the length with which it was opened, and so FAMSYNC_BUSY is answered as long as plain memory of this
-   file is open. A mapping in the service stays as it is: its pages past the file's end answer FAMSYNC_BUSADRERR, and
-   can be used once the file is long enough. */
+   file is open. A mapping stays as it is: its pages past the file's end answer FAMSYNC_BUSADRERR, and can be used once
+   the file is long enough. */
 int famsync_setlength(famsync *handle, const char *file, uint64_t length);
 
 /* Maps the pages of a file from `offset` on, a multiple of 4,096, for `length` bytes, at an address that the library
-   chooses: an address of the service, and no pointer. A length of 0 is up to the file's end. */
+   chooses: an address for famsync_load and famsync_store, and no pointer. A length of 0 is up to the file's end. */
 int famsync_map(famsync *handle, const char *file, uint64_t offset, uint64_t length, int protection, uint64_t *address);
 
 /* Loads or stores `count` bytes. Where it is refused on its way, the bytes before are loaded or stored, and `*done`,
@@ -123,9 +123,15 @@ int famsync_load(famsync *handle, uint64_t address, void *bytes, size_t count, s
 int famsync_store(famsync *handle, uint64_t address, const void *bytes, size_t count, size_t *done);
 
 /* Makes all stores of this session durable, all of them or none, those to plain memory, too; it returns when they are.
-   `*mark`, which may be a null pointer, is the commit's number, counted from 1 in each session. Where it is refused,
-   all stores still wait for a commit, and the next call takes them again. FAMSYNC_NOFRAME: the pages that were stored
-   to are more than one commit can have; no later call can commit them either. */
+   `*mark`, which may be a null pointer, is the commit's number, counted from 1 in each session. Threads that call it
+   while a commit is being written share the next one. Where it is refused, all stores still wait for a commit, and the
+   next call takes them again. FAMSYNC_NOFRAME: the pages that were stored to are more than one commit can have; no
+   later call can commit them either. FAMSYNC_DEVICE: a write or a sync failed, nothing is acknowledged, and the session
+   is over: each later call answers FAMSYNC_BROKEN. Where that was a sync, the volume is marked as suspect, as the
+   program does it.
+
+   What a commit writes after its acknowledgement is written by a thread of the library's own while nobody calls, or by
+   the next commit; with `foreground` there is no such thread. */
 int famsync_msync(famsync *handle, uint64_t *mark);
 
 /* The number of the last commit that was acknowledged, 0 where none was. */
@@ -157,11 +163,12 @@ int famsync_memory_open(famsync *handle, const char *file, famsync_memory **memo
 void *famsync_memory_at(const famsync_memory *memory);
 size_t famsync_memory_length(const famsync_memory *memory);
 
-/* How many pages of 4,096 bytes were stored to since the last msync. One commit can have famsync_frames of them. */
+/* How many pages of 4,096 bytes were stored to since the last msync; one that has the bytes that it had may count or
+   not. One commit can have famsync_frames of them. */
 size_t famsync_memory_dirty(const famsync_memory *memory);
 
 /* Gives the memory back. Stores since the last msync are gone; no thread may use the memory any more. Where an msync
-   was refused after some pages had been sent, the session can't commit any more (FAMSYNC_TORN). */
+   was refused after some pages had been stored, the session can't commit any more (FAMSYNC_TORN). */
 int famsync_memory_close(famsync_memory *memory);
 
 #ifdef __cplusplus

@@ -1,5 +1,5 @@
 /* Plain memory: stores are kept by an msync and by nothing else, in whole pages or part of one; faults that aren't its
-   own go to the handler that was there; more pages than a commit has are refused before any is sent. */
+   own go to the handler that was there; more pages than a commit has are refused before any is stored. */
 #include "test.h"
 
 #include <setjmp.h>
@@ -55,7 +55,7 @@ static void stores_are_kept(void)
     at = famsync_memory_at(a);
     other = famsync_memory_at(b);
     WANT(at[0] == 1 && at[1] == 0 && at[4095] == 2 && at[4096] == 3 && at[19999] == 4 && other[4999] == 5);
-    /* loads and stores of the service see what was committed */
+    /* loads and stores see what was committed */
     uint64_t address;
     unsigned char found[4];
     WANT_CODE(famsync_map(handle, "a", 4096, 0, FAMSYNC_READ, &address), FAMSYNC_OK);
@@ -128,6 +128,39 @@ static void handler_before(void)
     WANT(waitpid(child, &status, 0) == child && WIFEXITED(status) && WEXITSTATUS(status) == 0);
 }
 
+static void past_the_end(void)
+{
+    /* A store just past the memory, or before it, isn't the library's; one past the file's end, in its last page, is
+       memory that isn't kept. */
+    pid_t child = fork();
+    if (child == 0) {
+        struct sigaction action = {.sa_handler = other_handler};
+        alarm(60);
+        WANT(sigaction(SIGSEGV, &action, NULL) == 0);
+        famsync *handle = opened();
+        famsync_memory *b = memory_of(handle, "b");
+        unsigned char *volatile at = famsync_memory_at(b);
+        at[4999] = 5;
+        at[5000] = at[8191] = 7;
+        if (sigsetjmp(back, 1) == 0)
+            at[8192] = 7;
+        WANT(others == 1);
+        if (sigsetjmp(back, 1) == 0)
+            at[-1] = 7;
+        WANT(others == 2);
+        WANT_CODE(famsync_msync(handle, NULL), FAMSYNC_OK);
+        WANT_CODE(famsync_memory_close(b), FAMSYNC_OK);
+        b = memory_of(handle, "b");
+        at = famsync_memory_at(b);
+        WANT(at[4999] == 5 && at[5000] == 0 && at[8191] == 0);
+        WANT_CODE(famsync_memory_close(b), FAMSYNC_OK);
+        WANT_CODE(famsync_close(handle), FAMSYNC_OK);
+        raise(SIGKILL); /* so that valgrind, which has its own word on these stores, doesn't say how it ends */
+    }
+    int status;
+    WANT(waitpid(child, &status, 0) == child && WIFSIGNALED(status) && WTERMSIG(status) == SIGKILL);
+}
+
 static void too_many_pages(void)
 {
     make_volume(8, "a=81920");
@@ -144,7 +177,7 @@ static void too_many_pages(void)
     WANT(famsync_memory_dirty(a) == 9 && famsync_acknowledged(handle) == 1);
     WANT_CODE(famsync_msync(handle, NULL), FAMSYNC_NOFRAME);
     WANT_CODE(famsync_memory_close(a), FAMSYNC_OK);
-    /* nothing of it was sent */
+    /* nothing of it was stored */
     WANT_CODE(famsync_msync(handle, NULL), FAMSYNC_OK);
     WANT_CODE(famsync_close(handle), FAMSYNC_OK);
     handle = opened();
@@ -153,7 +186,7 @@ static void too_many_pages(void)
     for (int i = 0; i < 8; i++)
         WANT(at[i * 2 * 4096] == 1);
     WANT(at[8 * 2 * 4096] == 0);
-    /* Pages that famsync_store wrote count, too, and are found by the service alone: then a part was sent, which no
+    /* Pages that famsync_store wrote count, too, and are found by the core alone: then a part was stored, which no
        later call may commit. */
     uint64_t address;
     static unsigned char bytes[4 * 4096];
@@ -173,6 +206,38 @@ static void too_many_pages(void)
     at = famsync_memory_at(a);
     for (int i = 0; i < 8; i++)
         WANT(at[i * 2 * 4096] == 1);
+    WANT_CODE(famsync_memory_close(a), FAMSYNC_OK);
+    WANT_CODE(famsync_close(handle), FAMSYNC_OK);
+}
+
+/* Stores that come to one page after the other open some pages ahead; those that weren't stored to don't count. */
+static void rising_stores(void)
+{
+    make_volume(64, "a=819200");
+    famsync *handle = opened();
+    famsync_memory *a = memory_of(handle, "a");
+    unsigned char *at = famsync_memory_at(a);
+    for (size_t round = 1; round <= 3; round++) {
+        for (size_t count = 1; count <= 64; count += 9) {
+            size_t first = round * 40 + count % 7;
+            for (size_t page = first; page < first + count; page++)
+                at[page * 4096 + count] = (unsigned char)(round + count);
+            WANT(famsync_memory_dirty(a) == count);
+            at[(first + count) * 4096 - 1] = 1;
+            WANT(famsync_memory_dirty(a) == count);
+            WANT_CODE(famsync_msync(handle, NULL), FAMSYNC_OK);
+            WANT(famsync_memory_dirty(a) == 0);
+        }
+        /* what is refused counts as it did, and what was committed before doesn't */
+        for (size_t page = 0; page < 65; page++)
+            at[page * 4096 + 4000] = (unsigned char)round;
+        WANT_CODE(famsync_msync(handle, NULL), FAMSYNC_NOFRAME);
+        WANT(famsync_memory_dirty(a) == 65);
+        WANT_CODE(famsync_memory_close(a), FAMSYNC_OK);
+        a = memory_of(handle, "a");
+        at = famsync_memory_at(a);
+        WANT(famsync_memory_dirty(a) == 0 && at[4000] == 0 && at[(round * 40 + 1) * 4096 + 64] == round + 64);
+    }
     WANT_CODE(famsync_memory_close(a), FAMSYNC_OK);
     WANT_CODE(famsync_close(handle), FAMSYNC_OK);
 }
@@ -199,10 +264,12 @@ int main(void)
 {
     make_volume(16, "a=20000 b=5000");
     handler_before();
+    past_the_end();
     stores_are_kept();
     other_faults();
     too_many_pages();
+    rising_stores();
     many_handles();
-    printf("clients/c: memory: as it should be\n");
+    printf("clients/embedded: memory: as it should be\n");
     return 0;
 }

@@ -23,7 +23,7 @@ static void any_address_any_count(void)
     famsync *handle = opened();
     WANT(famsync_files(handle) == 2 && famsync_frames(handle) == 100);
     WANT(strcmp(famsync_file_name(handle, 1), "b") == 0 && famsync_file_length(handle, 1) == 5000);
-    WANT(famsync_file_name(handle, 2) == NULL && famsync_service(handle) > 0);
+    WANT(famsync_file_name(handle, 2) == NULL);
     WANT_CODE(famsync_map(handle, "a", 0, 0, FAMSYNC_READ | FAMSYNC_WRITE, &address), FAMSYNC_OK);
     for (; round < sizeof cases / sizeof *cases; round++) {
         size_t place = cases[round][0], count = cases[round][1];
@@ -118,6 +118,6 @@ int main(void)
     any_address_any_count();
     refusals();
     more_pages_than_a_commit_has();
-    printf("clients/c: ranges: as it should be\n");
+    printf("clients/embedded: ranges: as it should be\n");
     return 0;
 }

@@ -1,5 +1,5 @@
 /* What the tests share: each is a program that makes a volume of its own and ends with status 1 where a promise doesn't
-   hold. FAMSYNC in the environment says which program is tried. */
+   hold. Volumes are made here, byte by byte as docs/FORMATS.md has them, so that no other program is needed. */
 #ifndef TEST_H
 #define TEST_H
 
@@ -7,12 +7,14 @@
 #include "famsync.h"
 
 #include <errno.h>
+#include <fcntl.h>
 #include <pthread.h>
 #include <signal.h>
 #include <stdbool.h>
 #include <stdio.h>
 #include <stdlib.h>
 #include <string.h>
+#include <sys/stat.h>
 #include <sys/wait.h>
 #include <unistd.h>
 
@@ -53,20 +55,76 @@ static inline void remove_folder(void)
     }
 }
 
+static inline void make_folder(void)
+{
+    if (folder[0])
+        return;
+    strcpy(folder, "/tmp/famsync-test-XXXXXX");
+    WANT(mkdtemp(folder) != NULL);
+    remove_folder();
+    snprintf(volume, sizeof volume, "%s/v.img", folder);
+}
+
+static inline void put_number(unsigned char *bytes, unsigned count, uint64_t number)
+{
+    for (unsigned i = count; i > 0; i--, number >>= 8)
+        bytes[i - 1] = (unsigned char)number;
+}
+
+/* The super block and the lengths block of a volume with these files, `NAME=LENGTH` or `NAME=LENGTH/CAPACITY`, with
+   blanks between them. Answers how many blocks it has; `*lengths_at` is where the lengths block lies, 0 where it has
+   none. */
+static inline uint32_t lay_out(unsigned layout, unsigned slots, const char *files, unsigned char super[4096],
+                               unsigned char lengths[4096], uint32_t *lengths_at)
+{
+    uint32_t next = layout == 1 ? 3 + slots : layout == 2 ? 5 + 2 * slots : 6 + 2 * slots;
+    unsigned count = 0;
+    *lengths_at = layout == 3 ? next - 1 : 0;
+    for (const char *at = files; *at; at += strspn(at, " "), count++) {
+        unsigned long long length, capacity;
+        char name[33] = "";
+        int read = 0;
+        unsigned char *row = super + 32 + 48 * count;
+        WANT(sscanf(at, "%32[^=]=%llu%n", name, &length, &read) == 2);
+        at += read;
+        capacity = length;
+        if (*at == '/') {
+            WANT(sscanf(at, "/%llu%n", &capacity, &read) == 1);
+            at += read;
+        }
+        memcpy(row, name, strlen(name));
+        put_number(row + 32, 8, capacity);
+        put_number(row + 40, 4, next);
+        put_number(row + 44, 4, (capacity + 4095) / 4096);
+        put_number(lengths + 8 * count, 8, length);
+        next += (uint32_t)((capacity + 4095) / 4096);
+    }
+    memcpy(super, layout == 1 ? "FAMSYNC1" : layout == 2 ? "FAMSYNC2" : "FAMSYNC3", 8);
+    put_number(super + 8, 4, count);
+    put_number(super + 12, 4, slots);
+    put_number(super + 16, 4, next);
+    return next;
+}
+
 /* Makes a volume of a layout with these files in a folder of its own. */
 static inline void make_volume_of(unsigned layout, unsigned slots, const char *files)
 {
-    char command[512];
-    const char *program = getenv("FAMSYNC");
-    if (!folder[0]) {
-        strcpy(folder, "/tmp/famsync-test-XXXXXX");
-        WANT(mkdtemp(folder) != NULL);
-        remove_folder();
+    unsigned char super[4096] = {0}, lengths[4096] = {0};
+    static const unsigned char zeros[65536];
+    uint32_t lengths_at, blocks = lay_out(layout, slots, files, super, lengths, &lengths_at);
+    make_folder();
+    int file = open(volume, O_RDWR | O_CREAT | O_TRUNC | O_CLOEXEC, 0600);
+    WANT(file >= 0);
+    for (uint64_t done = 0; done < (uint64_t)blocks * 4096;) {
+        uint64_t left = (uint64_t)blocks * 4096 - done;
+        ssize_t written = write(file, zeros, left < sizeof zeros ? left : sizeof zeros);
+        WANT(written > 0);
+        done += (uint64_t)written;
     }
-    snprintf(volume, sizeof volume, "%s/v.img", folder);
-    snprintf(command, sizeof command, "'%s' format --layout %u '%s' %u %s >/dev/null", program ? program : "famsync",
-             layout, volume, slots, files);
-    WANT(system(command) == 0);
+    WANT(pwrite(file, super, 4096, 0) == 4096);
+    if (lengths_at)
+        WANT(pwrite(file, lengths, 4096, (off_t)lengths_at * 4096) == 4096);
+    WANT(close(file) == 0);
 }
 
 static inline void make_volume(unsigned slots, const char *files)
@@ -74,16 +132,22 @@ static inline void make_volume(unsigned slots, const char *files)
     make_volume_of(1, slots, files);
 }
 
-static inline famsync *opened(void)
+static inline famsync *opened_with(struct famsync_options options)
 {
     famsync *handle;
     char message[300];
-    struct famsync_options options = {.message = message, .message_size = sizeof message};
+    options.message = message;
+    options.message_size = sizeof message;
     int code = famsync_open(volume, &options, &handle);
     if (code != FAMSYNC_OK)
-        fprintf(stderr, "the service said: %s\n", message);
+        fprintf(stderr, "it said: %s\n", message);
     WANT_CODE(code, FAMSYNC_OK);
     return handle;
+}
+
+static inline famsync *opened(void)
+{
+    return opened_with((struct famsync_options){0});
 }
 
 #endif

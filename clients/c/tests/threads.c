@@ -61,10 +61,12 @@ int main(void)
     WANT(pthread_create(&loader, NULL, others_load, NULL) == 0);
     struct sigaction action = {.sa_handler = on_alarm, .sa_flags = SA_RESTART};
     WANT(sigaction(SIGALRM, &action, NULL) == 0);
+#ifndef __SANITIZE_THREAD__ /* which makes handlers of signals later, with SIGSEGV blocked */
     ualarm(2000, 2000);
+#endif
     for (; commits < 25; commits++) {
         WANT_CODE(famsync_msync(handle, NULL), FAMSYNC_OK);
-        /* what the service has is what was committed */
+        /* what a load finds is what was committed */
         WANT_CODE(famsync_load(handle, address, committed, sizeof committed, NULL), FAMSYNC_OK);
         for (unsigned worker = 0; worker < WORKERS; worker++) {
             uint64_t first = 0, last = 0;
@@ -88,6 +90,7 @@ int main(void)
     WANT(famsync_acknowledged(handle) == commits);
     WANT_CODE(famsync_memory_close(memory), FAMSYNC_OK);
     WANT_CODE(famsync_close(handle), FAMSYNC_OK);
-    printf("clients/c: threads: as it should be (%u of %u cuts fell within a round)\n", between, commits * WORKERS);
+    printf("clients/embedded: threads: as it should be (%u of %u cuts fell within a round)\n", between,
+           commits * WORKERS);
     return 0;
 }
