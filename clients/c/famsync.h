@@ -28,6 +28,12 @@
 #include <stddef.h>
 #include <stdint.h>
 
+/* The version of the library that this header came with. */
+#define FAMSYNC_VERSION "0.2.0"
+#define FAMSYNC_VERSION_MAJOR 0
+#define FAMSYNC_VERSION_MINOR 2
+#define FAMSYNC_VERSION_PATCH 0
+
 #ifdef __cplusplus
 extern "C" {
 #endif
