@@ -1,5 +1,29 @@
-# For who works on the repository. The gate is `.ci/run`.
-.PHONY: hooks layout
+# For who installs famsync, and for who works on the repository. The gate is `.ci/run`.
+#
+#   make              the C library, in clients/c/out
+#   make install      everything that users need; PREFIX, DESTDIR, PYTHONDIR say where (packaging/install.sh)
+#   make uninstall    takes it away again; with the same PREFIX and DESTDIR
+#   make dist         out/famsync-VERSION-linux-x86_64.tar.gz, for users without the kit
+#
+# The program and the core have to be proved and built before, by `./demo` and crates/famsync_core/build, or by `.ci/run`.
+# PROGRAM and CORE name others.
+PREFIX ?= /usr/local
+OUT ?= out
+PROVED = PROGRAM='$(PROGRAM)' CORE='$(CORE)'
+
+all:
+	$(MAKE) -C clients/c $(if $(CORE),CORE='$(if $(filter mock,$(CORE)),mock,$(abspath $(CORE)))')
+
+install:
+	@tree=$$(mktemp -d) && trap 'rm -rf "$$tree"' EXIT && $(PROVED) packaging/stage "$$tree" && \
+		"$$tree/install.sh" --prefix '$(PREFIX)' $(if $(DESTDIR),--destdir '$(DESTDIR)') \
+			$(if $(PYTHONDIR),--pythondir '$(PYTHONDIR)')
+
+uninstall:
+	@packaging/install.sh --uninstall --prefix '$(PREFIX)' $(if $(DESTDIR),--destdir '$(DESTDIR)')
+
+dist:
+	@$(PROVED) packaging/dist '$(OUT)'
 
 # From now on each commit in this clone is looked at before it is made.
 hooks:
@@ -8,3 +32,5 @@ hooks:
 # What the hook does, on what is staged.
 layout:
 	tests/layout
+
+.PHONY: all install uninstall dist hooks layout
