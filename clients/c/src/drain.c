@@ -1,4 +1,4 @@
-/* Makes the calls that the core has recorded on the volume's file, in order, and tells the core.
+/* Makes the calls that the core has recorded on the volume's file, in order, and then tells the core.
 
    Writes that no sync parts are gathered, and those whose places are neighbours become one system call. By that they
    are made in another order than they were recorded in, and that says nothing: of the writes since the last sync a disk
@@ -10,13 +10,13 @@
 #include <errno.h>
 #include <stdlib.h>
 #include <string.h>
-#include <sys/uio.h>
 #include <unistd.h>
 
-enum { KIND_WRITE = 1, KIND_SYNC = 2 };
+/* The kind of a call that is a sync; all others are writes. */
+#define KIND_SYNC 2u
 
-/* The most ranges of memory that one system call writes; Linux takes up to 1,024. */
-#define MOST_RANGES 256
+/* The most ranges of memory that one system call writes, as Linux has it. */
+#define MOST_RANGES 1024u
 
 struct call {
     uint32_t kind;
@@ -27,16 +27,15 @@ struct call {
 int begin_gathering(struct gathered *gathered, unsigned pieces)
 {
     gathered->most = pieces;
-    gathered->room = (size_t)pieces * PAGE;
     gathered->piece = calloc(pieces, sizeof *gathered->piece);
-    gathered->bytes = malloc(gathered->room);
-    return gathered->piece && gathered->bytes ? FAMSYNC_OK : FAMSYNC_NOMEMORY;
+    gathered->range = calloc(pieces < MOST_RANGES ? pieces : MOST_RANGES, sizeof *gathered->range);
+    return gathered->piece && gathered->range ? FAMSYNC_OK : FAMSYNC_NOMEMORY;
 }
 
 void end_gathering(struct gathered *gathered)
 {
     free(gathered->piece);
-    free(gathered->bytes);
+    free(gathered->range);
 }
 
 /* Ends the session: a call of the volume's file failed. */
@@ -47,10 +46,10 @@ static int fail(famsync *handle)
 }
 
 /* Writes ranges of memory to the volume from an offset on, whole. */
-static int write_ranges(famsync *handle, struct iovec *range, int count, uint64_t offset)
+static int write_ranges(famsync *handle, struct iovec *range, unsigned count, uint64_t offset)
 {
     while (count > 0) {
-        ssize_t written = pwritev(handle->volume.file, range, count, (off_t)offset);
+        ssize_t written = pwritev(handle->volume.file, range, (int)count, (off_t)offset);
         if (written < 0 && errno == EINTR)
             continue;
         if (written <= 0) {
@@ -69,16 +68,18 @@ static int write_ranges(famsync *handle, struct iovec *range, int count, uint64_
     return FAMSYNC_OK;
 }
 
-/* A sync that failed is told by the mark beside the volume before anybody hears of it. The file had its length, and its
-   blocks were written, when the volume was made, so its data is all there is to sync. */
+/* Makes the oldest call, a sync. One that fails is told by the mark beside the volume before anybody hears of it. The
+   file had its length, and its blocks were written, when the volume was made, so its data is all there is to sync. */
 static int make_sync(famsync *handle)
 {
     int synced, error;
     do
         synced = fdatasync(handle->volume.file);
     while (synced < 0 && errno == EINTR);
-    if (synced == 0)
+    if (synced == 0) {
+        famsync_core_carried_out(handle->core, 1, &handle->core.at);
         return FAMSYNC_OK;
+    }
     error = errno;
     (void)mark_suspect(&handle->volume); /* where it can't be made either, nothing more can be done */
     errno = error;
@@ -99,23 +100,52 @@ static unsigned pieces_below(const struct gathered *gathered, uint64_t offset)
     return low;
 }
 
-/* Gathers a write, unless there is no room for it or it touches what another one writes. A write is within one block,
-   so that the first always finds room. */
+/* Gathers a write, unless there is no room for it or it touches what another one writes. The first one has room. */
 static bool gather(struct gathered *gathered, const struct call *call)
 {
     unsigned place = pieces_below(gathered, call->offset);
     struct piece *at = &gathered->piece[place];
-    if (gathered->pieces == gathered->most || call->length > gathered->room - gathered->have)
+    if (gathered->pieces == gathered->most)
         return false;
     if (place > 0 && at[-1].offset + at[-1].length > call->offset)
         return false;
     if (place < gathered->pieces && call->offset + call->length > at->offset)
         return false;
     memmove(at + 1, at, (gathered->pieces - place) * sizeof *at);
-    *at = (struct piece){call->offset, (size_t)call->length, gathered->bytes + gathered->have};
-    memcpy(at->bytes, call->bytes, at->length);
-    gathered->have += at->length;
+    *at = (struct piece){call->offset, (size_t)call->length, call->bytes};
     gathered->pieces++;
+    return true;
+}
+
+/* The call that waits behind so many others. Its bytes are the core's, and stay where they are as long as calls are
+   looked at and nothing else is asked. */
+static bool look_at(famsync *handle, uint32_t others, struct call *call)
+{
+    return famsync_core_call(handle->core, others, &call->kind, &call->offset, &call->bytes, &call->length,
+                             &handle->core.at) == FAMSYNC_CORE_OK;
+}
+
+/* Gathers the oldest writes, up to a sync or to one that can't go with them. */
+static void gather_oldest(famsync *handle)
+{
+    struct gathered *gathered = &handle->gathered;
+    struct call call;
+    gathered->pieces = 0;
+    while (look_at(handle, gathered->pieces, &call) && call.kind != KIND_SYNC && gather(gathered, &call))
+        continue;
+}
+
+/* Adds a piece to ranges of memory that one call writes; where it lies behind the last one, that becomes longer. */
+static bool add_range(struct iovec *range, unsigned *count, const struct piece *piece)
+{
+    struct iovec *last = *count > 0 ? &range[*count - 1] : NULL;
+    if (last && (const uint8_t *)last->iov_base + last->iov_len == piece->bytes) {
+        last->iov_len += piece->length;
+        return true;
+    }
+    if (*count == MOST_RANGES)
+        return false;
+    range[(*count)++] = (struct iovec){(void *)(uintptr_t)piece->bytes, piece->length};
     return true;
 }
 
@@ -125,22 +155,12 @@ static int write_gathered(famsync *handle)
     struct gathered *gathered = &handle->gathered;
     int code = FAMSYNC_OK;
     for (unsigned first = 0; first < gathered->pieces && code == FAMSYNC_OK;) {
-        struct iovec range[MOST_RANGES];
         uint64_t begin = gathered->piece[first].offset, end = begin;
-        int count = 0;
-        for (; first < gathered->pieces && gathered->piece[first].offset == end; first++) {
-            struct piece *piece = &gathered->piece[first];
-            bool goes_on = count > 0 &&
-                           (unsigned char *)range[count - 1].iov_base + range[count - 1].iov_len == piece->bytes;
-            if (!goes_on && count == MOST_RANGES)
-                break;
-            if (goes_on)
-                range[count - 1].iov_len += piece->length;
-            else
-                range[count++] = (struct iovec){piece->bytes, piece->length};
-            end += piece->length;
-        }
-        code = write_ranges(handle, range, count, begin);
+        unsigned count = 0;
+        while (first < gathered->pieces && gathered->piece[first].offset == end &&
+               add_range(gathered->range, &count, &gathered->piece[first]))
+            end += gathered->piece[first++].length;
+        code = write_ranges(handle, gathered->range, count, begin);
     }
     return code;
 }
@@ -155,56 +175,24 @@ static void forget_gathered(famsync *handle)
     }
 }
 
-/* The oldest call that waits. Its bytes stay where they are until the core is called again. */
-static bool oldest(famsync *handle, struct call *call)
+/* Makes the oldest writes together, and tells the core when all of them are made. */
+static int make_writes(famsync *handle)
 {
-    return famsync_core_call(handle->core, 0, &call->kind, &call->offset, &call->bytes, &call->length,
-                             &handle->core.at) == FAMSYNC_CORE_OK;
-}
-
-static void carried_out(famsync *handle)
-{
-    famsync_core_carried_out(handle->core, 1, &handle->core.at);
-}
-
-/* A sync, or a write for which what is gathered has no room. */
-static int make_alone(famsync *handle, const struct call *call)
-{
-    struct iovec range = {(void *)(uintptr_t)call->bytes, (size_t)call->length};
-    int code = call->kind == KIND_SYNC ? make_sync(handle) : write_ranges(handle, &range, 1, call->offset);
-    if (code == FAMSYNC_OK)
-        carried_out(handle);
-    return code;
-}
-
-/* Makes the oldest calls that are made together; `*any` is whether there were some. The core is told of each write as
-   it is gathered, before it is made, and is asked for nothing but further calls until all of these are made: so it sees
-   and answers what it would if each were made first. Where one fails, the session is over, and nothing more is asked.
- */
-static int make_some(famsync *handle, bool *any)
-{
-    struct call call;
-    handle->gathered.pieces = 0;
-    handle->gathered.have = 0;
-    *any = oldest(handle, &call);
-    if (!*any)
-        return FAMSYNC_OK;
-    while (call.kind == KIND_WRITE && gather(&handle->gathered, &call)) {
-        carried_out(handle);
-        if (!oldest(handle, &call))
-            break;
+    int code;
+    gather_oldest(handle);
+    code = write_gathered(handle);
+    if (code == FAMSYNC_OK) {
+        famsync_core_carried_out(handle->core, handle->gathered.pieces, &handle->core.at);
+        forget_gathered(handle);
     }
-    return handle->gathered.pieces > 0 ? write_gathered(handle) : make_alone(handle, &call);
+    return code;
 }
 
 int drain(famsync *handle)
 {
-    bool any = true;
+    struct call oldest;
     int code = FAMSYNC_OK;
-    while (any && code == FAMSYNC_OK) {
-        code = make_some(handle, &any);
-        if (code == FAMSYNC_OK)
-            forget_gathered(handle);
-    }
+    while (code == FAMSYNC_OK && look_at(handle, 0, &oldest))
+        code = oldest.kind == KIND_SYNC ? make_sync(handle) : make_writes(handle);
     return code;
 }

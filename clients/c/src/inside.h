@@ -11,6 +11,7 @@
 #include <stdatomic.h>
 #include <stdbool.h>
 #include <sys/types.h>
+#include <sys/uio.h>
 
 #define PAGE 4096u
 #define MOST_FILES 64u
@@ -50,18 +51,18 @@ struct mapping {
     unsigned file;
 };
 
-/* Writes that are made together, in rising order of their offsets; none overlaps another. */
+/* Writes that are made together, in rising order of their offsets; none overlaps another. Their bytes are where the
+   core has them, up to the next call of it that isn't famsync_core_call. */
 struct piece {
     uint64_t offset; /* in the volume's file */
     size_t length;
-    unsigned char *bytes; /* within the room below */
+    const unsigned char *bytes;
 };
 
 struct gathered {
     struct piece *piece;
     unsigned pieces, most;
-    unsigned char *bytes;
-    size_t have, room;
+    struct iovec *range; /* room for what one system call writes */
 };
 
 /* Blocks that were supplied for the sake of one access. */

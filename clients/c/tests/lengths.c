@@ -191,6 +191,6 @@ int main(void)
     refusals();
     threads();
     forked();
-    printf("clients/embedded: lengths: as it should be\n");
+    printf("clients/c: lengths: as it should be\n");
     return 0;
 }

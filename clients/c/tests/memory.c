@@ -270,6 +270,6 @@ int main(void)
     too_many_pages();
     rising_stores();
     many_handles();
-    printf("clients/embedded: memory: as it should be\n");
+    printf("clients/c: memory: as it should be\n");
     return 0;
 }

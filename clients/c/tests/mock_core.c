@@ -3,7 +3,8 @@
  * docs/FORMATS.md, with a journal, by plain code that nobody proved. What it is for: the host is linked with it where
  * the real core isn't built, and its recorded calls can be logged and compared with those that the host makes.
  *
- *   MOCK_LOG=PATH   each call that is recorded is written there, a line each: W OFFSET HEX, or S
+ *   MOCK_LOG=PATH   each call that is recorded is written there, a line each: core W OFFSET HEX, or core S; and how
+ * many are said to be made: core made COUNT
  */
 #define _DEFAULT_SOURCE
 #include "famsync_core.h"
@@ -114,23 +115,35 @@ static void put_number(uint8_t *bytes, unsigned count, uint64_t number)
 
 /* Calls. */
 
+static void put_line(const char *line, size_t length)
+{
+    int file = open(getenv("MOCK_LOG"), O_WRONLY | O_CREAT | O_APPEND, 0600);
+    if (syscall(SYS_write, file, line, length) != (long)length)
+        abort();
+    close(file);
+}
+
 static void note(const struct call *call)
 {
     static const char DIGITS[] = "0123456789abcdef";
-    const char *path = getenv("MOCK_LOG");
     char line[3 * PAGE];
-    if (!path)
+    if (!getenv("MOCK_LOG"))
         return;
-    int length = snprintf(line, 64, call->kind == KIND_SYNC ? "S" : "W %llu ", (unsigned long long)call->offset);
+    int length = snprintf(line, 64, call->kind == KIND_SYNC ? "core S" : "core W %llu ",
+                          (unsigned long long)call->offset);
     for (uint64_t i = 0; i < call->length; i++) {
         line[length++] = DIGITS[call->bytes[i] / 16];
         line[length++] = DIGITS[call->bytes[i] % 16];
     }
     line[length++] = '\n';
-    int file = open(path, O_WRONLY | O_CREAT | O_APPEND, 0600);
-    if (syscall(SYS_write, file, line, (size_t)length) != length)
-        abort();
-    close(file);
+    put_line(line, (size_t)length);
+}
+
+static void note_made(uint32_t count)
+{
+    char line[64];
+    if (getenv("MOCK_LOG"))
+        put_line(line, (size_t)snprintf(line, sizeof line, "core made %u\n", count));
 }
 
 static bool record(struct core *core, struct call call)
@@ -244,10 +257,11 @@ int32_t famsync_core_call(famsync_core handle, uint32_t index, uint32_t *kind, u
                           uint64_t *length, uint8_t **at)
 {
     struct core *core = core_of(handle);
-    struct call *call = core->call + core->first + index;
+    const struct call *call;
     *at = handle.at;
     if (index >= core->calls - core->first)
         return FAMSYNC_CORE_NONE;
+    call = &core->call[core->first + index];
     *kind = call->kind;
     *offset = call->offset;
     *bytes = call->bytes;
@@ -261,6 +275,7 @@ int32_t famsync_core_carried_out(famsync_core handle, uint32_t count, uint8_t **
     *at = handle.at;
     if (count > core->calls - core->first)
         return FAMSYNC_CORE_ARGUMENT;
+    note_made(count);
     for (uint32_t i = 0; i < count; i++) {
         struct call *call = &core->call[core->first++];
         give_back(call->bytes);

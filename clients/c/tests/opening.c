@@ -218,6 +218,6 @@ int main(void)
     in_use();
     shapes();
     closed_descriptors();
-    printf("clients/embedded: opening: as it should be\n");
+    printf("clients/c: opening: as it should be\n");
     return 0;
 }

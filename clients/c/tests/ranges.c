@@ -118,6 +118,6 @@ int main(void)
     any_address_any_count();
     refusals();
     more_pages_than_a_commit_has();
-    printf("clients/embedded: ranges: as it should be\n");
+    printf("clients/c: ranges: as it should be\n");
     return 0;
 }

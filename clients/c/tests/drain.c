@@ -1,0 +1,201 @@
+/* How recorded calls are made, by drain.c alone: over lists of calls that a core might record, and a file in memory.
+   Whenever the core is told of calls, exactly these and those before were made. */
+#include "inside.h"
+
+#include <errno.h>
+#include <stdio.h>
+#include <stdlib.h>
+#include <string.h>
+#include <unistd.h>
+
+#define MOST_CALLS 1100u
+
+static struct recorded {
+    bool syncs;
+    uint64_t offset, length;
+    uint8_t bytes[PAGE];
+} call[MOST_CALLS];
+
+static unsigned calls, told;                     /* recorded; and how many of them are said to be made */
+static uint8_t made[MOST_CALLS * PAGE];          /* the file */
+static size_t size;                              /* how many bytes of it are looked at */
+static uint8_t synced[sizeof made];              /* as it was at its last sync */
+static uint8_t wanted[sizeof made];              /* as the calls make it of which the core was told */
+static unsigned writes, syncs, fails_at, marked; /* calls of the system; the one that fails, if any */
+static bool in_parts;                            /* each write does a part of what it is asked for, or nothing */
+
+static void want(bool holds, const char *what)
+{
+    if (!holds) {
+        fprintf(stderr, "drain: %s, with %u calls of which %u were told\n", what, calls, told);
+        exit(1);
+    }
+}
+
+ssize_t pwritev(int file, const struct iovec *range, int count, off_t offset)
+{
+    size_t done = 0, length = range[0].iov_len;
+    want(file == 7 && count >= 1 && count <= 1024, "a write that the system doesn't take");
+    if (++writes + syncs == fails_at) {
+        errno = EIO;
+        return -1;
+    }
+    if (in_parts && writes % 3 == 0) {
+        errno = EINTR;
+        return -1;
+    }
+    if (in_parts)
+        length = (length + 1) / 2, count = 1;
+    for (int i = 0; i < count; i++) {
+        length = in_parts ? length : range[i].iov_len;
+        memcpy(made + offset + done, range[i].iov_base, length);
+        done += length;
+    }
+    return (ssize_t)done;
+}
+
+int fdatasync(int file)
+{
+    want(file == 7, "a sync of another file");
+    if (writes + ++syncs == fails_at) {
+        errno = EIO;
+        return -1;
+    }
+    memcpy(synced, made, size);
+    return 0;
+}
+
+int mark_suspect(const struct volume *volume)
+{
+    (void)volume;
+    marked++;
+    return FAMSYNC_OK;
+}
+
+int32_t famsync_core_call(famsync_core core, uint32_t index, uint32_t *kind, uint64_t *offset, const uint8_t **bytes,
+                          uint64_t *length, uint8_t **at)
+{
+    *at = core.at;
+    if (index >= calls - told)
+        return FAMSYNC_CORE_NONE;
+    *kind = call[told + index].syncs ? 2 : 1;
+    *offset = call[told + index].offset;
+    *length = call[told + index].length;
+    *bytes = call[told + index].bytes;
+    return FAMSYNC_CORE_OK;
+}
+
+/* Now the file has what the calls up to here make of it; and its last sync what those before the last of these do. */
+int32_t famsync_core_carried_out(famsync_core core, uint32_t count, uint8_t **at)
+{
+    *at = core.at;
+    want(count >= 1 && count <= calls - told, "the core was told of calls that don't wait");
+    for (; count > 0; count--, told++) {
+        if (call[told].syncs)
+            want(memcmp(synced, wanted, size) == 0, "a sync was made too soon or too late");
+        else
+            memcpy(wanted + call[told].offset, call[told].bytes, call[told].length);
+        memset(call[told].bytes, 0xDD, PAGE); /* which are the core's, and gone */
+    }
+    want(memcmp(made, wanted, size) == 0, "what was made isn't what was told");
+    return FAMSYNC_CORE_OK;
+}
+
+int32_t famsync_core_forget(famsync_core core, uint32_t block, uint8_t **at)
+{
+    *at = core.at;
+    want(block >= 2 && block < size / PAGE, "a block that is no file's was forgotten");
+    return FAMSYNC_CORE_OK;
+}
+
+static void begin(unsigned pages)
+{
+    size = (size_t)pages * PAGE;
+    memset(made, 0, size);
+    memset(synced, 0, size);
+    memset(wanted, 0, size);
+    calls = told = writes = syncs = fails_at = marked = 0;
+}
+
+static void record_write(uint64_t offset, uint64_t length)
+{
+    struct recorded *recorded = &call[calls++];
+    *recorded = (struct recorded){.offset = offset, .length = length};
+    memset(recorded->bytes, (int)(calls % 255 + 1), length);
+}
+
+static void record_sync(void)
+{
+    call[calls++] = (struct recorded){.syncs = true};
+}
+
+static int drained(unsigned pieces)
+{
+    static uint8_t core;
+    famsync handle = {.core = {&core}, .volume = {.file = 7}, .head = 2, .blocks = (uint32_t)(size / PAGE)};
+    want(begin_gathering(&handle.gathered, pieces) == FAMSYNC_OK, "no memory");
+    int code = drain(&handle);
+    want(code == handle.ended, "a code that isn't the session's");
+    end_gathering(&handle.gathered);
+    return code;
+}
+
+/* Any calls: some touch each other, and some are too many to go together. */
+static void any_calls(unsigned seed)
+{
+    srand(seed);
+    begin(16);
+    for (unsigned count = (unsigned)rand() % 200; count > 0; count--) {
+        uint64_t page = (uint64_t)rand() % 15 * PAGE;
+        if (rand() % 12 == 0)
+            record_sync();
+        else if (rand() % 3 == 0)
+            record_write(page, PAGE);
+        else
+            record_write(page + (uint64_t)rand() % PAGE, (uint64_t)rand() % 200 + 1);
+    }
+    in_parts = seed % 2 == 0;
+    want(drained(seed % 5 == 0 ? 1 : 1 + seed % 40) == FAMSYNC_OK && told == calls, "calls are left");
+    in_parts = false;
+}
+
+/* So many pages that are neighbours, the last one first, are so many calls of the system. */
+static void neighbours(unsigned pages, unsigned as_calls)
+{
+    begin(pages);
+    for (unsigned page = pages; page > 0; page--)
+        record_write((uint64_t)(page - 1) * PAGE, PAGE);
+    record_sync();
+    want(drained(MOST_CALLS) == FAMSYNC_OK && told == calls, "calls are left");
+    want(writes == as_calls && syncs == 1, "another number of calls of the system");
+}
+
+/* Of calls that fail, and of those behind them, the core isn't told. */
+static void failing(void)
+{
+    for (unsigned at = 1; at <= 6; at++) {
+        begin(4);
+        for (unsigned page = 0; page < 2; page++) {
+            record_write(page * 8192, 100);
+            record_write(page * 8192 + 4096, 100);
+            record_sync();
+        }
+        fails_at = at;
+        want(drained(16) == FAMSYNC_DEVICE && errno == EIO, "a failure that isn't told");
+        want(told == (at < 3 ? 0 : at == 3 ? 2 : at < 6 ? 3 : 5), "another number of calls was told");
+        want(marked == (at % 3 == 0), "a mark where no sync failed, or none where one did");
+    }
+}
+
+int main(void)
+{
+    for (unsigned seed = 1; seed <= 400; seed++)
+        any_calls(seed);
+    neighbours(1, 1);
+    neighbours(1021, 1);
+    neighbours(1024, 1);
+    neighbours(1025, 2);
+    failing();
+    printf("clients/c: drain: as it should be\n");
+    return 0;
+}
