@@ -58,21 +58,17 @@ enum famsync_code {
     FAMSYNC_SHAPE = -18,      /* the volume doesn't serve so many frames or copies */
 
     /* why an access or a commit is refused */
-    FAMSYNC_STALLED = -21,
-    FAMSYNC_LOCKED = -22,
     FAMSYNC_SEGVMAPERR = -23, /* the address isn't mapped */
     FAMSYNC_SEGVACCERR = -24, /* the mapping doesn't allow this access */
     FAMSYNC_BUSADRERR = -25,  /* the page is past the file's end */
-    FAMSYNC_HELD = -26,
-    FAMSYNC_NOFRAME = -27, /* more pages were stored to, or added to a file, than one commit can have */
-    FAMSYNC_DEVICE = -28,  /* a read, a write or a sync of the volume failed */
-    FAMSYNC_BROKEN = -29,  /* a write or a sync failed earlier, and the session is over */
-    FAMSYNC_EINVAL = -30,
-    FAMSYNC_ENOMEM = -31,
-    FAMSYNC_EACCES = -32,
-    FAMSYNC_OVERLAP = -33,
-    FAMSYNC_NOFILE = -34, /* the volume has no such file */
-    FAMSYNC_BUSY = -35
+    FAMSYNC_NOFRAME = -27,    /* more pages were stored to, or added to a file, than one commit can have */
+    FAMSYNC_DEVICE = -28,     /* a read, a write or a sync of the volume failed, or was refused memory */
+    FAMSYNC_BROKEN = -29,     /* a write or a sync failed earlier, and the session is over */
+    FAMSYNC_EINVAL = -30,     /* a number is outside the range that the volume or its addresses have */
+    FAMSYNC_ENOMEM = -31,     /* there are no addresses left */
+    FAMSYNC_OVERLAP = -33,    /* plain memory of the file is open already */
+    FAMSYNC_NOFILE = -34,     /* the volume has no such file */
+    FAMSYNC_BUSY = -35        /* plain memory of the file is open; or the session has made 2^32 - 1 commits */
 };
 
 enum famsync_protection { FAMSYNC_READ = 1, FAMSYNC_WRITE = 2 };
@@ -84,7 +80,7 @@ typedef struct famsync_memory famsync_memory;
 struct famsync_options {
     int trust;           /* not 0: a volume whose sync failed is opened all the same, and isn't marked any more */
     unsigned frames;     /* pages in memory; 0: as many as one commit can have */
-    unsigned copies;     /* frames more, for pages that are stored to while a commit writes them; 0 to 64 */
+    unsigned copies;     /* frames for copies besides, 0 to 64; no call of this version needs one */
     int foreground;      /* not 0: no thread of the library's own (see famsync_msync) */
     char *message;       /* a line about why the volume wasn't opened is put here */
     size_t message_size; /* and how much there is room for */

@@ -9,7 +9,7 @@ int write_out(famsync *handle, uint32_t steps)
     int32_t answer = famsync_core_write_out(handle->core, steps, &handle->core.at);
     int code = drain(handle);
     handle->left = answer == FAMSYNC_CORE_OK && code == FAMSYNC_OK;
-    return code != FAMSYNC_OK ? code : code_of(answer);
+    return code != FAMSYNC_OK ? code : answer_of(handle, answer);
 }
 
 /* The thread. An error of it is told by the next call, as the session is over then. */

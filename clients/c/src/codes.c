@@ -22,21 +22,17 @@ static const struct {
     {FAMSYNC_NOTAVOLUME, "the file is no volume"},
     {FAMSYNC_DAMAGED, "the volume is damaged"},
     {FAMSYNC_SHAPE, "the volume doesn't serve so many frames or copies"},
-    {FAMSYNC_STALLED, "the processor isn't active"},
-    {FAMSYNC_LOCKED, "a change of the mappings is under way"},
     {FAMSYNC_SEGVMAPERR, "the address isn't mapped"},
     {FAMSYNC_SEGVACCERR, "the mapping doesn't allow this access"},
     {FAMSYNC_BUSADRERR, "the page is past the file's end"},
-    {FAMSYNC_HELD, "the page waits for its record"},
     {FAMSYNC_NOFRAME, "more pages were stored to, or added to a file, than one commit can have"},
-    {FAMSYNC_DEVICE, "a read, a write or a sync of the volume failed"},
+    {FAMSYNC_DEVICE, "a read, a write or a sync of the volume failed, or was refused memory"},
     {FAMSYNC_BROKEN, "a write or a sync of the volume failed earlier, and the session is over"},
-    {FAMSYNC_EINVAL, "the volume doesn't take this argument"},
-    {FAMSYNC_ENOMEM, "there are no addresses left, or a page of the range isn't mapped"},
-    {FAMSYNC_EACCES, "the file wasn't opened for writing"},
-    {FAMSYNC_OVERLAP, "it is mapped already"},
+    {FAMSYNC_EINVAL, "a number is outside the range that the volume or its addresses have"},
+    {FAMSYNC_ENOMEM, "there are no addresses left"},
+    {FAMSYNC_OVERLAP, "plain memory of the file is open already"},
     {FAMSYNC_NOFILE, "the volume has no such file"},
-    {FAMSYNC_BUSY, "a commit is under way, or plain memory of the file is open"},
+    {FAMSYNC_BUSY, "plain memory of the file is open, or there are no numbers left for commits"},
 };
 
 const char *famsync_strerror(int code)
@@ -63,11 +59,26 @@ int code_of(int64_t core_code)
     case FAMSYNC_CORE_ARGUMENT:
     case FAMSYNC_CORE_ORDER:
     case FAMSYNC_CORE_OTHER:
+    /* None of these comes: the only processor of a session is active, and nobody changes its mappings meanwhile; what a
+       commit writes is written when it answers; files are open for writing; each mapping has addresses of its own. */
+    case FAMSYNC_CORE_STALLED:
+    case FAMSYNC_CORE_LOCKED:
+    case FAMSYNC_CORE_HELD:
+    case FAMSYNC_CORE_EACCES:
+    case FAMSYNC_CORE_OVERLAP:
         return FAMSYNC_ARGUMENT;
     default:
-        /* from FAMSYNC_STALLED on they are the same */
+        /* from FAMSYNC_SEGVMAPERR on they are the same */
         return core_code >= 0 ? FAMSYNC_OK : (int)core_code;
     }
+}
+
+int answer_of(famsync *handle, int64_t core_code)
+{
+    if (core_code != FAMSYNC_CORE_DEVICE && core_code != FAMSYNC_CORE_BROKEN)
+        return code_of(core_code);
+    handle->ended = FAMSYNC_DEVICE;
+    return FAMSYNC_DEVICE;
 }
 
 void say(struct message *message, const char *format, ...)

@@ -6,7 +6,7 @@
 static int commit(famsync *handle, uint64_t *mark)
 {
     uint32_t number = 0;
-    int code = code_of(famsync_core_commit(handle->core, &number, &handle->core.at));
+    int code = answer_of(handle, famsync_core_commit(handle->core, &number, &handle->core.at));
     int drained = drain(handle);
     if (drained != FAMSYNC_OK)
         return drained;

@@ -114,8 +114,10 @@ struct famsync {
     famsync *next, **link; /* among the handles of this process */
 };
 
-/* codes.c: the code of the library for one of the core. */
+/* codes.c: the code of the library for one of the core; and for one that a request of the session was answered: where
+   the core had no memory to record a call, now or earlier, the session is over. */
 int code_of(int64_t core_code);
+int answer_of(famsync *handle, int64_t core_code);
 
 /* api.c: turns. `enter` answers whether this process may use the handle; if so it has its turn until `leave`. */
 int enter(famsync *handle);

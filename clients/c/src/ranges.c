@@ -71,7 +71,7 @@ int load_range(famsync *handle, uint64_t address, unsigned char *bytes, size_t c
         int32_t answer = famsync_core_load(handle->core, address + *done, bytes + *done,
                                            left < AT_ONCE ? left : AT_ONCE, &some, &wanted, &handle->core.at);
         *done += some;
-        code = answer == FAMSYNC_CORE_WANTED ? supply(handle, wanted, count - *done) : code_of(answer);
+        code = answer == FAMSYNC_CORE_WANTED ? supply(handle, wanted, count - *done) : answer_of(handle, answer);
     }
     return settle(handle, code);
 }
@@ -87,7 +87,7 @@ int store_range(famsync *handle, uint64_t address, const unsigned char *bytes, s
         int32_t answer = famsync_core_store(handle->core, address + *done, bytes + *done,
                                             left < AT_ONCE ? left : AT_ONCE, &some, &wanted, &handle->core.at);
         *done += some;
-        code = answer == FAMSYNC_CORE_WANTED ? supply(handle, wanted, count - *done) : code_of(answer);
+        code = answer == FAMSYNC_CORE_WANTED ? supply(handle, wanted, count - *done) : answer_of(handle, answer);
     }
     return settle(handle, code);
 }
@@ -139,16 +139,17 @@ int famsync_store(famsync *handle, uint64_t address, const void *bytes, size_t c
     return code;
 }
 
-/* Asks once for another length of a file, or as often as a block is wanted for it. */
-static int32_t ask_length(famsync *handle, unsigned file, uint64_t length)
+/* Asks once for another length of a file, or as often as a block is wanted for it; `*in_memory` is whether the page in
+   which the file ends is, where it has to be. */
+static int ask_length(famsync *handle, unsigned file, uint64_t length, bool *in_memory)
 {
     for (;;) {
         uint32_t wanted = 0;
         int32_t answer = famsync_core_set_length(handle->core, file, length, &wanted, &handle->core.at);
-        if (answer != FAMSYNC_CORE_WANTED)
-            return answer;
-        if (supply(handle, wanted, 0) != FAMSYNC_OK)
-            return FAMSYNC_CORE_DEVICE;
+        int code = answer == FAMSYNC_CORE_WANTED ? supply(handle, wanted, 0) : answer_of(handle, answer);
+        *in_memory = answer != FAMSYNC_CORE_NOTRESIDENT;
+        if (answer != FAMSYNC_CORE_WANTED || code != FAMSYNC_OK)
+            return code;
     }
 }
 
@@ -169,16 +170,15 @@ static int load_last_page(famsync *handle, unsigned file)
 
 static int set_length(famsync *handle, unsigned file, uint64_t length)
 {
-    int code = FAMSYNC_OK;
-    int32_t answer = ask_length(handle, file, length);
+    bool in_memory;
+    int code = ask_length(handle, file, length, &in_memory);
     /* Where the core takes that page out again to make room, it takes others first the second time. */
-    for (unsigned tries = 0; answer == FAMSYNC_CORE_NOTRESIDENT && tries < 2 && code == FAMSYNC_OK; tries++) {
+    for (unsigned tries = 0; !in_memory && tries < 2; tries++) {
         code = load_last_page(handle, file);
-        if (code == FAMSYNC_OK)
-            answer = ask_length(handle, file, length);
+        if (code != FAMSYNC_OK)
+            break;
+        code = ask_length(handle, file, length, &in_memory);
     }
-    if (code == FAMSYNC_OK)
-        code = code_of(answer);
     if (code == FAMSYNC_OK)
         atomic_store(&handle->file[file].length, length);
     return settle(handle, code);

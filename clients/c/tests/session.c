@@ -3,9 +3,9 @@
  * each, the same in all, that is raised by one and committed, round by round; `b` has the number as its length.
  *
  *   session VOLUME make [FILES]               makes a volume
- *   session VOLUME work ROUNDS [foreground]   prints each call that didn't succeed, and the number of each round that
- * did session VOLUME load                       the same for ever, by three threads, each with pages of its own session
- * VOLUME find [trust]               prints the numbers that are there
+ *   session VOLUME work ROUNDS [foreground]   prints each call that fails, and the number of each round that is done
+ *   session VOLUME load                       the same for ever, by three threads, each with pages of its own
+ *   session VOLUME find [trust]               prints the numbers that are there
  */
 #include "test.h"
 
