@@ -60,8 +60,7 @@ struct core {
     uint32_t blocks;
     uint8_t **block;
     struct call *call;
-    size_t calls, first, room;  /* those from `first` on wait */
-    uint64_t recorded, carried; /* calls ever */
+    size_t calls, first, room; /* those from `first` on wait */
     bool open, broken;
     unsigned layout;
     uint32_t slots, head, files;
@@ -71,7 +70,6 @@ struct core {
     size_t mappings;
     uint32_t frames, resident, turn;
     uint32_t mark, acknowledged;
-    uint64_t durable; /* how many calls have to be carried out until `mark` is */
     bool resized;
 };
 
@@ -159,7 +157,6 @@ static bool record(struct core *core, struct call call)
         core->room = room;
     }
     core->call[core->calls++] = call;
-    core->recorded++;
     note(&call);
     return true;
 }
@@ -238,6 +235,8 @@ int32_t famsync_core_forget(famsync_core handle, uint32_t block, uint8_t **at)
     *at = handle.at;
     if (block >= core->blocks)
         return FAMSYNC_CORE_ARGUMENT;
+    if (core->open && block < core->head)
+        return FAMSYNC_CORE_NONE;
     for (size_t i = core->first; i < core->calls; i++)
         if (core->call[i].kind == KIND_WRITE && core->call[i].offset / PAGE == block)
             return FAMSYNC_CORE_NONE;
@@ -269,6 +268,13 @@ int32_t famsync_core_call(famsync_core handle, uint32_t index, uint32_t *kind, u
     return FAMSYNC_CORE_OK;
 }
 
+/* The last commit is acknowledged where no call waits. */
+static void settle(struct core *core)
+{
+    if (core->first == core->calls)
+        core->acknowledged = core->mark;
+}
+
 int32_t famsync_core_carried_out(famsync_core handle, uint32_t count, uint8_t **at)
 {
     struct core *core = core_of(handle);
@@ -282,9 +288,7 @@ int32_t famsync_core_carried_out(famsync_core handle, uint32_t count, uint8_t **
     }
     if (core->first == core->calls)
         core->first = core->calls = 0;
-    core->carried += count;
-    if (core->carried >= core->durable)
-        core->acknowledged = core->mark;
+    settle(core);
     return FAMSYNC_CORE_OK;
 }
 
@@ -576,7 +580,7 @@ int32_t famsync_core_commit(famsync_core handle, uint32_t *mark, uint8_t **at)
     }
     *mark = ++core->mark;
     if (journal->count == 0) {
-        core->acknowledged = core->carried >= core->durable ? core->mark : core->acknowledged;
+        settle(core);
         return FAMSYNC_CORE_OK;
     }
     journal->mark = core->mark;
@@ -586,7 +590,6 @@ int32_t famsync_core_commit(famsync_core handle, uint32_t *mark, uint8_t **at)
         return broken(core);
     }
     journal->open = true;
-    core->durable = core->recorded;
     clean(core);
     return FAMSYNC_CORE_OK;
 }
