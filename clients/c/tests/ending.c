@@ -196,8 +196,7 @@ static void shared_commits(void)
     for (unsigned i = 0; i < 4; i++)
         WANT(pthread_join(thread[i], NULL) == 0);
     WANT(famsync_acknowledged(handle) >= 100 && famsync_acknowledged(handle) <= 400);
-    printf("clients/c: ending: 400 msyncs of 4 threads were %u commits\n",
-           (unsigned)famsync_acknowledged(handle));
+    printf("clients/c: ending: 400 msyncs of 4 threads were %u commits\n", (unsigned)famsync_acknowledged(handle));
     WANT_CODE(famsync_close(handle), FAMSYNC_OK);
 }
 

@@ -210,6 +210,24 @@ static void too_many_pages(void)
     WANT_CODE(famsync_close(handle), FAMSYNC_OK);
 }
 
+/* Memory is filled through frames, which pages that wait for a commit may have. */
+static void no_frames(void)
+{
+    static const unsigned char bytes[4 * 4096] = {1};
+    uint64_t address;
+    famsync_memory *b;
+    make_volume(4, "a=16384 b=5000");
+    famsync *handle = opened();
+    WANT_CODE(famsync_map(handle, "a", 0, 0, FAMSYNC_READ | FAMSYNC_WRITE, &address), FAMSYNC_OK);
+    WANT_CODE(famsync_store(handle, address, bytes, sizeof bytes, NULL), FAMSYNC_OK);
+    WANT_CODE(famsync_memory_open(handle, "b", &b), FAMSYNC_NOFRAME);
+    WANT(b == NULL);
+    WANT_CODE(famsync_msync(handle, NULL), FAMSYNC_OK);
+    b = memory_of(handle, "b");
+    WANT_CODE(famsync_memory_close(b), FAMSYNC_OK);
+    WANT_CODE(famsync_close(handle), FAMSYNC_OK);
+}
+
 /* Stores that come to one page after the other open some pages ahead; those that weren't stored to don't count. */
 static void rising_stores(void)
 {
@@ -268,6 +286,7 @@ int main(void)
     stores_are_kept();
     other_faults();
     too_many_pages();
+    no_frames();
     rising_stores();
     many_handles();
     printf("clients/c: memory: as it should be\n");

@@ -615,7 +615,8 @@ int32_t famsync_core_map(famsync_core handle, uint32_t file, uint64_t offset, ui
         return FAMSYNC_CORE_NOFILE;
     if (rights != 1 && rights != 3)
         return FAMSYNC_CORE_ARGUMENT;
-    if (offset % PAGE || length == 0 || length > 65536 * (uint64_t)PAGE || address % PAGE)
+    if (offset % PAGE || length == 0 || length > 65536 * (uint64_t)PAGE || address % PAGE ||
+        offset / PAGE + (length + PAGE - 1) / PAGE > UINT64_C(1) << 32)
         return FAMSYNC_CORE_EINVAL;
     more = more_memory(core->mapping, bytes, bytes + sizeof *core->mapping);
     if (!more)

@@ -4,8 +4,23 @@
 
 #include <sys/file.h>
 #include <sys/resource.h>
+#include <sys/syscall.h>
 
 static char other[100], mark[100];
+
+/* How often the volume's name is given to another file just before a file is locked: to `other`, which is made where it
+   isn't there. */
+static unsigned replacing;
+
+int flock(int file, int operation)
+{
+    if (replacing > 0) {
+        int made = open(other, O_WRONLY | O_CREAT | O_CLOEXEC, 0600);
+        WANT(made >= 0 && close(made) == 0 && rename(other, volume) == 0);
+        replacing--;
+    }
+    return (int)syscall(SYS_flock, file, operation);
+}
 
 /* How many descriptors this process has. */
 static unsigned descriptors(void)
@@ -166,6 +181,27 @@ static void in_use(void)
     WANT_CODE(code_of(volume), FAMSYNC_OK);
 }
 
+/* The file that is opened is the one that has the name when it is locked. */
+static void replaced(void)
+{
+    famsync *handle;
+    uint64_t address;
+    unsigned char byte = 0;
+    make_volume(16, "b=4096");
+    WANT(rename(volume, other) == 0);
+    make_volume(16, "a=65536");
+    replacing = 1;
+    handle = opened();
+    WANT(strcmp(famsync_file_name(handle, 0), "b") == 0 && famsync_files(handle) == 1);
+    WANT_CODE(famsync_map(handle, "b", 0, 0, FAMSYNC_READ, &address), FAMSYNC_OK);
+    WANT_CODE(famsync_load(handle, address, &byte, 1, NULL), FAMSYNC_OK);
+    WANT_CODE(famsync_close(handle), FAMSYNC_OK);
+    replacing = 1000;
+    WANT_CODE(code_of(volume), FAMSYNC_REPLACED);
+    replacing = 0;
+    make_volume(16, "a=65536");
+}
+
 static void shapes(void)
 {
     famsync *handle;
@@ -216,6 +252,7 @@ int main(void)
     other_names();
     marked();
     in_use();
+    replaced();
     shapes();
     closed_descriptors();
     printf("clients/c: opening: as it should be\n");

@@ -63,6 +63,8 @@ static void refusals(void)
     WANT_CODE(famsync_map(handle, "a", 1, 0, FAMSYNC_READ, &part), FAMSYNC_ARGUMENT);
     WANT_CODE(famsync_map(handle, "a", 0, 0, 4, &part), FAMSYNC_ARGUMENT);
     WANT_CODE(famsync_map(handle, "a", 0, UINT64_MAX, FAMSYNC_READ, &part), FAMSYNC_ARGUMENT);
+    WANT_CODE(famsync_map(handle, "a", 0, UINT64_C(1) << 47, FAMSYNC_READ, &part), FAMSYNC_ENOMEM);
+    WANT_CODE(famsync_map(handle, "a", UINT64_C(1) << 44, 4096, FAMSYNC_READ, &part), FAMSYNC_EINVAL);
     WANT_CODE(famsync_map(NULL, "a", 0, 0, FAMSYNC_READ, &part), FAMSYNC_ARGUMENT);
     WANT_CODE(famsync_store(handle, reading, bytes, 1, &done), FAMSYNC_SEGVACCERR);
     WANT(done == 0);

@@ -90,7 +90,6 @@ int main(void)
     WANT(famsync_acknowledged(handle) == commits);
     WANT_CODE(famsync_memory_close(memory), FAMSYNC_OK);
     WANT_CODE(famsync_close(handle), FAMSYNC_OK);
-    printf("clients/c: threads: as it should be (%u of %u cuts fell within a round)\n", between,
-           commits * WORKERS);
+    printf("clients/c: threads: as it should be (%u of %u cuts fell within a round)\n", between, commits * WORKERS);
     return 0;
 }
