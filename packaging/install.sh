@@ -84,6 +84,7 @@ install_tree() {
     folders=$(echo "$paths" | missing_folders)
     install -d "$destdir${list%/*}"
     { [ -z "$folders" ] || echo "$folders" | sed 's/^/folder /'; echo "$paths" | sed 's/^/file /'; } >"$destdir$list"
+    chmod 644 "$destdir$list"
     echo "$folders" | while IFS= read -r folder; do
         [ -z "$folder" ] || install -d "$destdir$folder"
     done
