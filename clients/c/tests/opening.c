@@ -31,14 +31,31 @@ static unsigned descriptors(void)
     return count;
 }
 
+/* The bytes of the volume's file, as one number. */
+static uint64_t sum_of_volume(void)
+{
+    unsigned char bytes[4096];
+    uint64_t sum = 14695981039346656037u;
+    ssize_t got;
+    int file = open(volume, O_RDONLY | O_CLOEXEC);
+    while (file >= 0 && (got = read(file, bytes, sizeof bytes)) > 0)
+        for (ssize_t i = 0; i < got; i++)
+            sum = (sum ^ bytes[i]) * 1099511628211u;
+    WANT(file < 0 || close(file) == 0);
+    return sum;
+}
+
+/* What an open answers; where it is refused, the volume's file is as before. */
 static int code_of(const char *path)
 {
     famsync *handle = (famsync *)1;
     char message[300] = "";
     struct famsync_options options = {.message = message, .message_size = sizeof message};
     unsigned before = descriptors();
+    uint64_t sum = sum_of_volume();
     int code = famsync_open(path, &options, &handle), error = errno;
     WANT(code == FAMSYNC_OK ? famsync_close(handle) == FAMSYNC_OK : handle == NULL && strlen(message) > 0);
+    WANT(code == FAMSYNC_OK || replacing > 0 || sum_of_volume() == sum);
     WANT(descriptors() == before);
     errno = error;
     return code;
