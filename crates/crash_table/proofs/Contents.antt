@@ -12,7 +12,7 @@ use Rattle.crash_table.specs.declared.call.CallKind.TheVariants.{Read, Write, Sy
 use Rattle.crash_table.specs.Calls.{DeviceCall, call_of, calls_of}
 use Rattle.crash_table.specs.declared.row.Found.{Found}
 use Rattle.crash_table.specs.Rows.{newest_of}
-use Rattle.crash_table.specs.Choices.{Content, with_block, with_blocks, begun_write, begun_as, begun, ended, content_before, content_within, blocks_touched, copied}
+use Rattle.crash_table.specs.Choices.{Content, with_block, with_blocks, begun_write, begun_as, call_begun, call_ended, content_before, content_within, blocks_touched, with_copied}
 
 -- where a block was added there is one
 with_block_some : (blocks : List ℕ) (b : ℕ) → 0 < length (with_block blocks b)
@@ -37,9 +37,9 @@ kind_some Write content call is some = write_some content call.at call.written s
 kind_some Sync content call is some = absurd cc
 
 -- within a write there is a block that was written
-pub torn_some : (content : Content) (found : Option DeviceCall) (call : DeviceCall) → found ≡ Some call → call.kind ≡ Write → 0 < length call.written → 0 < length (begun content found).unsynced
+pub torn_some : (content : Content) (found : Option DeviceCall) (call : DeviceCall) → found ≡ Some call → call.kind ≡ Write → 0 < length call.written → 0 < length (call_begun content found).unsynced
 torn_some content found call is kind some =
-    let P : Option DeviceCall → Type 0 = λ o. 0 < length (begun content o).unsynced in
+    let P : Option DeviceCall → Type 0 = λ o. 0 < length (call_begun content o).unsynced in
     subst P (sym is) (kind_some call.kind content call kind some)
 
 -- what an image has comes of an element
@@ -65,13 +65,13 @@ call_at {A} kept calls i found is there =
     sym (ap (λ (l : List DeviceCall). slice_get l i) is) ∙ slice_get-map (λ (c : Call A). call_of c) kept i ∙ ap (option_map (λ (c : Call A). call_of c)) there
 
 -- what is held within a call, and after it
-pub within_is : (image : List ℕ) (calls : List DeviceCall) (i : ℕ) (content : Content) (found : Option DeviceCall) → content ≡ content_before image calls i → slice_get calls i ≡ found → begun content found ≡ content_within image calls i
+pub within_is : (image : List ℕ) (calls : List DeviceCall) (i : ℕ) (content : Content) (found : Option DeviceCall) → content ≡ content_before image calls i → slice_get calls i ≡ found → call_begun content found ≡ content_within image calls i
 within_is image calls i content found same there =
-    ap (λ (k : Content). begun k found) same ∙ ap (λ (o : Option DeviceCall). begun (content_before image calls i) o) (sym there)
+    ap (λ (k : Content). call_begun k found) same ∙ ap (λ (o : Option DeviceCall). call_begun (content_before image calls i) o) (sym there)
 
-pub after_is : (image : List ℕ) (calls : List DeviceCall) (i : ℕ) (content : Content) (found : Option DeviceCall) → content ≡ content_before image calls i → slice_get calls i ≡ found → ended (begun content found) found ≡ content_before image calls (i + 1)
+pub after_is : (image : List ℕ) (calls : List DeviceCall) (i : ℕ) (content : Content) (found : Option DeviceCall) → content ≡ content_before image calls i → slice_get calls i ≡ found → call_ended (call_begun content found) found ≡ content_before image calls (i + 1)
 after_is image calls i content found same there =
-    ap (λ (k : Content). ended (begun k found) found) same ∙ ap (λ (o : Option DeviceCall). ended (begun (content_before image calls i) o) o) (sym there) ∙ ap (content_before image calls) (sym (add-one i))
+    ap (λ (k : Content). call_ended (call_begun k found) found) same ∙ ap (λ (o : Option DeviceCall). call_ended (call_begun (content_before image calls i) o) o) (sym there) ∙ ap (content_before image calls) (sym (add-one i))
 
 -- a list that is written over the whole of another
 pub written_whole : (n : ℕ) (new old : List ℕ) → length old ≡ n → length new ≡ n → take n (new ++ drop (length new) old) ≡ new
@@ -84,7 +84,7 @@ take_none (suc k) = refl
 
 -- bytes that are copied as far as both lists reach
 pub copied_within : (to from : List ℕ) (at n start len : ℕ) → length to ≡ length from → start ≡ min (length to) at → len ≡ min (length to - start) n
-    → take start to ++ slice_range from start (start + len) ++ drop (start + len) to ≡ copied to from at n
+    → take start to ++ slice_range from start (start + len) ++ drop (start + len) to ≡ with_copied to from at n
 copied_within to from at n start len same is_start is_len = elim (cases_lt at (length to)) [
   | inl within ↦
       let here : start ≡ at = omega (arith, is_start, within) in
@@ -94,7 +94,7 @@ copied_within to from at n start len same is_start is_len = elim (cases_lt at (l
       let tail : drop (start + len) to ≡ drop (start + n) to = past to (start + len) (start + n) (either (length to) start len n is_len) in
       ap (λ (l : List ℕ). take start to ++ l ++ drop (start + len) to) middle
       ∙ ap (λ (l : List ℕ). take start to ++ take n (drop start from) ++ l) tail
-      ∙ ap (λ k. copied to from k n) here
+      ∙ ap (λ k. with_copied to from k n) here
   | inr beyond ↦
       let here : start ≡ length to = omega (arith, is_start, beyond) in
       let none : len ≡ 0 = omega (arith, is_len, here) in

@@ -52,22 +52,22 @@ ended_as Write content = content
 ended_as Sync content = all_synced content.seen
 
 -- so it is where there is such a call
-abbrev pub begun : Content → Option DeviceCall → Content
-begun content None = content
-begun content (Some call) = begun_as call.kind content call
+abbrev pub call_begun : Content → Option DeviceCall → Content
+call_begun content None = content
+call_begun content (Some call) = begun_as call.kind content call
 
-abbrev pub ended : Content → Option DeviceCall → Content
-ended content None = content
-ended content (Some call) = ended_as call.kind content
+abbrev pub call_ended : Content → Option DeviceCall → Content
+call_ended content None = content
+call_ended content (Some call) = ended_as call.kind content
 
 -- before the call of this index, which is counted from 0, and within it
 abbrev pub content_before : List ℕ → List DeviceCall → ℕ → Content
 content_before image calls zero = all_synced image
 content_before image calls (suc i) =
-    ended (begun (content_before image calls i) (slice_get calls i)) (slice_get calls i)
+    call_ended (call_begun (content_before image calls i) (slice_get calls i)) (slice_get calls i)
 
 abbrev pub content_within : List ℕ → List DeviceCall → ℕ → Content
-content_within image calls i = begun (content_before image calls i) (slice_get calls i)
+content_within image calls i = call_begun (content_before image calls i) (slice_get calls i)
 
 -- whether a number has this bit
 abbrev pub has_bit : ℕ → ℕ → Bool
@@ -84,14 +84,14 @@ new_bytes (OneNew block) i = if i == block then 4096 else 0
 new_bytes (OneOld block) i = if i == block then 0 else 4096
 
 -- bytes with the n places from this one on as others have them, as far as these reach
-abbrev pub copied : List ℕ → List ℕ → ℕ → ℕ → List ℕ
-copied bytes others at n = take at bytes ++ take n (drop at others) ++ drop (at + n) bytes
+abbrev pub with_copied : List ℕ → List ℕ → ℕ → ℕ → List ℕ
+with_copied bytes others at n = take at bytes ++ take n (drop at others) ++ drop (at + n) bytes
 
 -- with what is left of the first n blocks as it was written
 abbrev pub left_of_blocks : Choice → Content → ℕ → List ℕ
 left_of_blocks choice content zero = content.synced
 left_of_blocks choice content (suc n) =
-    copied (left_of_blocks choice content n) content.seen (4096 * slice_index content.unsynced n) (new_bytes choice n)
+    with_copied (left_of_blocks choice content n) content.seen (4096 * slice_index content.unsynced n) (new_bytes choice n)
 
 -- the bytes that a choice names: a crash leaves them where one was written since the last sync, and elsewhere what was
 -- there

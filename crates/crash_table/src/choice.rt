@@ -5,7 +5,7 @@ ghost use Rattle.device.specs.Device.{written};
 ghost use Rattle.crash_table.specs.declared.choice.Choice.{Choice};
 ghost use Rattle.crash_table.specs.declared.choice.Choice.TheVariants as choices;
 ghost use Rattle.crash_table.specs.Calls.{call_of};
-ghost use Rattle.crash_table.specs.Choices.{all_synced, with_block, with_blocks, begun_write, begun, ended, has_bit as is_set, new_bytes, copied, left_of_blocks, left_by};
+ghost use Rattle.crash_table.specs.Choices.{all_synced, with_block, with_blocks, begun_write, call_begun, call_ended, has_bit as is_set, new_bytes, with_copied, left_of_blocks, left_by};
 ghost use Rattle.crash_table.specs.inside.Contents.{content_of};
 
 use crate::call::{Call, CallKind};
@@ -69,7 +69,7 @@ impl<A: Allocator + Copy> Contents<A> {
 
     /// A call is made. `Otherwise` where it isn't within the disk.
     pub fn begin(&mut self, call: &Call<A>) -> Result<(), CrashFault>
-        ensures { OnOk result (content_of self.new ≡ begun (content_of self.old) (Some (call_of call.now))) }
+        ensures { OnOk result (content_of self.new ≡ call_begun (content_of self.old) (Some (call_of call.now))) }
     {
         match call.kind {
             CallKind::Write => self.begin_write(call.at, &call.written),
@@ -90,7 +90,7 @@ impl<A: Allocator + Copy> Contents<A> {
 
     /// A call has succeeded.
     pub fn end(&mut self, call: &Call<A>) -> Result<(), AllocError>
-        ensures { OnOk result (content_of self.new ≡ ended (content_of self.old) (Some (call_of call.now))) }
+        ensures { OnOk result (content_of self.new ≡ call_ended (content_of self.old) (Some (call_of call.now))) }
     {
         match call.kind {
             CallKind::Sync => self.end_sync(),
@@ -159,7 +159,7 @@ impl<A: Allocator + Copy> Contents<A> {
     fn mix_block(&self, bytes: &mut [u8], choice: Choice, i: usize) -> Result<(), CrashFault>
         requires within { i < length self.now.unsynced.items }
         requires same_length { length bytes.old ≡ length self.now.seen.items }
-        ensures mixed { OnOk result (bytes.new ≡ copied bytes.old self.now.seen.items
+        ensures mixed { OnOk result (bytes.new ≡ with_copied bytes.old self.now.seen.items
             (4096 * slice_index self.now.unsynced.items i) (new_bytes choice i)) }
         ensures same_length { OnOk result (length bytes.new ≡ length bytes.old) }
     {
@@ -287,7 +287,7 @@ fn put(to: &mut [u8], at: u64, bytes: &[u8])
 // Writes a part of bytes over the same part of others, as far as they reach.
 fn copy(to: &mut [u8], from: &[u8], at: u64, len: u64)
     requires { length to.old ≡ length from.now }
-    ensures copied { to.new ≡ copied to.old from.now at len }
+    ensures copied { to.new ≡ with_copied to.old from.now at len }
     ensures same_length { length to.new ≡ length to.old }
 {
     let start = to.len().min(at as usize);

@@ -1,4 +1,4 @@
 pub mod Through
 pub mod Serving
-pub mod Running
+pub mod Hosted
 pub mod Tended

@@ -6,7 +6,7 @@ use Rattle.machine.specs.State.{Whole}
 use Rattle.session.specs.declared.notes.Notes.{Notes}
 use Rattle.embedded.specs.Embedded.{HasServed, ServesWell}
 use Rattle.embedded.specs.Recorded.{recorded}
-use Rattle.embedded.specs.Supplying.{supplied, is_of_disk, with_device}
+use Rattle.embedded.specs.Supplying.{with_supplied, is_of_disk, with_device}
 use Rattle.embedded.specs.declared.tending.Supplying.{Supplying}
 use Rattle.embedded.specs.declared.tending.Forgetting.{Forgetting}
 use Rattle.embedded.specs.inside.Tending.{HasSupplied, HasForgotten}
@@ -35,10 +35,10 @@ added disk block bytes = record disk { known = with_known disk.known block (bloc
 added_well : (disk : Deferred) (block : ℕ) (bytes : List ℕ) → IsSuppliedWell (added disk block bytes) → IsSuppliedWell disk
 added_well disk block bytes well = well.1
 
-pub supplied_as : (disk : Deferred) (block : ℕ) (bytes : List ℕ) → as_recorded (supplied disk block bytes) ≡ as_recorded disk
+pub supplied_as : (disk : Deferred) (block : ℕ) (bytes : List ℕ) → as_recorded (with_supplied disk block bytes) ≡ as_recorded disk
 supplied_as disk block bytes = either_as (is_of_disk disk block) (after_supply disk block bytes) disk (known_as (get_or disk.known block false) disk (added disk block bytes) refl)
 
-pub supplied_well : (disk : Deferred) (block : ℕ) (bytes : List ℕ) → IsSuppliedWell (supplied disk block bytes) → IsSuppliedWell disk
+pub supplied_well : (disk : Deferred) (block : ℕ) (bytes : List ℕ) → IsSuppliedWell (with_supplied disk block bytes) → IsSuppliedWell disk
 supplied_well disk block bytes = either_well (is_of_disk disk block) (after_supply disk block bytes) disk (known_well (get_or disk.known block false) disk (added disk block bytes) (added_well disk block bytes))
 
 -- whatever came of it

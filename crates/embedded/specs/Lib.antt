@@ -2,4 +2,5 @@ pub mod Recorded
 pub mod Embedded
 pub mod Progress
 pub mod Supplying
+pub mod Hosting
 pub mod inside

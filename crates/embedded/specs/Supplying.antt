@@ -10,8 +10,8 @@ abbrev pub is_of_disk : Deferred → ℕ → Bool
 is_of_disk disk block = nat_le (4096 * block + 4096) (length (seen_of (as_recorded disk)))
 
 -- the disk after a block was supplied; one past its end changes nothing
-abbrev pub supplied : Deferred → ℕ → List ℕ → Deferred
-supplied disk block bytes = if is_of_disk disk block then after_supply disk block bytes else disk
+abbrev pub with_supplied : Deferred → ℕ → List ℕ → Deferred
+with_supplied disk block bytes = if is_of_disk disk block then after_supply disk block bytes else disk
 
 -- the block is one of the disk, and no call that waits writes to it
 abbrev pub is_free : Deferred → ℕ → Bool

@@ -3,7 +3,7 @@ ghost use Rattle.std.specs.Prelude.{◌≡◌, ◌==◌, ◌-◌, true, false, g
 ghost use Rattle.device.specs.Deferred.{after_forget, waits_behind, with_waiting};
 ghost use Rattle.device.specs.Lent.{change_lent};
 ghost use Rattle.embedded.specs.Recorded.{recorded};
-ghost use Rattle.embedded.specs.Supplying.{may_forget, supplied, with_device};
+ghost use Rattle.embedded.specs.Supplying.{may_forget, with_supplied, with_device};
 
 use crate::embedded::Embedded;
 use crate::requesting::settled;
@@ -16,7 +16,7 @@ impl<A: Allocator + Copy> Embedded<A> {
     /// past the end of the disk is left alone.
     pub fn supply(&mut self, block: u32, bytes: &[u8; 4096]) -> Result<(), AllocError>
         ensures ok { OnOk result (self.new.machine
-            ≡ with_device self.old.machine (supplied self.old.machine.device block bytes.now)) }
+            ≡ with_device self.old.machine (with_supplied self.old.machine.device block bytes.now)) }
         ensures err { OnErr result (self.new.machine ≡ self.old.machine) }
         ensures notes { self.new.notes ≡ self.old.notes }
         ensures files { self.new.files ≡ self.old.files }

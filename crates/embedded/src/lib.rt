@@ -9,5 +9,5 @@ mod requesting;
 mod tending;
 
 pub use embedded::{Embedded, open};
-pub use laws::{ran_as_recorded, seen_as_recorded};
+pub use laws::{crashed_on_the_host, ran_as_recorded, seen_as_recorded};
 pub use progress::Progress;

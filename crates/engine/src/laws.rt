@@ -7,17 +7,41 @@ ghost use Rattle.volume_codec.specs.Recovery.{RecoversTo};
 ghost use Rattle.machine.specs.declared.act.Reply.{Reply};
 ghost use Rattle.machine.specs.declared.act.Shape.{Shape};
 ghost use Rattle.machine.specs.declared.act.Step.{Step};
+ghost use Rattle.machine.specs.Laws.{ReadsBackSince};
 ghost use Rattle.machine.specs.Runs.{StepsTaken};
 ghost use Rattle.machine.specs.State.{Whole};
+ghost use Rattle.machine.specs.Steps.{told_first};
+ghost use Rattle.machine.specs.Told.{tell_all};
 ghost use Rattle.recovery.specs.Openings.{IsLater, IsMade};
 ghost use Rattle.engine.specs.Engine.{HasNotStarted, HasRun, HasStarted};
 ghost use Rattle.engine.specs.Survival.{Survives};
 
 use device::Device;
-use machine::{Machine, opened_later};
+use machine::{Machine, faults_are_served, opened_later, runs_keep_the_laws};
 use recovery::{crashed_since_opening, opened_again};
 use std::alloc::Allocator;
 use volume_codec::one_reading;
+
+/// Steps that were made after a start are a run, whatever is known of its last machine (`run`). Over an honest device
+/// there are files to which that recovered before it was opened, and a crash since any machine of the run leaves what
+/// reads back as these files after a durable prefix of what was told by the steps up to that one and by some of the
+/// later ones (`since`).
+pub fn steps_are_a_run<D: Device>(device: &D)
+    ensures run { (before : D) (shape : Shape) (start last : Whole D) (steps : List Step) (replies : List Reply)
+        → HasStarted D.Device before shape start → StepsTaken D.Device start steps replies last
+        → HasRun D.Device before shape steps replies last.device }
+    ensures since { (before : D) (shape : Shape) (start mid last : Whole D) (earlier later : List Step)
+        (told more : List Reply) → HasStarted D.Device before shape start
+        → StepsTaken D.Device start earlier told mid → StepsTaken D.Device mid later more last → D.is_honest before
+        → (files : List File) × RecoversTo (D.seen before) files
+        × ((c : List ℕ) → D.left_since last.device (D.moment mid.device) c
+        → ReadsBackSince files (tell_all (told_first files start.state) earlier told) later more c) }
+{
+    runs_keep_the_laws(device);
+    faults_are_served(device);
+    opened_later(device);
+    crashed_since_opening(device);
+}
 
 /// The steps that were taken of a machine since it was started are a run, whoever took them: with `Machine::enter`, one
 /// at a time, or with `Machine::run`.
@@ -26,9 +50,7 @@ pub fn ran_since_start<D: Device, A: Allocator + Copy>(machine: &Machine<D, A>)
         → HasStarted D.Device before shape start → StepsTaken D.Device start steps replies machine.now
         → HasRun D.Device before shape steps replies machine.now.device }
 {
-    machine.keeps_the_laws();
-    opened_later(machine.device());
-    crashed_since_opening(machine.device());
+    steps_are_a_run(machine.device());
 }
 
 /// A run over a device that was made a volume with some files, by formatting or by migrating, and was opened any number

@@ -5,6 +5,6 @@ mod laws;
 mod listener;
 mod running;
 
-pub use laws::{crashed_since_refusal, ran_after_making, ran_since_start};
+pub use laws::{crashed_since_refusal, ran_after_making, ran_since_start, steps_are_a_run};
 pub use listener::Listener;
 pub use running::{run, start};

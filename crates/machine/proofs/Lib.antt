@@ -6,4 +6,5 @@ pub mod sound
 pub mod track
 pub mod durable
 pub mod Tracks
+pub mod Since
 pub mod Counted

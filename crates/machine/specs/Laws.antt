@@ -13,7 +13,7 @@ use Rattle.machine.specs.declared.act.Reply.TheVariants as replies
 use Rattle.machine.specs.declared.act.Step.{Step}
 use Rattle.cpu.specs.Access.{IsAccess}
 use Rattle.machine.specs.History.{Event, memory_of, after, files_after, IsDurablePrefix}
-use Rattle.machine.specs.Told.{Told, place_told, length_told, tell}
+use Rattle.machine.specs.Told.{Told, place_told, length_told, tell, tell_all}
 
 -- what is told at the start of a run with these files and so many processors: each is in space 0, which maps nothing
 abbrev pub told_at_start : List File → ℕ → Told
@@ -118,3 +118,8 @@ pub record ReadsBack (files : List File) (history : List Event) (disk : List ℕ
   pub prefix : List Event
   pub durable : IsDurablePrefix prefix history
   pub recovers : RecoversTo disk (files_after files prefix)
+
+-- these bytes read back so of the history that is told by what was told before and the first so many of these steps
+abbrev pub ReadsBackSince : List File → Told → List Step → List Reply → List ℕ → Type 0
+ReadsBackSince files told steps replies disk =
+    (n : ℕ) × ReadsBack files (tell_all told (take n steps) (take n replies)).history disk

@@ -10,12 +10,15 @@ ghost use Rattle.machine.specs.declared.act.Step.{Step};
 ghost use Rattle.machine.specs.State.{Whole};
 ghost use Rattle.machine.specs.Rules.{MarkMade, mark_homes};
 ghost use Rattle.machine.specs.History.{Event, files_after};
-ghost use Rattle.machine.specs.Laws.{FaultsAreServed, ReadsBack};
+ghost use Rattle.machine.specs.Crashes.{StepIsSafe, Throughout};
+ghost use Rattle.machine.specs.Laws.{EachStep, FaultsAreServed, IsLawful, ReadsBack, ReadsBackSince};
 ghost use Rattle.machine.specs.Later.{AreDurable, Finds, FindsDurable};
 ghost use Rattle.journal.specs.Work.{Work, calls_of};
 ghost use Rattle.machine.specs.OnTrack.{IsOnTrack};
 ghost use Rattle.machine.specs.Runs.{StepTaken, StepsTaken};
+ghost use Rattle.machine.specs.Steps.{told_first};
 ghost use Rattle.machine.specs.Sums.{CallsAddUp, AskFor};
+ghost use Rattle.machine.specs.Told.{tell_all};
 
 use device::Device;
 use recovery::{kinds_of_bytes, opened_again, opened_as_recovered};
@@ -38,6 +41,25 @@ pub fn opened_later<D: Device>(device: &D)
     kinds_of_bytes();
     one_reading();
 }
+
+/// What holds of each run over an honest device, whatever is known of its last machine: what `Machine::keeps_the_laws`
+/// says (`headline`, `lawful`, `left`); and a crash since any machine of the run leaves what reads back as the files
+/// after a durable prefix of what was told by the steps up to that one and by some of the later ones (`since`).
+pub fn runs_keep_the_laws<D: Device>(device: &D)
+    ensures headline { (files : List File) (start last : Whole D) (steps : List Step) (replies : List Reply)
+        → IsOnTrack D.Device files start steps replies last
+        → Throughout (StepIsSafe D.Device files) (told_first files start.state) start steps replies last }
+    ensures lawful { (files : List File) (start last : Whole D) (steps : List Step) (replies : List Reply)
+        → IsOnTrack D.Device files start steps replies last
+        → EachStep (IsLawful files) (told_first files start.state) steps replies }
+    ensures left { (files : List File) (start last : Whole D) (steps : List Step) (replies : List Reply) (c : List ℕ)
+        → IsOnTrack D.Device files start steps replies last → D.may_leave last.device c
+        → ReadsBack files (tell_all (told_first files start.state) steps replies).history c }
+    ensures since { (files : List File) (start mid last : Whole D) (earlier later : List Step)
+        (told more : List Reply) (c : List ℕ) → IsOnTrack D.Device files start earlier told mid
+        → StepsTaken D.Device mid later more last → D.left_since last.device (D.moment mid.device) c
+        → ReadsBackSince files (tell_all (told_first files start.state) earlier told) later more c }
+{}
 
 /// Where steps were made, and further ones after them, all of them were made one after the other.
 pub fn steps_after_steps<D: Device>(device: &D)

@@ -4,11 +4,11 @@ use Rattle.device.specs.Deferred.{Deferred, after_forget, with_waiting}
 use Rattle.embedded.specs.declared.tending.Supplying.{Supplying}
 use Rattle.embedded.specs.declared.tending.Forgetting.{Forgetting}
 use Rattle.embedded.specs.declared.tending.Carrying.{Carrying}
-use Rattle.embedded.specs.Supplying.{supplied, is_free}
+use Rattle.embedded.specs.Supplying.{with_supplied, is_free}
 
 -- a block was supplied, or memory was refused for it
 pub record HasSupplied (old : Supplying) (before after : Deferred) (new : Supplying) : Type 0 where
-  pub ok : new.refused ≡ false → after ≡ supplied before old.block old.bytes.now
+  pub ok : new.refused ≡ false → after ≡ with_supplied before old.block old.bytes.now
   pub err : new.refused ≡ true → after ≡ before
 
 -- a block was forgotten, if it is free

@@ -2,7 +2,7 @@ use Rattle.std.proofs.Common.{rules, ◌≡◌, ◌<◌, length, Some, None, ref
 use Rattle.std.specs.Prelude.{slice_get}
 use Rattle.std.proofs.lemmas.Option.{slice_get_read, slice_get_past}
 use Rattle.crash_table.specs.Calls.{call_of}
-use Rattle.crash_table.specs.Choices.{Content, ended}
+use Rattle.crash_table.specs.Choices.{Content, call_ended}
 use Rattle.crash_table.specs.inside.Contents.{content_of}
 use Rattle.crash_table.proofs.Contents.{call_at, within_is, after_is}
 use Rattle.crash_table.proofs.Marks.{if_ok_always}
@@ -24,7 +24,7 @@ returns-in_ok-end-in-Some-clause-after g c = λ same.
     let call = c.in-Some.call.now in
     let below : c.args.index < length kept = search rules in
     let there : slice_get trial.calls c.args.index ≡ Some (call_of call) = call_at kept trial.calls c.args.index (Some call) c.calls.ensures.calls (slice_get_read kept (length kept) c.args.index call refl below c.in-Some.ensures.lookup.1) in
-    c.in_ok-end-in-Some.ensures ∙ ap (λ (k : Content). ended k (Some (call_of call))) c.in_ok-begin-in-Some.ensures ∙ after_is trial.image trial.calls c.args.index (content_of c.args.contents.now) (Some (call_of call)) same there
+    c.in_ok-end-in-Some.ensures ∙ ap (λ (k : Content). call_ended k (Some (call_of call))) c.in_ok-begin-in-Some.ensures ∙ after_is trial.image trial.calls c.args.index (content_of c.args.contents.now) (Some (call_of call)) same there
 
 pub returns-in-None-clause-row : goal.returns-in-None-clause-row
 returns-in-None-clause-row g c = λ same.

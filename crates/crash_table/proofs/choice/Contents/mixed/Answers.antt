@@ -1,6 +1,6 @@
 use Rattle.std.proofs.Common.{◌≡◌, ℕ, ◌+◌, ◌*◌, List, ◌++◌, length, take, drop, ap, sym, ◌∙◌, arith, add-one}
 use Rattle.std.specs.Prelude.{slice_index}
-use Rattle.crash_table.specs.Choices.{copied, new_bytes, left_of_blocks}
+use Rattle.crash_table.specs.Choices.{with_copied, new_bytes, left_of_blocks}
 use Rattle.crash_table.specs.inside.Contents.{content_of}
 use Rattle.crash_table.proofs.Contents.{written_whole}
 use Rattle.crash_table.proofs.choice.Contents.mixed.Goals as goal
@@ -18,7 +18,7 @@ loop-i-preserved g c =
     let whole : take c.loop-i.bytes.len (new ++ drop (length new) bytes) ≡ new = written_whole c.loop-i.bytes.len new bytes sized all in
     record {
       left = whole ∙ c.in_ok-mix_block.ensures.mixed
-          ∙ ap (λ (l : List ℕ). copied l content.seen (4096 * slice_index content.unsynced i) (new_bytes c.args.choice i)) (value ∙ c.loop-i.invariant.left)
+          ∙ ap (λ (l : List ℕ). with_copied l content.seen (4096 * slice_index content.unsynced i) (new_bytes c.args.choice i)) (value ∙ c.loop-i.invariant.left)
           ∙ ap (left_of_blocks c.args.choice content) (sym (add-one i));
       same_length = ap length whole ∙ len ∙ c.loop-i.invariant.same_length;
     }
