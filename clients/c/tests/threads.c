@@ -3,6 +3,15 @@
 
 #include <stdatomic.h>
 
+/* The sanitizer of threads makes handlers of signals later, with SIGSEGV blocked. */
+#if defined(__SANITIZE_THREAD__)
+#define DELAYS_SIGNALS
+#elif defined(__has_feature)
+#if __has_feature(thread_sanitizer)
+#define DELAYS_SIGNALS
+#endif
+#endif
+
 #define WORKERS 3
 #define STEPS 6
 
@@ -61,7 +70,7 @@ int main(void)
     WANT(pthread_create(&loader, NULL, others_load, NULL) == 0);
     struct sigaction action = {.sa_handler = on_alarm, .sa_flags = SA_RESTART};
     WANT(sigaction(SIGALRM, &action, NULL) == 0);
-#ifndef __SANITIZE_THREAD__ /* which makes handlers of signals later, with SIGSEGV blocked */
+#ifndef DELAYS_SIGNALS
     ualarm(2000, 2000);
 #endif
     for (; commits < 25; commits++) {

@@ -1,0 +1,187 @@
+/* Sessions of random calls, beside a model of what the files have: in each layout, with few frames and many, loads and
+   stores of one file, whose length is set where that can be, and plain memory of another. Whatever was called, a copy
+   of the volume opens with the files as they were committed last.
+
+   usage: random [SEEDS [FIRST]]     how many sessions there are, and the number of the first */
+#include "test.h"
+
+#define A_MOST 40000u
+#define B_LENGTH 30000u
+
+/* What the files have: `a` of a length that may change, and `b`. */
+struct files {
+    unsigned char a[A_MOST], b[B_LENGTH];
+    uint64_t length;
+};
+
+static struct files now, committed;
+static unsigned layout, seed, commits;
+static struct famsync_options options;
+static famsync *handle;
+static famsync_memory *memory;
+static unsigned char *b;
+static uint64_t address;
+static char copied[100];
+
+static unsigned below(unsigned most)
+{
+    return (unsigned)rand() % most;
+}
+
+static void check(bool holds, const char *what)
+{
+    if (!holds) {
+        fprintf(stderr, "random: seed %u, after %u commits: %s\n", seed, commits, what);
+        exit(1);
+    }
+}
+
+static void begin(void)
+{
+    handle = opened_with(options);
+    WANT_CODE(famsync_map(handle, "a", 0, A_MOST, FAMSYNC_READ | FAMSYNC_WRITE, &address), FAMSYNC_OK);
+    WANT_CODE(famsync_memory_open(handle, "b", &memory), FAMSYNC_OK);
+    b = famsync_memory_at(memory);
+    now = committed;
+    check(famsync_file_length(handle, 0) == now.length, "the length isn't the one that was committed");
+    check(memcmp(b, now.b, B_LENGTH) == 0, "plain memory isn't what was committed");
+}
+
+static void end(void)
+{
+    WANT_CODE(famsync_memory_close(memory), FAMSYNC_OK);
+    WANT_CODE(famsync_close(handle), FAMSYNC_OK);
+}
+
+static void load(void)
+{
+    unsigned char found[A_MOST];
+    uint64_t from = below(A_MOST), count = below(9000);
+    uint64_t in_file = (now.length + 4095) / 4096 * 4096, whole = from < in_file ? in_file - from : 0;
+    size_t done;
+    if (count > A_MOST - from)
+        count = A_MOST - from;
+    int code = famsync_load(handle, address + from, found, count, &done);
+    if (code == FAMSYNC_NOFRAME)
+        check(done < count, "a load has all of it and is refused");
+    else
+        check(code == (count > whole ? FAMSYNC_BUSADRERR : FAMSYNC_OK) && done == (count > whole ? whole : count),
+              "a load comes to another end");
+    if (from + done > now.length)
+        done = from < now.length ? now.length - from : 0;
+    check(memcmp(found, now.a + from, done) == 0, "a load has other bytes");
+}
+
+static void store(void)
+{
+    unsigned char bytes[9000];
+    uint64_t from = now.length ? below((unsigned)now.length) : 0, count = below(sizeof bytes);
+    size_t done;
+    if (count > now.length - from)
+        count = now.length - from;
+    memset(bytes, (int)below(256), sizeof bytes);
+    int code = famsync_store(handle, address + from, bytes, count, &done);
+    check(code == FAMSYNC_NOFRAME ? done < count : code == FAMSYNC_OK && done == count, "a store comes to another end");
+    memcpy(now.a + from, bytes, done);
+}
+
+static void store_to_memory(void)
+{
+    unsigned from = below(B_LENGTH), count = below(below(4) ? 100 : 9000);
+    if (count > B_LENGTH - from)
+        count = B_LENGTH - from;
+    memset(now.b + from, (int)below(256), count);
+    memcpy(b + from, now.b + from, count);
+}
+
+static void set_length(void)
+{
+    uint64_t length = below(A_MOST + 2000);
+    int code = famsync_setlength(handle, "a", length);
+    if (layout < 3 || length > A_MOST) {
+        check(code == FAMSYNC_EINVAL, "a length is set that can't be");
+        return;
+    }
+    check(code == FAMSYNC_OK || (code == FAMSYNC_NOFRAME && length > now.length), "a length isn't set");
+    if (code != FAMSYNC_OK)
+        return;
+    if (length > now.length)
+        memset(now.a + now.length, 0, length - now.length);
+    now.length = length;
+}
+
+/* More pages than a commit has can't be committed by a later call either: then the session ends. */
+static void commit(void)
+{
+    int code = famsync_msync(handle, NULL);
+    if (code == FAMSYNC_NOFRAME) {
+        end();
+        begin();
+        return;
+    }
+    check(code == FAMSYNC_OK, "a commit is refused");
+    committed = now;
+    commits++;
+}
+
+/* What a kill would leave now, where nobody writes meanwhile. */
+static void look_at_a_copy(void)
+{
+    char command[250];
+    unsigned char found[A_MOST];
+    famsync *other;
+    uint64_t at;
+    if (!options.foreground)
+        return;
+    snprintf(command, sizeof command, "cp '%s' '%s'", volume, copied);
+    WANT(system(command) == 0);
+    WANT_CODE(famsync_open(copied, NULL, &other), FAMSYNC_OK);
+    check(famsync_file_length(other, 0) == committed.length, "a copy has another length");
+    WANT_CODE(famsync_map(other, "a", 0, A_MOST, FAMSYNC_READ, &at), FAMSYNC_OK);
+    WANT_CODE(famsync_load(other, at, found, committed.length, NULL), FAMSYNC_OK);
+    check(memcmp(found, committed.a, committed.length) == 0, "a copy has other bytes");
+    WANT_CODE(famsync_map(other, "b", 0, 0, FAMSYNC_READ, &at), FAMSYNC_OK);
+    WANT_CODE(famsync_load(other, at, found, B_LENGTH, NULL), FAMSYNC_OK);
+    check(memcmp(found, committed.b, B_LENGTH) == 0, "a copy has other bytes of plain memory");
+    WANT_CODE(famsync_close(other), FAMSYNC_OK);
+}
+
+static void session(void)
+{
+    unsigned slots = below(3) ? 2 + below(12) : 40;
+    layout = 1 + seed % 3;
+    options = (struct famsync_options){.foreground = (int)below(2), .frames = below(2) ? 0 : 1 + below(slots - 1)};
+    make_volume_of(layout, slots, layout == 3 ? "a=5000/40000 b=30000" : "a=40000 b=30000");
+    memset(&committed, 0, sizeof committed);
+    committed.length = layout == 3 ? 5000 : A_MOST;
+    begin();
+    for (unsigned calls = 60 + below(60); calls > 0; calls--) {
+        static void (*const call[])(void) = {load, load, store, store, store_to_memory, store_to_memory, set_length};
+        unsigned which = below(40);
+        if (which < 2) {
+            end();
+            begin();
+        } else if (which < 4) {
+            look_at_a_copy();
+        } else if (which < 14) {
+            commit();
+        } else {
+            call[which % 7]();
+        }
+    }
+    look_at_a_copy();
+    end();
+}
+
+int main(int count, char **words)
+{
+    unsigned sessions = count > 1 ? (unsigned)atoi(words[1]) : 40, first = count > 2 ? (unsigned)atoi(words[2]) : 1;
+    make_folder();
+    snprintf(copied, sizeof copied, "%s/copy.img", folder);
+    for (seed = first; seed < first + sessions; seed++) {
+        srand(seed);
+        session();
+    }
+    printf("clients/c: random: %u commits in %u sessions, as it should be\n", commits, sessions);
+    return 0;
+}
