@@ -1,0 +1,168 @@
+//! Errors: the library's codes, each a variant.
+
+use crate::ffi;
+use std::ffi::{c_int, CStr};
+use std::{fmt, io};
+
+macro_rules! codes {
+    ($($(#[$words:meta])* $name:ident = $number:literal,)*) => {
+        /// Why a call was refused: one variant for each code of `famsync.h`, by the same name.
+        #[derive(Clone, Copy, Debug, PartialEq, Eq, Hash)]
+        #[non_exhaustive]
+        pub enum Code {
+            $($(#[$words])* $name,)*
+            /// A code that this version of the crate doesn't know.
+            Other(i32),
+        }
+
+        impl Code {
+            /// The number that it has in `famsync.h`.
+            pub fn number(self) -> i32 {
+                match self {
+                    $(Code::$name => $number,)*
+                    Code::Other(number) => number,
+                }
+            }
+        }
+
+        impl From<i32> for Code {
+            fn from(number: i32) -> Code {
+                match number {
+                    $($number => Code::$name,)*
+                    number => Code::Other(number),
+                }
+            }
+        }
+    };
+}
+
+codes! {
+    /// An argument isn't one that this call takes.
+    Argument = -1,
+    /// This process was refused memory.
+    NoMemory = -2,
+    /// A call of the system failed; [`Error::system`] says how.
+    System = -3,
+    /// The volume is open already: in another process, or in this one.
+    InUse = -6,
+    /// A sync of the volume failed once; it opens where it is trusted.
+    Suspect = -7,
+    /// The volume was opened by the process from which this one was forked.
+    Forked = -11,
+    /// Memory was closed of which a refused commit had stored a part: nothing more can be committed.
+    Torn = -12,
+    /// It is a folder, a device, a pipe or a socket, and no regular file.
+    NotRegular = -13,
+    /// The volume's file has several names, by which others may use it.
+    Names = -14,
+    /// Whenever the volume's file was locked, the path named another one.
+    Replaced = -15,
+    /// The file doesn't begin as a volume.
+    NotAVolume = -16,
+    /// The file begins as a volume, and its bytes or its length break the format.
+    Damaged = -17,
+    /// The volume doesn't serve so many frames or copies.
+    Shape = -18,
+    /// The processor isn't active.
+    Stalled = -21,
+    /// A change of the mappings is under way.
+    Locked = -22,
+    /// The address isn't mapped.
+    SegvMapErr = -23,
+    /// The mapping doesn't allow this access.
+    SegvAccErr = -24,
+    /// The page is past the file's end.
+    BusAdrErr = -25,
+    /// The page waits for its record.
+    Held = -26,
+    /// More pages were stored to, or added to a file, than one commit can have.
+    NoFrame = -27,
+    /// A read, a write or a sync of the volume failed.
+    Device = -28,
+    /// A write or a sync failed earlier, and the session is over.
+    Broken = -29,
+    /// The volume doesn't take this argument.
+    Einval = -30,
+    /// There are no addresses left.
+    Enomem = -31,
+    /// The file wasn't opened for writing.
+    Eacces = -32,
+    /// It is in use already, in another way.
+    Overlap = -33,
+    /// The volume has no such file.
+    NoFile = -34,
+    /// Plain memory of the file is open.
+    Busy = -35,
+}
+
+/// A call that was refused.
+#[derive(Debug)]
+pub struct Error {
+    code: Code,
+    message: Option<String>,
+    system: Option<io::Error>,
+    done: usize,
+}
+
+impl Error {
+    pub(crate) fn new(code: Code) -> Error {
+        Error { code, message: None, system: None, done: 0 }
+    }
+
+    pub(crate) fn with_message(code: Code, message: String) -> Error {
+        Error { message: Some(message), ..Error::new(code) }
+    }
+
+    /// With the line that the library wrote about it, up to a null byte, if there is one.
+    pub(crate) fn saying(self, line: &[u8]) -> Error {
+        let line = line.split(|byte| *byte == 0).next().unwrap_or_default();
+        let message = (!line.is_empty()).then(|| String::from_utf8_lossy(line).into_owned());
+        Error { message, ..self }
+    }
+
+    pub(crate) fn after(self, done: usize) -> Error {
+        Error { done, ..self }
+    }
+
+    /// Why it was refused.
+    pub fn code(&self) -> Code {
+        self.code
+    }
+
+    /// Of [`Code::System`], what the system answered.
+    pub fn system(&self) -> Option<&io::Error> {
+        self.system.as_ref()
+    }
+
+    /// How many bytes a load or a store had done before it was refused; 0 of all other calls.
+    pub fn done(&self) -> usize {
+        self.done
+    }
+}
+
+impl fmt::Display for Error {
+    fn fmt(&self, formatter: &mut fmt::Formatter<'_>) -> fmt::Result {
+        if let Some(message) = &self.message {
+            return formatter.write_str(message);
+        }
+        // Safety: it answers a string that is never freed, whatever the number.
+        let words = unsafe { CStr::from_ptr(ffi::famsync_strerror(self.code.number())) };
+        formatter.write_str(&words.to_string_lossy())?;
+        match &self.system {
+            Some(error) => write!(formatter, ": {error}"),
+            None => Ok(()),
+        }
+    }
+}
+
+impl std::error::Error for Error {}
+
+/// What a call of the library answered; to be asked before anything else is called, which may set `errno`.
+pub(crate) fn check(answer: c_int) -> Result<(), Error> {
+    if answer == ffi::FAMSYNC_OK {
+        return Ok(());
+    }
+    let system = io::Error::last_os_error();
+    let code = Code::from(answer);
+    Err(Error { system: (code == Code::System).then_some(system), ..Error::new(code) })
+}

@@ -1,0 +1,69 @@
+//! The calls of `clients/c/famsync.h`.
+
+use std::ffi::{c_char, c_int, c_uint, c_void};
+
+/// A session.
+#[repr(C)]
+pub struct Famsync {
+    _private: [u8; 0],
+}
+
+/// The plain memory of a file.
+#[repr(C)]
+pub struct FamsyncMemory {
+    _private: [u8; 0],
+}
+
+#[repr(C)]
+pub struct FamsyncOptions {
+    pub trust: c_int,
+    pub frames: c_uint,
+    pub copies: c_uint,
+    pub foreground: c_int,
+    pub message: *mut c_char,
+    pub message_size: usize,
+}
+
+pub const FAMSYNC_OK: c_int = 0;
+pub const FAMSYNC_READ: c_int = 1;
+pub const FAMSYNC_WRITE: c_int = 2;
+
+extern "C" {
+    pub fn famsync_open(volume: *const c_char, options: *const FamsyncOptions, handle: *mut *mut Famsync) -> c_int;
+    pub fn famsync_close(handle: *mut Famsync) -> c_int;
+    pub fn famsync_files(handle: *const Famsync) -> c_uint;
+    pub fn famsync_file_name(handle: *const Famsync, file: c_uint) -> *const c_char;
+    pub fn famsync_file_length(handle: *const Famsync, file: c_uint) -> u64;
+    pub fn famsync_frames(handle: *const Famsync) -> c_uint;
+    pub fn famsync_setlength(handle: *mut Famsync, file: *const c_char, length: u64) -> c_int;
+    pub fn famsync_map(
+        handle: *mut Famsync,
+        file: *const c_char,
+        offset: u64,
+        length: u64,
+        protection: c_int,
+        address: *mut u64,
+    ) -> c_int;
+    pub fn famsync_load(
+        handle: *mut Famsync,
+        address: u64,
+        bytes: *mut c_void,
+        count: usize,
+        done: *mut usize,
+    ) -> c_int;
+    pub fn famsync_store(
+        handle: *mut Famsync,
+        address: u64,
+        bytes: *const c_void,
+        count: usize,
+        done: *mut usize,
+    ) -> c_int;
+    pub fn famsync_msync(handle: *mut Famsync, mark: *mut u64) -> c_int;
+    pub fn famsync_acknowledged(handle: *mut Famsync) -> u64;
+    pub fn famsync_strerror(code: c_int) -> *const c_char;
+    pub fn famsync_memory_open(handle: *mut Famsync, file: *const c_char, memory: *mut *mut FamsyncMemory) -> c_int;
+    pub fn famsync_memory_at(memory: *const FamsyncMemory) -> *mut c_void;
+    pub fn famsync_memory_length(memory: *const FamsyncMemory) -> usize;
+    pub fn famsync_memory_dirty(memory: *const FamsyncMemory) -> usize;
+    pub fn famsync_memory_close(memory: *mut FamsyncMemory) -> c_int;
+}

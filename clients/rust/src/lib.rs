@@ -1,0 +1,39 @@
+//! Files whose stores become durable together: keep your data in memory, and make it durable with one call.
+//!
+//! After a crash at any moment the files of a [`Volume`] are as they were at some [`commit`](Volume::commit), all of it
+//! and nothing else, and not before the last one that was acknowledged.
+//!
+//! ```
+//! # include!(concat!(env!("CARGO_MANIFEST_DIR"), "/tests/volumes/mod.rs"));
+//! # fn main() -> Result<(), famsync::Error> {
+//! # let made = make_volume(1, 16, "bank=8192");
+//! # let path = &made.path();
+//! let mut volume = famsync::Volume::open(path)?;
+//! let bank = volume.memory_mut("bank")?;
+//! bank[3] = 93;
+//! bank[9] = 7;
+//! volume.commit()?; // both or neither, whatever happens to the machine
+//! # Ok(())
+//! # }
+//! ```
+//!
+//! The crate is a safe form of the C library `libfamsync`, and has no other dependency.
+
+#![deny(missing_docs, unsafe_op_in_unsafe_fn)]
+#![warn(rust_2018_idioms)]
+
+mod error;
+mod ffi;
+mod mapping;
+mod memory;
+mod options;
+mod volume;
+
+pub use error::{Code, Error};
+pub use mapping::{Access, Mapping};
+pub use options::Options;
+pub use volume::{File, Volume};
+
+#[cfg(doctest)]
+#[doc = include_str!("../README.md")]
+struct Readme;

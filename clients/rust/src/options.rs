@@ -1,0 +1,85 @@
+use crate::error::{check, Code, Error};
+use crate::{ffi, Volume};
+use std::ffi::{c_int, c_uint, CString};
+use std::os::unix::ffi::OsStrExt;
+use std::path::Path;
+use std::ptr::{self, NonNull};
+
+/// The longest line about why a volume wasn't opened; it has two paths at most.
+const MESSAGE: usize = 9000;
+
+/// How a volume is opened.
+///
+/// ```
+/// # include!(concat!(env!("CARGO_MANIFEST_DIR"), "/tests/volumes/mod.rs"));
+/// # fn main() -> Result<(), famsync::Error> {
+/// # let made = make_volume(1, 16, "bank=8192");
+/// # let path = &made.path();
+/// let volume = famsync::Options::new().frames(8).copies(4).foreground(true).open(path)?;
+/// assert_eq!(volume.frames(), 8);
+/// # Ok(())
+/// # }
+/// ```
+#[derive(Clone, Debug, Default)]
+pub struct Options {
+    trust: bool,
+    frames: u32,
+    copies: u32,
+    foreground: bool,
+}
+
+impl Options {
+    /// What [`Volume::open`] takes: no trust, as many frames as one commit can have pages, no copies, and a thread in
+    /// the background.
+    pub fn new() -> Options {
+        Options::default()
+    }
+
+    /// Whether a volume of which a sync failed is opened all the same; it isn't marked any more then.
+    pub fn trust(&mut self, trust: bool) -> &mut Options {
+        self.trust = trust;
+        self
+    }
+
+    /// How many pages are kept in memory; 0 is as many as one commit can have.
+    pub fn frames(&mut self, frames: u32) -> &mut Options {
+        self.frames = frames;
+        self
+    }
+
+    /// How many pages more there are, for those that are stored to while a commit writes them: 0 to 64.
+    pub fn copies(&mut self, copies: u32) -> &mut Options {
+        self.copies = copies;
+        self
+    }
+
+    /// Whether the library goes without a thread of its own. What a commit writes after its acknowledgement is then
+    /// written by the next one, and else while nobody calls.
+    pub fn foreground(&mut self, foreground: bool) -> &mut Options {
+        self.foreground = foreground;
+        self
+    }
+
+    /// Opens a volume: a regular file with one name that `famsync format` made. It is locked until the volume is
+    /// dropped. The error says in words what is wrong with which file.
+    pub fn open(&self, path: impl AsRef<Path>) -> Result<Volume, Error> {
+        let name = CString::new(path.as_ref().as_os_str().as_bytes()).map_err(|_| Error::new(Code::Argument))?;
+        let mut message = vec![0u8; MESSAGE];
+        let options = ffi::FamsyncOptions {
+            trust: c_int::from(self.trust),
+            frames: c_uint::from(self.frames),
+            copies: c_uint::from(self.copies),
+            foreground: c_int::from(self.foreground),
+            message: message.as_mut_ptr().cast(),
+            message_size: message.len(),
+        };
+        let mut handle = ptr::null_mut();
+        // Safety: the name ends with a null byte, and the options have as much room for a message as they say.
+        let opened = check(unsafe { ffi::famsync_open(name.as_ptr(), &options, &mut handle) });
+        match (opened, NonNull::new(handle)) {
+            (Ok(()), Some(handle)) => Ok(Volume::of(handle)),
+            (Ok(()), None) => Err(Error::new(Code::Argument)),
+            (Err(error), _) => Err(error.saying(&message)),
+        }
+    }
+}

@@ -1,0 +1,385 @@
+use crate::error::{check, Code, Error};
+use crate::mapping::{span, Access, Mapping};
+use crate::memory::{Plain, Slot};
+use crate::{ffi, Options};
+use std::array;
+use std::ffi::{c_int, CStr};
+use std::fmt;
+use std::mem::ManuallyDrop;
+use std::ops::RangeBounds;
+use std::path::Path;
+use std::ptr::NonNull;
+use std::sync::atomic::{AtomicU64, Ordering};
+use std::sync::{Mutex, PoisonError};
+
+/// The handle of a session, which ends when this is dropped.
+pub(crate) struct Session(NonNull<ffi::Famsync>);
+
+// Safety: any number of threads may call with one handle; the calls take turns.
+unsafe impl Send for Session {}
+unsafe impl Sync for Session {}
+
+impl Session {
+    pub(crate) fn handle(&self) -> *mut ffi::Famsync {
+        self.0.as_ptr()
+    }
+
+    fn close(self) -> c_int {
+        let session = ManuallyDrop::new(self);
+        // Safety: it isn't dropped then, and no other call is under way, as the session was given away.
+        unsafe { ffi::famsync_close(session.handle()) }
+    }
+
+    fn files(&self) -> u32 {
+        // Safety: the session is open.
+        unsafe { ffi::famsync_files(self.handle()) }
+    }
+
+    fn file_name(&self, file: u32) -> &CStr {
+        // Safety: the session is open and has this file, whose name stays until it ends.
+        unsafe { CStr::from_ptr(ffi::famsync_file_name(self.handle(), file)) }
+    }
+
+    fn file_length(&self, file: u32) -> u64 {
+        // Safety: the session is open.
+        unsafe { ffi::famsync_file_length(self.handle(), file) }
+    }
+}
+
+impl Drop for Session {
+    fn drop(&mut self) {
+        // Safety: it ends once, after all memory was closed, and no other call is under way.
+        unsafe { ffi::famsync_close(self.handle()) };
+    }
+}
+
+/// A file of a volume.
+#[derive(Clone, Copy, Debug, PartialEq, Eq)]
+#[non_exhaustive]
+pub struct File<'a> {
+    /// Its name.
+    pub name: &'a str,
+    /// Its length in bytes, as this session has set it.
+    pub length: u64,
+}
+
+/// A session with a volume, which is locked until this is dropped or [closed](Volume::close).
+///
+/// Its stores become durable together, by [`commit`](Volume::commit). Whatever ends this process or the system, the
+/// next session finds the files as they were at some commit, all of it and nothing else, and not before the last one
+/// that was acknowledged.
+///
+/// Of each file use plain memory ([`memory_mut`](Volume::memory_mut), [`words`](Volume::words)) or a mapping
+/// ([`store`](Volume::store)), not both: memory that is open doesn't see what `store` wrote, and overwrites it where its
+/// page is stored to.
+///
+/// Threads share a volume by reference for everything but [`memory_mut`](Volume::memory_mut) and its like, which need it
+/// alone: in an `RwLock`, or before and after a scope of threads.
+pub struct Volume {
+    /// One for each file; dropped before the session, which can't end as long as memory is open.
+    slots: Box<[Slot]>,
+    session: Session,
+    /// Whoever has this may open memory.
+    opening: Mutex<()>,
+    /// Counts the volumes of this process, so that a mapping of another one is known.
+    number: u64,
+}
+
+impl Volume {
+    /// Opens a volume with the usual [`Options`].
+    pub fn open(path: impl AsRef<Path>) -> Result<Volume, Error> {
+        Options::new().open(path)
+    }
+
+    /// Takes over the handle of a session.
+    pub(crate) fn of(handle: NonNull<ffi::Famsync>) -> Volume {
+        static COUNT: AtomicU64 = AtomicU64::new(0);
+        let session = Session(handle);
+        let slots = (0..session.files()).map(|file| Slot::new(session.file_name(file).into())).collect();
+        Volume { slots, session, opening: Mutex::new(()), number: COUNT.fetch_add(1, Ordering::Relaxed) }
+    }
+
+    /// Ends the session, as dropping it does, and says whether that went well. Stores since the last commit are gone.
+    /// [`Code::Device`] where a write or a sync failed, now or earlier: what was acknowledged is kept.
+    pub fn close(self) -> Result<(), Error> {
+        let Volume { slots, session, .. } = self;
+        drop(slots);
+        check(session.close())
+    }
+
+    /// The files of the volume, in its order.
+    pub fn files(&self) -> impl Iterator<Item = File<'_>> + '_ {
+        self.slots.iter().zip(0..).map(|(slot, number)| File {
+            name: slot.name().to_str().unwrap_or_default(),
+            length: self.session.file_length(number),
+        })
+    }
+
+    /// How many pages of 4,096 bytes a commit of this session can have.
+    pub fn frames(&self) -> usize {
+        // Safety: the session is open.
+        unsafe { ffi::famsync_frames(self.session.handle()) as usize }
+    }
+
+    /// Makes all stores of this session durable, all of them or none, and returns when they are. The answer is the
+    /// commit's number, counted from 1 in each session.
+    ///
+    /// Threads that call it while a commit is being written share the next one. Where it is refused, all stores still
+    /// wait for a commit, and the next call takes them again. [`Code::NoFrame`]: the pages that were stored to are more
+    /// than one commit can have; no later call can commit them either. [`Code::Device`]: a write or a sync failed, and
+    /// the session is over; each later call answers [`Code::Broken`].
+    ///
+    /// No slice of [`memory_mut`](Volume::memory_mut) may live meanwhile, which the compiler checks:
+    ///
+    /// ```compile_fail,E0502
+    /// fn pay(volume: &mut famsync::Volume) -> Result<(), famsync::Error> {
+    ///     let bank = volume.memory_mut("bank")?;
+    ///     bank[0] = 1;
+    ///     volume.commit()?;
+    ///     bank[0] = 2;
+    ///     Ok(())
+    /// }
+    /// ```
+    pub fn commit(&self) -> Result<u64, Error> {
+        let mut mark = 0;
+        // Safety: the session is open. No `&mut` to plain memory lives, as that would borrow the volume exclusively.
+        check(unsafe { ffi::famsync_msync(self.session.handle(), &mut mark) })?;
+        Ok(mark)
+    }
+
+    /// The number of the last commit that was acknowledged, 0 where none was.
+    pub fn acknowledged(&self) -> u64 {
+        // Safety: the session is open.
+        unsafe { ffi::famsync_acknowledged(self.session.handle()) }
+    }
+
+    /// Sets the length of a file, as `ftruncate` does: up to its capacity, in a volume of layout 3; else
+    /// [`Code::Einval`]. Bytes past a new end are gone, and what a file grows by is zeros. Like a store it is durable
+    /// after the next commit. The pages that a file grows by, and the one in which it ended, count as stored to:
+    /// [`Code::NoFrame`] where they and those that were stored to don't go into one commit.
+    ///
+    /// [`Code::Busy`] as long as plain memory of the file is open. A mapping stays as it is: its pages past the file's
+    /// end answer [`Code::BusAdrErr`], and can be used once the file is long enough.
+    pub fn set_length(&self, file: &str, length: u64) -> Result<(), Error> {
+        let (_, slot) = self.slot(file)?;
+        // Safety: the session is open, and the name ends with a null byte.
+        check(unsafe { ffi::famsync_setlength(self.session.handle(), slot.name().as_ptr(), length) })
+    }
+
+    fn slot(&self, file: &str) -> Result<(u32, &Slot), Error> {
+        let named = (0..).zip(self.slots.iter()).find(|(_, slot)| slot.is_named(file));
+        named.ok_or_else(|| Error::with_message(Code::NoFile, format!("the volume has no file {file:?}")))
+    }
+
+    fn slot_mut(&mut self, file: &str) -> Result<&mut Slot, Error> {
+        let (number, _) = self.slot(file)?;
+        Ok(&mut self.slots[number as usize])
+    }
+}
+
+/// Plain memory: a whole file as memory of this process, which is filled from the volume when it is first asked for.
+///
+/// The first store to a page since a commit is a fault that a handler of SIGSEGV serves, which the library installs.
+/// Faults elsewhere, also those by which Rust finds that a stack has overflowed, go to the handler that was there before.
+/// A program that installs one later has to call the library's. The kernel doesn't store through a handler: to read a
+/// file into this memory fails with `EFAULT` where the page wasn't stored to; read into a buffer, and copy.
+///
+/// An empty file has no memory ([`Code::Argument`]).
+impl Volume {
+    /// The bytes of a file, as they were stored.
+    ///
+    /// [`Code::Overlap`] where they are [`words`](Volume::words) to somebody who shares the volume.
+    pub fn memory(&self, file: &str) -> Result<&[u8], Error> {
+        self.opened(file)?.bytes()
+    }
+
+    /// The bytes of a file, to be stored to.
+    ///
+    /// ```
+    /// # include!(concat!(env!("CARGO_MANIFEST_DIR"), "/tests/volumes/mod.rs"));
+    /// # fn main() -> Result<(), famsync::Error> {
+    /// # let made = make_volume(1, 16, "bank=8192");
+    /// # let path = &made.path();
+    /// let mut volume = famsync::Volume::open(path)?;
+    /// let bank = volume.memory_mut("bank")?;
+    /// bank[3] += 7;
+    /// bank[4099] += 7;
+    /// volume.commit()?; // both or neither
+    /// drop(volume);
+    ///
+    /// let volume = famsync::Volume::open(path)?;
+    /// assert_eq!((volume.memory("bank")?[3], volume.memory("bank")?[4099]), (7, 7));
+    /// # Ok(())
+    /// # }
+    /// ```
+    ///
+    /// Threads may store to parts of it. Nobody commits before they are done:
+    ///
+    /// ```
+    /// # include!(concat!(env!("CARGO_MANIFEST_DIR"), "/tests/volumes/mod.rs"));
+    /// # fn main() -> Result<(), famsync::Error> {
+    /// # let made = make_volume(1, 16, "bank=8192");
+    /// # let mut volume = famsync::Volume::open(made.path())?;
+    /// std::thread::scope(|scope| -> Result<(), famsync::Error> {
+    ///     for part in volume.memory_mut("bank")?.chunks_mut(2048) {
+    ///         scope.spawn(|| part.fill(7));
+    ///     }
+    ///     Ok(())
+    /// })?;
+    /// volume.commit()?;
+    /// # Ok(())
+    /// # }
+    /// ```
+    ///
+    /// It ends with the volume:
+    ///
+    /// ```compile_fail,E0505
+    /// fn end(mut volume: famsync::Volume) {
+    ///     let bank = volume.memory_mut("bank").unwrap();
+    ///     drop(volume);
+    ///     bank[0] = 1;
+    /// }
+    /// ```
+    ///
+    /// and isn't to be had twice:
+    ///
+    /// ```compile_fail,E0499
+    /// fn twice(volume: &mut famsync::Volume) {
+    ///     let bank = volume.memory_mut("bank").unwrap();
+    ///     let again = volume.memory_mut("bank").unwrap();
+    ///     bank[0] = again[0];
+    /// }
+    /// ```
+    pub fn memory_mut(&mut self, file: &str) -> Result<&mut [u8], Error> {
+        let [bytes] = self.memories_mut([file])?;
+        Ok(bytes)
+    }
+
+    /// The bytes of several files, to be stored to; [`Code::Overlap`] where a file is named twice.
+    pub fn memories_mut<const N: usize>(&mut self, files: [&str; N]) -> Result<[&mut [u8]; N], Error> {
+        for (place, file) in files.iter().enumerate() {
+            if files[..place].contains(file) {
+                return Err(Error::with_message(Code::Overlap, format!("{file:?} is named twice")));
+            }
+            self.opened(file)?;
+        }
+        let mut bytes: [&mut [u8]; N] = array::from_fn(|_| Default::default());
+        for slot in self.slots.iter_mut() {
+            if let Some(place) = files.iter().position(|file| slot.is_named(file)) {
+                bytes[place] = slot.plain_mut().map(Plain::bytes_mut).unwrap_or_default();
+            }
+        }
+        Ok(bytes)
+    }
+
+    /// The whole words of a file, in this machine's order of bytes: those who share the volume may store to them, also
+    /// while others commit.
+    ///
+    /// A commit has, of all threads and all words of the volume, each store that came before some one moment within
+    /// [`commit`](Volume::commit), and none that came after it. Stores by `Ordering::Release` come in the order in which
+    /// a thread makes them. What belongs together and is several stores may be parted by a commit; where it mustn't,
+    /// have the volume in an `RwLock` and use [`memory_mut`](Volume::memory_mut).
+    ///
+    /// ```
+    /// # include!(concat!(env!("CARGO_MANIFEST_DIR"), "/tests/volumes/mod.rs"));
+    /// # use std::sync::atomic::Ordering;
+    /// # fn main() -> Result<(), famsync::Error> {
+    /// # let made = make_volume(1, 16, "counts=8192");
+    /// # let volume = famsync::Volume::open(made.path())?;
+    /// let counts = volume.words("counts")?;
+    /// std::thread::scope(|scope| {
+    ///     scope.spawn(|| counts[0].fetch_add(1, Ordering::Release));
+    ///     scope.spawn(|| volume.commit());
+    /// });
+    /// volume.commit()?;
+    /// # Ok(())
+    /// # }
+    /// ```
+    ///
+    /// [`Code::Overlap`] where they are bytes, by [`memory`](Volume::memory), to somebody who shares the volume. Once
+    /// [`memory_mut`](Volume::memory_mut) was asked for the file, it may be shared in the other way.
+    pub fn words(&self, file: &str) -> Result<&[AtomicU64], Error> {
+        self.opened(file)?.words()
+    }
+
+    /// How many pages of a file were stored to since the last commit; one that has the bytes that it had may count or
+    /// not. One commit can have [`frames`](Volume::frames) of them.
+    pub fn dirty(&mut self, file: &str) -> Result<usize, Error> {
+        Ok(self.slot_mut(file)?.plain_mut().map(Plain::dirty).unwrap_or_default())
+    }
+
+    /// Gives the memory of a file back, if it is open. Its stores since the last commit are gone; but where a commit was
+    /// refused after some pages had been stored, nothing more can be committed ([`Code::Torn`]).
+    pub fn close_memory(&mut self, file: &str) -> Result<(), Error> {
+        self.slot_mut(file)?.close();
+        Ok(())
+    }
+
+    /// The slot of a file, with its memory open.
+    fn opened(&self, file: &str) -> Result<&Slot, Error> {
+        let (_, slot) = self.slot(file)?;
+        if !slot.is_open() {
+            let _opening = self.opening.lock().unwrap_or_else(PoisonError::into_inner);
+            slot.open(&self.session)?;
+        }
+        Ok(slot)
+    }
+}
+
+/// Load and store: any bytes of what was mapped, by a call and a copy.
+///
+/// ```
+/// # include!(concat!(env!("CARGO_MANIFEST_DIR"), "/tests/volumes/mod.rs"));
+/// # use famsync::Access;
+/// # fn main() -> Result<(), famsync::Error> {
+/// # let made = make_volume(1, 16, "log=8192");
+/// # let volume = famsync::Volume::open(made.path())?;
+/// let log = volume.map("log", .., Access::ReadWrite)?;
+/// volume.store(log, 5000, b"hello")?;
+/// volume.commit()?;
+/// let mut found = [0; 5];
+/// volume.load(log, 5000, &mut found)?;
+/// assert_eq!(&found, b"hello");
+/// # Ok(())
+/// # }
+/// ```
+impl Volume {
+    /// Maps a range of a file, which begins with a page: a multiple of 4,096. It may end past the file's end, up to the
+    /// file's capacity; `..` is up to its end. It stays mapped as long as the volume is open.
+    pub fn map(&self, file: &str, range: impl RangeBounds<u64>, access: Access) -> Result<Mapping, Error> {
+        let (number, slot) = self.slot(file)?;
+        let (offset, length) = span(range, self.session.file_length(number)).ok_or(Error::new(Code::Argument))?;
+        let (handle, name) = (self.session.handle(), slot.name().as_ptr());
+        let mut address = 0;
+        // Safety: the session is open, and the name ends with a null byte.
+        check(unsafe { ffi::famsync_map(handle, name, offset, length, access.protection(), &mut address) })?;
+        Ok(Mapping::of(self.number, address, length))
+    }
+
+    /// Loads bytes from an offset within a mapping on. Where it is refused on its way, [`Error::done`] says how many
+    /// bytes were loaded.
+    pub fn load(&self, mapping: Mapping, offset: u64, bytes: &mut [u8]) -> Result<(), Error> {
+        let address = mapping.address_of(self.number, offset)?;
+        let (at, count, mut done) = (bytes.as_mut_ptr().cast(), bytes.len(), 0);
+        // Safety: the session is open, and there is room for so many bytes.
+        let loaded = check(unsafe { ffi::famsync_load(self.session.handle(), address, at, count, &mut done) });
+        loaded.map_err(|error| error.after(done))
+    }
+
+    /// Stores bytes from an offset within a mapping on. Where it is refused on its way, [`Error::done`] says how many
+    /// bytes were stored.
+    pub fn store(&self, mapping: Mapping, offset: u64, bytes: &[u8]) -> Result<(), Error> {
+        let address = mapping.address_of(self.number, offset)?;
+        let (at, count, mut done) = (bytes.as_ptr().cast(), bytes.len(), 0);
+        // Safety: the session is open, and there are so many bytes.
+        let stored = check(unsafe { ffi::famsync_store(self.session.handle(), address, at, count, &mut done) });
+        stored.map_err(|error| error.after(done))
+    }
+}
+
+impl fmt::Debug for Volume {
+    fn fmt(&self, formatter: &mut fmt::Formatter<'_>) -> fmt::Result {
+        let files: Vec<_> = self.files().collect();
+        formatter.debug_struct("Volume").field("files", &files).finish_non_exhaustive()
+    }
+}

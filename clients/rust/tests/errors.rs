@@ -1,0 +1,101 @@
+//! Codes and their words. `Device`, `Broken`, `NoMemory` and `Forked` are tried in `processes.rs`, those of accesses where
+//! these are. Not made are `Replaced`, which takes another process that renames without end, and what no call of this
+//! crate is answered: `Stalled`, `Locked`, `Held`, `Eacces`.
+
+mod volumes;
+
+use famsync::{Access, Code, Error, Options, Volume};
+use std::fs::{self, OpenOptions};
+use std::os::unix::fs::FileExt;
+use volumes::make_volume;
+
+/// The code of a call that is refused, and whether it is told in words.
+#[track_caller]
+fn code<T>(answer: Result<T, Error>) -> Code {
+    let error = answer.err().expect("the call is to be refused");
+    assert!(!error.to_string().is_empty() && error.to_string() != "no such code", "{error:?}");
+    error.code()
+}
+
+#[test]
+fn arguments() {
+    let made = make_volume(1, 16, "a=8192");
+    assert_eq!(code(Volume::open("")), Code::Argument);
+    assert_eq!(code(Volume::open("a\0b")), Code::Argument);
+    let volume = Volume::open(made.path()).unwrap();
+    assert_eq!(code(volume.map("a", 1.., Access::Read)), Code::Argument);
+    assert_eq!(code(volume.map("a", 4096..4096, Access::Read)), Code::Argument);
+    assert_eq!(code(volume.map("a", 8192.., Access::Read)), Code::Argument);
+    assert_eq!(code(volume.map("a", ..1 << 47, Access::Read)), Code::Enomem);
+    assert_eq!(code(volume.map("b", .., Access::Read)), Code::NoFile);
+}
+
+#[test]
+fn names_of_files() {
+    let mut volume = Volume::open(make_volume(1, 16, "a=8192").path()).unwrap();
+    let error = volume.memory("b").unwrap_err();
+    assert_eq!((error.code(), error.to_string()), (Code::NoFile, "the volume has no file \"b\"".into()));
+    for name in ["", "a\0", "A", "aa"] {
+        assert_eq!(code(volume.memory_mut(name)), Code::NoFile);
+        assert_eq!(code(volume.words(name)), Code::NoFile);
+        assert_eq!(code(volume.dirty(name)), Code::NoFile);
+        assert_eq!(code(volume.close_memory(name)), Code::NoFile);
+        assert_eq!(code(volume.set_length(name, 1)), Code::NoFile);
+    }
+    assert_eq!(code(volume.memories_mut(["a", "a"])), Code::Overlap);
+    assert_eq!(code(volume.memories_mut(["a", "b"])), Code::NoFile);
+}
+
+#[test]
+fn other_files() {
+    let made = make_volume(1, 16, "a=8192");
+    let error = Volume::open(made.beside("nowhere")).unwrap_err();
+    assert_eq!(error.code(), Code::System);
+    assert_eq!(error.system().map(|system| system.kind()), Some(std::io::ErrorKind::NotFound));
+    assert!(error.to_string().contains("nowhere\": No such file"), "{error}");
+    assert_eq!(code(Volume::open("/dev/null")), Code::NotRegular);
+    assert_eq!(code(Volume::open(made.beside("."))), Code::NotRegular);
+    fs::hard_link(made.path(), made.beside("other")).unwrap();
+    assert_eq!(code(Volume::open(made.path())), Code::Names);
+}
+
+#[test]
+fn in_use() {
+    let made = make_volume(1, 16, "a=8192");
+    let volume = Volume::open(made.path()).unwrap();
+    let error = Volume::open(made.path()).unwrap_err();
+    assert_eq!(error.code(), Code::InUse);
+    assert!(error.to_string().contains("v.img\": the volume is open already"), "{error}");
+    drop(volume);
+    Volume::open(made.path()).unwrap().close().unwrap();
+    Volume::open(made.path()).unwrap();
+}
+
+#[test]
+fn spoilt_volumes() {
+    let made = make_volume(1, 16, "a=8192");
+    let file = OpenOptions::new().write(true).open(made.path()).unwrap();
+    file.set_len(20 * 4096).unwrap();
+    assert_eq!(code(Volume::open(made.path())), Code::Damaged);
+    file.write_all_at(b"other", 0).unwrap();
+    assert_eq!(code(Volume::open(made.path())), Code::NotAVolume);
+}
+
+#[test]
+fn suspect_volumes() {
+    let made = make_volume(1, 16, "a=8192");
+    fs::write(made.beside("v.img.suspect"), "").unwrap();
+    let error = Volume::open(made.path()).unwrap_err();
+    assert_eq!(error.code(), Code::Suspect);
+    assert!(error.to_string().contains("v.img.suspect\" says that a sync of the volume failed"), "{error}");
+    drop(Options::new().trust(true).open(made.path()).unwrap());
+    Volume::open(made.path()).unwrap();
+}
+
+#[test]
+fn shapes() {
+    let made = make_volume(1, 16, "a=8192");
+    assert_eq!(code(Options::new().copies(65).open(made.path())), Code::Shape);
+    let volume = Options::new().frames(5).copies(64).foreground(true).open(made.path()).unwrap();
+    assert_eq!(volume.frames(), 5);
+}

@@ -1,0 +1,28 @@
+//! The codes are those of the header, by the same names and numbers.
+
+use famsync::Code;
+use std::collections::BTreeMap;
+use std::fs;
+
+/// The codes below 0 of `famsync.h`: `FAMSYNC_NAME = -NUMBER`, with whatever follows.
+fn codes_of_header() -> BTreeMap<i32, String> {
+    let path = concat!(env!("CARGO_MANIFEST_DIR"), "/../c/famsync.h");
+    let header = fs::read_to_string(path).expect("clients/c/famsync.h stands beside the crate");
+    let named = header.lines().filter_map(|line| line.trim().strip_prefix("FAMSYNC_")?.split_once(" = -"));
+    let number = |rest: &str| rest.split(|c: char| !c.is_ascii_digit()).next().and_then(|digits| digits.parse().ok());
+    named.filter_map(|(name, rest)| number(rest).map(|number: i32| (-number, name.to_string()))).collect()
+}
+
+#[test]
+fn codes_are_those_of_the_header() {
+    let header = codes_of_header();
+    assert!(header.len() > 20, "{header:?}");
+    for number in -200..0 {
+        let code = Code::from(number);
+        assert_eq!(code.number(), number);
+        match header.get(&number) {
+            Some(name) => assert_eq!(&format!("{code:?}").to_uppercase(), name),
+            None => assert_eq!(code, Code::Other(number)),
+        }
+    }
+}

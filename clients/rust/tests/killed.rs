@@ -1,0 +1,74 @@
+//! The bank of the examples, killed at random moments: the sum holds, and each transfer that was acknowledged is there.
+//! `KILLS` in the environment says how often.
+
+mod volumes;
+
+use std::collections::hash_map::RandomState;
+use std::hash::{BuildHasher, Hasher};
+use std::io::{BufRead, BufReader};
+use std::path::{Path, PathBuf};
+use std::process::{Command, Stdio};
+use std::time::Duration;
+use std::{env, thread};
+use volumes::make_volume;
+
+/// The transfers that are made at once, each of which may be there without being acknowledged.
+const THREADS: i64 = 4;
+
+/// The example, which `cargo test` builds beside the tests.
+fn bank() -> PathBuf {
+    let deps = env::current_exe().unwrap();
+    let path = deps.ancestors().nth(2).unwrap().join("examples/bank");
+    assert!(path.exists(), "{path:?} isn't there: cargo build --example bank");
+    path
+}
+
+/// Makes transfers until it is killed, after so long; the number of the last one that was acknowledged, 0 for none.
+fn killed_after(time: Duration, volume: &Path) -> i64 {
+    let mut process = Command::new(bank()).arg(volume).stdout(Stdio::piped()).spawn().unwrap();
+    let mut told = BufReader::new(process.stdout.take().unwrap());
+    let mut lines = String::new();
+    told.read_line(&mut lines).unwrap();
+    thread::sleep(time);
+    process.kill().unwrap();
+    while told.read_line(&mut lines).unwrap() > 0 {}
+    process.wait().unwrap();
+    let numbers = lines.split_inclusive('\n').filter_map(|line| line.strip_prefix("acknowledged ")?.strip_suffix('\n'));
+    numbers.map(|number| number.parse().unwrap()).max().unwrap_or(0)
+}
+
+/// How many transfers there are.
+fn found(volume: &Path) -> i64 {
+    let ran = Command::new(bank()).arg(volume).arg("--check").output().unwrap();
+    let said = String::from_utf8_lossy(&ran.stdout);
+    let count = said.strip_prefix("sum 0, ").and_then(|rest| rest.strip_suffix(" transfers\n"));
+    assert!(ran.status.success() && count.is_some(), "{said}{}", String::from_utf8_lossy(&ran.stderr));
+    count.unwrap().parse().unwrap()
+}
+
+#[test]
+fn the_sum_holds() {
+    let kills: u32 = env::var("KILLS").map_or(25, |kills| kills.parse().unwrap());
+    let made = make_volume(2, 64, "bank=16384");
+    let mut known = 0;
+    for _ in 0..kills {
+        let random = RandomState::new().build_hasher().finish();
+        known = killed_after(Duration::from_micros(random % 100_000), &made.path()).max(known);
+        let found = found(&made.path());
+        assert!((known..=known + THREADS).contains(&found), "{known} were acknowledged, and {found} are there");
+        known = found;
+    }
+    println!("{kills} kills, sum 0, {known} transfers, none that was acknowledged is missing");
+}
+
+#[test]
+fn so_many_transfers_as_are_asked_for() {
+    let made = make_volume(1, 16, "bank=8192");
+    for made_before in [0, 30] {
+        assert_eq!(found(&made.path()), made_before);
+        let ran = Command::new(bank()).arg(made.path()).arg("30").output().unwrap();
+        assert_eq!(String::from_utf8_lossy(&ran.stdout).lines().count(), 30);
+    }
+    assert_eq!(found(&made.path()), 60);
+    assert_eq!(Command::new(bank()).output().unwrap().status.code(), Some(1));
+}

@@ -1,0 +1,54 @@
+//! Lengths that are set.
+
+mod volumes;
+
+use famsync::{Access, Code, Volume};
+use volumes::make_volume;
+
+fn length(volume: &Volume, name: &str) -> u64 {
+    volume.files().find(|file| file.name == name).unwrap().length
+}
+
+#[test]
+fn a_file_grows_and_shrinks() {
+    let made = make_volume(3, 16, "a=5000/40000 b=0/4096");
+    let mut volume = Volume::open(made.path()).unwrap();
+    assert_eq!((length(&volume, "a"), length(&volume, "b")), (5000, 0));
+    assert_eq!(volume.memory("b").unwrap_err().code(), Code::Argument);
+    volume.memory_mut("a").unwrap()[4999] = 7;
+    assert_eq!(volume.set_length("a", 20000).unwrap_err().code(), Code::Busy);
+    volume.commit().unwrap();
+    volume.close_memory("a").unwrap();
+    volume.set_length("a", 20000).unwrap();
+    let a = volume.memory_mut("a").unwrap();
+    assert!(a.len() == 20000 && a[4999] == 7 && a[5000..].iter().all(|byte| *byte == 0));
+    a[19999] = 8;
+    volume.commit().unwrap();
+    drop(volume);
+
+    let mut volume = Volume::open(made.path()).unwrap();
+    assert_eq!((length(&volume, "a"), volume.memory("a").unwrap()[19999]), (20000, 8));
+    volume.close_memory("a").unwrap();
+    volume.set_length("a", 100).unwrap();
+    drop(volume);
+    assert_eq!(length(&Volume::open(made.path()).unwrap(), "a"), 20000);
+}
+
+#[test]
+fn what_is_past_the_end() {
+    let volume = Volume::open(make_volume(3, 16, "a=5000/40000").path()).unwrap();
+    let a = volume.map("a", ..40000, Access::ReadWrite).unwrap();
+    assert_eq!(volume.store(a, 8192, b"hello").unwrap_err().code(), Code::BusAdrErr);
+    volume.set_length("a", 8200).unwrap();
+    volume.store(a, 8192, b"hello").unwrap();
+    assert_eq!(volume.set_length("a", 40001).unwrap_err().code(), Code::Einval);
+}
+
+#[test]
+fn what_keeps_its_length() {
+    for layout in [1, 2] {
+        let volume = Volume::open(make_volume(layout, 16, "a=5000").path()).unwrap();
+        assert_eq!(volume.set_length("a", 4000).unwrap_err().code(), Code::Einval);
+        assert_eq!(length(&volume, "a"), 5000);
+    }
+}

@@ -1,0 +1,133 @@
+//! Plain memory: stores are kept by a commit and by nothing else; more pages than a commit has are refused.
+
+mod volumes;
+
+use famsync::{Access, Code, Volume};
+use std::fs::File;
+use std::io::Read;
+use std::sync::atomic::Ordering;
+use volumes::make_volume;
+
+#[test]
+fn stores_are_kept_by_a_commit() {
+    let made = make_volume(1, 16, "a=20000 b=5000");
+    let mut volume = Volume::open(made.path()).unwrap();
+    let files: Vec<_> = volume.files().map(|file| (file.name.to_string(), file.length)).collect();
+    assert_eq!(files, [("a".to_string(), 20000), ("b".to_string(), 5000)]);
+    assert_eq!(format!("{volume:?}").matches("File").count(), 2);
+    let [b, a] = volume.memories_mut(["b", "a"]).unwrap();
+    assert!(a.len() == 20000 && b.len() == 5000 && a.iter().chain(b.iter()).all(|byte| *byte == 0));
+    for (place, byte) in [(0, 1), (4095, 2), (4096, 3), (19999, 4)] {
+        a[place] = byte;
+    }
+    b[4999] = 5;
+    assert_eq!((volume.dirty("a").unwrap(), volume.dirty("b").unwrap()), (3, 1));
+    assert_eq!((volume.commit().unwrap(), volume.acknowledged(), volume.dirty("a").unwrap()), (1, 1, 0));
+    volume.memory_mut("a").unwrap()[1] = 6;
+    volume.close().unwrap();
+
+    let volume = Volume::open(made.path()).unwrap();
+    let (a, b) = (volume.memory("a").unwrap(), volume.memory("b").unwrap());
+    assert_eq!((a[0], a[1], a[4095], a[4096], a[19999], b[4999]), (1, 0, 2, 3, 4, 5));
+    assert_eq!(volume.acknowledged(), 0);
+}
+
+#[test]
+fn each_store_before_a_commit_is_in_it() {
+    /// Of which an optimizing compiler would leave out the first store, could the memory be borrowed as long.
+    #[inline(never)]
+    fn rewrite(volume: &mut Volume, byte: u8) {
+        volume.memory_mut("a").unwrap()[0] = byte;
+        volume.commit().unwrap();
+        volume.memory_mut("a").unwrap()[0] = byte + 1;
+    }
+    let made = make_volume(1, 16, "a=8192");
+    let mut volume = Volume::open(made.path()).unwrap();
+    for byte in 1..9 {
+        rewrite(&mut volume, byte);
+    }
+    drop(volume);
+    assert_eq!(Volume::open(made.path()).unwrap().memory("a").unwrap()[0], 8);
+}
+
+#[test]
+fn too_many_pages() {
+    let made = make_volume(1, 8, "a=81920");
+    let mut volume = Volume::open(made.path()).unwrap();
+    assert_eq!(volume.frames(), 8);
+    let store = |volume: &mut Volume, pages: usize, byte| {
+        let a = volume.memory_mut("a").unwrap();
+        (0..pages).for_each(|page| a[page * 2 * 4096] = byte);
+        volume.commit().map_err(|error| error.code())
+    };
+    assert_eq!(store(&mut volume, 8, 1), Ok(1));
+    assert_eq!(store(&mut volume, 9, 2), Err(Code::NoFrame));
+    assert_eq!(store(&mut volume, 9, 3), Err(Code::NoFrame));
+    assert_eq!((volume.dirty("a").unwrap(), volume.acknowledged()), (9, 1));
+    // nothing of it was stored
+    volume.close_memory("a").unwrap();
+    assert_eq!((volume.dirty("a").unwrap(), volume.commit().unwrap()), (0, 2));
+    assert_eq!(volume.memory("a").unwrap()[0], 1);
+}
+
+#[test]
+fn memory_that_is_torn() {
+    let made = make_volume(1, 8, "a=81920");
+    let mut volume = Volume::open(made.path()).unwrap();
+    // Pages that `store` wrote are found by the core alone, after a part of the memory was stored.
+    let mapping = volume.map("a", 16 * 4096.., Access::ReadWrite).unwrap();
+    volume.store(mapping, 0, &[9; 4 * 4096]).unwrap();
+    let a = volume.memory_mut("a").unwrap();
+    (0..6).for_each(|page| a[page * 2 * 4096] = 3);
+    assert_eq!(volume.commit().unwrap_err().code(), Code::NoFrame);
+    volume.close_memory("a").unwrap();
+    assert_eq!(volume.commit().unwrap_err().code(), Code::Torn);
+    drop(volume);
+    assert!(Volume::open(made.path()).unwrap().memory("a").unwrap().iter().all(|byte| *byte == 0));
+}
+
+#[test]
+fn bytes_or_words() {
+    let made = make_volume(1, 16, "a=8192 b=5001");
+    let mut volume = Volume::open(made.path()).unwrap();
+    volume.memory_mut("a").unwrap()[8] = 1;
+    let words = volume.words("a").unwrap();
+    assert_eq!((words.len(), volume.words("b").unwrap().len()), (1024, 625));
+    assert_eq!(u64::from_le(words[1].load(Ordering::Relaxed)), 1);
+    words[1].fetch_add(1u64.to_le(), Ordering::Relaxed);
+    let error = volume.memory("a").unwrap_err();
+    assert_eq!((error.code(), error.to_string()), (Code::Overlap, "\"a\" is shared already, as words".into()));
+    volume.commit().unwrap();
+    // who has the volume alone may have it as bytes, and then share it so
+    assert_eq!(volume.memory_mut("a").unwrap()[8], 2);
+    assert_eq!(volume.memory("a").unwrap()[8], 2);
+    assert_eq!(volume.words("a").unwrap_err().code(), Code::Overlap);
+    volume.close_memory("a").unwrap();
+    assert_eq!(volume.words("a").unwrap()[1].load(Ordering::Relaxed), 2u64.to_le());
+}
+
+#[test]
+fn the_kernel_stores_through_no_handler() {
+    let made = make_volume(1, 16, "a=8192");
+    let mut volume = Volume::open(made.path()).unwrap();
+    let mut zeros = File::open("/dev/zero").unwrap();
+    let a = volume.memory_mut("a").unwrap();
+    assert!(zeros.read_exact(&mut a[..10]).is_err());
+    a[0] = 1;
+    zeros.read_exact(&mut a[..10]).unwrap();
+    assert!(zeros.read_exact(&mut a[4096..4106]).is_err());
+    assert_eq!(volume.dirty("a").unwrap(), 1);
+}
+
+#[test]
+fn many_sessions() {
+    let made = make_volume(2, 16, "a=8192 b=8192");
+    for round in 1..30u8 {
+        let mut volume = Volume::open(made.path()).unwrap();
+        let [a, b] = volume.memories_mut(["a", "b"]).unwrap();
+        assert_eq!((a[0], b[4096]), (round - 1, round - 1));
+        (a[0], b[4096]) = (round, round);
+        volume.commit().unwrap();
+        volume.memory_mut("b").unwrap()[0] = 99;
+    }
+}

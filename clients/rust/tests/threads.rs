@@ -1,0 +1,155 @@
+//! Threads: they store to parts of one memory and commit when all are done; share a volume in a lock, and its commits;
+//! store to words while others commit.
+
+mod volumes;
+
+use famsync::{Access, Volume};
+use std::sync::atomic::{AtomicBool, AtomicU64, Ordering};
+use std::sync::RwLock;
+use std::thread;
+use volumes::make_volume;
+
+const THREADS: usize = 4;
+
+#[test]
+fn parts_of_one_memory() {
+    let made = make_volume(1, 64, "a=163840");
+    let mut volume = Volume::open(made.path()).unwrap();
+    for round in 1..20u8 {
+        thread::scope(|scope| {
+            // parts that end within a page
+            for part in volume.memory_mut("a").unwrap().chunks_mut(10000) {
+                scope.spawn(|| part.iter_mut().for_each(|byte| *byte += 1));
+            }
+        });
+        assert_eq!(volume.commit().unwrap(), u64::from(round));
+        assert!(volume.memory("a").unwrap().iter().all(|byte| *byte == round));
+    }
+    drop(volume);
+    assert!(Volume::open(made.path()).unwrap().memory("a").unwrap().iter().all(|byte| *byte == 19));
+}
+
+/// Each store stands in two pages, under a lock, so that each commit has both or neither; commits are shared.
+#[test]
+fn a_volume_in_a_lock() {
+    const ROUNDS: u64 = 50;
+    let made = make_volume(1, 16, "a=8192");
+    let volume = RwLock::new(Volume::open(made.path()).unwrap());
+    thread::scope(|scope| {
+        for _ in 0..THREADS {
+            scope.spawn(|| {
+                for _ in 0..ROUNDS {
+                    let mut alone = volume.write().unwrap();
+                    let a = alone.memory_mut("a").unwrap();
+                    a[0] = a[0].wrapping_add(1);
+                    a[8191] = a[0];
+                    drop(alone);
+                    volume.read().unwrap().commit().unwrap();
+                }
+            });
+        }
+    });
+    let volume = volume.into_inner().unwrap();
+    assert!((1..=ROUNDS * THREADS as u64).contains(&volume.acknowledged()));
+    volume.close().unwrap();
+    let volume = Volume::open(made.path()).unwrap();
+    let a = volume.memory("a").unwrap();
+    assert_eq!((a[0], a[8191]), (200, 200));
+}
+
+#[test]
+fn memory_is_opened_once() {
+    let volume = Volume::open(make_volume(1, 16, "a=8192 b=8192").path()).unwrap();
+    let places: Vec<_> = thread::scope(|scope| {
+        let threads = [(); THREADS].map(|()| {
+            scope
+                .spawn(|| (volume.memory("a").unwrap().as_ptr() as usize, volume.words("b").unwrap().as_ptr() as usize))
+        });
+        threads.into_iter().map(|thread| thread.join().unwrap()).collect()
+    });
+    assert!(places.iter().all(|place| *place == places[0]));
+}
+
+/// Pages are stored to in this order, round by round, each in another place than the one before.
+const STEPS: usize = 6;
+
+/// The word of a thread at a step.
+fn word(thread: usize, step: usize) -> usize {
+    512 * (THREADS * (step * 5 % STEPS) + thread) + thread
+}
+
+/// Whether counts are those of some moment: they fall by at most one, from a step to a later one.
+fn are_of_a_moment(counts: &[u64]) -> bool {
+    counts.windows(2).all(|pair| pair[0] >= pair[1]) && counts[0] - counts[counts.len() - 1] <= 1
+}
+
+#[test]
+fn words_are_stored_to_while_others_commit() {
+    let made = make_volume(1, 32, "a=98304");
+    let volume = Volume::open(made.path()).unwrap();
+    let (words, stopped) = (volume.words("a").unwrap(), AtomicBool::new(false));
+    let committed = volume.map("a", .., Access::Read).unwrap();
+    let count = |thread: usize| {
+        for round in 1.. {
+            (0..STEPS).for_each(|step| words[word(thread, step)].store(round, Ordering::Release));
+            if stopped.load(Ordering::Relaxed) {
+                return round;
+            }
+        }
+        unreachable!()
+    };
+    thread::scope(|scope| {
+        let threads: Vec<_> = (0..THREADS).map(|thread| scope.spawn(move || count(thread))).collect();
+        let mut found = vec![0; 98304];
+        for mark in 1..40 {
+            assert_eq!(volume.commit().unwrap(), mark);
+            volume.load(committed, 0, &mut found).unwrap();
+            let number = |at: usize| u64::from_ne_bytes(found[8 * at..8 * at + 8].try_into().unwrap());
+            for thread in 0..THREADS {
+                let counts: Vec<_> = (0..STEPS).map(|step| number(word(thread, step))).collect();
+                assert!(are_of_a_moment(&counts), "{counts:?}");
+            }
+        }
+        stopped.store(true, Ordering::Relaxed);
+        let last: Vec<_> = threads.into_iter().map(|thread| thread.join().unwrap()).collect();
+        (0..THREADS).for_each(|thread| assert_eq!(words[word(thread, 0)].load(Ordering::Relaxed), last[thread]));
+    });
+}
+
+/// Additions of several threads to one word, which is closed again and again: none is lost.
+#[test]
+fn additions_to_one_word() {
+    const ADDITIONS: u64 = 20000;
+    let made = make_volume(1, 16, "a=8192");
+    let volume = Volume::open(made.path()).unwrap();
+    let words: &[AtomicU64] = volume.words("a").unwrap();
+    thread::scope(|scope| {
+        for _ in 0..THREADS {
+            scope.spawn(|| {
+                for _ in 0..ADDITIONS {
+                    words[0].fetch_add(1, Ordering::Relaxed);
+                }
+            });
+        }
+        for mark in 1..30 {
+            assert_eq!(volume.commit().unwrap(), mark);
+        }
+    });
+    volume.commit().unwrap();
+    drop(volume);
+    let volume = Volume::open(made.path()).unwrap();
+    assert_eq!(volume.words("a").unwrap()[0].load(Ordering::Relaxed), THREADS as u64 * ADDITIONS);
+}
+
+#[test]
+fn a_volume_goes_to_another_thread() {
+    fn is_sent_and_shared<T: Send + Sync + 'static>() {}
+    is_sent_and_shared::<Volume>();
+    is_sent_and_shared::<famsync::Error>();
+    let made = make_volume(1, 16, "a=8192");
+    let mut volume = Volume::open(made.path()).unwrap();
+    volume.memory_mut("a").unwrap()[0] = 1;
+    let volume = thread::spawn(move || volume.commit().map(|_| volume)).join().unwrap().unwrap();
+    thread::spawn(move || volume.close()).join().unwrap().unwrap();
+    assert_eq!(Volume::open(made.path()).unwrap().memory("a").unwrap()[0], 1);
+}

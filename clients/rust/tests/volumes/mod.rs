@@ -1,0 +1,67 @@
+// Volumes for tests, made here byte by byte as docs/FORMATS.md has them, so that no other program is needed.
+
+/// A volume in a folder of its own, which goes with it.
+pub struct Made {
+    folder: std::path::PathBuf,
+}
+
+#[allow(dead_code)]
+impl Made {
+    /// The path of the volume.
+    pub fn path(&self) -> std::path::PathBuf {
+        self.folder.join("v.img")
+    }
+
+    /// The path of another file in the folder.
+    pub fn beside(&self, name: &str) -> std::path::PathBuf {
+        self.folder.join(name)
+    }
+}
+
+impl Drop for Made {
+    fn drop(&mut self) {
+        let _ = std::fs::remove_dir_all(&self.folder);
+    }
+}
+
+fn put_number(bytes: &mut [u8], number: u64) {
+    let all = number.to_be_bytes();
+    bytes.copy_from_slice(&all[8 - bytes.len()..]);
+}
+
+/// Makes a volume of a layout with so many slots and these files: `NAME=LENGTH` or `NAME=LENGTH/CAPACITY`, with blanks
+/// between them.
+pub fn make_volume(layout: u8, slots: u64, files: &str) -> Made {
+    static COUNT: std::sync::atomic::AtomicU32 = std::sync::atomic::AtomicU32::new(0);
+    let count = COUNT.fetch_add(1, std::sync::atomic::Ordering::Relaxed);
+    let folder = std::env::temp_dir().join(format!("famsync-rust-{}-{count}", std::process::id()));
+    let mut next = [3 + slots, 5 + 2 * slots, 6 + 2 * slots][usize::from(layout) - 1];
+    let lengths_at = next - 1;
+    let (mut head, mut lengths) = (vec![0; 4096], vec![0; 4096]);
+    for (number, file) in files.split_whitespace().enumerate() {
+        let (name, length) = file.split_once('=').unwrap();
+        let (length, capacity) = length.split_once('/').unwrap_or((length, length));
+        let (length, capacity): (u64, u64) = (length.parse().unwrap(), capacity.parse().unwrap());
+        let pages = (capacity + 4095) / 4096;
+        let row = &mut head[32 + 48 * number..80 + 48 * number];
+        row[..name.len()].copy_from_slice(name.as_bytes());
+        put_number(&mut row[32..40], capacity);
+        put_number(&mut row[40..44], next);
+        put_number(&mut row[44..48], pages);
+        put_number(&mut lengths[8 * number..8 * number + 8], length);
+        next += pages;
+    }
+    head[..8].copy_from_slice(format!("FAMSYNC{layout}").as_bytes());
+    put_number(&mut head[8..12], files.split_whitespace().count() as u64);
+    put_number(&mut head[12..16], slots);
+    put_number(&mut head[16..20], next);
+    std::fs::create_dir(&folder).unwrap();
+    let made = Made { folder };
+    std::fs::write(made.path(), head).unwrap();
+    let file = std::fs::OpenOptions::new().write(true).open(made.path()).unwrap();
+    file.set_len(next * 4096).unwrap();
+    if layout == 3 {
+        std::os::unix::fs::FileExt::write_all_at(&file, &lengths, lengths_at * 4096).unwrap();
+    }
+    made
+}
