@@ -63,35 +63,27 @@ codes! {
     Damaged = -17,
     /// The volume doesn't serve so many frames or copies.
     Shape = -18,
-    /// The processor isn't active.
-    Stalled = -21,
-    /// A change of the mappings is under way.
-    Locked = -22,
     /// The address isn't mapped.
     SegvMapErr = -23,
     /// The mapping doesn't allow this access.
     SegvAccErr = -24,
     /// The page is past the file's end.
     BusAdrErr = -25,
-    /// The page waits for its record.
-    Held = -26,
     /// More pages were stored to, or added to a file, than one commit can have.
     NoFrame = -27,
-    /// A read, a write or a sync of the volume failed.
+    /// A read, a write or a sync of the volume failed, or was refused memory.
     Device = -28,
     /// A write or a sync failed earlier, and the session is over.
     Broken = -29,
-    /// The volume doesn't take this argument.
+    /// A number is outside the range that the volume or its addresses have.
     Einval = -30,
     /// There are no addresses left.
     Enomem = -31,
-    /// The file wasn't opened for writing.
-    Eacces = -32,
-    /// It is in use already, in another way.
+    /// Memory of the file is open already in another way, or is asked for twice.
     Overlap = -33,
     /// The volume has no such file.
     NoFile = -34,
-    /// Plain memory of the file is open.
+    /// Memory of the file is open; or the session has made 2^32 - 1 commits.
     Busy = -35,
 }
 

@@ -47,7 +47,7 @@ impl Options {
         self
     }
 
-    /// How many pages more there are, for those that are stored to while a commit writes them: 0 to 64.
+    /// How many frames there are for copies besides, 0 to 64; no call of this version needs one.
     pub fn copies(&mut self, copies: u32) -> &mut Options {
         self.copies = copies;
         self

@@ -3,11 +3,15 @@
 use famsync::Code;
 use std::collections::BTreeMap;
 use std::fs;
+use std::path::Path;
 
-/// The codes below 0 of `famsync.h`: `FAMSYNC_NAME = -NUMBER`, with whatever follows.
+/// The header, from the crate: in the repository, and where both were installed.
+const PLACES: [&str; 2] = ["../c/famsync.h", "../../../include/famsync.h"];
+
+/// The codes below 0 of the header: `FAMSYNC_NAME = -NUMBER`, with whatever follows.
 fn codes_of_header() -> BTreeMap<i32, String> {
-    let path = concat!(env!("CARGO_MANIFEST_DIR"), "/../c/famsync.h");
-    let header = fs::read_to_string(path).expect("clients/c/famsync.h stands beside the crate");
+    let read = |place| fs::read_to_string(Path::new(env!("CARGO_MANIFEST_DIR")).join(place)).ok();
+    let header = PLACES.iter().find_map(read).expect("famsync.h is in one of its places");
     let named = header.lines().filter_map(|line| line.trim().strip_prefix("FAMSYNC_")?.split_once(" = -"));
     let number = |rest: &str| rest.split(|c: char| !c.is_ascii_digit()).next().and_then(|digits| digits.parse().ok());
     named.filter_map(|(name, rest)| number(rest).map(|number: i32| (-number, name.to_string()))).collect()

@@ -23,12 +23,15 @@ fn bank() -> PathBuf {
     path
 }
 
-/// Makes transfers until it is killed, after so long; the number of the last one that was acknowledged, 0 for none.
-fn killed_after(time: Duration, volume: &Path) -> i64 {
+/// Makes transfers until it is killed, so long after it began or after the first one; the number of the last one that was
+/// acknowledged, 0 for none.
+fn killed_after(time: Duration, of_the_first: bool, volume: &Path) -> i64 {
     let mut process = Command::new(bank()).arg(volume).stdout(Stdio::piped()).spawn().unwrap();
     let mut told = BufReader::new(process.stdout.take().unwrap());
     let mut lines = String::new();
-    told.read_line(&mut lines).unwrap();
+    if of_the_first {
+        told.read_line(&mut lines).unwrap();
+    }
     thread::sleep(time);
     process.kill().unwrap();
     while told.read_line(&mut lines).unwrap() > 0 {}
@@ -51,9 +54,9 @@ fn the_sum_holds() {
     let kills: u32 = env::var("KILLS").map_or(25, |kills| kills.parse().unwrap());
     let made = make_volume(2, 64, "bank=16384");
     let mut known = 0;
-    for _ in 0..kills {
-        let random = RandomState::new().build_hasher().finish();
-        known = killed_after(Duration::from_micros(random % 100_000), &made.path()).max(known);
+    for turn in 0..kills {
+        let time = Duration::from_micros(RandomState::new().build_hasher().finish() % 100_000);
+        known = killed_after(time, turn % 2 == 0, &made.path()).max(known);
         let found = found(&made.path());
         assert!((known..=known + THREADS).contains(&found), "{known} were acknowledged, and {found} are there");
         known = found;

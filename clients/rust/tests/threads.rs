@@ -83,37 +83,54 @@ fn are_of_a_moment(counts: &[u64]) -> bool {
     counts.windows(2).all(|pair| pair[0] >= pair[1]) && counts[0] - counts[counts.len() - 1] <= 1
 }
 
+/// Ends threads, also where a test fails meanwhile.
+struct Stop<'a>(&'a AtomicBool);
+
+impl Drop for Stop<'_> {
+    fn drop(&mut self) {
+        self.0.store(true, Ordering::Relaxed);
+    }
+}
+
+/// Counts until it is stopped; how far.
+fn count(words: &[AtomicU64], thread: usize, stopped: &AtomicBool) -> u64 {
+    let mut round = 0;
+    while !stopped.load(Ordering::Relaxed) {
+        round += 1;
+        (0..STEPS).for_each(|step| words[word(thread, step)].store(round, Ordering::Release));
+    }
+    round
+}
+
+/// The counts of a thread in bytes that were committed.
+fn counts(bytes: &[u8], thread: usize) -> Vec<u64> {
+    let number = |at: usize| u64::from_ne_bytes(bytes[8 * at..8 * at + 8].try_into().unwrap());
+    (0..STEPS).map(|step| number(word(thread, step))).collect()
+}
+
 #[test]
 fn words_are_stored_to_while_others_commit() {
     let made = make_volume(1, 32, "a=98304");
     let volume = Volume::open(made.path()).unwrap();
-    let (words, stopped) = (volume.words("a").unwrap(), AtomicBool::new(false));
+    let (words, stopped) = (volume.words("a").unwrap(), &AtomicBool::new(false));
     let committed = volume.map("a", .., Access::Read).unwrap();
-    let count = |thread: usize| {
-        for round in 1.. {
-            (0..STEPS).for_each(|step| words[word(thread, step)].store(round, Ordering::Release));
-            if stopped.load(Ordering::Relaxed) {
-                return round;
-            }
-        }
-        unreachable!()
-    };
-    thread::scope(|scope| {
-        let threads: Vec<_> = (0..THREADS).map(|thread| scope.spawn(move || count(thread))).collect();
-        let mut found = vec![0; 98304];
+    let mut bytes = vec![0; 98304];
+    let last: Vec<_> = thread::scope(|scope| {
+        let stop = Stop(stopped);
+        let threads: Vec<_> = (0..THREADS).map(|thread| scope.spawn(move || count(words, thread, stopped))).collect();
         for mark in 1..40 {
             assert_eq!(volume.commit().unwrap(), mark);
-            volume.load(committed, 0, &mut found).unwrap();
-            let number = |at: usize| u64::from_ne_bytes(found[8 * at..8 * at + 8].try_into().unwrap());
-            for thread in 0..THREADS {
-                let counts: Vec<_> = (0..STEPS).map(|step| number(word(thread, step))).collect();
+            volume.load(committed, 0, &mut bytes).unwrap();
+            for counts in (0..THREADS).map(|thread| counts(&bytes, thread)) {
                 assert!(are_of_a_moment(&counts), "{counts:?}");
             }
         }
-        stopped.store(true, Ordering::Relaxed);
-        let last: Vec<_> = threads.into_iter().map(|thread| thread.join().unwrap()).collect();
-        (0..THREADS).for_each(|thread| assert_eq!(words[word(thread, 0)].load(Ordering::Relaxed), last[thread]));
+        drop(stop);
+        threads.into_iter().map(|thread| thread.join().unwrap()).collect()
     });
+    volume.commit().unwrap();
+    volume.load(committed, 0, &mut bytes).unwrap();
+    (0..THREADS).for_each(|thread| assert_eq!(counts(&bytes, thread), [last[thread]; STEPS]));
 }
 
 /// Additions of several threads to one word, which is closed again and again: none is lost.
