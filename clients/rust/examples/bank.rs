@@ -31,8 +31,9 @@ fn random(seed: &mut u64, below: usize) -> usize {
     (*seed >> 33) as usize % below
 }
 
-/// Takes from one account what it gives to another, and answers the transfer's number; none where so many were made. Who
-/// stores has the volume alone, so no commit parts a transfer; who commits shares it, so threads share commits, too.
+/// Takes from one account what it gives to another, and answers the transfer's number; none where so many were made.
+/// Who stores has the volume alone, so no commit parts a transfer; who commits shares it, so threads share commits,
+/// too.
 fn transfer(volume: &RwLock<Volume>, most: i64, seed: &mut u64) -> Result<Option<i64>, famsync::Error> {
     let mut alone = volume.write().unwrap();
     let bank = alone.memory_mut("bank")?;

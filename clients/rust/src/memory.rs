@@ -6,19 +6,41 @@
 //! bytes as long as it lives. So the compiler may keep a store back until after a call, or leave it out where another
 //! one follows, be the call the one that commits. It does so: of `bytes[0] = 1; commit(); bytes[0] = 2;` the first
 //! store is gone from an optimized function that has `bytes` as an argument. A commit would be acknowledged without a
-//! store that stands before it, and another thread's commit would have any mixture.
+//! store that stands before it, and one of another thread would have any mixture.
 //!
 //! So no `&mut [u8]` may live while a commit is made, by whichever thread. The types say it: plain memory belongs to
-//! its `Volume`, a `&mut [u8]` borrows the whole of that exclusively, and `commit` borrows it shared. A `&[u8]` may live
-//! meanwhile, as a commit doesn't store to plain memory.
+//! its `Volume`, a `&mut [u8]` borrows the whole of that alone, and `commit` borrows it shared.
+//!
+//! ```compile_fail,E0502
+//! fn pay(volume: &mut famsync::Volume) {
+//!     let bank = volume.memory_mut("bank").unwrap();
+//!     std::thread::scope(|scope| {
+//!         scope.spawn(|| volume.commit());
+//!         bank[0] = 1;
+//!     });
+//! }
+//! ```
+//!
+//! A `&[u8]` may live meanwhile, as a commit doesn't store to plain memory.
 //!
 //! # Why words may be stored to meanwhile
 //!
 //! Of an atomic the compiler knows that others may read it at any time. That the library's own read of it is no data
-//! race rests on how `clients/c/src/memory.c` reads, which it promises in its header: it reads a page only while the
-//! page is closed to stores. The page is closed by `mprotect`, which returns once no processor has it open any more, so
-//! that all earlier stores come before the read. A later store raises SIGSEGV, whose handler waits for a lock that the
-//! commit gives back when it has read: so the read comes before that store.
+//! race rests on how `clients/c/src/memory.c` reads, as its header promises: it reads a page only while that is closed
+//! to stores. The page is closed by `mprotect`, which returns once no processor has it open any more, so that all
+//! earlier stores come before the read. A later store raises SIGSEGV, whose handler waits for a lock that the commit
+//! gives back when it has read: so the read comes before that store. `famsync_memory_dirty` reads pages that are open,
+//! and is asked only by who has the volume alone.
+//!
+//! Words and slices of the same bytes would be in each other's way, so a file that is shared has one view.
+//!
+//! ```compile_fail,E0502
+//! fn both(volume: &mut famsync::Volume) {
+//!     let words = volume.words("bank").unwrap();
+//!     volume.memory_mut("bank").unwrap()[0] = 1;
+//!     words[0].store(2, std::sync::atomic::Ordering::Relaxed);
+//! }
+//! ```
 
 use crate::error::{check, Code, Error};
 use crate::ffi;

@@ -70,11 +70,11 @@ pub struct File<'a> {
 /// that was acknowledged.
 ///
 /// Of each file use plain memory ([`memory_mut`](Volume::memory_mut), [`words`](Volume::words)) or a mapping
-/// ([`store`](Volume::store)), not both: memory that is open doesn't see what `store` wrote, and overwrites it where its
-/// page is stored to.
+/// ([`store`](Volume::store)), not both: memory that is open doesn't see what `store` wrote, and overwrites it where
+/// its page is stored to.
 ///
-/// Threads share a volume by reference for everything but [`memory_mut`](Volume::memory_mut) and its like, which need it
-/// alone: in an `RwLock`, or before and after a scope of threads.
+/// Threads share a volume by reference for everything but [`memory_mut`](Volume::memory_mut) and its like, which need
+/// it alone: in an `RwLock`, or before and after a scope of threads.
 pub struct Volume {
     /// One for each file; dropped before the session, which can't end as long as memory is open.
     slots: Box<[Slot]>,
@@ -180,9 +180,9 @@ impl Volume {
 /// Plain memory: a whole file as memory of this process, which is filled from the volume when it is first asked for.
 ///
 /// The first store to a page since a commit is a fault that a handler of SIGSEGV serves, which the library installs.
-/// Faults elsewhere, also those by which Rust finds that a stack has overflowed, go to the handler that was there before.
-/// A program that installs one later has to call the library's. The kernel doesn't store through a handler: to read a
-/// file into this memory fails with `EFAULT` where the page wasn't stored to; read into a buffer, and copy.
+/// Faults elsewhere, also those by which Rust finds that a stack has overflowed, go to the handler that was there
+/// before. A program that installs one later has to call the library's. The kernel doesn't store through a handler: to
+/// read a file into this memory fails with `EFAULT` where the page wasn't stored to; read into a buffer, and copy.
 ///
 /// An empty file has no memory ([`Code::Argument`]).
 impl Volume {
@@ -276,9 +276,9 @@ impl Volume {
     /// while others commit.
     ///
     /// A commit has, of all threads and all words of the volume, each store that came before some one moment within
-    /// [`commit`](Volume::commit), and none that came after it. Stores by `Ordering::Release` come in the order in which
-    /// a thread makes them. What belongs together and is several stores may be parted by a commit; where it mustn't,
-    /// have the volume in an `RwLock` and use [`memory_mut`](Volume::memory_mut).
+    /// [`commit`](Volume::commit), and none that came after it. Stores by `Ordering::Release` come in the order in
+    /// which a thread makes them. What belongs together and is several stores may be parted by a commit; where it
+    /// mustn't, have the volume in an `RwLock` and use [`memory_mut`](Volume::memory_mut).
     ///
     /// ```
     /// # include!(concat!(env!("CARGO_MANIFEST_DIR"), "/tests/volumes/mod.rs"));
@@ -308,8 +308,8 @@ impl Volume {
         Ok(self.slot_mut(file)?.plain_mut().map(Plain::dirty).unwrap_or_default())
     }
 
-    /// Gives the memory of a file back, if it is open. Its stores since the last commit are gone; but where a commit was
-    /// refused after some pages had been stored, nothing more can be committed ([`Code::Torn`]).
+    /// Gives the memory of a file back, if it is open. Its stores since the last commit are gone; but where a commit
+    /// was refused after some pages had been stored, nothing more can be committed ([`Code::Torn`]).
     pub fn close_memory(&mut self, file: &str) -> Result<(), Error> {
         self.slot_mut(file)?.close();
         Ok(())

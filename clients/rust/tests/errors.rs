@@ -1,5 +1,5 @@
-//! Codes and their words. `Device`, `Broken`, `NoMemory` and `Forked` are tried in `processes.rs`, those of accesses and of
-//! commits where these are. Not made is `Replaced`, which takes another process that renames without end.
+//! Codes and their words. `Device`, `Broken`, `NoMemory` and `Forked` are tried in `processes.rs`, those of accesses
+//! and of commits where these are. Not made is `Replaced`, which takes another process that renames without end.
 
 mod volumes;
 

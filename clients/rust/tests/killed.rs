@@ -23,8 +23,8 @@ fn bank() -> PathBuf {
     path
 }
 
-/// Makes transfers until it is killed, so long after it began or after the first one; the number of the last one that was
-/// acknowledged, 0 for none.
+/// Makes transfers until it is killed, so long after it began or after the first one; the number of the last one that
+/// was acknowledged, 0 for none.
 fn killed_after(time: Duration, of_the_first: bool, volume: &Path) -> i64 {
     let mut process = Command::new(bank()).arg(volume).stdout(Stdio::piped()).spawn().unwrap();
     let mut told = BufReader::new(process.stdout.take().unwrap());
