@@ -8,30 +8,38 @@ The volume has a file `bank`: famsync format VOLUME 1020 bank=8192. Its first 8 
 8 bytes are an account.
 """
 
+from __future__ import annotations
+
 import random
-import struct
 import sys
 
 import famsync
 
 
-def main():
+def check(numbers: memoryview) -> int:
+    total = sum(numbers[1:])
+    print(f"sum {total}, {numbers[0]} transfers")
+    return 0 if total == 0 else 1
+
+
+def transfer(volume: famsync.Volume, numbers: memoryview) -> None:
+    source, target = random.sample(range(1, len(numbers)), 2)
+    amount = random.randrange(1, 100)
+    numbers[0] += 1
+    numbers[source] -= amount
+    numbers[target] += amount
+    volume.commit()  # all three or none
+    print(f"acknowledged {numbers[0]}", flush=True)
+
+
+def main() -> int:
     path, *rest = sys.argv[1:]
-    with famsync.open(path) as volume:
-        bank = volume.map("bank")
-        numbers = list(struct.unpack(f"<{len(bank) // 8}q", bank[: len(bank) // 8 * 8]))
+    with famsync.open(path) as volume, volume.memory("bank") as bank, bank.view() as view, view.cast("q") as numbers:
         if rest == ["--check"]:
-            print(f"sum {sum(numbers[1:])}, {numbers[0]} transfers")
-            return 0 if sum(numbers[1:]) == 0 else 1
+            return check(numbers)
         left = int(rest[0]) if rest else -1
         while left != 0:
-            source, target = random.sample(range(1, len(numbers)), 2)
-            amount = random.randrange(1, 100)
-            for place, change in ((0, 1), (source, -amount), (target, amount)):
-                numbers[place] += change
-                bank[8 * place : 8 * place + 8] = struct.pack("<q", numbers[place])
-            volume.commit()
-            print(f"acknowledged {numbers[0]}", flush=True)
+            transfer(volume, numbers)
             left -= 1
     return 0
 

@@ -1,0 +1,96 @@
+"""Files whose stores become durable together.
+
+    with famsync.open("bank.vol") as volume:
+        bank = volume.memory("bank")
+        bank[0:8] = (93).to_bytes(8, "little")
+        bank[8:16] = (7).to_bytes(8, "little")
+        volume.commit()                             # both or neither, whatever happens to the machine
+
+Whatever ends this process or the system, the next session finds the files as they were at some commit, all of it and
+nothing else, and not before the last one that `commit` returned from. A volume has one session at a time.
+
+There are two ways to the bytes of a file: `Volume.memory`, a buffer to store through, and `Volume.map`, whose slices load
+and store. Where a call is refused or something fails an `Error` is raised. README.md, beside this package, says more.
+"""
+
+from __future__ import annotations
+
+from ._errors import (
+    Argument,
+    BadShape,
+    Broken,
+    Busy,
+    Damaged,
+    Device,
+    Error,
+    Forked,
+    Held,
+    InUse,
+    Invalid,
+    Locked,
+    NoAccess,
+    NoAddresses,
+    NoFile,
+    NoFrame,
+    NoMemory,
+    NotAllowed,
+    NotAVolume,
+    NotMapped,
+    NotRegular,
+    Overlap,
+    PastEnd,
+    Replaced,
+    SeveralNames,
+    Stalled,
+    Suspect,
+    System,
+    Torn,
+)
+from ._mapping import Mapping
+from ._memory import Memory
+from ._volume import Path, Volume
+
+__version__ = "0.2.0"
+
+__all__ = [
+    "Argument",
+    "BadShape",
+    "Broken",
+    "Busy",
+    "Damaged",
+    "Device",
+    "Error",
+    "Forked",
+    "Held",
+    "InUse",
+    "Invalid",
+    "Locked",
+    "Mapping",
+    "Memory",
+    "NoAccess",
+    "NoAddresses",
+    "NoFile",
+    "NoFrame",
+    "NoMemory",
+    "NotAVolume",
+    "NotAllowed",
+    "NotMapped",
+    "NotRegular",
+    "Overlap",
+    "PastEnd",
+    "Replaced",
+    "SeveralNames",
+    "Stalled",
+    "Suspect",
+    "System",
+    "Torn",
+    "Volume",
+    "open",
+]
+
+
+def open(
+    path: Path, *, trust: bool = False, frames: int = 0, copies: int = 64, foreground: bool = False
+) -> Volume:
+    """Begins a session with a volume; `Volume` says what the arguments are."""
+    return Volume(path, trust=trust, frames=frames, copies=copies, foreground=foreground)

@@ -1,0 +1,206 @@
+"""What goes wrong: a class for each code of the library, all of them `Error`."""
+
+from __future__ import annotations
+
+import ctypes
+import os
+
+from ._library import words
+
+
+class Error(Exception):
+    """A call was refused, or something failed.
+
+    `code` is that of famsync.h. Of a load or a store that ended on its way, `done` is how many bytes were loaded or
+    stored before, and `loaded` has those that were loaded.
+    """
+
+    code = 0
+
+    def __init__(self, *what: object, done: int = 0, loaded: bytes = b"") -> None:
+        super().__init__(*what)
+        self.done, self.loaded = done, loaded
+
+
+class Argument(Error, ValueError):
+    """An argument isn't one that this call takes."""
+
+    code = -1
+
+
+class NoMemory(Error, MemoryError):
+    """This process was refused memory."""
+
+    code = -2
+
+
+class System(Error, OSError):
+    """A call of the system failed; `errno` says how."""
+
+    code = -3
+
+
+class InUse(Error):
+    """The volume is open already: in another process, or in this one."""
+
+    code = -6
+
+
+class Suspect(Error):
+    """A sync of the volume failed once: it opens with trust=True."""
+
+    code = -7
+
+
+class Forked(Error):
+    """The volume was opened by the process from which this one was forked."""
+
+    code = -11
+
+
+class Torn(Error):
+    """Memory was closed of which a refused commit had stored a part: nothing more can be committed."""
+
+    code = -12
+
+
+class NotRegular(Error):
+    """The path names a folder, a device, a pipe or a socket, and no regular file."""
+
+    code = -13
+
+
+class SeveralNames(Error):
+    """The volume's file has several names, by which others may use it."""
+
+    code = -14
+
+
+class Replaced(Error):
+    """Whenever the volume's file was locked, the path named another one."""
+
+    code = -15
+
+
+class NotAVolume(Error):
+    """The file doesn't begin as a volume."""
+
+    code = -16
+
+
+class Damaged(Error):
+    """The file begins as a volume, and its bytes or its length break the format."""
+
+    code = -17
+
+
+class BadShape(Error):
+    """The volume doesn't serve so many frames or copies."""
+
+    code = -18
+
+
+class Stalled(Error):
+    """The processor isn't active."""
+
+    code = -21
+
+
+class Locked(Error):
+    """A change of the mappings is under way."""
+
+    code = -22
+
+
+class NotMapped(Error):
+    """The address isn't mapped."""
+
+    code = -23
+
+
+class NotAllowed(Error):
+    """The mapping doesn't allow this access."""
+
+    code = -24
+
+
+class PastEnd(Error):
+    """The page is past the file's end."""
+
+    code = -25
+
+
+class Held(Error):
+    """The page waits for its record."""
+
+    code = -26
+
+
+class NoFrame(Error):
+    """More pages were stored to, or added to a file, than one commit can have."""
+
+    code = -27
+
+
+class Device(Error):
+    """A read, a write or a sync of the volume failed."""
+
+    code = -28
+
+
+class Broken(Error):
+    """A write or a sync failed earlier, and the session is over."""
+
+    code = -29
+
+
+class Invalid(Error):
+    """The volume doesn't take this: a length is above the file's capacity, or the volume is of layout 1 or 2."""
+
+    code = -30
+
+
+class NoAddresses(Error):
+    """There are no addresses left."""
+
+    code = -31
+
+
+class NoAccess(Error):
+    """The file wasn't opened for writing."""
+
+    code = -32
+
+
+class Overlap(Error):
+    """Plain memory of the file is open already."""
+
+    code = -33
+
+
+class NoFile(Error):
+    """The volume has no such file."""
+
+    code = -34
+
+
+class Busy(Error):
+    """Plain memory of the file is open."""
+
+    code = -35
+
+
+CLASSES = {kind.code: kind for kind in Error.__subclasses__()}
+
+
+def check(code: int, message: str = "", done: int = 0, loaded: bytes = b"") -> None:
+    """Raises what a code says, with the library's words for it where there is no other message."""
+    if code == 0:
+        return
+    kind = CLASSES.get(code, Error)
+    if kind is System:
+        error = ctypes.get_errno()
+        raise System(error, message or os.strerror(error), done=done, loaded=loaded)
+    raised = kind(message or words(code), done=done, loaded=loaded)
+    raised.code = code
+    raise raised

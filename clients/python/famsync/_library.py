@@ -1,0 +1,75 @@
+"""The shared library: where it is found, and what its calls take. clients/c/famsync.h says what they do."""
+
+from __future__ import annotations
+
+import ctypes
+import os
+from ctypes import POINTER, c_char_p, c_int, c_size_t, c_uint, c_uint64, c_void_p
+
+NAME = "libfamsync.so.1"
+READ, WRITE = 1, 2
+
+
+class Options(ctypes.Structure):
+    """struct famsync_options"""
+
+    _fields_ = [
+        ("trust", c_int),
+        ("frames", c_uint),
+        ("copies", c_uint),
+        ("foreground", c_int),
+        ("message", c_void_p),
+        ("message_size", c_size_t),
+    ]
+
+
+# Of each call what it answers, and what it takes.
+CALLS = {
+    "famsync_open": (c_int, c_char_p, POINTER(Options), POINTER(c_void_p)),
+    "famsync_close": (c_int, c_void_p),
+    "famsync_files": (c_uint, c_void_p),
+    "famsync_file_name": (c_char_p, c_void_p, c_uint),
+    "famsync_file_length": (c_uint64, c_void_p, c_uint),
+    "famsync_frames": (c_uint, c_void_p),
+    "famsync_setlength": (c_int, c_void_p, c_char_p, c_uint64),
+    "famsync_map": (c_int, c_void_p, c_char_p, c_uint64, c_uint64, c_int, POINTER(c_uint64)),
+    "famsync_load": (c_int, c_void_p, c_uint64, c_void_p, c_size_t, POINTER(c_size_t)),
+    "famsync_store": (c_int, c_void_p, c_uint64, c_char_p, c_size_t, POINTER(c_size_t)),
+    "famsync_msync": (c_int, c_void_p, POINTER(c_uint64)),
+    "famsync_acknowledged": (c_uint64, c_void_p),
+    "famsync_strerror": (c_char_p, c_int),
+    "famsync_memory_open": (c_int, c_void_p, c_char_p, POINTER(c_void_p)),
+    "famsync_memory_at": (c_void_p, c_void_p),
+    "famsync_memory_length": (c_size_t, c_void_p),
+    "famsync_memory_dirty": (c_size_t, c_void_p),
+    "famsync_memory_close": (c_int, c_void_p),
+}
+
+
+def _place() -> str:
+    """The one that FAMSYNC_LIBRARY names, else the one beside this file, else what the system finds by its name."""
+    named = os.environ.get("FAMSYNC_LIBRARY")
+    beside = os.path.join(os.path.dirname(os.path.abspath(__file__)), NAME)
+    return named or (beside if os.path.exists(beside) else NAME)
+
+
+def _load() -> ctypes.CDLL:
+    place = _place()
+    try:
+        loaded = ctypes.CDLL(place, use_errno=True)
+        for name, (answer, *arguments) in CALLS.items():
+            call = getattr(loaded, name)
+            call.restype, call.argtypes = answer, arguments
+    except (OSError, AttributeError) as error:
+        how = f"FAMSYNC_LIBRARY in the environment says where {NAME} is"
+        raise ImportError(f"famsync: the library can't be used: {error}; {how}", path=place) from None
+    return loaded
+
+
+library = _load()
+
+
+def words(code: int) -> str:
+    """A code in words."""
+    text: bytes = library.famsync_strerror(code)
+    return text.decode()

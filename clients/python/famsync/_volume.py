@@ -1,0 +1,177 @@
+"""A session with a volume."""
+
+from __future__ import annotations
+
+import ctypes
+import operator
+import os
+import weakref
+from types import TracebackType
+from typing import Any, Dict, Optional, Type, Union
+
+from ._errors import Argument, Error, check
+from ._library import READ, WRITE, Options, library
+from ._mapping import Mapping
+from ._memory import Memory, open_memory
+from ._session import Session
+
+Path = Union[str, bytes, "os.PathLike[str]", "os.PathLike[bytes]"]
+
+
+def _number(value: Any, bits: int, what: str) -> int:
+    """A number that the library has so many bits for."""
+    number = operator.index(value)
+    if not 0 <= number < 1 << bits:
+        raise Argument(f"{what} is {number}")
+    return number
+
+
+def _name(name: str) -> bytes:
+    """A name in bytes, of which one with a null byte would be cut off there."""
+    if "\0" in name:
+        raise Argument("a file's name has no null byte")
+    return os.fsencode(name)
+
+
+def _open(path: bytes, trust: bool, frames: int, copies: int, foreground: bool) -> int:
+    said = ctypes.create_string_buffer(1024)
+    options = Options(
+        trust=bool(trust),
+        frames=_number(frames, 32, "frames"),
+        copies=_number(copies, 32, "copies"),
+        foreground=bool(foreground),
+        message=ctypes.addressof(said),
+        message_size=len(said),
+    )
+    handle = ctypes.c_void_p()
+    if b"\0" in path:
+        raise Argument("a path has no null byte")
+    code = library.famsync_open(path, ctypes.byref(options), ctypes.byref(handle))
+    check(code, said.value.decode("utf-8", "replace"))
+    assert handle.value is not None
+    return handle.value
+
+
+def _files(handle: int) -> Dict[str, int]:
+    numbers = range(library.famsync_files(handle))
+    return {
+        library.famsync_file_name(handle, file).decode(): library.famsync_file_length(handle, file)
+        for file in numbers
+    }
+
+
+class Volume:
+    """A session with the volume at `path`; `famsync.open` begins one.
+
+    `trust`: a volume whose sync failed once is opened all the same. `frames`: pages in memory, or 0 for as many as one
+    commit can have. `copies`: frames more, up to 64, for pages that are stored to while a commit writes them.
+    `foreground`: no thread of the library's own, which writes what is left of a commit while nobody calls.
+
+    Threads may share it, and their commits. At the end of a `with` it is closed.
+    """
+
+    def __init__(
+        self, path: Path, *, trust: bool = False, frames: int = 0, copies: int = 64, foreground: bool = False
+    ) -> None:
+        self._memories: weakref.WeakSet[Memory] = weakref.WeakSet()
+        handle = _open(os.fsencode(path), trust, frames, copies, foreground)
+        self.path = path
+        self._session = Session(handle, f"the volume {os.fsdecode(path)!r}")
+
+    @property
+    def files(self) -> Dict[str, int]:
+        """The files and their lengths, as this session has set them."""
+        return self._session.call(_files)
+
+    @property
+    def frames(self) -> int:
+        """How many pages of 4,096 bytes one commit can have."""
+        frames: int = self._session.call(library.famsync_frames)
+        return frames
+
+    @property
+    def acknowledged(self) -> int:
+        """The number of the last commit that was acknowledged, 0 where none was."""
+        mark: int = self._session.call(library.famsync_acknowledged)
+        return mark
+
+    def memory(self, name: str) -> Memory:
+        """Plain memory of a whole file, which has a byte at least."""
+        return self._session.call(self._open_memory, name)
+
+    def _open_memory(self, handle: int, name: str) -> Memory:
+        pointer = ctypes.c_void_p()
+        check(library.famsync_memory_open(handle, _name(name), ctypes.byref(pointer)))
+        assert pointer.value is not None
+        memory = open_memory(self, name, pointer.value)
+        self._memories.add(memory)
+        return memory
+
+    def map(self, name: str, offset: int = 0, length: int = 0, write: bool = True) -> Mapping:
+        """Maps pages of a file from `offset` on, a multiple of 4,096; a length of 0 is up to the file's end."""
+        return self._session.call(self._map, name, _number(offset, 64, "offset"), _number(length, 64, "length"), write)
+
+    def _map(self, handle: int, name: str, offset: int, length: int, write: bool) -> Mapping:
+        address = ctypes.c_uint64()
+        length = length or max(0, _files(handle).get(name, 0) - offset)
+        rights = READ | WRITE if write else READ
+        check(library.famsync_map(handle, _name(name), offset, length, rights, ctypes.byref(address)))
+        return Mapping(self._session, name, address.value, length)
+
+    def set_length(self, name: str, length: int) -> None:
+        """Sets the length of a file, up to its capacity, in a volume of layout 3; else Invalid. Bytes past a new end are
+        gone, and what a file grows by is zeros; the pages that it grows by go into the next commit, and NoFrame says
+        that one can't have them all. Like a store it is durable after that commit.
+
+        Busy as long as plain memory of the file is open. A mapping stays as it is: its pages past the file's end answer
+        PastEnd, and can be used once the file is long enough."""
+        check(self._session.call(library.famsync_setlength, _name(name), _number(length, 64, "length")))
+
+    def commit(self) -> int:
+        """Makes all stores of this session durable, all of them or none, and returns the commit's number, counted from
+        1, once they are. Where it is refused, all stores still wait for a commit."""
+        mark = ctypes.c_uint64()
+        check(self._session.call(library.famsync_msync, ctypes.byref(mark)))
+        return mark.value
+
+    def close(self) -> None:
+        """Ends the session, and closes its plain memory; stores since the last commit are gone. It waits for the calls
+        of other threads. BufferError where somebody has a buffer of plain memory: then the volume stays open. Device
+        where a write or a sync failed: then it is closed, and what was acknowledged is kept."""
+        handle = self._session.take()
+        if handle is None:
+            return
+        try:
+            for memory in list(self._memories):
+                memory.close()
+        except BaseException:
+            self._session.give_back(handle)
+            raise
+        code = library.famsync_close(handle)
+        if code == Argument.code:
+            # of a Memory that was dropped there is a view
+            self._session.give_back(handle)
+            raise BufferError("the volume can't be closed while somebody has a buffer of its memory")
+        check(code)
+
+    def __enter__(self) -> Volume:
+        return self
+
+    def __exit__(
+        self, kind: Optional[Type[BaseException]], value: Optional[BaseException], trace: Optional[TracebackType]
+    ) -> None:
+        try:
+            self.close()
+        except (Error, BufferError):
+            if kind is None:
+                raise
+
+    def __del__(self) -> None:
+        if hasattr(self, "_session"):
+            try:
+                self.close()
+            except (Error, BufferError):
+                pass
+
+    def __repr__(self) -> str:
+        return f"<famsync.Volume {os.fsdecode(self.path)!r}>"

@@ -1,0 +1,199 @@
+"""Each code is a class, and what makes it."""
+
+import os
+import pickle
+import re
+import resource
+import socket
+import unittest
+from contextlib import contextmanager
+
+from support import PAGE, TOP, InAFolder, famsync
+from famsync import _errors
+
+
+@contextmanager
+def limited(kind, limit):
+    before = resource.getrlimit(kind)
+    resource.setrlimit(kind, (limit, before[1]))
+    try:
+        yield
+    finally:
+        resource.setrlimit(kind, before)
+
+
+class Classes(unittest.TestCase):
+    def test_they_are_those_of_the_header(self):
+        with open(f"{TOP}/clients/c/famsync.h", encoding="utf-8") as header:
+            codes = [int(code) for code in re.findall(r"FAMSYNC_[A-Z]+ = (-[0-9]+)", header.read())]
+        self.assertGreater(len(codes), 20)
+        self.assertEqual(sorted(_errors.CLASSES), sorted(codes))
+
+    def test_each_is_an_error_with_its_words(self):
+        for code, kind in _errors.CLASSES.items():
+            with self.assertRaises(kind) as caught:
+                _errors.check(code)
+            self.assertIsInstance(caught.exception, famsync.Error)
+            self.assertEqual(caught.exception.code, code)
+            self.assertNotIn("no such code", str(caught.exception))
+            self.assertIs(getattr(famsync, kind.__name__), kind)
+            self.assertIn(kind.__name__, famsync.__all__)
+
+    def test_those_that_python_has_a_class_for(self):
+        self.assertTrue(issubclass(famsync.Argument, ValueError))
+        self.assertTrue(issubclass(famsync.NoMemory, MemoryError))
+        self.assertTrue(issubclass(famsync.System, OSError))
+
+    def test_a_code_of_a_later_library(self):
+        with self.assertRaises(famsync.Error) as caught:
+            _errors.check(-99)
+        self.assertEqual((type(caught.exception), caught.exception.code), (famsync.Error, -99))
+
+    def test_they_can_be_pickled(self):
+        for error in (famsync.System(2, "nowhere"), famsync.NoFrame("full", done=3, loaded=b"abc")):
+            again = pickle.loads(pickle.dumps(error))
+            self.assertEqual((type(again), again.args, again.done), (type(error), error.args, error.done))
+
+
+class Opening(InAFolder):
+    def refuses(self, kind, path="v.img", said=None, **options):
+        with self.assertRaisesRegex(kind, said or re.escape(path)) as caught:
+            famsync.open(path, **options)
+        return caught.exception
+
+    def test_paths(self):
+        self.assertEqual(self.refuses(famsync.System, "nowhere.img").errno, 2)
+        self.refuses(famsync.NotRegular, ".")
+        self.refuses(famsync.NotRegular, "/dev/null")
+        with socket.socket(socket.AF_UNIX) as bound:
+            bound.bind("socket")
+            self.refuses(famsync.NotRegular, "socket")
+        os.link("v.img", "other")
+        self.refuses(famsync.SeveralNames)
+        for path in ("", "v.img\0"):
+            self.refuses(famsync.Argument, path, said=".")
+        with self.assertRaises(TypeError):
+            famsync.open(1)
+
+    def test_in_use(self):
+        with famsync.open("v.img"):
+            self.refuses(famsync.InUse)
+        famsync.open("v.img").close()
+
+    def test_suspect(self):
+        with open("v.img.suspect", "w", encoding="utf-8"):
+            pass
+        self.refuses(famsync.Suspect, said="v.img.suspect")
+        famsync.open("v.img", trust=True).close()
+        famsync.open("v.img").close()
+
+    def test_bytes(self):
+        with open("v.img", "r+b") as file:
+            file.truncate(os.path.getsize("v.img") - 1)
+        self.refuses(famsync.Damaged)
+        self.make(16, "a=1")
+        with open("v.img", "r+b") as file:
+            file.seek(PAGE)
+            file.write(b"\xa7")  # an open gate, and no descriptor
+        self.refuses(famsync.Damaged)
+        with open("v.img", "r+b") as file:
+            file.write(b"FAMSYNC9")
+        self.refuses(famsync.NotAVolume)
+        os.truncate("v.img", 0)
+        self.refuses(famsync.NotAVolume)
+
+
+class InASession(InAFolder):
+    slots = 8
+    files = ("a=131072", "b=5000")
+
+    def test_names_and_numbers(self):
+        volume = self.opened()
+        for call in (volume.memory, volume.map, lambda name: volume.set_length(name, 1)):
+            self.assertRaises(famsync.NoFile, call, "c")
+            self.assertRaises(famsync.Argument, call, "a\0")
+            self.assertRaises(TypeError, call, 1)
+        for offset, length in ((1, 0), (-PAGE, 0), (0, -1), (0, 1 << 64), (1 << 20, 0)):
+            self.assertRaises(famsync.Argument, volume.map, "a", offset, length)
+        self.assertRaises(famsync.NoAddresses, volume.map, "a", 0, (1 << 47) - PAGE)
+        self.assertEqual(volume.commit(), 1)
+
+    def test_invalid_in_a_layout_without_lengths(self):
+        self.assertRaises(famsync.Invalid, self.opened().set_length, "a", 5000)
+
+    def test_accesses(self):
+        volume = self.opened()
+        self.assertRaises(famsync.NotAllowed, volume.map("b", write=False).__setitem__, 0, 1)
+        mapping = volume.map("b", length=16384)
+        mapping[0:3] = b"abc"
+        with self.assertRaises(famsync.PastEnd) as caught:
+            mapping[0:9000]
+        self.assertEqual((caught.exception.done, caught.exception.loaded), (8192, b"abc" + bytes(8189)))
+        with self.assertRaises(famsync.PastEnd) as caught:
+            mapping[8190:8200] = b"x" * 10
+        self.assertEqual((caught.exception.done, caught.exception.loaded), (2, b""))
+
+    def test_more_pages_than_a_commit_has(self):
+        volume = self.opened()
+        with self.assertRaises(famsync.NoFrame) as caught:
+            volume.map("a")[:] = b"x" * 131072
+        self.assertEqual(caught.exception.done, 8 * PAGE)
+        self.assertEqual(volume.commit(), 1)
+        memory = volume.memory("a")
+        for page in range(9):
+            memory[2 * page * PAGE] = 1
+        self.assertRaises(famsync.NoFrame, volume.commit)
+        self.assertEqual((memory.dirty, volume.acknowledged), (9, 1))
+        memory.close()
+        self.assertEqual(volume.commit(), 2)
+
+    def test_torn(self):
+        volume = self.opened()
+        memory, mapping = volume.memory("a"), volume.map("a", 16 * PAGE)
+        mapping[0 : 4 * PAGE] = b"9" * (4 * PAGE)
+        for page in range(6):
+            memory[2 * page * PAGE] = 3
+        self.assertRaises(famsync.NoFrame, volume.commit)
+        memory.close()
+        self.assertRaises(famsync.Torn, volume.commit)
+
+    def test_memory_is_open(self):
+        volume = self.opened()
+        with volume.memory("a"):
+            self.assertRaises(famsync.Overlap, volume.memory, "a")
+            self.assertRaises(famsync.Busy, volume.set_length, "a", 1)
+
+    def test_device(self):
+        volume = self.opened()
+        mapping = volume.map("a")
+        mapping[0:5] = b"first"
+        with limited(resource.RLIMIT_FSIZE, PAGE):
+            self.assertRaises(famsync.Device, volume.commit)
+            self.assertRaises(famsync.Broken, volume.commit)
+        self.assertRaises(famsync.Broken, volume.map, "a")
+        self.assertEqual(volume.acknowledged, 0)
+        self.assertRaises(famsync.Device, volume.close)
+        volume.close()
+        with famsync.open("v.img") as volume:
+            self.assertEqual(volume.map("a")[0:5], bytes(5))
+
+    def test_a_read_that_fails(self):
+        volume = self.opened()
+        mapping, blocks = volume.map("a"), os.path.getsize("v.img") // PAGE
+        with open("v.img", "r+b") as file:
+            file.truncate((blocks - 10) * PAGE)
+        with self.assertRaises(famsync.Device):
+            mapping[100000:131072]
+
+    def test_no_memory(self):
+        self.make(8, f"big={1 << 28}")
+        volume = self.opened()
+        with open("/proc/self/statm", encoding="ascii") as file:
+            used = int(file.read().split()[0]) * resource.getpagesize()
+        with limited(resource.RLIMIT_AS, used + (1 << 26)):
+            self.assertRaises(famsync.NoMemory, volume.memory, "big")
+        self.assertEqual(volume.commit(), 1)
+
+
+if __name__ == "__main__":
+    unittest.main()

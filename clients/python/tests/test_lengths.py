@@ -1,0 +1,56 @@
+"""Lengths that are set, in a volume of layout 3."""
+
+import unittest
+
+from support import PAGE, InAFolder, famsync
+
+
+class Lengths(InAFolder):
+    slots, files, layout = 6, ("a=5000/40000", "b=0/4096"), 3
+
+    def test_what_is_refused(self):
+        volume = self.opened()
+        self.assertEqual((volume.frames, volume.files), (5, {"a": 5000, "b": 0}))
+        self.assertRaises(famsync.Invalid, volume.set_length, "a", 40001)
+        for length in (-1, 1 << 64):
+            self.assertRaises(famsync.Argument, volume.set_length, "a", length)
+        self.assertRaises(TypeError, volume.set_length, "a", "1")
+        self.assertRaises(famsync.NoFrame, volume.set_length, "a", 40000)
+        self.assertRaises(famsync.Argument, volume.memory, "b")
+        self.assertEqual(volume.files, {"a": 5000, "b": 0})
+
+    def test_it_grows_and_shrinks(self):
+        with famsync.open("v.img") as volume:
+            mapping = volume.map("a", length=40000)
+            mapping[4999] = 5
+            self.assertRaises(famsync.PastEnd, lambda: mapping[2 * PAGE])
+            volume.set_length("a", 20000)
+            mapping[19999] = 2
+            self.assertEqual((volume.files["a"], mapping[4998:5001]), (20000, b"\0\5\0"))
+            self.assertRaises(famsync.PastEnd, lambda: mapping[20480])
+            volume.commit()
+            volume.set_length("a", 30000)
+            volume.set_length("b", 1)
+        with famsync.open("v.img") as volume:
+            self.assertEqual(volume.files, {"a": 20000, "b": 0})
+            volume.set_length("a", 10)
+            volume.commit()
+            volume.set_length("a", 5000)
+            self.assertEqual(volume.map("a")[4990:5000], bytes(10))
+        with famsync.open("v.img") as volume:
+            self.assertEqual(volume.files["a"], 10)
+
+    def test_memory_has_the_length_with_which_it_was_opened(self):
+        volume = self.opened()
+        with volume.memory("a") as memory:
+            memory[4999] = 5
+            self.assertRaises(famsync.Busy, volume.set_length, "a", 20000)
+            volume.set_length("b", 4096)
+            volume.commit()
+        volume.set_length("a", 20000)
+        with volume.memory("a") as memory, volume.memory("b") as other:
+            self.assertEqual((len(memory), len(other), memory[4999], memory[5000]), (20000, 4096, 5, 0))
+
+
+if __name__ == "__main__":
+    unittest.main()

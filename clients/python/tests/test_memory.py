@@ -1,0 +1,229 @@
+"""Plain memory: what is stored to it by each kind of buffer, and when it can be closed."""
+
+import array
+import ctypes
+import gc
+import struct
+import sys
+import unittest
+
+from support import PAGE, InAFolder, famsync, run_python
+
+try:
+    import numpy
+except ImportError:
+    numpy = None
+
+ANSWERS = sys.version_info >= (3, 12)
+
+
+class Stores(InAFolder):
+    def setUp(self):
+        super().setUp()
+        self.volume = self.opened()
+        self.memory = self.volume.memory("a")
+
+    def kept(self, begin, end):
+        """What the next session finds, where this one commits what it stored."""
+        self.volume.commit()
+        self.volume.close()
+        with famsync.open("v.img") as volume:
+            return volume.map("a")[begin:end]
+
+    def test_keys(self):
+        memory = self.memory
+        self.assertEqual(len(memory), 20000)
+        memory[0:5] = b"hello"
+        memory[-1] = 7
+        memory[10:16:2] = b"abc"
+        self.assertEqual((memory[0], memory[-1], memory[19999], memory[1:4], memory[5:5]), (104, 7, 7, b"ell", b""))
+        self.assertEqual((memory[10:16], memory[4:0:-2]), (b"a\0b\0c\0", b"ol"))
+        for place in (20000, -20001):
+            self.assertRaises(IndexError, lambda: memory[place])
+            self.assertRaises(IndexError, memory.__setitem__, place, 1)
+        self.assertRaises(ValueError, memory.__setitem__, slice(0, 2), b"123")
+        self.assertRaises(ValueError, memory.__setitem__, 0, 256)
+        self.assertRaises(TypeError, memory.__setitem__, 0, b"1")
+        self.assertRaises(TypeError, memory.__setitem__, slice(0, 1), "1")
+        self.assertRaises(TypeError, lambda: memory["a"])
+        self.assertEqual(self.kept(0, 5), b"hello")
+
+    def test_struct(self):
+        struct.pack_into("<qq", self.memory, PAGE - 8, -1, 93)
+        self.assertEqual(struct.unpack_from("<q", self.memory, PAGE), (93,))
+        self.assertRaises(struct.error, struct.pack_into, "<q", self.memory, 19993, 1)
+        self.assertEqual(self.kept(PAGE - 8, PAGE + 8), b"\xff" * 8 + b"\x5d" + bytes(7))
+
+    def test_memoryview(self):
+        with memoryview(self.memory) as view:
+            self.assertEqual((view.format, view.shape, view.readonly, view.contiguous), ("B", (20000,), False, True))
+            view[0], view[1:3] = 1, b"ab"
+            with view[8:24].cast("q") as numbers:
+                numbers[1] -= 2
+        self.assertEqual(bytes(self.memory)[:4], b"\1ab\0")
+        self.assertEqual(self.kept(0, 24), b"\1ab" + bytes(13) + b"\xfe" + b"\xff" * 7)
+
+    def test_view(self):
+        with self.memory.view() as view, view[:16].cast("q") as numbers:
+            self.assertEqual((view.format, view.nbytes, view.readonly), ("B", 20000, False))
+            numbers[0] += 5
+        self.assertEqual(self.kept(0, 8), b"\5" + bytes(7))
+
+    def test_other_buffers(self):
+        self.memory[0:16] = array.array("q", [1, 2])
+        self.memory[16:20] = memoryview(b"a-b-c-d-")[::2]
+        self.memory[20:22] = bytearray(b"xy")
+        counter = ctypes.c_int64.from_buffer(self.memory, 32)
+        counter.value -= 1
+        del counter
+        self.memory[40:48] = self.memory[32:40]
+        with open("copy", "wb") as file:
+            file.write(self.memory)
+        with open("copy", "rb") as file:
+            self.assertEqual(file.read(), bytes(self.memory))
+        found = self.kept(0, 48)
+        self.assertEqual(found[:32], struct.pack("<qq6s10x", 1, 2, b"abcdxy"))
+        self.assertEqual(found[32:], b"\xff" * 16)
+
+    @unittest.skipIf(numpy is None, "there is no numpy here")
+    def test_numpy(self):
+        balance = numpy.frombuffer(self.memory.view(), "<i8")
+        self.assertEqual(balance.shape, (2500,))
+        balance[3] -= 7
+        balance[9] += 7
+        self.assertRaises(BufferError, self.memory.close)
+        other = numpy.frombuffer(self.memory, "<i8", 16)
+        self.assertEqual((other[3], other.sum()), (-7, 0))
+        del other, balance
+        self.assertEqual(self.kept(72, 80), b"\7" + bytes(7))
+
+    def test_dirty(self):
+        self.assertEqual(self.memory.dirty, 0)
+        self.memory[0] = self.memory[PAGE] = self.memory[19999] = 1
+        self.assertEqual((self.memory.dirty, self.volume.commit(), self.memory.dirty), (3, 1, 0))
+
+    def test_the_kernel_stores_where_something_was_stored(self):
+        with open("bytes", "wb") as file:
+            file.write(b"hello")
+        with open("bytes", "rb", buffering=0) as file, self.memory.view() as view:
+            with self.assertRaises(OSError) as caught:
+                file.readinto(view)
+            self.assertEqual(caught.exception.errno, 14)  # EFAULT
+            view[0] = 0
+            self.assertEqual(file.readinto(view), 5)
+        self.assertEqual(self.kept(0, 5), b"hello")
+
+
+class Closes(InAFolder):
+    def setUp(self):
+        super().setUp()
+        self.volume = self.opened()
+
+    def test_each_use_of_one_that_is_closed(self):
+        memory = self.volume.memory("a")
+        memory[0] = 1
+        memory.close()
+        uses = [lambda: memory[0], lambda: memory[0:1], lambda: memory.__setitem__(0, 1), lambda: len(memory)]
+        uses += [lambda: memory.dirty, memory.view, memory.__enter__, lambda: memory.__setitem__(slice(0, 1), b"1")]
+        for use in uses:
+            self.assertRaisesRegex(ValueError, "the memory of 'a' is closed", use)
+        memory.close()
+        self.assertIn("closed", repr(memory))
+        with self.volume.memory("a") as again:
+            self.assertEqual(again[0], 0)
+
+    def test_the_buffer_of_one_that_is_closed(self):
+        memory = self.volume.memory("a")
+        memory.close()
+        if ANSWERS:
+            self.assertRaises(ValueError, memoryview, memory)
+            self.assertRaises((ValueError, TypeError), struct.pack_into, "<q", memory, 0, 1)
+        else:
+            self.assertRaises(struct.error, struct.pack_into, "<q", memory, 0, 1)
+            self.assertEqual(memoryview(memory).shape, (1,))
+        self.assertIsInstance(memory, famsync.Memory)
+
+    def test_it_is_not_closed_under_a_buffer(self):
+        memory = self.volume.memory("a")
+        for take in (memory.view, lambda: memoryview(memory), lambda: memory.view()[8:16].cast("q"),
+                     lambda: ctypes.c_int64.from_buffer(memory.view()), lambda: ctypes.c_int64.from_buffer(memory)):
+            taken = take()
+            self.assertRaises(BufferError, memory.close)
+            self.assertRaises(BufferError, self.volume.close)
+            memory[0] = 1
+            self.assertEqual(len(memory), 20000)
+            del taken
+        self.assertGreater(self.volume.commit(), 0)
+        memory.close()
+
+    def test_it_is_closed_once_the_buffer_is_released(self):
+        with self.volume.memory("a") as memory:
+            view = memory.view()
+            try:
+                memory.close()
+            except BufferError:
+                view.release()
+                memory.close()
+        self.assertRaises(ValueError, lambda: view[0])
+
+    def test_views_of_one_that_is_dropped(self):
+        view = self.volume.memory("a").view()
+        gc.collect()
+        view[0] = 5
+        self.assertEqual(self.volume.commit(), 1)
+        self.assertRaises(famsync.Overlap, self.volume.memory, "a")
+        self.assertRaises(BufferError, self.volume.close)
+        view.release()
+        with self.volume.memory("a") as memory:
+            self.assertEqual(memory[0], 5)
+
+    def test_an_error_on_its_way_is_kept(self):
+        with self.assertRaises(ZeroDivisionError):
+            with self.volume.memory("a") as memory:
+                view = memory.view()
+                view[0] = 1 // 0
+        view.release()
+        memory.close()
+
+    def test_a_with_whose_memory_is_used_after_it(self):
+        memory = self.volume.memory("a")
+        with self.assertRaises(BufferError):
+            with memory:
+                view = memory.view()
+        view.release()
+
+    def test_many(self):
+        for number in range(300):
+            with self.volume.memory("a") as memory:
+                self.assertEqual(memory[0], number % 256)
+                memory[0] = (number + 1) % 256
+                self.volume.commit()
+
+
+class OtherFaults(InAFolder):
+    BEGIN = "import ctypes, faulthandler, famsync\nvolume = famsync.open('v.img')\n"
+    STORE = "volume.memory('a')[0] = 1\nprint('stored', flush=True)\n"
+
+    def ends(self, code):
+        ended = run_python(self.BEGIN + code)
+        return ended.returncode, ended.stdout, "Fatal Python error: Segmentation fault" in ended.stderr
+
+    def test_a_fault_elsewhere_ends_the_process(self):
+        self.assertEqual(self.ends(self.STORE + "ctypes.string_at(8)"), (-11, "stored\n", False))
+
+    def test_faulthandler_that_is_enabled_before(self):
+        enable = "faulthandler.enable()\n"
+        self.assertEqual(self.ends(enable + self.STORE), (0, "stored\n", False))
+        self.assertEqual(self.ends(enable + self.STORE + "ctypes.string_at(8)"), (-11, "stored\n", True))
+
+    def test_faulthandler_that_is_enabled_or_disabled_after(self):
+        memory = "memory = volume.memory('a')\n"
+        store = "memory[0] = 1\nprint('stored')\n"
+        self.assertEqual(self.ends(memory + "faulthandler.enable()\n" + store), (-11, "", True))
+        self.assertEqual(
+            self.ends("faulthandler.enable()\n" + memory + "faulthandler.disable()\n" + store), (-11, "", False)
+        )
+
+
+if __name__ == "__main__":
+    unittest.main()

@@ -1,0 +1,93 @@
+"""How a session begins and ends."""
+
+import gc
+import os
+import pathlib
+import unittest
+
+from support import InAFolder, famsync
+
+
+class Begins(InAFolder):
+    def test_what_a_volume_has(self):
+        with famsync.open("v.img") as volume:
+            self.assertEqual(volume.files, {"a": 20000, "b": 5000})
+            self.assertEqual((volume.frames, volume.acknowledged), (16, 0))
+            self.assertIn("v.img", repr(volume))
+
+    def test_each_kind_of_path(self):
+        os.symlink("v.img", "link")
+        for path in ("v.img", b"v.img", pathlib.Path("v.img"), os.path.abspath("v.img"), "link"):
+            with famsync.open(path) as volume:
+                self.assertEqual(volume.commit(), 1)
+
+    def test_options(self):
+        with famsync.open("v.img", frames=3, copies=2, foreground=True) as volume:
+            self.assertEqual(volume.frames, 3)
+        for options in ({"frames": 17}, {"copies": 65}):
+            with self.assertRaises(famsync.BadShape):
+                famsync.open("v.img", **options)
+        for options in ({"frames": -1}, {"frames": 1 << 32}, {"copies": -1}):
+            with self.assertRaises(famsync.Argument):
+                famsync.open("v.img", **options)
+        with self.assertRaises(TypeError):
+            famsync.open("v.img", frames="3")
+
+    def test_foreground_has_no_thread(self):
+        for foreground, threads in ((True, 0), (False, 1)):
+            before = len(os.listdir("/proc/self/task"))
+            with famsync.open("v.img", foreground=foreground):
+                self.assertEqual(len(os.listdir("/proc/self/task")) - before, threads)
+
+
+class Ends(InAFolder):
+    def test_stores_that_were_not_committed_are_gone(self):
+        with famsync.open("v.img") as volume:
+            a, b = volume.memory("a"), volume.map("b")
+            a[0:5], b[0:5] = b"first", b"first"
+            volume.commit()
+            a[0:5], b[0:5] = b"other", b"other"
+        with famsync.open("v.img") as volume:
+            self.assertEqual((volume.memory("a")[0:5], volume.map("b")[0:5]), (b"first", b"first"))
+
+    def test_every_call_of_a_closed_one(self):
+        volume = famsync.open("v.img")
+        mapping = volume.map("a")
+        volume.close()
+        calls = [volume.commit, lambda: volume.files, lambda: volume.frames, lambda: volume.acknowledged]
+        calls += [lambda: volume.memory("a"), lambda: volume.map("a"), lambda: volume.set_length("a", 1)]
+        calls += [lambda: mapping[0], lambda: mapping[0:0], lambda: mapping.__setitem__(0, 1)]
+        for call in calls:
+            with self.assertRaisesRegex(ValueError, "the volume 'v.img' is closed"):
+                call()
+        volume.close()
+        self.assertIn("v.img", repr(volume))
+
+    def test_one_that_is_dropped(self):
+        volume = famsync.open("v.img")
+        volume.memory("a")[0] = 1
+        del volume
+        gc.collect()
+        with famsync.open("v.img") as volume:
+            self.assertEqual(volume.memory("a")[0], 0)
+
+    def test_memory_keeps_it_open(self):
+        memory = famsync.open("v.img").memory("a")
+        with self.assertRaises(famsync.InUse):
+            famsync.open("v.img")
+        memory[0] = 1
+        del memory
+        gc.collect()
+        famsync.open("v.img").close()
+
+    def test_an_error_on_its_way_is_kept(self):
+        with self.assertRaises(ZeroDivisionError):
+            with famsync.open("v.img") as volume:
+                view = volume.memory("a").view()
+                view[0] = 1 // 0
+        view.release()
+        volume.close()
+
+
+if __name__ == "__main__":
+    unittest.main()

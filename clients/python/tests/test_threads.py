@@ -1,0 +1,147 @@
+"""Threads: commits that are shared, stores meanwhile, and a session that is ended under them."""
+
+import threading
+import time
+import unittest
+
+from support import PAGE, InAFolder, famsync
+
+THREADS = 4
+ROUNDS = 30
+
+
+def together(*works):
+    """What threads answered, or the first thing that one raised."""
+    answers, raised = {}, []
+
+    def run(number, work):
+        try:
+            answers[number] = work()
+        except BaseException as error:
+            raised.append(error)
+
+    threads = [threading.Thread(target=run, args=one) for one in enumerate(works)]
+    for thread in threads:
+        thread.start()
+    for thread in threads:
+        thread.join(60)
+    if raised:
+        raise raised[0]
+    return [answers[number] for number in range(len(works))]
+
+
+class Threads(InAFolder):
+    slots, files = 64, ("a=131072", "b=8192")
+
+    def test_commits(self):
+        volume = self.opened()
+        memory, mapping = volume.memory("a"), volume.map("b")
+
+        def work(number):
+            marks = []
+            for turn in range(1, ROUNDS + 1):
+                memory[number * PAGE : number * PAGE + 8] = turn.to_bytes(8, "little")
+                mapping[8 * number : 8 * number + 8] = turn.to_bytes(8, "little")
+                marks.append(volume.commit())
+                self.assertGreaterEqual(volume.acknowledged, marks[-1])
+            return marks
+
+        for marks in together(*[lambda number=number: work(number) for number in range(THREADS)]):
+            self.assertEqual(marks, sorted(set(marks)))
+        self.assertLessEqual(volume.acknowledged, THREADS * ROUNDS)
+        volume.close()
+        with famsync.open("v.img") as volume:
+            for number in range(THREADS):
+                self.assertEqual(int.from_bytes(volume.map("a")[number * PAGE :][:8], "little"), ROUNDS)
+                self.assertEqual(int.from_bytes(volume.map("b")[8 * number :][:8], "little"), ROUNDS)
+
+    def test_stores_while_others_commit(self):
+        """A commit has each store that came before one moment, and none that came after it: a thread stores the same
+        number to one page after the other, so that no page that is found is ahead of one before it."""
+        volume = self.opened()
+        memory, done = volume.memory("a"), threading.Event()
+        pages = range(0, 131072, PAGE)
+
+        def store():
+            number = 0
+            while not done.is_set():
+                number += 1
+                for page in pages:
+                    memory[page : page + 8] = number.to_bytes(8, "little")
+            return number
+
+        def commit():
+            marks = [volume.commit() for _ in range(ROUNDS)]
+            done.set()
+            return marks[-1]
+
+        self.assertEqual(together(store, commit)[1], ROUNDS)
+        volume.close()
+        with famsync.open("v.img") as volume:
+            found = volume.map("a")
+            numbers = [int.from_bytes(found[page : page + 8], "little") for page in pages]
+        self.assertEqual(numbers, sorted(numbers, reverse=True))
+        self.assertLessEqual(numbers[0] - numbers[-1], 1)
+
+    def test_close_waits_for_calls(self):
+        for _ in range(20):
+            volume = self.opened()
+            memory = volume.memory("a")
+            begun = threading.Event()
+
+            def commit():
+                try:
+                    while True:
+                        with memoryview(b"12345678") as value:
+                            memory[0:8] = value
+                        volume.commit()
+                        begun.set()
+                except ValueError as error:
+                    return str(error)
+
+            def close():
+                begun.wait(60)
+                while True:
+                    try:
+                        return volume.close()
+                    except BufferError:  # one of the stores was being made
+                        time.sleep(0.001)
+
+            for said in together(commit, commit, close)[:2]:
+                self.assertRegex(said, "closed|released")
+
+    def test_close_by_several(self):
+        for _ in range(20):
+            volume = self.opened()
+            volume.map("a")[0] = 1
+            volume.commit()
+            together(*[volume.close] * THREADS)
+            self.assertRaises(ValueError, volume.commit)
+
+    def test_close_from_within_a_call(self):
+        volume = self.opened()
+        with self.assertRaises(RuntimeError):
+            volume._session.call(lambda handle: volume.close())
+        self.assertEqual(volume.commit(), 1)
+
+    def test_python_runs_while_a_commit_waits(self):
+        """A commit holds no lock of the interpreter: another thread counts meanwhile."""
+        volume = self.opened()
+        memory, done, counted = volume.memory("a"), threading.Event(), []
+
+        def count():
+            while not done.is_set():
+                counted.append(1)
+
+        def commit():
+            while len(counted) < 1000:
+                memory[0] = (memory[0] + 1) % 256
+                volume.commit()
+            done.set()
+
+        together(count, commit)
+        self.assertGreaterEqual(len(counted), 1000)
+
+
+if __name__ == "__main__":
+    unittest.main()
