@@ -9,8 +9,8 @@
 Whatever ends this process or the system, the next session finds the files as they were at some commit, all of it and
 nothing else, and not before the last one that `commit` returned from. A volume has one session at a time.
 
-There are two ways to the bytes of a file: `Volume.memory`, a buffer to store through, and `Volume.map`, whose slices load
-and store. Where a call is refused or something fails an `Error` is raised. README.md, beside this package, says more.
+There are two ways to the bytes of a file: `Volume.memory`, a buffer to store through, and `Volume.map`, whose slices
+load and store. Where a call is refused or something fails an `Error` is raised.
 """
 
 from __future__ import annotations
@@ -24,11 +24,8 @@ from ._errors import (
     Device,
     Error,
     Forked,
-    Held,
     InUse,
     Invalid,
-    Locked,
-    NoAccess,
     NoAddresses,
     NoFile,
     NoFrame,
@@ -41,7 +38,6 @@ from ._errors import (
     PastEnd,
     Replaced,
     SeveralNames,
-    Stalled,
     Suspect,
     System,
     Torn,
@@ -61,13 +57,10 @@ __all__ = [
     "Device",
     "Error",
     "Forked",
-    "Held",
     "InUse",
     "Invalid",
-    "Locked",
     "Mapping",
     "Memory",
-    "NoAccess",
     "NoAddresses",
     "NoFile",
     "NoFrame",
@@ -80,7 +73,6 @@ __all__ = [
     "PastEnd",
     "Replaced",
     "SeveralNames",
-    "Stalled",
     "Suspect",
     "System",
     "Torn",

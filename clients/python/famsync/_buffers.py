@@ -1,8 +1,8 @@
 """How an object whose bytes lie elsewhere is a buffer.
 
 From Python 3.12 on `Memory.__buffer__` answers who asks for its buffer. Before, only a type that is made in C is asked,
-and one of ctypes is made for bytes at an address: there `Memory` is an array of it, too. Such an array doesn't count who
-has its buffer, and keeps its address to the end; what is done about the two is the rest of this file.
+and one of ctypes is made for bytes at an address: there `Memory` is an array of it, too. Such an array doesn't count
+who has its buffer, and keeps its address to the end; what is done about the two is the rest of this file.
 """
 
 from __future__ import annotations

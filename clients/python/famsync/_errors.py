@@ -100,18 +100,6 @@ class BadShape(Error):
     code = -18
 
 
-class Stalled(Error):
-    """The processor isn't active."""
-
-    code = -21
-
-
-class Locked(Error):
-    """A change of the mappings is under way."""
-
-    code = -22
-
-
 class NotMapped(Error):
     """The address isn't mapped."""
 
@@ -130,12 +118,6 @@ class PastEnd(Error):
     code = -25
 
 
-class Held(Error):
-    """The page waits for its record."""
-
-    code = -26
-
-
 class NoFrame(Error):
     """More pages were stored to, or added to a file, than one commit can have."""
 
@@ -143,7 +125,7 @@ class NoFrame(Error):
 
 
 class Device(Error):
-    """A read, a write or a sync of the volume failed."""
+    """A read, a write or a sync of the volume failed, or was refused memory."""
 
     code = -28
 
@@ -155,7 +137,8 @@ class Broken(Error):
 
 
 class Invalid(Error):
-    """The volume doesn't take this: a length is above the file's capacity, or the volume is of layout 1 or 2."""
+    """A number is outside the range that the volume or its addresses have: a length above the file's capacity, or any
+    in layout 1 or 2."""
 
     code = -30
 
@@ -164,12 +147,6 @@ class NoAddresses(Error):
     """There are no addresses left."""
 
     code = -31
-
-
-class NoAccess(Error):
-    """The file wasn't opened for writing."""
-
-    code = -32
 
 
 class Overlap(Error):
@@ -185,7 +162,7 @@ class NoFile(Error):
 
 
 class Busy(Error):
-    """Plain memory of the file is open."""
+    """Plain memory of the file is open; or the session has made 2^32 - 1 commits."""
 
     code = -35
 

@@ -4,7 +4,7 @@ from __future__ import annotations
 
 import ctypes
 import operator
-from typing import Any, Tuple
+from typing import Any, SupportsIndex, Tuple, overload
 
 from ._errors import check
 from ._library import library
@@ -50,10 +50,16 @@ class Mapping:
 
     def _store(self, begin: int, value: bytes) -> None:
         done = ctypes.c_size_t()
-        code = self._session.call(
-            library.famsync_store, self._address + begin, value, len(value), ctypes.byref(done)
-        )
+        code = self._session.call(library.famsync_store, self._address + begin, value, len(value), ctypes.byref(done))
         check(code, done=done.value)
+
+    @overload
+    def __getitem__(self, key: SupportsIndex) -> int:
+        ...
+
+    @overload
+    def __getitem__(self, key: slice) -> bytes:
+        ...
 
     def __getitem__(self, key: Any) -> Any:
         if isinstance(key, slice):

@@ -5,7 +5,7 @@ from __future__ import annotations
 import os
 import weakref
 from types import TracebackType
-from typing import TYPE_CHECKING, Any, Optional, Type
+from typing import TYPE_CHECKING, Any, Optional, SupportsIndex, Type, overload
 
 from . import _buffers
 from ._errors import Forked
@@ -56,6 +56,14 @@ class Memory:
 
     def __len__(self) -> int:
         return len(self._opened())
+
+    @overload
+    def __getitem__(self, key: SupportsIndex) -> int:
+        ...
+
+    @overload
+    def __getitem__(self, key: slice) -> bytes:
+        ...
 
     def __getitem__(self, key: Any) -> Any:
         found = self._opened()[key]

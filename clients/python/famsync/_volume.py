@@ -63,9 +63,9 @@ def _files(handle: int) -> Dict[str, int]:
 class Volume:
     """A session with the volume at `path`; `famsync.open` begins one.
 
-    `trust`: a volume whose sync failed once is opened all the same. `frames`: pages in memory, or 0 for as many as one
-    commit can have. `copies`: frames more, up to 64, for pages that are stored to while a commit writes them.
-    `foreground`: no thread of the library's own, which writes what is left of a commit while nobody calls.
+    `trust`: a volume whose sync failed once is opened all the same. `frames`: pages in memory, and the most that one
+    commit can have; 0 is as many as the volume allows. `copies`: frames for copies besides, up to 64. `foreground`: no
+    thread of the library's own, which writes what is left of a commit while nobody calls.
 
     Threads may share it, and their commits. At the end of a `with` it is closed.
     """
@@ -119,9 +119,9 @@ class Volume:
         return Mapping(self._session, name, address.value, length)
 
     def set_length(self, name: str, length: int) -> None:
-        """Sets the length of a file, up to its capacity, in a volume of layout 3; else Invalid. Bytes past a new end are
-        gone, and what a file grows by is zeros; the pages that it grows by go into the next commit, and NoFrame says
-        that one can't have them all. Like a store it is durable after that commit.
+        """Sets the length of a file, up to its capacity, in a volume of layout 3; else Invalid. Bytes past a new end
+        are gone, and what a file grows by is zeros; the pages that it grows by go into the next commit, and NoFrame
+        says that one can't have them all. Like a store it is durable after that commit.
 
         Busy as long as plain memory of the file is open. A mapping stays as it is: its pages past the file's end answer
         PastEnd, and can be used once the file is long enough."""

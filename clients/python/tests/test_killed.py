@@ -1,15 +1,18 @@
 """The bank of bank.py is killed at random moments: its sum is 0 after each, and each transfer that was acknowledged is
-there. KILLS in the environment says how often: 25 where it isn't set."""
+there; every fifth time it is interrupted, as from a terminal. KILLS in the environment says how often: 25 where it
+isn't set."""
 
 import os
 import random
 import re
+import signal
+import struct
 import subprocess
 import sys
 import time
 import unittest
 
-from support import PACKAGE, InAFolder
+from support import PACKAGE, InAFolder, famsync
 
 KILLS = int(os.environ.get("KILLS", "25"))
 BANK = [sys.executable, f"{PACKAGE}/bank.py", "v.img"]
@@ -18,37 +21,44 @@ BANK = [sys.executable, f"{PACKAGE}/bank.py", "v.img"]
 class Killed(InAFolder):
     files = ("bank=16384",)
 
-    def killed(self, wait):
-        """The last transfer that a bank tells which is killed after a while; none where it is killed too early."""
+    def ended(self, wait, number):
+        """The last transfer that a bank tells which gets a signal after a while."""
         with subprocess.Popen(BANK, stdout=subprocess.PIPE, stderr=subprocess.PIPE, text=True) as bank:
             first = bank.stdout.readline()
             time.sleep(wait)
             self.assertIsNone(bank.poll(), "it ended by itself")
-            bank.kill()
+            bank.send_signal(number)
             told = re.findall(r"^acknowledged (\d+)\n", first + bank.stdout.read(), flags=re.MULTILINE)
-            self.assertEqual(bank.stderr.read(), "")
+            said = bank.stderr.read()
+            self.assertEqual(said.splitlines()[-1:], ["KeyboardInterrupt"] if number == signal.SIGINT else [])
         return int(told[-1])
 
     def found(self):
+        """How many transfers there are, where the sum is 0."""
+        with famsync.open("v.img") as volume, volume.memory("bank") as bank:
+            numbers = struct.unpack("2048q", bank[:])
+        self.assertEqual(sum(numbers[1:]), 0)
+        return numbers[0]
+
+    def checked(self):
         checked = subprocess.run([*BANK, "--check"], capture_output=True, text=True, timeout=60)
-        found = re.fullmatch(r"sum 0, (\d+) transfers\n", checked.stdout)
-        self.assertTrue(checked.returncode == 0 and found, checked)
-        return int(found[1])
+        return checked.returncode, checked.stdout
 
     def test_the_sum_is_kept(self):
-        for _ in range(KILLS):
-            known = self.killed(random.uniform(0, 0.1))
+        found = 0
+        for turn in range(KILLS):
+            known = self.ended(random.uniform(0, 0.1), signal.SIGINT if turn % 5 == 4 else signal.SIGKILL)
             found = self.found()
             self.assertIn(found, (known, known + 1))
+        self.assertEqual(self.checked(), (0, f"sum 0, {found} transfers\n"))
 
     def test_a_sum_that_is_not_0_is_told(self):
         subprocess.run([*BANK, "3"], check=True, capture_output=True, timeout=60)
-        self.assertEqual(self.found(), 3)
+        self.assertEqual(self.checked(), (0, "sum 0, 3 transfers\n"))
         with open("v.img", "r+b") as file:
             file.seek(-8192, os.SEEK_END)
             file.write(b"\1")
-        checked = subprocess.run([*BANK, "--check"], capture_output=True, text=True, timeout=60)
-        self.assertEqual((checked.returncode, checked.stdout), (1, "sum 1, 3 transfers\n"))
+        self.assertEqual(self.checked(), (1, "sum 1, 3 transfers\n"))
 
 
 if __name__ == "__main__":

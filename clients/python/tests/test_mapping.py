@@ -27,7 +27,8 @@ class Slices(InAFolder):
         mapping = self.opened().map("a")
         self.assertEqual(len(mapping), 200000)
         mapping[-1] = 7
-        self.assertEqual((mapping[199999], mapping[-1], mapping[-2:], mapping[5:5], mapping[9:3]), (7, 7, b"\0\7", b"", b""))
+        self.assertEqual((mapping[199999], mapping[-1]), (7, 7))
+        self.assertEqual((mapping[-2:], mapping[5:5], mapping[9:3]), (b"\0\7", b"", b""))
         for place in (200000, -200001):
             self.assertRaises(IndexError, lambda: mapping[place])
             self.assertRaises(IndexError, mapping.__setitem__, place, 1)

@@ -5,7 +5,7 @@ import os
 import pathlib
 import unittest
 
-from support import InAFolder, famsync
+from support import InAFolder, famsync, run_python
 
 
 class Begins(InAFolder):
@@ -79,6 +79,27 @@ class Ends(InAFolder):
         del memory
         gc.collect()
         famsync.open("v.img").close()
+
+    def test_a_program_that_ends_without_it(self):
+        code = """
+import famsync, threading
+volume = famsync.open("v.img")
+memory, begun = volume.memory("a"), threading.Event()
+def work():
+    while True:
+        memory[0] = 1
+        volume.commit()
+        begun.set()
+for number in range(3):
+    threading.Thread(target=work, daemon=True).start()
+begun.wait()
+view = memory.view()
+"""
+        for _ in range(5):
+            ended = run_python(code)
+            self.assertEqual((ended.returncode, ended.stderr), (0, ""))
+            with famsync.open("v.img") as volume:
+                self.assertEqual(volume.map("a")[0], 1)
 
     def test_an_error_on_its_way_is_kept(self):
         with self.assertRaises(ZeroDivisionError):
