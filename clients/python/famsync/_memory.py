@@ -2,23 +2,25 @@
 
 from __future__ import annotations
 
+import ctypes
 import os
 import weakref
 from types import TracebackType
 from typing import TYPE_CHECKING, Any, Optional, SupportsIndex, Type, overload
 
 from . import _buffers
-from ._errors import Forked
+from ._errors import Forked, check
 from ._library import library, words
 
 if TYPE_CHECKING:
     from ._volume import Volume
 
 
-def _close(pointer: int, owner: int, volume: Volume) -> None:
-    """Gives memory back, once nobody has a buffer of it. Its volume stays open as long as this wasn't called."""
-    if os.getpid() == owner:
-        library.famsync_memory_close(pointer)
+def _close(pointer: ctypes.c_void_p, owner: int, volume: Volume) -> None:
+    """Gives memory back, once, when nobody has a buffer of it. Its volume stays open as long as this wasn't called."""
+    memory, pointer.value = pointer.value, None
+    if memory is not None and os.getpid() == owner:
+        library.famsync_memory_close(memory)
 
 
 class Memory:
@@ -30,10 +32,9 @@ class Memory:
 
     name: str
     _bytes: memoryview
-    _pointer: int
     __hash__ = object.__hash__  # arrays of ctypes have none
 
-    def _begin(self, volume: Volume, name: str, pointer: int, address: int, length: int) -> None:
+    def _begin(self, volume: Volume, name: str, pointer: ctypes.c_void_p, address: int, length: int) -> None:
         # All buffers that are given out are of this array, and have it; nothing else does. So when it goes, nobody
         # uses the memory any more, and it is given back.
         array = _buffers.array_at(address, length)
@@ -66,8 +67,8 @@ class Memory:
         ...
 
     def __getitem__(self, key: Any) -> Any:
-        found = self._opened()[key]
-        return bytes(found) if isinstance(found, memoryview) else found
+        # No name is given to a part of it: an error that is kept would keep that, too.
+        return bytes(self._opened()[key]) if isinstance(key, slice) else self._opened()[key]
 
     def __setitem__(self, key: Any, value: Any) -> None:
         if isinstance(key, slice):
@@ -121,9 +122,15 @@ class Memory:
                 raise
 
 
-def open_memory(volume: Volume, name: str, pointer: int) -> Memory:
-    """What the library opened."""
-    address, length = library.famsync_memory_at(pointer), library.famsync_memory_length(pointer)
-    memory = _buffers.new(Memory, address, length)
-    memory._begin(volume, name, pointer, address, length)
-    return memory
+def open_memory(handle: int, volume: Volume, name: str, encoded: bytes) -> Memory:
+    """Opens plain memory of a file; where an interrupt comes in between, nothing is left open."""
+    pointer = ctypes.c_void_p()
+    try:
+        check(library.famsync_memory_open(handle, encoded, ctypes.byref(pointer)))
+        address, length = library.famsync_memory_at(pointer), library.famsync_memory_length(pointer)
+        memory = _buffers.new(Memory, address, length)
+        memory._begin(volume, name, pointer, address, length)
+        return memory
+    except BaseException:
+        _close(pointer, os.getpid(), volume)
+        raise

@@ -3,9 +3,11 @@
 from __future__ import annotations
 
 import os
+import sys
 import threading
 import time
-from typing import Any, Callable, List, Optional, TypeVar
+from types import FrameType
+from typing import Any, Callable, List, Optional, Set, TypeVar
 
 from ._errors import Forked
 from ._library import words
@@ -14,14 +16,14 @@ T = TypeVar("T")
 
 
 class Session:
-    """A handle of the library, and which threads are in a call with it: who ends it waits for them.
+    """A handle of the library's; who takes it, to end it, waits for the calls of other threads.
 
-    There is no lock, which a process that is forked might find taken: what is done to a list is done at once.
+    Nothing is noted of a call: a handler of a signal that raises could leave it wrong, and a lock taken. The interpreter
+    is asked which threads are in one.
     """
 
     def __init__(self, handle: int, what: str) -> None:
-        self._handles = [handle]
-        self._inside: List[int] = []
+        self._handles: List[int] = [handle]
         self._what = what
         self._owner = os.getpid()
 
@@ -31,32 +33,35 @@ class Session:
         return os.getpid() != self._owner
 
     def call(self, function: Callable[..., T], *arguments: Any) -> T:
-        """What a function answers to the handle and these arguments."""
+        """What a function answers to the handle and these arguments. It keeps the handle no longer."""
         if self.is_forked:
             raise Forked(words(Forked.code))
-        thread = threading.get_ident()
-        try:
-            self._inside.append(thread)
-            # Whoever takes the handle looks at who is inside after that, so one of the two sees the other.
-            handle = next(iter(self._handles), None)
-            if handle is None:
-                raise ValueError(f"{self._what} is closed")
-            return function(handle, *arguments)
-        finally:
-            self._inside.remove(thread)
+        handle = next(iter(self._handles), None)
+        if handle is None:
+            raise ValueError(f"{self._what} is closed")
+        return function(handle, *arguments)
+
+    def _callers(self) -> Set[int]:
+        """The threads that are within `call`."""
+        return {thread for thread, frame in sys._current_frames().items() if self._is_within(frame)}
+
+    def _is_within(self, frame: Optional[FrameType]) -> bool:
+        while frame is not None and not (frame.f_code is CALL and frame.f_locals.get("self") is self):
+            frame = frame.f_back
+        return frame is not None
 
     def take(self) -> Optional[int]:
         """The handle, once no thread is in a call; none where it was taken before, or is another process's."""
         if self.is_forked:
             return None
-        if threading.get_ident() in self._inside:
+        if threading.get_ident() in self._callers():
             raise RuntimeError(f"{self._what} can't be closed from within a call with it")
         try:
             handle = self._handles.pop()
         except IndexError:
             return None
         try:
-            while self._inside:
+            while self._callers():
                 time.sleep(0.001)
         except BaseException:
             self.give_back(handle)
@@ -66,3 +71,6 @@ class Session:
     def give_back(self, handle: int) -> None:
         """Undoes what `take` did."""
         self._handles.append(handle)
+
+
+CALL = Session.call.__code__

@@ -33,23 +33,23 @@ def _name(name: str) -> bytes:
     return os.fsencode(name)
 
 
-def _open(path: bytes, trust: bool, frames: int, copies: int, foreground: bool) -> int:
-    said = ctypes.create_string_buffer(1024)
-    options = Options(
+def _options(said: Any, trust: bool, frames: int, copies: int, foreground: bool) -> Options:
+    """The options of a session, with room for what is said where it doesn't begin."""
+    return Options(
         trust=bool(trust),
         frames=_number(frames, 32, "frames"),
         copies=_number(copies, 32, "copies"),
         foreground=bool(foreground),
         message=ctypes.addressof(said),
-        message_size=len(said),
+        message_size=ctypes.sizeof(said),
     )
-    handle = ctypes.c_void_p()
-    if b"\0" in path:
+
+
+def _path(path: Path) -> bytes:
+    encoded = os.fsencode(path)
+    if b"\0" in encoded:
         raise Argument("a path has no null byte")
-    code = library.famsync_open(path, ctypes.byref(options), ctypes.byref(handle))
-    check(code, said.value.decode("utf-8", "replace"))
-    assert handle.value is not None
-    return handle.value
+    return encoded
 
 
 def _files(handle: int) -> Dict[str, int]:
@@ -74,9 +74,19 @@ class Volume:
         self, path: Path, *, trust: bool = False, frames: int = 0, copies: int = 64, foreground: bool = False
     ) -> None:
         self._memories: weakref.WeakSet[Memory] = weakref.WeakSet()
-        handle = _open(os.fsencode(path), trust, frames, copies, foreground)
         self.path = path
-        self._session = Session(handle, f"the volume {os.fsdecode(path)!r}")
+        said, handle = ctypes.create_string_buffer(1024), ctypes.c_void_p()
+        options = _options(said, trust, frames, copies, foreground)
+        try:
+            code = library.famsync_open(_path(path), ctypes.byref(options), ctypes.byref(handle))
+            check(code, said.value.decode("utf-8", "replace"))
+            assert handle.value is not None
+            self._session = Session(handle.value, f"the volume {os.fsdecode(path)!r}")
+        except BaseException:
+            # an interrupt may have come in between; from then on, __del__ closes
+            if not hasattr(self, "_session"):
+                library.famsync_close(handle)
+            raise
 
     @property
     def files(self) -> Dict[str, int]:
@@ -100,10 +110,7 @@ class Volume:
         return self._session.call(self._open_memory, name)
 
     def _open_memory(self, handle: int, name: str) -> Memory:
-        pointer = ctypes.c_void_p()
-        check(library.famsync_memory_open(handle, _name(name), ctypes.byref(pointer)))
-        assert pointer.value is not None
-        memory = open_memory(self, name, pointer.value)
+        memory = open_memory(handle, self, name, _name(name))
         self._memories.add(memory)
         return memory
 

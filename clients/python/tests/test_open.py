@@ -4,8 +4,11 @@ import gc
 import os
 import pathlib
 import unittest
+from unittest import mock
 
 from support import InAFolder, famsync, run_python
+from famsync import _memory, _volume
+from famsync._library import library
 
 
 class Begins(InAFolder):
@@ -108,6 +111,51 @@ view = memory.view()
                 view[0] = 1 // 0
         view.release()
         volume.close()
+
+
+class Interrupted:
+    """The library, of which a call raises after it was made, as the handler of an interrupt does."""
+
+    def __init__(self, name):
+        self.name = name
+
+    def __getattr__(self, name):
+        def call(*arguments):
+            answer = getattr(library, name)(*arguments)
+            if name == self.name:
+                raise KeyboardInterrupt
+            return answer
+
+        return call
+
+
+class Interrupts(InAFolder):
+    """Whatever an interrupt comes behind, nothing is left open that nobody has."""
+
+    def interrupted(self, module, name, call, *arguments):
+        with mock.patch.object(module, "library", Interrupted(name)):
+            self.assertRaises(KeyboardInterrupt, call, *arguments)
+
+    def test_an_open(self):
+        self.interrupted(_volume, "famsync_open", famsync.open, "v.img")
+        famsync.open("v.img").close()
+
+    def test_a_memory(self):
+        volume = famsync.open("v.img")
+        for name in ("famsync_memory_open", "famsync_memory_at", "famsync_memory_length"):
+            self.interrupted(_memory, name, volume.memory, "a")
+            volume.memory("a").close()
+        volume.close()
+        famsync.open("v.img").close()
+
+    def test_a_commit_and_a_close(self):
+        volume = famsync.open("v.img")
+        with self.assertRaises(KeyboardInterrupt):
+            volume._session.call(mock.Mock(side_effect=KeyboardInterrupt))
+        self.assertEqual(volume.commit(), 1)
+        self.interrupted(_volume, "famsync_close", volume.close)
+        volume.close()
+        famsync.open("v.img").close()
 
 
 if __name__ == "__main__":
