@@ -47,6 +47,6 @@ void leave_handle(famsync *handle)
     *handle->link = handle->next;
     if (handle->next)
         handle->next->link = handle->link;
-    let_volume_go(&handle->volume);
+    unlock_volume(&handle->volume);
     pthread_mutex_unlock(&list);
 }

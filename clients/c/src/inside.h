@@ -131,6 +131,8 @@ int open_volume_file(const char *path, bool trust, struct volume *volume, struct
 void close_volume_file(struct volume *volume);
 /* Closes the file alone, in a process that was forked. */
 void let_volume_go(struct volume *volume);
+/* Unlocks the file, and closes it: a process that was forked, and is about to be another program, may have it open. */
+void unlock_volume(struct volume *volume);
 /* Marks a volume as suspect, and makes sure that the mark is on the disk. */
 int mark_suspect(const struct volume *volume);
 

@@ -158,6 +158,15 @@ void let_volume_go(struct volume *volume)
     errno = error;
 }
 
+void unlock_volume(struct volume *volume)
+{
+    int error = errno;
+    if (volume->file >= 0)
+        (void)flock(volume->file, LOCK_UN); /* where that fails, closing it does the same a moment later */
+    errno = error;
+    let_volume_go(volume);
+}
+
 static int open_locked(struct volume *volume)
 {
     struct stat found;
@@ -170,7 +179,7 @@ static int open_locked(struct volume *volume)
             volume->bytes = (uint64_t)found.st_size;
             return !S_ISREG(found.st_mode) ? FAMSYNC_NOTREGULAR : found.st_nlink > 1 ? FAMSYNC_NAMES : FAMSYNC_OK;
         }
-        let_volume_go(volume);
+        unlock_volume(volume);
     }
     return FAMSYNC_REPLACED;
 }
@@ -216,7 +225,7 @@ int open_volume_file(const char *path, bool trust, struct volume *volume, struct
 
 void close_volume_file(struct volume *volume)
 {
-    let_volume_go(volume);
+    unlock_volume(volume);
     free(volume->place);
     free(volume->mark);
     volume->place = volume->mark = NULL;

@@ -21,6 +21,7 @@
 #include <stdio.h>
 #include <stdlib.h>
 #include <string.h>
+#include <sys/file.h>
 #include <sys/mman.h>
 #include <sys/stat.h>
 #include <sys/syscall.h>
@@ -105,6 +106,8 @@ int open(const char *path, int flags, ...)
 
 int flock(int file, int operation)
 {
+    if (operation & LOCK_UN)
+        return FAIL_OR(unlock, NEXT(flock)(file, operation));
     return FAIL_OR(flock, NEXT(flock)(file, operation));
 }
 

@@ -14,7 +14,7 @@ static unsigned replacing;
 
 int flock(int file, int operation)
 {
-    if (replacing > 0) {
+    if (replacing > 0 && operation & LOCK_EX) {
         int made = open(other, O_WRONLY | O_CREAT | O_CLOEXEC, 0600);
         WANT(made >= 0 && close(made) == 0 && rename(other, volume) == 0);
         replacing--;
@@ -198,6 +198,28 @@ static void in_use(void)
     WANT_CODE(code_of(volume), FAMSYNC_OK);
 }
 
+/* Another descriptor of the volume that is open: as one that a process has which was forked and isn't another program
+   yet. */
+static int other_descriptor(void)
+{
+    struct stat wanted, found;
+    int file = 3;
+    WANT(stat(volume, &wanted) == 0);
+    while (fstat(file, &found) != 0 || found.st_dev != wanted.st_dev || found.st_ino != wanted.st_ino)
+        WANT(++file < 64);
+    return dup(file);
+}
+
+/* What was closed isn't in use, whoever has a descriptor of it. */
+static void unlocked(void)
+{
+    famsync *handle = opened();
+    int file = other_descriptor();
+    WANT_CODE(famsync_close(handle), FAMSYNC_OK);
+    WANT_CODE(code_of(volume), FAMSYNC_OK);
+    WANT(close(file) == 0);
+}
+
 /* The file that is opened is the one that has the name when it is locked. */
 static void replaced(void)
 {
@@ -269,6 +291,7 @@ int main(void)
     other_names();
     marked();
     in_use();
+    unlocked();
     replaced();
     shapes();
     closed_descriptors();
