@@ -1,4 +1,4 @@
-use Rattle.std.proofs.Common.{◌++◌, take, tt}
+use Rattle.std.proofs.Common.{◌++◌, take}
 use Rattle.device.specs.Memory.{moment_of}
 use Rattle.machine.specs.Steps.{told_first}
 use Rattle.embedded.specs.Recorded.{recorded}
@@ -16,9 +16,9 @@ returns-clause-steps g c = λ before shape start mid machine earlier later told 
 pub returns-clause-mark : goal.returns-clause-mark
 returns-clause-mark g c = λ machine notes mark old new done left it made behind carried.
     let taken = c.steps_after_steps.ensures it.start it.old it.new it.earlier it.steps it.told it.replies it.makes_earlier.taken it.makes.taken in
-    let found = c.steps_are_a_run.ensures.since it.before it.shape it.start it.new (recorded machine) (it.earlier ++ it.steps) it.later (it.told ++ it.replies) it.more it.started taken it.makes_later.taken tt in
-    let has = λ n. c.acknowledges.ensures.mark found.0 it.start it.old it.new it.between it.after it.earlier it.steps (take n it.later) it.told it.replies (take n it.more) it.p mark it.makes_earlier it.makes it.commits in (
+    let found = c.steps_are_a_run.ensures.since it.before it.shape it.start it.new (recorded machine) (it.earlier ++ it.steps) it.later (it.told ++ it.replies) it.more it.started taken it.makes_later.taken tt in (
       found.0,
       found.1,
-      leaves_as (λ list since. kept found.0 mark (told_first found.0 it.start.state) it.start it.old it.new it.earlier it.steps it.later it.told it.replies it.more it.makes_earlier.taken it.makes.taken has list (found.2 list (sooner machine.device (moment_of it.new.device) list made since))) (carried.time behind),
+      leaves_as (λ list since. kept found.0 mark (told_first found.0 it.start.state) it.start it.old it.new it.earlier it.steps it.later it.told it.replies it.more it.makes_earlier.taken it.makes.taken
+          (λ n. c.acknowledges.ensures.mark found.0 it.start it.old it.new it.between it.after it.earlier it.steps (take n it.later) it.told it.replies (take n it.more) it.p mark it.makes_earlier it.makes it.commits) list (found.2 list (sooner machine.device (moment_of it.new.device) list made since))) (carried.time behind),
     )
