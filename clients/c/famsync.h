@@ -87,7 +87,8 @@ struct famsync_options {
 };
 
 /* Begins a session with a volume, a regular file with one name; where the path is a link, the file that it leads to is
-   meant. The file is locked until the session ends. `*handle` is a null pointer afterwards where it didn't succeed. */
+   meant. The file is locked until the session ends. It takes as much memory as the volume is long. `*handle` is a null
+   pointer afterwards where it didn't succeed. */
 int famsync_open(const char *volume, const struct famsync_options *options, famsync **handle);
 
 /* Ends a session and frees the handle; stores since the last msync are gone. Plain memory of this handle has to be
