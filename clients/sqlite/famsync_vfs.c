@@ -1,13 +1,15 @@
 /*
- * A VFS for SQLite over libfamsync: the database is a file of a volume, and a transaction is one commit of the volume.
+ * A VFS for SQLite over libfamsync, all of it in the process that uses SQLite: the database is a file of a volume, and
+ * a transaction is one commit of the volume.
  *
  *     .load ./famsync_vfs
  *     .open file:bank.vol?vfs=famsync&file=db
  *     PRAGMA journal_mode=MEMORY;
  *
- * Without `file` it is the volume's first file, whose first page keeps the database's size. Pages that SQLite writes
- * wait in this process, also those that it spills from its cache; xSync stores them in the volume and commits. So
- * SQLite's journal is there for ROLLBACK alone and may stay in memory: a crash leaves what the last xSync committed.
+ * Without `file` it is the volume's first file; its first page keeps the database's size. With `foreground=1` the
+ * library has no thread of its own. Pages that SQLite writes wait here, also those that it spills from its cache; xSync
+ * stores them in the volume and commits. So SQLite's journal is there for ROLLBACK alone and may stay in memory: a
+ * crash leaves what the last xSync committed.
  *
  * A transaction of more pages than a commit can have, less one, is answered SQLITE_FULL. SQLite may lose its journal in
  * memory by an error, so what waits when it gives its lock back is dropped: the transaction is rolled back by that.
@@ -19,6 +21,7 @@
 SQLITE_EXTENSION_INIT1
 
 #include <famsync.h>
+#include <stdbool.h>
 #include <string.h>
 
 #define PAGE 4096
@@ -32,13 +35,15 @@ struct database {
     sqlite3_int64 size;    /* and how many it has */
     sqlite3_int64 kept;    /* how many it has by the last commit */
     unsigned char **waits; /* one a page: what it is to be, or a null pointer */
+    size_t *order;         /* the pages that wait, as they came */
     unsigned waiting;      /* how many wait */
     unsigned limit;        /* the most of them */
-    int torn;              /* a commit failed on its way: nothing of this connection counts any more */
+    bool torn;             /* a commit failed on its way: nothing of this connection counts any more */
 };
 
 static sqlite3_vfs *usual;
 
+/* SQLite's code for one of the library: `other` where it has none of its own. */
 static int code_for(int code, int other)
 {
     switch (code) {
@@ -47,34 +52,43 @@ static int code_for(int code, int other)
     case FAMSYNC_NOFRAME:
         return SQLITE_FULL;
     case FAMSYNC_NOMEMORY:
-    case FAMSYNC_OUTOFMEMORY:
         return SQLITE_NOMEM;
     default:
         return other;
     }
 }
 
-static size_t pages_of(const struct database *database)
+static int code_for_open(int code)
 {
-    return (size_t)(database->room / PAGE) + 1;
+    switch (code) {
+    case FAMSYNC_INUSE:
+        return SQLITE_BUSY;
+    case FAMSYNC_NOTAVOLUME:
+        return SQLITE_NOTADB;
+    case FAMSYNC_DAMAGED:
+        return SQLITE_CORRUPT;
+    case FAMSYNC_DEVICE:
+        return SQLITE_IOERR;
+    default:
+        return code_for(code, SQLITE_CANTOPEN);
+    }
 }
 
 static void drop_waiting(struct database *database)
 {
-    for (size_t page = 0; database->waiting > 0 && page < pages_of(database); page++)
-        if (database->waits[page]) {
-            sqlite3_free(database->waits[page]);
-            database->waits[page] = NULL;
-            database->waiting--;
-        }
+    while (database->waiting > 0) {
+        size_t page = database->order[--database->waiting];
+        sqlite3_free(database->waits[page]);
+        database->waits[page] = NULL;
+    }
 }
 
 static int close_database(sqlite3_file *file)
 {
     struct database *database = (struct database *)file;
-    if (database->waits)
-        drop_waiting(database);
+    drop_waiting(database);
     sqlite3_free(database->waits);
+    sqlite3_free(database->order);
     return code_for(famsync_close(database->volume), SQLITE_IOERR_CLOSE);
 }
 
@@ -85,68 +99,87 @@ static size_t part(uint64_t place, size_t count)
     return some < count ? some : count;
 }
 
+/* Reads what lies in one page of the volume. */
+static int read_part(const struct database *database, char *bytes, size_t count, uint64_t place)
+{
+    const unsigned char *waiting = database->waits[place / PAGE];
+    if (!waiting)
+        return famsync_load(database->volume, database->address + place, bytes, count, NULL);
+    memcpy(bytes, waiting + place % PAGE, count);
+    return FAMSYNC_OK;
+}
+
 static int read_database(sqlite3_file *file, void *bytes, int count, sqlite3_int64 at)
 {
     struct database *database = (struct database *)file;
     sqlite3_int64 left = at < database->size ? database->size - at : 0;
     size_t end = left < count ? (size_t)left : (size_t)count, some;
-    if (database->torn)
-        return SQLITE_IOERR_READ;
-    for (size_t done = 0; done < end; done += some) {
+    int code = database->torn ? FAMSYNC_TORN : FAMSYNC_OK;
+    for (size_t done = 0; done < end && code == FAMSYNC_OK; done += some) {
         uint64_t place = PAGE + (uint64_t)at + done;
-        const unsigned char *waiting = database->waits[place / PAGE];
-        int code = FAMSYNC_OK;
         some = part(place, end - done);
-        if (waiting)
-            memcpy((char *)bytes + done, waiting + place % PAGE, some);
-        else
-            code = famsync_load(database->volume, database->address + place, (char *)bytes + done, some, NULL);
-        if (code != FAMSYNC_OK)
-            return code_for(code, SQLITE_IOERR_READ);
+        code = read_part(database, (char *)bytes + done, some, place);
     }
+    if (code != FAMSYNC_OK)
+        return code_for(code, SQLITE_IOERR_READ);
     memset((char *)bytes + end, 0, (size_t)count - end);
     return end < (size_t)count ? SQLITE_IOERR_SHORT_READ : SQLITE_OK;
 }
 
-/* Writes what lies in one page of the volume. */
+/* What the volume has of a page, as memory of its own. */
+static int copy_page(const struct database *database, size_t page, unsigned char **copy)
+{
+    uint64_t begin = database->address + page * PAGE;
+    int code = FAMSYNC_NOMEMORY;
+    *copy = sqlite3_malloc(PAGE);
+    if (*copy)
+        code = famsync_load(database->volume, begin, *copy, PAGE, NULL);
+    if (code == FAMSYNC_OK)
+        return SQLITE_OK;
+    sqlite3_free(*copy);
+    *copy = NULL;
+    return code_for(code, SQLITE_IOERR_WRITE);
+}
+
+/* Writes what lies in one page of the volume. A page that has these bytes doesn't begin to wait, so that a rollback can
+   write back what wasn't changed where no more pages can wait. */
 static int write_part(struct database *database, const char *bytes, size_t count, uint64_t place)
 {
-    unsigned char **page = &database->waits[place / PAGE];
-    if (!*page) {
-        unsigned char *there = sqlite3_malloc(PAGE);
-        uint64_t begin = database->address + place / PAGE * PAGE;
-        int code = there ? famsync_load(database->volume, begin, there, PAGE, NULL) : FAMSYNC_NOMEMORY;
-        int same = code == FAMSYNC_OK && memcmp(there + place % PAGE, bytes, count) == 0;
-        if (code != FAMSYNC_OK || same || database->waiting == database->limit) {
-            sqlite3_free(there);
-            return same ? SQLITE_OK : code_for(code == FAMSYNC_OK ? FAMSYNC_NOFRAME : code, SQLITE_IOERR_WRITE);
+    size_t page = place / PAGE, within = place % PAGE;
+    if (!database->waits[page]) {
+        unsigned char *copy;
+        int code = copy_page(database, page, &copy);
+        bool same = code == SQLITE_OK && memcmp(copy + within, bytes, count) == 0;
+        if (code == SQLITE_OK && !same && database->waiting == database->limit)
+            code = SQLITE_FULL;
+        if (code != SQLITE_OK || same) {
+            sqlite3_free(copy);
+            return code;
         }
-        *page = there;
-        database->waiting++;
+        database->waits[page] = copy;
+        database->order[database->waiting++] = page;
     }
-    memcpy(*page + place % PAGE, bytes, count);
+    memcpy(database->waits[page] + within, bytes, count);
     return SQLITE_OK;
 }
 
 static int write_database(sqlite3_file *file, const void *bytes, int count, sqlite3_int64 at)
 {
     struct database *database = (struct database *)file;
+    int code = SQLITE_OK;
     size_t some;
     if (at > database->room - count)
         return SQLITE_FULL;
     if (database->torn)
         return SQLITE_IOERR_WRITE;
-    for (size_t done = 0; done < (size_t)count; done += some) {
+    for (size_t done = 0; done < (size_t)count && code == SQLITE_OK; done += some) {
         uint64_t place = PAGE + (uint64_t)at + done;
-        int code;
         some = part(place, (size_t)count - done);
         code = write_part(database, (const char *)bytes + done, some, place);
-        if (code != SQLITE_OK)
-            return code;
     }
-    if (at + count > database->size)
+    if (code == SQLITE_OK && at + count > database->size)
         database->size = at + count;
-    return SQLITE_OK;
+    return code;
 }
 
 static int truncate_database(sqlite3_file *file, sqlite3_int64 size)
@@ -158,33 +191,44 @@ static int truncate_database(sqlite3_file *file, sqlite3_int64 size)
     return SQLITE_OK;
 }
 
+static int store_size(struct database *database)
+{
+    unsigned char head[24] = MAGIC;
+    for (int i = 0; i < 8; i++)
+        head[16 + i] = (unsigned char)((uint64_t)database->size >> (56 - 8 * i));
+    return famsync_store(database->volume, database->address, head, sizeof head, NULL);
+}
+
+static int store_waiting(struct database *database)
+{
+    int code = FAMSYNC_OK;
+    for (unsigned i = 0; i < database->waiting && code == FAMSYNC_OK; i++) {
+        size_t page = database->order[i];
+        code = famsync_store(database->volume, database->address + page * PAGE, database->waits[page], PAGE, NULL);
+    }
+    return code == FAMSYNC_OK && database->size != database->kept ? store_size(database) : code;
+}
+
 static int sync_database(sqlite3_file *file, int flags)
 {
     struct database *database = (struct database *)file;
-    int code = database->torn ? FAMSYNC_BROKEN : FAMSYNC_OK;
-    unsigned left = database->waiting;
+    int code;
     (void)flags;
-    for (size_t page = 0; left > 0 && code == FAMSYNC_OK; page++)
-        if (database->waits[page]) {
-            code = famsync_store(database->volume, database->address + page * PAGE, database->waits[page], PAGE, NULL);
-            left--;
-        }
-    if (code == FAMSYNC_OK && database->size != database->kept) {
-        unsigned char head[24] = MAGIC;
-        for (int i = 0; i < 8; i++)
-            head[16 + i] = (unsigned char)((uint64_t)database->size >> (56 - 8 * i));
-        code = famsync_store(database->volume, database->address, head, sizeof head, NULL);
-    }
+    if (database->torn)
+        return SQLITE_IOERR_FSYNC;
+    if (database->waiting == 0 && database->size == database->kept)
+        return SQLITE_OK;
+    code = store_waiting(database);
     if (code == FAMSYNC_OK)
         code = famsync_msync(database->volume, NULL);
-    if (code == FAMSYNC_OK) {
-        drop_waiting(database);
-        database->kept = database->size;
-        return SQLITE_OK;
+    if (code != FAMSYNC_OK) {
+        /* The session may have a part of it, which no later commit may have. */
+        database->torn = true;
+        return code_for(code, SQLITE_IOERR_FSYNC);
     }
-    /* The service may have a part of it, which no later commit may have. */
-    database->torn = 1;
-    return SQLITE_IOERR_FSYNC;
+    drop_waiting(database);
+    database->kept = database->size;
+    return SQLITE_OK;
 }
 
 static int size_of_database(sqlite3_file *file, sqlite3_int64 *size)
@@ -193,7 +237,7 @@ static int size_of_database(sqlite3_file *file, sqlite3_int64 *size)
     return SQLITE_OK;
 }
 
-/* The service has locked the volume for this connection, as long as it is open. */
+/* The library has locked the volume for this connection, as long as it is open. */
 static int lock(sqlite3_file *file, int kind)
 {
     (void)file, (void)kind;
@@ -204,7 +248,7 @@ static int lock(sqlite3_file *file, int kind)
 static int unlock(sqlite3_file *file, int kind)
 {
     struct database *database = (struct database *)file;
-    if (kind <= SQLITE_LOCK_SHARED && database->waiting > 0) {
+    if (kind <= SQLITE_LOCK_SHARED) {
         drop_waiting(database);
         database->size = database->kept;
     }
@@ -218,6 +262,16 @@ static int is_reserved(sqlite3_file *file, int *found)
     return SQLITE_OK;
 }
 
+/* Whether PRAGMA synchronous has a value by which SQLite syncs: of other words and numbers some are OFF. */
+static bool syncs(const char *value)
+{
+    static const char *const values[] = {"1", "2", "3", "on", "yes", "true", "normal", "full", "extra"};
+    for (size_t i = 0; i < sizeof values / sizeof values[0]; i++)
+        if (sqlite3_stricmp(value, values[i]) == 0)
+            return true;
+    return false;
+}
+
 static int control(sqlite3_file *file, int what, void *argument)
 {
     char **words = argument;
@@ -225,9 +279,7 @@ static int control(sqlite3_file *file, int what, void *argument)
     if (what != SQLITE_FCNTL_PRAGMA || !words[2])
         return SQLITE_NOTFOUND;
     if ((sqlite3_stricmp(words[1], "locking_mode") != 0 || sqlite3_stricmp(words[2], "exclusive") != 0) &&
-        (sqlite3_stricmp(words[1], "synchronous") != 0 || !strchr("0oOfFnN", words[2][0]) ||
-         sqlite3_stricmp(words[2], "on") == 0 || sqlite3_strnicmp(words[2], "full", 4) == 0 ||
-         sqlite3_strnicmp(words[2], "normal", 6) == 0))
+        (sqlite3_stricmp(words[1], "synchronous") != 0 || syncs(words[2])))
         return SQLITE_NOTFOUND;
     words[0] = sqlite3_mprintf("the VFS famsync doesn't offer %s=%s", words[1], words[2]);
     return SQLITE_ERROR;
@@ -266,12 +318,12 @@ static int read_size(struct database *database)
 {
     static const unsigned char nothing[24];
     unsigned char head[24];
+    uint64_t size = 0;
     int code = famsync_load(database->volume, database->address, head, sizeof head, NULL);
     if (code != FAMSYNC_OK)
         return code_for(code, SQLITE_IOERR_READ);
     if (memcmp(head, nothing, sizeof head) == 0)
         return SQLITE_OK;
-    uint64_t size = 0;
     for (int i = 0; i < 8; i++)
         size = size << 8 | head[16 + i];
     if (memcmp(head, MAGIC, 16) != 0 || size > (uint64_t)database->room)
@@ -280,41 +332,60 @@ static int read_size(struct database *database)
     return SQLITE_OK;
 }
 
+/* Zeroed memory. */
+static void *memory_for(size_t count, size_t size)
+{
+    void *memory = sqlite3_malloc64(count * size);
+    return memory ? memset(memory, 0, count * size) : NULL;
+}
+
+static int open_volume(struct database *database, const char *path)
+{
+    char message[300];
+    struct famsync_options options = {.message = message, .message_size = sizeof message};
+    int code;
+    options.foreground = sqlite3_uri_boolean(path, "foreground", 0);
+    code = famsync_open(path, &options, &database->volume);
+    if (code == FAMSYNC_OK)
+        return SQLITE_OK;
+    sqlite3_log(code_for_open(code), "famsync: %s", message);
+    return code_for_open(code);
+}
+
+/* Maps the file of the database, and finds how much there is room for. One page of the file has the size, and so one of
+   a commit is left for it. */
+static int map_database(struct database *database, const char *name)
+{
+    uint64_t length = 0;
+    int code = famsync_map(database->volume, name, 0, 0, FAMSYNC_READ | FAMSYNC_WRITE, &database->address);
+    if (code != FAMSYNC_OK)
+        return code_for(code, SQLITE_CANTOPEN);
+    for (unsigned i = 0; i < famsync_files(database->volume); i++)
+        if (strcmp(name, famsync_file_name(database->volume, i)) == 0)
+            length = famsync_file_length(database->volume, i);
+    if (length / PAGE < 2 || famsync_frames(database->volume) < 2)
+        return SQLITE_CANTOPEN;
+    database->room = (sqlite3_int64)(length / PAGE * PAGE) - PAGE;
+    database->limit = famsync_frames(database->volume) - 1;
+    database->waits = memory_for(length / PAGE, sizeof *database->waits);
+    database->order = memory_for(database->limit, sizeof *database->order);
+    return database->waits && database->order ? read_size(database) : SQLITE_NOMEM;
+}
+
 static int open_file(sqlite3_vfs *vfs, const char *path, sqlite3_file *file, int flags, int *found)
 {
     struct database *database = (struct database *)file;
     const char *name;
     int code;
+    (void)vfs;
     if (!(flags & SQLITE_OPEN_MAIN_DB))
         return usual->xOpen(usual, path, file, flags, found);
-    (void)vfs;
     memset(database, 0, sizeof *database);
-    code = famsync_open(path, NULL, &database->volume);
-    if (code != FAMSYNC_OK) {
-        sqlite3_log(SQLITE_CANTOPEN, "famsync: %s: %s", path, famsync_strerror(code));
-        return code == FAMSYNC_INUSE ? SQLITE_BUSY : code_for(code, SQLITE_CANTOPEN);
-    }
+    code = open_volume(database, path);
+    if (code != SQLITE_OK)
+        return code;
     name = sqlite3_uri_parameter(path, "file");
-    if (!name)
-        name = famsync_file_name(database->volume, 0);
-    code = famsync_map(database->volume, name, 0, 0, FAMSYNC_READ | FAMSYNC_WRITE, &database->address);
-    code = code_for(code, SQLITE_CANTOPEN);
-    for (unsigned i = 0; i < famsync_files(database->volume); i++)
-        if (strcmp(name, famsync_file_name(database->volume, i)) == 0)
-            database->room = (sqlite3_int64)(famsync_file_length(database->volume, i) / PAGE * PAGE) - PAGE;
-    /* one is left for the page with the size */
-    database->limit = famsync_frames(database->volume) - 1;
-    if (code == SQLITE_OK && (database->room < PAGE || database->limit < 1))
-        code = SQLITE_CANTOPEN;
-    if (code == SQLITE_OK) {
-        database->waits = sqlite3_malloc64(pages_of(database) * sizeof *database->waits);
-        if (database->waits)
-            memset(database->waits, 0, pages_of(database) * sizeof *database->waits);
-        else
-            code = SQLITE_NOMEM;
-    }
-    if (code == SQLITE_OK)
-        code = read_size(database);
+    code = map_database(database, name ? name : famsync_file_name(database->volume, 0));
     if (code != SQLITE_OK) {
         close_database(file);
         return code;
@@ -325,11 +396,12 @@ static int open_file(sqlite3_vfs *vfs, const char *path, sqlite3_file *file, int
     return SQLITE_OK;
 }
 
-int sqlite3_famsyncvfs_init(sqlite3 *connection, char **message, const sqlite3_api_routines *routines)
+/* Registers the VFS, but where that was done: an extension is loaded by each connection that asks for it. */
+static int register_vfs(void)
 {
     static sqlite3_vfs ours;
-    SQLITE_EXTENSION_INIT2(routines);
-    (void)connection, (void)message;
+    if (sqlite3_vfs_find("famsync"))
+        return SQLITE_OK;
     usual = sqlite3_vfs_find(NULL);
     if (!usual)
         return SQLITE_ERROR;
@@ -339,6 +411,18 @@ int sqlite3_famsyncvfs_init(sqlite3 *connection, char **message, const sqlite3_a
     ours.xOpen = open_file;
     if (ours.szOsFile < (int)sizeof(struct database))
         ours.szOsFile = (int)sizeof(struct database);
-    int code = sqlite3_vfs_register(&ours, 0);
+    return sqlite3_vfs_register(&ours, 0);
+}
+
+int sqlite3_famsyncvfs_init(sqlite3 *connection, char **message, const sqlite3_api_routines *routines)
+{
+    sqlite3_mutex *turn;
+    int code;
+    SQLITE_EXTENSION_INIT2(routines);
+    (void)connection, (void)message;
+    turn = sqlite3_mutex_alloc(SQLITE_MUTEX_STATIC_VFS3);
+    sqlite3_mutex_enter(turn);
+    code = register_vfs();
+    sqlite3_mutex_leave(turn);
     return code == SQLITE_OK ? SQLITE_OK_LOAD_PERMANENTLY : code;
 }

@@ -1,0 +1,245 @@
+/*
+ * What the VFS refuses, by which code, and that it goes on afterwards.
+ *
+ *   limits EXTENSION
+ */
+#include "database.h"
+
+#define SLOTS 20
+#define PAGES 60
+
+static char path[200];
+static sqlite3 *database;
+
+/* Makes a volume, and names its file `db`. */
+static void fresh(unsigned layout, unsigned slots, const char *files)
+{
+    char mark[100];
+    make_volume_of(layout, slots, files);
+    snprintf(mark, sizeof mark, "%s.suspect", volume);
+    unlink(mark);
+    snprintf(path, sizeof path, "file:%s?vfs=famsync&file=db", volume);
+}
+
+static void begin(unsigned layout)
+{
+    char files[60];
+    snprintf(files, sizeof files, "other=4096 db=%d", PAGES * 4096);
+    fresh(layout, SLOTS, files);
+    WANT(open_database(path, &database) == SQLITE_OK);
+    must(database, "PRAGMA journal_mode=MEMORY; CREATE TABLE row (id INTEGER PRIMARY KEY, bytes BLOB)");
+}
+
+static void end(void)
+{
+    WANT(sqlite3_close(database) == SQLITE_OK);
+}
+
+static void reopen(void)
+{
+    end();
+    WANT(open_database(path, &database) == SQLITE_OK);
+    must(database, "PRAGMA journal_mode=MEMORY");
+}
+
+/* Whether a path is refused by a code, and the volume isn't in use afterwards. */
+static void want_refused(const char *refused, int code)
+{
+    sqlite3 *none;
+    famsync *handle;
+    struct famsync_options trusted = {.trust = 1};
+    int found = open_database(refused, &none);
+    if (found != code)
+        fprintf(stderr, "%s: %d, and should be %d\n", refused, found, code);
+    WANT(found == code);
+    WANT(famsync_open(volume, &trusted, &handle) != FAMSYNC_INUSE);
+    WANT_CODE(famsync_close(handle), FAMSYNC_OK);
+}
+
+/* Writes over the beginning of the file `db`, the volume's only one, in layout 1. */
+static void spoil(off_t at, const void *bytes, size_t count)
+{
+    int file = open(volume, O_WRONLY);
+    WANT(file >= 0 && pwrite(file, bytes, count, at) == (ssize_t)count && close(file) == 0);
+}
+
+static void refuses_volumes(void)
+{
+    char missing[220], mark[100];
+    off_t home = (3 + SLOTS) * 4096;
+    fresh(1, SLOTS, "db=40960");
+    snprintf(missing, sizeof missing, "file:%s/none?vfs=famsync", folder);
+    want_refused(missing, SQLITE_CANTOPEN);
+    snprintf(missing, sizeof missing, "file:%s?vfs=famsync&file=none", volume);
+    want_refused(missing, SQLITE_CANTOPEN);
+    spoil(home, "SQLite format 3", 15);
+    want_refused(path, SQLITE_NOTADB);
+    spoil(home, "famsync database\0\0\0\0\0\0\x90\x01", 24); /* a byte more than nine pages */
+    want_refused(path, SQLITE_NOTADB);
+    spoil(8, "\0\0\0\0", 4);
+    want_refused(path, SQLITE_CORRUPT);
+    spoil(0, "FAMSYNC9", 8);
+    want_refused(path, SQLITE_NOTADB);
+    fresh(1, SLOTS, "db=8191");
+    want_refused(path, SQLITE_CANTOPEN);
+    fresh(1, 1, "db=40960");
+    want_refused(path, SQLITE_CANTOPEN);
+    fresh(1, SLOTS, "db=40960");
+    snprintf(mark, sizeof mark, "%s.suspect", volume);
+    WANT(close(open(mark, O_WRONLY | O_CREAT, 0600)) == 0);
+    want_refused(path, SQLITE_CANTOPEN);
+}
+
+static void refuses_what_is_in_use(void)
+{
+    sqlite3 *other;
+    famsync *handle;
+    begin(1);
+    WANT(open_database(path, &other) == SQLITE_BUSY);
+    WANT_CODE(famsync_open(volume, NULL, &handle), FAMSYNC_INUSE);
+    must(database, "INSERT INTO row VALUES (1, 'it goes on')");
+    end();
+    WANT_CODE(famsync_open(volume, NULL, &handle), FAMSYNC_OK);
+    WANT(open_database(path, &other) == SQLITE_BUSY);
+    WANT_CODE(famsync_close(handle), FAMSYNC_OK);
+    WANT(open_database(path, &database) == SQLITE_OK && answers(database, "SELECT bytes FROM row", "it goes on"));
+    end();
+}
+
+/* Bytes that take a page of their own, all of them this letter. */
+#define LETTERS(letter) "replace(hex(zeroblob(1950)), '0', '" letter "')"
+
+static int store_rows(int first, int count)
+{
+    char statement[300];
+    snprintf(statement, sizeof statement,
+             "WITH RECURSIVE number(n) AS (SELECT %d UNION ALL SELECT n + 1 FROM number WHERE n < %d) "
+             "INSERT INTO row SELECT n, " LETTERS("x") " FROM number",
+             first, first + count - 1);
+    return run(database, statement);
+}
+
+static int change_rows(int count)
+{
+    char statement[200];
+    snprintf(statement, sizeof statement, "UPDATE row SET bytes = replace(bytes, 'x', 'y') WHERE id <= %d", count);
+    return run(database, statement);
+}
+
+/* How many of the rows have this letter. */
+static bool have(const char *letter, int rows)
+{
+    char statement[100], wanted[20];
+    snprintf(statement, sizeof statement, "SELECT count(*) FROM row WHERE bytes LIKE '%s%%'", letter);
+    snprintf(wanted, sizeof wanted, "%d", rows);
+    return answers(database, statement, wanted) && answers(database, "PRAGMA integrity_check", "ok");
+}
+
+/* A transaction may have a page less than a commit, of which one is the database's first. */
+static void refuses_large_transactions(unsigned layout, const char *cache)
+{
+    int most = SLOTS - 2 - (layout == 3);
+    begin(layout);
+    must(database, cache);
+    for (int first = 1; first < 40; first += 10)
+        WANT(store_rows(first, 10) == SQLITE_OK);
+    WANT(change_rows(most + 1) == SQLITE_FULL && sqlite3_get_autocommit(database) && have("y", 0) && have("x", 40));
+    WANT(change_rows(most) == SQLITE_OK && have("y", most));
+    must(database, "BEGIN; UPDATE row SET bytes = replace(bytes, 'x', 'z') WHERE id > 35");
+    WANT(change_rows(40) == SQLITE_FULL || run(database, "COMMIT") == SQLITE_FULL);
+    if (!sqlite3_get_autocommit(database))
+        must(database, "ROLLBACK");
+    WANT(have("y", most) && have("x", 40 - most));
+    reopen();
+    WANT(have("y", most) && have("x", 40 - most));
+    must(database, "UPDATE row SET bytes = replace(bytes, 'x', 'z') WHERE id > 35");
+    end();
+}
+
+/* A database is as large as its file, less one page. */
+static void refuses_a_large_database(void)
+{
+    int rows = 0;
+    char count[20];
+    begin(2);
+    while (store_rows(rows + 1, 1) == SQLITE_OK)
+        rows++;
+    snprintf(count, sizeof count, "%d", rows);
+    WANT(rows == PAGES - 3); /* but the one with the size, the database's first, and the table's first */
+    WANT(sqlite3_errcode(database) == SQLITE_FULL && answers(database, "SELECT count(*) FROM row", count));
+    must(database, "DELETE FROM row WHERE id = 7");
+    WANT(store_rows(7, 1) == SQLITE_OK && answers(database, "PRAGMA integrity_check", "ok"));
+    reopen();
+    WANT(answers(database, "SELECT count(*) FROM row", count) && answers(database, "PRAGMA integrity_check", "ok"));
+    end();
+}
+
+static void answers_pragmas(void)
+{
+    static const char *const refused[] = {
+        "PRAGMA locking_mode=EXCLUSIVE", "PRAGMA synchronous=OFF", "PRAGMA synchronous=0",
+        "PRAGMA synchronous=no",         "PRAGMA synchronous=7",   "PRAGMA synchronous=false",
+    };
+    static const char *const taken[][2] = {
+        {"PRAGMA journal_mode=WAL", "memory"}, /* it stays what it was */
+        {"PRAGMA journal_mode=DELETE", "delete"},
+        {"PRAGMA journal_mode=WAL", "delete"},
+        {"PRAGMA journal_mode=TRUNCATE", "truncate"},
+        {"PRAGMA journal_mode=PERSIST", "persist"},
+        {"PRAGMA journal_mode=MEMORY", "memory"},
+        {"PRAGMA locking_mode=NORMAL", "normal"},
+        {"PRAGMA synchronous=NORMAL; PRAGMA synchronous", "1"},
+        {"PRAGMA synchronous=FULL; PRAGMA synchronous", "2"},
+        {"PRAGMA synchronous=EXTRA; PRAGMA synchronous", "3"},
+        {"PRAGMA synchronous=on; PRAGMA synchronous", "1"},
+        {"PRAGMA mmap_size=1000000", ""},
+        {"PRAGMA page_size", "4096"},
+    };
+    begin(3);
+    for (size_t i = 0; i < sizeof refused / sizeof refused[0]; i++)
+        WANT(run(database, refused[i]) == SQLITE_ERROR);
+    WANT(answers(database, "PRAGMA locking_mode", "normal") && answers(database, "PRAGMA synchronous", "2"));
+    for (size_t i = 0; i < sizeof taken / sizeof taken[0]; i++) {
+        must(database, "INSERT INTO row VALUES (NULL, 'one more')");
+        WANT(answers(database, taken[i][0], taken[i][1]));
+    }
+    reopen();
+    WANT(answers(database, "SELECT count(*) FROM row", "13") && answers(database, "PRAGMA integrity_check", "ok"));
+    end();
+}
+
+/* Without a name it is the first file; an extension that is loaded again has its VFS still. */
+static void names(const char *extension)
+{
+    char first[200];
+    fresh(1, SLOTS, "db=40960 other=40960");
+    load_vfs(extension);
+    WANT(sqlite3_vfs_find("unix") && sqlite3_vfs_find("unix-none") && sqlite3_vfs_find("famsync"));
+    snprintf(first, sizeof first, "file:%s?vfs=famsync&foreground=1", volume);
+    WANT(open_database(first, &database) == SQLITE_OK);
+    must(database, "CREATE TABLE first (n)");
+    end();
+    WANT(open_database(path, &database) == SQLITE_OK);
+    WANT(answers(database, "SELECT name FROM sqlite_schema", "first"));
+    end();
+    snprintf(first, sizeof first, "file:%s?vfs=famsync&file=other", volume);
+    WANT(open_database(first, &database) == SQLITE_OK && answers(database, "SELECT count(*) FROM sqlite_schema", "0"));
+    end();
+}
+
+int main(int count, char **words)
+{
+    WANT(count == 2);
+    load_vfs(words[1]);
+    names(words[1]);
+    refuses_volumes();
+    refuses_what_is_in_use();
+    for (unsigned layout = 1; layout <= 3; layout++) {
+        refuses_large_transactions(layout, "PRAGMA cache_size=2000");
+        refuses_large_transactions(layout, "PRAGMA cache_size=5");
+    }
+    refuses_a_large_database();
+    answers_pragmas();
+    printf("clients/sqlite: limits: as they should be\n");
+    return 0;
+}
