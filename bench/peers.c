@@ -1,38 +1,59 @@
 /*
- * Commits of one kind of store, for bench/peers: `peers KIND PATH PAGES COMMITS` stores a word in each of PAGES pages
- * and commits that, COMMITS times, and prints the microseconds of the commit in the middle. The store was made before,
- * and what that costs isn't counted in the time.
+ * Commits of several ways to make pages durable, for bench/peers. Each commit stores to PAGES pages, of which every
+ * APART-th of a file is one.
  *
- *   famsync        plain memory over `famsync serve`; PATH is a volume with a file `a`
- *   msync          a shared mapping of a plain file, and msync(2): not atomic
- *   sqlite-wal, sqlite-delete     rows of a page each, updated in one transaction, synchronous=FULL
- *   lmdb           values of a page each, put in one transaction
+ *   peers turns PAGES APART TURNS WAY ..    the ways take turns, a commit each; prints for each the microseconds of its
+ *                                           commit in the middle
+ *   peers counted PAGES APART COMMITS WAY   prints writes, bytes, syncs, reads and protections of so many commits up to
+ *                                           their acknowledgement, by the thread that commits; and the first three in
+ *                                           all. With counted.c before it
+ *
+ * ways.c and by_hand.c have the ways. Stores are made in the folder from which it is called.
  */
-#define _DEFAULT_SOURCE
-#include <famsync.h>
+#include "peers.h"
 
-#include <fcntl.h>
-#include <stdio.h>
-#include <stdlib.h>
-#include <string.h>
-#include <sys/mman.h>
+#include "counted.h"
+#include "test.h"
+
+#include <dlfcn.h>
 #include <time.h>
-#include <unistd.h>
-#ifdef HAVE_SQLITE
-#include <sqlite3.h>
-#endif
-#ifdef HAVE_LMDB
-#include <lmdb.h>
-#endif
 
-#define PAGE 4096
+#define MOST_WAYS 16
 
-static void must(int holds, const char *what)
+struct pages pages;
+
+void must(bool holds, const char *what)
 {
     if (holds)
         return;
     fprintf(stderr, "peers: %s\n", what);
     exit(1);
+}
+
+size_t bytes_of_file(void)
+{
+    return (size_t)pages.count * (size_t)pages.apart * PAGE;
+}
+
+void make_volume_file(const char *path)
+{
+    char files[40];
+    strcpy(folder, ".");
+    snprintf(volume, sizeof volume, "%s", path);
+    snprintf(files, sizeof files, "a=%zu", bytes_of_file());
+    make_volume_of(1, SLOTS, files);
+}
+
+static const struct way *way_of(const char *name)
+{
+    for (const struct way *way = ways; way->name; way++)
+        if (strcmp(way->name, name) == 0)
+            return way;
+    for (const struct way *way = ways_by_hand; way->name; way++)
+        if (strcmp(way->name, name) == 0)
+            return way;
+    must(false, name);
+    return NULL;
 }
 
 static double now(void)
@@ -48,155 +69,120 @@ static int compare(const void *left, const void *right)
     return (one > other) - (one < other);
 }
 
-/* Times COMMITS calls, each with the number that is stored. */
-static void time_commits(int commits, void (*commit)(void *state, int number), void *state)
+static double commit_of(const struct way *way, int number)
 {
-    double *times = calloc((size_t)commits, sizeof *times);
-    must(times != NULL, "no memory");
-    for (int i = 0; i < commits; i++) {
-        double began = now();
-        commit(state, i + 1);
-        times[i] = now() - began;
+    double began = now(), ended;
+    way->commit(number);
+    ended = now();
+    if (way->settle)
+        way->settle();
+    return ended - began;
+}
+
+/* The ways begin with another one each turn, so that none always comes behind the same one. Two commits of each come
+   before, and aren't counted. */
+static void take_turns(int turns, int count, char **names)
+{
+    double *times = calloc((size_t)turns * (size_t)count, sizeof *times);
+    const struct way *chosen[MOST_WAYS];
+    must(times && turns > 0 && count <= MOST_WAYS, "turns");
+    for (int i = 0; i < count; i++) {
+        chosen[i] = way_of(names[i]);
+        chosen[i]->begin();
     }
-    qsort(times, (size_t)commits, sizeof *times, compare);
-    printf("%.0f\n", times[commits / 2]);
+    for (int turn = -2; turn < turns; turn++)
+        for (int i = 0; i < count; i++) {
+            int which = (i + turn + 2) % count;
+            double time = commit_of(chosen[which], turn + 3);
+            if (turn >= 0)
+                times[which * turns + turn] = time;
+        }
+    for (int i = 0; i < count; i++) {
+        chosen[i]->end();
+        qsort(times + i * turns, (size_t)turns, sizeof *times, compare);
+        printf("%s %.0f\n", chosen[i]->name, times[i * turns + turns / 2]);
+    }
     free(times);
 }
 
-struct state {
-    int pages;
-    char *at;
-    famsync *volume;
-#ifdef HAVE_SQLITE
-    sqlite3 *database;
-    sqlite3_stmt *update;
-#endif
-#ifdef HAVE_LMDB
-    MDB_env *environment;
-    MDB_dbi table;
-#endif
-};
+static void (*ask)(long of_thread[COUNTS], long of_all[COUNTS]);
 
-static void store_words(struct state *state, int number)
+/* The last sync of a commit comes after its gate is closed, by which a way may settle: it is waited for. */
+static void wait_for_syncs(long before)
 {
-    for (int page = 0; page < state->pages; page++)
-        memcpy(state->at + (size_t)page * PAGE, &number, sizeof number);
-}
-
-static void commit_famsync(void *of, int number)
-{
-    struct state *state = of;
-    store_words(state, number);
-    must(famsync_msync(state->volume, NULL) == FAMSYNC_OK, "famsync_msync");
-}
-
-static void commit_msync(void *of, int number)
-{
-    struct state *state = of;
-    store_words(state, number);
-    must(msync(state->at, (size_t)state->pages * PAGE, MS_SYNC) == 0, "msync");
-}
-
-#ifdef HAVE_SQLITE
-static void run(struct state *state, const char *statement)
-{
-    must(sqlite3_exec(state->database, statement, NULL, NULL, NULL) == SQLITE_OK, statement);
-}
-
-static void commit_sqlite(void *of, int number)
-{
-    struct state *state = of;
-    run(state, "BEGIN");
-    for (int page = 0; page < state->pages; page++) {
-        sqlite3_bind_int(state->update, 1, number);
-        sqlite3_bind_int(state->update, 2, page);
-        must(sqlite3_step(state->update) == SQLITE_DONE && sqlite3_reset(state->update) == SQLITE_OK, "UPDATE");
+    long own[COUNTS], all[COUNTS];
+    for (int tries = 0; tries < 5000; tries++) {
+        ask(own, all);
+        if (all[SYNCS] - before >= 4)
+            return;
+        usleep(1000);
     }
-    run(state, "COMMIT");
+    must(false, "fewer than four syncs");
 }
 
-static void sqlite_of(struct state *state, const char *path, const char *journal, int commits)
+/* Makes a commit, and adds to the counts of this thread up to its acknowledgement, and to those of all. */
+static void count_commit(const struct way *way, int number, long sums[COUNTS], long whole[COUNTS])
 {
-    char statement[200];
-    must(sqlite3_open(path, &state->database) == SQLITE_OK, path);
-    snprintf(statement, sizeof statement, "PRAGMA journal_mode=%s; PRAGMA synchronous=FULL", journal);
-    run(state, statement);
-    run(state, "CREATE TABLE page (id INTEGER PRIMARY KEY, word INTEGER, rest BLOB)");
-    snprintf(statement, sizeof statement,
-             "WITH RECURSIVE number(n) AS (SELECT 0 UNION ALL SELECT n + 1 FROM number WHERE n + 1 < %d) "
-             "INSERT INTO page SELECT n, 0, randomblob(3900) FROM number",
-             state->pages);
-    run(state, statement);
-    const char *update = "UPDATE page SET word = ? WHERE id = ?";
-    must(sqlite3_prepare_v2(state->database, update, -1, &state->update, NULL) == SQLITE_OK, update);
-    time_commits(commits, commit_sqlite, state);
-    sqlite3_finalize(state->update);
-    sqlite3_close(state->database);
-}
-#endif
-
-#ifdef HAVE_LMDB
-static void commit_lmdb(void *of, int number)
-{
-    static char rest[4000];
-    struct state *state = of;
-    MDB_txn *transaction;
-    must(mdb_txn_begin(state->environment, NULL, 0, &transaction) == 0, "mdb_txn_begin");
-    for (int page = 0; page < state->pages; page++) {
-        MDB_val key = {sizeof page, &page}, value = {sizeof rest, rest};
-        memcpy(rest, &number, sizeof number);
-        must(mdb_put(transaction, state->table, &key, &value, 0) == 0, "mdb_put");
+    long own[COUNTS], all[COUNTS], own_after[COUNTS], all_after[COUNTS];
+    ask(own, all);
+    way->commit(number);
+    ask(own_after, all_after);
+    for (int i = 0; i < COUNTS; i++)
+        sums[i] += own_after[i] - own[i];
+    if (way->settle) {
+        way->settle();
+        wait_for_syncs(all[SYNCS]);
     }
-    must(mdb_txn_commit(transaction) == 0, "mdb_txn_commit");
+    ask(own_after, all_after);
+    for (int i = 0; i < COUNTS; i++)
+        whole[i] += all_after[i] - all[i];
 }
 
-static void lmdb_of(struct state *state, const char *path, int commits)
+/* A way whose store is a volume has left the last number in each page. */
+static void check_volume(const char *path, int number)
 {
-    MDB_txn *transaction;
-    must(mdb_env_create(&state->environment) == 0 && mdb_env_set_mapsize(state->environment, 64 << 20) == 0, "mdb_env");
-    must(mdb_env_open(state->environment, path, MDB_NOSUBDIR, 0666) == 0, "mdb_env_open");
-    must(mdb_txn_begin(state->environment, NULL, 0, &transaction) == 0, "mdb_txn_begin");
-    must(mdb_dbi_open(transaction, NULL, MDB_INTEGERKEY, &state->table) == 0, "mdb_dbi_open");
-    must(mdb_txn_commit(transaction) == 0, "mdb_txn_commit");
-    commit_lmdb(state, 0);
-    time_commits(commits, commit_lmdb, state);
-    mdb_env_close(state->environment);
+    famsync *handle;
+    uint64_t address;
+    WANT_CODE(famsync_open(path, NULL, &handle), FAMSYNC_OK);
+    WANT_CODE(famsync_map(handle, "a", 0, 0, FAMSYNC_READ, &address), FAMSYNC_OK);
+    for (int i = 0; i < pages.count; i++) {
+        int found;
+        uint64_t at = address + (uint64_t)i * (unsigned)pages.apart * PAGE;
+        WANT_CODE(famsync_load(handle, at, &found, sizeof found, NULL), FAMSYNC_OK);
+        WANT(found == number);
+    }
+    WANT_CODE(famsync_close(handle), FAMSYNC_OK);
 }
-#endif
+
+/* Two commits come before those that are counted. */
+static void count_commits(const struct way *way, int commits)
+{
+    long sums[COUNTS], whole[COUNTS];
+    *(void **)&ask = dlsym(RTLD_DEFAULT, "counted_now");
+    must(ask != NULL, "counted.c isn't before it");
+    way->begin();
+    for (int number = 1; number <= commits + 2; number++) {
+        if (number <= 3) {
+            memset(sums, 0, sizeof sums);
+            memset(whole, 0, sizeof whole);
+        }
+        count_commit(way, number, sums, whole);
+    }
+    way->end();
+    if (way->volume)
+        check_volume(way->volume, commits + 2);
+    printf("%ld %ld %ld %ld %ld ", sums[WRITES], sums[BYTES], sums[SYNCS], sums[READS], sums[PROTECTIONS]);
+    printf("%ld %ld %ld\n", whole[WRITES], whole[BYTES], whole[SYNCS]);
+}
 
 int main(int count, char **words)
 {
-    must(count == 5, "usage: peers KIND PATH PAGES COMMITS");
-    const char *kind = words[1], *path = words[2];
-    int commits = atoi(words[4]);
-    struct state state = {.pages = atoi(words[3])};
-    if (strcmp(kind, "famsync") == 0) {
-        famsync_memory *memory;
-        must(famsync_open(path, NULL, &state.volume) == FAMSYNC_OK, "famsync_open");
-        must(famsync_memory_open(state.volume, "a", &memory) == FAMSYNC_OK, "famsync_memory_open");
-        state.at = famsync_memory_at(memory);
-        time_commits(commits, commit_famsync, &state);
-        must(famsync_memory_close(memory) == FAMSYNC_OK && famsync_close(state.volume) == FAMSYNC_OK, "famsync_close");
-    } else if (strcmp(kind, "msync") == 0) {
-        size_t length = (size_t)state.pages * PAGE;
-        int file = open(path, O_RDWR | O_CREAT, 0666);
-        must(file >= 0 && ftruncate(file, (off_t)length) == 0, "the plain file");
-        state.at = mmap(NULL, length, PROT_READ | PROT_WRITE, MAP_SHARED, file, 0);
-        must(state.at != MAP_FAILED, "mmap");
-        commit_msync(&state, 0);
-        time_commits(commits, commit_msync, &state);
-#ifdef HAVE_SQLITE
-    } else if (strcmp(kind, "sqlite-wal") == 0) {
-        sqlite_of(&state, path, "WAL", commits);
-    } else if (strcmp(kind, "sqlite-delete") == 0) {
-        sqlite_of(&state, path, "DELETE", commits);
-#endif
-#ifdef HAVE_LMDB
-    } else if (strcmp(kind, "lmdb") == 0) {
-        lmdb_of(&state, path, commits);
-#endif
-    } else {
-        must(0, "no such kind");
-    }
+    must(count >= 6, "usage: peers turns|counted PAGES APART TURNS WAY ..");
+    pages = (struct pages){atoi(words[2]), atoi(words[3])};
+    must(pages.count > 0 && pages.count <= SLOTS && pages.apart > 0, "PAGES and APART");
+    if (strcmp(words[1], "turns") == 0)
+        take_turns(atoi(words[4]), count - 5, words + 5);
+    else
+        count_commits(way_of(words[5]), atoi(words[4]));
     return 0;
 }

@@ -11,8 +11,8 @@ static inline void load_vfs(const char *extension)
 {
     sqlite3 *first;
     char *message = NULL;
-    WANT(sqlite3_open(":memory:", &first) == SQLITE_OK && sqlite3_enable_load_extension(first, 1) == SQLITE_OK);
-    if (sqlite3_load_extension(first, extension, NULL, &message) != SQLITE_OK) {
+    if (sqlite3_open(":memory:", &first) != SQLITE_OK || sqlite3_enable_load_extension(first, 1) != SQLITE_OK ||
+        sqlite3_load_extension(first, extension, NULL, &message) != SQLITE_OK) {
         fprintf(stderr, "%s: %s\n", extension, message ? message : "can't be loaded");
         exit(2);
     }

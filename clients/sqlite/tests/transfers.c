@@ -1,115 +1,111 @@
 /*
- * A bank in SQLite, for the kills of clients/sqlite/compare. Each account has a page of its own; a transfer moves money
- * between 50 of them and adds a row to a log, in one transaction. The sum of all accounts stays 0.
+ * A bank in SQLite, for the kills of clients/sqlite/compare and the faults of tests/cut_off. Each account has a page of
+ * its own; a transfer moves money between 50 of them and adds a row to a log, in one transaction. The sum of all
+ * accounts stays 0.
  *
+ *   transfers format VOLUME SLOTS FILE=BYTES          a volume of layout 1
  *   transfers make DATABASE JOURNAL ACCOUNTS          prints nothing
- *   transfers run DATABASE JOURNAL CACHE COUNT        prints `acknowledged N` after each, and the microseconds of one
+ *   transfers run DATABASE JOURNAL CACHE COUNT        prints `acknowledged N` after each, or `failed CODE`, and the
+ *                                                     microseconds of one
  *   transfers large DATABASE JOURNAL CACHE PAGES      one transaction that stores to so many pages; prints how it ended
  *   transfers check DATABASE                          prints the integrity check, the sum and how many were logged
  *
  * EXTENSION in the environment is loaded before. JOURNAL is a mode, CACHE a number of pages. All is with
- * PRAGMA synchronous=FULL.
+ * PRAGMA synchronous=FULL. The status is 3 where the database can't be opened, 4 where something else failed.
  */
-#define _DEFAULT_SOURCE
-#include <sqlite3.h>
-#include <stdio.h>
-#include <stdlib.h>
-#include <string.h>
+#include "database.h"
+
 #include <time.h>
 
 static sqlite3 *database;
-static char answer[300];
 
-static int keep(void *unused, int columns, char **values, char **names)
+/* What can't be gone on without. */
+static void need(const char *statements)
 {
-    (void)unused, (void)names;
-    for (int i = 0; i < columns; i++)
-        snprintf(answer, sizeof answer, "%s", values[i] ? values[i] : "NULL");
-    return 0;
-}
-
-static int try_to(const char *statement)
-{
-    answer[0] = 0;
-    return sqlite3_exec(database, statement, keep, NULL, NULL);
-}
-
-static void must(const char *statement)
-{
-    int code = try_to(statement);
-    if (code != SQLITE_OK) {
-        fprintf(stderr, "transfers: %s: %s (%d)\n", statement, sqlite3_errmsg(database),
-                sqlite3_extended_errcode(database));
-        exit(code == SQLITE_CORRUPT || code == SQLITE_NOTADB ? 5 : 4);
-    }
-}
-
-static const char *ask(const char *question)
-{
-    must(question);
-    return answer;
+    int code = run(database, statements);
+    if (code == SQLITE_OK)
+        return;
+    printf("failed %d\n", code);
+    fprintf(stderr, "transfers: %s: %s\n", statements, sqlite3_errmsg(database));
+    exit(4);
 }
 
 static void begin_with(const char *path, const char *journal, const char *cache)
 {
-    char statement[200];
+    char statement[200], mode[300];
     const char *extension = getenv("EXTENSION");
-    if (extension) {
-        sqlite3 *first;
-        char *message = NULL;
-        if (sqlite3_open(":memory:", &first) != SQLITE_OK || sqlite3_enable_load_extension(first, 1) != SQLITE_OK ||
-            sqlite3_load_extension(first, extension, NULL, &message) != SQLITE_OK) {
-            fprintf(stderr, "transfers: %s: %s\n", extension, message ? message : "can't be loaded");
-            exit(2);
-        }
-        sqlite3_close(first);
-    }
-    if (sqlite3_open_v2(path, &database, SQLITE_OPEN_READWRITE | SQLITE_OPEN_CREATE | SQLITE_OPEN_URI, NULL) !=
-        SQLITE_OK) {
-        fprintf(stderr, "transfers: %s: %s\n", path, sqlite3_errmsg(database));
+    int code;
+    if (extension)
+        load_vfs(extension);
+    code = open_database(path, &database);
+    if (code != SQLITE_OK) {
+        printf("failed %d\n", code);
         exit(3);
     }
-    must("PRAGMA synchronous=FULL");
+    need("PRAGMA synchronous=FULL");
     if (journal) {
         snprintf(statement, sizeof statement, "PRAGMA journal_mode=%s", journal);
-        if (sqlite3_stricmp(ask(statement), journal) != 0) {
-            fprintf(stderr, "transfers: the journal's mode is %s\n", answer);
+        need(statement);
+        code = ask_for(database, "PRAGMA journal_mode", mode);
+        if (code == SQLITE_OK && sqlite3_stricmp(mode, journal) != 0) {
+            fprintf(stderr, "transfers: the journal's mode is %s\n", mode);
             exit(2);
         }
     }
     if (cache) {
         snprintf(statement, sizeof statement, "PRAGMA cache_size=%s", cache);
-        must(statement);
+        need(statement);
     }
 }
 
 static void make(int accounts)
 {
     char statement[300];
-    must("CREATE TABLE account (id INTEGER PRIMARY KEY, balance INTEGER, note BLOB)");
-    must("CREATE TABLE log (id INTEGER PRIMARY KEY)");
+    need("CREATE TABLE account (id INTEGER PRIMARY KEY, balance INTEGER, note BLOB)");
+    need("CREATE TABLE log (id INTEGER PRIMARY KEY)");
     /* few a transaction: each must fit into a commit */
     for (int first = 0; first < accounts; first += 20) {
         snprintf(statement, sizeof statement,
                  "WITH RECURSIVE number(n) AS (SELECT %d UNION ALL SELECT n + 1 FROM number WHERE n + 1 < %d) "
                  "INSERT INTO account SELECT n, 0, randomblob(3900) FROM number",
                  first, first + 20 < accounts ? first + 20 : accounts);
-        must(statement);
+        need(statement);
     }
 }
 
-static void transfer(int number)
+/* A number that a question is answered by. */
+static int number_of(const char *question, int *number)
+{
+    char answer[300];
+    int code = ask_for(database, question, answer);
+    *number = atoi(answer);
+    return code;
+}
+
+/* Answers SQLite's code; where it isn't SQLITE_OK, the transaction is over. */
+static int transfer(void)
 {
     char statement[200];
-    int accounts = atoi(ask("SELECT count(*) FROM account"));
-    must("BEGIN");
-    for (int i = 0; i < 50; i++) {
+    int accounts = 1, number = 0;
+    int code = number_of("SELECT count(*) FROM account", &accounts);
+    if (code == SQLITE_OK)
+        code = number_of("SELECT count(*) + 1 FROM log", &number);
+    if (code == SQLITE_OK)
+        code = run(database, "BEGIN");
+    for (int i = 0; i < 50 && code == SQLITE_OK; i++) {
         snprintf(statement, sizeof statement, "UPDATE account SET balance = balance %c %d WHERE id = %d",
                  i % 2 ? '-' : '+', number + i / 2, (number * 31 + i * 7) % accounts);
-        must(statement);
+        code = run(database, statement);
     }
-    must("INSERT INTO log DEFAULT VALUES");
-    must("COMMIT");
+    if (code == SQLITE_OK)
+        code = run(database, "INSERT INTO log DEFAULT VALUES");
+    if (code == SQLITE_OK)
+        code = run(database, "COMMIT");
+    if (!sqlite3_get_autocommit(database))
+        (void)run(database, "ROLLBACK");
+    if (code == SQLITE_OK)
+        printf("acknowledged %d\n", number);
+    return code;
 }
 
 static double now(void)
@@ -119,47 +115,74 @@ static double now(void)
     return (double)time.tv_sec * 1e6 + (double)time.tv_nsec / 1e3;
 }
 
+/* Makes so many transfers, whether they succeed or not; answers how many failed. */
+static int make_transfers(int count)
+{
+    int failed = 0;
+    double began = now();
+    for (int i = 0; i < count; i++) {
+        int code = transfer();
+        if (code != SQLITE_OK)
+            printf("failed %d\n", code);
+        failed += code != SQLITE_OK;
+        fflush(stdout);
+    }
+    printf("%.0f\n", (now() - began) / count);
+    return failed;
+}
+
 static void check(void)
 {
-    char whole[300], sum[300];
-    snprintf(whole, sizeof whole, "%s", ask("PRAGMA integrity_check"));
-    snprintf(sum, sizeof sum, "%s", ask("SELECT sum(balance) FROM account"));
-    printf("%s %s %s\n", whole, sum, ask("SELECT count(*) FROM log"));
+    char whole[300], sum[300], logged[300];
+    if (ask_for(database, "PRAGMA integrity_check", whole) ||
+        ask_for(database, "SELECT sum(balance) FROM account", sum) ||
+        ask_for(database, "SELECT count(*) FROM log", logged)) {
+        fprintf(stderr, "transfers: check: %s\n", sqlite3_errmsg(database));
+        exit(4);
+    }
+    printf("%s %s %s\n", whole, sum, logged);
+}
+
+static void large(const char *pages)
+{
+    char statement[200];
+    int code;
+    need("BEGIN");
+    need("INSERT INTO log DEFAULT VALUES");
+    snprintf(statement, sizeof statement, "UPDATE account SET balance = balance + 1 WHERE id < %s", pages);
+    code = run(database, statement);
+    if (code == SQLITE_OK)
+        code = run(database, "COMMIT");
+    printf("%d %s\n", code, sqlite3_errmsg(database));
+    if (!sqlite3_get_autocommit(database))
+        need("ROLLBACK");
+    check();
+    WANT(transfer() == SQLITE_OK);
+    check();
+}
+
+static void format(const char *path, const char *slots, const char *files)
+{
+    strcpy(folder, ".");
+    snprintf(volume, sizeof volume, "%s", path);
+    make_volume_of(1, (unsigned)atoi(slots), files);
 }
 
 int main(int count, char **words)
 {
     const char *what = count > 2 ? words[1] : "";
-    if (strcmp(what, "make") == 0 && count == 5) {
+    int failed = 0;
+    if (strcmp(what, "format") == 0 && count == 5) {
+        format(words[2], words[3], words[4]);
+    } else if (strcmp(what, "make") == 0 && count == 5) {
         begin_with(words[2], words[3], NULL);
         make(atoi(words[4]));
     } else if (strcmp(what, "run") == 0 && count == 6) {
         begin_with(words[2], words[3], words[4]);
-        int transfers = atoi(words[5]);
-        int before = atoi(ask("SELECT count(*) FROM log"));
-        double began = now();
-        for (int i = 1; i <= transfers; i++) {
-            transfer(before + i);
-            printf("acknowledged %d\n", before + i);
-            fflush(stdout);
-        }
-        printf("%.0f\n", (now() - began) / transfers);
+        failed = make_transfers(atoi(words[5]));
     } else if (strcmp(what, "large") == 0 && count == 6) {
-        char statement[200];
-        int code;
         begin_with(words[2], words[3], words[4]);
-        must("BEGIN");
-        must("INSERT INTO log DEFAULT VALUES");
-        snprintf(statement, sizeof statement, "UPDATE account SET balance = balance + 1 WHERE id < %s", words[5]);
-        code = try_to(statement);
-        if (code == SQLITE_OK)
-            code = try_to("COMMIT");
-        printf("%d %s\n", code, sqlite3_errmsg(database));
-        if (!sqlite3_get_autocommit(database))
-            must("ROLLBACK");
-        check();
-        transfer(atoi(ask("SELECT count(*) FROM log")) + 1);
-        check();
+        large(words[5]);
     } else if (strcmp(what, "check") == 0 && count == 3) {
         begin_with(words[2], NULL, NULL);
         check();
@@ -167,5 +190,5 @@ int main(int count, char **words)
         fprintf(stderr, "transfers: the words aren't those of a command\n");
         return 2;
     }
-    return sqlite3_close(database) == SQLITE_OK ? 0 : 4;
+    return sqlite3_close(database) == SQLITE_OK && failed == 0 ? 0 : 4;
 }

@@ -1,0 +1,9 @@
+/* What counted.c counts, for a program that asks it. */
+#ifndef COUNTED_H
+#define COUNTED_H
+
+enum count { WRITES, BYTES, SYNCS, READS, PROTECTIONS, COUNTS };
+
+void counted_now(long of_thread[COUNTS], long of_all[COUNTS]);
+
+#endif

@@ -1,0 +1,37 @@
+/* What the files of bench/peers share: ways to store to some pages and make that durable at once. */
+#ifndef PEERS_H
+#define PEERS_H
+
+#define _DEFAULT_SOURCE
+#include <stdbool.h>
+#include <stddef.h>
+
+#define PAGE 4096
+#define SLOTS 1020 /* of each volume: the most pages of a commit */
+
+struct way {
+    const char *name;
+    const char *volume;         /* the volume that is its store; or a null pointer */
+    void (*begin)(void);        /* makes its store, and opens it */
+    void (*commit)(int number); /* stores the number in each page, and commits that */
+    void (*settle)(void);       /* waits for what comes after the acknowledgement, or makes it; or a null pointer */
+    void (*end)(void);
+};
+
+/* The pages of a commit: `count` of them, neighbours where `apart` is 1; page i of a file is the i-th times `apart`. */
+struct pages {
+    int count, apart;
+};
+
+extern struct pages pages;
+
+void must(bool holds, const char *what);
+
+/* Makes a volume of one file, `a`, with all pages. */
+void make_volume_file(const char *path);
+size_t bytes_of_file(void);
+
+/* ways.c, by_hand.c: the ways that there are, up to one without a name. */
+extern const struct way ways[], ways_by_hand[];
+
+#endif
