@@ -15,7 +15,8 @@
  * memory by an error, so what waits when it gives its lock back is dropped: the transaction is rolled back by that.
  *
  * A volume is used by one connection of one process. Other files of SQLite (a journal that isn't in memory, temporary
- * ones) are those of the default VFS. WAL, locking_mode=EXCLUSIVE and synchronous=OFF aren't offered.
+ * ones) are those of the default VFS. WAL, journal_mode=OFF, locking_mode=EXCLUSIVE and synchronous=OFF aren't offered.
+ * After a write or a sync that failed, or a commit that was refused memory, the connection has to be opened again.
  */
 #include <sqlite3ext.h>
 SQLITE_EXTENSION_INIT1
@@ -272,14 +273,21 @@ static bool syncs(const char *value)
     return false;
 }
 
+/* Whether a PRAGMA asks for what the VFS can't serve: WAL needs no word here, since SQLite asks the methods for it. */
+static bool is_refused(const char *name, const char *value)
+{
+    if (sqlite3_stricmp(name, "locking_mode") == 0)
+        return sqlite3_stricmp(value, "exclusive") == 0;
+    if (sqlite3_stricmp(name, "journal_mode") == 0)
+        return sqlite3_stricmp(value, "off") == 0;
+    return sqlite3_stricmp(name, "synchronous") == 0 && !syncs(value);
+}
+
 static int control(sqlite3_file *file, int what, void *argument)
 {
     char **words = argument;
     (void)file;
-    if (what != SQLITE_FCNTL_PRAGMA || !words[2])
-        return SQLITE_NOTFOUND;
-    if ((sqlite3_stricmp(words[1], "locking_mode") != 0 || sqlite3_stricmp(words[2], "exclusive") != 0) &&
-        (sqlite3_stricmp(words[1], "synchronous") != 0 || syncs(words[2])))
+    if (what != SQLITE_FCNTL_PRAGMA || !words[2] || !is_refused(words[1], words[2]))
         return SQLITE_NOTFOUND;
     words[0] = sqlite3_mprintf("the VFS famsync doesn't offer %s=%s", words[1], words[2]);
     return SQLITE_ERROR;

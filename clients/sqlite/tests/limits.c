@@ -177,8 +177,9 @@ static void refuses_a_large_database(void)
 static void answers_pragmas(void)
 {
     static const char *const refused[] = {
-        "PRAGMA locking_mode=EXCLUSIVE", "PRAGMA synchronous=OFF", "PRAGMA synchronous=0",
-        "PRAGMA synchronous=no",         "PRAGMA synchronous=7",   "PRAGMA synchronous=false",
+        "PRAGMA locking_mode=EXCLUSIVE", "PRAGMA synchronous=OFF",    "PRAGMA synchronous=0",
+        "PRAGMA synchronous=no",         "PRAGMA synchronous=7",      "PRAGMA synchronous=false",
+        "PRAGMA journal_mode=OFF",       "PRAGMA journal_mode='off'",
     };
     static const char *const taken[][2] = {
         {"PRAGMA journal_mode=WAL", "memory"}, /* it stays what it was */

@@ -196,7 +196,7 @@ static void one_database(void)
 int main(int count, char **words)
 {
     WANT(count >= 2);
-    unsigned long databases = count > 2 ? strtoul(words[2], NULL, 10) : 20;
+    unsigned long databases = count > 2 ? strtoul(words[2], NULL, 10) : 10;
     unsigned long first = count > 3 ? strtoul(words[3], NULL, 10) : (unsigned long)getpid();
     load_vfs(words[1]);
     for (seed = first; seed < first + databases; seed++) {
