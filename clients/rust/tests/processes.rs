@@ -1,5 +1,5 @@
-//! What ends a process, or takes one with limits: each is an ignored test of this program, run in a child. A volume
-//! isn't opened twice here, as it is in use as long as a child that is about to be another program has it open.
+//! What ends a process, or takes one with limits: each is an ignored test of this program, run in a child. And that a
+//! process which starts others may close a volume and open it again.
 
 mod volumes;
 
@@ -8,6 +8,7 @@ use std::env;
 use std::hint::black_box;
 use std::os::unix::process::ExitStatusExt;
 use std::process::{Command, Output};
+use std::sync::atomic::{AtomicBool, Ordering};
 use std::thread;
 use volumes::{make_volume, Made};
 
@@ -106,6 +107,23 @@ fn forks() {
     assert_eq!(unsafe { waitpid(child, &mut status, 0) }, child);
     assert_eq!(status, 7 << 8);
     assert_eq!(volume.commit().unwrap(), 1);
+}
+
+/// A child has the descriptors of its parent until it is another program.
+#[test]
+fn programs_that_are_started() {
+    let made = make_volume(1, 16, "a=8192");
+    let stopped = AtomicBool::new(false);
+    thread::scope(|scope| {
+        scope.spawn(|| {
+            while !stopped.load(Ordering::Relaxed) {
+                assert!(Command::new("true").status().unwrap().success());
+            }
+        });
+        let opened: Result<Vec<_>, _> = (0..300).map(|_| Volume::open(made.path())?.close()).collect();
+        stopped.store(true, Ordering::Relaxed);
+        opened.unwrap();
+    });
 }
 
 #[test]
