@@ -100,7 +100,12 @@ static int open_core(famsync *handle, const struct famsync_options *options)
     while (code == FAMSYNC_OK && answer == FAMSYNC_CORE_WANTED) {
         uint32_t wanted = 0;
         answer = famsync_core_open(handle->core, options->frames, options->copies, &wanted, &handle->core.at);
-        code = answer == FAMSYNC_CORE_WANTED ? supply(handle, wanted, 0) : code_of(answer);
+        if (answer == FAMSYNC_CORE_WANTED)
+            code = supply(handle, wanted, 0);
+        else if (answer == FAMSYNC_CORE_DEVICE) /* there was no memory for a call that it would record */
+            code = FAMSYNC_NOMEMORY;
+        else
+            code = code_of(answer);
     }
     if (code == FAMSYNC_OK)
         code = read_files(handle);

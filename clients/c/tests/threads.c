@@ -74,6 +74,7 @@ int main(void)
     ualarm(2000, 2000);
 #endif
     for (; commits < 25; commits++) {
+        usleep(1000); /* so that the others store, too, where there are few processors */
         WANT_CODE(famsync_msync(handle, NULL), FAMSYNC_OK);
         /* what a load finds is what was committed */
         WANT_CODE(famsync_load(handle, address, committed, sizeof committed, NULL), FAMSYNC_OK);
