@@ -175,7 +175,7 @@ static void session(void)
 
 int main(int count, char **words)
 {
-    unsigned sessions = count > 1 ? (unsigned)atoi(words[1]) : 40, first = count > 2 ? (unsigned)atoi(words[2]) : 1;
+    unsigned sessions = count > 1 ? (unsigned)atoi(words[1]) : 24, first = count > 2 ? (unsigned)atoi(words[2]) : 1;
     make_folder();
     snprintf(copied, sizeof copied, "%s/copy.img", folder);
     for (seed = first; seed < first + sessions; seed++) {
