@@ -5,8 +5,8 @@
 #   make uninstall    takes it away again; with the same PREFIX and DESTDIR
 #   make dist         out/famsync-VERSION-linux-x86_64.tar.gz, for users without the kit
 #
-# The program and the core have to be proved and built before, by `./demo` and crates/famsync_core/build, or by `.ci/run`.
-# PROGRAM and CORE name others.
+# The program and the core have to be proved and built before, by `./demo` and crates/famsync_core/build, or by
+# `.ci/run`. PROGRAM and CORE name others.
 PREFIX ?= /usr/local
 OUT ?= out
 PROVED = PROGRAM='$(PROGRAM)' CORE='$(CORE)'
