@@ -6,7 +6,7 @@ import ctypes
 import os
 import weakref
 from types import TracebackType
-from typing import TYPE_CHECKING, Any, Optional, SupportsIndex, Type, overload
+from typing import TYPE_CHECKING, Any, NoReturn, Optional, SupportsIndex, Type, overload
 
 from . import _buffers
 from ._errors import Forked, check
@@ -103,6 +103,9 @@ class Memory:
         found = self._closing.peek()
         if found is not None:
             self._bytes = memoryview(found[0])
+
+    def __reduce__(self) -> NoReturn:
+        raise TypeError("the memory of a volume can't be copied")
 
     def __repr__(self) -> str:
         how = f"{len(self._bytes)} bytes" if self._closing.alive else "closed"

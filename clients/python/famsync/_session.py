@@ -7,7 +7,7 @@ import sys
 import threading
 import time
 from types import FrameType
-from typing import Any, Callable, List, Optional, Set, TypeVar
+from typing import Any, Callable, List, NoReturn, Optional, Set, TypeVar
 
 from ._errors import Forked
 from ._library import words
@@ -26,6 +26,9 @@ class Session:
         self._handles: List[int] = [handle]
         self._what = what
         self._owner = os.getpid()
+
+    def __reduce__(self) -> NoReturn:
+        raise TypeError("a session with a volume can't be copied")
 
     @property
     def is_forked(self) -> bool:

@@ -7,7 +7,7 @@ import operator
 import os
 import weakref
 from types import TracebackType
-from typing import Any, Dict, Optional, Type, Union
+from typing import Any, Dict, NoReturn, Optional, Type, Union
 
 from ._errors import Argument, Error, check
 from ._library import READ, WRITE, Options, library
@@ -143,8 +143,10 @@ class Volume:
 
     def close(self) -> None:
         """Ends the session, and closes its plain memory; stores since the last commit are gone. It waits for the calls
-        of other threads. BufferError where somebody has a buffer of plain memory: then the volume stays open. Device
-        where a write or a sync failed: then it is closed, and what was acknowledged is kept."""
+        of other threads, and is a RuntimeError from within a call of its own, as a signal's handler may be.
+
+        BufferError where somebody has a buffer of plain memory: then the volume stays open. Device where a write or a
+        sync failed: then it is closed, and what was acknowledged is kept."""
         handle = self._session.take()
         if handle is None:
             return
@@ -179,6 +181,9 @@ class Volume:
                 self.close()
             except (Error, BufferError):
                 pass
+
+    def __reduce__(self) -> NoReturn:
+        raise TypeError("a volume can't be copied")
 
     def __repr__(self) -> str:
         return f"<famsync.Volume {os.fsdecode(self.path)!r}>"

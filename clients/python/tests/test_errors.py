@@ -8,7 +8,7 @@ import socket
 import unittest
 from contextlib import contextmanager
 
-from support import PAGE, TOP, InAFolder, famsync
+from support import PACKAGE, PAGE, TOP, InAFolder, famsync
 from famsync import _errors
 
 
@@ -28,6 +28,17 @@ class Classes(unittest.TestCase):
             codes = [int(code) for code in re.findall(r"FAMSYNC_[A-Z]+ = (-[0-9]+)", header.read())]
         self.assertGreater(len(codes), 20)
         self.assertEqual(sorted(_errors.CLASSES), sorted(codes))
+
+    def test_their_names(self):
+        """A class has the name of its code, or README.md says which code it is."""
+        with open(f"{TOP}/clients/c/famsync.h", encoding="utf-8") as header:
+            names = {int(code): name for name, code in re.findall(r"FAMSYNC_([A-Z]+) = (-[0-9]+)", header.read())}
+        with open(f"{PACKAGE}/README.md", encoding="utf-8") as page:
+            section = page.read().partition("## Errors\n")[2].partition("\n## ")[0]
+        other = dict(re.findall(r"`(\w+)`\s\(([A-Z]+)\)", section))
+        for code, kind in _errors.CLASSES.items():
+            self.assertEqual(other.pop(kind.__name__, kind.__name__.upper()), names[code])
+        self.assertEqual(other, {})
 
     def test_each_is_an_error_with_its_words(self):
         for code, kind in _errors.CLASSES.items():

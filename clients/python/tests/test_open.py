@@ -1,8 +1,10 @@
 """How a session begins and ends."""
 
+import copy
 import gc
 import os
 import pathlib
+import pickle
 import unittest
 from unittest import mock
 
@@ -103,6 +105,16 @@ view = memory.view()
             self.assertEqual((ended.returncode, ended.stderr), (0, ""))
             with famsync.open("v.img") as volume:
                 self.assertEqual(volume.map("a")[0], 1)
+
+    def test_nothing_of_it_can_be_copied(self):
+        volume = self.opened()
+        with volume.memory("a") as memory:
+            for one in (volume, memory):
+                for make in (copy.copy, copy.deepcopy, pickle.dumps):
+                    self.assertRaises(TypeError, make, one)
+            for make in (copy.deepcopy, pickle.dumps):
+                self.assertRaises(TypeError, make, volume.map("a"))
+        self.assertEqual(volume.commit(), 1)
 
     def test_an_error_on_its_way_is_kept(self):
         with self.assertRaises(ZeroDivisionError):
