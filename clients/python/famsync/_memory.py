@@ -16,11 +16,21 @@ if TYPE_CHECKING:
     from ._volume import Volume
 
 
-def _close(pointer: ctypes.c_void_p, owner: int, volume: Volume) -> None:
-    """Gives memory back, once, when nobody has a buffer of it. Its volume stays open as long as this wasn't called."""
-    memory, pointer.value = pointer.value, None
-    if memory is not None and os.getpid() == owner:
-        library.famsync_memory_close(memory)
+class Lent:
+    """Memory of the library, which gets it back when this goes. Its volume stays open until then."""
+
+    def __init__(self, volume: Volume) -> None:
+        self.pointer = ctypes.c_void_p()
+        self.owner = os.getpid()
+        self._volume = volume
+
+    def give_back(self) -> None:
+        memory, self.pointer.value = self.pointer.value, None
+        if memory is not None and os.getpid() == self.owner:
+            library.famsync_memory_close(memory)
+
+    def __del__(self) -> None:
+        self.give_back()
 
 
 class Memory:
@@ -34,17 +44,21 @@ class Memory:
     _bytes: memoryview
     __hash__ = object.__hash__  # arrays of ctypes have none
 
-    def _begin(self, volume: Volume, name: str, pointer: ctypes.c_void_p, address: int, length: int) -> None:
+    def _begin(self, name: str, lent: Lent, address: int, length: int) -> None:
         # All buffers that are given out are of this array, and have it; nothing else does. So when it goes, nobody
-        # uses the memory any more, and it is given back.
+        # uses the memory any more, and what it has goes with it.
         array = _buffers.array_at(address, length)
-        self.name, self._pointer, self._owner = name, pointer, os.getpid()
+        array.lent = lent  # type: ignore[attr-defined]
+        self.name, self._pointer, self._owner = name, lent.pointer, lent.owner
+        self._array = weakref.ref(array)
         self._bytes = memoryview(array)
-        self._closing = weakref.finalize(array, _close, pointer, self._owner, volume)
-        self._closing.atexit = False
+
+    @property
+    def _is_closed(self) -> bool:
+        return self._array() is None
 
     def _opened(self) -> memoryview:
-        if not self._closing.alive:
+        if self._is_closed:
             raise ValueError(f"the memory of {self.name!r} is closed")
         return self._bytes
 
@@ -89,26 +103,26 @@ class Memory:
     def close(self) -> None:
         """Gives the memory back; stores since the last commit are gone. BufferError where somebody has a buffer of it:
         a view that isn't released, or an array that was made of one."""
-        if not self._closing.alive:
+        if self._is_closed:
             return
         if not _buffers.is_lent(self):
             self._bytes.release()
-            if not self._closing.alive:
+            if self._is_closed:
                 _buffers.let_go(self, Memory)
                 return
             self._take_again()
         raise BufferError(f"the memory of {self.name!r} can't be closed while somebody has a buffer of it")
 
     def _take_again(self) -> None:
-        found = self._closing.peek()
-        if found is not None:
-            self._bytes = memoryview(found[0])
+        array = self._array()
+        if array is not None:
+            self._bytes = memoryview(array)
 
     def __reduce__(self) -> NoReturn:
         raise TypeError("the memory of a volume can't be copied")
 
     def __repr__(self) -> str:
-        how = f"{len(self._bytes)} bytes" if self._closing.alive else "closed"
+        how = "closed" if self._is_closed else f"{len(self._bytes)} bytes"
         return f"<famsync.Memory of {self.name!r}, {how}>"
 
     def __enter__(self) -> Memory:
@@ -127,13 +141,13 @@ class Memory:
 
 def open_memory(handle: int, volume: Volume, name: str, encoded: bytes) -> Memory:
     """Opens plain memory of a file; where an interrupt comes in between, nothing is left open."""
-    pointer = ctypes.c_void_p()
+    lent = Lent(volume)
     try:
-        check(library.famsync_memory_open(handle, encoded, ctypes.byref(pointer)))
-        address, length = library.famsync_memory_at(pointer), library.famsync_memory_length(pointer)
+        check(library.famsync_memory_open(handle, encoded, ctypes.byref(lent.pointer)))
+        address, length = library.famsync_memory_at(lent.pointer), library.famsync_memory_length(lent.pointer)
         memory = _buffers.new(Memory, address, length)
-        memory._begin(volume, name, pointer, address, length)
+        memory._begin(name, lent, address, length)
         return memory
     except BaseException:
-        _close(pointer, os.getpid(), volume)
+        lent.give_back()
         raise

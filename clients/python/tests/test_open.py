@@ -106,6 +106,22 @@ view = memory.view()
             with famsync.open("v.img") as volume:
                 self.assertEqual(volume.map("a")[0], 1)
 
+    def test_one_that_is_closed_as_the_program_ends(self):
+        code = """
+import atexit, famsync
+volume = famsync.open("v.img")
+atexit.register(volume.close)
+memory = volume.memory("a")
+memory[0] += 1
+volume.commit()
+memory[0] += 1
+"""
+        for number in (1, 2):
+            ended = run_python(code)
+            self.assertEqual((ended.returncode, ended.stderr), (0, ""))
+            with famsync.open("v.img") as volume:
+                self.assertEqual(volume.map("a")[0], number)
+
     def test_nothing_of_it_can_be_copied(self):
         volume = self.opened()
         with volume.memory("a") as memory:
@@ -158,7 +174,12 @@ class Interrupts(InAFolder):
             self.interrupted(_memory, name, volume.memory, "a")
             volume.memory("a").close()
         volume.close()
-        famsync.open("v.img").close()
+        try:
+            with famsync.open("v.img") as volume:
+                with mock.patch.object(_memory, "library", Interrupted("famsync_memory_open")):
+                    volume.memory("a")
+        except KeyboardInterrupt:
+            famsync.open("v.img").close()  # also while what was raised is kept, with all that it came through
 
     def test_a_commit_and_a_close(self):
         volume = famsync.open("v.img")

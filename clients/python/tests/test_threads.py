@@ -1,5 +1,6 @@
 """Threads: commits that are shared, stores meanwhile, and a session that is ended under them."""
 
+import sys
 import threading
 import time
 import unittest
@@ -83,7 +84,27 @@ class Threads(InAFolder):
         self.assertEqual(numbers, sorted(numbers, reverse=True))
         self.assertLessEqual(numbers[0] - numbers[-1], 1)
 
-    def test_close_waits_for_calls(self):
+    def test_close_waits_for_a_call(self):
+        volume = self.opened()
+        within, ends, waited = threading.Event(), threading.Event(), []
+
+        def call():
+            volume._session.call(lambda handle: (within.set(), ends.wait(60)))
+
+        def close():
+            within.wait(60)
+            volume.close()
+            waited.append(ends.is_set())
+
+        def end():
+            within.wait(60)
+            time.sleep(0.1)
+            ends.set()
+
+        together(call, close, end)
+        self.assertEqual(waited, [True])
+
+    def test_close_under_load(self):
         for _ in range(20):
             volume = self.opened()
             memory = volume.memory("a")
@@ -125,22 +146,27 @@ class Threads(InAFolder):
         self.assertEqual(volume.commit(), 1)
 
     def test_python_runs_while_a_commit_waits(self):
-        """A commit holds no lock of the interpreter: another thread counts meanwhile."""
+        """A commit gives up the interpreter's lock, which no thread is asked for here: another one counts meanwhile."""
+        self.addCleanup(sys.setswitchinterval, sys.getswitchinterval())
+        sys.setswitchinterval(1000)
         volume = self.opened()
-        memory, done, counted = volume.memory("a"), threading.Event(), []
+        memory, done, counted, meanwhile = volume.memory("a"), threading.Event(), [], []
 
         def count():
             while not done.is_set():
                 counted.append(1)
+                time.sleep(0)
 
         def commit():
-            while len(counted) < 1000:
+            for _ in range(50):
                 memory[0] = (memory[0] + 1) % 256
+                before = len(counted)
                 volume.commit()
+                meanwhile.append(len(counted) - before)
             done.set()
 
         together(count, commit)
-        self.assertGreaterEqual(len(counted), 1000)
+        self.assertGreater(sum(meanwhile), 0)
 
 
 if __name__ == "__main__":
