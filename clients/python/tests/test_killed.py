@@ -18,12 +18,18 @@ KILLS = int(os.environ.get("KILLS", "25"))
 BANK = [sys.executable, f"{PACKAGE}/bank.py", "v.img"]
 
 
+def interruptible():
+    """In a child: SIGINT does what it does at a terminal, also where whoever runs the tests has it ignored."""
+    signal.signal(signal.SIGINT, signal.SIG_DFL)
+
+
 class Killed(InAFolder):
     files = ("bank=16384",)
 
     def ended(self, wait, number):
         """The last transfer that a bank tells which gets a signal after a while."""
-        with subprocess.Popen(BANK, stdout=subprocess.PIPE, stderr=subprocess.PIPE, text=True) as bank:
+        pipes = {"stdout": subprocess.PIPE, "stderr": subprocess.PIPE, "text": True}
+        with subprocess.Popen(BANK, preexec_fn=interruptible, **pipes) as bank:
             first = bank.stdout.readline()
             time.sleep(wait)
             self.assertIsNone(bank.poll(), "it ended by itself")
