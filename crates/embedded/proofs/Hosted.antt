@@ -7,11 +7,14 @@ use Rattle.volume_codec.specs.Files.{File}
 use Rattle.machine.specs.declared.act.Reply.{Reply}
 use Rattle.machine.specs.declared.act.Step.{Step}
 use Rattle.machine.specs.History.{Acknowledge}
-use Rattle.machine.specs.Laws.{ReadsBackSince}
+use Rattle.machine.specs.Laws.{ReadsBack, ReadsBackSince}
 use Rattle.machine.specs.Runs.{StepsTaken}
 use Rattle.machine.specs.State.{Whole}
+use Rattle.machine.specs.Steps.{told_first}
 use Rattle.machine.specs.Told.{Told, tell, tell_all}
-use Rattle.embedded.specs.Hosting.{KeepsMark}
+use Rattle.session.specs.declared.notes.Notes.{Notes}
+use Rattle.embedded.specs.Embedded.{HasCommitted}
+use Rattle.embedded.specs.Hosting.{KeepsMark, told_with_later}
 use Rattle.embedded.specs.Recorded.{recorded_disk}
 
 -- what has one property has another
@@ -39,17 +42,19 @@ told_then told old mid [] later (reply ∷ replies) more taken = absurd taken
 told_then told old mid (step ∷ steps) later [] more taken = absurd taken
 
 -- A mark that is acknowledged whatever comes later is kept.
-module _ (files : List File) (mark : ℕ) (first : Told) (start old mid : Whole Recorded) (earlier steps later : List Step) (told replies more : List Reply) (taken : StepsTaken recorded_disk start earlier told old) (makes : StepsTaken recorded_disk old steps replies mid)
-    (has : (n : ℕ) → Contains (tell_all first (earlier ++ (steps ++ take n later)) (told ++ (replies ++ take n more))).history (Acknowledge mark)) where
-  both : (n : ℕ) → tell_all first (earlier ++ (steps ++ take n later)) (told ++ (replies ++ take n more)) ≡ tell_all (tell_all first (earlier ++ steps) (told ++ replies)) (take n later) (take n more)
-  both n =
-      told_then first start old earlier (steps ++ take n later) told (replies ++ take n more) taken
-      ∙ told_then (tell_all first earlier told) old mid steps (take n later) replies (take n more) makes
-      ∙ ap (λ (x : Told). tell_all x (take n later) (take n more)) (sym (told_then first start old earlier steps told replies taken))
+module _ (files : List File) (mark : ℕ) (machine : Whole Recorded) (notes : Notes) (it : HasCommitted mark machine notes) (has : (n : ℕ) → Contains (told_with_later files mark machine notes it n) (Acknowledge mark)) where
+  abbrev first : Told
+  first = told_first files it.start.state
 
-  pub kept : (c : List ℕ) → ReadsBackSince files (tell_all first (earlier ++ steps) (told ++ replies)) later more c → KeepsMark files mark c
+  both : (n : ℕ) → tell_all first (it.earlier ++ (it.steps ++ take n it.later)) (it.told ++ (it.replies ++ take n it.more)) ≡ tell_all (tell_all first (it.earlier ++ it.steps) (it.told ++ it.replies)) (take n it.later) (take n it.more)
+  both n =
+      told_then first it.start it.old it.earlier (it.steps ++ take n it.later) it.told (it.replies ++ take n it.more) it.makes_earlier.taken
+      ∙ told_then (tell_all first it.earlier it.told) it.old it.new it.steps (take n it.later) it.replies (take n it.more) it.makes.taken
+      ∙ ap (λ (x : Told). tell_all x (take n it.later) (take n it.more)) (sym (told_then first it.start it.old it.earlier it.steps it.told it.replies it.makes_earlier.taken))
+
+  pub kept : (c : List ℕ) → ReadsBackSince files (tell_all (told_first files it.start.state) (it.earlier ++ it.steps) (it.told ++ it.replies)) it.later it.more c → KeepsMark files mark machine notes it c
   kept c (n, back) = record {
-    history = (tell_all (tell_all first (earlier ++ steps) (told ++ replies)) (take n later) (take n more)).history;
-    back = back;
-    acknowledged = subst (λ (x : Told). Contains x.history (Acknowledge mark)) (both n) (has n);
+    later = n;
+    back = subst (λ (x : Told). ReadsBack files x.history c) (sym (both n)) back;
+    acknowledged = has n;
   }

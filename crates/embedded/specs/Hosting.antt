@@ -1,12 +1,24 @@
 -- What a crash leaves of the device on which a host makes the calls of an embedded volume.
-use Rattle.std.specs.Prelude.{ℕ, List, Contains}
+use Rattle.std.specs.Prelude.{ℕ, List, ◌++◌, take, Contains}
+use Rattle.device.specs.Memory.{Recorded}
 use Rattle.volume_codec.specs.Files.{File}
 use Rattle.machine.specs.History.{Event, Acknowledge}
 use Rattle.machine.specs.Laws.{ReadsBack}
+use Rattle.machine.specs.State.{Whole}
+use Rattle.engine.specs.Survival.{history_of}
+use Rattle.session.specs.declared.notes.Notes.{Notes}
+use Rattle.embedded.specs.Embedded.{HasCommitted}
 
--- These bytes read back as the files after a durable prefix of a history in which this mark is acknowledged; so the
--- prefix has the mark.
-pub record KeepsMark (files : List File) (mark : ℕ) (disk : List ℕ) : Type 0 where
-  pub history : List Event
-  pub back : ReadsBack files history disk
-  pub acknowledged : Contains history (Acknowledge mark)
+-- what was told by the steps up to the end of a commit, and by the first n after it
+abbrev pub told_with_later : (files : List File) (mark : ℕ) (machine : Whole Recorded) (notes : Notes)
+    → HasCommitted mark machine notes → ℕ → List Event
+told_with_later files mark machine notes it n = history_of files it.start
+    (it.earlier ++ (it.steps ++ take n it.later)) (it.told ++ (it.replies ++ take n it.more))
+
+-- These bytes read back as the files after a durable prefix of what was told by the steps up to the end of a commit, and
+-- by some after it. The mark of the commit is acknowledged in that; so the prefix has it.
+pub record KeepsMark (files : List File) (mark : ℕ) (machine : Whole Recorded) (notes : Notes)
+    (committed : HasCommitted mark machine notes) (disk : List ℕ) : Type 0 where
+  pub later : ℕ
+  pub back : ReadsBack files (told_with_later files mark machine notes committed later) disk
+  pub acknowledged : Contains (told_with_later files mark machine notes committed later) (Acknowledge mark)

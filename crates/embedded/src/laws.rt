@@ -58,8 +58,8 @@ pub fn ran_as_recorded<A: Allocator + Copy>(disk: &MemDisk<A>)
 }
 
 /// A host makes the calls that wait on a device of its own, in order, which was behind the disk: what a crash at any
-/// moment of that leaves, within a call or between two, reads back as the files of the volume, as it was opened, after a
-/// durable prefix of what was told by the steps up to any machine all of whose calls were made before, and by some of
+/// moment of that leaves, within a call or between two, reads back as the files of the volume, as it was opened, after
+/// a durable prefix of what was told by the steps up to any machine all of whose calls were made before, and by some of
 /// the later steps (`steps`). So a mark that was committed is kept once the calls up to the end of its commit were made
 /// (`mark`).
 pub fn crashed_on_the_host<D: Device, A: Allocator + Copy>(device: &D, disk: &MemDisk<A>)
@@ -78,7 +78,7 @@ pub fn crashed_on_the_host<D: Device, A: Allocator + Copy>(device: &D, disk: &Me
         → IsBehind D.is_honest D.seen D.may_leave old machine.device
         → CarriedOut D.Device old machine.device done new left
         → (files : List File) × RecoversTo (seen_of committed.before) files
-        × LeavesOnly D.moment D.left_since old new (KeepsMark files mark) }
+        × LeavesOnly D.moment D.left_since old new (KeepsMark files mark (recorded machine) notes committed) }
 {
     steps_are_a_run(disk);
     steps_after_steps(disk);

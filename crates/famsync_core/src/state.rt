@@ -12,8 +12,8 @@ use page_entry::{ProcessorNumber, Refusal};
 use std::alloc::{AllocError, Allocator, Global};
 use std::marker::Model;
 
-// The processor that makes the steps of a session, and how many entries its TLB has: few, since each access looks at all
-// of them, and a session goes over a page once.
+// The processor that makes the steps of a session, and how many entries its TLB has: few, since each access looks at
+// all of them, and a session goes over a page once.
 const P: ProcessorNumber = 0;
 
 const TLB: u64 = 4;

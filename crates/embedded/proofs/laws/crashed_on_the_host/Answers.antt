@@ -1,6 +1,5 @@
 use Rattle.std.proofs.Common.{◌++◌, take}
 use Rattle.device.specs.Memory.{moment_of}
-use Rattle.machine.specs.Steps.{told_first}
 use Rattle.embedded.specs.Recorded.{recorded}
 use Rattle.embedded.proofs.Hosted.{leaves_as, sooner, kept}
 use Rattle.embedded.proofs.laws.crashed_on_the_host.Goals as goal
@@ -19,6 +18,7 @@ returns-clause-mark g c = λ machine notes mark old new done left it made behind
     let found = c.steps_are_a_run.ensures.since it.before it.shape it.start it.new (recorded machine) (it.earlier ++ it.steps) it.later (it.told ++ it.replies) it.more it.started taken it.makes_later.taken tt in (
       found.0,
       found.1,
-      leaves_as (λ list since. kept found.0 mark (told_first found.0 it.start.state) it.start it.old it.new it.earlier it.steps it.later it.told it.replies it.more it.makes_earlier.taken it.makes.taken
-          (λ n. c.acknowledges.ensures.mark found.0 it.start it.old it.new it.between it.after it.earlier it.steps (take n it.later) it.told it.replies (take n it.more) it.p mark it.makes_earlier it.makes it.commits) list (found.2 list (sooner machine.device (moment_of it.new.device) list made since))) (carried.time behind),
+      leaves_as (λ list since. kept found.0 mark (recorded machine) notes it
+          (λ n. c.acknowledges.ensures.mark found.0 it.start it.old it.new it.between it.after it.earlier it.steps (take n it.later) it.told it.replies (take n it.more) it.p mark it.makes_earlier it.makes it.commits) list
+          (found.2 list (sooner machine.device (moment_of it.new.device) list made since))) (carried.time behind),
     )
