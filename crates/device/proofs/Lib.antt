@@ -1,5 +1,6 @@
 pub mod Moments
 mod Carrying
+mod Counting
 mod Deferring
 pub mod Done
 mod Fitting

@@ -1,5 +1,5 @@
 -- A disk whose writes and syncs are recorded for somebody else to make, over the blocks of 4,096 bytes that it knows.
-use Rattle.std.specs.Prelude.{◌≡◌, ⊤, ℕ, zero, suc, ◌+◌, ◌-◌, ◌*◌, ◌/◌, Bool, true, false, if◌then◌else◌, Option, Some, None, List, [], ◌∷◌, ◌++◌, length, take, drop, replicate, get_or, set, slice_get, slice_range, nat_lt, ◌&&◌, ◌||◌}
+use Rattle.std.specs.Prelude.{◌≡◌, ⊤, ℕ, zero, suc, ◌+◌, ◌-◌, ◌*◌, ◌/◌, ◌^◌, min, Bool, true, false, if◌then◌else◌, Option, Some, None, List, [], ◌∷◌, ◌++◌, length, take, drop, replicate, get_or, set, slice_get, slice_range, nat_lt, ◌&&◌, ◌||◌}
 use Rattle.std.specs.Int.{div_ceil}
 use Rattle.device.specs.Count.{raised}
 use Rattle.device.specs.Memory.{DiskChange, Recorded, seen_of, may_leave_of, moment_of}
@@ -174,7 +174,11 @@ work_of None = Nothing
 work_of (Some (write at bytes)) = WriteAt at bytes
 work_of (Some sync) = Sync
 
--- The moment at which the oldest waiting call was recorded.
+-- How many writes and syncs were recorded. A count that has come to 2^64-1 stays there.
+abbrev pub recorded_calls : Deferred → ℕ
+recorded_calls disk = min (length disk.changes) (2 ^ 64 - 1)
+
+-- The moment at which the oldest waiting call was recorded: so many calls were carried out.
 abbrev pub carried_moment : Deferred → ℕ
 carried_moment disk = moment_of (as_recorded disk) - disk.waiting
 

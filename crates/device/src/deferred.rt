@@ -5,7 +5,7 @@ ghost use Rattle.device.specs.Device.{written};
 ghost use Rattle.device.specs.Did.{Did};
 ghost use Rattle.device.specs.Memory.{seen_of};
 ghost use Rattle.device.specs.Memory.DiskChange.{write, sync};
-ghost use Rattle.device.specs.Deferred.{deferred, as_recorded, carried_out, block_of, with_known, first_block, end_block, lacked_by_read, lacked_by_write, IsSuppliedWell, after_read, after_write, after_sync, after_refusal, after_supply, after_forget, reaches, one_reaches, with_waiting, oldest, waits_behind, work_of};
+ghost use Rattle.device.specs.Deferred.{deferred, as_recorded, carried_out, block_of, with_known, first_block, end_block, lacked_by_read, lacked_by_write, IsSuppliedWell, after_read, after_write, after_sync, after_refusal, after_supply, after_forget, reaches, one_reaches, with_waiting, oldest, waits_behind, work_of, recorded_calls};
 ghost use Rattle.device.specs.Work.{TornByWork};
 ghost use Rattle.device.specs.Lent.{change_lent};
 ghost use Rattle.device.specs.inside.Logged.{change_of, changes_of};
@@ -43,6 +43,8 @@ pub struct DeferredDisk<A: Allocator + Copy> {
     // The oldest call first.
     log: VecDeque<Logged<A>, A>,
     past: Past,
+    // How many writes and syncs were recorded.
+    recorded: u64,
     len: u64,
     wanted: Option<usize>,
     calls: u64,
@@ -59,7 +61,7 @@ impl<A: Allocator + Copy> Model for DeferredDisk<A> {
     ghost coded = { deferred_code };
 
     ghost use Rattle.device.specs.inside.Logged.{changes_of};
-    ghost use Rattle.device.specs.inside.Deferring.{IsKept};
+    ghost use Rattle.device.specs.inside.Deferring.{IsKept, AreCounted};
 
     ghost view = { λ disk. record {
       first = disk.past.first;
@@ -72,7 +74,8 @@ impl<A: Allocator + Copy> Model for DeferredDisk<A> {
       faults = disk.faults;
     } };
 
-    ghost invariant = { λ disk. IsKept disk.past.first disk.past.changes disk.past.supplied disk.blocks.bytes disk.blocks.flags (changes_of disk.log.items) disk.len };
+    ghost invariant = { λ disk. IsKept disk.past.first disk.past.changes disk.past.supplied disk.blocks.bytes disk.blocks.flags (changes_of disk.log.items) disk.len
+        × AreCounted disk.recorded disk.past.changes };
 }
 
 impl<A: Allocator + Copy> DeferredDisk<A> {
@@ -89,6 +92,7 @@ impl<A: Allocator + Copy> DeferredDisk<A> {
             blocks: Blocks::new(alloc, count)?,
             log: VecDeque::new(alloc),
             past: Past::begin(),
+            recorded: 0,
             len: 4096 * u64::from(blocks),
             wanted: None,
             calls: 0,
@@ -153,6 +157,14 @@ impl<A: Allocator + Copy> DeferredDisk<A> {
         ensures { result ≡ self.now.waiting }
     {
         self.log.len()
+    }
+
+    /// How many writes and syncs were recorded in all, those that were carried out and those that wait. A count that has
+    /// come to 2^64-1 stays there.
+    pub fn recorded(&self) -> u64
+        ensures { result ≡ recorded_calls self.now }
+    {
+        self.recorded
     }
 
     /// The call that waits behind so many older ones that wait: the host makes them in their order, and says of the
@@ -259,6 +271,7 @@ impl<A: Allocator + Copy> DeferredDisk<A> {
             return Err(DeviceFault);
         }
         self.past = Past::with_write(&self.past, &at, bytes);
+        self.recorded = self.recorded.saturating_add(1);
         Ok(())
     }
 
@@ -273,6 +286,7 @@ impl<A: Allocator + Copy> DeferredDisk<A> {
             return Err(DeviceFault);
         }
         self.past = Past::with_sync(&self.past);
+        self.recorded = self.recorded.saturating_add(1);
         Ok(())
     }
 }

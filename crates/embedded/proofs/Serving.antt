@@ -1,6 +1,6 @@
 -- What an embedded machine has served, seen over the disk in memory that made the calls.
 use Rattle.std.proofs.Common.{◌≡◌, ℕ, List, [], ◌++◌, Option, Some, None, IfSome, Result, Ok, Err, IfOk, IfErr}
-use Rattle.device.specs.Deferred.{Deferred, as_recorded, IsSuppliedWell}
+use Rattle.device.specs.Deferred.{Deferred, as_recorded, IsSuppliedWell, recorded_calls}
 use Rattle.device.specs.Memory.{Recorded}
 use Rattle.machine.specs.declared.act.Reply.{Reply}
 use Rattle.machine.specs.declared.act.Shape.{Shape}
@@ -13,10 +13,10 @@ use Rattle.session.specs.Commits.{CommitsMark, StopsCommit}
 use Rattle.session.specs.Ranges.{MakesStepsThat}
 use Rattle.session.specs.Sessions.{IsServing, no_notes}
 use Rattle.session.specs.Steps.{Makes}
-use Rattle.session.proofs.Serves.{served_none, served_does}
-use Rattle.session.proofs.Stretches.{makes_none, makes_then}
+use Rattle.session.proofs.Public.{served_none, served_does, makes_none, makes_then}
 use Rattle.embedded.specs.Recorded.{deferred_disk, recorded_disk, recorded}
-use Rattle.embedded.specs.Embedded.{last_committed, HasCommitted, ServesWell}
+use Rattle.embedded.specs.Embedded.{last_committed, last_needed, HasCommitted, HasNeeded, HasMade, ServesWell}
+use Rattle.embedded.proofs.Counting.{counted_moments}
 use Rattle.embedded.proofs.Through.{step_through, makes_through, makes_honest, does_through, started_through, started_honest}
 
 -- ---- over the disk in memory
@@ -67,27 +67,33 @@ module _ (mark : ℕ) (old new : Whole Recorded) (before after : Notes) (steps :
     makes_later = makes_then recorded_disk c.new old new c.after before after c.later c.more steps replies c.makes_later it;
   }
 
-commits_more : (committed : Option ℕ) (old new : Whole Recorded) (before after : Notes) (steps : List Step) (replies : List Reply) → Makes recorded_disk old before steps replies new after
-    → IfSome committed (λ mark. HasCommitted mark old before) → IfSome committed (λ mark. HasCommitted mark new after)
-commits_more None old new before after steps replies it c = tt
-commits_more (Some mark) old new before after steps replies it c = committed_more mark old new before after steps replies it c
+module _ (old new : Whole Recorded) (before after : Notes) (steps : List Step) (replies : List Reply) (it : Makes recorded_disk old before steps replies new after) where
+  needs_more : (needed : ℕ) (committed : Option ℕ) → IfSome committed (λ mark. HasNeeded needed mark old before) → IfSome committed (λ mark. HasNeeded needed mark new after)
+  unfolding committed_more
+  needs_more needed None c = tt
+  needs_more needed (Some mark) c = (committed_more mark old new before after steps replies it c.0, c.1)
+
+  made_more : (made : ℕ) (acknowledged : Option ℕ) → IfSome acknowledged (λ mark. HasMade made mark old before) → IfSome acknowledged (λ mark. HasMade made mark new after)
+  unfolding committed_more
+  made_more made None c = tt
+  made_more made (Some mark) c = (committed_more mark old new before after steps replies it c.0, c.1)
 
 -- what was served goes on with further steps
-pub serves_more : (committed acknowledged : Option ℕ) (old new : Whole Deferred) (before after : Notes) (what : List Step → List Reply → Type 0) → ServesWell old before committed acknowledged
-    → MakesStepsThat deferred_disk old before what new after → ServesWell new after committed acknowledged
-serves_more committed acknowledged old new before after what served it = λ well.
+pub serves_more : (committed : Option ℕ) (needed made : ℕ) (acknowledged : Option ℕ) (old new : Whole Deferred) (before after : Notes) (what : List Step → List Reply → Type 0) → ServesWell old before committed needed made acknowledged
+    → MakesStepsThat deferred_disk old before what new after → ServesWell new after committed needed made acknowledged
+serves_more committed needed made acknowledged old new before after what served it = λ well.
     let first = does_well old new before after what it well in
     let seen = does_recorded old new before after what first it in
     let had = served first in
     record {
       serving = served_does recorded_disk (recorded old) (recorded new) before after what had.serving seen;
-      commits = commits_more committed (recorded old) (recorded new) before after seen.steps seen.replies seen.makes had.commits;
-      sure = commits_more acknowledged (recorded old) (recorded new) before after seen.steps seen.replies seen.makes had.sure;
+      commits = needs_more (recorded old) (recorded new) before after seen.steps seen.replies seen.makes needed committed had.commits;
+      sure = made_more (recorded old) (recorded new) before after seen.steps seen.replies seen.makes made acknowledged had.sure;
     }
 
 -- a start
-pub serves_none : (before : Deferred) (shape : Shape) (start : Whole Deferred) → HasStarted deferred_disk before shape start → ServesWell start no_notes None None
-serves_none before shape start it = λ well.
+pub serves_none : (before : Deferred) (shape : Shape) (start : Whole Deferred) (needed made : ℕ) → HasStarted deferred_disk before shape start → ServesWell start no_notes None needed made None
+serves_none before shape start needed made it = λ well.
     let first = started_honest as_recorded recorded_disk IsSuppliedWell (λ _. tt) before shape start it well in
     record {
       serving = served_none recorded_disk (as_recorded before) shape (recorded start) (start_recorded before shape start first it);
@@ -96,48 +102,45 @@ serves_none before shape start it = λ well.
     }
 
 -- a commit
-pub serves_commit : (committed acknowledged : Option ℕ) (p mark : ℕ) (old new : Whole Deferred) (before after : Notes) → ServesWell old before committed acknowledged
-    → MakesStepsThat deferred_disk old before (CommitsMark p before mark) new after → ServesWell new after (Some mark) acknowledged
-serves_commit committed acknowledged p mark old new before after served it = λ well.
+pub serves_commit : (committed : Option ℕ) (needed made : ℕ) (acknowledged : Option ℕ) (p mark : ℕ) (old new : Whole Deferred) (before after : Notes) → ServesWell old before committed needed made acknowledged
+    → MakesStepsThat deferred_disk old before (CommitsMark p before mark) new after → ServesWell new after (Some mark) (recorded_calls new.device) made acknowledged
+serves_commit committed needed made acknowledged p mark old new before after served it = λ well.
     let first = does_well old new before after (CommitsMark p before mark) it well in
     let seen = does_recorded old new before after (CommitsMark p before mark) first it in
     let had = served first in
     let (start, earlier, told, was) = had.serving in
     record {
       serving = served_does recorded_disk (recorded old) (recorded new) before after (CommitsMark p before mark) had.serving seen;
-      commits = record {
-        before = was.before;
-        shape = was.shape;
-        start = start;
-        started = was.started;
-        earlier = earlier;
-        told = told;
-        old = recorded old;
-        between = before;
-        makes_earlier = was.makes;
-        p = p;
-        steps = seen.steps;
-        replies = seen.replies;
-        new = recorded new;
-        after = after;
-        makes = seen.makes;
-        commits = seen.holds;
-        later = [];
-        more = [];
-        makes_later = makes_none recorded_disk (recorded new) after;
-      };
-      sure = commits_more acknowledged (recorded old) (recorded new) before after seen.steps seen.replies seen.makes had.sure;
+      commits = (
+        record {
+          before = was.before;
+          shape = was.shape;
+          start = start;
+          started = was.started;
+          earlier = earlier;
+          told = told;
+          old = recorded old;
+          between = before;
+          makes_earlier = was.makes;
+          p = p;
+          steps = seen.steps;
+          replies = seen.replies;
+          new = recorded new;
+          after = after;
+          makes = seen.makes;
+          commits = seen.holds;
+          later = [];
+          more = [];
+          makes_later = makes_none recorded_disk (recorded new) after;
+        },
+        counted_moments new.device,
+      );
+      sure = made_more (recorded old) (recorded new) before after seen.steps seen.replies seen.makes made acknowledged had.sure;
     }
 
 -- a commit, whatever it came to
-pub serves_commits : (committed acknowledged : Option ℕ) (p : ℕ) (result : Result ℕ Reply) (old new : Whole Deferred) (before after : Notes) → ServesWell old before committed acknowledged
+pub serves_commits : (committed : Option ℕ) (needed made : ℕ) (acknowledged : Option ℕ) (p : ℕ) (result : Result ℕ Reply) (old new : Whole Deferred) (before after : Notes) → ServesWell old before committed needed made acknowledged
     → IfOk result (λ mark. MakesStepsThat deferred_disk old before (CommitsMark p before mark) new after) → IfErr result (λ reply. MakesStepsThat deferred_disk old before (StopsCommit p before reply) new after)
-    → ServesWell new after (last_committed result committed) acknowledged
-serves_commits committed acknowledged p (Ok mark) old new before after served ok err = serves_commit committed acknowledged p mark old new before after served ok
-serves_commits committed acknowledged p (Err reply) old new before after served ok err = serves_more committed acknowledged old new before after (StopsCommit p before reply) served err
-
--- the mark of the last commit was committed
-pub serves_drained : (committed acknowledged : Option ℕ) (machine : Whole Deferred) (notes : Notes) → ServesWell machine notes committed acknowledged → ServesWell machine notes committed committed
-serves_drained committed acknowledged machine notes served = λ well.
-    let had = served well in
-    record { serving = had.serving; commits = had.commits; sure = had.commits }
+    → ServesWell new after (last_committed result committed) (last_needed result (recorded_calls new.device) needed) made acknowledged
+serves_commits committed needed made acknowledged p (Ok mark) old new before after served ok err = serves_commit committed needed made acknowledged p mark old new before after served ok
+serves_commits committed needed made acknowledged p (Err reply) old new before after served ok err = serves_more committed needed made acknowledged old new before after (StopsCommit p before reply) served err

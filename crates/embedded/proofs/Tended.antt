@@ -1,16 +1,16 @@
 -- A disk that was tended between two requests is the same disk in memory.
-use Rattle.std.proofs.Common.{◌≡◌, ℕ, ◌+◌, ◌==◌, ◌∷◌, get_or, Bool, true, false, if◌then◌else◌, List, Option, refl, sym, ◌∙◌, ap, subst}
+use Rattle.std.proofs.Common.{◌≡◌, ◌≤◌, ◌<◌, ℕ, ◌+◌, ◌-◌, ◌^◌, ◌==◌, ◌∷◌, get_or, Bool, true, false, if◌then◌else◌, List, length, Option, Some, None, IfSome, refl, sym, ◌∙◌, ap, subst, arith}
 use Rattle.device.specs.Deferred.{Deferred, as_recorded, after_supply, with_known, block_of, IsSuppliedWell}
-use Rattle.device.specs.Memory.{Recorded, seen_of}
+use Rattle.device.specs.Memory.{Recorded, seen_of, moment_of}
 use Rattle.machine.specs.State.{Whole}
 use Rattle.session.specs.declared.notes.Notes.{Notes}
-use Rattle.embedded.specs.Embedded.{HasServed, ServesWell}
+use Rattle.embedded.specs.Embedded.{HasCommitted, HasNeeded, HasMade, HasServed, ServesWell, are_made, made_of}
 use Rattle.embedded.specs.Recorded.{recorded}
 use Rattle.embedded.specs.Supplying.{with_supplied, is_of_disk, with_device}
 use Rattle.embedded.specs.declared.tending.Supplying.{Supplying}
 use Rattle.embedded.specs.declared.tending.Forgetting.{Forgetting}
 use Rattle.embedded.specs.inside.Tending.{HasSupplied, HasForgotten}
-use Rattle.embedded.proofs.Serving.{serves_drained}
+use Rattle.embedded.proofs.Counting.{steps_later, still_made, needs_made}
 
 either_as : (b : Bool) (x y : Deferred) → as_recorded x ≡ as_recorded y → as_recorded (if b then x else y) ≡ as_recorded y
 either_as true x y same = same
@@ -67,25 +67,55 @@ same_recorded old new state device =
     ap (λ s. record { state = s; device = as_recorded new.device }) state ∙ ap P device
 
 -- what was served, is served
-pub serves_tended : (committed acknowledged : Option ℕ) (old new : Whole Deferred) (before after : Notes) → recorded new ≡ recorded old → after ≡ before → (IsSuppliedWell new.device → IsSuppliedWell old.device)
-    → ServesWell old before committed acknowledged → ServesWell new after committed acknowledged
-serves_tended committed acknowledged old new before after same notes keeps served = λ well.
-    let P : Notes → Type 0 = λ n. HasServed (recorded old) n committed acknowledged in
-    let Q : Whole Recorded → Type 0 = λ m. HasServed m after committed acknowledged in
-    subst Q (sym same) (subst P (sym notes) (served (keeps well)))
+module _ (committed : Option ℕ) (needed made : ℕ) (acknowledged : Option ℕ) (old new : Whole Deferred) (before after : Notes) where
+  pub serves_tended : recorded new ≡ recorded old → after ≡ before → (IsSuppliedWell new.device → IsSuppliedWell old.device) → ServesWell old before committed needed made acknowledged → ServesWell new after committed needed made acknowledged
+  serves_tended same notes keeps served = λ well.
+      let P : Notes → Type 0 = λ n. HasServed (recorded old) n committed needed made acknowledged in
+      let Q : Whole Recorded → Type 0 = λ m. HasServed m after committed needed made acknowledged in
+      subst Q (sym same) (subst P (sym notes) (served (keeps well)))
 
-pub serves_over : (committed acknowledged : Option ℕ) (old new : Whole Deferred) (before after : Notes) → new.state ≡ old.state → after ≡ before → (as_recorded new.device ≡ as_recorded old.device) × (IsSuppliedWell new.device → IsSuppliedWell old.device)
-    → ServesWell old before committed acknowledged → ServesWell new after committed acknowledged
-serves_over committed acknowledged old new before after state notes tended served = serves_tended committed acknowledged old new before after (same_recorded old new state tended.0) notes tended.1 served
+  pub serves_over : new.state ≡ old.state → after ≡ before → (as_recorded new.device ≡ as_recorded old.device) × (IsSuppliedWell new.device → IsSuppliedWell old.device)
+      → ServesWell old before committed needed made acknowledged → ServesWell new after committed needed made acknowledged
+  serves_over state notes tended served = serves_tended (same_recorded old new state tended.0) notes tended.1 served
 
--- where no call is left, the mark of the last commit is acknowledged
-serves_if : (committed acknowledged : Option ℕ) (none : Bool) (machine : Whole Deferred) (notes : Notes) → ServesWell machine notes committed acknowledged
-    → ServesWell machine notes committed (if none then committed else acknowledged)
-serves_if committed acknowledged true machine notes served = serves_drained committed acknowledged machine notes served
-serves_if committed acknowledged false machine notes served = served
+-- The calls are counted, and where those of the last commit were made its mark is acknowledged.
+module _ (needed made counted : ℕ) (machine : Whole Deferred) (notes : Notes) (more : counted < 2 ^ 64 - 1 → made ≤ counted) where
+  pub later_calls : (mark : ℕ) (it : HasCommitted mark (recorded machine) notes) → moment_of it.new.device ≤ length machine.device.changes
+  later_calls mark it =
+      let later = steps_later it.new (recorded machine) it.later it.more it.makes_later.taken in
+      omega (arith, later)
 
-pub serves_settled : (committed acknowledged settled : Option ℕ) (waiting : ℕ) (machine : Whole Deferred) (notes : Notes) → settled ≡ (if waiting == 0 then committed else acknowledged)
-    → ServesWell machine notes committed acknowledged → ServesWell machine notes committed settled
-serves_settled committed acknowledged settled waiting machine notes is served =
-    let P : Option ℕ → Type 0 = λ a. ServesWell machine notes committed a in
-    subst P (sym is) (serves_if committed acknowledged (waiting == 0) machine notes served)
+  abbrev now : ℕ
+  now = made_of machine.device counted
+
+  sure_before : (acknowledged : Option ℕ) → IfSome acknowledged (λ mark. HasMade made mark (recorded machine) notes) → IfSome acknowledged (λ mark. HasMade now mark (recorded machine) notes)
+  sure_before None c = tt
+  sure_before (Some mark) c = (
+    c.0,
+    still_made (machine.device.waiting == 0) (moment_of c.0.new.device) made counted (length machine.device.changes) more (later_calls mark c.0) c.1,
+  )
+
+  sure_now : (committed : Option ℕ) → are_made machine.device.waiting needed now ≡ true → IfSome committed (λ mark. HasNeeded needed mark (recorded machine) notes) → IfSome committed (λ mark. HasMade now mark (recorded machine) notes)
+  sure_now None enough c = tt
+  sure_now (Some mark) enough c = (
+    c.0,
+    needs_made (machine.device.waiting == 0) (moment_of c.0.new.device) needed counted (length machine.device.changes) c.1 (later_calls mark c.0) enough,
+  )
+
+  sure_if : (committed acknowledged : Option ℕ) (sure : Bool) → are_made machine.device.waiting needed now ≡ sure → IfSome committed (λ mark. HasNeeded needed mark (recorded machine) notes)
+      → IfSome acknowledged (λ mark. HasMade made mark (recorded machine) notes) → IfSome (if sure then committed else acknowledged) (λ mark. HasMade now mark (recorded machine) notes)
+  sure_if committed acknowledged true enough commits sure = sure_now committed enough commits
+  sure_if committed acknowledged false enough commits sure = sure_before acknowledged sure
+
+  pub serves_settled : (committed acknowledged settled : Option ℕ) (is : ℕ) (sure : Bool) → is ≡ now → sure ≡ are_made machine.device.waiting needed is → settled ≡ (if sure then committed else acknowledged)
+      → ServesWell machine notes committed needed made acknowledged → ServesWell machine notes committed needed is settled
+  serves_settled committed acknowledged settled is sure same tests settles served = λ well.
+      let had = served well in
+      let enough : are_made machine.device.waiting needed now ≡ sure = sym (tests ∙ ap (are_made machine.device.waiting needed) same) in
+      let P : Option ℕ → Type 0 = λ a. IfSome a (λ mark. HasMade now mark (recorded machine) notes) in
+      let Q : ℕ → Type 0 = λ n. HasServed (recorded machine) notes committed needed n settled in
+      subst Q (sym same) (record {
+        serving = had.serving;
+        commits = had.commits;
+        sure = subst P (sym settles) (sure_if committed acknowledged sure enough had.commits had.sure);
+      })

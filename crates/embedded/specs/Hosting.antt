@@ -1,5 +1,6 @@
 -- What a crash leaves of the device on which a host makes the calls of an embedded volume.
-use Rattle.std.specs.Prelude.{ℕ, List, ◌++◌, take, Contains}
+use Rattle.std.specs.Prelude.{ℕ, ◌-◌, List, ◌++◌, length, take, Contains}
+use Rattle.device.specs.Deferred.{Deferred, with_waiting}
 use Rattle.device.specs.Memory.{Recorded}
 use Rattle.volume_codec.specs.Files.{File}
 use Rattle.machine.specs.History.{Event, Acknowledge}
@@ -8,6 +9,10 @@ use Rattle.machine.specs.State.{Whole}
 use Rattle.engine.specs.Survival.{history_of}
 use Rattle.session.specs.declared.notes.Notes.{Notes}
 use Rattle.embedded.specs.Embedded.{HasCommitted}
+
+-- the disk of whose calls this many were carried out
+abbrev pub with_made : Deferred → ℕ → Deferred
+with_made disk made = with_waiting disk (length disk.changes - made)
 
 -- what was told by the steps up to the end of a commit, and by the first n after it
 abbrev pub told_with_later : (files : List File) (mark : ℕ) (machine : Whole Recorded) (notes : Notes)

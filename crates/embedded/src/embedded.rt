@@ -1,6 +1,6 @@
 // A volume whose device calls a host makes.
-ghost use Rattle.std.specs.Prelude.{◌≡◌, List, None, IfOk, IfErr};
-ghost use Rattle.device.specs.Deferred.{as_recorded, IsSuppliedWell};
+ghost use Rattle.std.specs.Prelude.{◌≡◌, ◌-◌, List, None, IfOk, IfErr};
+ghost use Rattle.device.specs.Deferred.{as_recorded, IsSuppliedWell, recorded_calls};
 ghost use Rattle.device.specs.Memory.{seen_of};
 ghost use Rattle.volume_codec.specs.Files.{File};
 ghost use Rattle.volume_codec.specs.Recovery.{RecoversTo};
@@ -27,7 +27,11 @@ pub struct Embedded<A: Allocator + Copy> {
     pub(crate) requests: Requests<DeferredDisk<A>, A>,
     // The mark of the last commit.
     pub(crate) committed: Option<u32>,
-    // That of the last commit when no call was left to be made.
+    // How many device calls were recorded when it was told.
+    pub(crate) needed: u64,
+    // How many the host has made.
+    pub(crate) made: u64,
+    // The mark of the last commit that needs no more than were made.
     pub(crate) acknowledged: Option<u32>,
 }
 
@@ -46,10 +50,13 @@ impl<A: Allocator + Copy> Model for Embedded<A> {
       notes = e.requests.notes;
       files = e.requests.files;
       committed = e.committed;
+      needed = e.needed;
+      made = e.made;
       acknowledged = e.acknowledged;
     } };
 
-    ghost invariant = { λ e. ServesWell e.requests.machine e.requests.notes e.committed e.acknowledged };
+    ghost invariant = { λ e. ServesWell e.requests.machine e.requests.notes e.committed e.needed e.made
+        e.acknowledged };
 }
 
 /// Opens the volume of a disk, and boots a machine of this shape over it. It lists the files of the volume with their
@@ -70,17 +77,31 @@ pub fn open<A: Allocator + Copy>(
         × RecoversTo (seen_of (as_recorded disk)) files × AreListed files embedded.files.lines.items) }
     ensures nothing { IfOk result (λ embedded. embedded.notes ≡ no_notes) }
     ensures committed { IfOk result (λ embedded. embedded.committed ≡ None) }
+    ensures made { IfOk result (λ embedded. embedded.made
+        ≡ recorded_calls embedded.machine.device - embedded.machine.device.waiting) }
     ensures acknowledged { IfOk result (λ embedded. embedded.acknowledged ≡ None) }
     ensures refused { IfErr result (λ refused. HasNotStarted deferred_disk disk shape refused.1 refused.0) }
 {
     match Requests::start(alloc, disk, shape) {
-        Ok(requests) => Ok(Embedded {
-            requests,
-            committed: None,
-            acknowledged: None,
-        }),
+        Ok(requests) => {
+            let made = made_before(requests.machine().device());
+            Ok(Embedded {
+                requests,
+                committed: None,
+                needed: 0,
+                made,
+                acknowledged: None,
+            })
+        }
         Err(refused) => Err(refused),
     }
+}
+
+// How many of the recorded calls don't wait any more.
+fn made_before<A: Allocator + Copy>(disk: &DeferredDisk<A>) -> u64
+    ensures { result ≡ recorded_calls disk.now - disk.now.waiting }
+{
+    disk.recorded().saturating_sub(disk.waiting() as u64)
 }
 
 impl<A: Allocator + Copy> Embedded<A> {
@@ -98,8 +119,15 @@ impl<A: Allocator + Copy> Embedded<A> {
         self.requests.machine().device()
     }
 
-    /// The mark that is acknowledged: that of the last commit when no device call was left to be made, which is told by
-    /// `commit` and by `carried_out`.
+    /// How many device calls the host has made, of all that were recorded. A count that has come to 2^64-1 stays there.
+    pub fn made(&self) -> u64
+        ensures { result ≡ self.now.made }
+    {
+        self.made
+    }
+
+    /// The mark that is acknowledged: that of the last commit of which the device calls were made that were recorded
+    /// when it was told. Later calls may wait. It is told by `commit` and by `carried_out`.
     pub fn acknowledged(&self) -> Option<u32>
         ensures { result ≡ self.now.acknowledged }
     {
@@ -108,9 +136,11 @@ impl<A: Allocator + Copy> Embedded<A> {
 
     /// Of every embedded volume, as long as the host supplied each block as it was: its machine, over the disk in
     /// memory that made the calls, was started over a device, and steps led to it, of which exactly this is noted. By
-    /// these steps the mark of the last commit was committed, and the one that is acknowledged.
+    /// these steps the mark of the last commit was committed, which needs as many device calls as were recorded then;
+    /// and the one that is acknowledged, whose calls were made.
     pub fn has_served(&self)
-        ensures { ServesWell self.now.machine self.now.notes self.now.committed self.now.acknowledged }
+        ensures { ServesWell self.now.machine self.now.notes self.now.committed self.now.needed self.now.made
+            self.now.acknowledged }
     {
         let _files = self.requests.files();
     }

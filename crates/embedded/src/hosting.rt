@@ -1,12 +1,13 @@
 // What a host does for an embedded volume: it supplies blocks, and makes the calls that wait.
-ghost use Rattle.std.specs.Prelude.{◌≡◌, ◌==◌, ◌-◌, true, false, get_or, option_map, if◌then◌else◌, OnOk, OnErr};
+ghost use Rattle.std.specs.Prelude.{◌≡◌, ◌+◌, ◌-◌, ◌^◌, min, true, false, get_or, option_map, if◌then◌else◌, OnOk, OnErr};
 ghost use Rattle.device.specs.Deferred.{after_forget, waits_behind, with_waiting};
 ghost use Rattle.device.specs.Lent.{change_lent};
+ghost use Rattle.embedded.specs.Embedded.{are_made, made_of};
 ghost use Rattle.embedded.specs.Recorded.{recorded};
 ghost use Rattle.embedded.specs.Supplying.{may_forget, with_supplied, with_device};
 
 use crate::embedded::Embedded;
-use crate::requesting::settled;
+use crate::requesting::{is_made, made_now, settled};
 use crate::tending::{Carrying, Forgetting, Supplying};
 use device::DeferredCall;
 use std::alloc::{AllocError, Allocator};
@@ -21,6 +22,8 @@ impl<A: Allocator + Copy> Embedded<A> {
         ensures notes { self.new.notes ≡ self.old.notes }
         ensures files { self.new.files ≡ self.old.files }
         ensures committed { self.new.committed ≡ self.old.committed }
+        ensures needed { self.new.needed ≡ self.old.needed }
+        ensures made { self.new.made ≡ self.old.made }
         ensures acknowledged { self.new.acknowledged ≡ self.old.acknowledged }
 
         // What a read gives, and what a crash may leave, stays.
@@ -50,6 +53,8 @@ impl<A: Allocator + Copy> Embedded<A> {
         ensures notes { self.new.notes ≡ self.old.notes }
         ensures files { self.new.files ≡ self.old.files }
         ensures committed { self.new.committed ≡ self.old.committed }
+        ensures needed { self.new.needed ≡ self.old.needed }
+        ensures made { self.new.made ≡ self.old.made }
         ensures acknowledged { self.new.acknowledged ≡ self.old.acknowledged }
 
         // What a read gives, and what a crash may leave, stays.
@@ -85,15 +90,18 @@ impl<A: Allocator + Copy> Embedded<A> {
         self.disk().call(others)
     }
 
-    /// The host has made the oldest device call that waited. Where none is left, the mark of the last commit is
-    /// acknowledged.
+    /// The host has made the oldest device call that waited. Once those were made that were recorded when the last
+    /// commit was told, its mark is acknowledged, though later ones may wait.
     pub fn carried_out(&mut self)
         ensures carried { self.new.machine ≡ with_device self.old.machine
             (with_waiting self.old.machine.device (self.old.machine.device.waiting - 1)) }
         ensures notes { self.new.notes ≡ self.old.notes }
         ensures files { self.new.files ≡ self.old.files }
         ensures committed { self.new.committed ≡ self.old.committed }
-        ensures acknowledged { self.new.acknowledged ≡ (if self.old.machine.device.waiting - 1 == 0
+        ensures needed { self.new.needed ≡ self.old.needed }
+        ensures made { self.new.made ≡ made_of self.new.machine.device (min (self.old.made + 1) (2 ^ 64 - 1)) }
+        ensures acknowledged { self.new.acknowledged
+            ≡ (if are_made self.new.machine.device.waiting self.old.needed self.new.made
             then self.old.committed else self.old.acknowledged) }
 
         // What a read gives, and what a crash may leave, stays.
@@ -101,7 +109,13 @@ impl<A: Allocator + Copy> Embedded<A> {
     {
         self.requests.tend(&mut Carrying);
         let waiting = self.requests.machine().device().waiting();
-        let acknowledged = settled(waiting, self.committed, self.acknowledged);
+        let made = made_now(
+            self.requests.machine().device(),
+            self.made.saturating_add(1),
+        );
+        let is_sure = is_made(waiting, self.needed, made);
+        let acknowledged = settled(is_sure, self.committed, self.acknowledged);
+        self.made = made;
         self.acknowledged = acknowledged;
     }
 }

@@ -1,5 +1,5 @@
 // What the steps over a disk of deferred calls are, seen over the disk in memory that made the calls.
-ghost use Rattle.std.specs.Prelude.{ℕ, Bool, ◌≤◌, List};
+ghost use Rattle.std.specs.Prelude.{ℕ, Bool, ◌-◌, ◌^◌, ◌<◌, ◌≤◌, List, Option, Some};
 ghost use Rattle.device.specs.Carrying.{CarriedOut};
 ghost use Rattle.device.specs.Deferred.{Deferred, as_recorded, carried_moment, IsBehind, IsSuppliedWell};
 ghost use Rattle.device.specs.Device.{LeavesOnly};
@@ -17,8 +17,8 @@ ghost use Rattle.machine.specs.Told.{tell_all};
 ghost use Rattle.engine.specs.Engine.{HasStarted, HasRun};
 ghost use Rattle.session.specs.declared.notes.Notes.{Notes};
 ghost use Rattle.session.specs.Steps.{Makes};
-ghost use Rattle.embedded.specs.Embedded.{HasCommitted};
-ghost use Rattle.embedded.specs.Hosting.{KeepsMark};
+ghost use Rattle.embedded.specs.Embedded.{HasCommitted, ServesWell};
+ghost use Rattle.embedded.specs.Hosting.{KeepsMark, with_made};
 ghost use Rattle.embedded.specs.Recorded.{deferred_disk, recorded_disk, recorded};
 
 use device::{Device, MemDisk};
@@ -61,7 +61,8 @@ pub fn ran_as_recorded<A: Allocator + Copy>(disk: &MemDisk<A>)
 /// moment of that leaves, within a call or between two, reads back as the files of the volume, as it was opened, after
 /// a durable prefix of what was told by the steps up to any machine all of whose calls were made before, and by some of
 /// the later steps (`steps`). So a mark that was committed is kept once the calls up to the end of its commit were made
-/// (`mark`).
+/// (`mark`). The mark that an embedded volume acknowledges is such a one: where the host has made the calls that it
+/// said it made, in order, and goes on with those behind them, it is kept (`acknowledged`).
 pub fn crashed_on_the_host<D: Device, A: Allocator + Copy>(device: &D, disk: &MemDisk<A>)
     ensures steps { (before : Recorded) (shape : Shape) (start mid : Whole Recorded) (machine : Whole Deferred)
         (earlier later : List Step) (told more : List Reply) (old new : D) (done : Bool) (left : ℕ)
@@ -78,6 +79,14 @@ pub fn crashed_on_the_host<D: Device, A: Allocator + Copy>(device: &D, disk: &Me
         → IsBehind D.is_honest D.seen D.may_leave old machine.device
         → CarriedOut D.Device old machine.device done new left
         → (files : List File) × RecoversTo (seen_of committed.before) files
+        × LeavesOnly D.moment D.left_since old new (KeepsMark files mark (recorded machine) notes committed) }
+    ensures acknowledged { (machine : Whole Deferred) (notes : Notes) (last : Option ℕ) (needed made mark : ℕ)
+        (old new : D) (done : Bool) (left : ℕ) → IsSuppliedWell machine.device
+        → ServesWell machine notes last needed made (Some mark) → made < 2 ^ 64 - 1
+        → IsBehind D.is_honest D.seen D.may_leave old (with_made machine.device made)
+        → CarriedOut D.Device old (with_made machine.device made) done new left
+        → (committed : HasCommitted mark (recorded machine) notes) × (files : List File)
+        × RecoversTo (seen_of committed.before) files
         × LeavesOnly D.moment D.left_since old new (KeepsMark files mark (recorded machine) notes committed) }
 {
     steps_are_a_run(disk);

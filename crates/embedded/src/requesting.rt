@@ -1,16 +1,18 @@
 // What is asked of an embedded volume.
-ghost use Rattle.std.specs.Prelude.{◌≡◌, [], ◌∷◌, true, ◌==◌, if◌then◌else◌, IfOk, IfErr};
+ghost use Rattle.std.specs.Prelude.{◌≡◌, [], ◌∷◌, true, if◌then◌else◌, IfOk, IfErr};
+ghost use Rattle.device.specs.Deferred.{recorded_calls};
 ghost use Rattle.session.specs.Commits.{CommitsMark, StopsCommit, tells_unmade};
 ghost use Rattle.session.specs.Lengths.{AnswersLength};
 ghost use Rattle.session.specs.Locks.{KeepsPhases};
 ghost use Rattle.session.specs.Ranges.{MakesStepsThat, LoadsReached, StoresReached};
 ghost use Rattle.session.specs.Steps.{Makes};
-ghost use Rattle.embedded.specs.Embedded.{last_committed};
+ghost use Rattle.embedded.specs.Embedded.{are_made, last_committed, last_needed, made_of};
 ghost use Rattle.embedded.specs.Recorded.{deferred_disk};
 ghost use Rattle.embedded.specs.Progress.{reached_by, TellsWanted};
 
 use crate::embedded::Embedded;
 use crate::progress::{Progress, block_number};
+use device::DeferredDisk;
 use machine::{Reply, Step};
 use page_entry::ProcessorNumber;
 use std::alloc::Allocator;
@@ -21,6 +23,8 @@ impl<A: Allocator + Copy> Embedded<A> {
         ensures makes { Makes deferred_disk self.old.machine self.old.notes (step.now ∷ []) (result ∷ [])
             self.new.machine self.new.notes }
         ensures committed { self.new.committed ≡ self.old.committed }
+        ensures needed { self.new.needed ≡ self.old.needed }
+        ensures made { self.new.made ≡ self.old.made }
         ensures acknowledged { self.new.acknowledged ≡ self.old.acknowledged }
     {
         self.requests.make(step)
@@ -40,6 +44,8 @@ impl<A: Allocator + Copy> Embedded<A> {
         ensures wanted { TellsWanted self.new.machine.device.wanted result }
         ensures phases { KeepsPhases self.old.machine.state self.new.machine.state }
         ensures committed { self.new.committed ≡ self.old.committed }
+        ensures needed { self.new.needed ≡ self.old.needed }
+        ensures made { self.new.made ≡ self.old.made }
         ensures acknowledged { self.new.acknowledged ≡ self.old.acknowledged }
     {
         let reached = self.requests.load(p, va, count, bytes);
@@ -56,6 +62,8 @@ impl<A: Allocator + Copy> Embedded<A> {
         ensures wanted { TellsWanted self.new.machine.device.wanted result }
         ensures phases { KeepsPhases self.old.machine.state self.new.machine.state }
         ensures committed { self.new.committed ≡ self.old.committed }
+        ensures needed { self.new.needed ≡ self.old.needed }
+        ensures made { self.new.made ≡ self.old.made }
         ensures acknowledged { self.new.acknowledged ≡ self.old.acknowledged }
     {
         let reached = self.requests.store(p, va, bytes);
@@ -71,13 +79,15 @@ impl<A: Allocator + Copy> Embedded<A> {
             (AnswersLength p file length result) self.new.machine self.new.notes }
         ensures phases { KeepsPhases self.old.machine.state self.new.machine.state }
         ensures committed { self.new.committed ≡ self.old.committed }
+        ensures needed { self.new.needed ≡ self.old.needed }
+        ensures made { self.new.made ≡ self.old.made }
         ensures acknowledged { self.new.acknowledged ≡ self.old.acknowledged }
     {
         self.requests.set_length(p, file, length)
     }
 
-    /// Commits all stores. Answers the number of the mark, which is durable once the calls that wait now were made:
-    /// `acknowledged` says so. Or it answers what the step was answered that stopped the commit.
+    /// Commits all stores. Answers the number of the mark, which is durable once the calls that wait then were made,
+    /// and then `acknowledged` says so. Or it answers what the step was answered that stopped the commit.
     pub fn commit(&mut self, p: ProcessorNumber) -> Result<u32, Reply>
         ensures ok { IfOk result (λ mark. MakesStepsThat deferred_disk self.old.machine self.old.notes
             (CommitsMark p self.old.notes mark) self.new.machine self.new.notes) }
@@ -86,14 +96,23 @@ impl<A: Allocator + Copy> Embedded<A> {
         ensures unmade { IfErr result (λ reply. tells_unmade reply ≡ true) }
         ensures phases { KeepsPhases self.old.machine.state self.new.machine.state }
         ensures committed { self.new.committed ≡ last_committed result self.old.committed }
-        ensures acknowledged { self.new.acknowledged ≡ (if self.new.machine.device.waiting == 0
+        ensures needed { self.new.needed
+            ≡ last_needed result (recorded_calls self.new.machine.device) self.old.needed }
+        ensures made { self.new.made ≡ made_of self.new.machine.device self.old.made }
+        ensures acknowledged { self.new.acknowledged
+            ≡ (if are_made self.new.machine.device.waiting self.new.needed self.new.made
             then self.new.committed else self.old.acknowledged) }
     {
         let answer = self.requests.commit(p);
-        let committed = committed_by(&answer, self.committed);
         let waiting = self.requests.machine().device().waiting();
-        let acknowledged = settled(waiting, committed, self.acknowledged);
+        let committed = committed_by(&answer, self.committed);
+        let needed = needed_by(&answer, self.requests.machine().device(), self.needed);
+        let made = made_now(self.requests.machine().device(), self.made);
+        let is_sure = is_made(waiting, needed, made);
+        let acknowledged = settled(is_sure, committed, self.acknowledged);
         self.committed = committed;
+        self.needed = needed;
+        self.made = made;
         self.acknowledged = acknowledged;
         answer
     }
@@ -109,18 +128,46 @@ fn committed_by(answer: &Result<u32, Reply>, before: Option<u32>) -> Option<u32>
     }
 }
 
-// The last mark that is acknowledged where so many calls are left to be made: that of the last commit where none is,
-// and else the one before.
+// How many device calls the last commit needs, after one that came to this: as many as are recorded, where it is told
+// now.
+fn needed_by<A: Allocator + Copy>(
+    answer: &Result<u32, Reply>,
+    disk: &DeferredDisk<A>,
+    before: u64,
+) -> u64
+    ensures { result ≡ last_needed answer.now (recorded_calls disk.now) before }
+{
+    match answer {
+        Ok(_) => disk.recorded(),
+        Err(_) => before,
+    }
+}
+
+// How many device calls were made: all that were recorded where none waits, and else as many as were counted.
+pub(crate) fn made_now<A: Allocator + Copy>(disk: &DeferredDisk<A>, counted: u64) -> u64
+    ensures { result ≡ made_of disk.now counted }
+{
+    if disk.waiting() == 0 {
+        disk.recorded()
+    } else {
+        counted
+    }
+}
+
+// Whether the device calls were made that a commit needs, where so many wait.
+pub(crate) fn is_made(waiting: usize, needed: u64, made: u64) -> bool
+    ensures { result ≡ are_made waiting needed made }
+{
+    waiting == 0 || needed <= made
+}
+
+// The last mark that is acknowledged: that of the last commit where its calls were made, and else the one before.
 pub(crate) fn settled(
-    waiting: usize,
+    is_sure: bool,
     committed: Option<u32>,
     acknowledged: Option<u32>,
 ) -> Option<u32>
-    ensures { result ≡ (if waiting == 0 then committed else acknowledged) }
+    ensures { result ≡ (if is_sure then committed else acknowledged) }
 {
-    if waiting == 0 {
-        committed
-    } else {
-        acknowledged
-    }
+    if is_sure { committed } else { acknowledged }
 }

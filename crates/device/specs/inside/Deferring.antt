@@ -1,5 +1,5 @@
 -- What a disk of deferred calls keeps beside its log.
-use Rattle.std.specs.Prelude.{⊤, ◌≡◌, ℕ, ◌+◌, ◌*◌, ◌/◌, ◌<◌, ◌≤◌, Bool, true, false, Option, List, [], ◌∷◌, length, take, get_or, refl}
+use Rattle.std.specs.Prelude.{⊤, ◌≡◌, ℕ, ◌+◌, ◌-◌, ◌*◌, ◌/◌, ◌^◌, ◌<◌, ◌≤◌, min, Bool, true, false, Option, List, [], ◌∷◌, length, take, get_or, refl}
 use Rattle.std.specs.Coded.{Coded, code_by, coded×, coded_ℕ, coded_bool, coded_list, coded_option}
 use Rattle.device.specs.Memory.{DiskChange, content_after}
 use Rattle.device.specs.Memory.DiskChange.{write, sync}
@@ -30,6 +30,10 @@ pub record IsKept (first : List ℕ) (changes : List DiskChange) (supplied : Lis
   pub waits : waiting ≡ take (length waiting) changes
   pub reached : AreKnown flags waiting
   pub agrees : AreAlike supplied → AgreeWhereKnown flags bytes (content_after first changes)
+
+-- so many changes were counted, up to 2^64-1
+abbrev pub AreCounted : ℕ → List DiskChange → Type 0
+AreCounted count changes = count ≡ min (length changes) (2 ^ 64 - 1)
 
 abbrev pub deferred_code : Coded Deferred
 deferred_code =

@@ -1,7 +1,11 @@
-use Rattle.std.proofs.Common.{◌++◌, take}
+use Rattle.std.proofs.Common.{◌≤◌, ◌++◌, take, arith}
+use Rattle.device.specs.Deferred.{carried_moment}
 use Rattle.device.specs.Memory.{moment_of}
+use Rattle.embedded.specs.Hosting.{with_made}
 use Rattle.embedded.specs.Recorded.{recorded}
+use Rattle.embedded.specs.Supplying.{with_device}
 use Rattle.embedded.proofs.Hosted.{leaves_as, sooner, kept}
+use Rattle.embedded.proofs.Tended.{later_calls}
 use Rattle.embedded.proofs.laws.crashed_on_the_host.Goals as goal
 
 pub returns-clause-steps : goal.returns-clause-steps
@@ -22,3 +26,13 @@ returns-clause-mark g c = λ machine notes mark old new done left it made behind
           (λ n. c.acknowledges.ensures.mark found.0 it.start it.old it.new it.between it.after it.earlier it.steps (take n it.later) it.told it.replies (take n it.more) it.p mark it.makes_earlier it.makes it.commits) list
           (found.2 list (sooner machine.device (moment_of it.new.device) list made since))) (carried.time behind),
     )
+
+pub returns-clause-acknowledged : goal.returns-clause-acknowledged
+returns-clause-acknowledged g c = λ machine notes last needed made mark old new done left well served few behind carried.
+    let sure = (served well).sure in
+    let it = sure.0 in
+    let reached = sure.1 few in
+    let later = later_calls needed made made machine notes (λ _. omega arith) mark it in
+    let soon : moment_of it.new.device ≤ carried_moment (with_made machine.device made) = omega (arith, reached, later) in
+    let kept = returns-clause-mark g c (with_device machine (with_made machine.device made)) notes mark old new done left it soon behind carried in
+    (it, kept.0, kept.1, kept.2)

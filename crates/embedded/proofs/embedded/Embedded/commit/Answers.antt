@@ -1,8 +1,10 @@
-use Rattle.std.proofs.Common.{ℕ, Option, IfErr, IfOk, sym, subst}
+use Rattle.std.proofs.Common.{ℕ, ◌≤◌, Option, IfErr, IfOk, sym, ◌∙◌, ap, subst, arith}
+use Rattle.device.specs.Deferred.{Deferred, recorded_calls}
+use Rattle.machine.specs.State.{Whole}
 use Rattle.session.specs.Commits.{CommitsMark, StopsCommit}
 use Rattle.session.specs.Locks.{KeepsPhases}
 use Rattle.session.specs.Ranges.{MakesStepsThat}
-use Rattle.embedded.specs.Embedded.{EmbeddedState, ServesWell}
+use Rattle.embedded.specs.Embedded.{EmbeddedState, ServesWell, are_made, last_committed, last_needed, made_of}
 use Rattle.embedded.specs.Recorded.{deferred_disk}
 use Rattle.embedded.proofs.Serving.{serves_commits}
 use Rattle.embedded.proofs.Tended.{serves_settled}
@@ -13,9 +15,15 @@ invariant_of-self g c =
     let done = c.commit-answer in
     let inside = c.self.inside in
     let new = done.new.self in
-    let P : Option ℕ → Type 0 = λ committed. ServesWell new.machine new.notes committed inside.acknowledged in
-    let served = serves_commits inside.committed inside.acknowledged c.args.p done.result inside.requests.machine new.machine inside.requests.notes new.notes c.self.invariant done.ensures.ok done.ensures.err in
-    serves_settled c.committed_by-committed.result inside.acknowledged c.settled-acknowledged.result c.waiting-waiting.result new.machine new.notes c.settled-acknowledged.ensures (subst P (sym c.committed_by-committed.ensures) served)
+    let served = serves_commits inside.committed inside.needed inside.made inside.acknowledged c.args.p done.result inside.requests.machine new.machine inside.requests.notes new.notes c.self.invariant done.ensures.ok done.ensures.err in
+    let waits = c.waiting-waiting.ensures ∙ ap (λ (d : Deferred). d.waiting) (c.device.ensures ∙ ap (λ (m : Whole Deferred). m.device) c.machine.ensures) in
+    let needs = c.needed_by-needed.ensures ∙ ap (λ (d : Deferred). last_needed done.result (recorded_calls d) inside.needed) (c.device-2.ensures ∙ ap (λ (m : Whole Deferred). m.device) c.machine-2.ensures) in
+    let counts = c.device-3.ensures ∙ ap (λ (m : Whole Deferred). m.device) c.machine-3.ensures in
+    let P : Option ℕ → Type 0 = λ committed. ServesWell new.machine new.notes committed c.needed_by-needed.result inside.made inside.acknowledged in
+    let Q : ℕ → Type 0 = λ needed. ServesWell new.machine new.notes (last_committed done.result inside.committed) needed inside.made inside.acknowledged in
+    serves_settled c.needed_by-needed.result inside.made inside.made new.machine new.notes (λ _. omega arith) c.committed_by-committed.result inside.acknowledged c.settled-acknowledged.result c.made_now-made.result c.is_made-is_sure.result
+    (c.made_now-made.ensures ∙ ap (λ (d : Deferred). made_of d inside.made) counts) (c.is_made-is_sure.ensures ∙ ap (λ n. are_made n c.needed_by-needed.result c.made_now-made.result) waits) c.settled-acknowledged.ensures
+    (subst P (sym c.committed_by-committed.ensures) (subst Q (sym needs) served))
 
 pub returns-clause-ok : goal.returns-clause-ok
 returns-clause-ok g c =

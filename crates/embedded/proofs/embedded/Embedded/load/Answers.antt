@@ -8,7 +8,7 @@ use Rattle.embedded.proofs.Serving.{serves_more}
 use Rattle.embedded.proofs.embedded.Embedded.load.Goals as goal
 
 pub invariant_of-self : goal.invariant_of-self
-invariant_of-self g c = serves_more _ _ _ _ _ _ _ c.self.invariant c.load-reached.ensures.reached
+invariant_of-self g c = serves_more _ _ _ _ _ _ _ _ _ c.self.invariant c.load-reached.ensures.reached
 
 pub returns-clause-reached : goal.returns-clause-reached
 returns-clause-reached g c =

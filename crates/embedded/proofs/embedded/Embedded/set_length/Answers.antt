@@ -8,7 +8,7 @@ use Rattle.embedded.proofs.Serving.{serves_more}
 use Rattle.embedded.proofs.embedded.Embedded.set_length.Goals as goal
 
 pub invariant_of-self : goal.invariant_of-self
-invariant_of-self g c = serves_more _ _ _ _ _ _ _ c.self.invariant c.set_length.ensures.answers
+invariant_of-self g c = serves_more _ _ _ _ _ _ _ _ _ c.self.invariant c.set_length.ensures.answers
 
 pub returns-clause-answers : goal.returns-clause-answers
 returns-clause-answers g c =
