@@ -136,8 +136,8 @@ int32_t famsync_core_store(famsync_core core, uint64_t address, const uint8_t *b
    durable once famsync_core_acknowledged answers it. OK, ORDER, or what a step was refused by. */
 int32_t famsync_core_commit(famsync_core core, uint32_t *mark, uint8_t **at);
 
-/* The number of the last commit that is durable, 0 where there is none: since it was made no call was left to wait
-   at some time, so carry out all that wait. ORDER. */
+/* The number of the last commit that is durable, 0 where there is none: the calls that waited when it was made were
+   carried out. Later ones may wait. A commit that is followed by another before that is told with the other. ORDER. */
 int64_t famsync_core_acknowledged(famsync_core core, uint8_t **at);
 
 /* Makes up to `most` further steps of commits that were made, to write their pages home, and records their calls. OK

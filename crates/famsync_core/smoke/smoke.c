@@ -72,23 +72,30 @@ static void supply(famsync_core *core, uint32_t block)
     HAVE(famsync_core_is_known(*core, block, &core->at) == 1);
 }
 
-/* What a host does with the calls that wait. */
-static void drain(famsync_core *core)
+/* What a host does with the oldest call that waits. */
+static bool make_call(famsync_core *core)
 {
     uint32_t kind;
     uint64_t offset, length;
     const uint8_t *bytes;
-    while (famsync_core_call(*core, 0, &kind, &offset, &bytes, &length, &core->at) == FAMSYNC_CORE_OK) {
-        if (kind == 1) {
-            HAVE(offset <= sizeof volume && length <= sizeof volume - offset);
-            memcpy(volume + offset, bytes, length);
-            writes++;
-        } else {
-            HAVE(kind == 2);
-            syncs++;
-        }
-        HAVE(famsync_core_carried_out(*core, 1, &core->at) == FAMSYNC_CORE_OK);
+    if (famsync_core_call(*core, 0, &kind, &offset, &bytes, &length, &core->at) != FAMSYNC_CORE_OK)
+        return false;
+    if (kind == 1) {
+        HAVE(offset <= sizeof volume && length <= sizeof volume - offset);
+        memcpy(volume + offset, bytes, length);
+        writes++;
+    } else {
+        HAVE(kind == 2);
+        syncs++;
     }
+    HAVE(famsync_core_carried_out(*core, 1, &core->at) == FAMSYNC_CORE_OK);
+    return true;
+}
+
+static void drain(famsync_core *core)
+{
+    while (make_call(core))
+        ;
     HAVE(famsync_core_waiting(*core, &core->at) == 0);
 }
 
@@ -188,6 +195,28 @@ static void finds_what_was_committed(void)
     famsync_core_close(core);
 }
 
+/* A mark is acknowledged by the last of the calls that waited after its commit, though later ones wait. */
+static void acknowledges_before_later_calls(void)
+{
+    static const uint8_t bytes[PAGE] = {1};
+    famsync_core core;
+    format();
+    core = begin();
+    store(&core, ADDRESS, bytes, sizeof bytes);
+    uint32_t mark = commit(&core);
+    int64_t needed = famsync_core_waiting(core, &core.at);
+    HAVE(famsync_core_write_out(core, 100, &core.at) == FAMSYNC_CORE_NONE);
+    HAVE(needed > 0 && famsync_core_waiting(core, &core.at) > needed);
+    for (int64_t made = 0; made < needed; made++) {
+        HAVE(famsync_core_acknowledged(core, &core.at) == 0);
+        HAVE(make_call(&core));
+    }
+    HAVE(famsync_core_waiting(core, &core.at) > 0 && famsync_core_acknowledged(core, &core.at) == mark);
+    drain(&core);
+    HAVE(famsync_core_acknowledged(core, &core.at) == mark);
+    famsync_core_close(core);
+}
+
 static void measure(uint32_t count)
 {
     static uint8_t page[PAGE];
@@ -209,10 +238,12 @@ static void measure(uint32_t count)
 
 int main(int count, char **argument)
 {
-    if (count > 1)
+    if (count > 1) {
         measure((uint32_t)strtoul(argument[1], NULL, 10));
-    else
+    } else {
         finds_what_was_committed();
+        acknowledges_before_later_calls();
+    }
     printf("%u writes, %u syncs\n", writes, syncs);
     return 0;
 }

@@ -1,4 +1,7 @@
 // The codes that the calls answer, as famsync_core.h has them.
+ghost use Rattle.std.specs.Prelude.{◌≡◌};
+ghost use Rattle.famsync_core.specs.Codes.{refusal_code, reply_code};
+
 use machine::Reply;
 use page_entry::Refusal;
 
@@ -17,7 +20,9 @@ pub(crate) const ORDER: i32 = -3;
 const OTHER: i32 = -38;
 
 // Why a volume isn't opened, or a step isn't made.
-pub(crate) fn code_of_refusal(refusal: &Refusal) -> i32 {
+pub(crate) fn code_of_refusal(refusal: &Refusal) -> i32
+    ensures { result ≡ refusal_code refusal.now }
+{
     match refusal {
         Refusal::NotAVolume => -11,
         Refusal::Damaged => -12,
@@ -44,7 +49,9 @@ pub(crate) fn code_of_refusal(refusal: &Refusal) -> i32 {
 }
 
 // What a step is answered that these calls don't expect.
-pub(crate) fn code_of_reply(reply: &Reply) -> i32 {
+pub(crate) fn code_of_reply(reply: &Reply) -> i32
+    ensures { result ≡ reply_code reply.now }
+{
     match reply {
         Reply::Refused(refusal) => code_of_refusal(refusal),
         _ => OTHER,

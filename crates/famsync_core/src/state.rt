@@ -1,5 +1,6 @@
 // What is kept of a session between two calls.
-ghost use Rattle.std.specs.Prelude.{◌≡◌, ℕ, ◌*◌, List, length};
+ghost use Rattle.std.specs.Prelude.{◌≡◌, ℕ, ◌-◌, ◌*◌, ◌^◌, min, List, length, pos};
+ghost use Rattle.famsync_core.specs.Codes.{lack_code, lacked_block, progress_code, reached_bytes, rights_in, wanted_block};
 
 use crate::codes::{ARGUMENT, NO_MEMORY, NONE, OK, ORDER, WANTED, code_of_refusal, code_of_reply};
 use crate::parts::parts_of;
@@ -474,7 +475,11 @@ fn carry_before(disk: &mut Option<DeferredDisk<Global>>) {
 }
 
 // Says how far a range was reached.
-fn code_of_progress(progress: &Progress, count: usize, done: &mut u64, wanted: &mut u32) -> i32 {
+fn code_of_progress(progress: &Progress, count: usize, done: &mut u64, wanted: &mut u32) -> i32
+    ensures code { result ≡ progress_code progress.now }
+    ensures done { done.new ≡ reached_bytes progress.now count done.old }
+    ensures wanted { wanted.new ≡ wanted_block progress.now wanted.old }
+{
     match progress {
         Progress::Done => {
             *done = count as u64;
@@ -494,7 +499,9 @@ fn code_of_progress(progress: &Progress, count: usize, done: &mut u64, wanted: &
 }
 
 // What a mapping allows: 1 to read, 3 to read and write.
-fn rights_of(rights: u32) -> Option<Rights> {
+fn rights_of(rights: u32) -> Option<Rights>
+    ensures { result ≡ rights_in rights }
+{
     match rights {
         1 => Some(Rights::Read),
         3 => Some(Rights::ReadWrite),
@@ -510,7 +517,9 @@ fn copied(bytes: &[u8], to: &mut [u8]) -> usize {
 }
 
 /// A count as C gets it.
-pub(crate) fn number_of(count: u64) -> i64 {
+pub(crate) fn number_of(count: u64) -> i64
+    ensures { result ≡ pos (min count (2 ^ 63 - 1)) }
+{
     i64::try_from(count).unwrap_or(i64::MAX)
 }
 
@@ -523,7 +532,10 @@ fn block_number(lacked: Option<usize>) -> Option<u32> {
 }
 
 // Why something was refused: for want of a block, or for another reason.
-fn code_of_lack(refusal: &Refusal, lacked: Option<u32>, wanted: &mut u32) -> i32 {
+fn code_of_lack(refusal: &Refusal, lacked: Option<u32>, wanted: &mut u32) -> i32
+    ensures code { result ≡ lack_code refusal.now lacked }
+    ensures wanted { wanted.new ≡ lacked_block refusal.now lacked wanted.old }
+{
     match (refusal, lacked) {
         (Refusal::Device, Some(block)) => {
             *wanted = block;
