@@ -1,11 +1,11 @@
 -- The write-outs under way: the newest that isn't committed, or the oldest, and those whose gates are open.
-use Rattle.std.proofs.Common.{◌≡◌, ◌≢◌, ◌<◌, ◌⊎◌, inl, inr, true, false, cond, not, ◌||◌, List, [], ◌∷◌, ◌++◌, Option, Some, refl, sym, ap, ◌∙◌, subst, arith, append_assoc}
+use Rattle.std.proofs.Common.{◌≡◌, ◌⊎◌, inl, inr, true, false, not, ◌||◌, List, []}
+use Rattle.std.proofs.Common.{◌∷◌, ◌++◌, Option, Some, refl, ap, ◌∙◌, subst, arith}
 use Rattle.std.specs.List.{AllByRecursion, Contains}
 use Rattle.std.specs.Option.{option_map_or}
-use Rattle.std.proofs.lemmas.Bool.{cond_both, cond-true, cond-false, both_ways, or_parts, or_right, or_cases, not-true, not_from_false, cases_Bool}
-use Rattle.std.proofs.lemmas.List.{append-nil}
+use Rattle.std.proofs.lemmas.Bool.{cond-true, cond-false, both_ways, or_parts, or_right}
+use Rattle.std.proofs.lemmas.Bool.{or_cases, not-true, not_from_false, cases_Bool}
 use Rattle.std.proofs.lemmas.List.Elements.{Contains-append_cases, Contains-append_right, Contains-push_cases}
-use Rattle.volume_codec.specs.Recovery.{Batch, IsNewer, has_journal}
 use Rattle.journal.specs.declared.stage.Stage.{Stage}
 use Rattle.journal.specs.declared.flushed.Flushed.{Flushed}
 use Rattle.journal.specs.declared.flushed.Flushed.TheVariants.{Going, Committed, Done, Device, Broken}
@@ -13,9 +13,7 @@ use Rattle.journal.specs.Stage.{is_committed}
 use Rattle.journal.specs.WriteOut.{WriteOut, next_stage, has_committed, advanced_of}
 use Rattle.journal.specs.WriteOuts.{has_uncommitted, current, advanced, batches_after}
 use Rattle.journal.specs.inside.Sound.{IsOlder, AreInOrder}
-use Rattle.journal.specs.inside.Tied.{is_open, open_of, open_in}
-use Rattle.journal.proofs.Alls.{all_map, all-append, all_back}
-use Rattle.journal.proofs.Standing.{lacking}
+use Rattle.journal.proofs.Alls.{all_back}
 
 -- ---- the newest, where it isn't committed
 
@@ -33,11 +31,15 @@ newest_of (w ∷ []) ordered has = record {
   others = [];
   newest = w;
   are = refl;
-  uncommitted = elim (or_cases (not (has_committed w)) false has) [ inl e ↦ not-true (has_committed w) e | inr e ↦ absurd (both_ways false refl e) ];
+  uncommitted = elim (or_cases (not (has_committed w)) false has) [
+    | inl e ↦ not-true (has_committed w) e
+    | inr e ↦ absurd (both_ways false refl e)
+  ];
   older = tt;
 }
 newest_of (w ∷ x ∷ newer) ordered has =
-    let later : has_uncommitted (x ∷ newer) ≡ true = elim (or_cases (not (has_committed w)) (has_uncommitted (x ∷ newer)) has) [
+    let later : has_uncommitted (x ∷ newer) ≡ true =
+    elim (or_cases (not (has_committed w)) (has_uncommitted (x ∷ newer)) has) [
       | inl e ↦ absurd (both_ways (has_committed w) (not-true (has_committed w) e) ordered.0.0.committed)
       | inr e ↦ e
     ] in
@@ -47,70 +49,57 @@ newest_of (w ∷ x ∷ newer) ordered has =
       newest = n.newest;
       are = ap (λ (l : List WriteOut). w ∷ l) n.are;
       uncommitted = n.uncommitted;
-      older = ((all_back (IsOlder w) n.others (n.newest ∷ []) (subst (AllByRecursion (IsOlder w)) n.are ordered.0)).0, n.older);
+      older = (
+        (all_back (IsOlder w) n.others (n.newest ∷ []) (subst (AllByRecursion (IsOlder w)) n.are ordered.0)).0,
+        n.older,
+      );
     }
 
-pub has_uncommitted-newest : (others : List WriteOut) (newest : WriteOut) → has_committed newest ≡ false → has_uncommitted (others ++ newest ∷ []) ≡ true
+pub has_uncommitted-newest : (others : List WriteOut) (newest : WriteOut) → has_committed newest ≡ false
+    → has_uncommitted (others ++ newest ∷ []) ≡ true
 has_uncommitted-newest [] newest e = ap (λ b. not b || false) e
-has_uncommitted-newest (w ∷ others) newest e = or_right (not (has_committed w)) (has_uncommitted (others ++ newest ∷ [])) (has_uncommitted-newest others newest e)
+has_uncommitted-newest (w ∷ others) newest e =
+    or_right (not (has_committed w)) (has_uncommitted (others ++ newest ∷ [])) (has_uncommitted-newest others newest e)
 
-pub current-newest : (others : List WriteOut) (newest : WriteOut) → has_committed newest ≡ false → current (others ++ newest ∷ []) ≡ Some newest
+pub current-newest : (others : List WriteOut) (newest : WriteOut) → has_committed newest ≡ false
+    → current (others ++ newest ∷ []) ≡ Some newest
 current-newest [] newest e = refl
 current-newest (w ∷ others) newest e =
-    cond-true (has_uncommitted (others ++ newest ∷ [])) (current (others ++ newest ∷ [])) (Some w) (has_uncommitted-newest others newest e) ∙ current-newest others newest e
+    cond-true (has_uncommitted (others ++ newest ∷ []))
+    (current (others ++ newest ∷ [])) (Some w) (has_uncommitted-newest others newest e)
+    ∙ current-newest others newest e
 
-pub advanced-newest : (others : List WriteOut) (newest : WriteOut) → has_committed newest ≡ false → advanced (others ++ newest ∷ []) ≡ others ++ advanced_of newest ∷ []
+pub advanced-newest : (others : List WriteOut) (newest : WriteOut) → has_committed newest ≡ false
+    → advanced (others ++ newest ∷ []) ≡ others ++ advanced_of newest ∷ []
 advanced-newest [] newest e = refl
 advanced-newest (w ∷ others) newest e =
-    cond-true (has_uncommitted (others ++ newest ∷ [])) (w ∷ advanced (others ++ newest ∷ [])) (advanced_of w ∷ (others ++ newest ∷ [])) (has_uncommitted-newest others newest e)
+    cond-true (has_uncommitted (others ++ newest ∷ [])) (w ∷ advanced (others ++ newest ∷ []))
+    (advanced_of w ∷ (others ++ newest ∷ [])) (has_uncommitted-newest others newest e)
     ∙ ap (λ (l : List WriteOut). w ∷ l) (advanced-newest others newest e)
 
 -- ---- the oldest, where all are committed
 
-pub committed_parts : (w : WriteOut) (newer : List WriteOut) → has_uncommitted (w ∷ newer) ≡ false → (has_committed w ≡ true) × (has_uncommitted newer ≡ false)
+pub committed_parts : (w : WriteOut) (newer : List WriteOut) → has_uncommitted (w ∷ newer) ≡ false
+    → (has_committed w ≡ true) × (has_uncommitted newer ≡ false)
 committed_parts w newer none =
-    let parts = or_parts (not (has_committed w)) (has_uncommitted newer) none in
-    (elim (cases_Bool (has_committed w)) [ inl e ↦ e | inr e ↦ absurd (both_ways (not (has_committed w)) parts.0 (not_from_false (has_committed w) e)) ], parts.1)
+    let parts = or_parts (not (has_committed w)) (has_uncommitted newer) none in (
+      elim (cases_Bool (has_committed w)) [
+        | inl e ↦ e
+        | inr e ↦ absurd (both_ways (not (has_committed w)) parts.0 (not_from_false (has_committed w) e))
+      ],
+      parts.1,
+    )
 
-pub current-oldest : (w : WriteOut) (newer : List WriteOut) → has_uncommitted newer ≡ false → current (w ∷ newer) ≡ Some w
+pub current-oldest : (w : WriteOut) (newer : List WriteOut) → has_uncommitted newer ≡ false
+    → current (w ∷ newer) ≡ Some w
 current-oldest w newer none = cond-false (has_uncommitted newer) (current newer) (Some w) none
 
-pub advanced-oldest : (w : WriteOut) (newer : List WriteOut) → has_uncommitted newer ≡ false → advanced (w ∷ newer) ≡ advanced_of w ∷ newer
+pub advanced-oldest : (w : WriteOut) (newer : List WriteOut) → has_uncommitted newer ≡ false
+    → advanced (w ∷ newer) ≡ advanced_of w ∷ newer
 advanced-oldest w newer none = cond-false (has_uncommitted newer) (w ∷ advanced newer) (advanced_of w ∷ newer) none
-
--- ---- open gates
-
-pub open_of-at : (w : WriteOut) (stage : Stage) → next_stage w ≡ Some stage → open_of w ≡ cond (is_open stage) (w.batch ∷ []) []
-open_of-at w stage e = ap (λ (o : Option Stage). cond (option_map_or is_open o false) (w.batch ∷ []) []) e
 
 pub committed-at : (w : WriteOut) (stage : Stage) → next_stage w ≡ Some stage → has_committed w ≡ is_committed stage
 committed-at w stage e = ap (λ (o : Option Stage). option_map_or is_committed o true) e
-
-pub open_in-newest : (others : List WriteOut) (newest : WriteOut) → open_in (others ++ newest ∷ []) ≡ open_of newest ++ open_in others
-open_in-newest [] newest = sym (append-nil (open_of newest))
-open_in-newest (w ∷ others) newest = ap (λ (l : List Batch). l ++ open_of w) (open_in-newest others newest) ∙ append_assoc (open_of newest) (open_in others) (open_of w)
-
--- what each batch has, each has whose gate is open
-pub all_open : (P : Batch → Type 0) (batches : List WriteOut) → AllByRecursion (λ (w : WriteOut). P w.batch) batches → AllByRecursion P (open_in batches)
-all_open P [] all = tt
-all_open P (w ∷ newer) all =
-    all-append P (open_in newer) (open_of w) (all_open P newer all.1)
-    (cond_both (option_map_or is_open (next_stage w) false) (w.batch ∷ []) [] (AllByRecursion P) (λ e. (all.0, tt)) (λ e. tt))
-
--- a newer batch than all of these
-pub is_newer : (batch : Batch) (batches : List Batch) → AllByRecursion (λ (other : Batch). other.mark < batch.mark) batches → IsNewer batch batches
-is_newer batch [] all = tt
-is_newer batch (next ∷ older) all = all.0
-
-module _ (others : List WriteOut) (newest : WriteOut) (older : AllByRecursion (λ w. IsOlder w newest) others) where
-  pub newest-newer : IsNewer newest.batch (open_in others)
-  newest-newer = is_newer newest.batch (open_in others) (all_open (λ (other : Batch). other.mark < newest.batch.mark) others (all_map (λ (w : WriteOut) (is : IsOlder w newest). is.marks) others older))
-
-  pub newest-alone : has_journal (open_in others) newest.batch.journal ≡ false
-  newest-alone = lacking (open_in others) newest.batch.journal (all_open (λ (other : Batch). other.journal ≢ newest.batch.journal) others (all_map (λ (w : WriteOut) (is : IsOlder w newest). is.journals) others older))
-
-pub oldest-alone : (w : WriteOut) (newer : List WriteOut) → AllByRecursion (IsOlder w) newer → has_journal (open_in newer) w.batch.journal ≡ false
-oldest-alone w newer all = lacking (open_in newer) w.batch.journal (all_open (λ (other : Batch). other.journal ≢ w.batch.journal) newer (all_map {P = IsOlder w} {Q = λ (x : WriteOut). x.batch.journal ≢ w.batch.journal} (λ x is e. is.journals (sym e)) newer all))
 
 -- ---- a step makes no batch
 
@@ -120,20 +109,26 @@ met x xs y there = elim (Contains-append_cases (x ∷ []) xs y there) [
   | inr rest ↦ inr rest
 ]
 
-batch_stays : (batches : List WriteOut) (w : WriteOut) → Contains (advanced batches) w → (before : WriteOut) × Contains batches before × (before.batch ≡ w.batch)
+batch_stays : (batches : List WriteOut) (w : WriteOut) → Contains (advanced batches) w
+    → (before : WriteOut) × Contains batches before × (before.batch ≡ w.batch)
 batch_stays [] w there = absurd (omega (arith, there.1))
 batch_stays (x ∷ newer) w there = elim (cases_Bool (has_uncommitted newer)) [
-  | inl later ↦ elim (met x (advanced newer) w (subst (λ (l : List WriteOut). Contains l w) (cond-true (has_uncommitted newer) (x ∷ advanced newer) (advanced_of x ∷ newer) later) there)) [
-    | inl e ↦ (x, (0, omega arith, refl), ap (λ (y : WriteOut). y.batch) e)
-    | inr rest ↦ (let before = batch_stays newer w rest in (before.0, Contains-append_right (x ∷ []) newer before.0 before.1, before.2))
-  ]
-  | inr none ↦ elim (met (advanced_of x) newer w (subst (λ (l : List WriteOut). Contains l w) (cond-false (has_uncommitted newer) (x ∷ advanced newer) (advanced_of x ∷ newer) none) there)) [
-    | inl e ↦ (x, (0, omega arith, refl), ap (λ (y : WriteOut). y.batch) e)
-    | inr rest ↦ (w, Contains-append_right (x ∷ []) newer w rest, refl)
-  ]
+  | inl later ↦ elim (met x (advanced newer) w (subst (λ (l : List WriteOut). Contains l w)
+      (cond-true (has_uncommitted newer) (x ∷ advanced newer) (advanced_of x ∷ newer) later) there)) [
+        | inl e ↦ (x, (0, omega arith, refl), ap (λ (y : WriteOut). y.batch) e)
+        | inr rest ↦ (let before = batch_stays newer w rest in
+            (before.0, Contains-append_right (x ∷ []) newer before.0 before.1, before.2))
+      ]
+  | inr none ↦ elim (met (advanced_of x) newer w (subst (λ (l : List WriteOut). Contains l w)
+      (cond-false (has_uncommitted newer) (x ∷ advanced newer) (advanced_of x ∷ newer) none) there)) [
+        | inl e ↦ (x, (0, omega arith, refl), ap (λ (y : WriteOut). y.batch) e)
+        | inr rest ↦ (w, Contains-append_right (x ∷ []) newer w rest, refl)
+      ]
 ]
 
-pub batch_before : (answer : Flushed) (batches : List WriteOut) (w : WriteOut) → Contains (batches_after answer batches) w → (before : WriteOut) × Contains batches before × (before.batch ≡ w.batch)
+pub batch_before : (answer : Flushed) (batches : List WriteOut) (w : WriteOut)
+    → Contains (batches_after answer batches) w
+    → (before : WriteOut) × Contains batches before × (before.batch ≡ w.batch)
 batch_before Going batches w there = batch_stays batches w there
 batch_before (Committed mark) batches w there = batch_stays batches w there
 batch_before (Done mark) [] w there = absurd (omega (arith, there.1))

@@ -6,9 +6,9 @@ pub mod Recovering
 pub mod Stages
 pub mod Batches
 pub mod Written
-pub mod Recorded
-pub mod Applied
 pub mod Tying
+pub mod Firm
+pub mod Leaving
 pub mod Stepping
 pub mod Sounding
 pub mod Answering

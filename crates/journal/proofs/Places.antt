@@ -7,7 +7,9 @@ use Rattle.volume_codec.specs.Layout.{journals_of, gate_block, descriptor_block,
 
 -- a journal ends before a later one begins
 journal_before : (S j k : ℕ) → j < k → j * (2 + S) + (2 + S) ≤ k * (2 + S)
-journal_before S j k lt = let over : (j + 1) * (2 + S) ≤ k * (2 + S) = mul-le-mul_right (2 + S) (omega arith) in omega arith
+journal_before S j k lt =
+    let over : (j + 1) * (2 + S) ≤ k * (2 + S) = mul-le-mul_right (2 + S) (omega arith) in
+    omega arith
 
 module _ (layout : Layout) (S : ℕ) where
   pub gate-below : (j : ℕ) → j < journals_of layout → gate_block S j < first_home layout S

@@ -1,7 +1,9 @@
--- What follows of the definitions, for `machine`, which takes no lemma of this crate from anywhere else: what a write-out
--- and a device stand for after each step, which stage comes when, and which batch is the current one.
-pub use Rattle.journal.proofs.StandsKept.{stands_first, stands_begun, stands_within, stands_after, stands_failed, stands_left, stands_other}
+-- What follows of the definitions, for `machine`, which takes no lemma of this crate from anywhere else: what a
+-- write-out and a device stand for after each step, which stage comes when, and which batch is the current one.
+pub use Rattle.journal.proofs.StandsKept.{stands_first, stands_begun, stands_within}
+pub use Rattle.journal.proofs.StandsKept.{stands_after, stands_failed, stands_left, stands_other}
 pub use Rattle.journal.proofs.Stages.{IsAt, stage_is, stage_at-is, after_committing, early_calls, all_calls}
-pub use Rattle.journal.proofs.Stepping.{stage_committed, current_committed}
-pub use Rattle.journal.proofs.Batches.{current-oldest, current-newest, advanced-newest, newest_of, committed_parts, committed-at, batch_before}
-pub use Rattle.journal.proofs.Answering.{done_committed, older_committed}
+pub use Rattle.journal.proofs.Batches.{current-oldest, current-newest, advanced-newest}
+pub use Rattle.journal.proofs.Batches.{newest_of, committed_parts, committed-at, batch_before}
+pub use Rattle.journal.proofs.Answering.{stage_committed, current_committed, done_committed, older_committed}
+pub use Rattle.journal.proofs.Leaving.{recovers_of}

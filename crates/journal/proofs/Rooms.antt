@@ -1,5 +1,7 @@
 -- The list of write-outs that the code keeps, and the write-out whose step comes next.
-use Rattle.std.proofs.Common.{◌≡◌, ℕ, zero, suc, ◌+◌, ◌<◌, ◌≤◌, Bool, true, false, not, ◌||◌, List, [], ◌∷◌, ◌++◌, length, drop, get_or, set, map, Option, Some, refl, sym, ap, ◌∙◌, subst, arith, length-append, length-set, option_to_list}
+use Rattle.std.proofs.Common.{◌≡◌, ℕ, zero, suc, ◌+◌, ◌<◌, ◌≤◌, Bool, true, false, not, ◌||◌, List}
+use Rattle.std.proofs.Common.{[], ◌∷◌, ◌++◌, length, drop, get_or, set, map, Option, Some, refl}
+use Rattle.std.proofs.Common.{sym, ap, ◌∙◌, subst, arith, length-append, length-set, option_to_list}
 use Rattle.std.specs.List.{AllByRecursion, Contains}
 use Rattle.std.proofs.lemmas.Bool.{both_ways, cond-true, not_from_true}
 use Rattle.std.proofs.lemmas.List.{get_or_default, length-map}
@@ -8,14 +10,16 @@ use Rattle.journal.specs.declared.flushed.Flushed.{Flushed}
 use Rattle.journal.specs.declared.flushed.Flushed.TheVariants.{Going, Committed, Done, Device, Broken}
 use Rattle.journal.specs.WriteOut.{broken_after}
 use Rattle.journal.specs.inside.Listed.{ListedWriteOut, listed_of, listed_after}
-use Rattle.journal.specs.WriteOuts.{WriteOutsValue, has_uncommitted, current, advanced, following, next_batch, begun, batches_after, outs_after}
+use Rattle.journal.specs.WriteOuts.{WriteOutsValue, has_uncommitted, current, advanced}
+use Rattle.journal.specs.WriteOuts.{following, next_batch, begun, batches_after, outs_after}
 use Rattle.journal.specs.inside.Sound.{AreInOrder, IsSound}
 use Rattle.journal.specs.inside.Room.{write_outs_in, IsCurrent, HasRoom, kept_after, spare_after}
 use Rattle.journal.proofs.Alls.{all-append, all_front, all_back, all_at}
 
 -- ---- the write-outs in the code's list
 
-get-write_outs : (listed : List ListedWriteOut) (i : ℕ) (d : ListedWriteOut) → get_or (write_outs_in listed) i d.write_out ≡ (get_or listed i d).write_out
+get-write_outs : (listed : List ListedWriteOut) (i : ℕ) (d : ListedWriteOut)
+    → get_or (write_outs_in listed) i d.write_out ≡ (get_or listed i d).write_out
 get-write_outs [] i d = refl
 get-write_outs (f ∷ listed) zero d = refl
 get-write_outs (f ∷ listed) (suc i) d = get-write_outs listed i d
@@ -24,27 +28,44 @@ pub length-write_outs : (listed : List ListedWriteOut) → length (write_outs_in
 length-write_outs listed = length-map listed (λ f. f.write_out)
 
 -- what stands at a place
-pub at_place : (listed : List ListedWriteOut) (i : ℕ) (f : ListedWriteOut) → i < length listed → f ≡ get_or listed i f → (d : WriteOut) → get_or (write_outs_in listed) i d ≡ f.write_out
+pub at_place : (listed : List ListedWriteOut) (i : ℕ) (f : ListedWriteOut)
+    → i < length listed → f ≡ get_or listed i f → (d : WriteOut)
+    → get_or (write_outs_in listed) i d ≡ f.write_out
 at_place listed i f lt is d =
-    get_or_default (write_outs_in listed) i d f.write_out (omega (arith, lt, length-write_outs listed)) ∙ get-write_outs listed i f ∙ ap (λ (x : ListedWriteOut). x.write_out) (sym is)
+    get_or_default (write_outs_in listed) i d f.write_out (omega (arith, lt, length-write_outs listed))
+    ∙ get-write_outs listed i f
+    ∙ ap (λ (x : ListedWriteOut). x.write_out) (sym is)
 
 -- ---- a home block of one of them
 
-pub found_block : (listed : List ListedWriteOut) (i : ℕ) (f : ListedWriteOut) (b : ℕ) → i < length listed → f ≡ get_or listed i f → Contains f.write_out.batch.homes b → (w : WriteOut) × Contains (write_outs_in listed) w × Contains w.batch.homes b
-found_block listed i f b lt is has = (f.write_out, (i, omega (arith, lt, length-write_outs listed), at_place listed i f lt is f.write_out), has)
+pub found_block : (listed : List ListedWriteOut) (i : ℕ) (f : ListedWriteOut) (b : ℕ)
+    → i < length listed → f ≡ get_or listed i f → Contains f.write_out.batch.homes b
+    → (w : WriteOut) × Contains (write_outs_in listed) w × Contains w.batch.homes b
+found_block listed i f b lt is has =
+    (f.write_out, (i, omega (arith, lt, length-write_outs listed), at_place listed i f lt is f.write_out), has)
 
-pub no_block : (listed : List ListedWriteOut) (b : ℕ) → ((i : ℕ) (d : ListedWriteOut) → i < length listed → Contains (get_or listed i d).write_out.batch.homes b → ⊥) → ((w : WriteOut) × Contains (write_outs_in listed) w × Contains w.batch.homes b) → ⊥
+pub no_block : (listed : List ListedWriteOut) (b : ℕ)
+    → ((i : ℕ) (d : ListedWriteOut) → i < length listed → Contains (get_or listed i d).write_out.batch.homes b → ⊥)
+    → ((w : WriteOut) × Contains (write_outs_in listed) w × Contains w.batch.homes b)
+    → ⊥
 no_block listed b none found = by listed none found.0 found.1.0 found.1.1 found.1.2 found.2
   where
-    by : (listed : List ListedWriteOut) → ((i : ℕ) (d : ListedWriteOut) → i < length listed → Contains (get_or listed i d).write_out.batch.homes b → ⊥) → (w : WriteOut) (i : ℕ) → i < length (write_outs_in listed) → get_or (write_outs_in listed) i w ≡ w → Contains w.batch.homes b → ⊥
+    by : (listed : List ListedWriteOut)
+        → ((i : ℕ) (d : ListedWriteOut) → i < length listed → Contains (get_or listed i d).write_out.batch.homes b → ⊥)
+        → (w : WriteOut) (i : ℕ) → i < length (write_outs_in listed)
+        → get_or (write_outs_in listed) i w ≡ w → Contains w.batch.homes b
+        → ⊥
     by [] none w i lt is has = absurd (omega arith)
-    by (f ∷ listed) none w zero lt is has = none 0 f (omega arith) (subst (λ (x : WriteOut). Contains x.batch.homes b) (sym is) has)
-    by (f ∷ listed) none w (suc i) lt is has = by listed (λ k d within. none (suc k) d (omega arith)) w i (omega arith) is has
+    by (f ∷ listed) none w zero lt is has =
+        none 0 f (omega arith) (subst (λ (x : WriteOut). Contains x.batch.homes b) (sym is) has)
+    by (f ∷ listed) none w (suc i) lt is has =
+        by listed (λ k d within. none (suc k) d (omega arith)) w i (omega arith) is has
 
 -- ---- the one whose step comes next
 
 -- only the newest may not be committed
-pub newest_tells : (batches : List WriteOut) (n : ℕ) (d : WriteOut) → suc n ≡ length batches → AreInOrder batches → has_uncommitted batches ≡ not (has_committed (get_or batches n d))
+pub newest_tells : (batches : List WriteOut) (n : ℕ) (d : WriteOut) → suc n ≡ length batches → AreInOrder batches
+    → has_uncommitted batches ≡ not (has_committed (get_or batches n d))
 newest_tells [] n d e ordered = absurd (omega arith)
 newest_tells (w ∷ []) zero d e ordered = or_false (not (has_committed w))
   where
@@ -53,67 +74,103 @@ newest_tells (w ∷ []) zero d e ordered = or_false (not (has_committed w))
     or_false false = refl
 newest_tells (w ∷ []) (suc n) d e ordered = absurd (omega arith)
 newest_tells (w ∷ x ∷ newer) zero d e ordered = absurd (omega arith)
-newest_tells (w ∷ x ∷ newer) (suc n) d e ordered = ap (λ b. not b || has_uncommitted (x ∷ newer)) ordered.0.0.committed ∙ newest_tells (x ∷ newer) n d (omega arith) ordered.1
+newest_tells (w ∷ x ∷ newer) (suc n) d e ordered =
+    ap (λ b. not b || has_uncommitted (x ∷ newer)) ordered.0.0.committed
+    ∙ newest_tells (x ∷ newer) n d (omega arith) ordered.1
 
-last_current : (batches : List WriteOut) (n : ℕ) (d : WriteOut) → suc n ≡ length batches → AreInOrder batches → has_uncommitted batches ≡ true → current batches ≡ Some (get_or batches n d)
+last_current : (batches : List WriteOut) (n : ℕ) (d : WriteOut)
+    → suc n ≡ length batches → AreInOrder batches → has_uncommitted batches ≡ true
+    → current batches ≡ Some (get_or batches n d)
 last_current [] n d e ordered has = absurd (omega arith)
 last_current (w ∷ []) zero d e ordered has = refl
 last_current (w ∷ []) (suc n) d e ordered has = absurd (omega arith)
 last_current (w ∷ x ∷ newer) zero d e ordered has = absurd (omega arith)
 last_current (w ∷ x ∷ newer) (suc n) d e ordered has =
-    let rest : has_uncommitted (x ∷ newer) ≡ true = newest_tells (x ∷ newer) n d (omega arith) ordered.1 ∙ sym (newest_tells (w ∷ x ∷ newer) (suc n) d e ordered) ∙ has in
-    cond-true (has_uncommitted (x ∷ newer)) (current (x ∷ newer)) (Some w) rest ∙ last_current (x ∷ newer) n d (omega arith) ordered.1 rest
+    let rest : has_uncommitted (x ∷ newer) ≡ true =
+    newest_tells (x ∷ newer) n d (omega arith) ordered.1
+    ∙ sym (newest_tells (w ∷ x ∷ newer) (suc n) d e ordered)
+    ∙ has in
+    cond-true (has_uncommitted (x ∷ newer)) (current (x ∷ newer)) (Some w) rest
+    ∙ last_current (x ∷ newer) n d (omega arith) ordered.1 rest
 
-last_advanced : (batches : List WriteOut) (n : ℕ) (d : WriteOut) → suc n ≡ length batches → AreInOrder batches → has_uncommitted batches ≡ true → advanced batches ≡ set batches n (advanced_of (get_or batches n d))
+last_advanced : (batches : List WriteOut) (n : ℕ) (d : WriteOut)
+    → suc n ≡ length batches → AreInOrder batches → has_uncommitted batches ≡ true
+    → advanced batches ≡ set batches n (advanced_of (get_or batches n d))
 last_advanced [] n d e ordered has = absurd (omega arith)
 last_advanced (w ∷ []) zero d e ordered has = refl
 last_advanced (w ∷ []) (suc n) d e ordered has = absurd (omega arith)
 last_advanced (w ∷ x ∷ newer) zero d e ordered has = absurd (omega arith)
 last_advanced (w ∷ x ∷ newer) (suc n) d e ordered has =
-    let rest : has_uncommitted (x ∷ newer) ≡ true = newest_tells (x ∷ newer) n d (omega arith) ordered.1 ∙ sym (newest_tells (w ∷ x ∷ newer) (suc n) d e ordered) ∙ has in
+    let rest : has_uncommitted (x ∷ newer) ≡ true =
+    newest_tells (x ∷ newer) n d (omega arith) ordered.1
+    ∙ sym (newest_tells (w ∷ x ∷ newer) (suc n) d e ordered)
+    ∙ has in
     cond-true (has_uncommitted (x ∷ newer)) (w ∷ advanced (x ∷ newer)) (advanced_of w ∷ x ∷ newer) rest
     ∙ ap (λ (l : List WriteOut). w ∷ l) (last_advanced (x ∷ newer) n d (omega arith) ordered.1 rest)
 
-pub last_is_current : (batches : List WriteOut) (n : ℕ) → suc n ≡ length batches → AreInOrder batches → has_uncommitted batches ≡ true → IsCurrent batches n
+pub last_is_current : (batches : List WriteOut) (n : ℕ) → suc n ≡ length batches
+    → AreInOrder batches → has_uncommitted batches ≡ true
+    → IsCurrent batches n
 last_is_current batches n e ordered has = record {
   within = omega arith;
   current = λ d. last_current batches n d e ordered has;
-  first = λ d committed. absurd (both_ways (has_uncommitted batches) (newest_tells batches n d e ordered ∙ not_from_true (has_committed (get_or batches n d)) committed) has);
+  first = λ d committed. absurd (both_ways (has_uncommitted batches)
+      (newest_tells batches n d e ordered ∙ not_from_true (has_committed (get_or batches n d)) committed) has);
   advanced = λ d. last_advanced batches n d e ordered has;
 }
 
 -- ---- a batch begins
 
-write_outs-push : (listed : List ListedWriteOut) (f : ListedWriteOut) → write_outs_in (listed ++ f ∷ []) ≡ write_outs_in listed ++ f.write_out ∷ []
+write_outs-push : (listed : List ListedWriteOut) (f : ListedWriteOut)
+    → write_outs_in (listed ++ f ∷ []) ≡ write_outs_in listed ++ f.write_out ∷ []
 write_outs-push [] f = refl
 write_outs-push (x ∷ listed) f = ap (λ (l : List WriteOut). x.write_out ∷ l) (write_outs-push listed f)
 
 -- the value's write-outs, as the code's list has them
-pub begun_view : (outs : WriteOutsValue) (listed listed' : List ListedWriteOut) (mark : ℕ) (homes : List ℕ) (room next : ℕ) → outs.batches ≡ write_outs_in listed → listed' ≡ listed ++ listed_of (next_batch outs mark homes) room ∷ []
-    → next ≡ following outs.geometry.layout outs.next → record outs { next = next; batches = write_outs_in listed' } ≡ begun outs mark homes
+pub begun_view : (outs : WriteOutsValue) (listed listed' : List ListedWriteOut)
+    (mark : ℕ) (homes : List ℕ) (room next : ℕ)
+    → outs.batches ≡ write_outs_in listed → listed' ≡ listed ++ listed_of (next_batch outs mark homes) room ∷ []
+    → next ≡ following outs.geometry.layout outs.next
+    → record outs { next = next; batches = write_outs_in listed' } ≡ begun outs mark homes
 begun_view outs listed listed' mark homes room next are pushed turn =
     let list : write_outs_in listed' ≡ outs.batches ++ begun_of (next_batch outs mark homes) ∷ [] =
-    ap write_outs_in pushed ∙ write_outs-push listed (listed_of (next_batch outs mark homes) room) ∙ ap (λ (l : List WriteOut). l ++ begun_of (next_batch outs mark homes) ∷ []) (sym are) in
+    ap write_outs_in pushed
+    ∙ write_outs-push listed (listed_of (next_batch outs mark homes) room)
+    ∙ ap (λ (l : List WriteOut). l ++ begun_of (next_batch outs mark homes) ∷ []) (sym are) in
     λ i. record outs { next = turn i; batches = list i }
 
-pub begun_room : (outs : WriteOutsValue) (listed listed' : List ListedWriteOut) (spare spare' : List ℕ) (listed_room listed_room' spare_room spare_room' : ℕ) (mark : ℕ) (homes : List ℕ) (list_room room : ℕ)
-    → HasRoom outs listed listed_room spare spare_room → IsSound (begun outs mark homes) → listed' ≡ listed ++ listed_of (next_batch outs mark homes) room ∷ [] → spare ≡ spare' ++ list_room ∷ [] → list_room ≤ room
-    → listed_room ≤ listed_room' → spare_room ≤ spare_room' → HasRoom (begun outs mark homes) listed' listed_room' spare' spare_room'
-begun_room outs listed listed' spare spare' listed_room listed_room' spare_room spare_room' mark homes list_room room has sound pushed popped bigger more more_spare =
+pub begun_room : (outs : WriteOutsValue) (listed listed' : List ListedWriteOut) (spare spare' : List ℕ)
+    (listed_room listed_room' spare_room spare_room' : ℕ) (mark : ℕ) (homes : List ℕ) (list_room room : ℕ)
+    → HasRoom outs listed listed_room spare spare_room → IsSound (begun outs mark homes)
+    → listed' ≡ listed ++ listed_of (next_batch outs mark homes) room ∷ [] → spare ≡ spare' ++ list_room ∷ []
+    → list_room ≤ room → listed_room ≤ listed_room' → spare_room ≤ spare_room'
+    → HasRoom (begun outs mark homes) listed' listed_room' spare' spare_room'
+begun_room outs listed listed' spare spare' listed_room listed_room' spare_room spare_room' mark homes list_room room
+    has sound pushed popped bigger more more_spare =
     let rooms = subst (AllByRecursion (λ r. outs.geometry.slots ≤ r)) popped has.spare_are in
     record {
       sound = sound;
       listed_are = subst (AllByRecursion (λ (one : ListedWriteOut). outs.geometry.slots ≤ one.room)) (sym pushed)
-          (all-append (λ (one : ListedWriteOut). outs.geometry.slots ≤ one.room) listed (listed_of (next_batch outs mark homes) room ∷ []) has.listed_are
+          (all-append (λ (one : ListedWriteOut). outs.geometry.slots ≤ one.room) listed
+          (listed_of (next_batch outs mark homes) room ∷ []) has.listed_are
           (omega (arith, bigger, (all_back (λ r. outs.geometry.slots ≤ r) spare' (list_room ∷ []) rooms).0), tt));
       spare_are = all_front (λ r. outs.geometry.slots ≤ r) spare' (list_room ∷ []) rooms;
-      count = omega (arith, has.count, ap length pushed, ap length popped, length-append listed (listed_of (next_batch outs mark homes) room ∷ []), length-append spare' (list_room ∷ []));
+      count = omega (
+        arith,
+        has.count,
+        ap length pushed,
+        ap length popped,
+        length-append listed (listed_of (next_batch outs mark homes) room ∷ []),
+        length-append spare' (list_room ∷ []),
+      );
       room = omega (arith, has.room, more);
       spare_fits = omega (arith, has.spare_fits, more_spare);
     }
 
 -- a list that is taken from the end
-pub popped_last : {X : Type 0} (f : X → ℕ) (old new : List X) (o : Option X) (x : X) → old ≡ new ++ option_to_list o → o ≡ Some x → map f old ≡ map f new ++ f x ∷ []
+pub popped_last : {X : Type 0} (f : X → ℕ) (old new : List X) (o : Option X) (x : X)
+    → old ≡ new ++ option_to_list o → o ≡ Some x
+    → map f old ≡ map f new ++ f x ∷ []
 popped_last f old new o x is some = ap (map f) (is ∙ ap (λ (p : Option _). new ++ option_to_list p) some) ∙ by new
   where
     by : (l : List _) → map f (l ++ x ∷ []) ≡ map f l ++ f x ∷ []
@@ -122,29 +179,36 @@ popped_last f old new o x is some = ap (map f) (is ∙ ap (λ (p : Option _). ne
 
 -- ---- a step
 
-write_outs-set : (listed : List ListedWriteOut) (i : ℕ) (f : ListedWriteOut) → write_outs_in (set listed i f) ≡ set (write_outs_in listed) i f.write_out
+write_outs-set : (listed : List ListedWriteOut) (i : ℕ) (f : ListedWriteOut)
+    → write_outs_in (set listed i f) ≡ set (write_outs_in listed) i f.write_out
 write_outs-set [] i f = refl
 write_outs-set (x ∷ listed) zero f = refl
 write_outs-set (x ∷ listed) (suc i) f = ap (λ (l : List WriteOut). x.write_out ∷ l) (write_outs-set listed i f)
 
-set-same : (batches : List WriteOut) (i : ℕ) (d : WriteOut) → i < length batches → set batches i (get_or batches i d) ≡ batches
+set-same : (batches : List WriteOut) (i : ℕ) (d : WriteOut) → i < length batches
+    → set batches i (get_or batches i d) ≡ batches
 set-same [] i d lt = absurd (omega arith)
 set-same (w ∷ batches) zero d lt = refl
 set-same (w ∷ batches) (suc i) d lt = ap (λ (l : List WriteOut). w ∷ l) (set-same batches i d (omega arith))
 
-all-set : (P : ListedWriteOut → Type 0) (listed : List ListedWriteOut) (i : ℕ) (f : ListedWriteOut) → AllByRecursion P listed → P f → AllByRecursion P (set listed i f)
+all-set : (P : ListedWriteOut → Type 0) (listed : List ListedWriteOut) (i : ℕ) (f : ListedWriteOut)
+    → AllByRecursion P listed → P f
+    → AllByRecursion P (set listed i f)
 all-set P [] i f all is = tt
 all-set P (x ∷ listed) zero f all is = (is, all.1)
 all-set P (x ∷ listed) (suc i) f all is = (all.0, all-set P listed i f all.1 is)
 
-write_outs-rest : (listed : List ListedWriteOut) (i : ℕ) (f : ListedWriteOut) → i ≡ 0 → write_outs_in (drop 1 (set listed i f)) ≡ drop 1 (write_outs_in listed)
+write_outs-rest : (listed : List ListedWriteOut) (i : ℕ) (f : ListedWriteOut) → i ≡ 0
+    → write_outs_in (drop 1 (set listed i f)) ≡ drop 1 (write_outs_in listed)
 write_outs-rest listed i f first = ap (λ k. write_outs_in (drop 1 (set listed k f))) first ∙ by listed
   where
     by : (l : List ListedWriteOut) → write_outs_in (drop 1 (set l 0 f)) ≡ drop 1 (write_outs_in l)
     by [] = refl
     by (x ∷ l) = refl
 
-module _ (outs : WriteOutsValue) (listed : List ListedWriteOut) (at : ℕ) (f f' : ListedWriteOut) (are : outs.batches ≡ write_outs_in listed) (current_at : IsCurrent (write_outs_in listed) at) (here : f ≡ get_or listed at f) where
+module _ (outs : WriteOutsValue) (listed : List ListedWriteOut) (at : ℕ) (f f' : ListedWriteOut)
+    (are : outs.batches ≡ write_outs_in listed) (current_at : IsCurrent (write_outs_in listed) at)
+    (here : f ≡ get_or listed at f) where
   within : at < length listed
   within = omega (arith, current_at.within, length-write_outs listed)
 
@@ -158,7 +222,8 @@ module _ (outs : WriteOutsValue) (listed : List ListedWriteOut) (at : ℕ) (f f'
       ∙ sym (current_at.advanced f.write_out) ∙ ap advanced (sym are)
 
   -- the value after a step
-  stepped_batches : (answer : Flushed) → f' ≡ listed_after f answer → (answer ≡ Broken → ⊥) → ((mark : ℕ) → answer ≡ Done mark → has_committed f.write_out ≡ true)
+  stepped_batches : (answer : Flushed) → f' ≡ listed_after f answer → (answer ≡ Broken → ⊥)
+      → ((mark : ℕ) → answer ≡ Done mark → has_committed f.write_out ≡ true)
       → write_outs_in (kept_after answer (set listed at f')) ≡ batches_after answer outs.batches
   stepped_batches Going is not_broken ends = going_on (ap (λ (x : ListedWriteOut). x.write_out) is)
   stepped_batches (Committed mark) is not_broken ends = going_on (ap (λ (x : ListedWriteOut). x.write_out) is)
@@ -166,14 +231,24 @@ module _ (outs : WriteOutsValue) (listed : List ListedWriteOut) (at : ℕ) (f f'
       let first : at ≡ 0 = current_at.first f.write_out (ap has_committed (place f.write_out) ∙ ends mark refl) in
       write_outs-rest listed at f' first ∙ ap (drop 1) (sym are)
   stepped_batches Device is not_broken ends =
-      write_outs-set listed at f' ∙ ap (set (write_outs_in listed) at) (ap (λ (x : ListedWriteOut). x.write_out) is ∙ sym (place f.write_out)) ∙ set-same (write_outs_in listed) at f.write_out current_at.within ∙ sym are
+      write_outs-set listed at f'
+      ∙ ap (set (write_outs_in listed) at) (ap (λ (x : ListedWriteOut). x.write_out) is ∙ sym (place f.write_out))
+      ∙ set-same (write_outs_in listed) at f.write_out current_at.within
+      ∙ sym are
   stepped_batches Broken is not_broken ends = absurd (not_broken refl)
 
-  pub stepped_view : (answer : Flushed) → f' ≡ listed_after f answer → (answer ≡ Broken → ⊥) → ((mark : ℕ) → answer ≡ Done mark → has_committed f.write_out ≡ true)
-      → record outs { batches = write_outs_in (kept_after answer (set listed at f')); broken = broken_after answer outs.broken } ≡ outs_after outs answer
-  stepped_view answer is not_broken ends = ap (λ (l : List WriteOut). record outs { batches = l; broken = broken_after answer outs.broken }) (stepped_batches answer is not_broken ends)
+  pub stepped_view : (answer : Flushed) → f' ≡ listed_after f answer → (answer ≡ Broken → ⊥)
+      → ((mark : ℕ) → answer ≡ Done mark → has_committed f.write_out ≡ true)
+      → record outs {
+        batches = write_outs_in (kept_after answer (set listed at f'));
+        broken = broken_after answer outs.broken;
+      } ≡ outs_after outs answer
+  stepped_view answer is not_broken ends =
+      ap (λ (l : List WriteOut). record outs { batches = l; broken = broken_after answer outs.broken })
+      (stepped_batches answer is not_broken ends)
 
-  kept_all : (P : ListedWriteOut → Type 0) (answer : Flushed) (l : List ListedWriteOut) → AllByRecursion P l → AllByRecursion P (kept_after answer l)
+  kept_all : (P : ListedWriteOut → Type 0) (answer : Flushed) (l : List ListedWriteOut) → AllByRecursion P l
+      → AllByRecursion P (kept_after answer l)
   kept_all P (Done mark) [] all = tt
   kept_all P (Done mark) (x ∷ l) all = all.1
   kept_all P Going l all = all
@@ -181,15 +256,19 @@ module _ (outs : WriteOutsValue) (listed : List ListedWriteOut) (at : ℕ) (f f'
   kept_all P Device l all = all
   kept_all P Broken l all = all
 
-  spare_all : (slots : ℕ) (answer : Flushed) (l : List ListedWriteOut) (spare : List ℕ) → AllByRecursion (λ (x : ListedWriteOut). slots ≤ x.room) l → AllByRecursion (λ r. slots ≤ r) spare → AllByRecursion (λ r. slots ≤ r) (spare_after answer l spare)
+  spare_all : (slots : ℕ) (answer : Flushed) (l : List ListedWriteOut) (spare : List ℕ)
+      → AllByRecursion (λ (x : ListedWriteOut). slots ≤ x.room) l → AllByRecursion (λ r. slots ≤ r) spare
+      → AllByRecursion (λ r. slots ≤ r) (spare_after answer l spare)
   spare_all slots (Done mark) [] spare rooms all = all
-  spare_all slots (Done mark) (x ∷ l) spare rooms all = all-append (λ r. slots ≤ r) spare (x.room ∷ []) all (rooms.0, tt)
+  spare_all slots (Done mark) (x ∷ l) spare rooms all =
+      all-append (λ r. slots ≤ r) spare (x.room ∷ []) all (rooms.0, tt)
   spare_all slots Going l spare rooms all = all
   spare_all slots (Committed mark) l spare rooms all = all
   spare_all slots Device l spare rooms all = all
   spare_all slots Broken l spare rooms all = all
 
-  same_count : (answer : Flushed) (l : List ListedWriteOut) (spare : List ℕ) → length (kept_after answer l) + length (spare_after answer l spare) ≡ length l + length spare
+  same_count : (answer : Flushed) (l : List ListedWriteOut) (spare : List ℕ)
+      → length (kept_after answer l) + length (spare_after answer l spare) ≡ length l + length spare
   same_count (Done mark) [] spare = refl
   same_count (Done mark) (x ∷ l) spare = omega (arith, length-append spare (x.room ∷ []))
   same_count Going l spare = refl
@@ -198,17 +277,27 @@ module _ (outs : WriteOutsValue) (listed : List ListedWriteOut) (at : ℕ) (f f'
   same_count Broken l spare = refl
 
   -- and the room
-  pub stepped_room : (answer : Flushed) (spare spare' : List ℕ) (listed_room listed_room' spare_room spare_room' : ℕ) → HasRoom outs listed listed_room spare spare_room → IsSound (outs_after outs answer)
-      → f' ≡ listed_after f answer → spare' ≡ spare_after answer (set listed at f') spare → listed_room ≤ listed_room' → spare_room ≤ spare_room'
+  pub stepped_room : (answer : Flushed) (spare spare' : List ℕ) (listed_room listed_room' spare_room spare_room' : ℕ)
+      → HasRoom outs listed listed_room spare spare_room → IsSound (outs_after outs answer) → f' ≡ listed_after f answer
+      → spare' ≡ spare_after answer (set listed at f') spare → listed_room ≤ listed_room' → spare_room ≤ spare_room'
       → HasRoom (outs_after outs answer) (kept_after answer (set listed at f')) listed_room' spare' spare_room'
-  stepped_room answer spare spare' listed_room listed_room' spare_room spare_room' has sound after spares more more_spare =
-      let own : outs.geometry.slots ≤ f.room = all_at (λ (one : ListedWriteOut). outs.geometry.slots ≤ one.room) listed f has.listed_are (at, within, sym here) in
-      let rooms = all-set (λ (one : ListedWriteOut). outs.geometry.slots ≤ one.room) listed at f' has.listed_are (subst (λ (one : ListedWriteOut). outs.geometry.slots ≤ one.room) (sym after) own) in
+  stepped_room answer spare spare' listed_room listed_room' spare_room spare_room' has sound after spares
+      more more_spare =
+      let own : outs.geometry.slots ≤ f.room =
+      all_at (λ (one : ListedWriteOut). outs.geometry.slots ≤ one.room) listed f has.listed_are
+      (at, within, sym here) in
+      let rooms = all-set (λ (one : ListedWriteOut). outs.geometry.slots ≤ one.room) listed at f' has.listed_are
+      (subst (λ (one : ListedWriteOut). outs.geometry.slots ≤ one.room) (sym after) own) in
       record {
         sound = sound;
-        listed_are = kept_all (λ (one : ListedWriteOut). outs.geometry.slots ≤ one.room) answer (set listed at f') rooms;
-        spare_are = subst (AllByRecursion (λ r. outs.geometry.slots ≤ r)) (sym spares) (spare_all outs.geometry.slots answer (set listed at f') spare rooms has.spare_are);
-        count = ap (λ (l : List ℕ). length (kept_after answer (set listed at f')) + length l) spares ∙ same_count answer (set listed at f') spare ∙ ap (λ n. n + length spare) (length-set listed at f') ∙ has.count;
+        listed_are = kept_all (λ (one : ListedWriteOut). outs.geometry.slots ≤ one.room) answer
+            (set listed at f') rooms;
+        spare_are = subst (AllByRecursion (λ r. outs.geometry.slots ≤ r)) (sym spares)
+            (spare_all outs.geometry.slots answer (set listed at f') spare rooms has.spare_are);
+        count = ap (λ (l : List ℕ). length (kept_after answer (set listed at f')) + length l) spares
+            ∙ same_count answer (set listed at f') spare
+            ∙ ap (λ n. n + length spare) (length-set listed at f')
+            ∙ has.count;
         room = omega (arith, has.room, more);
         spare_fits = omega (arith, has.spare_fits, more_spare);
       }

@@ -1,22 +1,24 @@
 -- What holds of every value of the write-outs still holds after a step and after a batch has begun.
-use Rattle.std.proofs.Common.{◌≡◌, ◌≢◌, ℕ, ◌+◌, ◌^◌, ◌<◌, ◌≤◌, inl, inr, true, false, ◌==◌, List, [], ◌∷◌, ◌++◌, length, Option, Some, refl, sym, ap, ◌∙◌, subst, arith, length-append}
+use Rattle.std.proofs.Common.{◌≡◌, ◌≢◌, ℕ, ◌+◌, ◌^◌, ◌<◌, ◌≤◌, true, false, ◌==◌, List, [], ◌∷◌, ◌++◌}
+use Rattle.std.proofs.Common.{length, Option, Some, refl, sym, ap, ◌∙◌, subst, arith, length-append}
 use Rattle.std.specs.Prelude.{IsSome}
 use Rattle.std.specs.List.{AllByRecursion}
-use Rattle.std.proofs.lemmas.Bool.{both_ways, cases_lt, cond_both, eqb-true, eqb-false, or_parts}
+use Rattle.std.proofs.lemmas.Bool.{both_ways, cond_both, eqb-true, eqb-false, or_parts}
 use Rattle.volume_codec.specs.declared.layout.Layout.{Layout}
 use Rattle.volume_codec.specs.Layout.{GeometryValue, journals_of}
 use Rattle.volume_codec.specs.Descriptor.{AreHomes}
 use Rattle.volume_codec.specs.Recovery.{Batch}
 use Rattle.volume_codec.proofs.Layouts.{few_journals}
 use Rattle.journal.specs.declared.stage.Stage.{Stage}
-use Rattle.journal.specs.declared.stage.Stage.TheVariants.{Recording, Describing, SyncingRecords, Opening, Committing, Applying, SyncingHomes, Closing, Finishing}
+use Rattle.journal.specs.declared.stage.Stage.TheVariants.{Recording, Describing, SyncingRecords, Opening}
+use Rattle.journal.specs.declared.stage.Stage.TheVariants.{Committing, Applying, SyncingHomes, Closing, Finishing}
 use Rattle.journal.specs.Stage.{is_committed}
 use Rattle.journal.specs.WriteOut.{WriteOut, next_stage, has_committed, advanced_of, begun_of}
 use Rattle.journal.specs.WriteOuts.{WriteOutsValue, has_uncommitted, following, is_busy, next_batch, begun}
 use Rattle.journal.specs.WriteOut.{IsBatch}
 use Rattle.journal.specs.inside.Sound.{IsWriteOut, IsOlder, AreInOrder, IsTurn, IsSound}
 use Rattle.journal.proofs.Alls.{all_map, all_both, all-append, all_front, all_back}
-use Rattle.journal.proofs.Stages.{stage_from, after_recording, after_last_record, after_describing, after_syncing_records, after_opening, after_committing, after_applying, after_last_applied, after_syncing_homes, after_closing, recording_within, applying_within}
+use Rattle.journal.proofs.Stages.{stage_from, next_of, next_is}
 use Rattle.journal.proofs.Batches.{committed-at, committed_parts}
 use Rattle.journal.proofs.Tying.{false_true}
 
@@ -31,20 +33,28 @@ pub record Early (w : WriteOut) : Type 0 where
   pub at : next_stage (advanced_of w) ≡ Some stage
   pub waits : is_committed stage ≡ true → stage ≡ Applying 0
 
-pub early_next : (w : WriteOut) (stage : Stage) → 0 < length w.batch.homes → next_stage w ≡ Some stage → is_committed stage ≡ false → Early w
-early_next w (Recording i) some at early =
-    elim (cases_lt (i + 1) (length w.batch.homes)) [
-      | inl more ↦ let r : Early w = record { stage = Recording (i + 1); at = after_recording (length w.batch.homes) w.steps i at more; waits = λ e. false_true e } in r
-      | inr last ↦ let r : Early w = record { stage = Describing; at = after_last_record (length w.batch.homes) w.steps i at (omega (arith, last, recording_within (length w.batch.homes) w.steps i at)); waits = λ e. false_true e } in r
-    ]
-early_next w Describing some at early = record { stage = SyncingRecords; at = after_describing (length w.batch.homes) w.steps at; waits = λ e. false_true e }
-early_next w SyncingRecords some at early = record { stage = Opening; at = after_syncing_records (length w.batch.homes) w.steps at; waits = λ e. false_true e }
-early_next w Opening some at early = record { stage = Committing; at = after_opening (length w.batch.homes) w.steps at; waits = λ e. false_true e }
-early_next w Committing some at early = record { stage = Applying 0; at = after_committing (length w.batch.homes) w.steps at some; waits = λ e. refl }
-early_next w (Applying i) some at early = false_true (sym early)
-early_next w SyncingHomes some at early = false_true (sym early)
-early_next w Closing some at early = false_true (sym early)
-early_next w Finishing some at early = false_true (sym early)
+pub early_next : (w : WriteOut) (stage : Stage) → 0 < length w.batch.homes
+    → next_stage w ≡ Some stage → is_committed stage ≡ false
+    → Early w
+early_next w stage some at early = record {
+  stage = next_of (length w.batch.homes) stage;
+  at = next_is (length w.batch.homes) w.steps stage some
+      (λ e. both_ways (is_committed stage) early (ap is_committed e)) at;
+  waits = by stage early;
+}
+  where
+    by : (s : Stage) → is_committed s ≡ false → is_committed (next_of (length w.batch.homes) s) ≡ true
+        → next_of (length w.batch.homes) s ≡ Applying 0
+    by (Recording i) early late = false_true (cond_both (i + 1 == length w.batch.homes) Describing (Recording (i + 1))
+        (λ t. is_committed t ≡ true → false ≡ true) (λ e l. l) (λ e l. l) late)
+    by Describing early late = false_true late
+    by SyncingRecords early late = false_true late
+    by Opening early late = false_true late
+    by Committing early late = refl
+    by (Applying i) early late = false_true (sym early)
+    by SyncingHomes early late = false_true (sym early)
+    by Closing early late = false_true (sym early)
+    by Finishing early late = false_true (sym early)
 
 -- after a step of a committed batch, but for the last, it is committed
 pub record Late (w : WriteOut) : Type 0 where
@@ -52,20 +62,26 @@ pub record Late (w : WriteOut) : Type 0 where
   pub at : next_stage (advanced_of w) ≡ Some stage
   pub late : is_committed stage ≡ true
 
-pub late_next : (w : WriteOut) (stage : Stage) → next_stage w ≡ Some stage → is_committed stage ≡ true → (stage ≡ Finishing → ⊥) → Late w
-late_next w (Recording i) at late not_last = false_true late
-late_next w Describing at late not_last = false_true late
-late_next w SyncingRecords at late not_last = false_true late
-late_next w Opening at late not_last = false_true late
-late_next w Committing at late not_last = false_true late
-late_next w (Applying i) at late not_last =
-    elim (cases_lt (i + 1) (length w.batch.homes)) [
-      | inl more ↦ let r : Late w = record { stage = Applying (i + 1); at = after_applying (length w.batch.homes) w.steps i at more; late = refl } in r
-      | inr last ↦ let r : Late w = record { stage = SyncingHomes; at = after_last_applied (length w.batch.homes) w.steps i at (omega (arith, last, applying_within (length w.batch.homes) w.steps i at)); late = refl } in r
-    ]
-late_next w SyncingHomes at late not_last = record { stage = Closing; at = after_syncing_homes (length w.batch.homes) w.steps at; late = refl }
-late_next w Closing at late not_last = record { stage = Finishing; at = after_closing (length w.batch.homes) w.steps at; late = refl }
-late_next w Finishing at late not_last = absurd (not_last refl)
+pub late_next : (w : WriteOut) (stage : Stage) → 0 < length w.batch.homes
+    → next_stage w ≡ Some stage → is_committed stage ≡ true → (stage ≡ Finishing → ⊥)
+    → Late w
+late_next w stage some at late not_last = record {
+  stage = next_of (length w.batch.homes) stage;
+  at = next_is (length w.batch.homes) w.steps stage some not_last at;
+  late = by stage late;
+}
+  where
+    by : (s : Stage) → is_committed s ≡ true → is_committed (next_of (length w.batch.homes) s) ≡ true
+    by (Recording i) late = false_true late
+    by Describing late = false_true late
+    by SyncingRecords late = false_true late
+    by Opening late = false_true late
+    by Committing late = false_true late
+    by (Applying i) late = cond_both (i + 1 == length w.batch.homes) SyncingHomes (Applying (i + 1))
+        (λ t. is_committed t ≡ true) (λ e. refl) (λ e. refl)
+    by SyncingHomes late = refl
+    by Closing late = refl
+    by Finishing late = refl
 
 -- ---- their order
 
@@ -73,59 +89,86 @@ pub order_front : (others : List WriteOut) (w : WriteOut) → AreInOrder (others
 order_front [] w ordered = tt
 order_front (x ∷ others) w ordered = (all_front (IsOlder x) others (w ∷ []) ordered.0, order_front others w ordered.1)
 
-pub order-push : (others : List WriteOut) (w : WriteOut) → AreInOrder others → AllByRecursion (λ x. IsOlder x w) others → AreInOrder (others ++ w ∷ [])
+pub order-push : (others : List WriteOut) (w : WriteOut) → AreInOrder others → AllByRecursion (λ x. IsOlder x w) others
+    → AreInOrder (others ++ w ∷ [])
 order-push [] w ordered older = (tt, tt)
-order-push (x ∷ others) w ordered older = (all-append (IsOlder x) others (w ∷ []) ordered.0 (older.0, tt), order-push others w ordered.1 older.1)
+order-push (x ∷ others) w ordered older =
+    (all-append (IsOlder x) others (w ∷ []) ordered.0 (older.0, tt), order-push others w ordered.1 older.1)
 
 -- the newest after a step of it is newer than the others still
-pub newest_order : (others : List WriteOut) (w : WriteOut) → Early w → AreInOrder (others ++ w ∷ []) → AllByRecursion (λ x. IsOlder x w) others → AreInOrder (others ++ advanced_of w ∷ [])
+pub newest_order : (others : List WriteOut) (w : WriteOut) → Early w
+    → AreInOrder (others ++ w ∷ []) → AllByRecursion (λ x. IsOlder x w) others
+    → AreInOrder (others ++ advanced_of w ∷ [])
 newest_order others w next ordered older =
-    order-push others (advanced_of w) (order_front others w ordered) (all_map (λ (x : WriteOut) (is : IsOlder x w). let r : IsOlder x (advanced_of w) = record {
+    order-push others (advanced_of w) (order_front others w ordered)
+    (all_map (λ (x : WriteOut) (is : IsOlder x w). let r : IsOlder x (advanced_of w) = record {
       marks = is.marks;
       journals = is.journals;
       committed = is.committed;
       waits = λ e. next.at ∙ ap Some (next.waits (sym (committed-at (advanced_of w) next.stage next.at) ∙ e));
     } in r) others older)
 
-pub newest_each : (g : GeometryValue) (others : List WriteOut) (w : WriteOut) → Early w → AllByRecursion (IsWriteOut g) (others ++ w ∷ []) → AllByRecursion (IsWriteOut g) (others ++ advanced_of w ∷ [])
+pub newest_each : (g : GeometryValue) (others : List WriteOut) (w : WriteOut)
+    → Early w → AllByRecursion (IsWriteOut g) (others ++ w ∷ [])
+    → AllByRecursion (IsWriteOut g) (others ++ advanced_of w ∷ [])
 newest_each g others w next each =
     all-append (IsWriteOut g) others (advanced_of w ∷ []) (all_front (IsWriteOut g) others (w ∷ []) each)
     (record { batch = (all_back (IsWriteOut g) others (w ∷ []) each).0.batch; going = some_stage next.at }, tt)
 
 -- and the oldest is older
-pub oldest_order : (w : WriteOut) (newer : List WriteOut) → Late w → AreInOrder (w ∷ newer) → AreInOrder (advanced_of w ∷ newer)
-oldest_order w newer next ordered =
-    (all_map {P = IsOlder w} {Q = IsOlder (advanced_of w)} (λ x is. record { marks = is.marks; journals = is.journals; committed = committed-at (advanced_of w) next.stage next.at ∙ next.late; waits = is.waits }) newer ordered.0, ordered.1)
+pub oldest_order : (w : WriteOut) (newer : List WriteOut) → Late w → AreInOrder (w ∷ newer)
+    → AreInOrder (advanced_of w ∷ newer)
+oldest_order w newer next ordered = (
+  all_map {P = IsOlder w} {Q = IsOlder (advanced_of w)} (λ x is. record {
+    marks = is.marks;
+    journals = is.journals;
+    committed = committed-at (advanced_of w) next.stage next.at ∙ next.late;
+    waits = is.waits;
+  }) newer ordered.0,
+  ordered.1,
+)
 
-pub oldest_each : (g : GeometryValue) (w : WriteOut) (newer : List WriteOut) → Late w → AllByRecursion (IsWriteOut g) (w ∷ newer) → AllByRecursion (IsWriteOut g) (advanced_of w ∷ newer)
+pub oldest_each : (g : GeometryValue) (w : WriteOut) (newer : List WriteOut)
+    → Late w → AllByRecursion (IsWriteOut g) (w ∷ newer)
+    → AllByRecursion (IsWriteOut g) (advanced_of w ∷ newer)
 oldest_each g w newer next each = (record { batch = each.0.batch; going = some_stage next.at }, each.1)
 
 -- ---- whose turn it is
 
-pub turn_newest : (layout : Layout) (next : ℕ) (others : List WriteOut) (w x : WriteOut) → w.batch.journal ≡ x.batch.journal → IsTurn layout next (others ++ w ∷ []) → IsTurn layout next (others ++ x ∷ [])
+pub turn_newest : (layout : Layout) (next : ℕ) (others : List WriteOut) (w x : WriteOut)
+    → w.batch.journal ≡ x.batch.journal → IsTurn layout next (others ++ w ∷ [])
+    → IsTurn layout next (others ++ x ∷ [])
 turn_newest layout next [] w x same turn = turn ∙ ap (following layout) same
 turn_newest layout next (y ∷ []) w x same turn = turn ∙ ap (following layout) same
 turn_newest layout next (y ∷ z ∷ others) w x same turn = turn_newest layout next (z ∷ others) w x same turn
 
-pub turn_oldest : (layout : Layout) (next : ℕ) (w x : WriteOut) (newer : List WriteOut) → w.batch.journal ≡ x.batch.journal → IsTurn layout next (w ∷ newer) → IsTurn layout next (x ∷ newer)
+pub turn_oldest : (layout : Layout) (next : ℕ) (w x : WriteOut) (newer : List WriteOut)
+    → w.batch.journal ≡ x.batch.journal → IsTurn layout next (w ∷ newer)
+    → IsTurn layout next (x ∷ newer)
 turn_oldest layout next w x [] same turn = turn ∙ ap (following layout) same
 turn_oldest layout next w x (y ∷ newer) same turn = turn
 
-pub turn_rest : (layout : Layout) (next : ℕ) (w : WriteOut) (newer : List WriteOut) → IsTurn layout next (w ∷ newer) → IsTurn layout next newer
+pub turn_rest : (layout : Layout) (next : ℕ) (w : WriteOut) (newer : List WriteOut) → IsTurn layout next (w ∷ newer)
+    → IsTurn layout next newer
 turn_rest layout next w [] turn = tt
 turn_rest layout next w (y ∷ newer) turn = turn
 
-pub turn-push : (layout : Layout) (next : ℕ) (others : List WriteOut) (w : WriteOut) → next ≡ following layout w.batch.journal → IsTurn layout next (others ++ w ∷ [])
+pub turn-push : (layout : Layout) (next : ℕ) (others : List WriteOut) (w : WriteOut)
+    → next ≡ following layout w.batch.journal
+    → IsTurn layout next (others ++ w ∷ [])
 turn-push layout next [] w e = e
 turn-push layout next (y ∷ []) w e = e
 turn-push layout next (y ∷ z ∷ others) w e = turn-push layout next (z ∷ others) w e
 
 pub following_there : (layout : Layout) (j : ℕ) → j < journals_of layout → following layout j < journals_of layout
 following_there layout j lt =
-    cond_both (j + 1 == journals_of layout) 0 (j + 1) (λ k. k < journals_of layout) (λ e. omega (arith, lt)) (λ e. omega (arith, lt, eqb-false (j + 1) (journals_of layout) e))
+    cond_both (j + 1 == journals_of layout) 0 (j + 1) (λ k. k < journals_of layout) (λ e. omega (arith, lt))
+    (λ e. omega (arith, lt, eqb-false (j + 1) (journals_of layout) e))
 
 -- with fewer batches than journals, no batch has the journal whose turn it is
-pub turn_free : (layout : Layout) (next : ℕ) (batches : List WriteOut) → IsTurn layout next batches → length batches < journals_of layout → AllByRecursion (λ (w : WriteOut). w.batch.journal ≢ next) batches
+pub turn_free : (layout : Layout) (next : ℕ) (batches : List WriteOut)
+    → IsTurn layout next batches → length batches < journals_of layout
+    → AllByRecursion (λ (w : WriteOut). w.batch.journal ≢ next) batches
 turn_free layout next [] turn few = tt
 turn_free layout next (w ∷ []) turn few = (λ e. apart w.batch.journal (e ∙ turn), tt)
   where
@@ -133,13 +176,15 @@ turn_free layout next (w ∷ []) turn few = (λ e. apart w.batch.journal (e ∙ 
     more = omega (arith, few)
 
     apart : (j : ℕ) → j ≡ following layout j → ⊥
-    apart j = cond_both (j + 1 == journals_of layout) 0 (j + 1) (λ k. j ≡ k → ⊥) (λ is e. absurd (omega (arith, more, eqb-true (j + 1) (journals_of layout) is))) (λ is e. absurd (omega arith))
+    apart j = cond_both (j + 1 == journals_of layout) 0 (j + 1) (λ k. j ≡ k → ⊥)
+        (λ is e. absurd (omega (arith, more, eqb-true (j + 1) (journals_of layout) is))) (λ is e. absurd (omega arith))
 turn_free layout next (w ∷ x ∷ newer) turn few = absurd (omega (arith, few, (few_journals layout).1))
 
 -- ---- a batch begins
 
 -- where none isn't committed, each is
-pub each_committed : (batches : List WriteOut) → has_uncommitted batches ≡ false → AllByRecursion (λ w. has_committed w ≡ true) batches
+pub each_committed : (batches : List WriteOut) → has_uncommitted batches ≡ false
+    → AllByRecursion (λ w. has_committed w ≡ true) batches
 each_committed [] none = tt
 each_committed (w ∷ newer) none = let parts = committed_parts w newer none in (parts.0, each_committed newer parts.1)
 
@@ -153,16 +198,26 @@ pub record IsFree (outs : WriteOutsValue) : Type 0 where
 
 pub not_busy : (outs : WriteOutsValue) → IsSound outs → is_busy outs ≡ false → IsFree outs
 not_busy outs sound free =
-    let parts = or_parts (has_uncommitted outs.batches) (length outs.batches == journals_of outs.geometry.layout) free in
-    record { none = parts.0; fewer = smaller (length outs.batches) (journals_of outs.geometry.layout) sound.few (eqb-false (length outs.batches) (journals_of outs.geometry.layout) parts.1) }
+    let parts =
+    or_parts (has_uncommitted outs.batches) (length outs.batches == journals_of outs.geometry.layout) free in
+    record {
+      none = parts.0;
+      fewer = smaller (length outs.batches) (journals_of outs.geometry.layout) sound.few
+          (eqb-false (length outs.batches) (journals_of outs.geometry.layout) parts.1);
+    }
   where
     smaller : (a b : ℕ) → a ≤ b → (a ≡ b → ⊥) → a < b
     smaller a b le other = omega arith
 
-pub next_is_batch : (outs : WriteOutsValue) (mark : ℕ) (homes : List ℕ) → IsSound outs → 0 < mark → mark < 2 ^ 64 → AreHomes outs.geometry homes → IsBatch outs.geometry (next_batch outs mark homes)
-next_is_batch outs mark homes sound some small are = record { there = sound.there; described = record { some_mark = some; small_mark = small; homes = are } }
+pub next_is_batch : (outs : WriteOutsValue) (mark : ℕ) (homes : List ℕ)
+    → IsSound outs → 0 < mark → mark < 2 ^ 64 → AreHomes outs.geometry homes
+    → IsBatch outs.geometry (next_batch outs mark homes)
+next_is_batch outs mark homes sound some small are =
+    record { there = sound.there; described = record { some_mark = some; small_mark = small; homes = are } }
 
-pub begun_sound : (outs : WriteOutsValue) (mark : ℕ) (homes : List ℕ) → IsSound outs → IsFree outs → IsBatch outs.geometry (next_batch outs mark homes) → AllByRecursion (λ w. w.batch.mark < mark) outs.batches → IsSound (begun outs mark homes)
+pub begun_sound : (outs : WriteOutsValue) (mark : ℕ) (homes : List ℕ) → IsSound outs → IsFree outs
+    → IsBatch outs.geometry (next_batch outs mark homes) → AllByRecursion (λ w. w.batch.mark < mark) outs.batches
+    → IsSound (begun outs mark homes)
 begun_sound outs mark homes sound free is_batch below =
     let batch = next_batch outs mark homes in
     let begins = first_stage batch is_batch.described.homes.some in
@@ -170,14 +225,22 @@ begun_sound outs mark homes sound free is_batch below =
       geometry = sound.geometry;
       there = following_there outs.geometry.layout outs.next sound.there;
       few = omega (arith, free.fewer, length-append outs.batches (begun_of batch ∷ []));
-      each = all-append (IsWriteOut outs.geometry) outs.batches (begun_of batch ∷ []) sound.each (record { batch = is_batch; going = some_stage begins }, tt);
+      each = all-append (IsWriteOut outs.geometry) outs.batches (begun_of batch ∷ []) sound.each
+          (record { batch = is_batch; going = some_stage begins }, tt);
       ordered = order-push outs.batches (begun_of batch) sound.ordered
-          (all_both {P = λ (w : WriteOut). (w.batch.mark < mark) × (has_committed w ≡ true)} {Q = λ (w : WriteOut). w.batch.journal ≢ outs.next} {R = λ (w : WriteOut). IsOlder w (begun_of batch)} (λ w facts apart. record {
+          (all_both {P = λ (w : WriteOut). (w.batch.mark < mark) × (has_committed w ≡ true)}
+          {Q = λ (w : WriteOut). w.batch.journal ≢ outs.next} {R = λ (w : WriteOut). IsOlder w (begun_of batch)}
+          (λ w facts apart. record {
             marks = facts.0;
             journals = apart;
             committed = facts.1;
-            waits = λ e. absurd (both_ways (has_committed (begun_of batch)) (committed-at (begun_of batch) (Recording 0) begins) e);
-          }) outs.batches (all_both {P = λ (w : WriteOut). w.batch.mark < mark} {Q = λ (w : WriteOut). has_committed w ≡ true} {R = λ (w : WriteOut). (w.batch.mark < mark) × (has_committed w ≡ true)} (λ w lt is. (lt, is)) outs.batches below (each_committed outs.batches free.none))
+            waits = λ e. absurd
+                (both_ways (has_committed (begun_of batch)) (committed-at (begun_of batch) (Recording 0) begins) e);
+          }) outs.batches
+          (all_both {P = λ (w : WriteOut). w.batch.mark < mark} {Q = λ (w : WriteOut). has_committed w ≡ true}
+          {R = λ (w : WriteOut). (w.batch.mark < mark) × (has_committed w ≡ true)}
+          (λ w lt is. (lt, is)) outs.batches below (each_committed outs.batches free.none))
           (turn_free outs.geometry.layout outs.next outs.batches sound.turn free.fewer));
-      turn = turn-push outs.geometry.layout (following outs.geometry.layout outs.next) outs.batches (begun_of batch) refl;
+      turn = turn-push outs.geometry.layout (following outs.geometry.layout outs.next) outs.batches
+          (begun_of batch) refl;
     }

@@ -1,12 +1,15 @@
 -- The stages of a write-out and its steps.
-use Rattle.std.proofs.Common.{◌≡◌, ℕ, zero, suc, ◌+◌, ◌-◌, ◌*◌, ◌<◌, ◌≤◌, inl, inr, List, [], ◌∷◌, ◌++◌, length, map, get_or, Option, Some, None, refl, sym, ap, ◌∙◌, subst, arith, length-append}
+use Rattle.std.proofs.Common.{◌≡◌, ◌≢◌, ℕ, zero, suc, ◌+◌, ◌-◌, ◌*◌, ◌<◌, ◌≤◌, inl, inr}
+use Rattle.std.proofs.Common.{cond, ◌==◌, List, [], ◌∷◌, ◌++◌, length, map, get_or, Option}
+use Rattle.std.proofs.Common.{Some, None, refl, sym, ap, ◌∙◌, subst, arith, length-append}
 use Rattle.std.specs.List.{range_with_len}
-use Rattle.std.proofs.lemmas.Bool.{cases_order}
+use Rattle.std.proofs.lemmas.Bool.{cases_order, cond_both, eqb-true, eqb-false}
 use Rattle.std.proofs.lemmas.List.{get_or_append_left, get_or-append-add}
 use Rattle.std.proofs.lemmas.List.FromFn.{length-map-range_with_len, get_or-map-range_with_len}
 use Rattle.std.proofs.lemmas.Option.{slice_get-get_or, slice_get_past}
 use Rattle.journal.specs.declared.stage.Stage.{Stage}
-use Rattle.journal.specs.declared.stage.Stage.TheVariants.{Recording, Describing, SyncingRecords, Opening, Committing, Applying, SyncingHomes, Closing, Finishing}
+use Rattle.journal.specs.declared.stage.Stage.TheVariants.{Recording, Describing, SyncingRecords, Opening}
+use Rattle.journal.specs.declared.stage.Stage.TheVariants.{Committing, Applying, SyncingHomes, Closing, Finishing}
 use Rattle.volume_codec.specs.Layout.{GeometryValue}
 use Rattle.volume_codec.specs.Recovery.{Batch}
 use Rattle.journal.specs.Stage.{stages, stage_at}
@@ -50,7 +53,8 @@ module _ (k : ℕ) where
 
   pub length-stages : length (stages k) ≡ 2 * k + 7
   length-stages =
-      let sum : length (records ++ middle) ≡ 2 * k + 7 = omega (arith, length-append records middle, length-append homes ends, length-records, length-homes) in
+      let sum : length (records ++ middle) ≡ 2 * k + 7 =
+      omega (arith, length-append records middle, length-append homes ends, length-records, length-homes) in
       sum
 
   at_record : (i : ℕ) → i < k → stage_at k i ≡ Some (Recording i)
@@ -64,7 +68,8 @@ module _ (k : ℕ) where
   unfolding stage_at
   at_middle n j is lt =
       slice_get-get_or (stages k) n Finishing (omega (arith, length-stages))
-      ∙ ap Some (ap (λ m. get_or (stages k) m Finishing) (omega (arith, length-records)) ∙ get_or-append-add records middle j Finishing)
+      ∙ ap Some (ap (λ m. get_or (stages k) m Finishing) (omega (arith, length-records))
+      ∙ get_or-append-add records middle j Finishing)
 
   at_home : (n i : ℕ) → n ≡ k + 4 + i → i < k → stage_at k n ≡ Some (Applying i)
   at_home n i is lt =
@@ -75,7 +80,8 @@ module _ (k : ℕ) where
   at_end : (n j : ℕ) → n ≡ 2 * k + 4 + j → j < 3 → stage_at k n ≡ Some (get_or ends j Finishing)
   at_end n j is lt =
       at_middle n (suc (suc (suc (suc (k + j))))) (omega arith) (omega arith)
-      ∙ ap Some (ap (λ m. get_or (homes ++ ends) m Finishing) (omega (arith, length-homes)) ∙ get_or-append-add homes ends j Finishing)
+      ∙ ap Some (ap (λ m. get_or (homes ++ ends) m Finishing) (omega (arith, length-homes))
+      ∙ get_or-append-add homes ends j Finishing)
 
   past_end : (n : ℕ) → 2 * k + 7 ≤ n → stage_at k n ≡ None
   unfolding stage_at
@@ -156,11 +162,15 @@ module _ (g : GeometryValue) (batch : Batch) where
       by (Some Finishing) at lt = refl
       by None at lt = absurd (omega arith)
 
-  calls_at : (n : ℕ) (o : Option Stage) → IsAt k n o → calls_after n ≡ calls_of (option_map_or (work_at g batch []) o Nothing)
-  calls_at n o at = ap (λ (p : Option Stage). calls_of (option_map_or (work_at g batch []) p Nothing)) (stage_from k n o at)
+  calls_at : (n : ℕ) (o : Option Stage) → IsAt k n o
+      → calls_after n ≡ calls_of (option_map_or (work_at g batch []) o Nothing)
+  calls_at n o at =
+      ap (λ (p : Option Stage). calls_of (option_map_or (work_at g batch []) p Nothing)) (stage_from k n o at)
 
   applying_calls : (i : ℕ) → i ≤ k → calls_in_steps g batch (k + 4 + i) ≡ k + 4 + 2 * i
-  applying_calls zero le = let first = early_calls (k + 4) (omega arith) in ap (calls_in_steps g batch) (omega arith) ∙ first ∙ omega arith
+  applying_calls zero le =
+      let first = early_calls (k + 4) (omega arith) in
+      ap (calls_in_steps g batch) (omega arith) ∙ first ∙ omega arith
   applying_calls (suc i) le =
       let before = applying_calls i (omega arith) in
       let two : calls_after (k + 4 + i) ≡ 2 = calls_at (k + 4 + i) (Some (Applying i)) (refl, omega arith) in
@@ -172,7 +182,8 @@ module _ (g : GeometryValue) (batch : Batch) where
       let before = applying_calls k (omega arith) in
       let one : calls_after (k + 4 + k) ≡ 1 = calls_at (k + 4 + k) (Some SyncingHomes) (omega arith) in
       let two : calls_after (suc (k + 4 + k)) ≡ 1 = calls_at (suc (k + 4 + k)) (Some Closing) (omega arith) in
-      let three : calls_after (suc (suc (k + 4 + k))) ≡ 1 = calls_at (suc (suc (k + 4 + k))) (Some Finishing) (omega arith) in
+      let three : calls_after (suc (suc (k + 4 + k))) ≡ 1 =
+      calls_at (suc (suc (k + 4 + k))) (Some Finishing) (omega arith) in
       let end : 2 * k + 7 ≡ suc (suc (suc (k + 4 + k))) = omega arith in
       ap (calls_in_steps g batch) end ∙ omega (arith, before, one, two, three)
 
@@ -181,36 +192,44 @@ done_at k n e = stage_at-is k n e
 
 -- ---- the next stage
 
+-- of a batch of so many blocks
+abbrev pub next_of : ℕ → Stage → Stage
+next_of k (Recording i) = cond (i + 1 == k) Describing (Recording (i + 1))
+next_of k Describing = SyncingRecords
+next_of k SyncingRecords = Opening
+next_of k Opening = Committing
+next_of k Committing = Applying 0
+next_of k (Applying i) = cond (i + 1 == k) SyncingHomes (Applying (i + 1))
+next_of k SyncingHomes = Closing
+next_of k Closing = Finishing
+next_of k Finishing = Finishing
+
+next_at : (k n : ℕ) (stage : Stage) → 0 < k → stage ≢ Finishing → IsAt k n (Some stage)
+    → IsAt k (n + 1) (Some (next_of k stage))
+next_at k n (Recording i) some not_last at =
+    cond_both (i + 1 == k) Describing (Recording (i + 1)) (λ s. IsAt k (n + 1) (Some s))
+    (λ e. omega (arith, at.0, eqb-true (i + 1) k e))
+    (λ e. (omega (arith, at.0), omega (arith, at.1, eqb-false (i + 1) k e)))
+next_at k n Describing some not_last at = omega (arith, at)
+next_at k n SyncingRecords some not_last at = omega (arith, at)
+next_at k n Opening some not_last at = omega (arith, at)
+next_at k n Committing some not_last at = (omega (arith, at), some)
+next_at k n (Applying i) some not_last at =
+    cond_both (i + 1 == k) SyncingHomes (Applying (i + 1)) (λ s. IsAt k (n + 1) (Some s))
+    (λ e. omega (arith, at.0, eqb-true (i + 1) k e))
+    (λ e. (omega (arith, at.0), omega (arith, at.1, eqb-false (i + 1) k e)))
+next_at k n SyncingHomes some not_last at = omega (arith, at)
+next_at k n Closing some not_last at = omega (arith, at)
+next_at k n Finishing some not_last at = absurd (not_last refl)
+
 module _ (k n : ℕ) where
-  pub after_recording : (i : ℕ) → stage_at k n ≡ Some (Recording i) → i + 1 < k → stage_at k (n + 1) ≡ Some (Recording (i + 1))
-  after_recording i e lt = let at = stage_at-is k n e in stage_from k (n + 1) (Some (Recording (i + 1))) (omega (arith, at.0), lt)
-
-  pub after_last_record : (i : ℕ) → stage_at k n ≡ Some (Recording i) → i + 1 ≡ k → stage_at k (n + 1) ≡ Some Describing
-  after_last_record i e last = let at = stage_at-is k n e in stage_from k (n + 1) (Some Describing) (omega (arith, at.0))
-
-  pub after_describing : stage_at k n ≡ Some Describing → stage_at k (n + 1) ≡ Some SyncingRecords
-  after_describing e = let at = stage_at-is k n e in stage_from k (n + 1) (Some SyncingRecords) (omega (arith, at))
-
-  pub after_syncing_records : stage_at k n ≡ Some SyncingRecords → stage_at k (n + 1) ≡ Some Opening
-  after_syncing_records e = let at = stage_at-is k n e in stage_from k (n + 1) (Some Opening) (omega (arith, at))
-
-  pub after_opening : stage_at k n ≡ Some Opening → stage_at k (n + 1) ≡ Some Committing
-  after_opening e = let at = stage_at-is k n e in stage_from k (n + 1) (Some Committing) (omega (arith, at))
+  pub next_is : (stage : Stage) → 0 < k → stage ≢ Finishing → stage_at k n ≡ Some stage
+      → stage_at k (n + 1) ≡ Some (next_of k stage)
+  next_is stage some not_last e =
+      stage_from k (n + 1) (Some (next_of k stage)) (next_at k n stage some not_last (stage_at-is k n e))
 
   pub after_committing : stage_at k n ≡ Some Committing → 0 < k → stage_at k (n + 1) ≡ Some (Applying 0)
-  after_committing e some = let at = stage_at-is k n e in stage_from k (n + 1) (Some (Applying 0)) (omega (arith, at), some)
-
-  pub after_applying : (i : ℕ) → stage_at k n ≡ Some (Applying i) → i + 1 < k → stage_at k (n + 1) ≡ Some (Applying (i + 1))
-  after_applying i e lt = let at = stage_at-is k n e in stage_from k (n + 1) (Some (Applying (i + 1))) (omega (arith, at.0), lt)
-
-  pub after_last_applied : (i : ℕ) → stage_at k n ≡ Some (Applying i) → i + 1 ≡ k → stage_at k (n + 1) ≡ Some SyncingHomes
-  after_last_applied i e last = let at = stage_at-is k n e in stage_from k (n + 1) (Some SyncingHomes) (omega (arith, at.0))
-
-  pub after_syncing_homes : stage_at k n ≡ Some SyncingHomes → stage_at k (n + 1) ≡ Some Closing
-  after_syncing_homes e = let at = stage_at-is k n e in stage_from k (n + 1) (Some Closing) (omega (arith, at))
-
-  pub after_closing : stage_at k n ≡ Some Closing → stage_at k (n + 1) ≡ Some Finishing
-  after_closing e = let at = stage_at-is k n e in stage_from k (n + 1) (Some Finishing) (omega (arith, at))
+  after_committing e some = next_is Committing some (λ same. cc) e
 
   -- the place of a record or of a home block is one of the batch
   pub recording_within : (i : ℕ) → stage_at k n ≡ Some (Recording i) → i < k

@@ -1,335 +1,848 @@
--- A step of write-outs that are tied to the device: they are tied after it, and what a crash leaves within it.
-use Rattle.std.proofs.Common.{◌≡◌, ◌≢◌, ℕ, ◌+◌, ◌*◌, ◌<◌, ◌≤◌, inl, inr, true, false, not, ◌||◌, cond, List, [], ◌∷◌, ◌++◌, length, get_or, Option, Some, None, refl, sym, ap, ◌∙◌, subst, arith}
-use Rattle.std.specs.Prelude.{IfSome, IsSome}
-use Rattle.std.specs.List.{AllByRecursion}
-use Rattle.std.specs.Option.{option_map_or, option_and_then}
-use Rattle.std.proofs.lemmas.Bool.{both_ways, cases_lt, or_parts, or_from}
+-- A step of a write-out among others, whose device calls succeed: what a read finds after it, and what a crash leaves.
+use Rattle.std.proofs.Common.{◌≡◌, ◌≢◌, ℕ, ◌+◌, ◌*◌, ◌<◌, ◌≤◌, ◌⊎◌, inl, inr, Bool, true, false}
+use Rattle.std.proofs.Common.{not, ◌||◌, cond, ◌==◌, List, [], ◌∷◌, ◌++◌, length, get_or, Option}
+use Rattle.std.proofs.Common.{Some, None, refl, sym, ap, ◌∙◌, subst, arith, append_assoc}
+use Rattle.std.specs.Prelude.{MatchBool}
+use Rattle.std.specs.List.{AllByRecursion, Contains}
+use Rattle.std.proofs.lemmas.Bool.{both_ways, cases_eq, cases_order, cases_Bool, cond_both}
+use Rattle.std.proofs.lemmas.Bool.{eqb-true, or_from, or_parts, not_from_true, not_from_false}
 use Rattle.std.proofs.lemmas.List.{append-nil}
-use Rattle.device.specs.Device.{Torn}
-use Rattle.volume_codec.specs.Layout.{journals_of, gate_block, descriptor_block, record_block}
-use Rattle.volume_codec.specs.Super.{SuperValue, geometry_of}
+use Rattle.std.proofs.lemmas.List.Elements.{Contains-get_or}
+use Rattle.device.specs.Device.{written, Torn}
+use Rattle.volume_codec.specs.Layout.{GeometryValue, IsHome, journals_of, gate_block}
+use Rattle.volume_codec.specs.Layout.{descriptor_block, record_block, first_home, block_at}
+use Rattle.volume_codec.specs.Super.{SuperValue, IsSuper, geometry_of, block_count}
 use Rattle.volume_codec.specs.Descriptor.{descriptor_text}
-use Rattle.volume_codec.specs.Recovery.{Batch, IsOpen, has_journal, Recovers}
+use Rattle.volume_codec.specs.Recovery.{Batch, IsOpen, Recovers, contents_in}
 use Rattle.journal.specs.declared.stage.Stage.{Stage}
-use Rattle.journal.specs.declared.stage.Stage.TheVariants.{Recording, Describing, SyncingRecords, Opening, Committing, Applying, SyncingHomes, Closing, Finishing}
+use Rattle.journal.specs.declared.stage.Stage.TheVariants.{Recording, Describing, SyncingRecords, Opening}
+use Rattle.journal.specs.declared.stage.Stage.TheVariants.{Committing, Applying, SyncingHomes, Closing, Finishing}
 use Rattle.journal.specs.Stage.{is_committed}
-use Rattle.journal.specs.Work.{Sync, work_at, worked, TornFromWork}
-use Rattle.journal.specs.WriteOut.{WriteOut, next_stage, has_committed, advanced_of}
-use Rattle.journal.specs.WriteOuts.{has_uncommitted, current}
+use Rattle.journal.specs.Work.{Work, Sync, work_at, worked, TornFromWork}
 use Rattle.journal.specs.WriteOut.{IsBatch}
-use Rattle.journal.specs.Recovered.{RecoversBy}
-use Rattle.journal.specs.Crash.{LeftWithin}
-use Rattle.journal.specs.inside.Sound.{IsOlder, IsWriteOut, AreInOrder}
-use Rattle.journal.specs.inside.Tied.{is_open, open_in, stage_in, IsWritten, IsSeen, IsLeftAt, CrashLeaves, IsTied}
-use Rattle.journal.proofs.Alls.{all_map, all_both, all-append}
+use Rattle.journal.specs.Crash.{LeftBefore, LeftWithin}
+use Rattle.journal.specs.inside.Tied.{Progress, IsFirmFor, IsLeft, is_recording, is_applying, is_sure}
+use Rattle.journal.specs.inside.Tied.{is_open, sure_in, recorded, is_described, applied, IsCovered}
+use Rattle.journal.specs.inside.Tied.{IsWritten, AreWritten, is_under_way, kept_in, IsSeen}
+use Rattle.journal.proofs.Alls.{all_map, all_both, all_in, all-append, all_front, all_back, all_replaced, in_right}
+use Rattle.journal.proofs.Changes.{SameBut, same_but_torn, torn-written, block-written, first-written, length-block_at}
 use Rattle.journal.proofs.Places.{gate-below, descriptor-below, record-below}
-use Rattle.journal.proofs.Changes.{same_but_torn, torn-written}
-use Rattle.journal.proofs.Stages.{stage_at-is, after_recording, after_last_record, after_describing, after_syncing_records, after_opening, after_committing, after_applying, after_last_applied, after_syncing_homes, after_closing, recording_within, applying_within}
-use Rattle.journal.proofs.Standing.{lacking}
-use Rattle.journal.proofs.Batches.{current-oldest, committed_parts, open_of-at, open_in-newest, committed-at, all_open, newest-newer, newest-alone, oldest-alone}
-use Rattle.journal.proofs.Recovering.{shut_lacking}
-use Rattle.journal.proofs.Written.{AreWritten, IsBeside, all_kept, beside_gate, beside_record, beside_descriptor, length-descriptor_text}
-use Rattle.journal.proofs.Recorded.{IsRecording, recovers_of, low_fits, record_step, record_last, describe_step, sync_step, open_step, record_torn, descriptor_torn, gate_torn}
-use Rattle.journal.proofs.Applied.{IsApplying, apply_step, apply_last, homes_synced, close_step, home_torn, closing_torn, closing_shut}
-use Rattle.journal.proofs.Tying.{false_true, contents_committed, seen_recording, seen_others, recording_seen, newest_left, left_newest, seen_applying, applying_seen, oldest_left, left_oldest, old_gates}
+use Rattle.journal.proofs.Places.{gate_no_descriptor, gate_no_record, descriptor_no_record}
+use Rattle.journal.proofs.Stages.{next_of}
+use Rattle.journal.proofs.Standing.{standing-without_oldest}
+use Rattle.journal.proofs.Recovering.{HoldsBy, holds_newest}
+use Rattle.journal.proofs.Written.{IsBeside, written_more, written_kept, all_kept, beside_gate, beside_record}
+use Rattle.journal.proofs.Written.{beside_descriptor, beside_home, home_at, rising_apart, length-descriptor_text}
+use Rattle.journal.proofs.Tying.{false_true, IsBefore, AreOrdered, AreGoing, last_of}
+use Rattle.journal.proofs.Firm.{sure_all, first_same, super_firm, gate_firm, standing_firm, holds_left}
+use Rattle.journal.proofs.Leaving.{IsGateOpening, covered_front, newer_than, under_way, left_recovers}
 
--- the stage of a write-out that isn't done
-pub stage_of : (w : WriteOut) → IsSome (next_stage w) → (stage : Stage) × (next_stage w ≡ Some stage)
-stage_of w going = by (next_stage w) refl going
-  where
-    by : (o : Option Stage) → next_stage w ≡ o → IsSome o → (stage : Stage) × (next_stage w ≡ Some stage)
-    by None e h = false_true h
-    by (Some stage) e h = (stage, e)
+-- ---- the next stage
 
--- ---- where all are committed
+-- after a record
+record IsRecordedTo (k n : ℕ) (s : Stage) : Type 0 where
+  pub recorded_is : recorded k s ≡ n
+  pub applied_is : applied k s ≡ 0
+  pub described_is : is_described s ≡ false
+  pub open_is : is_open s ≡ false
+  pub sure_is : is_sure s ≡ false
+  pub committed_is : is_committed s ≡ false
+  pub recording_is : is_recording s ≡ true
 
-pub stage_committed : (batches : List WriteOut) → has_uncommitted batches ≡ false → option_map_or is_committed (stage_in batches) true ≡ true
-stage_committed [] none = refl
-stage_committed (w ∷ newer) none =
-    let parts = committed_parts w newer none in
-    ap (λ (o : Option WriteOut). option_map_or is_committed (option_and_then next_stage o) true) (current-oldest w newer parts.1) ∙ parts.0
+recorded_to : (k i : ℕ) → IsRecordedTo k (i + 1) (next_of k (Recording i))
+recorded_to k i = cond_both (i + 1 == k) Describing (Recording (i + 1)) (IsRecordedTo k (i + 1))
+    (λ e. record {
+      recorded_is = sym (eqb-true (i + 1) k e);
+      applied_is = refl;
+      described_is = refl;
+      open_is = refl;
+      sure_is = refl;
+      committed_is = refl;
+      recording_is = refl;
+    })
+    (λ e. record {
+      recorded_is = refl;
+      applied_is = refl;
+      described_is = refl;
+      open_is = refl;
+      sure_is = refl;
+      committed_is = refl;
+      recording_is = refl;
+    })
 
-pub current_committed : (batches : List WriteOut) (x : WriteOut) → has_uncommitted batches ≡ false → current batches ≡ Some x → has_committed x ≡ true
-current_committed [] x none e = cc
-current_committed (w ∷ newer) x none e =
-    let parts = committed_parts w newer none in
-    let same : Some w ≡ Some x = sym (current-oldest w newer parts.1) ∙ e in
-    subst (λ (y : WriteOut). has_committed y ≡ true) (some_same same) parts.0
-  where
-    some_same : {x y : WriteOut} → Some x ≡ Some y → x ≡ y
-    some_same e = cc
+-- after a home block
+record IsAppliedTo (k n : ℕ) (s : Stage) : Type 0 where
+  pub recorded_is : recorded k s ≡ 0
+  pub applied_is : applied k s ≡ n
+  pub described_is : is_described s ≡ true
+  pub open_is : is_open s ≡ true
+  pub sure_is : is_sure s ≡ true
+  pub committed_is : is_committed s ≡ true
+  pub applying_is : is_applying s ≡ true
 
--- those that wait with their application
-waiting : (w : WriteOut) (newer : List WriteOut) → AllByRecursion (IsOlder w) newer → has_uncommitted newer ≡ false → AllByRecursion (λ (x : WriteOut). next_stage x ≡ Some (Applying 0)) newer
-waiting w [] older none = tt
-waiting w (x ∷ newer) older none =
-    let parts = committed_parts x newer none in
-    (older.0.waits parts.0, waiting w newer older.1 parts.1)
+applied_to : (k i : ℕ) → IsAppliedTo k (i + 1) (next_of k (Applying i))
+applied_to k i = cond_both (i + 1 == k) SyncingHomes (Applying (i + 1)) (IsAppliedTo k (i + 1))
+    (λ e. record {
+      recorded_is = refl;
+      applied_is = sym (eqb-true (i + 1) k e);
+      described_is = refl;
+      open_is = refl;
+      sure_is = refl;
+      committed_is = refl;
+      applying_is = refl;
+    })
+    (λ e. record {
+      recorded_is = refl;
+      applied_is = refl;
+      described_is = refl;
+      open_is = refl;
+      sure_is = refl;
+      committed_is = refl;
+      applying_is = refl;
+    })
+
+-- two home blocks of a batch are apart
+homes_apart : (v : SuperValue) (batch : Batch) → IsBatch (geometry_of v) batch
+    → (i k : ℕ) → i ≢ k → i < length batch.homes → k < length batch.homes
+    → get_or batch.homes i 0 ≢ get_or batch.homes k 0
+homes_apart v batch is i k other lt within e =
+    elim (cases_order i k) [
+      | inl same ↦ other same
+      | inr (inl below) ↦ omega (
+        arith,
+        e,
+        rising_apart (first_home v.layout v.slots)
+            (block_count v) batch.homes i k is.described.homes.rising below within,
+      )
+      | inr (inr above) ↦ omega (
+        arith,
+        e,
+        rising_apart (first_home v.layout v.slots) (block_count v) batch.homes k i is.described.homes.rising above lt,
+      )
+    ]
+
+-- ---- a write-out in the place of another
+
+abbrev pub at : Batch → Stage → Progress
+at batch s = record { batch = batch; stage = s }
+
+sure_same : (older newer : List Progress) (batch : Batch) (s s' : Stage) → is_sure s ≡ is_sure s'
+    → sure_in (older ++ at batch s ∷ newer) ≡ sure_in (older ++ at batch s' ∷ newer)
+sure_same [] newer batch s s' same = ap (λ b. sure_in newer ++ cond b (batch ∷ []) []) same
+sure_same (q ∷ older) newer batch s s' same =
+    ap (λ (l : List Batch). l ++ cond (is_sure q.stage) (q.batch ∷ []) []) (sure_same older newer batch s s' same)
+
+way_same : (older newer : List Progress) (batch : Batch) (s s' : Stage) → is_committed s ≡ is_committed s'
+    → is_under_way (older ++ at batch s ∷ newer) ≡ is_under_way (older ++ at batch s' ∷ newer)
+way_same [] newer batch s s' same = ap (λ b. not b || is_under_way newer) same
+way_same (q ∷ older) newer batch s s' same =
+    ap (λ b. not (is_committed q.stage) || b) (way_same older newer batch s s' same)
+
+-- where each is committed
+pub not_way : (progress : List Progress) → AllByRecursion (λ (p : Progress). is_committed p.stage ≡ true) progress
+    → is_under_way progress ≡ false
+not_way [] all = refl
+not_way (p ∷ newer) all = or_from (not (is_committed p.stage)) (is_under_way newer)
+    (not_from_true (is_committed p.stage) all.0) (not_way newer all.1)
+
+pub all_committed : (progress : List Progress) → is_under_way progress ≡ false
+    → AllByRecursion (λ (p : Progress). is_committed p.stage ≡ true) progress
+all_committed [] none = tt
+all_committed (p ∷ newer) none =
+    let parts = or_parts (not (is_committed p.stage)) (is_under_way newer) none in (
+      elim (cases_Bool (is_committed p.stage)) [
+        | inl e ↦ e
+        | inr e ↦ absurd (both_ways (not (is_committed p.stage)) parts.0 (not_from_false (is_committed p.stage) e))
+      ],
+      all_committed newer parts.1,
+    )
+
+pub sure_push : (older : List Progress) (p : Progress)
+    → sure_in (older ++ p ∷ []) ≡ cond (is_sure p.stage) (p.batch ∷ []) [] ++ sure_in older
+sure_push [] p = sym (append-nil (cond (is_sure p.stage) (p.batch ∷ []) []))
+sure_push (q ∷ older) p =
+    ap (λ (l : List Batch). l ++ cond (is_sure q.stage) (q.batch ∷ []) []) (sure_push older p)
+    ∙ append_assoc (cond (is_sure p.stage) (p.batch ∷ []) []) (sure_in older) (cond (is_sure q.stage) (q.batch ∷ []) [])
+
+-- those that follow wait with their application
+pub waiting : (p : Progress) (newer : List Progress) → AllByRecursion (IsBefore p) newer → is_under_way newer ≡ false
+    → AllByRecursion (λ (q : Progress). q.stage ≡ Applying 0) newer
+waiting p newer after none =
+    all_both {P = IsBefore p} (λ q before late. before.waits late) newer after (all_committed newer none)
+
+-- more batches have more records
+covered_split : (front rest : List Batch) (b : ℕ) → IsCovered (front ++ rest) b → IsCovered front b ⊎ IsCovered rest b
+covered_split [] rest b covered = inr covered
+covered_split (x ∷ front) rest b (inl has) = inl (inl has)
+covered_split (x ∷ front) rest b (inr later) =
+    elim (covered_split front rest b later) [ inl there ↦ inl (inr there) | inr there ↦ inr there ]
+
+covered_back : (front rest : List Batch) (b : ℕ) → IsCovered rest b → IsCovered (front ++ rest) b
+covered_back [] rest b covered = covered
+covered_back (x ∷ front) rest b covered = inr (covered_back front rest b covered)
+
+covered_more : (older newer : List Progress) (batch : Batch) (s s' : Stage)
+    → (is_sure s ≡ true → is_sure s' ≡ true) → (b : ℕ) → IsCovered (sure_in (older ++ at batch s ∷ newer)) b
+    → IsCovered (sure_in (older ++ at batch s' ∷ newer)) b
+covered_more [] newer batch s s' sure b covered =
+    elim (covered_split (sure_in newer) (cond (is_sure s) (batch ∷ []) []) b covered) [
+      | inl there ↦ covered_front (sure_in newer) (cond (is_sure s') (batch ∷ []) []) b there
+      | inr own ↦ covered_back (sure_in newer) (cond (is_sure s') (batch ∷ []) []) b (elim (cases_Bool (is_sure s)) [
+        | inl is ↦ subst (λ t. IsCovered (cond t (batch ∷ []) []) b) (is ∙ sym (sure is)) own
+        | inr not ↦ (let never : ⊥ = subst (λ t. IsCovered (cond t (batch ∷ []) []) b) not own in absurd never)
+      ])
+    ]
+covered_more (q ∷ older) newer batch s s' sure b covered =
+    elim (covered_split (sure_in (older ++ at batch s ∷ newer)) (cond (is_sure q.stage) (q.batch ∷ []) []) b covered) [
+      | inl there ↦ covered_front (sure_in (older ++ at batch s' ∷ newer)) (cond (is_sure q.stage) (q.batch ∷ []) []) b
+          (covered_more older newer batch s s' sure b there)
+      | inr own ↦ covered_back (sure_in (older ++ at batch s' ∷ newer)) (cond (is_sure q.stage) (q.batch ∷ []) []) b own
+    ]
+
+-- those that are older than one, and the journals of the others are apart from its own
+older_than : (older newer : List Progress) (p : Progress) → AreOrdered (older ++ p ∷ newer)
+    → AllByRecursion (λ (q : Progress). IsBefore q p) older
+older_than [] newer p ordered = tt
+older_than (q ∷ older) newer p ordered = (
+  all_in (IsBefore q) (older ++ p ∷ newer) p ordered.0 (in_right older (p ∷ newer) p (inl refl)),
+  older_than older newer p ordered.1,
+)
+
+newer_than_it : (older newer : List Progress) (p : Progress) → AreOrdered (older ++ p ∷ newer)
+    → AllByRecursion (IsBefore p) newer
+newer_than_it [] newer p ordered = ordered.0
+newer_than_it (q ∷ older) newer p ordered = newer_than_it older newer p ordered.1
+
+apart_of : (older newer : List Progress) (p : Progress) → AreOrdered (older ++ p ∷ newer)
+    → AllByRecursion (λ (q : Progress). q.batch.journal ≢ p.batch.journal) older
+    × AllByRecursion (λ (q : Progress). q.batch.journal ≢ p.batch.journal) newer
+apart_of older newer p ordered = (
+  all_map (λ q before. before.journals) older (older_than older newer p ordered),
+  all_map {P = IsBefore p} (λ q before e. before.journals (sym e)) newer (newer_than_it older newer p ordered),
+)
+
+-- ---- what is found of all of them
+
+own_of : (v : SuperValue) (new : ℕ → List ℕ) (older newer : List Progress) (p : Progress) (seen : List ℕ)
+    → AreWritten v new seen (older ++ p ∷ newer)
+    → IsWritten v new (sure_in newer) p seen × AreWritten v new seen newer
+own_of v new [] newer p seen are = are
+own_of v new (q ∷ older) newer p seen are = own_of v new older newer p seen are.1
+
+module _ (v : SuperValue) (new : ℕ → List ℕ) (older newer : List Progress) (batch : Batch) (s s' : Stage) where
+  written_same : (seen : List ℕ) → (is_sure s ≡ true → is_sure s' ≡ true)
+      → IsWritten v new (sure_in newer) (at batch s') seen → AreWritten v new seen (older ++ at batch s ∷ newer)
+      → AreWritten v new seen (older ++ at batch s' ∷ newer)
+  written_same seen sure own are = by older are
+    where
+      by : (l : List Progress) → AreWritten v new seen (l ++ at batch s ∷ newer)
+          → AreWritten v new seen (l ++ at batch s' ∷ newer)
+      by [] are = (own, are.1)
+      by (q ∷ l) are = (written_more v new _ _ q seen (covered_more l newer batch s s' sure) are.0, by l are.1)
+
+  -- where a block is written that has no part in the others
+  written_with : (x : ℕ) (seen seen' : List ℕ) → (is_sure s ≡ true → is_sure s' ≡ true) ⊎ (older ≡ [])
+      → AllByRecursion (λ (q : Progress). IsBeside v new q x) older
+      × AllByRecursion (λ (q : Progress). IsBeside v new q x) newer
+      → SameBut x seen seen' → IsWritten v new (sure_in newer) (at batch s') seen'
+      → AreWritten v new seen (older ++ at batch s ∷ newer)
+      → AreWritten v new seen' (older ++ at batch s' ∷ newer)
+  written_with x seen seen' (inr none) beside same own are =
+      subst (λ (l : List Progress).
+      AreWritten v new seen (l ++ at batch s ∷ newer) → AreWritten v new seen' (l ++ at batch s' ∷ newer)) (sym none)
+      (λ rest. (own, all_kept v new newer x seen seen' rest.1 beside.1 same)) are
+  written_with x seen seen' (inl sure) beside same own are = by older beside.0 are
+    where
+      by : (l : List Progress) → AllByRecursion (λ (q : Progress). IsBeside v new q x) l
+          → AreWritten v new seen (l ++ at batch s ∷ newer)
+          → AreWritten v new seen' (l ++ at batch s' ∷ newer)
+      by [] all are = (own, all_kept v new newer x seen seen' are.1 beside.1 same)
+      by (q ∷ l) all are = (
+        written_more v new _ _ q seen' (covered_more l newer batch s s' sure)
+            (written_kept v new _ q x seen seen' are.0 all.0 same),
+        by l all.1 are.1,
+      )
 
 module _ (v : SuperValue) (old new : ℕ → List ℕ) where
-  none_written : (batch : Batch) (seen : List ℕ) → IsWritten v new batch seen (Applying 0)
-  none_written batch seen = record { records = λ i lt. absurd (omega arith); descriptor = λ e. false_true e; homes = λ i lt. absurd (omega arith) }
+  -- what a read finds, and what a crash may leave
+  pub record IsTiedAt (progress : List Progress) (seen : List ℕ) (may : List ℕ → Type 0) : Type 0 where
+    pub seen_is : IsSeen v progress old new seen
+    pub left_are : (c : List ℕ) → may c → IsLeft v.slots progress seen c
 
-  pub waiting_written : (seen : List ℕ) (batches : List WriteOut) → AllByRecursion (λ (x : WriteOut). next_stage x ≡ Some (Applying 0)) batches → AreWritten v new seen batches
-  waiting_written seen [] wait = tt
-  waiting_written seen (x ∷ newer) wait =
-      (subst (λ (o : Option Stage). IfSome o (IsWritten v new x.batch seen)) (sym wait.0) (none_written x.batch seen), waiting_written seen newer wait.1)
+  pub left_same : (progress : List Progress) (seen c : List ℕ) → c ≡ seen → IsLeft v.slots progress seen c
+  left_same progress seen c same =
+      record { same_length = ap length same; firm = λ b is. ap (λ (l : List ℕ). block_at l b) same }
 
-  -- where all are committed, what a read gives may be left
-  pub committed_left : (batches : List WriteOut) (seen : List ℕ) → AllByRecursion (IsWriteOut (geometry_of v)) batches → AreInOrder batches → has_uncommitted batches ≡ false → IsSeen v batches old new seen → CrashLeaves v batches old new seen seen
-  committed_left [] seen each ordered none is = refl
-  committed_left (w ∷ newer) seen each ordered none is =
-      let parts = committed_parts w newer none in
-      let s = stage_of w each.0.going in
-      let late : is_committed s.0 ≡ true = sym (committed-at w s.0 s.1) ∙ parts.0 in
-      oldest_left v old new w newer parts.1 s.0 s.1 late seen seen (by s.0 s.1 late)
-    where
-      shut : (k : ℕ) → k < journals_of v.layout → AllByRecursion (λ (x : WriteOut). x.batch.journal ≢ k) (w ∷ newer) → IsOpen seen v.slots k → ⊥
-      shut k lt apart = shut_lacking v (open_in (w ∷ newer)) seen k is.recovers.volume lt (lacking (open_in (w ∷ newer)) k (all_open (λ (b : Batch). b.journal ≢ k) (w ∷ newer) apart))
+  -- without a batch that isn't committed New is Old
+  abbrev IsOutside : Progress → Type 0
+  IsOutside p = is_committed p.stage ≡ false → (b : ℕ) → (Contains p.batch.homes b → ⊥) → new b ≡ old b
 
-      found : RecoversBy v (open_in (w ∷ newer)) new seen
-      found = subst (λ (f : ℕ → List ℕ). RecoversBy v (open_in (w ∷ newer)) f seen) (contents_committed (stage_in (w ∷ newer)) old new (stage_committed (w ∷ newer) none)) is.recovers
+  abbrev IsApart : ℕ → Progress → Type 0
+  IsApart j p = p.batch.journal ≢ j
 
-      by : (stage : Stage) → next_stage w ≡ Some stage → is_committed stage ≡ true → IsLeftAt v (w ∷ newer) old new seen seen w.batch.journal stage
-      by (Recording i) at late = false_true late
-      by Describing at late = false_true late
-      by SyncingRecords at late = false_true late
-      by Opening at late = false_true late
-      by Committing at late = false_true late
-      by (Applying i) at late = found
-      by SyncingHomes at late = found
-      by Closing at late = refl
-      by Finishing at late = (recovers_of v (open_in (w ∷ newer)) new seen found, shut)
+  -- what a read finds after a step that changed loose blocks alone
+  seen_moves : (progress : List Progress) → AreGoing (geometry_of v) progress
+      → (seen seen' : List ℕ) → IsLeft v.slots progress seen seen' → IsSuper v (block_at seen 0)
+      → 4096 * block_count v ≤ length seen → AreWritten v new seen' progress
+      → ((j : ℕ) → j < journals_of v.layout → AllByRecursion (IsApart j) progress → IsOpen seen v.slots j → ⊥)
+      → ((b : ℕ) → IsHome (geometry_of v) b
+      → kept_in progress old new b ≡ contents_in v.slots (sure_in progress) seen b)
+      → AllByRecursion IsOutside progress
+      → IsSeen v progress old new seen'
+  seen_moves progress going seen seen' left super_block long are shut contents outside = record {
+    super_block = subst (IsSuper v) (sym (left.firm 0 (super_firm v progress going))) super_block;
+    long = subst (λ n. 4096 * block_count v ≤ n) (sym left.same_length) long;
+    written = are;
+    shut = λ j lt none opens.
+        let firm = gate_firm v progress going j lt (all_map (λ p other sw. other) progress none) in
+        shut j lt none
+        (sym (first_same seen' seen (gate_block v.slots j) (left.firm (gate_block v.slots j) firm)) ∙ opens);
+    contents = λ b home. contents b home ∙ sym (left.firm _ (standing_firm v progress going b home));
+    outside = outside;
+  }
 
-  -- ---- the newest, which isn't committed
+  -- one write-out among older and newer ones: one that isn't committed is the newest, one that is the oldest, and all
+  -- are committed
+  module _ (older newer : List Progress) (batch : Batch) (seen : List ℕ) (may may' : List ℕ → Type 0) where
+    abbrev with_stage : Stage → List Progress
+    with_stage s = older ++ at batch s ∷ newer
 
-  module _ (others : List WriteOut) (w : WriteOut) (is_batch : IsBatch (geometry_of v) w.batch) (older : AllByRecursion (λ x. IsOlder x w) others) (are_batches : AllByRecursion (λ (x : WriteOut). IsBatch (geometry_of v) x.batch) others)
-      (seen : List ℕ) (may : List ℕ → Type 0) where
-    -- the others have no part in the journal of the newest
-    others_record : (i : ℕ) → i < v.slots → AllByRecursion (λ (x : WriteOut). IsBeside v new x.batch (record_block v.slots w.batch.journal i)) others
-    others_record i lt = all_both (λ (x : WriteOut) (is : IsBatch (geometry_of v) x.batch) (o : IsOlder x w). beside_record v new x.batch w.batch.journal i is o.journals is_batch.there lt) others are_batches older
+    contents_with : (s s' : Stage) → is_sure s ≡ is_sure s' → is_committed s ≡ is_committed s' → (b : ℕ)
+        → kept_in (with_stage s) old new b ≡ contents_in v.slots (sure_in (with_stage s)) seen b
+        → kept_in (with_stage s') old new b ≡ contents_in v.slots (sure_in (with_stage s')) seen b
+    contents_with s s' sure committed b e =
+        sym (ap (λ t. cond t old new b) (way_same older newer batch s s' committed)) ∙ e
+        ∙ ap (λ (l : List Batch). contents_in v.slots l seen b) (sure_same older newer batch s s' sure)
 
-    others_descriptor : AllByRecursion (λ (x : WriteOut). IsBeside v new x.batch (descriptor_block v.slots w.batch.journal)) others
-    others_descriptor = all_both (λ (x : WriteOut) (is : IsBatch (geometry_of v) x.batch) (o : IsOlder x w). beside_descriptor v new x.batch w.batch.journal is o.journals is_batch.there) others are_batches older
+    -- a step from one stage to another
+    pub record IsStep (s s' : Stage) : Type 0 where
+      pub going : AreGoing (geometry_of v) (with_stage s)
+      pub going' : AreGoing (geometry_of v) (with_stage s')
+      pub tied : IsTiedAt (with_stage s) seen may
 
-    others_gate : AllByRecursion (λ (x : WriteOut). IsBeside v new x.batch (gate_block v.slots w.batch.journal)) others
-    others_gate = all_map (λ (x : WriteOut) (is : IsBatch (geometry_of v) x.batch). beside_gate v new x.batch w.batch.journal is is_batch.there) others are_batches
+    module _ (s s' : Stage) (step : IsStep s s') where
+      is_batch : IsBatch (geometry_of v) batch
+      is_batch =
+          (all_back (λ (p : Progress). IsBatch (geometry_of v) p.batch) older (at batch s ∷ newer) step.going.each).0
 
-    abbrev Recorded : List ℕ → Stage → Type 0
-    Recorded s stage = IsRecording v old new (open_in others) w.batch s stage
+      own : IsWritten v new (sure_in newer) (at batch s) seen
+      own = (own_of v new older newer (at batch s) seen step.tied.seen_is.written).0
 
-    -- what a crash may leave within a step
-    pub newest_within : (stage : Stage) (bytes : List ℕ) → next_stage w ≡ Some stage → is_committed stage ≡ false → length bytes ≡ 4096 → IsTied v (others ++ w ∷ []) old new seen may
-        → (c : List ℕ) → TornFromWork (work_at (geometry_of v) w.batch bytes stage) may c → LeftWithin v old new (Some stage) c
-    newest_within (Recording i) bytes at early size tied c left =
-        let lt : i < length w.batch.homes = (stage_at-is (length w.batch.homes) w.steps at).1 in
-        (record_torn v old new (open_in others) w.batch is_batch (newest-alone others w older) (newest-newer others w older) left.0 c i (length bytes) lt (omega (arith, size)) left.2
-        (left_newest v old new others w (Recording i) at early seen left.0 (tied.left_are left.0 left.1))).0
-    newest_within Describing bytes at early size tied c left =
-        let fits = length-descriptor_text w.batch.mark w.batch.homes (omega (arith, is_batch.described.homes.few, tied.seen_is.recovers.volume.super_block.fits.few_slots)) in
-        (descriptor_torn v old new (open_in others) w.batch is_batch (newest-alone others w older) (newest-newer others w older) left.0 c (length (descriptor_text (record { mark = w.batch.mark; homes = w.batch.homes }))) (omega (arith, fits)) left.2
-        (left_newest v old new others w Describing at early seen left.0 (tied.left_are left.0 left.1))).0
-    newest_within SyncingRecords bytes at early size tied c left = (left_newest v old new others w SyncingRecords at early seen c (tied.left_are c left)).0
-    newest_within Opening bytes at early size tied c left =
-        let same : left.0 ≡ seen = left_newest v old new others w Opening at early seen left.0 (tied.left_are left.0 left.1) in
-        gate_torn v old new (open_in others) w.batch is_batch (newest-alone others w older) (newest-newer others w older) seen c
-        (seen_recording v old new others w Opening at early seen tied.seen_is)
-        (subst (λ (d : List ℕ). Torn (4096 * gate_block v.slots w.batch.journal) 1 d c) same left.2)
-    newest_within Committing bytes at early size tied c left = left_newest v old new others w Committing at early seen c (tied.left_are c left)
-    newest_within (Applying i) bytes at early size tied c left = false_true (sym early)
-    newest_within SyncingHomes bytes at early size tied c left = false_true (sym early)
-    newest_within Closing bytes at early size tied c left = false_true (sym early)
-    newest_within Finishing bytes at early size tied c left = false_true (sym early)
+      room : (x : ℕ) → x < first_home v.layout v.slots → 4096 * x + 4096 ≤ length seen
+      room x lt = omega (arith, lt, step.tied.seen_is.long)
 
-    -- the newest goes on to another stage at which it isn't committed
-    goes_on : (stage : Stage) (seen' : List ℕ) (may' : List ℕ → Type 0) → next_stage (advanced_of w) ≡ Some stage → is_committed stage ≡ false → Recorded seen' stage → AreWritten v new seen' others
-        → ((c : List ℕ) → may' c → IsLeftAt v (others ++ advanced_of w ∷ []) old new seen' c w.batch.journal stage) → IsTied v (others ++ advanced_of w ∷ []) old new seen' may'
-    goes_on stage seen' may' at early is are left = record {
-      seen_is = recording_seen v old new others (advanced_of w) stage at early seen' is are;
-      left_are = λ c may. newest_left v old new others (advanced_of w) stage at early seen' c (left c may);
-    }
+      -- the journals of the others are apart
+      others : (x : ℕ)
+          → ((q : Progress) → IsBatch (geometry_of v) q.batch → q.batch.journal ≢ batch.journal → IsBeside v new q x)
+          → AllByRecursion (λ (q : Progress). IsBeside v new q x) older
+          × AllByRecursion (λ (q : Progress). IsBeside v new q x) newer
+      others x beside =
+          let apart = apart_of older newer (at batch s) step.going.ordered in
+          let each = step.going.each in (
+            all_both beside older
+                (all_front (λ (p : Progress). IsBatch (geometry_of v) p.batch) older (at batch s ∷ newer) each) apart.0,
+            all_both beside newer
+                (all_back (λ (p : Progress). IsBatch (geometry_of v) p.batch) older (at batch s ∷ newer) each).1
+                apart.1,
+          )
 
-    -- after a step of it whose device calls succeed
-    pub newest_after : (stage : Stage) (bytes : List ℕ) → next_stage w ≡ Some stage → is_committed stage ≡ false → length bytes ≡ 4096 → ((i : ℕ) → stage ≡ Recording i → bytes ≡ new (get_or w.batch.homes i 0))
-        → AllByRecursion (IsWriteOut (geometry_of v)) (others ++ advanced_of w ∷ []) → AreInOrder (others ++ advanced_of w ∷ []) → has_uncommitted others ≡ false
-        → IsTied v (others ++ w ∷ []) old new seen may
-        → (may' : List ℕ → Type 0) → ((c : List ℕ) → may' c → TornFromWork (work_at (geometry_of v) w.batch bytes stage) may c) → (work_at (geometry_of v) w.batch bytes stage ≡ Sync → (c : List ℕ) → may' c → c ≡ seen)
-        → IsTied v (others ++ advanced_of w ∷ []) old new (worked seen (work_at (geometry_of v) w.batch bytes stage)) may'
-    newest_after (Recording i) bytes at early size is_new each ordered none tied may' left sure =
-        let lt : i < length w.batch.homes = recording_within (length w.batch.homes) w.steps i at in
-        let few : i < v.slots = omega (arith, lt, is_batch.described.homes.few) in
-        let x = record_block v.slots w.batch.journal i in
-        let was = seen_recording v old new others w (Recording i) at early seen tied.seen_is in
-        let is = record_step v old new (open_in others) w.batch is_batch (newest-alone others w older) (newest-newer others w older) seen i bytes lt size (is_new i refl) was in
-        let fits : 4096 * x + 4096 ≤ length seen = low_fits v (open_in others) seen x was.recovers.volume (record-below v.layout v.slots w.batch.journal i is_batch.there few) in
-        let same = same_but_torn x (length bytes) seen (worked seen (work_at (geometry_of v) w.batch bytes (Recording i))) (omega (arith, size)) (torn-written (4096 * x) bytes seen (omega (arith, fits, size))) in
-        let are = all_kept v new others x seen (worked seen (work_at (geometry_of v) w.batch bytes (Recording i))) (seen_others v old new others w (Recording i) at early seen tied.seen_is) (others_record i few) same in
-        let left' : (c : List ℕ) → may' c → Recovers v old c × (IsOpen c v.slots w.batch.journal → ⊥) =
-        λ c may_c. let d = left c may_c in
-        record_torn v old new (open_in others) w.batch is_batch (newest-alone others w older) (newest-newer others w older) d.0 c i (length bytes) lt (omega (arith, size)) d.2
-        (left_newest v old new others w (Recording i) at early seen d.0 (tied.left_are d.0 d.1)) in
-        elim (cases_lt (i + 1) (length w.batch.homes)) [
-          | inl more ↦ goes_on (Recording (i + 1)) _ may' (after_recording (length w.batch.homes) w.steps i at more) refl is are left'
-          | inr last ↦
-              (let end : i + 1 ≡ length w.batch.homes = omega (arith, last, lt) in
-              goes_on Describing _ may' (after_last_record (length w.batch.homes) w.steps i at end) refl
-              (record_last v old new (open_in others) w.batch is_batch (newest-alone others w older) (newest-newer others w older) _ (i + 1) end is) are left')
-        ]
-    newest_after Describing bytes at early size is_new each ordered none tied may' left sure =
-        let text = descriptor_text (record { mark = w.batch.mark; homes = w.batch.homes }) in
-        let x = descriptor_block v.slots w.batch.journal in
-        let was = seen_recording v old new others w Describing at early seen tied.seen_is in
-        let full : length text ≡ 4096 = length-descriptor_text w.batch.mark w.batch.homes (omega (arith, is_batch.described.homes.few, was.recovers.volume.super_block.fits.few_slots)) in
-        let is = describe_step v old new (open_in others) w.batch is_batch (newest-alone others w older) (newest-newer others w older) seen bytes was in
-        let fits : 4096 * x + 4096 ≤ length seen = low_fits v (open_in others) seen x was.recovers.volume (descriptor-below v.layout v.slots w.batch.journal is_batch.there) in
-        let same = same_but_torn x (length text) seen (worked seen (work_at (geometry_of v) w.batch bytes Describing)) (omega (arith, full)) (torn-written (4096 * x) text seen (omega (arith, fits, full))) in
-        let are = all_kept v new others x seen (worked seen (work_at (geometry_of v) w.batch bytes Describing)) (seen_others v old new others w Describing at early seen tied.seen_is) others_descriptor same in
-        goes_on SyncingRecords _ may' (after_describing (length w.batch.homes) w.steps at) refl is are
-        (λ c may_c. let d = left c may_c in
-        descriptor_torn v old new (open_in others) w.batch is_batch (newest-alone others w older) (newest-newer others w older) d.0 c (length text) (omega (arith, full)) d.2
-        (left_newest v old new others w Describing at early seen d.0 (tied.left_are d.0 d.1)))
-    newest_after SyncingRecords bytes at early size is_new each ordered none tied may' left sure =
-        goes_on Opening seen may' (after_syncing_records (length w.batch.homes) w.steps at) refl
-        (sync_step v old new (open_in others) w.batch is_batch (newest-alone others w older) (newest-newer others w older) seen (seen_recording v old new others w SyncingRecords at early seen tied.seen_is))
-        (seen_others v old new others w SyncingRecords at early seen tied.seen_is) (sure refl)
-    newest_after Opening bytes at early size is_new each ordered none tied may' left sure =
-        let x = gate_block v.slots w.batch.journal in
-        let was = seen_recording v old new others w Opening at early seen tied.seen_is in
-        let is = open_step v old new (open_in others) w.batch is_batch (newest-alone others w older) (newest-newer others w older) seen bytes was in
-        let fits : 4096 * x + 4096 ≤ length seen = low_fits v (open_in others) seen x was.recovers.volume (gate-below v.layout v.slots w.batch.journal is_batch.there) in
-        let same = same_but_torn x 1 seen (worked seen (work_at (geometry_of v) w.batch bytes Opening)) (omega arith) (torn-written (4096 * x) (0xA7 ∷ []) seen (omega (arith, fits))) in
-        let are = all_kept v new others x seen (worked seen (work_at (geometry_of v) w.batch bytes Opening)) (seen_others v old new others w Opening at early seen tied.seen_is) others_gate same in
-        goes_on Committing _ may' (after_opening (length w.batch.homes) w.steps at) refl is are
-        (λ c may_c. let d = left c may_c in
-        let same_d : d.0 ≡ seen = left_newest v old new others w Opening at early seen d.0 (tied.left_are d.0 d.1) in
-        gate_torn v old new (open_in others) w.batch is_batch (newest-alone others w older) (newest-newer others w older) seen c was (subst (λ (l : List ℕ). Torn (4096 * x) 1 l c) same_d d.2))
-    newest_after Committing bytes at early size is_new each ordered none tied may' left sure =
-        let all_committed = no_uncommitted others none in
-        let is = committed_seen (seen_recording v old new others w Committing at early seen tied.seen_is) all_committed in
-        record {
-          seen_is = is;
-          left_are = λ c may_c. subst (CrashLeaves v (others ++ advanced_of w ∷ []) old new seen) (sym (sure refl c may_c)) (committed_left (others ++ advanced_of w ∷ []) seen each ordered all_committed is);
-        }
-      where
-        applying : next_stage (advanced_of w) ≡ Some (Applying 0)
-        applying = after_committing (length w.batch.homes) w.steps at is_batch.described.homes.some
+      moved : (seen' : List ℕ) → IsLeft v.slots (with_stage s') seen seen' → is_committed s ≡ is_committed s'
+          → AreWritten v new seen' (with_stage s')
+          → ((b : ℕ) → kept_in (with_stage s) old new b ≡ contents_in v.slots (sure_in (with_stage s)) seen b
+          → kept_in (with_stage s') old new b ≡ contents_in v.slots (sure_in (with_stage s')) seen b)
+          → IsSeen v (with_stage s') old new seen'
+      moved seen' left committed are contents =
+          let is = step.tied.seen_is in
+          seen_moves (with_stage s') step.going' seen seen' left is.super_block is.long are
+          (λ j lt none.
+          is.shut j lt (all_replaced (IsApart j) older (at batch s') (at batch s) newer (λ other. other) none))
+          (λ b home. contents b (is.contents b home))
+          (all_replaced IsOutside older (at batch s) (at batch s') newer
+          (λ before e. before (committed ∙ e)) is.outside)
 
-        no_uncommitted : (rest : List WriteOut) → has_uncommitted rest ≡ false → has_uncommitted (rest ++ advanced_of w ∷ []) ≡ false
-        no_uncommitted [] none = ap (λ (o : Option Stage). not (option_map_or is_committed o true) || false) applying
-        no_uncommitted (x ∷ rest) none =
-            let parts = or_parts (not (has_committed x)) (has_uncommitted rest) none in
-            or_from (not (has_committed x)) (has_uncommitted (rest ++ advanced_of w ∷ [])) parts.0 (no_uncommitted rest parts.1)
+      -- it writes to one block, which is loose from then on
+      write : (x n : ℕ) (bytes : List ℕ) → length bytes ≡ n → n ≤ 4096 → 4096 * x + 4096 ≤ length seen
+          → ((b : ℕ) → IsFirmFor v.slots (at batch s') b → IsFirmFor v.slots (at batch s) b × (b ≢ x))
+          → is_committed s ≡ is_committed s' → (is_sure s ≡ true → is_sure s' ≡ true) ⊎ (older ≡ [])
+          → AllByRecursion (λ (q : Progress). IsBeside v new q x) older
+          × AllByRecursion (λ (q : Progress). IsBeside v new q x) newer
+          → (SameBut x seen (written seen (4096 * x) bytes)
+          → IsWritten v new (sure_in newer) (at batch s') (written seen (4096 * x) bytes))
+          → ((b : ℕ) → kept_in (with_stage s) old new b ≡ contents_in v.slots (sure_in (with_stage s)) seen b
+          → kept_in (with_stage s') old new b ≡ contents_in v.slots (sure_in (with_stage s')) seen b)
+          → ((c : List ℕ) → may' c → (d : List ℕ) × may d × Torn (4096 * x) n d c)
+          → IsTiedAt (with_stage s') (written seen (4096 * x) bytes) may'
+      write x n bytes size few fits loose committed sure beside its contents torn =
+          let seen' = written seen (4096 * x) bytes in
+          let same = same_but_torn x (length bytes) seen seen' (omega (arith, size))
+          (torn-written (4096 * x) bytes seen (omega (arith, fits, size))) in
+          record {
+            seen_is = moved seen'
+                (record { same_length = same.same_length; firm = λ b is. same.blocks b (loosened b is).1 }) committed
+                (written_with v new older newer batch s s' x seen seen' sure beside same
+                (its same) step.tied.seen_is.written) contents;
+            left_are = λ c may_c.
+                let d = torn c may_c in
+                let other = same_but_torn x n d.0 c few d.2 in
+                let l = step.tied.left_are d.0 d.1 in
+                record {
+                  same_length = other.same_length ∙ l.same_length ∙ sym same.same_length;
+                  firm = λ b is. let f = loosened b is in other.blocks b f.1 ∙ l.firm b f.0 ∙ sym (same.blocks b f.1);
+                };
+          }
+        where
+          loosened : (b : ℕ) → AllByRecursion (λ (p : Progress). IsFirmFor v.slots p b) (with_stage s')
+              → AllByRecursion (λ (p : Progress). IsFirmFor v.slots p b) (with_stage s) × (b ≢ x)
+          loosened b all = (
+            all_replaced (λ (p : Progress). IsFirmFor v.slots p b) older (at batch s') (at batch s) newer
+                (λ mine. (loose b mine).0) all,
+            (loose b (all_in (λ (p : Progress). IsFirmFor v.slots p b) (with_stage s') (at batch s') all
+                (in_right older (at batch s' ∷ newer) (at batch s') (inl refl)))).1,
+          )
 
-        committed_seen : Recorded seen Committing → has_uncommitted (others ++ advanced_of w ∷ []) ≡ false → IsSeen v (others ++ advanced_of w ∷ []) old new seen
-        committed_seen is all_committed = record {
-          recovers = subst (λ (f : ℕ → List ℕ). RecoversBy v (open_in (others ++ advanced_of w ∷ [])) f seen) (sym (contents_committed (stage_in (others ++ advanced_of w ∷ [])) old new (stage_committed (others ++ advanced_of w ∷ []) all_committed)))
-              (subst (λ (l : List Batch). RecoversBy v l new seen) (sym (open_in-newest others (advanced_of w) ∙ ap (λ (l : List Batch). l ++ open_in others) (open_of-at (advanced_of w) (Applying 0) applying))) is.recovers);
-          each = all-append (λ (x : WriteOut). IfSome (next_stage x) (IsWritten v new x.batch seen)) others (advanced_of w ∷ []) (seen_others v old new others w Committing at early seen tied.seen_is)
-              (waiting_written seen (advanced_of w ∷ []) (applying, tt));
-          outside = λ x e not_committed. absurd (both_ways (has_committed x) not_committed (current_committed (others ++ advanced_of w ∷ []) x all_committed e));
-        }
-    newest_after (Applying i) bytes at early size is_new each ordered none tied may' left sure = false_true (sym early)
-    newest_after SyncingHomes bytes at early size is_new each ordered none tied may' left sure = false_true (sym early)
-    newest_after Closing bytes at early size is_new each ordered none tied may' left sure = false_true (sym early)
-    newest_after Finishing bytes at early size is_new each ordered none tied may' left sure = false_true (sym early)
+      -- it syncs
+      sync : is_sure s ≡ is_sure s' → is_committed s ≡ is_committed s'
+          → IsWritten v new (sure_in newer) (at batch s') seen → ((c : List ℕ) → may' c → c ≡ seen)
+          → IsTiedAt (with_stage s') seen may'
+      sync sure committed its synced = record {
+        seen_is = moved seen (left_same (with_stage s') seen seen refl) committed
+            (written_same v new older newer batch s s' seen (λ e. sym sure ∙ e) its step.tied.seen_is.written)
+            (contents_with s s' sure committed);
+        left_are = λ c may_c. left_same (with_stage s') seen c (synced c may_c);
+      }
 
-  -- ---- the oldest, where all are committed
+    -- ---- each step
 
-  module _ (w : WriteOut) (newer : List WriteOut) (is_batch : IsBatch (geometry_of v) w.batch) (older : AllByRecursion (IsOlder w) newer) (none : has_uncommitted newer ≡ false)
-      (seen : List ℕ) (may : List ℕ → Type 0) where
-    abbrev Applied : List ℕ → Stage → Type 0
-    Applied s stage = IsApplying v new (open_in newer) w.batch s stage
+    gate_of : (s s' : Stage) → IsStep s s' → (x : ℕ) → x ≢ gate_block v.slots batch.journal
+        → (seen' : List ℕ) → SameBut x seen seen' → is_open s ≡ is_open s'
+        → MatchBool (is_open s') (IsOpen seen' v.slots batch.journal) (IsOpen seen' v.slots batch.journal → ⊥)
+    gate_of s s' step x other seen' same opens =
+        let first = same.firsts (gate_block v.slots batch.journal) (λ e. other (sym e)) in
+        subst (λ n. MatchBool (is_open s') (n ≡ 0xA7) (n ≡ 0xA7 → ⊥)) (sym first)
+        (subst (λ b. MatchBool b (IsOpen seen v.slots batch.journal) (IsOpen seen v.slots batch.journal → ⊥)) opens
+        (own s s' step).gate)
 
-    alone : has_journal (open_in newer) w.batch.journal ≡ false
-    alone = oldest-alone w newer older
-
-    -- what a crash may leave within a step
-    pub oldest_within : (stage : Stage) (bytes : List ℕ) → next_stage w ≡ Some stage → is_committed stage ≡ true → IsTied v (w ∷ newer) old new seen may
-        → (c : List ℕ) → TornFromWork (work_at (geometry_of v) w.batch bytes stage) may c → LeftWithin v old new (Some stage) c
-    oldest_within (Recording i) bytes at late tied c left = false_true late
-    oldest_within Describing bytes at late tied c left = false_true late
-    oldest_within SyncingRecords bytes at late tied c left = false_true late
-    oldest_within Opening bytes at late tied c left = false_true late
-    oldest_within Committing bytes at late tied c left = false_true late
-    oldest_within (Applying i) bytes at late tied c left =
-        let lt : i < length w.batch.homes = applying_within (length w.batch.homes) w.steps i at in
-        let was = subst (λ (l : List Batch). RecoversBy v l new left.0) (old_gates v old new w newer none (Applying i) at late) (left_oldest v old new w newer none (Applying i) at late seen left.0 (tied.left_are left.0 left.1)) in
-        recovers_of v (open_in newer ++ w.batch ∷ []) new c (home_torn v new (open_in newer) w.batch is_batch alone left.0 c i 4096 lt (omega arith) left.2 was)
-    oldest_within SyncingHomes bytes at late tied c left = recovers_of v (open_in (w ∷ newer)) new c (left_oldest v old new w newer none SyncingHomes at late seen c (tied.left_are c left))
-    oldest_within Closing bytes at late tied c left =
-        let same : left.0 ≡ seen = left_oldest v old new w newer none Closing at late seen left.0 (tied.left_are left.0 left.1) in
-        closing_torn v new (open_in newer) w.batch is_batch alone seen c (seen_applying v old new w newer none Closing at late seen tied.seen_is)
-        (subst (λ (d : List ℕ). Torn (4096 * gate_block v.slots w.batch.journal) 1 d c) same left.2)
-    oldest_within Finishing bytes at late tied c left = (left_oldest v old new w newer none Finishing at late seen c (tied.left_are c left)).0
-
-    -- the oldest goes on to another stage
-    moves_on : (stage : Stage) (seen' : List ℕ) (may' : List ℕ → Type 0) → next_stage (advanced_of w) ≡ Some stage → is_committed stage ≡ true → Applied seen' stage
-        → ((c : List ℕ) → may' c → IsLeftAt v (advanced_of w ∷ newer) old new seen' c w.batch.journal stage) → IsTied v (advanced_of w ∷ newer) old new seen' may'
-    moves_on stage seen' may' at late is left = record {
-      seen_is = applying_seen v old new (advanced_of w) newer none stage at late seen' is (waiting_written seen' newer (waiting w newer older none));
-      left_are = λ c may. oldest_left v old new (advanced_of w) newer none stage at late seen' c (left c may);
-    }
-
-    -- what may be left, while home blocks are written
-    applied_left : (stage : Stage) (c : List ℕ) → next_stage (advanced_of w) ≡ Some stage → is_committed stage ≡ true → is_open stage ≡ true → RecoversBy v (open_in newer ++ w.batch ∷ []) new c → RecoversBy v (open_in (advanced_of w ∷ newer)) new c
-    applied_left stage c at late opens r =
-        subst (λ (l : List Batch). RecoversBy v l new c) (sym (old_gates v old new (advanced_of w) newer none stage at late ∙ ap (λ b. open_in newer ++ cond b (w.batch ∷ []) []) opens)) r
-
-    -- after a step of it whose device calls succeed, but for the last
-    pub oldest_after : (stage : Stage) (bytes : List ℕ) → next_stage w ≡ Some stage → is_committed stage ≡ true → (stage ≡ Finishing → ⊥) → IsTied v (w ∷ newer) old new seen may
-        → (may' : List ℕ → Type 0) → ((c : List ℕ) → may' c → TornFromWork (work_at (geometry_of v) w.batch bytes stage) may c) → (work_at (geometry_of v) w.batch bytes stage ≡ Sync → (c : List ℕ) → may' c → c ≡ seen)
-        → IsTied v (advanced_of w ∷ newer) old new (worked seen (work_at (geometry_of v) w.batch bytes stage)) may'
-    oldest_after (Recording i) bytes at late not_last tied may' left sure = false_true late
-    oldest_after Describing bytes at late not_last tied may' left sure = false_true late
-    oldest_after SyncingRecords bytes at late not_last tied may' left sure = false_true late
-    oldest_after Opening bytes at late not_last tied may' left sure = false_true late
-    oldest_after Committing bytes at late not_last tied may' left sure = false_true late
-    oldest_after (Applying i) bytes at late not_last tied may' left sure =
-        let lt : i < length w.batch.homes = applying_within (length w.batch.homes) w.steps i at in
-        let is = apply_step v new (open_in newer) w.batch is_batch alone seen i bytes lt (seen_applying v old new w newer none (Applying i) at late seen tied.seen_is) in
-        let left' : (c : List ℕ) → may' c → RecoversBy v (open_in newer ++ w.batch ∷ []) new c =
-        λ c may_c. let d = left c may_c in
-        let was = subst (λ (l : List Batch). RecoversBy v l new d.0) (old_gates v old new w newer none (Applying i) at late) (left_oldest v old new w newer none (Applying i) at late seen d.0 (tied.left_are d.0 d.1)) in
-        home_torn v new (open_in newer) w.batch is_batch alone d.0 c i 4096 lt (omega arith) d.2 was in
-        elim (cases_lt (i + 1) (length w.batch.homes)) [
-          | inl more ↦
-              (let next = after_applying (length w.batch.homes) w.steps i at more in
-              moves_on (Applying (i + 1)) _ may' next refl is (λ c may_c. applied_left (Applying (i + 1)) c next refl refl (left' c may_c)))
-          | inr last ↦
-              (let end : i + 1 ≡ length w.batch.homes = omega (arith, last, lt) in
-              let next = after_last_applied (length w.batch.homes) w.steps i at end in
-              moves_on SyncingHomes _ may' next refl (apply_last v new (open_in newer) w.batch is_batch alone _ (i + 1) end is) (λ c may_c. applied_left SyncingHomes c next refl refl (left' c may_c)))
-        ]
-    oldest_after SyncingHomes bytes at late not_last tied may' left sure =
-        moves_on Closing seen may' (after_syncing_homes (length w.batch.homes) w.steps at) refl
-        (homes_synced v new (open_in newer) w.batch is_batch alone seen (seen_applying v old new w newer none SyncingHomes at late seen tied.seen_is)) (sure refl)
-    oldest_after Closing bytes at late not_last tied may' left sure =
-        let was = seen_applying v old new w newer none Closing at late seen tied.seen_is in
-        moves_on Finishing _ may' (after_closing (length w.batch.homes) w.steps at) refl (close_step v new (open_in newer) w.batch is_batch alone seen bytes was)
-        (λ c may_c. let d = left c may_c in
-        let same : d.0 ≡ seen = left_oldest v old new w newer none Closing at late seen d.0 (tied.left_are d.0 d.1) in
-        let torn = subst (λ (l : List ℕ). Torn (4096 * gate_block v.slots w.batch.journal) 1 l c) same d.2 in (
-          closing_torn v new (open_in newer) w.batch is_batch alone seen c was torn,
-          λ k lt apart. closing_shut v new (open_in newer) w.batch is_batch alone seen c k was torn lt
-              (lacking (open_in newer ++ w.batch ∷ []) k (all-append (λ (b : Batch). b.journal ≢ k) (open_in newer) (w.batch ∷ []) (all_open (λ (b : Batch). b.journal ≢ k) newer apart.1) (apart.0, tt))),
+    record_step : (i : ℕ) (bytes : List ℕ) → (step : IsStep (Recording i) (next_of (length batch.homes) (Recording i)))
+        → i < length batch.homes → length bytes ≡ 4096 → bytes ≡ new (get_or batch.homes i 0)
+        → ((c : List ℕ) → may' c → TornFromWork (work_at (geometry_of v) batch bytes (Recording i)) may c)
+        → IsTiedAt (with_stage (next_of (length batch.homes) (Recording i)))
+        (worked seen (work_at (geometry_of v) batch bytes (Recording i))) may'
+    record_step i bytes step lt size is_new left =
+        let s = Recording i in
+        let s' = next_of (length batch.homes) s in
+        let to = recorded_to (length batch.homes) i in
+        let there = (is_batch s s' step).there in
+        let few : i < v.slots = omega (arith, lt, (is_batch s s' step).described.homes.few) in
+        let x = record_block v.slots batch.journal i in
+        let fits = room s s' step x (record-below v.layout v.slots batch.journal i there few) in
+        let w = own s s' step in
+        write s s' step x (length bytes) bytes refl (omega (arith, size)) fits
+        (λ b f. (
+          record { journal = λ e. f.journal to.recording_is; gate = λ e. false_true e; home = λ e. false_true e },
+          λ e. f.journal to.recording_is (inr (i, few, e)),
         ))
-    oldest_after Finishing bytes at late not_last tied may' left sure = absurd (not_last refl)
+        (sym to.committed_is) (inl (λ e. false_true e))
+        (others s s' step x (λ q is apart. beside_record v new q batch.journal i is apart there few))
+        (λ same. record {
+          records = λ l within less. elim (cases_eq l i) [
+            | inl here ↦ ap (λ n. block_at (written seen (4096 * x) bytes) (record_block v.slots batch.journal n)) here
+                ∙ block-written x bytes seen size fits
+                ∙ is_new
+                ∙ ap (λ n. new (get_or batch.homes n 0)) (sym here)
+            | inr other ↦ same.blocks (record_block v.slots batch.journal l) (λ e. other (omega arith))
+                ∙ w.records l within (omega (arith, less, to.recorded_is))
+          ];
+          descriptor = λ e. absurd (both_ways (is_described s') to.described_is e);
+          homes = λ l within less. absurd (omega (arith, less, to.applied_is));
+          gate = gate_of s s' step x (λ e. gate_no_record v.slots batch.journal batch.journal i few (sym e)) _ same
+              (sym to.open_is);
+        })
+        (contents_with s s' (sym to.sure_is) (sym to.committed_is)) left
 
-    -- after its last step
-    pub oldest_done : (bytes : List ℕ) → next_stage w ≡ Some Finishing → AllByRecursion (IsWriteOut (geometry_of v)) newer → AreInOrder newer → IsTied v (w ∷ newer) old new seen may
-        → (may' : List ℕ → Type 0) → (work_at (geometry_of v) w.batch bytes Finishing ≡ Sync → (c : List ℕ) → may' c → c ≡ seen) → IsTied v newer old new seen may'
-    oldest_done bytes at each ordered tied may' sure =
-        let was = seen_applying v old new w newer none Finishing at refl seen tied.seen_is in
-        let is = done_seen was in
-        record {
-          seen_is = is;
-          left_are = λ c may_c. subst (CrashLeaves v newer old new seen) (sym (sure refl c may_c)) (committed_left newer seen each ordered none is);
-        }
+    describe_step : (bytes : List ℕ) → (step : IsStep Describing SyncingRecords)
+        → ((c : List ℕ) → may' c → TornFromWork (work_at (geometry_of v) batch bytes Describing) may c)
+        → IsTiedAt (with_stage SyncingRecords) (worked seen (work_at (geometry_of v) batch bytes Describing)) may'
+    describe_step bytes step left =
+        let is = is_batch Describing SyncingRecords step in
+        let text = descriptor_text (record { mark = batch.mark; homes = batch.homes }) in
+        let size : length text ≡ 4096 =
+        length-descriptor_text batch.mark batch.homes
+        (omega (arith, is.described.homes.few, step.tied.seen_is.super_block.fits.few_slots)) in
+        let x = descriptor_block v.slots batch.journal in
+        let fits = room Describing SyncingRecords step x (descriptor-below v.layout v.slots batch.journal is.there) in
+        let w = own Describing SyncingRecords step in
+        write Describing SyncingRecords step x (length text) text refl (omega (arith, size)) fits
+        (λ b f. (
+          record { journal = λ e. f.journal refl; gate = λ e. false_true e; home = λ e. false_true e },
+          λ e. f.journal refl (inl e),
+        ))
+        refl (inl (λ e. false_true e)) (others Describing SyncingRecords step x
+        (λ q q_is apart. beside_descriptor v new q batch.journal q_is apart is.there))
+        (λ same. record {
+          records = λ l within less.
+              same.blocks (record_block v.slots batch.journal l) (λ e. descriptor_no_record v.slots batch.journal
+              batch.journal l (omega (arith, within, is.described.homes.few)) (sym e))
+              ∙ w.records l within less;
+          descriptor = λ e. block-written x text seen size fits;
+          homes = λ l within less. absurd (omega (arith, less));
+          gate = gate_of Describing SyncingRecords step x
+              (λ e. gate_no_descriptor v.slots batch.journal batch.journal (sym e)) _ same refl;
+        })
+        (contents_with Describing SyncingRecords refl refl) left
+
+    open_step : (bytes : List ℕ) → (step : IsStep Opening Committing)
+        → ((c : List ℕ) → may' c → TornFromWork (work_at (geometry_of v) batch bytes Opening) may c)
+        → IsTiedAt (with_stage Committing) (worked seen (work_at (geometry_of v) batch bytes Opening)) may'
+    open_step bytes step left =
+        let is = is_batch Opening Committing step in
+        let x = gate_block v.slots batch.journal in
+        let fits = room Opening Committing step x (gate-below v.layout v.slots batch.journal is.there) in
+        let w = own Opening Committing step in
+        write Opening Committing step x 1 (0xA7 ∷ []) refl (omega arith) fits
+        (λ b f.
+        (record { journal = λ e. false_true e; gate = λ e. false_true e; home = λ e. false_true e }, f.gate refl))
+        refl (inl (λ e. false_true e))
+        (others Opening Committing step x (λ q q_is apart. beside_gate v new q batch.journal q_is apart is.there))
+        (λ same. record {
+          records = λ l within less.
+              same.blocks (record_block v.slots batch.journal l) (λ e. gate_no_record v.slots batch.journal
+              batch.journal l (omega (arith, within, is.described.homes.few)) (sym e))
+              ∙ w.records l within less;
+          descriptor = λ e. same.blocks (descriptor_block v.slots batch.journal)
+              (λ at_gate. gate_no_descriptor v.slots batch.journal batch.journal (sym at_gate)) ∙ w.descriptor refl;
+          homes = λ l within less. absurd (omega (arith, less));
+          gate = first-written x 0xA7 seen (omega (arith, fits));
+        })
+        (contents_with Opening Committing refl refl) left
+
+    -- a home block, while all newer ones wait with their application
+    apply_step : (i : ℕ) (bytes : List ℕ) → (step : IsStep (Applying i) (next_of (length batch.homes) (Applying i)))
+        → i < length batch.homes → older ≡ [] → AllByRecursion (λ (q : Progress). q.stage ≡ Applying 0) newer
+        → ((c : List ℕ) → may' c → TornFromWork (work_at (geometry_of v) batch bytes (Applying i)) may c)
+        → IsTiedAt (with_stage (next_of (length batch.homes) (Applying i)))
+        (worked seen (work_at (geometry_of v) batch bytes (Applying i))) may'
+    apply_step i bytes step lt oldest waits left =
+        let s = Applying i in
+        let s' = next_of (length batch.homes) s in
+        let to = applied_to (length batch.homes) i in
+        let is = is_batch s s' step in
+        let few : i < v.slots = omega (arith, lt, is.described.homes.few) in
+        let home = home_at (geometry_of v) batch.homes i is.described.homes lt in
+        let x = get_or batch.homes i 0 in
+        let from = record_block v.slots batch.journal i in
+        let fits : 4096 * x + 4096 ≤ length seen = omega (arith, home.high, step.tied.seen_is.long) in
+        let size : length (block_at seen from) ≡ 4096 =
+        length-block_at seen from (room s s' step from (record-below v.layout v.slots batch.journal i is.there few)) in
+        let w = own s s' step in
+        let low : (y : ℕ) → y < first_home v.layout v.slots → y ≢ x =
+        λ y below e. absurd (omega (arith, e, home.low, below)) in
+        let slot : (l : ℕ) → l < length batch.homes → record_block v.slots batch.journal l ≢ x =
+        λ l within. low (record_block v.slots batch.journal l)
+        (record-below v.layout v.slots batch.journal l is.there (omega (arith, within, is.described.homes.few))) in
+        write s s' step x 4096 (block_at seen from) size (omega arith) fits
+        (λ b f. (
+          record { journal = λ e. false_true e; gate = λ e. false_true e; home = λ e. f.home to.applying_is },
+          λ e. f.home to.applying_is (subst (Contains batch.homes) (sym e) (Contains-get_or batch.homes i 0 lt)),
+        ))
+        (sym to.committed_is) (inr oldest) (
+          subst (AllByRecursion (λ (q : Progress). IsBeside v new q x)) (sym oldest) tt,
+          all_both {P = λ (q : Progress). IsBatch (geometry_of v) q.batch}
+              (λ q q_is wait. beside_home v new q x q_is home (ap (applied (length q.batch.homes)) wait)) newer
+              (all_back (λ (p : Progress). IsBatch (geometry_of v) p.batch) older
+              (at batch s ∷ newer) step.going.each).1 waits,
+        )
+        (λ same. record {
+          records = λ l within less. absurd (omega (arith, less, to.recorded_is));
+          descriptor = λ e. same.blocks (descriptor_block v.slots batch.journal)
+              (low (descriptor_block v.slots batch.journal) (descriptor-below v.layout v.slots batch.journal is.there))
+              ∙ w.descriptor refl;
+          homes = λ l within less. elim (cases_eq l i) [
+            | inl here ↦
+                inr (subst (λ n. block_at (written seen (4096 * x) (block_at seen from)) (get_or batch.homes n 0)
+                ≡ block_at (written seen (4096 * x) (block_at seen from)) (record_block v.slots batch.journal n))
+                (sym here)
+                (block-written x (block_at seen from) seen size fits ∙ sym (same.blocks from (slot i lt))))
+            | inr other ↦ elim (w.homes l within (omega (arith, less, to.applied_is))) [
+              | inl covered ↦ inl covered
+              | inr as_record ↦ inr (same.blocks (get_or batch.homes l 0) (homes_apart v batch is l i other within lt)
+                  ∙ as_record ∙ sym (same.blocks (record_block v.slots batch.journal l) (slot l within)))
+            ]
+          ];
+          gate = gate_of s s' step x
+              (λ e. low (gate_block v.slots batch.journal) (gate-below v.layout v.slots batch.journal is.there) (sym e))
+              _ same (sym to.open_is);
+        })
+        (contents_with s s' (sym to.sure_is) (sym to.committed_is)) left
+
+    close_step : (bytes : List ℕ) → (step : IsStep Closing Finishing) → older ≡ []
+        → ((c : List ℕ) → may' c → TornFromWork (work_at (geometry_of v) batch bytes Closing) may c)
+        → IsTiedAt (with_stage Finishing) (worked seen (work_at (geometry_of v) batch bytes Closing)) may'
+    close_step bytes step oldest left =
+        let is = is_batch Closing Finishing step in
+        let x = gate_block v.slots batch.journal in
+        let fits = room Closing Finishing step x (gate-below v.layout v.slots batch.journal is.there) in
+        let w = own Closing Finishing step in
+        let closed : get_or (written seen (4096 * x) (0 ∷ [])) (4096 * x) 0 ≡ 0 =
+        first-written x 0 seen (omega (arith, fits)) in
+        write Closing Finishing step x 1 (0 ∷ []) refl (omega arith) fits
+        (λ b f.
+        (record { journal = λ e. false_true e; gate = λ e. false_true e; home = λ e. false_true e }, f.gate refl))
+        refl (inr oldest)
+        (others Closing Finishing step x (λ q q_is apart. beside_gate v new q batch.journal q_is apart is.there))
+        (λ same. record {
+          records = λ l within less. absurd (omega (arith, less));
+          descriptor = λ e. same.blocks (descriptor_block v.slots batch.journal)
+              (λ at_gate. gate_no_descriptor v.slots batch.journal batch.journal (sym at_gate)) ∙ w.descriptor refl;
+          homes = λ l within less. elim (w.homes l within less) [
+            | inl covered ↦ inl covered
+            | inr as_record ↦ inr (same.blocks (get_or batch.homes l 0) (λ e. let h =
+                home_at (geometry_of v) batch.homes l is.described.homes within in
+                absurd (omega (arith, e, h.low, gate-below v.layout v.slots batch.journal is.there)))
+                ∙ as_record
+                ∙ sym (same.blocks (record_block v.slots batch.journal l) (λ e. gate_no_record v.slots batch.journal
+                batch.journal l (omega (arith, within, is.described.homes.few)) (sym e))))
+          ];
+          gate = λ opens. absurd (omega (arith, closed, opens));
+        })
+        (λ b. subst (λ (l : List Progress). kept_in (l ++ at batch Closing ∷ newer) old new b
+        ≡ contents_in v.slots (sure_in (l ++ at batch Closing ∷ newer)) seen b
+        → kept_in (l ++ at batch Finishing ∷ newer) old new b
+        ≡ contents_in v.slots (sure_in (l ++ at batch Finishing ∷ newer)) seen b) (sym oldest)
+        (λ e. e ∙ standing-without_oldest v.slots (sure_in newer) batch seen (λ i lt. w.homes i lt lt) b
+        ∙ ap (λ (l : List Batch). contents_in v.slots l seen b) (sym (append-nil (sure_in newer))))) left
+
+  -- the newest is committed once its open gate is sure
+  commit_step : (older : List Progress) (batch : Batch) (seen : List ℕ) (may may' : List ℕ → Type 0)
+      → IsStep older [] batch seen may may' Committing (Applying 0) → ((c : List ℕ) → may' c → c ≡ seen)
+      → IsTiedAt (older ++ at batch (Applying 0) ∷ []) seen may'
+  commit_step older batch seen may may' step synced =
+      let newest = λ (s : Stage). older ++ at batch s ∷ [] in
+      let is = step.tied.seen_is in
+      let w = own older [] batch seen may may' Committing (Applying 0) step in
+      let it = in_right older (at batch Committing ∷ []) (at batch Committing) (inl refl) in
+      let early : is_under_way (newest Committing) ≡ true =
+      under_way (newest Committing) (at batch Committing) it refl in
+      let late : is_under_way (newest (Applying 0)) ≡ false =
+      not_way (newest (Applying 0))
+      (all-append (λ (p : Progress). is_committed p.stage ≡ true) older (at batch (Applying 0) ∷ [])
+      (all_map {P = λ (q : Progress). IsBefore q (at batch Committing)}
+      (λ q before. before.committed) older (older_than older [] (at batch Committing) step.going.ordered))
+      (refl, tt)) in
+      let base = subst (λ (l : List Batch). HoldsBy v l old seen) (sure_push older (at batch Committing))
+      (subst (λ (f : ℕ → List ℕ). HoldsBy v (sure_in (newest Committing)) f seen) (ap (λ b. cond b old new) early)
+      (holds_left v (newest Committing) step.going old new seen seen is
+      (left_same (newest Committing) seen seen refl))) in
+      let lower = sure_all (λ (b : Batch). b.mark < batch.mark) older
+      (all_map {P = λ (q : Progress). IsBefore q (at batch Committing)} (λ q before sure. before.marks) older
+      (older_than older [] (at batch Committing) step.going.ordered)) in
+      let all = holds_newest v (sure_in older) old new batch seen base
+      (is_batch older [] batch seen may may' Committing (Applying 0) step) (newer_than batch (sure_in older) lower)
+      w.gate (w.descriptor refl) (λ i lt. w.records i lt lt)
+      (all_in IsOutside (newest Committing) (at batch Committing) is.outside it refl) in
+      record {
+        seen_is = seen_moves (newest (Applying 0)) step.going' seen seen
+            (left_same (newest (Applying 0)) seen seen refl) is.super_block is.long
+            (written_same v new older [] batch Committing (Applying 0) seen (λ e. false_true e)
+            (record {
+              records = λ l within less. absurd (omega (arith, less));
+              descriptor = λ e. w.descriptor refl;
+              homes = λ l within less. absurd (omega (arith, less));
+              gate = w.gate;
+            }) is.written)
+            (λ j lt none. is.shut j lt
+            (all_replaced (IsApart j) older (at batch (Applying 0)) (at batch Committing) [] (λ other. other) none))
+            (λ b home. ap (λ t. cond t old new b) late ∙ all.contents_are b home
+            ∙ ap (λ (l : List Batch). contents_in v.slots l seen b) (sym (sure_push older (at batch (Applying 0)))))
+            (all_replaced IsOutside older (at batch Committing) (at batch (Applying 0)) []
+            (λ before e. false_true (sym e)) is.outside);
+        left_are = λ c may_c. left_same (newest (Applying 0)) seen c (synced c may_c);
+      }
+
+  -- the last step of the oldest: its gate is surely closed
+  pub finish_step : (batch : Batch) (newer : List Progress) (seen : List ℕ) (may may' : List ℕ → Type 0)
+      → AreGoing (geometry_of v) newer → IsTiedAt (at batch Finishing ∷ newer) seen may
+      → ((c : List ℕ) → may' c → c ≡ seen)
+      → IsTiedAt newer seen may'
+  finish_step batch newer seen may may' going' tied synced =
+      let is = tied.seen_is in
+      record {
+        seen_is = seen_moves newer going' seen seen (left_same newer seen seen refl) is.super_block is.long is.written.1
+            (λ j lt others. elim (cases_eq batch.journal j) [
+              | inl mine ↦ (λ opens. is.written.0.gate (subst (IsOpen seen v.slots) (sym mine) opens))
+              | inr other ↦ is.shut j lt (other, others)
+            ])
+            (λ b home.
+            is.contents b home ∙ ap (λ (l : List Batch). contents_in v.slots l seen b) (append-nil (sure_in newer)))
+            is.outside.1;
+        left_are = λ c may_c. left_same newer seen c (synced c may_c);
+      }
+
+  -- ---- a step of any stage but the last, whose device calls succeed
+
+  module _ (older newer : List Progress) (batch : Batch) (seen : List ℕ) (may : List ℕ → Type 0) (bytes : List ℕ) where
+    -- what it takes
+    abbrev pub IsPlaced : Stage → Type 0
+    IsPlaced (Recording i) = (i < length batch.homes) × (length bytes ≡ 4096) × (bytes ≡ new (get_or batch.homes i 0))
+    IsPlaced Committing = newer ≡ []
+    IsPlaced (Applying i) =
+        (i < length batch.homes) × (older ≡ []) × AllByRecursion (λ (q : Progress). q.stage ≡ Applying 0) newer
+    IsPlaced Closing = older ≡ []
+    IsPlaced Finishing = ⊥
+    IsPlaced s = Unit {0}
+
+    pub step_after : (s : Stage) (may' : List ℕ → Type 0)
+        → IsStep older newer batch seen may may' s (next_of (length batch.homes) s) → IsPlaced s
+        → ((c : List ℕ) → may' c → TornFromWork (work_at (geometry_of v) batch bytes s) may c)
+        → (work_at (geometry_of v) batch bytes s ≡ Sync → (c : List ℕ) → may' c → c ≡ seen)
+        → IsTiedAt (older ++ at batch (next_of (length batch.homes) s) ∷ newer)
+        (worked seen (work_at (geometry_of v) batch bytes s)) may'
+    step_after (Recording i) may' step placed left sure =
+        record_step older newer batch seen may may' i bytes step placed.0 placed.1 placed.2 left
+    step_after Describing may' step placed left sure = describe_step older newer batch seen may may' bytes step left
+    step_after SyncingRecords may' step placed left sure =
+        let w = own older newer batch seen may may' SyncingRecords Opening step in
+        sync older newer batch seen may may' SyncingRecords Opening step refl refl
+        (record {
+          records = w.records;
+          descriptor = w.descriptor;
+          homes = λ l within less. absurd (omega (arith, less));
+          gate = w.gate;
+        }) (sure refl)
+    step_after Opening may' step placed left sure = open_step older newer batch seen may may' bytes step left
+    step_after Committing may' step placed left sure =
+        subst (λ (l : List Progress). IsStep older l batch seen may may' Committing (Applying 0)
+        → IsTiedAt (older ++ at batch (Applying 0) ∷ l) seen may') (sym placed)
+        (λ alone. commit_step older batch seen may may' alone (sure refl)) step
+    step_after (Applying i) may' step placed left sure =
+        apply_step older newer batch seen may may' i bytes step placed.0 placed.1 placed.2 left
+    step_after SyncingHomes may' step placed left sure =
+        let w = own older newer batch seen may may' SyncingHomes Closing step in
+        sync older newer batch seen may may' SyncingHomes Closing step refl refl
+        (record { records = w.records; descriptor = w.descriptor; homes = w.homes; gate = w.gate }) (sure refl)
+    step_after Closing may' step placed left sure = close_step older newer batch seen may may' bytes step placed left
+    step_after Finishing may' step placed left sure = absurd placed
+
+  -- ---- what a crash leaves
+
+  -- where all are committed, New; else Old, or New while a gate opens
+  abbrev pub IsOutcome : Stage → List ℕ → Type 0
+  IsOutcome s c =
+      MatchBool (is_committed s) (Recovers v new c) (Recovers v old c ⊎ ((s ≡ Committing) × Recovers v new c))
+
+  module _ (older newer : List Progress) (batch : Batch) (s : Stage) (seen c : List ℕ) (may : List ℕ → Type 0)
+      (going : AreGoing (geometry_of v) (older ++ at batch s ∷ newer))
+      (none : is_committed s ≡ true → is_under_way (older ++ at batch s ∷ newer) ≡ false)
+      (tied : IsTiedAt (older ++ at batch s ∷ newer) seen may) (left : may c) where
+    found : Recovers v (kept_in (older ++ at batch s ∷ newer) old new) c
+        ⊎ (IsGateOpening (older ++ at batch s ∷ newer) × Recovers v new c)
+    found = left_recovers v (older ++ at batch s ∷ newer) going old new seen c tied.seen_is (tied.left_are c left)
+
+    pub outcome : IsOutcome s c
+    outcome = by (is_committed s) refl
       where
-        done_seen : Applied seen Finishing → IsSeen v newer old new seen
-        done_seen was = record {
-          recovers = subst (λ (f : ℕ → List ℕ). RecoversBy v (open_in newer) f seen) (sym (contents_committed (stage_in newer) old new (stage_committed newer none)))
-              (subst (λ (l : List Batch). RecoversBy v l new seen) (append-nil (open_in newer)) was.recovers);
-          each = waiting_written seen newer (waiting w newer older none);
-          outside = λ x e not_committed. absurd (both_ways (has_committed x) not_committed (current_committed newer x none e));
-        }
+        its_stage : is_committed s ≡ false → IsGateOpening (older ++ at batch s ∷ newer) → s ≡ Committing
+        its_stage early g = elim
+            (all_in (λ (q : Progress). (q ≡ at batch s) ⊎ IsBefore q (at batch s)) (older ++ at batch s ∷ newer) g.it
+            (last_of (older ++ at batch s ∷ newer) (at batch s) going.ordered early
+            (in_right older (at batch s ∷ newer) (at batch s) (inl refl))) g.there) [
+              | inl same ↦ ap (λ (q : Progress). q.stage) (sym same) ∙ g.stage
+              | inr before ↦ absurd (both_ways (is_committed g.it.stage) (ap is_committed g.stage) before.committed)
+            ]
+
+        by : (b : Bool) → is_committed s ≡ b
+            → MatchBool b (Recovers v new c) (Recovers v old c ⊎ ((s ≡ Committing) × Recovers v new c))
+        by true late = elim found [
+          | inl kept ↦ subst (λ (f : ℕ → List ℕ). Recovers v f c) (ap (λ b. cond b old new) (none late)) kept
+          | inr opens ↦ opens.1
+        ]
+        by false early = elim found [
+          | inl kept ↦ inl (subst (λ (f : ℕ → List ℕ). Recovers v f c)
+              (ap (λ b. cond b old new) (under_way (older ++ at batch s ∷ newer) (at batch s)
+              (in_right older (at batch s ∷ newer) (at batch s) (inl refl)) early)) kept)
+          | inr opens ↦ inr (its_stage early opens.0, opens.1)
+        ]
+
+  -- as it is told of the stage of the next step
+  pub outcome_before : (s : Stage) (c : List ℕ) → IsOutcome s c → LeftBefore v old new (Some s) c
+  outcome_before (Recording i) c (inl is) = is
+  outcome_before Describing c (inl is) = is
+  outcome_before SyncingRecords c (inl is) = is
+  outcome_before Opening c (inl is) = is
+  outcome_before Committing c (inl is) = inl is
+  outcome_before (Recording i) c (inr is) = cc
+  outcome_before Describing c (inr is) = cc
+  outcome_before SyncingRecords c (inr is) = cc
+  outcome_before Opening c (inr is) = cc
+  outcome_before Committing c (inr is) = inr is.1
+  outcome_before (Applying i) c is = is
+  outcome_before SyncingHomes c is = is
+  outcome_before Closing c is = is
+  outcome_before Finishing c is = is
+
+  -- what may be left before a step may be left within it
+  pub before_within : (o : Option Stage) (c : List ℕ) → LeftBefore v old new o c → LeftWithin v old new o c
+  before_within None c left = left
+  before_within (Some (Recording i)) c left = left
+  before_within (Some Describing) c left = left
+  before_within (Some SyncingRecords) c left = left
+  before_within (Some Opening) c left = inl left
+  before_within (Some Committing) c left = left
+  before_within (Some (Applying i)) c left = left
+  before_within (Some SyncingHomes) c left = left
+  before_within (Some Closing) c left = left
+  before_within (Some Finishing) c left = left
+
+  -- where a step writes, what a crash leaves within it is what one leaves after it
+  after_within : (k : ℕ) (s : Stage) (c : List ℕ) → s ≢ Committing → IsOutcome (next_of k s) c
+      → LeftWithin v old new (Some s) c
+  after_within k (Recording i) c other is =
+      cond_both (i + 1 == k) Describing (Recording (i + 1)) (λ t. IsOutcome t c → Recovers v old c)
+      (λ e found. elim found [ inl old_is ↦ old_is | inr new_is ↦ cc ])
+      (λ e found. elim found [ inl old_is ↦ old_is | inr new_is ↦ cc ]) is
+  after_within k Describing c other (inl is) = is
+  after_within k Describing c other (inr is) = cc
+  after_within k SyncingRecords c other (inl is) = is
+  after_within k SyncingRecords c other (inr is) = cc
+  after_within k Opening c other (inl is) = inl is
+  after_within k Opening c other (inr is) = inr is.1
+  after_within k Committing c other is = absurd (other refl)
+  after_within k (Applying i) c other is = cond_both (i + 1 == k) SyncingHomes (Applying (i + 1))
+      (λ t. IsOutcome t c → Recovers v new c) (λ e found. found) (λ e found. found) is
+  after_within k SyncingHomes c other is = is
+  after_within k Closing c other is = is
+  after_within k Finishing c other is = is
+
+  is_sync : (g : GeometryValue) (batch : Batch) (bytes : List ℕ) (s : Stage)
+      → (work_at g batch bytes s ≡ Sync) ⊎ ((work_at g batch bytes s ≢ Sync) × (s ≢ Committing) × (s ≢ Finishing))
+  is_sync g batch bytes (Recording i) = inr (λ e. cc, λ e. cc, λ e. cc)
+  is_sync g batch bytes Describing = inr (λ e. cc, λ e. cc, λ e. cc)
+  is_sync g batch bytes SyncingRecords = inl refl
+  is_sync g batch bytes Opening = inr (λ e. cc, λ e. cc, λ e. cc)
+  is_sync g batch bytes Committing = inl refl
+  is_sync g batch bytes (Applying i) = inr (λ e. cc, λ e. cc, λ e. cc)
+  is_sync g batch bytes SyncingHomes = inl refl
+  is_sync g batch bytes Closing = inr (λ e. cc, λ e. cc, λ e. cc)
+  is_sync g batch bytes Finishing = inl refl
+
+  pub step_within : (older newer : List Progress) (batch : Batch)
+      (seen : List ℕ) (may : List ℕ → Type 0) (bytes : List ℕ) (s : Stage)
+      → AreGoing (geometry_of v) (older ++ at batch s ∷ newer)
+      → (s ≢ Finishing → AreGoing (geometry_of v) (older ++ at batch (next_of (length batch.homes) s) ∷ newer))
+      → (s ≢ Finishing → IsPlaced older newer batch seen may bytes s)
+      → ((t : Stage) → is_committed t ≡ true → is_under_way (older ++ at batch t ∷ newer) ≡ false)
+      → IsTiedAt (older ++ at batch s ∷ newer) seen may → (c : List ℕ)
+      → TornFromWork (work_at (geometry_of v) batch bytes s) may c
+      → LeftWithin v old new (Some s) c
+  step_within older newer batch seen may bytes s going going' placed none tied c torn =
+      elim (is_sync (geometry_of v) batch bytes s) [
+        | inl syncs ↦ before_within (Some s) c (outcome_before s c (outcome older newer batch s seen c may going
+            (none s) tied (subst (λ (work : Work). TornFromWork work may c) syncs torn)))
+        | inr writes ↦
+            (let s' = next_of (length batch.homes) s in
+            let may' = TornFromWork (work_at (geometry_of v) batch bytes s) may in
+            let next = going' writes.2 in
+            after_within (length batch.homes) s c writes.1
+            (outcome older newer batch s' (worked seen (work_at (geometry_of v) batch bytes s)) c may' next (none s')
+            (step_after older newer batch seen may bytes s may' (record { going = going; going' = next; tied = tied })
+            (placed writes.2) (λ d t. t) (λ e d t. absurd (writes.0 e))) torn))
+      ]

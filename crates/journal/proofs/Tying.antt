@@ -1,129 +1,152 @@
--- What ties write-outs to the device, taken apart by the write-out whose step comes next, and put together again.
-use Rattle.std.proofs.Common.{◌≡◌, ℕ, Bool, true, false, cond, List, [], ◌∷◌, ◌++◌, Option, Some, None, refl, sym, ap, ◌∙◌, subst}
-use Rattle.std.specs.Prelude.{IfSome, MatchOption}
-use Rattle.std.specs.List.{Contains}
-use Rattle.std.specs.Option.{option_map_or, option_and_then}
+-- Write-outs by the stages of their next steps, and their order.
+use Rattle.std.proofs.Common.{◌≡◌, ◌≢◌, ◌<◌, ◌⊎◌, inl, inr, true, false, not, ◌||◌, List}
+use Rattle.std.proofs.Common.{[], ◌∷◌, ◌++◌, Option, Some, None, refl, sym, ap, ◌∙◌, subst}
+use Rattle.std.specs.Prelude.{IsSome}
+use Rattle.std.specs.List.{AllByRecursion}
+use Rattle.std.specs.Option.{option_map_or}
 use Rattle.std.proofs.lemmas.Bool.{both_ways}
-use Rattle.volume_codec.specs.Super.{SuperValue}
-use Rattle.volume_codec.specs.Recovery.{Batch}
+use Rattle.volume_codec.specs.Layout.{GeometryValue}
 use Rattle.journal.specs.declared.stage.Stage.{Stage}
-use Rattle.journal.specs.declared.stage.Stage.TheVariants.{Recording, Describing, SyncingRecords, Opening, Committing, Applying, SyncingHomes, Closing, Finishing}
+use Rattle.journal.specs.declared.stage.Stage.TheVariants.{Applying, Finishing}
 use Rattle.journal.specs.Stage.{is_committed}
-use Rattle.journal.specs.WriteOut.{WriteOut, next_stage, has_committed}
+use Rattle.journal.specs.WriteOut.{WriteOut, IsBatch, next_stage, has_committed}
 use Rattle.journal.specs.WriteOuts.{has_uncommitted}
-use Rattle.journal.specs.Recovered.{RecoversBy}
-use Rattle.journal.specs.inside.Tied.{is_open, open_in, contents_at, stage_in, IsWritten, IsSeen, IsLeftAt, CrashLeaves}
-use Rattle.journal.proofs.Alls.{all-append, all_front, all_back}
-use Rattle.journal.proofs.Batches.{current-newest, current-oldest, open_of-at, open_in-newest, committed-at}
-use Rattle.journal.proofs.Written.{AreWritten}
-use Rattle.journal.proofs.Recorded.{IsRecording}
-use Rattle.journal.proofs.Applied.{IsApplying}
+use Rattle.journal.specs.inside.Sound.{IsWriteOut, IsOlder, AreInOrder}
+use Rattle.journal.specs.inside.Tied.{Progress, progress_of, progress_in, is_under_way}
+use Rattle.journal.proofs.Alls.{IsIn, all_map, all_in}
+use Rattle.journal.proofs.Batches.{committed-at}
 
 pub false_true : {A : Type 0} → false ≡ true → A
 false_true e = absurd (both_ways false refl e)
 
--- a committed stage finds New
-pub contents_committed : (o : Option Stage) (old new : ℕ → List ℕ) → option_map_or is_committed o true ≡ true → contents_at o old new ≡ new
-contents_committed None old new e = refl
-contents_committed (Some (Recording i)) old new e = false_true e
-contents_committed (Some Describing) old new e = false_true e
-contents_committed (Some SyncingRecords) old new e = false_true e
-contents_committed (Some Opening) old new e = false_true e
-contents_committed (Some Committing) old new e = refl
-contents_committed (Some (Applying i)) old new e = refl
-contents_committed (Some SyncingHomes) old new e = refl
-contents_committed (Some Closing) old new e = refl
-contents_committed (Some Finishing) old new e = refl
+-- the stage of a write-out that isn't done
+pub stage_of : (w : WriteOut) → IsSome (next_stage w) → (stage : Stage) × (next_stage w ≡ Some stage)
+stage_of w going = by (next_stage w) refl going
+  where
+    by : (o : Option Stage) → next_stage w ≡ o → IsSome o → (stage : Stage) × (next_stage w ≡ Some stage)
+    by None e h = false_true h
+    by (Some stage) e h = (stage, e)
 
-module _ (v : SuperValue) (old new : ℕ → List ℕ) where
-  -- ---- the newest, which isn't committed
+-- ---- order
 
-  module _ (others : List WriteOut) (w : WriteOut) (stage : Stage) (at : next_stage w ≡ Some stage) (early : is_committed stage ≡ false) where
-    uncommitted : has_committed w ≡ false
-    uncommitted = committed-at w stage at ∙ early
+-- The write-out of one batch is before that of another: it is committed, and the other one, if it is committed, waits
+-- with its application.
+pub record IsBefore (older newer : Progress) : Type 0 where
+  pub marks : older.batch.mark < newer.batch.mark
+  pub journals : older.batch.journal ≢ newer.batch.journal
+  pub committed : is_committed older.stage ≡ true
+  pub waits : is_committed newer.stage ≡ true → newer.stage ≡ Applying 0
 
-    stage_is : stage_in (others ++ w ∷ []) ≡ Some stage
-    stage_is = ap (option_and_then next_stage) (current-newest others w uncommitted) ∙ at
+abbrev pub AreOrdered : List Progress → Type 0
+AreOrdered [] = Unit {0}
+AreOrdered (p ∷ newer) = AllByRecursion (IsBefore p) newer × AreOrdered newer
 
-    abbrev gates : List Batch → List Batch
-    gates base = cond (is_open stage) (w.batch ∷ base) base
+-- batches of a volume, in order
+pub record AreGoing (g : GeometryValue) (progress : List Progress) : Type 0 where
+  pub each : AllByRecursion (λ (p : Progress). IsBatch g p.batch) progress
+  pub ordered : AreOrdered progress
 
-    gates_are : open_in (others ++ w ∷ []) ≡ gates (open_in others)
-    gates_are = open_in-newest others w ∙ ap (λ (l : List Batch). l ++ open_in others) (open_of-at w stage at) ∙ by (is_open stage)
-      where
-        by : (b : Bool) → cond b (w.batch ∷ []) [] ++ open_in others ≡ cond b (w.batch ∷ open_in others) (open_in others)
-        by true = refl
-        by false = refl
+abbrev pub at_stage : WriteOut → Stage → Progress
+at_stage w stage = record { batch = w.batch; stage = stage }
 
-    pub seen_recording : (seen : List ℕ) → IsSeen v (others ++ w ∷ []) old new seen → IsRecording v old new (open_in others) w.batch seen stage
-    seen_recording seen is = record {
-      recovers = subst (λ (l : List Batch). RecoversBy v l (contents_at (Some stage) old new) seen) gates_are
-          (subst (λ (o : Option Stage). RecoversBy v (open_in (others ++ w ∷ [])) (contents_at o old new) seen) stage_is is.recovers);
-      written_is = subst (λ (o : Option Stage). IfSome o (IsWritten v new w.batch seen)) at (all_back (λ (x : WriteOut). IfSome (next_stage x) (IsWritten v new x.batch seen)) others (w ∷ []) is.each).0;
-      outside = is.outside w (current-newest others w uncommitted) uncommitted;
-    }
+pub progress-oldest : (w : WriteOut) (newer : List WriteOut) (stage : Stage) → next_stage w ≡ Some stage
+    → progress_in (w ∷ newer) ≡ at_stage w stage ∷ progress_in newer
+progress-oldest w newer stage at =
+    ap (λ (o : Option Stage). option_map_or (λ (s : Stage). at_stage w s ∷ []) o [] ++ progress_in newer) at
 
-    pub seen_others : (seen : List ℕ) → IsSeen v (others ++ w ∷ []) old new seen → AreWritten v new seen others
-    seen_others seen is = all_front (λ (x : WriteOut). IfSome (next_stage x) (IsWritten v new x.batch seen)) others (w ∷ []) is.each
+pub progress-newest : (older : List WriteOut) (w : WriteOut) (stage : Stage) → next_stage w ≡ Some stage
+    → progress_in (older ++ w ∷ []) ≡ progress_in older ++ at_stage w stage ∷ []
+progress-newest [] w stage at = progress-oldest w [] stage at
+progress-newest (x ∷ older) w stage at =
+    ap (λ (l : List Progress). progress_of x ++ l) (progress-newest older w stage at) ∙ by (next_stage x)
+  where
+    by : (o : Option Stage)
+        → option_map_or (λ (s : Stage). at_stage x s ∷ []) o [] ++ (progress_in older ++ at_stage w stage ∷ [])
+        ≡ (option_map_or (λ (s : Stage). at_stage x s ∷ []) o [] ++ progress_in older) ++ at_stage w stage ∷ []
+    by None = refl
+    by (Some s) = refl
 
-    pub recording_seen : (seen : List ℕ) → IsRecording v old new (open_in others) w.batch seen stage → AreWritten v new seen others → IsSeen v (others ++ w ∷ []) old new seen
-    recording_seen seen is are = record {
-      recovers = subst (λ (o : Option Stage). RecoversBy v (open_in (others ++ w ∷ [])) (contents_at o old new) seen) (sym stage_is)
-          (subst (λ (l : List Batch). RecoversBy v l (contents_at (Some stage) old new) seen) (sym gates_are) is.recovers);
-      each = all-append (λ (x : WriteOut). IfSome (next_stage x) (IsWritten v new x.batch seen)) others (w ∷ []) are (subst (λ (o : Option Stage). IfSome o (IsWritten v new w.batch seen)) (sym at) is.written_is, tt);
-      outside = λ x is_current not_committed.
-          let same : x ≡ w = some_same (sym is_current ∙ current-newest others w uncommitted) in
-          subst (λ (y : WriteOut). (b : ℕ) → (Contains y.batch.homes b → ⊥) → new b ≡ old b) (sym same) is.outside;
-    }
-      where
-        some_same : {x y : WriteOut} → Some x ≡ Some y → x ≡ y
-        some_same e = cc
+-- what each write-out has at the stage of its next step
+pub progress_all : (P : Progress → Type 0) (batches : List WriteOut)
+    → AllByRecursion (λ (w : WriteOut). (s : Stage) → next_stage w ≡ Some s → P (at_stage w s)) batches
+    → AllByRecursion P (progress_in batches)
+progress_all P [] each = tt
+progress_all P (w ∷ newer) each = by (next_stage w) each.0 (progress_all P newer each.1)
+  where
+    by : (o : Option Stage) → ((s : Stage) → o ≡ Some s → P (at_stage w s)) → AllByRecursion P (progress_in newer)
+        → AllByRecursion P (option_map_or (λ (s : Stage). at_stage w s ∷ []) o [] ++ progress_in newer)
+    by None own rest = rest
+    by (Some s) own rest = (own s refl, rest)
 
-    pub newest_left : (seen c : List ℕ) → IsLeftAt v (others ++ w ∷ []) old new seen c w.batch.journal stage → CrashLeaves v (others ++ w ∷ []) old new seen c
-    newest_left seen c is =
-        subst (λ (o : Option WriteOut). MatchOption o (c ≡ seen) (λ (x : WriteOut). MatchOption (next_stage x) (c ≡ seen) (IsLeftAt v (others ++ w ∷ []) old new seen c x.batch.journal))) (sym (current-newest others w uncommitted))
-        (subst (λ (o : Option Stage). MatchOption o (c ≡ seen) (IsLeftAt v (others ++ w ∷ []) old new seen c w.batch.journal)) (sym at) is)
+before_of : (w x : WriteOut) (s t : Stage) → next_stage w ≡ Some s → next_stage x ≡ Some t → IsOlder w x
+    → IsBefore (at_stage w s) (at_stage x t)
+before_of w x s t at_w at_x is = record {
+  marks = is.marks;
+  journals = is.journals;
+  committed = sym (committed-at w s at_w) ∙ is.committed;
+  waits = λ late. same_stage (sym at_x ∙ is.waits (committed-at x t at_x ∙ late));
+}
+  where
+    same_stage : {a b : Stage} → Some a ≡ Some b → a ≡ b
+    same_stage e = cc
 
-    pub left_newest : (seen c : List ℕ) → CrashLeaves v (others ++ w ∷ []) old new seen c → IsLeftAt v (others ++ w ∷ []) old new seen c w.batch.journal stage
-    left_newest seen c is =
-        subst (λ (o : Option Stage). MatchOption o (c ≡ seen) (IsLeftAt v (others ++ w ∷ []) old new seen c w.batch.journal)) at
-        (subst (λ (o : Option WriteOut). MatchOption o (c ≡ seen) (λ (x : WriteOut). MatchOption (next_stage x) (c ≡ seen) (IsLeftAt v (others ++ w ∷ []) old new seen c x.batch.journal))) (current-newest others w uncommitted) is)
+pub going_of : (g : GeometryValue) (batches : List WriteOut) → AllByRecursion (IsWriteOut g) batches
+    → AreInOrder batches → AreGoing g (progress_in batches)
+going_of g [] each ordered = record { each = tt; ordered = tt }
+going_of g (w ∷ newer) each ordered =
+    let s = stage_of w each.0.going in
+    let rest = going_of g newer each.1 ordered.1 in
+    let later = progress_all (IsBefore (at_stage w s.0)) newer
+    (all_map {P = IsOlder w}
+    {Q = λ (x : WriteOut). (t : Stage) → next_stage x ≡ Some t → IsBefore (at_stage w s.0) (at_stage x t)}
+    (λ x is t at. before_of w x s.0 t s.1 at is) newer ordered.0) in
+    subst (AreGoing g) (sym (progress-oldest w newer s.0 s.1))
+    (record { each = (each.0.batch, rest.each); ordered = (later, rest.ordered) })
 
-  -- ---- the oldest, where all are committed
+-- whether a batch isn't committed
+pub under_way-is : (g : GeometryValue) (batches : List WriteOut) → AllByRecursion (IsWriteOut g) batches
+    → is_under_way (progress_in batches) ≡ has_uncommitted batches
+under_way-is g [] each = refl
+under_way-is g (w ∷ newer) each =
+    let s = stage_of w each.0.going in
+    ap is_under_way (progress-oldest w newer s.0 s.1)
+    ∙ ap (λ b. not b || is_under_way (progress_in newer)) (sym (committed-at w s.0 s.1))
+    ∙ ap (λ b. not (has_committed w) || b) (under_way-is g newer each.1)
 
-  module _ (w : WriteOut) (newer : List WriteOut) (none : has_uncommitted newer ≡ false) (stage : Stage) (at : next_stage w ≡ Some stage) (late : is_committed stage ≡ true) where
-    old_stage : stage_in (w ∷ newer) ≡ Some stage
-    old_stage = ap (option_and_then next_stage) (current-oldest w newer none) ∙ at
+-- ---- one of them
 
-    pub old_gates : open_in (w ∷ newer) ≡ open_in newer ++ cond (is_open stage) (w.batch ∷ []) []
-    old_gates = ap (λ (l : List Batch). open_in newer ++ l) (open_of-at w stage at)
+-- a journal belongs to one write-out
+pub one_stage : (progress : List Progress) (p : Progress) → AreOrdered progress → IsIn p progress
+    → AllByRecursion (λ (q : Progress). q.batch.journal ≡ p.batch.journal → q.stage ≡ p.stage) progress
+one_stage [] p ordered there = absurd there
+one_stage (q ∷ newer) p ordered (inl is) = (
+  λ e. ap (λ (x : Progress). x.stage) is,
+  all_map {P = IsBefore q} {Q = λ (r : Progress). r.batch.journal ≡ p.batch.journal → r.stage ≡ p.stage}
+      (λ r before e. absurd (before.journals (ap (λ (x : Progress). x.batch.journal) is ∙ sym e))) newer ordered.0,
+)
+one_stage (q ∷ newer) p ordered (inr later) =
+    (λ e. absurd ((all_in (IsBefore q) newer p ordered.0 later).journals e), one_stage newer p ordered.1 later)
 
-    pub seen_applying : (seen : List ℕ) → IsSeen v (w ∷ newer) old new seen → IsApplying v new (open_in newer) w.batch seen stage
-    seen_applying seen is = record {
-      recovers = subst (λ (l : List Batch). RecoversBy v l new seen) old_gates
-          (subst (λ (f : ℕ → List ℕ). RecoversBy v (open_in (w ∷ newer)) f seen) (ap (λ (o : Option Stage). contents_at o old new) old_stage ∙ contents_committed (Some stage) old new late) is.recovers);
-      written_is = subst (λ (o : Option Stage). IfSome o (IsWritten v new w.batch seen)) at is.each.0;
-    }
+-- no other one is newer than one that isn't committed
+pub last_of : (progress : List Progress) (p : Progress) → AreOrdered progress → is_committed p.stage ≡ false
+    → IsIn p progress → AllByRecursion (λ (q : Progress). (q ≡ p) ⊎ IsBefore q p) progress
+last_of [] p ordered early there = absurd there
+last_of (q ∷ newer) p ordered early (inl is) = (inl is, none newer ordered.0)
+  where
+    none : (rest : List Progress) → AllByRecursion (IsBefore q) rest
+        → AllByRecursion (λ (r : Progress). (r ≡ p) ⊎ IsBefore r p) rest
+    none [] after = tt
+    none (r ∷ rest) after =
+        absurd (both_ways (is_committed p.stage) early
+        (ap (λ (x : Progress). is_committed x.stage) (sym is) ∙ after.0.committed))
+last_of (q ∷ newer) p ordered early (inr later) =
+    (inr (all_in (IsBefore q) newer p ordered.0 later), last_of newer p ordered.1 early later)
 
-    pub applying_seen : (seen : List ℕ) → IsApplying v new (open_in newer) w.batch seen stage → AreWritten v new seen newer → IsSeen v (w ∷ newer) old new seen
-    applying_seen seen is are = record {
-      recovers = subst (λ (f : ℕ → List ℕ). RecoversBy v (open_in (w ∷ newer)) f seen) (sym (ap (λ (o : Option Stage). contents_at o old new) old_stage ∙ contents_committed (Some stage) old new late))
-          (subst (λ (l : List Batch). RecoversBy v l new seen) (sym old_gates) is.recovers);
-      each = (subst (λ (o : Option Stage). IfSome o (IsWritten v new w.batch seen)) (sym at) is.written_is, are);
-      outside = λ x is_current not_committed.
-          let same : x ≡ w = some_same (sym is_current ∙ current-oldest w newer none) in
-          absurd (both_ways (has_committed w) (subst (λ (y : WriteOut). has_committed y ≡ false) same not_committed) (committed-at w stage at ∙ late));
-    }
-      where
-        some_same : {x y : WriteOut} → Some x ≡ Some y → x ≡ y
-        some_same e = cc
-
-    pub oldest_left : (seen c : List ℕ) → IsLeftAt v (w ∷ newer) old new seen c w.batch.journal stage → CrashLeaves v (w ∷ newer) old new seen c
-    oldest_left seen c is =
-        subst (λ (o : Option WriteOut). MatchOption o (c ≡ seen) (λ (x : WriteOut). MatchOption (next_stage x) (c ≡ seen) (IsLeftAt v (w ∷ newer) old new seen c x.batch.journal))) (sym (current-oldest w newer none))
-        (subst (λ (o : Option Stage). MatchOption o (c ≡ seen) (IsLeftAt v (w ∷ newer) old new seen c w.batch.journal)) (sym at) is)
-
-    pub left_oldest : (seen c : List ℕ) → CrashLeaves v (w ∷ newer) old new seen c → IsLeftAt v (w ∷ newer) old new seen c w.batch.journal stage
-    left_oldest seen c is =
-        subst (λ (o : Option Stage). MatchOption o (c ≡ seen) (IsLeftAt v (w ∷ newer) old new seen c w.batch.journal)) at
-        (subst (λ (o : Option WriteOut). MatchOption o (c ≡ seen) (λ (x : WriteOut). MatchOption (next_stage x) (c ≡ seen) (IsLeftAt v (w ∷ newer) old new seen c x.batch.journal))) (current-oldest w newer none) is)
+-- the oldest is committed where another one follows, and none that follows is at its last step
+pub not_finishing : (p : Progress) (newer : List Progress) → AllByRecursion (IsBefore p) newer
+    → AllByRecursion (λ (q : Progress). q.stage ≢ Finishing) newer
+not_finishing p newer after = all_map {P = IsBefore p} {Q = λ (q : Progress). q.stage ≢ Finishing}
+    (λ q before e. other (sym e ∙ before.waits (ap is_committed e))) newer after
+  where
+    other : Finishing ≡ Applying 0 → ⊥
+    other e = cc

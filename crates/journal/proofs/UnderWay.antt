@@ -1,5 +1,7 @@
 -- One step more towards the end of a batch that recovery found.
-use Rattle.std.proofs.Common.{◌≡◌, ◌≢◌, ℕ, zero, suc, ◌+◌, ◌*◌, ◌^◌, ◌<◌, ◌≤◌, ◌⊎◌, inl, inr, Bool, true, false, List, [], ◌∷◌, ◌++◌, length, get_or, Option, Some, None, Ok, Err, refl, sym, ap, ◌∙◌, subst, arith}
+use Rattle.std.proofs.Common.{◌≡◌, ◌≢◌, ℕ, zero, suc, ◌+◌, ◌*◌, ◌^◌, ◌<◌, ◌≤◌, ◌⊎◌, inl}
+use Rattle.std.proofs.Common.{inr, Bool, true, false, List, [], ◌∷◌, ◌++◌, length, get_or}
+use Rattle.std.proofs.Common.{Option, Some, None, Ok, Err, refl, sym, ap, ◌∙◌, subst, arith}
 use Rattle.std.specs.List.{AllByRecursion}
 use Rattle.std.specs.Option.{option_map_or}
 use Rattle.std.proofs.lemmas.Bool.{cases_lt}
@@ -17,10 +19,13 @@ use Rattle.volume_codec.proofs.Places.{fits_geometry}
 use Rattle.journal.specs.declared.flushed.Flushed.{Flushed}
 use Rattle.journal.specs.declared.flushed.Flushed.TheVariants.{Going, Committed, Done, Device, Broken}
 use Rattle.journal.specs.declared.stage.Stage.{Stage}
-use Rattle.journal.specs.declared.stage.Stage.TheVariants.{Recording, Describing, SyncingRecords, Opening, Committing, Applying, SyncingHomes, Closing, Finishing}
+use Rattle.journal.specs.declared.stage.Stage.TheVariants.{Recording, Describing, SyncingRecords, Opening}
+use Rattle.journal.specs.declared.stage.Stage.TheVariants.{Committing, Applying, SyncingHomes, Closing, Finishing}
 use Rattle.journal.specs.Stage.{stage_at, is_committed, answer_at}
-use Rattle.journal.specs.Work.{Work, WriteAt, CopyBlock, Nothing, Sync, work_at, worked, TornFromWork, calls_of, HasFailed}
-use Rattle.journal.specs.WriteOut.{WriteOut, FlushValue, IsBatch, next_stage, has_committed, advanced_of, work_of, answer_of, flush_after, calls_in_steps}
+use Rattle.journal.specs.Work.{Work, WriteAt, CopyBlock, Nothing, Sync, work_at}
+use Rattle.journal.specs.Work.{worked, TornFromWork, calls_of, HasFailed}
+use Rattle.journal.specs.WriteOut.{WriteOut, FlushValue, IsBatch, next_stage, has_committed}
+use Rattle.journal.specs.WriteOut.{advanced_of, work_of, answer_of, flush_after, calls_in_steps}
 use Rattle.journal.specs.WriteOuts.{has_uncommitted}
 use Rattle.journal.specs.Crash.{LeftWithin}
 use Rattle.journal.specs.Finished.{IsOutside, gate_byte, HoldsVolume, RecoversSame, finishing_calls, Finishes}
@@ -32,9 +37,9 @@ use Rattle.journal.proofs.Batches.{committed-at}
 use Rattle.journal.proofs.Changes.{torn-written, first-written, length-block_at}
 use Rattle.journal.proofs.Places.{gate-below, record-below}
 use Rattle.journal.proofs.Stages.{IsAt, stage_is, stage_at-is, stage_from, applying_within, early_calls, all_calls}
-use Rattle.journal.proofs.Sounding.{late_next}
-use Rattle.journal.proofs.Stepping.{oldest_within, oldest_after, oldest_done}
-use Rattle.journal.proofs.Answering.{is_last}
+use Rattle.journal.proofs.Sounding.{some_stage, late_next}
+use Rattle.journal.proofs.Keeping.{oldest_within, oldest_after, oldest_done}
+use Rattle.journal.proofs.Leaving.{recovers_of, is_last}
 use Rattle.journal.proofs.Tying.{false_true}
 use Rattle.journal.proofs.Written.{home_at}
 use Rattle.journal.proofs.Found.{found_last, found_each, found_none, found_order, found_tied, tied_recovers}
@@ -52,76 +57,109 @@ module _ (g : GeometryValue) (batch : Batch) (is_batch : IsBatch g batch) (steps
   low_within : first_home g.layout g.slots < g.blocks
   low_within = let home = home_of 0 is_batch.described.homes.some in omega (arith, home.low, home.high)
 
-  record_fits : (old : List ℕ) → 4096 * g.blocks ≤ length old → (i : ℕ) → i < length batch.homes → length (block_at old (record_block g.slots batch.journal i)) ≡ 4096
+  record_fits : (old : List ℕ) → 4096 * g.blocks ≤ length old → (i : ℕ) → i < length batch.homes
+      → length (block_at old (record_block g.slots batch.journal i)) ≡ 4096
   record_fits old long i lt =
-      let below = record-below g.layout g.slots batch.journal i is_batch.there (omega (arith, lt, is_batch.described.homes.few)) in
+      let below =
+      record-below g.layout g.slots batch.journal i is_batch.there (omega (arith, lt, is_batch.described.homes.few)) in
       length-block_at old (record_block g.slots batch.journal i) (omega (arith, below, low_within, long))
 
   -- a home block that is written
   home_torn : (old : List ℕ) → 4096 * g.blocks ≤ length old → (i : ℕ) → i < length batch.homes
-      → Torn (4096 * get_or batch.homes i 0) 4096 old (written old (4096 * get_or batch.homes i 0) (block_at old (record_block g.slots batch.journal i)))
+      → Torn (4096 * get_or batch.homes i 0) 4096 old
+      (written old (4096 * get_or batch.homes i 0) (block_at old (record_block g.slots batch.journal i)))
   home_torn old long i lt =
       let home = home_of i lt in
       let size = record_fits old long i lt in
-      subst (λ n. Torn (4096 * get_or batch.homes i 0) n old (written old (4096 * get_or batch.homes i 0) (block_at old (record_block g.slots batch.journal i)))) size
-      (torn-written (4096 * get_or batch.homes i 0) (block_at old (record_block g.slots batch.journal i)) old (omega (arith, home.high, size, long)))
+      subst (λ n. Torn (4096 * get_or batch.homes i 0) n old
+      (written old (4096 * get_or batch.homes i 0) (block_at old (record_block g.slots batch.journal i)))) size
+      (torn-written (4096 * get_or batch.homes i 0) (block_at old (record_block g.slots batch.journal i)) old
+      (omega (arith, home.high, size, long)))
 
-  gate_torn : (old : List ℕ) → 4096 * g.blocks ≤ length old → Torn (gate_byte g.slots batch) 1 old (written old (gate_byte g.slots batch) (0 ∷ []))
+  gate_torn : (old : List ℕ) → 4096 * g.blocks ≤ length old
+      → Torn (gate_byte g.slots batch) 1 old (written old (gate_byte g.slots batch) (0 ∷ []))
   gate_torn old long = torn-written (gate_byte g.slots batch) (0 ∷ []) old (omega (arith, gate_low, low_within, long))
 
-  outside_home : {old new : List ℕ} (i k : ℕ) → i < length batch.homes → Torn (4096 * get_or batch.homes i 0) 4096 old new → IsOutside g k → get_or new k 0 ≡ get_or old k 0
-  outside_home i k lt torn (inl before) = torn_before torn k (let home = home_of i lt in omega (arith, before, home.low))
+  outside_home : {old new : List ℕ} (i k : ℕ) → i < length batch.homes
+      → Torn (4096 * get_or batch.homes i 0) 4096 old new → IsOutside g k
+      → get_or new k 0 ≡ get_or old k 0
+  outside_home i k lt torn (inl before) = torn_before torn k (let home = home_of i lt in
+      omega (arith, before, home.low))
   outside_home i k lt torn (inr after) = torn_after torn k (let home = home_of i lt in omega (arith, after, home.high))
 
-  outside_gate : {old new : List ℕ} (k : ℕ) → Torn (gate_byte g.slots batch) 1 old new → k ≢ gate_byte g.slots batch → get_or new k 0 ≡ get_or old k 0
+  outside_gate : {old new : List ℕ} (k : ℕ) → Torn (gate_byte g.slots batch) 1 old new → k ≢ gate_byte g.slots batch
+      → get_or new k 0 ≡ get_or old k 0
   outside_gate k torn apart = elim (cases_lt k (gate_byte g.slots batch)) [
     | inl before ↦ torn_before torn k before
     | inr after ↦ torn_after torn k (let other = apart in omega (arith, after, other))
   ]
 
-  pub others_step : (stage : Stage) → next_stage (after_steps batch steps) ≡ Some stage → is_committed stage ≡ true → (old : List ℕ) → 4096 * g.blocks ≤ length old
-      → (k : ℕ) → IsOutside g k → k ≢ gate_byte g.slots batch → get_or (worked old (work_at g batch bytes stage)) k 0 ≡ get_or old k 0
+  pub others_step : (stage : Stage) → next_stage (after_steps batch steps) ≡ Some stage → is_committed stage ≡ true
+      → (old : List ℕ) → 4096 * g.blocks ≤ length old → (k : ℕ) → IsOutside g k → k ≢ gate_byte g.slots batch
+      → get_or (worked old (work_at g batch bytes stage)) k 0 ≡ get_or old k 0
   others_step (Recording i) at late old long k out apart = false_true late
   others_step Describing at late old long k out apart = false_true late
   others_step SyncingRecords at late old long k out apart = false_true late
   others_step Opening at late old long k out apart = false_true late
   others_step Committing at late old long k out apart = false_true late
-  others_step (Applying i) at late old long k out apart = let lt = applying_within (length batch.homes) steps i at in outside_home i k lt (home_torn old long i lt) out
+  others_step (Applying i) at late old long k out apart =
+      let lt = applying_within (length batch.homes) steps i at in
+      outside_home i k lt (home_torn old long i lt) out
   others_step SyncingHomes at late old long k out apart = refl
   others_step Closing at late old long k out apart = outside_gate k (gate_torn old long) apart
   others_step Finishing at late old long k out apart = refl
 
-  pub closed_step : (stage : Stage) → next_stage (after_steps batch steps) ≡ Some stage → is_committed stage ≡ true → (old : List ℕ) → 4096 * g.blocks ≤ length old
-      → (2 * length batch.homes + 6 ≤ steps → get_or old (gate_byte g.slots batch) 0 ≡ 0) → 2 * length batch.homes + 6 ≤ steps + 1
+  pub closed_step : (stage : Stage) → next_stage (after_steps batch steps) ≡ Some stage
+      → is_committed stage ≡ true → (old : List ℕ) → 4096 * g.blocks ≤ length old
+      → (2 * length batch.homes + 6 ≤ steps → get_or old (gate_byte g.slots batch) 0 ≡ 0)
+      → 2 * length batch.homes + 6 ≤ steps + 1
       → get_or (worked old (work_at g batch bytes stage)) (gate_byte g.slots batch) 0 ≡ 0
   closed_step (Recording i) at late old long before from = false_true late
   closed_step Describing at late old long before from = false_true late
   closed_step SyncingRecords at late old long before from = false_true late
   closed_step Opening at late old long before from = false_true late
   closed_step Committing at late old long before from = false_true late
-  closed_step (Applying i) at late old long before from = let is = stage_at-is (length batch.homes) steps at in absurd (omega (arith, is.0, is.1, from))
-  closed_step SyncingHomes at late old long before from = let is = stage_at-is (length batch.homes) steps at in absurd (omega (arith, is, from))
-  closed_step Closing at late old long before from = first-written (gate_block g.slots batch.journal) 0 old (omega (arith, gate_low, low_within, long))
-  closed_step Finishing at late old long before from = let is = stage_at-is (length batch.homes) steps at in before (omega (arith, is))
+  closed_step (Applying i) at late old long before from =
+      let is = stage_at-is (length batch.homes) steps at in
+      absurd (omega (arith, is.0, is.1, from))
+  closed_step SyncingHomes at late old long before from =
+      let is = stage_at-is (length batch.homes) steps at in
+      absurd (omega (arith, is, from))
+  closed_step Closing at late old long before from =
+      first-written (gate_block g.slots batch.journal) 0 old (omega (arith, gate_low, low_within, long))
+  closed_step Finishing at late old long before from =
+      let is = stage_at-is (length batch.homes) steps at in
+      before (omega (arith, is))
 
   -- what may be left of it
-  pub torn_step : (stage : Stage) → next_stage (after_steps batch steps) ≡ Some stage → is_committed stage ≡ true → (may : List ℕ → Type 0) (c : List ℕ) → TornFromWork (work_at g batch bytes stage) may c
+  pub torn_step : (stage : Stage) → next_stage (after_steps batch steps) ≡ Some stage → is_committed stage ≡ true
+      → (may : List ℕ → Type 0) (c : List ℕ) → TornFromWork (work_at g batch bytes stage) may c
       → (d : List ℕ) × may d × (length c ≡ length d) × ((k : ℕ) → 4096 * g.blocks ≤ k → get_or c k 0 ≡ get_or d k 0)
   torn_step (Recording i) at late may c torn = false_true late
   torn_step Describing at late may c torn = false_true late
   torn_step SyncingRecords at late may c torn = false_true late
   torn_step Opening at late may c torn = false_true late
   torn_step Committing at late may c torn = false_true late
-  torn_step (Applying i) at late may c torn =
-      (torn.0, torn.1, torn.2.same_length, λ k from. torn_after torn.2 k (let home = home_of i (applying_within (length batch.homes) steps i at) in omega (arith, from, home.high)))
+  torn_step (Applying i) at late may c torn = (
+    torn.0,
+    torn.1,
+    torn.2.same_length,
+    λ k from. torn_after torn.2 k (let home = home_of i (applying_within (length batch.homes) steps i at) in
+        omega (arith, from, home.high)),
+  )
   torn_step SyncingHomes at late may c torn = (c, torn, refl, λ k from. refl)
-  torn_step Closing at late may c torn = (torn.0, torn.1, torn.2.same_length, λ k from. torn_after torn.2 k (omega (arith, from, gate_low, low_within)))
+  torn_step Closing at late may c torn =
+      (torn.0, torn.1, torn.2.same_length, λ k from. torn_after torn.2 k (omega (arith, from, gate_low, low_within)))
   torn_step Finishing at late may c torn = (c, torn, refl, λ k from. refl)
 
   -- ---- calls
 
   rest : (n m : ℕ) → m + n ≡ 2 * length batch.homes + 7 → calls_in_steps g batch m ≤ 3 * length batch.homes + 7
-  rest zero m e = let all = ap (calls_in_steps g batch) (let same : m ≡ 2 * length batch.homes + 7 = omega (arith, e) in same) ∙ all_calls g batch in omega (arith, all)
+  rest zero m e =
+      let all =
+      ap (calls_in_steps g batch) (let same : m ≡ 2 * length batch.homes + 7 = omega (arith, e) in same)
+      ∙ all_calls g batch in
+      omega (arith, all)
   rest (suc n) m e = let more = rest n (suc m) (omega (arith, e)) in omega (arith, more)
 
   pub calls_within : (m : ℕ) → m ≤ 2 * length batch.homes + 7 → calls_in_steps g batch m ≤ 3 * length batch.homes + 7
@@ -139,9 +177,12 @@ module _ (g : GeometryValue) (batch : Batch) (is_batch : IsBatch g batch) (steps
   calls_same Closing = refl
   calls_same Finishing = refl
 
-  pub calls_step : (stage : Stage) → next_stage (after_steps batch steps) ≡ Some stage → calls_in_steps g batch (steps + 1) ≡ calls_in_steps g batch steps + calls_of (work_at g batch bytes stage)
+  pub calls_step : (stage : Stage) → next_stage (after_steps batch steps) ≡ Some stage
+      → calls_in_steps g batch (steps + 1) ≡ calls_in_steps g batch steps + calls_of (work_at g batch bytes stage)
   calls_step stage at =
-      let one = ap (λ (o : Option Stage). calls_of (option_map_or (work_at g batch []) o Nothing)) at ∙ calls_same stage in
+      let one =
+      ap (λ (o : Option Stage). calls_of (option_map_or (work_at g batch []) o Nothing)) at
+      ∙ calls_same stage in
       let next : steps + 1 ≡ suc steps = omega arith in
       ap (calls_in_steps g batch) next ∙ omega (arith, one)
 
@@ -154,7 +195,9 @@ failed_within Nothing old new failed = absurd failed
 
 -- ---- a volume
 
-left_new : (v : SuperValue) (contents : ℕ → List ℕ) (c : List ℕ) (stage : Stage) → is_committed stage ≡ true → LeftWithin v contents contents (Some stage) c → Recovers v contents c
+left_new : (v : SuperValue) (contents : ℕ → List ℕ) (c : List ℕ) (stage : Stage)
+    → is_committed stage ≡ true → LeftWithin v contents contents (Some stage) c
+    → Recovers v contents c
 left_new v contents c (Recording i) late left = false_true late
 left_new v contents c Describing late left = false_true late
 left_new v contents c SyncingRecords late left = false_true late
@@ -166,7 +209,8 @@ left_new v contents c Closing late left = left
 left_new v contents c Finishing late left = left
 
 -- before the first step
-module _ {D : Type 0} (disk : Ghosts D) (v : SuperValue) (newer : List Batch) (contents : ℕ → List ℕ) (batch : Batch) (start : D) (found : HoldsVolume disk v (newer ++ batch ∷ []) contents start) where
+module _ {D : Type 0} (disk : Ghosts D) (v : SuperValue) (newer : List Batch) (contents : ℕ → List ℕ) (batch : Batch)
+    (start : D) (found : HoldsVolume disk v (newer ++ batch ∷ []) contents start) where
   opened : AreOpen (geometry_of v) (newer ++ batch ∷ []) (disk.seen start)
   opened = found.recovers.volume.journals
 
@@ -174,36 +218,47 @@ module _ {D : Type 0} (disk : Ghosts D) (v : SuperValue) (newer : List Batch) (c
   newer_open = all_front (IsOpenBatch (geometry_of v) (disk.seen start)) newer (batch ∷ []) opened.each
 
   order : AreInOrder (after_steps batch (length batch.homes + 4) ∷ found_in newer)
-  order = subst AreInOrder (found_last newer batch) (found_order v (disk.seen start) (newer ++ batch ∷ []) opened (fits_geometry v found.recovers.volume.super_block.fits))
+  order = subst AreInOrder (found_last newer batch) (found_order v (disk.seen start) (newer ++ batch ∷ []) opened
+      (fits_geometry v found.recovers.volume.super_block.fits))
 
   each : AllByRecursion (IsWriteOut (geometry_of v)) (after_steps batch (length batch.homes + 4) ∷ found_in newer)
-  each = subst (AllByRecursion (IsWriteOut (geometry_of v))) (found_last newer batch) (found_each v (disk.seen start) (newer ++ batch ∷ []) opened.each)
+  each = subst (AllByRecursion (IsWriteOut (geometry_of v))) (found_last newer batch)
+      (found_each v (disk.seen start) (newer ++ batch ∷ []) opened.each)
 
   pub none : has_uncommitted (found_in newer) ≡ false
   none = found_none v (disk.seen start) newer newer_open
 
-  pub older_at : (steps : ℕ) → has_committed (after_steps batch steps) ≡ true → AllByRecursion (IsOlder (after_steps batch steps)) (found_in newer)
-  older_at steps committed = all_map {P = IsOlder (after_steps batch (length batch.homes + 4))} {Q = IsOlder (after_steps batch steps)} (λ x is. record { marks = is.marks; journals = is.journals; committed = committed; waits = is.waits }) (found_in newer) order.0
+  pub older_at : (steps : ℕ) → has_committed (after_steps batch steps) ≡ true
+      → AllByRecursion (IsOlder (after_steps batch steps)) (found_in newer)
+  older_at steps committed =
+      all_map {P = IsOlder (after_steps batch (length batch.homes + 4))} {Q = IsOlder (after_steps batch steps)}
+      (λ x is. record { marks = is.marks; journals = is.journals; committed = committed; waits = is.waits })
+      (found_in newer) order.0
 
-  pub first_way : ((c : List ℕ) → disk.left_since start (disk.moment start) c → disk.may_leave start c) → IsOnWay disk v newer contents batch (length batch.homes + 4) start start
+  pub first_way : ((c : List ℕ) → disk.left_since start (disk.moment start) c → disk.may_leave start c)
+      → IsOnWay disk v newer contents batch (length batch.homes + 4) start start
   first_way now =
       let at = Rattle.journal.proofs.Found.applying_first batch each.0.batch.described.homes.some in
-      let tied = found_tied v (disk.seen start) contents (newer ++ batch ∷ []) (disk.may_leave start) found.recovers found.synced in
+      let tied = found_tied v (disk.seen start) contents (newer ++ batch ∷ [])
+      (disk.may_leave start) found.recovers found.synced in
       record {
         tied = subst (λ (l : List WriteOut). IsTied v l contents contents (disk.seen start) (disk.may_leave start))
-            (found_last newer batch ∙ sym (ap (λ (o : Option Stage). option_map_or (λ (s : Stage). after_steps batch (length batch.homes + 4) ∷ found_in newer) o (found_in newer)) at)) tied;
+            (found_last newer batch ∙ sym (ap (λ (o : Option Stage). option_map_or (λ (s : Stage).
+            after_steps batch (length batch.homes + 4) ∷ found_in newer) o (found_in newer)) at)) tied;
         length_left = λ c left. ap length (found.synced c left);
         past = λ c left i from. ap (λ (l : List ℕ). get_or l i 0) (found.synced c left);
         synced = λ last. absurd (omega (arith, last, each.0.batch.described.homes.some));
         time = leaves_at_start (λ c left. let same = found.synced c (now c left) in record {
-          recovers = subst (Recovers v contents) (sym same) (Rattle.journal.proofs.Recorded.recovers_of v (newer ++ batch ∷ []) contents (disk.seen start) found.recovers);
+          recovers = subst (Recovers v contents) (sym same)
+              (recovers_of v (newer ++ batch ∷ []) contents (disk.seen start) found.recovers);
           same_length = ap length same;
           past = λ i from. ap (λ (l : List ℕ). get_or l i 0) same;
         });
       }
 
   -- a step
-  module _ (steps : ℕ) (now : D) (stage : Stage) (bytes : List ℕ) (at : next_stage (after_steps batch steps) ≡ Some stage) (late : is_committed stage ≡ true)
+  module _ (steps : ℕ) (now : D) (stage : Stage) (bytes : List ℕ)
+      (at : next_stage (after_steps batch steps) ≡ Some stage) (late : is_committed stage ≡ true)
       (way : IsOnWay disk v newer contents batch steps start now) where
     w : WriteOut
     w = after_steps batch steps
@@ -214,48 +269,76 @@ module _ {D : Type 0} (disk : Ghosts D) (v : SuperValue) (newer : List Batch) (c
     older : AllByRecursion (IsOlder (after_steps batch steps)) (found_in newer)
     older = older_at steps (committed-at (after_steps batch steps) stage at ∙ late)
 
+    each_now : AllByRecursion (IsWriteOut (geometry_of v)) (after_steps batch steps ∷ found_in newer)
+    each_now = (record { batch = own; going = some_stage at }, each.1)
+
+    order_now : AreInOrder (after_steps batch steps ∷ found_in newer)
+    order_now = (older, order.1)
+
     tied : IsTied v (after_steps batch steps ∷ found_in newer) contents contents (disk.seen now) (disk.may_leave now)
     tied = subst (λ (l : List WriteOut). IsTied v l contents contents (disk.seen now) (disk.may_leave now))
-        (ap (λ (o : Option Stage). option_map_or (λ (s : Stage). after_steps batch steps ∷ found_in newer) o (found_in newer)) at) way.tied
+        (ap (λ (o : Option Stage).
+        option_map_or (λ (s : Stage). after_steps batch steps ∷ found_in newer) o (found_in newer)) at) way.tied
 
     -- what a crash leaves within it
-    within : (c : List ℕ) → TornFromWork (work_at (geometry_of v) batch bytes stage) (disk.may_leave now) c → RecoversSame v contents (disk.seen start) c
+    within : (c : List ℕ) → TornFromWork (work_at (geometry_of v) batch bytes stage) (disk.may_leave now) c
+        → RecoversSame v contents (disk.seen start) c
     within c torn =
         let d = torn_step (geometry_of v) batch own steps bytes stage at late (disk.may_leave now) c torn in
         record {
           recovers = left_new v contents c stage late
-              (oldest_within v contents contents (after_steps batch steps) (found_in newer) own older none (disk.seen now) (disk.may_leave now) stage bytes at late tied c torn);
+              (oldest_within v contents contents (disk.seen now) (disk.may_leave now) bytes (after_steps batch steps)
+              (found_in newer) each_now order_now none stage at late tied c torn);
           same_length = d.2 ∙ way.length_left d.0 d.1;
           past = λ i from. d.3 i from ∙ way.past d.0 d.1 i from;
         }
 
-    pub time_step : (next : D) (done : Bool) → Did disk now (work_at (geometry_of v) batch bytes stage) done next → LeavesOnly disk.moment disk.left_since start next (RecoversSame v contents (disk.seen start))
+    pub time_step : (next : D) (done : Bool) → Did disk now (work_at (geometry_of v) batch bytes stage) done next
+        → LeavesOnly disk.moment disk.left_since start next (RecoversSame v contents (disk.seen start))
     time_step next done did = leaves_on way.time did.time within
 
-    module _ (next : D) (honest : disk.is_honest now) (did : Did disk now (work_at (geometry_of v) batch bytes stage) true next) where
-      goes : (stage ≡ Finishing → ⊥) → IsTied v (after_steps batch (steps + 1) ∷ found_in newer) contents contents (disk.seen next) (disk.may_leave next)
-      goes not_last = subst (λ (l : List ℕ). IsTied v (after_steps batch (steps + 1) ∷ found_in newer) contents contents l (disk.may_leave next)) (sym (done_seen did honest refl))
-          (oldest_after v contents contents (after_steps batch steps) (found_in newer) own older none (disk.seen now) (disk.may_leave now) stage bytes at late not_last tied (disk.may_leave next) did.left (did.sure honest refl))
+    module _ (next : D) (honest : disk.is_honest now)
+        (did : Did disk now (work_at (geometry_of v) batch bytes stage) true next) where
+      goes : (stage ≡ Finishing → ⊥)
+          → IsTied v (after_steps batch (steps + 1) ∷ found_in newer) contents contents (disk.seen next)
+          (disk.may_leave next)
+      goes not_last = subst (λ (l : List ℕ).
+          IsTied v (after_steps batch (steps + 1) ∷ found_in newer) contents contents l (disk.may_leave next))
+          (sym (done_seen did honest refl))
+          (oldest_after v contents contents (disk.seen now) (disk.may_leave now) bytes (after_steps batch steps)
+          (found_in newer) each_now order_now none stage at late tied not_last (disk.may_leave next) did.left
+          (did.sure honest refl))
 
       ends : stage ≡ Finishing → IsTied v (found_in newer) contents contents (disk.seen next) (disk.may_leave next)
       ends last =
           let sync : work_at (geometry_of v) batch bytes stage ≡ Sync = ap (work_at (geometry_of v) batch bytes) last in
-          subst (λ (l : List ℕ). IsTied v (found_in newer) contents contents l (disk.may_leave next)) (sym (done_seen did honest refl ∙ ap (worked (disk.seen now)) sync))
-          (oldest_done v contents contents (after_steps batch steps) (found_in newer) own older none (disk.seen now) (disk.may_leave now) bytes (at ∙ ap Some last) each.1 order.1 tied (disk.may_leave next) (λ e. did.sure honest refl sync))
+          subst (λ (l : List ℕ). IsTied v (found_in newer) contents contents l (disk.may_leave next))
+          (sym (done_seen did honest refl ∙ ap (worked (disk.seen now)) sync))
+          (oldest_done v contents contents (disk.seen now) (disk.may_leave now) bytes (after_steps batch steps)
+          (found_in newer) each_now order_now none stage at late tied last (disk.may_leave next)
+          (did.sure honest refl sync))
 
-      still_tied : (stage ≡ Finishing) ⊎ (stage ≡ Finishing → ⊥) → IsTied v (left_of (after_steps batch (steps + 1)) (found_in newer)) contents contents (disk.seen next) (disk.may_leave next)
+      still_tied : (stage ≡ Finishing) ⊎ (stage ≡ Finishing → ⊥)
+          → IsTied v (left_of (after_steps batch (steps + 1)) (found_in newer)) contents contents (disk.seen next)
+          (disk.may_leave next)
       still_tied (inl last) =
           let k = length batch.homes in
           let is = stage_at-is k steps (at ∙ ap Some last) in
           let end : stage_at k (steps + 1) ≡ None = stage_from k (steps + 1) None (omega (arith, is)) in
           subst (λ (l : List WriteOut). IsTied v l contents contents (disk.seen next) (disk.may_leave next))
-          (sym (ap (λ (o : Option Stage). option_map_or (λ (s : Stage). after_steps batch (steps + 1) ∷ found_in newer) o (found_in newer)) end)) (ends last)
+          (sym (ap (λ (o : Option Stage).
+          option_map_or (λ (s : Stage). after_steps batch (steps + 1) ∷ found_in newer) o (found_in newer)) end))
+          (ends last)
       still_tied (inr not_last) =
-          let following = late_next (after_steps batch steps) stage at late not_last in
+          let following = late_next (after_steps batch steps) stage own.described.homes.some at late not_last in
           subst (λ (l : List WriteOut). IsTied v l contents contents (disk.seen next) (disk.may_leave next))
-          (sym (ap (λ (o : Option Stage). option_map_or (λ (s : Stage). after_steps batch (steps + 1) ∷ found_in newer) o (found_in newer)) following.at)) (goes not_last)
+          (sym (ap (λ (o : Option Stage).
+          option_map_or (λ (s : Stage). after_steps batch (steps + 1) ∷ found_in newer) o (found_in newer))
+          following.at))
+          (goes not_last)
 
-      last_stage : (s : Stage) → IsAt (length batch.homes) steps (Some s) → 2 * length batch.homes + 7 ≤ steps + 1 → s ≡ Finishing
+      last_stage : (s : Stage) → IsAt (length batch.homes) steps (Some s) → 2 * length batch.homes + 7 ≤ steps + 1
+          → s ≡ Finishing
       last_stage (Recording i) is last = absurd (omega (arith, is.0, is.1, last))
       last_stage Describing is last = absurd (omega (arith, is, last))
       last_stage SyncingRecords is last = absurd (omega (arith, is, last))
@@ -272,31 +355,39 @@ module _ {D : Type 0} (disk : Ghosts D) (v : SuperValue) (newer : List Batch) (c
         length_left = λ c left. (within c (did.left c left)).same_length;
         past = λ c left. (within c (did.left c left)).past;
         synced = λ last c left.
-            let sync : work_at (geometry_of v) batch bytes stage ≡ Sync = ap (work_at (geometry_of v) batch bytes) (last_stage stage (stage_at-is (length batch.homes) steps at) last) in
+            let sync : work_at (geometry_of v) batch bytes stage ≡ Sync =
+            ap (work_at (geometry_of v) batch bytes)
+            (last_stage stage (stage_at-is (length batch.homes) steps at) last) in
             did.sure honest refl sync c left ∙ sym (done_seen did honest refl ∙ ap (worked (disk.seen now)) sync);
         time = time_step next true did;
       }
 
   -- after the last one
-  pub way_end : (steps : ℕ) (now : D) → steps ≡ 2 * length batch.homes + 7 → disk.is_honest now → IsOnWay disk v newer contents batch steps start now → HoldsVolume disk v newer contents now
+  pub way_end : (steps : ℕ) (now : D) → steps ≡ 2 * length batch.homes + 7
+      → disk.is_honest now → IsOnWay disk v newer contents batch steps start now
+      → HoldsVolume disk v newer contents now
   way_end steps now last honest way =
       let k = length batch.homes in
       let end : stage_at k steps ≡ None = stage_from k steps None (omega (arith, last)) in
       record {
         honest = honest;
-        recovers = tied_recovers v (disk.seen start) contents newer (disk.seen now) (disk.may_leave now) newer_open
+        recovers = tied_recovers v (disk.seen start) contents newer (disk.seen now)
+            (disk.may_leave now) newer_open order.1
             (subst (λ (l : List WriteOut). IsTied v l contents contents (disk.seen now) (disk.may_leave now))
-            (ap (λ (o : Option Stage). option_map_or (λ (s : Stage). after_steps batch steps ∷ found_in newer) o (found_in newer)) end) way.tied);
+            (ap (λ (o : Option Stage).
+            option_map_or (λ (s : Stage). after_steps batch steps ∷ found_in newer) o (found_in newer)) end) way.tied);
         synced = way.synced (omega (arith, last));
       }
 
 -- ---- whatever the device held
 
 -- the stage of a step after the one that commits
-pub late_stage : (batch : Batch) (n : ℕ) → length batch.homes + 4 ≤ n → n < 2 * length batch.homes + 7 → (stage : Stage) × (next_stage (after_steps batch n) ≡ Some stage) × (is_committed stage ≡ true)
+pub late_stage : (batch : Batch) (n : ℕ) → length batch.homes + 4 ≤ n → n < 2 * length batch.homes + 7
+    → (stage : Stage) × (next_stage (after_steps batch n) ≡ Some stage) × (is_committed stage ≡ true)
 late_stage batch n from to = by (stage_at (length batch.homes) n) refl (stage_is (length batch.homes) n)
   where
-    by : (o : Option Stage) → stage_at (length batch.homes) n ≡ o → IsAt (length batch.homes) n o → (stage : Stage) × (next_stage (after_steps batch n) ≡ Some stage) × (is_committed stage ≡ true)
+    by : (o : Option Stage) → stage_at (length batch.homes) n ≡ o → IsAt (length batch.homes) n o
+        → (stage : Stage) × (next_stage (after_steps batch n) ≡ Some stage) × (is_committed stage ≡ true)
     by None e at = absurd (omega (arith, at, to))
     by (Some (Recording i)) e at = absurd (omega (arith, at.0, at.1, from))
     by (Some Describing) e at = absurd (omega (arith, at, from))
@@ -309,7 +400,9 @@ late_stage batch n from to = by (stage_at (length batch.homes) n) refl (stage_is
     by (Some Finishing) e at = (Finishing, e, refl)
 
 -- its answer where no call fails
-pub late_answer_of : (batch : Batch) (n : ℕ) → length batch.homes + 4 ≤ n → n < 2 * length batch.homes + 7 → answer_of (after_steps batch n) ≡ Broken → ⊥
+pub late_answer_of : (batch : Batch) (n : ℕ) → length batch.homes + 4 ≤ n
+    → n < 2 * length batch.homes + 7 → answer_of (after_steps batch n) ≡ Broken
+    → ⊥
 late_answer_of batch n from to e =
     let s = late_stage batch n from to in
     by s.0 s.2 (sym (ap (λ (o : Option Stage). option_map_or (answer_at batch.mark) o Broken) s.1) ∙ e)
@@ -325,7 +418,8 @@ late_answer_of batch n from to e =
     by Closing late e = cc
     by Finishing late e = cc
 
-pub after_value : (f : FlushValue) (answer : Flushed) → answer ≢ Device → answer ≢ Broken → flush_after f answer ≡ record f { write_out = advanced_of f.write_out }
+pub after_value : (f : FlushValue) (answer : Flushed) → answer ≢ Device → answer ≢ Broken
+    → flush_after f answer ≡ record f { write_out = advanced_of f.write_out }
 after_value f Going whole sane = refl
 after_value f (Committed mark) whole sane = refl
 after_value f (Done mark) whole sane = refl
@@ -336,7 +430,9 @@ module _ {D : Type 0} (disk : Ghosts D) (g : GeometryValue) (batch : Batch) wher
   k : ℕ
   k = length batch.homes
 
-  pub first_step : (start : D) → IsBatch g batch → ((c : List ℕ) → disk.left_since start (disk.moment start) c → disk.may_leave start c) → IsUnderWay disk g batch (length batch.homes + 4) start start
+  pub first_step : (start : D) → IsBatch g batch
+      → ((c : List ℕ) → disk.left_since start (disk.moment start) c → disk.may_leave start c)
+      → IsUnderWay disk g batch (length batch.homes + 4) start start
   first_step start is_batch now = record {
     on_way = λ v newer contents same found. first_way disk v newer contents batch start found now;
     closed = λ honest last. absurd (omega (arith, last, is_batch.described.homes.some));
@@ -347,7 +443,9 @@ module _ {D : Type 0} (disk : Ghosts D) (g : GeometryValue) (batch : Batch) wher
     faults = refl;
   }
 
-  module _ (is_batch : IsBatch g batch) (steps : ℕ) (bytes : List ℕ) (start now next : D) (long : 4096 * g.blocks ≤ length (disk.seen start)) (from : length batch.homes + 4 ≤ steps) (to : steps < 2 * length batch.homes + 7)
+  module _ (is_batch : IsBatch g batch) (steps : ℕ) (bytes : List ℕ) (start now next : D)
+      (long : 4096 * g.blocks ≤ length (disk.seen start)) (from : length batch.homes + 4 ≤ steps)
+      (to : steps < 2 * length batch.homes + 7)
       (under : IsUnderWay disk g batch steps start now) where
     at : (stage : Stage) × (next_stage (after_steps batch steps) ≡ Some stage) × (is_committed stage ≡ true)
     at = late_stage batch steps from to
@@ -356,53 +454,71 @@ module _ {D : Type 0} (disk : Ghosts D) (g : GeometryValue) (batch : Batch) wher
     its_work = ap (λ (o : Option Stage). option_map_or (work_at g batch bytes) o Nothing) at.1
 
     calls_so_far : calls_in_steps g batch steps + calls_of (work_at g batch bytes at.0) ≤ 3 * length batch.homes + 7
-    calls_so_far = let sum = calls_step g batch is_batch steps bytes at.0 at.1 in let most = calls_within g batch is_batch steps bytes (steps + 1) (omega (arith, to)) in omega (arith, sum, most)
+    calls_so_far =
+        let sum = calls_step g batch is_batch steps bytes at.0 at.1 in
+        let most = calls_within g batch is_batch steps bytes (steps + 1) (omega (arith, to)) in
+        omega (arith, sum, most)
 
-    few_now : disk.calls_made start + finishing_calls batch < 2 ^ 64 → disk.calls_made now + calls_of (work_at g batch bytes at.0) < 2 ^ 64
+    few_now : disk.calls_made start + finishing_calls batch < 2 ^ 64
+        → disk.calls_made now + calls_of (work_at g batch bytes at.0) < 2 ^ 64
     few_now few = let made_so = under.calls few in omega (arith, few, made_so, calls_so_far)
 
-    pub under_step : Did disk now (work_of g bytes (after_steps batch steps)) true next → IsUnderWay disk g batch (steps + 1) start next
+    pub under_step : Did disk now (work_of g bytes (after_steps batch steps)) true next
+        → IsUnderWay disk g batch (steps + 1) start next
     under_step did_it =
         let did = did_as disk its_work refl did_it in
         let whole : 4096 * g.blocks ≤ length (disk.seen now) = omega (arith, long, under.same_length) in
         record {
           on_way = λ v newer contents same found.
-              way_step disk v newer contents batch start found steps now at.0 bytes at.1 at.2 (under.on_way v newer contents same found) next (under.honest.1 found.honest)
+              way_step disk v newer contents batch start found steps now at.0 bytes at.1 at.2
+              (under.on_way v newer contents same found) next (under.honest.1 found.honest)
               (did_as disk (ap (λ (x : GeometryValue). work_at x batch bytes at.0) (sym same)) refl did);
           closed = λ honest last.
               ap (λ (l : List ℕ). get_or l (gate_byte g.slots batch) 0) (done_seen did (under.honest.1 honest) refl)
-              ∙ closed_step g batch is_batch steps bytes at.0 at.1 at.2 (disk.seen now) whole (under.closed honest) last;
+              ∙ closed_step g batch is_batch steps bytes at.0 at.1 at.2 (disk.seen now) whole
+              (under.closed honest) last;
           others = λ honest i out apart.
               ap (λ (l : List ℕ). get_or l i 0) (done_seen did (under.honest.1 honest) refl)
-              ∙ others_step g batch is_batch steps bytes at.0 at.1 at.2 (disk.seen now) whole i out apart ∙ under.others honest i out apart;
+              ∙ others_step g batch is_batch steps bytes at.0 at.1 at.2 (disk.seen now) whole i out apart
+              ∙ under.others honest i out apart;
           honest = (λ h. under.honest.0 (did.honest.0 h), λ h. did.honest.1 (under.honest.1 h));
           same_length = did.same_length ∙ under.same_length;
-          calls = λ few. let made_so = under.calls few in let more = did.calls (few_now few) in let sum = calls_step g batch is_batch steps bytes at.0 at.1 in omega (arith, made_so, more, sum);
+          calls = λ few. let made_so = under.calls few in let more = did.calls (few_now few) in
+              let sum = calls_step g batch is_batch steps bytes at.0 at.1 in omega (arith, made_so, more, sum);
           faults = did.faults ∙ under.faults;
         }
 
-    pub under_failed : {T E : Type 0} (e : E) → Did disk now (work_of g bytes (after_steps batch steps)) false next → Finishes {T = T} {E = E} disk g batch start (Err e) next
+    pub under_failed : {T E : Type 0} (e : E) → Did disk now (work_of g bytes (after_steps batch steps)) false next
+        → Finishes {T = T} {E = E} disk g batch start (Err e) next
     under_failed e did_it =
         let did = did_as disk its_work refl did_it in
         record {
           finished = λ v newer contents same found. tt;
           closed = λ honest. tt;
           time = λ v newer contents same found.
-              time_step disk v newer contents batch start found steps now at.0 bytes at.1 at.2 (under.on_way v newer contents same found) next false
+              time_step disk v newer contents batch start found steps now at.0 bytes at.1 at.2
+              (under.on_way v newer contents same found) next false
               (did_as disk (ap (λ (x : GeometryValue). work_at x batch bytes at.0) (sym same)) refl did);
           honest = (λ h. under.honest.0 (did.honest.0 h), λ h. did.honest.1 (under.honest.1 h));
           same_length = did.same_length ∙ under.same_length;
           calls = λ few. tt;
-          most = λ few. let made_so = under.calls few in let more = failed_within (work_at g batch bytes at.0) (disk.calls_made now) (disk.calls_made next) (did.calls (few_now few)) in omega (arith, made_so, more, calls_so_far);
+          most = λ few. let made_so = under.calls few in let more = failed_within (work_at g batch bytes at.0)
+              (disk.calls_made now) (disk.calls_made next) (did.calls (few_now few)) in
+              omega (arith, made_so, more, calls_so_far);
           faults = did.faults ∙ ap raised under.faults;
         }
 
-  pub under_end : {E : Type 0} (steps : ℕ) (start now : D) → steps ≡ 2 * length batch.homes + 7 → IsUnderWay disk g batch steps start now → Finishes {T = Unit {0}} {E = E} disk g batch start (Ok tt) now
+  pub under_end : {E : Type 0} (steps : ℕ) (start now : D)
+      → steps ≡ 2 * length batch.homes + 7 → IsUnderWay disk g batch steps start now
+      → Finishes {T = Unit {0}} {E = E} disk g batch start (Ok tt) now
   under_end steps start now last under =
       let all = ap (calls_in_steps g batch) last ∙ all_calls g batch in
-      let made_all : disk.calls_made start + finishing_calls batch < 2 ^ 64 → disk.calls_made now ≡ disk.calls_made start + finishing_calls batch = λ few. (let so_far = under.calls few in omega (arith, so_far, all)) in
+      let made_all : disk.calls_made start + finishing_calls batch < 2 ^ 64
+      → disk.calls_made now ≡ disk.calls_made start + finishing_calls batch =
+      λ few. (let so_far = under.calls few in omega (arith, so_far, all)) in
       record {
-        finished = λ v newer contents same found. way_end disk v newer contents batch start found steps now last (under.honest.1 found.honest) (under.on_way v newer contents same found);
+        finished = λ v newer contents same found. way_end disk v newer contents batch start found steps now last
+            (under.honest.1 found.honest) (under.on_way v newer contents same found);
         closed = λ honest. record { gate = under.closed honest (omega (arith, last)); others = under.others honest };
         time = λ v newer contents same found. (under.on_way v newer contents same found).time;
         honest = under.honest;

@@ -1,6 +1,7 @@
 -- What a read finds of a batch, while other blocks are written.
-use Rattle.std.proofs.Common.{◌≡◌, ◌≢◌, ℕ, zero, suc, ◌+◌, ◌-◌, ◌*◌, ◌<◌, ◌≤◌, ◌⊎◌, inl, inr, false, List, [], ◌∷◌, ◌++◌, length, get_or, Option, Some, None, refl, sym, ap, ◌∙◌, arith}
-use Rattle.std.specs.Prelude.{IfSome, IsTrue, Result, Ok, Err, is_ok, ◌↔◌}
+use Rattle.std.proofs.Common.{◌≡◌, ◌≢◌, ℕ, zero, suc, ◌+◌, ◌-◌, ◌*◌, ◌<◌, ◌≤◌, ◌⊎◌, inl, inr, Bool, true}
+use Rattle.std.proofs.Common.{false, List, [], ◌∷◌, ◌++◌, length, get_or, refl, sym, ap, ◌∙◌, arith}
+use Rattle.std.specs.Prelude.{MatchBool, IsTrue, Result, Ok, Err, is_ok, ◌↔◌}
 use Rattle.std.specs.Ordering.{nat_cmp}
 use Rattle.std.specs.List.{Contains}
 use Rattle.std.specs.List.Sorted.{IsBinarySearchResult}
@@ -11,39 +12,44 @@ use Rattle.std.specs.List.{AllByRecursion, flat_map}
 use Rattle.std.specs.Int.{bytes_high_first}
 use Rattle.std.proofs.Common.{length-append}
 use Rattle.std.proofs.lemmas.List.{length-replicate}
-use Rattle.volume_codec.specs.Layout.{GeometryValue, IsHome, journals_of, gate_block, descriptor_block, record_block, first_home}
+use Rattle.volume_codec.specs.Layout.{GeometryValue, IsHome, journals_of, gate_block}
+use Rattle.volume_codec.specs.Layout.{descriptor_block, record_block, first_home}
 use Rattle.volume_codec.specs.Super.{SuperValue, geometry_of}
 use Rattle.volume_codec.specs.Descriptor.{RiseWithin, AreHomes, descriptor_text}
 use Rattle.volume_codec.specs.Text.{number_text, zeros, padded}
-use Rattle.volume_codec.specs.Recovery.{Batch}
-use Rattle.journal.specs.declared.stage.Stage.{Stage}
-use Rattle.journal.specs.declared.stage.Stage.TheVariants.{Recording, Describing, SyncingRecords, Opening, Committing, Applying, SyncingHomes, Closing, Finishing}
-use Rattle.journal.specs.Stage.{stage_at}
-use Rattle.journal.specs.WriteOut.{WriteOut, next_stage}
+use Rattle.volume_codec.specs.Recovery.{Batch, IsOpen}
 use Rattle.journal.specs.WriteOut.{IsBatch}
-use Rattle.journal.specs.inside.Tied.{recorded, applied, IsWritten}
+use Rattle.journal.specs.inside.Tied.{Progress, is_open, applied, sure_in, IsCovered, IsWritten, AreWritten}
 use Rattle.journal.proofs.Changes.{SameBut}
-use Rattle.journal.proofs.Places.{gate-below, descriptor-below, record-below, descriptors_apart, gate_no_descriptor, gate_no_record, descriptor_no_record, records_apart}
-use Rattle.journal.proofs.Stages.{stage_at-is}
+use Rattle.journal.proofs.Places.{gates_apart, gate-below, descriptor-below, record-below, descriptors_apart}
+use Rattle.journal.proofs.Places.{gate_no_descriptor, gate_no_record, descriptor_no_record, records_apart}
 
 -- ---- home blocks that rise
 
-pub rising_at : (low high : ℕ) (homes : List ℕ) (i : ℕ) → RiseWithin low high homes → i < length homes → (low ≤ get_or homes i 0) × (get_or homes i 0 < high)
+pub rising_at : (low high : ℕ) (homes : List ℕ) (i : ℕ) → RiseWithin low high homes → i < length homes
+    → (low ≤ get_or homes i 0) × (get_or homes i 0 < high)
 rising_at low high [] i rise lt = absurd (omega arith)
 rising_at low high (n ∷ ns) zero rise lt = (rise.0, rise.1)
 rising_at low high (n ∷ ns) (suc i) rise lt =
     let r = rising_at (n + 1) high ns i rise.2 (omega arith) in
     (omega (arith, rise.0, r.0), r.1)
 
-pub rising_apart : (low high : ℕ) (homes : List ℕ) (i k : ℕ) → RiseWithin low high homes → i < k → k < length homes → get_or homes i 0 < get_or homes k 0
+pub rising_apart : (low high : ℕ) (homes : List ℕ) (i k : ℕ) → RiseWithin low high homes → i < k → k < length homes
+    → get_or homes i 0 < get_or homes k 0
 rising_apart low high [] i k rise lt within = absurd (omega arith)
 rising_apart low high (n ∷ ns) i zero rise lt within = absurd (omega arith)
-rising_apart low high (n ∷ ns) zero (suc k) rise lt within = let r = rising_at (n + 1) high ns k rise.2 (omega arith) in omega (arith, r.0)
-rising_apart low high (n ∷ ns) (suc i) (suc k) rise lt within = rising_apart (n + 1) high ns i k rise.2 (omega arith) (omega arith)
+rising_apart low high (n ∷ ns) zero (suc k) rise lt within =
+    let r = rising_at (n + 1) high ns k rise.2 (omega arith) in
+    omega (arith, r.0)
+rising_apart low high (n ∷ ns) (suc i) (suc k) rise lt within =
+    rising_apart (n + 1) high ns i k rise.2 (omega arith) (omega arith)
 
 -- a home block of a batch is one of the volume's
-pub home_at : (g : GeometryValue) (homes : List ℕ) (i : ℕ) → AreHomes g homes → i < length homes → IsHome g (get_or homes i 0)
-home_at g homes i are lt = let r = rising_at (first_home g.layout g.slots) g.blocks homes i are.rising lt in record { low = r.0; high = r.1 }
+pub home_at : (g : GeometryValue) (homes : List ℕ) (i : ℕ) → AreHomes g homes → i < length homes
+    → IsHome g (get_or homes i 0)
+home_at g homes i are lt =
+    let r = rising_at (first_home g.layout g.slots) g.blocks homes i are.rising lt in
+    record { low = r.0; high = r.1 }
 
 -- ---- a descriptor's length
 
@@ -61,105 +67,158 @@ length-zeros n = length-replicate n 0
 
 length-numbers : (homes : List ℕ) → length (flat_map (number_text 4) homes) ≡ 4 * length homes
 length-numbers [] = refl
-length-numbers (n ∷ ns) = omega (arith, length-append (number_text 4 n) (flat_map (number_text 4) ns), length-number_text 4 n, length-numbers ns)
+length-numbers (n ∷ ns) = omega (
+  arith,
+  length-append (number_text 4 n) (flat_map (number_text 4) ns),
+  length-number_text 4 n,
+  length-numbers ns,
+)
 
 length-padded : (text : List ℕ) → length text ≤ 4096 → length (padded 4096 text) ≡ 4096
-length-padded text le = omega (arith, length-append text (zeros (4096 - length text)), length-zeros (4096 - length text))
+length-padded text le =
+    omega (arith, length-append text (zeros (4096 - length text)), length-zeros (4096 - length text))
 
 length-four : (a b c d : List ℕ) → length (a ++ b ++ c ++ d) ≡ length a + length b + length c + length d
 length-four a b c d = omega (arith, length-append (a ++ b ++ c) d, length-append (a ++ b) c, length-append a b)
 
-pub length-descriptor_text : (mark : ℕ) (homes : List ℕ) → length homes ≤ 1020 → length (descriptor_text (record { mark = mark; homes = homes })) ≡ 4096
+pub length-descriptor_text : (mark : ℕ) (homes : List ℕ) → length homes ≤ 1020
+    → length (descriptor_text (record { mark = mark; homes = homes })) ≡ 4096
 length-descriptor_text mark homes few =
     length-padded (number_text 8 mark ++ number_text 4 (length homes) ++ zeros 4 ++ flat_map (number_text 4) homes)
-    (omega (arith, few, length-four (number_text 8 mark) (number_text 4 (length homes)) (zeros 4) (flat_map (number_text 4) homes), length-numbers homes, length-number_text 8 mark, length-number_text 4 (length homes), length-zeros 4))
+    (omega (
+      arith,
+      few,
+      length-four (number_text 8 mark) (number_text 4 (length homes)) (zeros 4) (flat_map (number_text 4) homes),
+      length-numbers homes,
+      length-number_text 8 mark,
+      length-number_text 4 (length homes),
+      length-zeros 4,
+    ))
 
 -- ---- what is written stays
 
--- no more records are written than there are, and no more home blocks
-pub recorded_few : (k n : ℕ) (stage : Stage) → stage_at k n ≡ Some stage → recorded k stage ≤ k
-recorded_few k n (Recording i) e = let at = stage_at-is k n e in omega (arith, at.1)
-recorded_few k n Describing e = omega arith
-recorded_few k n SyncingRecords e = omega arith
-recorded_few k n Opening e = omega arith
-recorded_few k n Committing e = omega arith
-recorded_few k n (Applying i) e = omega arith
-recorded_few k n SyncingHomes e = omega arith
-recorded_few k n Closing e = omega arith
-recorded_few k n Finishing e = omega arith
-
-pub applied_few : (k n : ℕ) (stage : Stage) → stage_at k n ≡ Some stage → applied k stage ≤ k
-applied_few k n (Recording i) e = omega arith
-applied_few k n Describing e = omega arith
-applied_few k n SyncingRecords e = omega arith
-applied_few k n Opening e = omega arith
-applied_few k n Committing e = omega arith
-applied_few k n (Applying i) e = let at = stage_at-is k n e in omega (arith, at.1)
-applied_few k n SyncingHomes e = omega arith
-applied_few k n Closing e = omega arith
-applied_few k n Finishing e = omega arith
-
 module _ (v : SuperValue) (new : ℕ → List ℕ) where
-  -- a block that has no part of this batch
-  pub record IsBeside (batch : Batch) (x : ℕ) : Type 0 where
-    pub no_record : (i : ℕ) → i < length batch.homes → x ≢ record_block v.slots batch.journal i
-    pub no_descriptor : x ≢ descriptor_block v.slots batch.journal
-    pub no_home : (i : ℕ) → i < length batch.homes → x ≢ get_or batch.homes i 0
+  -- a block that has no part in what is found of this write-out
+  pub record IsBeside (p : Progress) (x : ℕ) : Type 0 where
+    pub no_gate : x ≢ gate_block v.slots p.batch.journal
+    pub no_record : (i : ℕ) → i < length p.batch.homes → x ≢ record_block v.slots p.batch.journal i
+    pub no_descriptor : x ≢ descriptor_block v.slots p.batch.journal
+    pub no_home : (i : ℕ) → i < length p.batch.homes → i < applied (length p.batch.homes) p.stage
+        → x ≢ get_or p.batch.homes i 0
 
-  pub written_kept : (batch : Batch) (stage : Stage) (x : ℕ) (seen seen' : List ℕ) → recorded (length batch.homes) stage ≤ length batch.homes → applied (length batch.homes) stage ≤ length batch.homes
-      → IsWritten v new batch seen stage → IsBeside batch x → SameBut x seen seen' → IsWritten v new batch seen' stage
-  written_kept batch stage x seen seen' few some is beside same = record {
-    records = λ i lt. same.blocks (record_block v.slots batch.journal i) (λ e. beside.no_record i (omega (arith, lt, few)) (sym e)) ∙ is.records i lt;
-    descriptor = λ written. same.blocks (descriptor_block v.slots batch.journal) (λ e. beside.no_descriptor (sym e)) ∙ is.descriptor written;
-    homes = λ i lt.
-        same.blocks (get_or batch.homes i 0) (λ e. beside.no_home i (omega (arith, lt, some)) (sym e)) ∙ is.homes i lt
-        ∙ sym (same.blocks (record_block v.slots batch.journal i) (λ e. beside.no_record i (omega (arith, lt, some)) (sym e)));
+  -- where newer batches have the same records, or more
+  pub written_more : (newer newer' : List Batch) (p : Progress) (seen : List ℕ)
+      → ((b : ℕ) → IsCovered newer b → IsCovered newer' b) → IsWritten v new newer p seen
+      → IsWritten v new newer' p seen
+  written_more newer newer' p seen more is = record {
+    records = is.records;
+    descriptor = is.descriptor;
+    homes = λ i within lt. elim (is.homes i within lt) [
+      | inl covered ↦ inl (more (get_or p.batch.homes i 0) covered)
+      | inr same ↦ inr same
+    ];
+    gate = is.gate;
   }
 
-  -- what is found of every write-out
-  abbrev pub AreWritten : List ℕ → List WriteOut → Type 0
-  AreWritten seen batches = AllByRecursion (λ w. IfSome (next_stage w) (IsWritten v new w.batch seen)) batches
+  pub written_kept : (newer : List Batch) (p : Progress) (x : ℕ) (seen seen' : List ℕ) → IsWritten v new newer p seen
+      → IsBeside p x → SameBut x seen seen' → IsWritten v new newer p seen'
+  written_kept newer p x seen seen' is beside same = record {
+    records = λ i within lt.
+        same.blocks (record_block v.slots p.batch.journal i) (λ e. beside.no_record i within (sym e))
+        ∙ is.records i within lt;
+    descriptor = λ written. same.blocks (descriptor_block v.slots p.batch.journal) (λ e. beside.no_descriptor (sym e))
+        ∙ is.descriptor written;
+    homes = λ i within lt. elim (is.homes i within lt) [
+      | inl covered ↦ inl covered
+      | inr at ↦ inr (same.blocks (get_or p.batch.homes i 0) (λ e. beside.no_home i within lt (sym e)) ∙ at
+          ∙ sym (same.blocks (record_block v.slots p.batch.journal i) (λ e. beside.no_record i within (sym e))))
+    ];
+    gate = by (is_open p.stage) is.gate;
+  }
+    where
+      first : get_or seen' (4096 * gate_block v.slots p.batch.journal) 0
+          ≡ get_or seen (4096 * gate_block v.slots p.batch.journal) 0
+      first = same.firsts (gate_block v.slots p.batch.journal) (λ e. beside.no_gate (sym e))
 
-  one_kept : (w : WriteOut) (o : Option Stage) (x : ℕ) (seen seen' : List ℕ) → next_stage w ≡ o → IfSome o (IsWritten v new w.batch seen) → IsBeside w.batch x → SameBut x seen seen' → IfSome o (IsWritten v new w.batch seen')
-  one_kept w None x seen seen' e is beside same = tt
-  one_kept w (Some stage) x seen seen' e is beside same = written_kept w.batch stage x seen seen' (recorded_few (length w.batch.homes) w.steps stage e) (applied_few (length w.batch.homes) w.steps stage e) is beside same
+      by : (b : Bool) → MatchBool b (IsOpen seen v.slots p.batch.journal) (IsOpen seen v.slots p.batch.journal → ⊥)
+          → MatchBool b (IsOpen seen' v.slots p.batch.journal) (IsOpen seen' v.slots p.batch.journal → ⊥)
+      by true opens = first ∙ opens
+      by false shut = λ opens. shut (sym first ∙ opens)
 
-  pub all_kept : (batches : List WriteOut) (x : ℕ) (seen seen' : List ℕ) → AreWritten seen batches → AllByRecursion (λ (w : WriteOut). IsBeside w.batch x) batches → SameBut x seen seen' → AreWritten seen' batches
+  pub all_kept : (progress : List Progress) (x : ℕ) (seen seen' : List ℕ) → AreWritten v new seen progress
+      → AllByRecursion (λ (p : Progress). IsBeside p x) progress → SameBut x seen seen'
+      → AreWritten v new seen' progress
   all_kept [] x seen seen' are beside same = tt
-  all_kept (w ∷ newer) x seen seen' are beside same = (one_kept w (next_stage w) x seen seen' refl are.0 beside.0 same, all_kept newer x seen seen' are.1 beside.1 same)
+  all_kept (p ∷ newer) x seen seen' are beside same =
+      (written_kept (sure_in newer) p x seen seen' are.0 beside.0 same, all_kept newer x seen seen' are.1 beside.1 same)
 
-  -- ---- blocks that have no part of a batch
+  -- ---- blocks that have no part in it
 
-  pub beside_gate : (batch : Batch) (j : ℕ) → IsBatch (geometry_of v) batch → j < journals_of v.layout → IsBeside batch (gate_block v.slots j)
-  beside_gate batch j is lt = record {
-    no_record = λ i within e. gate_no_record v.slots j batch.journal i (omega (arith, within, is.described.homes.few)) e;
-    no_descriptor = gate_no_descriptor v.slots j batch.journal;
-    no_home = λ i within e. let h = home_at (geometry_of v) batch.homes i is.described.homes within in absurd (omega (arith, e, h.low, gate-below v.layout v.slots j lt));
+  pub beside_gate : (p : Progress) (j : ℕ) → IsBatch (geometry_of v) p.batch
+      → p.batch.journal ≢ j → j < journals_of v.layout
+      → IsBeside p (gate_block v.slots j)
+  beside_gate p j is other lt = record {
+    no_gate = gates_apart v.slots j p.batch.journal (λ e. other (sym e));
+    no_record = λ i within e.
+        gate_no_record v.slots j p.batch.journal i (omega (arith, within, is.described.homes.few)) e;
+    no_descriptor = gate_no_descriptor v.slots j p.batch.journal;
+    no_home = λ i within some e. let h = home_at (geometry_of v) p.batch.homes i is.described.homes within in
+        absurd (omega (arith, e, h.low, gate-below v.layout v.slots j lt));
   }
 
-  pub beside_record : (batch : Batch) (j i : ℕ) → IsBatch (geometry_of v) batch → batch.journal ≢ j → j < journals_of v.layout → i < v.slots → IsBeside batch (record_block v.slots j i)
-  beside_record batch j i is other lt fits = record {
-    no_record = λ l within e. records_apart v.slots j batch.journal i l (λ same. other (sym same)) fits (omega (arith, within, is.described.homes.few)) e;
-    no_descriptor = λ e. descriptor_no_record v.slots batch.journal j i fits (sym e);
-    no_home = λ l within e. let h = home_at (geometry_of v) batch.homes l is.described.homes within in absurd (omega (arith, e, h.low, record-below v.layout v.slots j i lt fits));
+  pub beside_record : (p : Progress) (j i : ℕ) → IsBatch (geometry_of v) p.batch
+      → p.batch.journal ≢ j → j < journals_of v.layout → i < v.slots
+      → IsBeside p (record_block v.slots j i)
+  beside_record p j i is other lt fits = record {
+    no_gate = λ e. gate_no_record v.slots p.batch.journal j i fits (sym e);
+    no_record = λ l within e. records_apart v.slots j p.batch.journal i l (λ same. other (sym same)) fits
+        (omega (arith, within, is.described.homes.few)) e;
+    no_descriptor = λ e. descriptor_no_record v.slots p.batch.journal j i fits (sym e);
+    no_home = λ l within some e. let h = home_at (geometry_of v) p.batch.homes l is.described.homes within in
+        absurd (omega (arith, e, h.low, record-below v.layout v.slots j i lt fits));
   }
 
-  pub beside_descriptor : (batch : Batch) (j : ℕ) → IsBatch (geometry_of v) batch → batch.journal ≢ j → j < journals_of v.layout → IsBeside batch (descriptor_block v.slots j)
-  beside_descriptor batch j is other lt = record {
-    no_record = λ l within e. descriptor_no_record v.slots j batch.journal l (omega (arith, within, is.described.homes.few)) e;
-    no_descriptor = descriptors_apart v.slots j batch.journal (λ same. other (sym same));
-    no_home = λ l within e. let h = home_at (geometry_of v) batch.homes l is.described.homes within in absurd (omega (arith, e, h.low, descriptor-below v.layout v.slots j lt));
+  pub beside_descriptor : (p : Progress) (j : ℕ) → IsBatch (geometry_of v) p.batch
+      → p.batch.journal ≢ j → j < journals_of v.layout
+      → IsBeside p (descriptor_block v.slots j)
+  beside_descriptor p j is other lt = record {
+    no_gate = λ e. gate_no_descriptor v.slots p.batch.journal j (sym e);
+    no_record = λ l within e.
+        descriptor_no_record v.slots j p.batch.journal l (omega (arith, within, is.described.homes.few)) e;
+    no_descriptor = descriptors_apart v.slots j p.batch.journal (λ same. other (sym same));
+    no_home = λ l within some e. let h = home_at (geometry_of v) p.batch.homes l is.described.homes within in
+        absurd (omega (arith, e, h.low, descriptor-below v.layout v.slots j lt));
+  }
+
+  -- a home block has no part in a write-out that wrote none of its own
+  pub beside_home : (p : Progress) (x : ℕ) → IsBatch (geometry_of v) p.batch
+      → IsHome (geometry_of v) x → applied (length p.batch.homes) p.stage ≡ 0
+      → IsBeside p x
+  beside_home p x is home none = record {
+    no_gate = λ e. absurd (omega (arith, e, home.low, gate-below v.layout v.slots p.batch.journal is.there));
+    no_record = λ l within e. absurd (omega (
+      arith,
+      e,
+      home.low,
+      record-below v.layout v.slots p.batch.journal l is.there (omega (arith, within, is.described.homes.few)),
+    ));
+    no_descriptor =
+        λ e. absurd (omega (arith, e, home.low, descriptor-below v.layout v.slots p.batch.journal is.there));
+    no_home = λ l within some e. absurd (omega (arith, some, none));
   }
 
 -- ---- what a binary search finds in numbers that rise
 
-rise_ordered : (low high : ℕ) (homes : List ℕ) → RiseWithin low high homes → (i j : ℕ) → i ≤ j → j < length homes → get_or homes i 0 ≤ get_or homes j 0
+rise_ordered : (low high : ℕ) (homes : List ℕ) → RiseWithin low high homes → (i j : ℕ) → i ≤ j → j < length homes
+    → get_or homes i 0 ≤ get_or homes j 0
 rise_ordered low high homes rise i j le lt = elim (cases_eq i j) [
   | inl same ↦ omega (arith, ap (λ k. get_or homes k 0) same)
   | inr other ↦ (let above = rising_apart low high homes i j rise (omega arith) lt in omega (arith, above))
 ]
 
-pub searched_rising : (low high : ℕ) (homes : List ℕ) (x : ℕ) (r : Result ℕ ℕ) → RiseWithin low high homes → IsBinarySearchResult (λ y. nat_cmp y x) homes r → IsTrue (is_ok r) ↔ Contains homes x
+pub searched_rising : (low high : ℕ) (homes : List ℕ) (x : ℕ) (r : Result ℕ ℕ)
+    → RiseWithin low high homes → IsBinarySearchResult (λ y. nat_cmp y x) homes r
+    → IsTrue (is_ok r) ↔ Contains homes x
 searched_rising low high homes x (Ok i) rise is =
     let at = searched homes x (Ok i) is (rise_ordered low high homes rise) in
     (λ e. (i, at.0, get_or_default homes i x 0 at.0 ∙ at.1), λ has. refl)
@@ -167,6 +226,8 @@ searched_rising low high homes x (Err i) rise is =
     let at = searched homes x (Err i) is (rise_ordered low high homes rise) in
     (λ e. absurd (both_ways false refl e), λ has. absurd (nowhere has.0 has.1 has.2 (cases_lt has.0 i) at.1 at.2))
   where
-    nowhere : (k : ℕ) → k < length homes → get_or homes k x ≡ x → (k < i) ⊎ (i ≤ k) → ((k : ℕ) → k < i → get_or homes k 0 < x) → ((k : ℕ) → i ≤ k → k < length homes → x < get_or homes k 0) → ⊥
+    nowhere : (k : ℕ) → k < length homes → get_or homes k x ≡ x → (k < i) ⊎ (i ≤ k)
+        → ((k : ℕ) → k < i → get_or homes k 0 < x) → ((k : ℕ) → i ≤ k → k < length homes → x < get_or homes k 0)
+        → ⊥
     nowhere k lt e (inl below) under over = omega (arith, under k below, sym (get_or_default homes k x 0 lt) ∙ e)
     nowhere k lt e (inr above) under over = omega (arith, over k above lt, sym (get_or_default homes k x 0 lt) ∙ e)

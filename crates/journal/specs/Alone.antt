@@ -10,7 +10,8 @@ use Rattle.volume_codec.specs.Recovery.{Batch, IsVolume}
 use Rattle.journal.specs.declared.flushed.Flushed.{Flushed}
 use Rattle.journal.specs.declared.flushed.Flushed.TheVariants.{Device}
 use Rattle.journal.specs.Work.{has_done}
-use Rattle.journal.specs.WriteOut.{FlushValue, IsBatch, next_stage, flush_of, flush_home, flush_work, flush_answer, flush_after}
+use Rattle.journal.specs.WriteOut.{FlushValue, IsBatch, next_stage, flush_of}
+use Rattle.journal.specs.WriteOut.{flush_home, flush_work, flush_answer, flush_after}
 
 -- the device holds a volume whose journals are closed, all of it synced, and this is a batch of that volume
 pub record MayBeginAlone {D : Type 0} (disk : Ghosts D) (v : SuperValue) (batch : Batch) (device : D) : Type 0 where

@@ -1,6 +1,7 @@
--- What finishing a batch makes of a volume: its gate is open, its records are written to their home blocks, and its gate
--- is closed.
-use Rattle.std.specs.Prelude.{◌≡◌, ◌≢◌, ◌↔◌, ◌⊎◌, ℕ, ◌+◌, ◌*◌, ◌^◌, ◌<◌, ◌≤◌, List, [], ◌∷◌, ◌++◌, length, slice_index, Result, OnOk, is_ok, if◌then◌else◌}
+-- What finishing a batch makes of a volume: its gate is open, its records are written to their home blocks, and its
+-- gate is closed.
+use Rattle.std.specs.Prelude.{◌≡◌, ◌≢◌, ◌↔◌, ◌⊎◌, ℕ, ◌+◌, ◌*◌, ◌^◌, ◌<◌, ◌≤◌, List, [], ◌∷◌}
+use Rattle.std.specs.Prelude.{◌++◌, length, slice_index, Result, OnOk, is_ok, if◌then◌else◌}
 use Rattle.device.specs.Count.{raised}
 use Rattle.device.specs.Device.{Only, LeavesOnly}
 use Rattle.device.specs.declared.device.Device.{Ghosts}

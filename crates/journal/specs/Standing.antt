@@ -12,7 +12,8 @@ use Rattle.volume_codec.specs.Recovery.{IsVolume}
 use Rattle.journal.specs.declared.flushed.Flushed.{Flushed}
 use Rattle.journal.specs.declared.flushed.Flushed.TheVariants.{Device}
 use Rattle.journal.specs.Work.{has_done}
-use Rattle.journal.specs.WriteOuts.{WriteOutsValue, none_of, has_uncommitted, next_work, next_answer, outs_after, outs_home, is_busy, begun}
+use Rattle.journal.specs.WriteOuts.{WriteOutsValue, none_of, has_uncommitted, next_work}
+use Rattle.journal.specs.WriteOuts.{next_answer, outs_after, outs_home, is_busy, begun}
 
 -- a batch of these home blocks may begin under this mark
 pub record MayBegin (outs : WriteOutsValue) (mark : ℕ) (homes : List ℕ) : Type 0 where

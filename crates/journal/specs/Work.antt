@@ -6,8 +6,10 @@ use Rattle.volume_codec.specs.Recovery.{Batch}
 use Rattle.journal.specs.declared.flushed.Flushed.{Flushed}
 use Rattle.journal.specs.declared.flushed.Flushed.TheVariants.{Device}
 use Rattle.journal.specs.declared.stage.Stage.{Stage}
-use Rattle.journal.specs.declared.stage.Stage.TheVariants.{Recording, Describing, SyncingRecords, Opening, Committing, Applying, SyncingHomes, Closing, Finishing}
-pub use Rattle.device.specs.Work.{Work, WriteAt, CopyBlock, Sync, Nothing, worked, TornByWork, TornFromWork, calls_of, HasFailed}
+use Rattle.journal.specs.declared.stage.Stage.TheVariants.{Recording, Describing, SyncingRecords, Opening}
+use Rattle.journal.specs.declared.stage.Stage.TheVariants.{Committing, Applying, SyncingHomes, Closing, Finishing}
+pub use Rattle.device.specs.Work.{Work, WriteAt, CopyBlock, Sync, Nothing, worked}
+pub use Rattle.device.specs.Work.{TornByWork, TornFromWork, calls_of, HasFailed}
 
 -- what the step of a stage of this batch asks for, where it is given these bytes as a record
 abbrev pub work_at : GeometryValue → Batch → List ℕ → Stage → Work

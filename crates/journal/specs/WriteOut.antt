@@ -1,5 +1,6 @@
 -- A write-out: a batch on its way to its home blocks. And the value of a `Flush`, which is one by itself.
-use Rattle.std.specs.Prelude.{ℕ, zero, suc, ◌+◌, ◌<◌, if◌then◌else◌, Bool, true, false, List, [], length, slice_index, Option, Some, None}
+use Rattle.std.specs.Prelude.{ℕ, zero, suc, ◌+◌, ◌<◌, if◌then◌else◌, Bool, true, false}
+use Rattle.std.specs.Prelude.{List, [], length, slice_index, Option, Some, None}
 use Rattle.std.specs.Option.{option_map, option_map_or, option_and_then}
 use Rattle.volume_codec.specs.Layout.{GeometryValue, journals_of}
 use Rattle.volume_codec.specs.Descriptor.{IsDescribed}

@@ -1,5 +1,6 @@
 -- The value of `WriteOuts`: the write-outs of a volume that aren't done, at most one for each journal.
-use Rattle.std.specs.Prelude.{ℕ, ◌+◌, ◌==◌, ◌||◌, if◌then◌else◌, Bool, false, not, List, [], ◌∷◌, ◌++◌, length, drop, Contains, Option, Some, None}
+use Rattle.std.specs.Prelude.{ℕ, ◌+◌, ◌==◌, ◌||◌, if◌then◌else◌, Bool, false, not, List}
+use Rattle.std.specs.Prelude.{[], ◌∷◌, ◌++◌, length, drop, Contains, Option, Some, None}
 use Rattle.std.specs.List.{list_any}
 use Rattle.std.specs.Option.{option_map_or, option_and_then}
 use Rattle.volume_codec.specs.declared.layout.Layout.{Layout}
@@ -9,7 +10,8 @@ use Rattle.journal.specs.declared.stage.Stage.{Stage}
 use Rattle.journal.specs.declared.flushed.Flushed.{Flushed}
 use Rattle.journal.specs.declared.flushed.Flushed.TheVariants.{Done, Device, Broken}
 use Rattle.journal.specs.Work.{Work, Nothing}
-use Rattle.journal.specs.WriteOut.{WriteOut, begun_of, advanced_of, next_stage, has_committed, next_record, next_home, work_of, answer_of, broken_after}
+use Rattle.journal.specs.WriteOut.{WriteOut, begun_of, advanced_of, next_stage, has_committed}
+use Rattle.journal.specs.WriteOut.{next_record, next_home, work_of, answer_of, broken_after}
 
 pub record WriteOutsValue : Type 0 where
   -- where the volume has its parts

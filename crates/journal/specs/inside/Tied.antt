@@ -1,106 +1,158 @@
--- What ties the write-outs to the bytes of the device, beside what a crash may leave.
-use Rattle.std.specs.Prelude.{ℕ, ◌≡◌, ◌≢◌, ◌<◌, ◌⊎◌, Bool, true, false, if◌then◌else◌, List, [], ◌∷◌, ◌++◌, length, slice_index, Contains, Option, Some, IfSome, MatchOption}
-use Rattle.std.specs.List.{AllByRecursion}
-use Rattle.std.specs.Option.{option_map_or, option_and_then}
-use Rattle.volume_codec.specs.Layout.{journals_of, descriptor_block, record_block, block_at}
+-- What ties the write-outs to the bytes of the device: what a read finds of each of them, and which blocks are loose,
+-- so that a crash may leave any bytes in them.
+use Rattle.std.specs.Prelude.{ℕ, ◌≡◌, ◌≢◌, ◌*◌, ◌<◌, ◌≤◌, ◌⊎◌, Bool, true, false, not, if◌then◌else◌}
+use Rattle.std.specs.Prelude.{List, [], ◌∷◌, ◌++◌, length, slice_index, Contains, MatchBool}
+use Rattle.std.specs.List.{AllByRecursion, list_any}
+use Rattle.std.specs.Option.{option_map_or}
+use Rattle.volume_codec.specs.Layout.{IsHome, journals_of, gate_block, descriptor_block, record_block, block_at}
 use Rattle.volume_codec.specs.Descriptor.{descriptor_text}
-use Rattle.volume_codec.specs.Super.{SuperValue}
-use Rattle.volume_codec.specs.Recovery.{Batch, IsOpen, Recovers}
+use Rattle.volume_codec.specs.Super.{SuperValue, IsSuper, geometry_of, block_count}
+use Rattle.volume_codec.specs.Recovery.{Batch, IsOpen, contents_in}
 use Rattle.journal.specs.declared.stage.Stage.{Stage}
-use Rattle.journal.specs.declared.stage.Stage.TheVariants.{Recording, Describing, SyncingRecords, Opening, Committing, Applying, SyncingHomes, Closing, Finishing}
-use Rattle.journal.specs.WriteOut.{WriteOut, next_stage, has_committed}
-use Rattle.journal.specs.WriteOuts.{current}
-use Rattle.journal.specs.Recovered.{RecoversBy}
+use Rattle.journal.specs.declared.stage.Stage.TheVariants.{Recording, Describing, SyncingRecords, Opening}
+use Rattle.journal.specs.declared.stage.Stage.TheVariants.{Committing, Applying, SyncingHomes, Closing, Finishing}
+use Rattle.journal.specs.Stage.{is_committed}
+use Rattle.journal.specs.WriteOut.{WriteOut, next_stage}
 
--- a read finds the gate open at this stage
+-- how far the write-out of a batch is: the stage of its next step
+pub record Progress : Type 0 where
+  pub batch : Batch
+  pub stage : Stage
+
+abbrev pub progress_of : WriteOut → List Progress
+progress_of w = option_map_or (λ stage. record { batch = w.batch; stage = stage } ∷ []) (next_stage w) []
+
+-- of the write-outs that aren't done, the oldest first
+abbrev pub progress_in : List WriteOut → List Progress
+progress_in [] = []
+progress_in (w ∷ newer) = progress_of w ++ progress_in newer
+
+-- ---- what is loose at a stage
+
+-- records and the descriptor: they were written since the last sync
+abbrev pub is_recording : Stage → Bool
+is_recording (Recording i) = true
+is_recording Describing = true
+is_recording SyncingRecords = true
+is_recording stage = false
+
+-- the gate
+abbrev pub is_switching : Stage → Bool
+is_switching Committing = true
+is_switching Finishing = true
+is_switching stage = false
+
+-- home blocks
+abbrev pub is_applying : Stage → Bool
+is_applying (Applying i) = true
+is_applying SyncingHomes = true
+is_applying stage = false
+
+-- the block is the descriptor or a record slot of this journal
+abbrev pub IsInJournal : ℕ → ℕ → ℕ → Type 0
+IsInJournal slots j b = (b ≡ descriptor_block slots j) ⊎ ((i : ℕ) × (i < slots) × (b ≡ record_block slots j i))
+
+-- this write-out leaves the block firm: it isn't loose
+pub record IsFirmFor (slots : ℕ) (p : Progress) (b : ℕ) : Type 0 where
+  pub journal : is_recording p.stage ≡ true → IsInJournal slots p.batch.journal b → ⊥
+  pub gate : is_switching p.stage ≡ true → b ≢ gate_block slots p.batch.journal
+  pub home : is_applying p.stage ≡ true → Contains p.batch.homes b → ⊥
+
+-- what a crash may leave: each block that all write-outs leave firm has what a read finds
+pub record IsLeft (slots : ℕ) (progress : List Progress) (seen c : List ℕ) : Type 0 where
+  pub same_length : length c ≡ length seen
+  pub firm : (b : ℕ) → AllByRecursion (λ p. IsFirmFor slots p b) progress → block_at c b ≡ block_at seen b
+
+-- ---- what a read finds
+
+-- the gate is open, and that is sure
+abbrev pub is_sure : Stage → Bool
+is_sure (Applying i) = true
+is_sure SyncingHomes = true
+is_sure Closing = true
+is_sure stage = false
+
 abbrev pub is_open : Stage → Bool
 is_open Committing = true
-is_open (Applying i) = true
-is_open SyncingHomes = true
-is_open Closing = true
-is_open stage = false
+is_open stage = is_sure stage
 
-abbrev pub open_of : WriteOut → List Batch
-open_of w = if option_map_or is_open (next_stage w) false then w.batch ∷ [] else []
+-- the batches whose gates are surely open, the newest first
+abbrev pub sure_in : List Progress → List Batch
+sure_in [] = []
+sure_in (p ∷ newer) = sure_in newer ++ (if is_sure p.stage then p.batch ∷ [] else [])
 
--- the batches whose gates a read finds open, the newest first
-abbrev pub open_in : List WriteOut → List Batch
-open_in [] = []
-open_in (w ∷ newer) = open_in newer ++ open_of w
+-- one of these batches has a record of the block
+abbrev pub IsCovered : List Batch → ℕ → Type 0
+IsCovered [] b = ⊥
+IsCovered (batch ∷ batches) b = Contains batch.homes b ⊎ IsCovered batches b
 
--- how many of so many records are written before this stage; once the gate is open it doesn't matter
+-- how many of so many records are written before this stage; once the batch is committed it doesn't matter
 abbrev pub recorded : ℕ → Stage → ℕ
 recorded blocks (Recording i) = i
 recorded blocks Describing = blocks
 recorded blocks SyncingRecords = blocks
 recorded blocks Opening = blocks
+recorded blocks Committing = blocks
 recorded blocks stage = 0
 
--- the descriptor is written before this stage; once the gate is open it doesn't matter
+-- the descriptor is written before this stage
 abbrev pub is_described : Stage → Bool
-is_described SyncingRecords = true
-is_described Opening = true
-is_described stage = false
+is_described (Recording i) = false
+is_described Describing = false
+is_described stage = true
 
--- how many of so many home blocks are written before this stage; once the gate is closed it doesn't matter
+-- how many of so many home blocks are written before this stage
 abbrev pub applied : ℕ → Stage → ℕ
 applied blocks (Applying i) = i
 applied blocks SyncingHomes = blocks
 applied blocks Closing = blocks
+applied blocks Finishing = blocks
 applied blocks stage = 0
 
--- what a read finds of a batch at this stage
-pub record IsWritten (v : SuperValue) (new : ℕ → List ℕ) (batch : Batch) (seen : List ℕ) (stage : Stage) : Type 0 where
-  -- the records so far are New
-  pub records : (i : ℕ) → i < recorded (length batch.homes) stage
-      → block_at seen (record_block v.slots batch.journal i) ≡ new (slice_index batch.homes i)
-  pub descriptor : is_described stage ≡ true
-      → block_at seen (descriptor_block v.slots batch.journal)
-      ≡ descriptor_text (record { mark = batch.mark; homes = batch.homes })
-  -- the home blocks so far are the records
-  pub homes : (i : ℕ) → i < applied (length batch.homes) stage
-      → block_at seen (slice_index batch.homes i) ≡ block_at seen (record_block v.slots batch.journal i)
+-- what a read finds of a write-out, where these are the newer batches whose gates are surely open
+pub record IsWritten (v : SuperValue) (new : ℕ → List ℕ) (newer : List Batch) (p : Progress) (seen : List ℕ) : Type 0
+  where
+    -- the records so far are New
+    pub records : (i : ℕ) → i < length p.batch.homes → i < recorded (length p.batch.homes) p.stage
+        → block_at seen (record_block v.slots p.batch.journal i) ≡ new (slice_index p.batch.homes i)
+    pub descriptor : is_described p.stage ≡ true
+        → block_at seen (descriptor_block v.slots p.batch.journal)
+        ≡ descriptor_text (record { mark = p.batch.mark; homes = p.batch.homes })
+    -- the home blocks so far are the records, where no newer batch has one
+    pub homes : (i : ℕ) → i < length p.batch.homes → i < applied (length p.batch.homes) p.stage
+        → IsCovered newer (slice_index p.batch.homes i)
+        ⊎ (block_at seen (slice_index p.batch.homes i) ≡ block_at seen (record_block v.slots p.batch.journal i))
+    pub gate : MatchBool (is_open p.stage) (IsOpen seen v.slots p.batch.journal)
+        (IsOpen seen v.slots p.batch.journal → ⊥)
 
--- the contents that a read finds, where this is the stage of the next step: New once the gate is open
-abbrev pub contents_at : Option Stage → (ℕ → List ℕ) → (ℕ → List ℕ) → ℕ → List ℕ
-contents_at (Some (Recording i)) old new = old
-contents_at (Some Describing) old new = old
-contents_at (Some SyncingRecords) old new = old
-contents_at (Some Opening) old new = old
-contents_at stage old new = new
+abbrev pub AreWritten : SuperValue → (ℕ → List ℕ) → List ℕ → List Progress → Type 0
+AreWritten v new seen [] = Unit {0}
+AreWritten v new seen (p ∷ newer) = IsWritten v new (sure_in newer) p seen × AreWritten v new seen newer
 
-abbrev pub stage_in : List WriteOut → Option Stage
-stage_in batches = option_and_then next_stage (current batches)
+-- a batch isn't committed
+abbrev pub is_under_way : List Progress → Bool
+is_under_way progress = list_any (λ p. not (is_committed p.stage)) progress
+
+-- the contents by the committed batches: Old, or New where each batch is committed
+abbrev pub kept_in : List Progress → (ℕ → List ℕ) → (ℕ → List ℕ) → ℕ → List ℕ
+kept_in progress old new = if is_under_way progress then old else new
 
 -- what a read finds
-pub record IsSeen (v : SuperValue) (batches : List WriteOut) (old new : ℕ → List ℕ) (seen : List ℕ) : Type 0 where
-  pub recovers : RecoversBy v (open_in batches) (contents_at (stage_in batches) old new) seen
-  pub each : AllByRecursion (λ w. IfSome (next_stage w) (IsWritten v new w.batch seen)) batches
+pub record IsSeen (v : SuperValue) (progress : List Progress) (old new : ℕ → List ℕ) (seen : List ℕ) : Type 0 where
+  pub super_block : IsSuper v (block_at seen 0)
+  pub long : 4096 * block_count v ≤ length seen
+  pub written : AreWritten v new seen progress
+  -- a journal without a write-out is closed
+  pub shut : (j : ℕ) → j < journals_of v.layout → AllByRecursion (λ p. p.batch.journal ≢ j) progress
+      → IsOpen seen v.slots j → ⊥
+  pub contents : (b : ℕ) → IsHome (geometry_of v) b
+      → kept_in progress old new b ≡ contents_in v.slots (sure_in progress) seen b
   -- without the batch that isn't committed New is Old
-  pub outside : (w : WriteOut) → current batches ≡ Some w → has_committed w ≡ false
-      → (b : ℕ) → (Contains w.batch.homes b → ⊥) → new b ≡ old b
-
--- what a crash may leave, where the next step is of this stage, and of a write-out in this journal
-abbrev pub IsLeftAt : SuperValue → List WriteOut → (ℕ → List ℕ) → (ℕ → List ℕ) → List ℕ → List ℕ → ℕ → Stage → Type 0
-IsLeftAt v batches old new seen c j (Recording i) = Recovers v old c × (IsOpen c v.slots j → ⊥)
-IsLeftAt v batches old new seen c j Describing = Recovers v old c × (IsOpen c v.slots j → ⊥)
-IsLeftAt v batches old new seen c j SyncingRecords = Recovers v old c × (IsOpen c v.slots j → ⊥)
-IsLeftAt v batches old new seen c j Opening = c ≡ seen
-IsLeftAt v batches old new seen c j Committing = Recovers v old c ⊎ Recovers v new c
-IsLeftAt v batches old new seen c j (Applying i) = RecoversBy v (open_in batches) new c
-IsLeftAt v batches old new seen c j SyncingHomes = RecoversBy v (open_in batches) new c
-IsLeftAt v batches old new seen c j Closing = c ≡ seen
-IsLeftAt v batches old new seen c j Finishing =
-    Recovers v new c
-    × ((k : ℕ) → k < journals_of v.layout → AllByRecursion (λ w. w.batch.journal ≢ k) batches → IsOpen c v.slots k → ⊥)
-
-abbrev pub CrashLeaves : SuperValue → List WriteOut → (ℕ → List ℕ) → (ℕ → List ℕ) → List ℕ → List ℕ → Type 0
-CrashLeaves v batches old new seen c =
-    MatchOption (current batches) (c ≡ seen)
-    (λ w. MatchOption (next_stage w) (c ≡ seen) (IsLeftAt v batches old new seen c w.batch.journal))
+  pub outside : AllByRecursion (λ p. is_committed p.stage ≡ false
+      → (b : ℕ) → (Contains p.batch.homes b → ⊥) → new b ≡ old b) progress
 
 -- the write-outs go on: none of their device calls failed
 pub record IsTied (v : SuperValue) (batches : List WriteOut) (old new : ℕ → List ℕ) (seen : List ℕ)
     (may_leave : List ℕ → Type 0) : Type 0 where
-  pub seen_is : IsSeen v batches old new seen
-  pub left_are : (c : List ℕ) → may_leave c → CrashLeaves v batches old new seen c
+  pub seen_is : IsSeen v (progress_in batches) old new seen
+  pub left_are : (c : List ℕ) → may_leave c → IsLeft v.slots (progress_in batches) seen c

@@ -6,7 +6,8 @@ use Rattle.journal.specs.Work.{has_done}
 use Rattle.journal.specs.WriteOut.{FlushValue, next_stage, advanced_of, flush_work, flush_answer}
 use Rattle.journal.specs.inside.Finishing.{after_steps, IsUnderWay}
 use Rattle.journal.proofs.StandsKept.{done_unless}
-use Rattle.journal.proofs.UnderWay.{late_stage, first_step, under_step, under_failed, under_end, after_value, late_answer_of}
+use Rattle.journal.proofs.UnderWay.{late_stage, first_step, under_step, under_failed}
+use Rattle.journal.proofs.UnderWay.{under_end, after_value, late_answer_of}
 use Rattle.journal.proofs.finishing.make_steps.Goals as goal
 
 pub loop-step-init : goal.loop-step-init
@@ -17,8 +18,10 @@ loop-step-init g c =
     let place : f.write_out.steps ≡ k + 4 + 0 = omega (arith, c.requires.committed) in
     record {
       value = λ i. record f { write_out = after_steps batch (place i); broken = c.requires.whole i };
-      under = subst (λ n. IsUnderWay g.D.Device f.geometry batch n c.args.device.now c.args.device.now) (let same : k + 4 ≡ k + 4 + 0 = omega arith in same)
-          (first_step g.D.Device f.geometry batch c.args.device.now c.requires.batch (g.met.D.Device.since_now c.args.device.now));
+      under = subst (λ n. IsUnderWay g.D.Device f.geometry batch n c.args.device.now c.args.device.now)
+          (let same : k + 4 ≡ k + 4 + 0 = omega arith in same)
+          (first_step g.D.Device f.geometry batch c.args.device.now c.requires.batch
+          (g.met.D.Device.since_now c.args.device.now));
     }
 
 pub step-requires-clause-long : goal.step-requires-clause-long
@@ -31,15 +34,18 @@ step-requires-clause-going g c =
     let batch = c.args.flush.now.write_out.batch in
     let n = length batch.homes + 4 + c.loop-step._step in
     let s = late_stage batch n (omega arith) (omega (arith, c.requires.steps)) in
-    subst (λ (f : FlushValue). IsSome (next_stage f.write_out)) (sym c.loop-step.invariant.value) (subst IsSome (sym s.1) refl)
+    subst (λ (f : FlushValue). IsSome (next_stage f.write_out)) (sym c.loop-step.invariant.value)
+    (subst IsSome (sym s.1) refl)
 
 pub returns-in-Device : goal.returns-in-Device
 returns-in-Device g c =
     let f = c.args.flush.now in
     let batch = f.write_out.batch in
     let n = length batch.homes + 4 + c.loop-step._step in
-    let did = did_as g.D.Device (ap (λ (x : FlushValue). flush_work x _) c.loop-step.invariant.value) (ap has_done c.in-Device.is) c.step.ensures.did in
-    under_failed g.D.Device f.geometry batch c.requires.batch n _ c.args.device.now c.loop-step.device c.step.new.device c.requires.long (omega arith) (omega (arith, c.requires.steps)) c.loop-step.invariant.under _ did
+    let did = did_as g.D.Device (ap (λ (x : FlushValue). flush_work x _) c.loop-step.invariant.value)
+    (ap has_done c.in-Device.is) c.step.ensures.did in
+    under_failed g.D.Device f.geometry batch c.requires.batch n _ c.args.device.now c.loop-step.device c.step.new.device
+    c.requires.long (omega arith) (omega (arith, c.requires.steps)) c.loop-step.invariant.under _ did
 
 pub loop-step-preserved : goal.loop-step-preserved
 loop-step-preserved g c =
@@ -51,18 +57,25 @@ loop-step-preserved g c =
     let to : n < 2 * k + 7 = omega (arith, c.requires.steps) in
     let whole = c.in_default.not-Device in
     let sane : c.step.result ≡ Broken → ⊥ = λ e.
-    ⊎_elim (λ is. late_answer_of batch n (omega arith) to (sym (ap flush_answer value) ∙ sym is ∙ e)) (λ is. whole is) c.step.ensures.answer in
-    let did = did_as g.D.Device (ap (λ (x : FlushValue). flush_work x _) value) (done_unless c.step.result whole) c.step.ensures.did in
+    ⊎_elim (λ is. late_answer_of batch n (omega arith) to (sym (ap flush_answer value) ∙ sym is ∙ e))
+    (λ is. whole is) c.step.ensures.answer in
+    let did = did_as g.D.Device (ap (λ (x : FlushValue). flush_work x _) value)
+    (done_unless c.step.result whole) c.step.ensures.did in
     let next : n + 1 ≡ k + 4 + (c.loop-step._step + 1) = omega arith in
     record {
-      value = c.step.ensures.value ∙ after_value c.loop-step.flush c.step.result whole sane ∙ ap (λ (x : FlushValue). record x { write_out = advanced_of x.write_out }) value
+      value =
+          c.step.ensures.value
+          ∙ after_value c.loop-step.flush c.step.result whole sane
+          ∙ ap (λ (x : FlushValue). record x { write_out = advanced_of x.write_out }) value
           ∙ (λ i. record f { write_out = after_steps batch (next i); broken = false });
       under = subst (λ m. IsUnderWay g.D.Device f.geometry batch m c.args.device.now c.step.new.device) next
-          (under_step g.D.Device f.geometry batch c.requires.batch n _ c.args.device.now c.loop-step.device c.step.new.device c.requires.long (omega arith) to c.loop-step.invariant.under did);
+          (under_step g.D.Device f.geometry batch c.requires.batch n _ c.args.device.now c.loop-step.device
+          c.step.new.device c.requires.long (omega arith) to c.loop-step.invariant.under did);
     }
 
 pub returns : goal.returns
 returns g c =
     let batch = c.args.flush.now.write_out.batch in
     let k = length batch.homes in
-    under_end g.D.Device c.args.flush.now.geometry batch (k + 4 + c.loop-step._step) c.args.device.now c.loop-step.device (omega (arith, c.requires.steps)) c.loop-step.invariant.under
+    under_end g.D.Device c.args.flush.now.geometry batch (k + 4 + c.loop-step._step) c.args.device.now
+    c.loop-step.device (omega (arith, c.requires.steps)) c.loop-step.invariant.under

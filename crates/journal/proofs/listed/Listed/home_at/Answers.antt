@@ -9,7 +9,11 @@ use Rattle.journal.proofs.listed.Listed.home_at.Goals as goal
 pub returns-clause-home : goal.returns-clause-home
 returns-clause-home g c geometry batch =
     let items = c.self.inside.homes.items in
-    let lt : c.args.place < length items = subst (λ f. c.args.place < length f.write_out.batch.homes) (sym c.self.view_is) c.requires in
-    let same : c.index.result.now ≡ get_or items c.args.place 0 = c.index.ensures ∙ get_or_default items c.args.place c.index.result.now 0 lt in
-    let own : IsBatch geometry (record { journal = c.self.inside.journal; mark = c.self.inside.mark; homes = items }) = subst (λ (w : ListedWriteOut). IsBatch geometry w.write_out.batch) (sym c.self.view_is) batch in
+    let lt : c.args.place < length items =
+    subst (λ f. c.args.place < length f.write_out.batch.homes) (sym c.self.view_is) c.requires in
+    let same : c.index.result.now ≡ get_or items c.args.place 0 =
+    c.index.ensures
+    ∙ get_or_default items c.args.place c.index.result.now 0 lt in
+    let own : IsBatch geometry (record { journal = c.self.inside.journal; mark = c.self.inside.mark; homes = items }) =
+    subst (λ (w : ListedWriteOut). IsBatch geometry w.write_out.batch) (sym c.self.view_is) batch in
     subst (IsHome geometry) (sym same) (home_at geometry items c.args.place own.described.homes lt)

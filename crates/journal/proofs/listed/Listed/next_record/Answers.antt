@@ -7,5 +7,8 @@ use Rattle.journal.proofs.listed.Listed.next_record.Goals as goal
 pub returns-in-Some-Recording-clause-within : goal.returns-in-Some-Recording-clause-within
 returns-in-Some-Recording-clause-within g c =
     let w = c.args.self.now.write_out in
-    let at : next_stage w ≡ Some (Recording c.in-Some-Recording.record) = sym c.stage.ensures ∙ c.in-Some-Recording.is ∙ ap Some c.in-Some-Recording.field-0-is in
+    let at : next_stage w ≡ Some (Recording c.in-Some-Recording.record) =
+    sym c.stage.ensures
+    ∙ c.in-Some-Recording.is
+    ∙ ap Some c.in-Some-Recording.field-0-is in
     recording_within (length w.batch.homes) w.steps c.in-Some-Recording.record at

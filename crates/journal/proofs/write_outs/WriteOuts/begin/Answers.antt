@@ -21,30 +21,57 @@ module _ (g : _) (c : goal.After-self-1 g) where
 
   sound : IsSound (begun outs c.args.mark c.args.homes.now)
   sound =
-      let below = subst (λ (o : WriteOutsValue). AllByRecursion (λ w. w.batch.mark < c.args.mark) o.batches) (sym c.self.view_is) c.requires.newest in
-      let homes = subst (λ (o : WriteOutsValue). AreHomes o.geometry c.args.homes.now) (sym c.self.view_is) c.requires.homes in
+      let below = subst (λ (o : WriteOutsValue). AllByRecursion (λ w. w.batch.mark < c.args.mark) o.batches)
+      (sym c.self.view_is) c.requires.newest in
+      let homes =
+      subst (λ (o : WriteOutsValue). AreHomes o.geometry c.args.homes.now) (sym c.self.view_is) c.requires.homes in
       begun_sound outs c.args.mark c.args.homes.now c.self.invariant.sound free
-      (next_is_batch outs c.args.mark c.args.homes.now c.self.invariant.sound c.requires.some_mark (omega (arith, c.ranges.mark.fits)) homes) below
+      (next_is_batch outs c.args.mark c.args.homes.now c.self.invariant.sound c.requires.some_mark
+      (omega (arith, c.ranges.mark.fits)) homes) below
 
-  popped : map (λ list. vec_capacity list) c.self.inside.spare.items ≡ map (λ list. vec_capacity list) c.pop.new.self.items ++ vec_capacity c.unwrap.result ∷ []
-  popped = popped_last (λ list. vec_capacity list) c.self.inside.spare.items c.pop.new.self.items c.pop.result c.unwrap.result c.pop.ensures.items c.unwrap.ensures
+  popped : map (λ list. vec_capacity list) c.self.inside.spare.items
+      ≡ map (λ list. vec_capacity list) c.pop.new.self.items ++ vec_capacity c.unwrap.result ∷ []
+  popped = popped_last (λ list. vec_capacity list) c.self.inside.spare.items c.pop.new.self.items c.pop.result
+      c.unwrap.result c.pop.ensures.items c.unwrap.ensures
 
-  pushed : c.push.new.self.items ≡ c.self.inside.listed.items ++ listed_of (next_batch outs c.args.mark c.args.homes.now) (vec_capacity c.refilled-list.result) ∷ []
+  pushed : c.push.new.self.items
+      ≡ c.self.inside.listed.items
+      ++ listed_of (next_batch outs c.args.mark c.args.homes.now) (vec_capacity c.refilled-list.result) ∷ []
   pushed =
       let size = c.self.inside.listed.ok.0 in
-      let ok : IsOk c.push.result = c.push.ensures.succeeds (omega (arith, free.fewer, length-write_outs c.self.inside.listed.items, size, c.self.invariant.room)) in
-      c.push.ensures.items ∙ cond-true (is_ok c.push.result) (c.self.inside.listed.items ++ c.new-one.result ∷ []) c.self.inside.listed.items ok
-      ∙ ap (λ f. c.self.inside.listed.items ++ f ∷ []) (c.new-one.ensures ∙ ap (λ l. listed_of (next_batch outs c.args.mark l) (vec_capacity c.refilled-list.result)) c.refilled-list.ensures.items)
+      let ok : IsOk c.push.result = c.push.ensures.succeeds (omega (
+        arith,
+        free.fewer,
+        length-write_outs c.self.inside.listed.items,
+        size,
+        c.self.invariant.room,
+      )) in
+      c.push.ensures.items
+      ∙ cond-true (is_ok c.push.result)
+      (c.self.inside.listed.items ++ c.new-one.result ∷ []) c.self.inside.listed.items ok
+      ∙ ap (λ f. c.self.inside.listed.items ++ f ∷ [])
+      (c.new-one.ensures ∙ ap (λ l. listed_of (next_batch outs c.args.mark l) (vec_capacity c.refilled-list.result))
+      c.refilled-list.ensures.items)
 
 pub invariant_of-self : goal.invariant_of-self
 invariant_of-self g c =
-    let has = begun_room (outs g c) c.self.inside.listed.items c.push.new.self.items (map (λ list. vec_capacity list) c.self.inside.spare.items) (map (λ list. vec_capacity list) c.pop.new.self.items)
-    (vec_capacity c.self.inside.listed) (vec_capacity c.push.new.self) (vec_capacity c.self.inside.spare) (vec_capacity c.pop.new.self) c.args.mark c.args.homes.now (vec_capacity c.unwrap.result) (vec_capacity c.refilled-list.result)
-    c.self.invariant (sound g c) (pushed g c) (popped g c) c.refilled-list.ensures.room c.push.ensures.capacity (omega (arith, c.pop.ensures.capacity)) in
-    let same = begun_view (outs g c) c.self.inside.listed.items c.push.new.self.items c.args.mark c.args.homes.now (vec_capacity c.refilled-list.result) c.journal_after-self-inside.result refl (pushed g c) c.journal_after-self-inside.ensures in
-    subst (λ o. HasRoom o c.push.new.self.items (vec_capacity c.push.new.self) (map (λ list. vec_capacity list) c.pop.new.self.items) (vec_capacity c.pop.new.self)) (sym same) has
+    let has = begun_room (outs g c) c.self.inside.listed.items c.push.new.self.items
+    (map (λ list. vec_capacity list) c.self.inside.spare.items) (map (λ list. vec_capacity list) c.pop.new.self.items)
+    (vec_capacity c.self.inside.listed) (vec_capacity c.push.new.self) (vec_capacity c.self.inside.spare)
+    (vec_capacity c.pop.new.self) c.args.mark c.args.homes.now (vec_capacity c.unwrap.result)
+    (vec_capacity c.refilled-list.result)
+    c.self.invariant (sound g c) (pushed g c) (popped g c) c.refilled-list.ensures.room c.push.ensures.capacity
+    (omega (arith, c.pop.ensures.capacity)) in
+    let same = begun_view (outs g c) c.self.inside.listed.items c.push.new.self.items c.args.mark c.args.homes.now
+    (vec_capacity c.refilled-list.result) c.journal_after-self-inside.result refl
+    (pushed g c) c.journal_after-self-inside.ensures in
+    subst (λ o. HasRoom o c.push.new.self.items (vec_capacity c.push.new.self)
+    (map (λ list. vec_capacity list) c.pop.new.self.items) (vec_capacity c.pop.new.self))
+    (sym same) has
 
 pub returns : goal.returns
 returns g c =
-    begun_view (outs g c) c.self.inside.listed.items c.push.new.self.items c.args.mark c.args.homes.now (vec_capacity c.refilled-list.result) c.journal_after-self-inside.result refl (pushed g c) c.journal_after-self-inside.ensures
+    begun_view (outs g c) c.self.inside.listed.items c.push.new.self.items c.args.mark c.args.homes.now
+    (vec_capacity c.refilled-list.result) c.journal_after-self-inside.result refl
+    (pushed g c) c.journal_after-self-inside.ensures
     ∙ ap (λ o. begun o c.args.mark c.args.homes.now) c.self.view_is

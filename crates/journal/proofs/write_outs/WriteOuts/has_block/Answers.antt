@@ -11,9 +11,13 @@ pub returns-then-has_block : goal.returns-then-has_block
 returns-then-has_block g c =
     let listed = c.self.inside.listed.items in
     let f = c.one-item.result in
-    let lt : c.loop-one.one-index < length listed = omega (arith, c.loop-one-test.true, ap length c.deref-one-items.ensures.value) in
-    let is : f ≡ get_or listed c.loop-one.one-index f = c.one-item.is ∙ ap (λ l. get_or l c.loop-one.one-index f) c.deref-one-items.ensures.value in
-    let found = found_block listed c.loop-one.one-index f c.args.home lt is (c.has_block.ensures.0 c.if-has_block.true) in
+    let lt : c.loop-one.one-index < length listed =
+    omega (arith, c.loop-one-test.true, ap length c.deref-one-items.ensures.value) in
+    let is : f ≡ get_or listed c.loop-one.one-index f =
+    c.one-item.is
+    ∙ ap (λ l. get_or l c.loop-one.one-index f) c.deref-one-items.ensures.value in
+    let found =
+    found_block listed c.loop-one.one-index f c.args.home lt is (c.has_block.ensures.0 c.if-has_block.true) in
     (λ e. subst (λ o. HasBlock o c.args.home) c.self.view_is found, λ has. refl)
 
 pub loop-one-preserved : goal.loop-one-preserved
@@ -22,8 +26,10 @@ loop-one-preserved g c k d lt has =
     let f = c.one-item.result in
     elim (cases_eq k c.loop-one.one-index) [
       | inl same ↦
-          (let is : get_or items k d ≡ f = ap (λ i. get_or items i d) same ∙ get_or_default items c.loop-one.one-index d f c.loop-one-test.true ∙ sym c.one-item.is in
-          both_ways c.has_block.result c.if-has_block.false (c.has_block.ensures.1 (subst (λ (x : ListedWriteOut). Contains x.write_out.batch.homes c.args.home) is has)))
+          (let is : get_or items k d ≡ f = ap (λ i. get_or items i d) same
+          ∙ get_or_default items c.loop-one.one-index d f c.loop-one-test.true ∙ sym c.one-item.is in
+          both_ways c.has_block.result c.if-has_block.false
+          (c.has_block.ensures.1 (subst (λ (x : ListedWriteOut). Contains x.write_out.batch.homes c.args.home) is has)))
       | inr other ↦ c.loop-one.invariant k d (omega arith) has
     ]
 
@@ -31,9 +37,12 @@ pub returns : goal.returns
 returns g c =
     let listed = c.self.inside.listed.items in
     let items = c.deref-one-items.result.now in
-    let none : (k : ℕ) (d : ListedWriteOut) → k < length items → Contains (get_or items k d).write_out.batch.homes c.args.home → ⊥ =
+    let none : (k : ℕ) (d : ListedWriteOut) → k < length items
+    → Contains (get_or items k d).write_out.batch.homes c.args.home → ⊥ =
     λ k d lt. c.loop-one.invariant k d (omega (arith, lt, c.loop-one-test.false)) in (
       λ e. absurd (both_ways false refl e),
-      λ has. absurd (no_block listed c.args.home (subst (λ (l : List ListedWriteOut). (k : ℕ) (d : ListedWriteOut) → k < length l → Contains (get_or l k d).write_out.batch.homes c.args.home → ⊥) c.deref-one-items.ensures.value none)
+      λ has. absurd (no_block listed c.args.home (subst (λ (l : List ListedWriteOut).
+          (k : ℕ) (d : ListedWriteOut) → k < length l → Contains (get_or l k d).write_out.batch.homes c.args.home → ⊥)
+          c.deref-one-items.ensures.value none)
           (subst (λ o. HasBlock o c.args.home) (sym c.self.view_is) has)),
     )

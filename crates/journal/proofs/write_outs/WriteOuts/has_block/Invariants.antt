@@ -4,4 +4,5 @@ use Rattle.journal.specs.inside.Listed.{ListedWriteOut}
 use Rattle.journal.proofs.write_outs.WriteOuts.has_block.Given as goal
 
 abbrev pub invariant-loop-one : goal.invariant-loop-one
-invariant-loop-one g l = (k : ℕ) (d : ListedWriteOut) → k < l.one-index → Contains (get_or l.one-items k d).write_out.batch.homes l.home → ⊥
+invariant-loop-one g l =
+    (k : ℕ) (d : ListedWriteOut) → k < l.one-index → Contains (get_or l.one-items k d).write_out.batch.homes l.home → ⊥

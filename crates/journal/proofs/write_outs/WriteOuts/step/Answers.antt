@@ -1,4 +1,5 @@
-use Rattle.std.proofs.Common.{◌≡◌, ℕ, ◌<◌, List, [], true, false, Option, Some, length, map, ap, ◌∙◌, sym, subst, inl, inr, ⊎_elim, arith, refl}
+use Rattle.std.proofs.Common.{◌≡◌, ℕ, ◌<◌, List, [], true, false, Option, Some, length}
+use Rattle.std.proofs.Common.{map, ap, ◌∙◌, sym, subst, inl, inr, ⊎_elim, arith, refl}
 use Rattle.std.specs.Prelude.{IfSome}
 use Rattle.std.specs.Option.{option_map_or}
 use Rattle.std.specs.Vec.{vec_capacity}
@@ -9,7 +10,8 @@ use Rattle.journal.specs.declared.flushed.Flushed.TheVariants.{Done, Device, Bro
 use Rattle.journal.specs.Work.{Nothing}
 use Rattle.journal.specs.WriteOut.{WriteOut, has_committed, work_of, answer_of}
 use Rattle.journal.specs.inside.Listed.{ListedWriteOut}
-use Rattle.journal.specs.WriteOuts.{WriteOutsValue, current, current_stage, outs_home, next_work, next_answer, outs_after}
+use Rattle.journal.specs.WriteOuts.{WriteOutsValue, current, current_stage}
+use Rattle.journal.specs.WriteOuts.{outs_home, next_work, next_answer, outs_after}
 use Rattle.volume_codec.specs.Super.{SuperValue}
 use Rattle.device.proofs.Moments.{leaves_weaker, leaves_at_start}
 use Rattle.device.proofs.Done.{did_as}
@@ -27,23 +29,34 @@ pub step-answer-requires-clause-batch : goal.step-answer-requires-clause-batch
 step-answer-requires-clause-batch g c =
     let listed = c.self.inside.listed.items in
     let w = c.index_mut-one.result.now.write_out in
-    let is : IsCurrent (write_outs_in listed) c.unwrap-at.result = subst (λ o. IsCurrent o.batches c.unwrap-at.result) (sym c.self.view_is) (subst (λ o. IfSome o (IsCurrent c.args.self.now.batches)) c.unwrap-at.ensures c.current_place.ensures.some) in
+    let is : IsCurrent (write_outs_in listed) c.unwrap-at.result =
+    subst (λ o. IsCurrent o.batches c.unwrap-at.result) (sym c.self.view_is)
+    (subst (λ o. IfSome o (IsCurrent c.args.self.now.batches)) c.unwrap-at.ensures c.current_place.ensures.some) in
     let lt : c.unwrap-at.result < length listed = omega (arith, is.within, length-write_outs listed) in
     let here = at_place listed c.unwrap-at.result c.index_mut-one.result.now lt c.index_mut-one.ensures.value w in
-    (all_at (IsWriteOut c.self.inside.geometry) (write_outs_in listed) w c.self.invariant.sound.each (c.unwrap-at.result, is.within, here)).batch
+    (all_at (IsWriteOut c.self.inside.geometry) (write_outs_in listed) w c.self.invariant.sound.each
+    (c.unwrap-at.result, is.within, here)).batch
 
 pub step-answer-requires-clause-going : goal.step-answer-requires-clause-going
 step-answer-requires-clause-going g c =
     let listed = c.self.inside.listed.items in
     let w = c.index_mut-one.result.now.write_out in
-    let is : IsCurrent (write_outs_in listed) c.unwrap-at.result = subst (λ o. IsCurrent o.batches c.unwrap-at.result) (sym c.self.view_is) (subst (λ o. IfSome o (IsCurrent c.args.self.now.batches)) c.unwrap-at.ensures c.current_place.ensures.some) in
+    let is : IsCurrent (write_outs_in listed) c.unwrap-at.result =
+    subst (λ o. IsCurrent o.batches c.unwrap-at.result) (sym c.self.view_is)
+    (subst (λ o. IfSome o (IsCurrent c.args.self.now.batches)) c.unwrap-at.ensures c.current_place.ensures.some) in
     let lt : c.unwrap-at.result < length listed = omega (arith, is.within, length-write_outs listed) in
     let here = at_place listed c.unwrap-at.result c.index_mut-one.result.now lt c.index_mut-one.ensures.value w in
-    (all_at (IsWriteOut c.self.inside.geometry) (write_outs_in listed) w c.self.invariant.sound.each (c.unwrap-at.result, is.within, here)).going
+    (all_at (IsWriteOut c.self.inside.geometry) (write_outs_in listed) w c.self.invariant.sound.each
+    (c.unwrap-at.result, is.within, here)).going
 
 module _ (g : _) (c : goal.After-settle g) where
   abbrev outs : WriteOutsValue
-  outs = record { geometry = c.self.inside.geometry; next = c.self.inside.next; batches = write_outs_in c.self.inside.listed.items; broken = c.self.inside.broken }
+  outs = record {
+    geometry = c.self.inside.geometry;
+    next = c.self.inside.next;
+    batches = write_outs_in c.self.inside.listed.items;
+    broken = c.self.inside.broken;
+  }
 
   abbrev f : ListedWriteOut
   f = c.index_mut-one.result.now
@@ -52,53 +65,72 @@ module _ (g : _) (c : goal.After-settle g) where
   bytes = c.args.bytes.now
 
   current_at : IsCurrent outs.batches c.unwrap-at.result
-  current_at = subst (λ o. IsCurrent o.batches c.unwrap-at.result) (sym c.self.view_is) (subst (λ o. IfSome o (IsCurrent c.args.self.now.batches)) c.unwrap-at.ensures c.current_place.ensures.some)
+  current_at = subst (λ o. IsCurrent o.batches c.unwrap-at.result) (sym c.self.view_is)
+      (subst (λ o. IfSome o (IsCurrent c.args.self.now.batches)) c.unwrap-at.ensures c.current_place.ensures.some)
 
   within : c.unwrap-at.result < length c.self.inside.listed.items
   within = omega (arith, current_at.within, length-write_outs c.self.inside.listed.items)
 
   current_is : current outs.batches ≡ Some f.write_out
-  current_is = current_at.current f.write_out ∙ ap Some (at_place c.self.inside.listed.items c.unwrap-at.result f within c.index_mut-one.ensures.value f.write_out)
+  current_is =
+      current_at.current f.write_out
+      ∙ ap Some
+      (at_place c.self.inside.listed.items c.unwrap-at.result f within c.index_mut-one.ensures.value f.write_out)
 
   some : outs.batches ≡ [] → ⊥
   some e = let none = ap length e in let lt = current_at.within in absurd (omega arith)
 
   same_work : work_of outs.geometry bytes f.write_out ≡ next_work c.args.self.now bytes
   same_work =
-      sym (cond-false outs.broken Nothing (option_map_or (work_of outs.geometry bytes) (current outs.batches) Nothing) c.if-self.false ∙ ap (λ (o : Option WriteOut). option_map_or (work_of outs.geometry bytes) o Nothing) current_is)
+      sym (cond-false outs.broken Nothing
+      (option_map_or (work_of outs.geometry bytes) (current outs.batches) Nothing) c.if-self.false
+      ∙ ap (λ (o : Option WriteOut). option_map_or (work_of outs.geometry bytes) o Nothing) current_is)
       ∙ ap (λ o. next_work o bytes) c.self.view_is
 
   same_answer : answer_of f.write_out ≡ next_answer outs
   same_answer =
-      sym (cond-false outs.broken Broken (option_map_or answer_of (current outs.batches) Broken) c.if-self.false ∙ ap (λ (o : Option WriteOut). option_map_or answer_of o Broken) current_is)
+      sym (cond-false outs.broken Broken (option_map_or answer_of (current outs.batches) Broken) c.if-self.false
+      ∙ ap (λ (o : Option WriteOut). option_map_or answer_of o Broken) current_is)
 
   not_broken : c.step-answer.result ≡ Broken → ⊥
   not_broken = c.step-answer.ensures.sane
 
   ends : (mark : ℕ) → c.step-answer.result ≡ Done mark → has_committed f.write_out ≡ true
-  ends mark e = ⊎_elim (λ is. done_committed f.write_out mark (sym is ∙ e)) (λ is. absurd (differ (sym is ∙ e))) c.step-answer.ensures.answer
+  ends mark e = ⊎_elim (λ is. done_committed f.write_out mark (sym is ∙ e))
+      (λ is. absurd (differ (sym is ∙ e))) c.step-answer.ensures.answer
     where
       differ : Device ≡ Done mark → ⊥
       differ e = cc
 
   sound : IsSound (outs_after outs c.step-answer.result)
   sound = ⊎_elim
-      (λ is. subst (λ (a : Flushed). IsSound (outs_after outs a)) (sym (is ∙ same_answer)) (step_sound outs c.self.invariant.sound c.if-self.false some))
+      (λ is. subst (λ (a : Flushed). IsSound (outs_after outs a)) (sym (is ∙ same_answer))
+      (step_sound outs c.self.invariant.sound c.if-self.false some))
       (λ is. subst (λ (a : Flushed). IsSound (outs_after outs a)) (sym is) (failed_sound outs c.self.invariant.sound))
       c.step-answer.ensures.answer
 
-  value : record outs { batches = write_outs_in c.settle.new.listed.items; broken = c.settle.new.broken } ≡ outs_after outs c.step-answer.result
+  value : record outs { batches = write_outs_in c.settle.new.listed.items; broken = c.settle.new.broken }
+      ≡ outs_after outs c.step-answer.result
   value =
       (λ i. record outs { batches = write_outs_in (c.settle.ensures.listed i); broken = c.settle.ensures.broken i })
-      ∙ stepped_view outs c.self.inside.listed.items c.unwrap-at.result f c.step-answer.new.self refl current_at c.index_mut-one.ensures.value c.step-answer.result c.step-answer.ensures.value not_broken ends
+      ∙ stepped_view outs c.self.inside.listed.items c.unwrap-at.result f c.step-answer.new.self refl current_at
+      c.index_mut-one.ensures.value c.step-answer.result c.step-answer.ensures.value not_broken ends
 
 pub invariant_of-self : goal.invariant_of-self
 invariant_of-self g c =
-    let has = stepped_room (outs g c) c.self.inside.listed.items c.unwrap-at.result (f g c) c.step-answer.new.self refl (current_at g c) c.index_mut-one.ensures.value c.step-answer.result
-    (map (λ list. vec_capacity list) c.self.inside.spare.items) (map (λ list. vec_capacity list) c.settle.new.spare.items) (vec_capacity c.self.inside.listed) (vec_capacity c.settle.new.listed) (vec_capacity c.self.inside.spare) (vec_capacity c.settle.new.spare)
-    c.self.invariant (sound g c) c.step-answer.ensures.value c.settle.ensures.spare (omega (arith, c.settle.ensures.capacity)) c.settle.ensures.spare_capacity in
-    subst (λ o. HasRoom o c.settle.new.listed.items (vec_capacity c.settle.new.listed) (map (λ list. vec_capacity list) c.settle.new.spare.items) (vec_capacity c.settle.new.spare)) (sym (value g c))
-    (subst (λ l. HasRoom (outs_after (outs g c) c.step-answer.result) l (vec_capacity c.settle.new.listed) (map (λ list. vec_capacity list) c.settle.new.spare.items) (vec_capacity c.settle.new.spare)) (sym c.settle.ensures.listed) has)
+    let has = stepped_room (outs g c) c.self.inside.listed.items c.unwrap-at.result (f g c) c.step-answer.new.self refl
+    (current_at g c) c.index_mut-one.ensures.value c.step-answer.result
+    (map (λ list. vec_capacity list) c.self.inside.spare.items)
+    (map (λ list. vec_capacity list) c.settle.new.spare.items) (vec_capacity c.self.inside.listed)
+    (vec_capacity c.settle.new.listed) (vec_capacity c.self.inside.spare) (vec_capacity c.settle.new.spare)
+    c.self.invariant (sound g c) c.step-answer.ensures.value c.settle.ensures.spare
+    (omega (arith, c.settle.ensures.capacity)) c.settle.ensures.spare_capacity in
+    subst (λ o. HasRoom o c.settle.new.listed.items (vec_capacity c.settle.new.listed)
+    (map (λ list. vec_capacity list) c.settle.new.spare.items) (vec_capacity c.settle.new.spare))
+    (sym (value g c))
+    (subst (λ l. HasRoom (outs_after (outs g c) c.step-answer.result) l (vec_capacity c.settle.new.listed)
+    (map (λ list. vec_capacity list) c.settle.new.spare.items) (vec_capacity c.settle.new.spare))
+    (sym c.settle.ensures.listed) has)
 
 pub returns-clause-value : goal.returns-clause-value
 returns-clause-value g c = value g c ∙ ap (λ o. outs_after o c.step-answer.result) c.self.view_is
@@ -107,7 +139,8 @@ pub returns-clause-whole : goal.returns-clause-whole
 returns-clause-whole g c sane = not_broken g c
 
 pub returns-clause-answer : goal.returns-clause-answer
-returns-clause-answer g c = ⊎_elim (λ is. inl (is ∙ same_answer g c ∙ ap next_answer c.self.view_is)) (λ is. inr is) c.step-answer.ensures.answer
+returns-clause-answer g c = ⊎_elim (λ is. inl (is ∙ same_answer g c ∙ ap next_answer c.self.view_is))
+    (λ is. inr is) c.step-answer.ensures.answer
 
 pub returns-clause-did : goal.returns-clause-did
 returns-clause-did g c = did_as g.D.Device (same_work g c) refl c.step-answer.ensures.did
@@ -119,7 +152,8 @@ module _ (g : _) (c : goal.After-settle g) where
   is_some : c.args.self.now.batches ≡ [] → ⊥
   is_some e = some g c (ap (λ (o : WriteOutsValue). o.batches) c.self.view_is ∙ e)
 
-  is_step : g.D.Device.is_honest c.args.device.now → IsStep g.D.Device c.args.self.now (bytes g c) c.step-answer.result c.args.device.now c.step-answer.new.device
+  is_step : g.D.Device.is_honest c.args.device.now
+      → IsStep g.D.Device c.args.self.now (bytes g c) c.step-answer.result c.args.device.now c.step-answer.new.device
   is_step honest = record {
     whole = is_whole;
     some = is_some;
@@ -129,22 +163,31 @@ module _ (g : _) (c : goal.After-settle g) where
     did = returns-clause-did g c;
   }
 
-module _ (g : _) (c : goal.After-settle g) (v : SuperValue) (old new : ℕ → List ℕ) (s : Stands g.D.Device v c.args.self.now old new c.args.device.now)
+module _ (g : _) (c : goal.After-settle g) (v : SuperValue) (old new : ℕ → List ℕ)
+    (s : Stands g.D.Device v c.args.self.now old new c.args.device.now)
     (is_new : (home : ℕ) → outs_home c.args.self.now ≡ Some home → c.args.bytes.now ≡ new home) where
-  pub kept : g.D.Device.is_honest c.args.device.now → Stands g.D.Device v (outs_after c.args.self.now c.step-answer.result) old new c.step-answer.new.device
-  kept honest = Stepped c.args.self.now old new (bytes g c) c.step-answer.result c.args.device.now c.step-answer.new.device (is_step g c honest) is_new s
+  pub kept : g.D.Device.is_honest c.args.device.now
+      → Stands g.D.Device v (outs_after c.args.self.now c.step-answer.result) old new c.step-answer.new.device
+  kept honest = Stepped c.args.self.now old new
+      (bytes g c) c.step-answer.result c.args.device.now c.step-answer.new.device (is_step g c honest) is_new s
 
-  pub crashes : LeavesOnly g.D.Device.moment g.D.Device.left_since c.args.device.now c.step-answer.new.device (LeftWithin v old new (current_stage c.args.self.now))
+  pub crashes : LeavesOnly g.D.Device.moment g.D.Device.left_since c.args.device.now c.step-answer.new.device
+      (LeftWithin v old new (current_stage c.args.self.now))
   crashes = leaves_weaker (returns-clause-did g c).time
-      (stands_within v old new c.args.self.now (g.D.Device.seen c.args.device.now) (g.D.Device.may_leave c.args.device.now) (bytes g c) c.told-bytes (standing g.D.Device v s) (is_whole g c) (is_some g c) is_new)
+      (stands_within v old new c.args.self.now (g.D.Device.seen c.args.device.now)
+      (g.D.Device.may_leave c.args.device.now) (bytes g c) c.told-bytes (standing g.D.Device v s) (is_whole g c)
+      (is_some g c) is_new)
 
 pub returns-clause-stands : goal.returns-clause-stands
 returns-clause-stands g c v old new honest s is_new =
-    subst (λ o. Stands g.D.Device v o old new c.step-answer.new.device) (sym (returns-clause-value g c)) (kept g c v old new s is_new honest)
+    subst (λ o. Stands g.D.Device v o old new c.step-answer.new.device) (sym (returns-clause-value g c))
+    (kept g c v old new s is_new honest)
 
 pub returns-clause-crash : goal.returns-clause-crash
 returns-clause-crash g c v old new s is_new = crashes g c v old new s is_new
 
 pub returns-then-self-clause-crash : goal.returns-then-self-clause-crash
 returns-then-self-clause-crash g c v old new s is_new =
-    leaves_at_start (λ d left. stands_left v old new c.args.self.now (g.D.Device.seen c.args.device.now) (g.D.Device.may_leave c.args.device.now) (standing g.D.Device v s) d (g.met.D.Device.since_now c.args.device.now d left))
+    leaves_at_start (λ d left.
+    stands_left v old new c.args.self.now (g.D.Device.seen c.args.device.now) (g.D.Device.may_leave c.args.device.now)
+    (standing g.D.Device v s) d (g.met.D.Device.since_now c.args.device.now d left))

@@ -1,0 +1,308 @@
+-- Which blocks write-outs leave firm, and what follows for the batches whose gates are surely open.
+use Rattle.std.proofs.Common.{◌≡◌, ◌≢◌, ℕ, ◌+◌, ◌*◌, ◌<◌, ◌≤◌, inl, inr, true, false, cond, ◌==◌, List}
+use Rattle.std.proofs.Common.{[], ◌∷◌, ◌++◌, length, drop, get_or, refl, sym, ap, ◌∙◌, subst, arith}
+use Rattle.std.specs.Prelude.{MatchBool}
+use Rattle.std.specs.List.{AllByRecursion, Contains}
+use Rattle.std.proofs.lemmas.Bool.{both_ways, cond_both, cond-true, or_left, or_right, eq-eqb}
+use Rattle.std.proofs.lemmas.List.{get_or-take, get_or-drop, get_or_default}
+use Rattle.volume_codec.specs.Layout.{IsHome, journals_of, gate_block, descriptor_block}
+use Rattle.volume_codec.specs.Layout.{record_block, first_home, block_at}
+use Rattle.volume_codec.specs.Super.{SuperValue, IsSuper, geometry_of, block_count}
+use Rattle.volume_codec.specs.Recovery.{Batch, IsOpen, IsOpenBatch, AreFalling, has_journal, standing_block}
+use Rattle.journal.specs.declared.stage.Stage.{Stage}
+use Rattle.journal.specs.declared.stage.Stage.TheVariants.{Recording, Describing, SyncingRecords, Opening}
+use Rattle.journal.specs.declared.stage.Stage.TheVariants.{Committing, Applying, SyncingHomes, Closing, Finishing}
+use Rattle.journal.specs.Stage.{is_committed}
+use Rattle.journal.specs.WriteOut.{IsBatch}
+use Rattle.journal.specs.inside.Tied.{Progress, IsInJournal, IsFirmFor, IsLeft, is_recording}
+use Rattle.journal.specs.inside.Tied.{is_switching, is_applying, is_sure, is_open, is_described}
+use Rattle.journal.specs.inside.Tied.{sure_in, IsCovered, IsWritten, AreWritten, kept_in, IsSeen}
+use Rattle.journal.proofs.Alls.{IsIn, all_map, all_each, all_in, all-append, in_left, in_right}
+use Rattle.journal.proofs.Places.{gate-below, descriptor-below, record-below, gate-above}
+use Rattle.journal.proofs.Places.{descriptor-above, record-above, descriptors_apart, gate_no_descriptor}
+use Rattle.journal.proofs.Places.{gate_no_record, descriptor_no_record, records_apart}
+use Rattle.journal.proofs.Standing.{IsSlot, AreFew, standing-cases, standing-recorded, covered_of, lacking, has-below}
+use Rattle.journal.proofs.Recovering.{HoldsBy, falling_push}
+use Rattle.journal.proofs.Written.{home_at}
+use Rattle.journal.proofs.Tying.{false_true, IsBefore, AreOrdered, AreGoing, one_stage}
+
+-- ---- stages
+
+pub sure_facts : (s : Stage) → is_sure s ≡ true
+    → (is_open s ≡ true) × (is_described s ≡ true) × (is_switching s ≡ false) × (is_recording s ≡ false)
+    × (is_committed s ≡ true)
+sure_facts (Recording i) e = false_true e
+sure_facts Describing e = false_true e
+sure_facts SyncingRecords e = false_true e
+sure_facts Opening e = false_true e
+sure_facts Committing e = false_true e
+sure_facts (Applying i) e = (refl, refl, refl, refl, refl)
+sure_facts SyncingHomes e = (refl, refl, refl, refl, refl)
+sure_facts Closing e = (refl, refl, refl, refl, refl)
+sure_facts Finishing e = false_true e
+
+pub applying_sure : (s : Stage) → is_applying s ≡ true → is_sure s ≡ true
+applying_sure (Recording i) e = false_true e
+applying_sure Describing e = false_true e
+applying_sure SyncingRecords e = false_true e
+applying_sure Opening e = false_true e
+applying_sure Committing e = false_true e
+applying_sure (Applying i) e = refl
+applying_sure SyncingHomes e = refl
+applying_sure Closing e = false_true e
+applying_sure Finishing e = false_true e
+
+-- ---- batches whose gates are surely open
+
+pub sure_all : (P : Batch → Type 0) (progress : List Progress)
+    → AllByRecursion (λ (p : Progress). is_sure p.stage ≡ true → P p.batch) progress
+    → AllByRecursion P (sure_in progress)
+sure_all P [] all = tt
+sure_all P (p ∷ newer) all =
+    all-append P (sure_in newer) (cond (is_sure p.stage) (p.batch ∷ []) []) (sure_all P newer all.1)
+    (cond_both (is_sure p.stage) (p.batch ∷ []) [] (AllByRecursion P) (λ e. (all.0 e, tt)) (λ e. tt))
+
+pub sure_there : (progress : List Progress) (p : Progress) → IsIn p progress → is_sure p.stage ≡ true
+    → IsIn p.batch (sure_in progress)
+sure_there [] p there sure = absurd there
+sure_there (q ∷ newer) p (inl is) sure =
+    in_right (sure_in newer) (cond (is_sure q.stage) (q.batch ∷ []) []) p.batch
+    (subst (IsIn p.batch)
+    (sym (cond-true (is_sure q.stage) (q.batch ∷ []) [] (ap (λ (x : Progress). is_sure x.stage) is ∙ sure)))
+    (inl (ap (λ (x : Progress). x.batch) is)))
+sure_there (q ∷ newer) p (inr later) sure =
+    in_left (sure_in newer) (cond (is_sure q.stage) (q.batch ∷ []) []) p.batch (sure_there newer p later sure)
+
+pub sure_falling : (progress : List Progress) → AreOrdered progress → AreFalling (sure_in progress)
+sure_falling [] ordered = tt
+sure_falling (p ∷ newer) ordered =
+    cond_both (is_sure p.stage) (p.batch ∷ []) [] (λ (l : List Batch). AreFalling (sure_in newer ++ l))
+    (λ e. falling_push (sure_in newer) p.batch (sure_falling newer ordered.1)
+    (sure_all (λ (b : Batch). p.batch.mark < b.mark) newer
+    (all_map {P = IsBefore p} {Q = λ (q : Progress). is_sure q.stage ≡ true → p.batch.mark < q.batch.mark}
+    (λ q before sure. before.marks) newer ordered.0)))
+    (λ e.
+    subst AreFalling (sym (Rattle.std.proofs.lemmas.List.append-nil (sure_in newer))) (sure_falling newer ordered.1))
+
+pub has_in : (batches : List Batch) (batch : Batch) → IsIn batch batches → has_journal batches batch.journal ≡ true
+has_in [] batch there = absurd there
+has_in (x ∷ older) batch (inl is) = or_left (x.journal == batch.journal) (has_journal older batch.journal)
+    (eq-eqb x.journal batch.journal (ap (λ (b : Batch). b.journal) is))
+has_in (x ∷ older) batch (inr later) =
+    or_right (x.journal == batch.journal) (has_journal older batch.journal) (has_in older batch later)
+
+-- what a read finds of one of them
+pub written_at : (v : SuperValue) (new : ℕ → List ℕ) (seen : List ℕ) (progress : List Progress) (p : Progress)
+    → AreWritten v new seen progress → IsIn p progress → (newer : List Batch) × IsWritten v new newer p seen
+written_at v new seen [] p are there = absurd there
+written_at v new seen (q ∷ newer) p are (inl is) =
+    (sure_in newer, subst (λ (x : Progress). IsWritten v new (sure_in newer) x seen) is are.0)
+written_at v new seen (q ∷ newer) p are (inr later) = written_at v new seen newer p are.1 later
+
+-- ---- firm blocks
+
+-- a block's first byte
+pub first_same : (c d : List ℕ) (b : ℕ) → block_at c b ≡ block_at d b → get_or c (4096 * b) 0 ≡ get_or d (4096 * b) 0
+first_same c d b same = sym (first c) ∙ ap (λ (l : List ℕ). get_or l 0 0) same ∙ first d
+  where
+    first : (l : List ℕ) → get_or (block_at l b) 0 0 ≡ get_or l (4096 * b) 0
+    first l =
+        get_or-take 4096 (drop (4096 * b) l) 0 0 (omega arith)
+        ∙ get_or-drop (4096 * b) l 0 0
+        ∙ ap (λ k. get_or l k 0) (let e : 4096 * b + 0 ≡ 4096 * b = omega arith in e)
+
+module _ (v : SuperValue) (progress : List Progress) (going : AreGoing (geometry_of v) progress) where
+  abbrev pub IsFirm : ℕ → Type 0
+  IsFirm b = AllByRecursion (λ (p : Progress). IsFirmFor v.slots p b) progress
+
+  batch_of : (p : Progress) → IsIn p progress → IsBatch (geometry_of v) p.batch
+  batch_of p there = all_in (λ (q : Progress). IsBatch (geometry_of v) q.batch) progress p going.each there
+
+  pub home_of : (p : Progress) (b : ℕ) → IsIn p progress → Contains p.batch.homes b → IsHome (geometry_of v) b
+  home_of p b there has = subst (IsHome (geometry_of v)) (sym (get_or_default p.batch.homes has.0 b 0 has.1) ∙ has.2)
+      (home_at (geometry_of v) p.batch.homes has.0 (batch_of p there).described.homes has.1)
+
+  low_firm : (x : ℕ) → x < first_home v.layout v.slots
+      → ((p : Progress) → IsIn p progress → is_recording p.stage ≡ true → IsInJournal v.slots p.batch.journal x → ⊥)
+      → ((p : Progress) → IsIn p progress → is_switching p.stage ≡ true → x ≢ gate_block v.slots p.batch.journal)
+      → IsFirm x
+  low_firm x low no_part no_gate = all_each (λ (p : Progress). IsFirmFor v.slots p x) progress (λ p there. record {
+    journal = no_part p there;
+    gate = no_gate p there;
+    home = λ e has. let home = home_of p x there has in absurd (omega (arith, low, home.low));
+  })
+
+  pub super_firm : IsFirm 0
+  super_firm = low_firm 0 (omega arith)
+      (λ p there rec part. elim part [
+        | inl at ↦ descriptor-above v.slots p.batch.journal (sym at)
+        | inr at ↦ record-above v.slots p.batch.journal at.0 (sym at.2)
+      ])
+      (λ p there sw at. gate-above v.slots p.batch.journal (sym at))
+
+  pub gate_firm : (j : ℕ) → j < journals_of v.layout
+      → AllByRecursion (λ (q : Progress). is_switching q.stage ≡ true → q.batch.journal ≢ j) progress
+      → IsFirm (gate_block v.slots j)
+  gate_firm j lt others = low_firm (gate_block v.slots j) (gate-below v.layout v.slots j lt)
+      (λ p there rec part. elim part [
+        | inl at ↦ gate_no_descriptor v.slots j p.batch.journal at
+        | inr at ↦ gate_no_record v.slots j p.batch.journal at.0 at.1 at.2
+      ])
+      (λ p there sw at. Rattle.journal.proofs.Places.gates_apart v.slots j p.batch.journal (λ e.
+      all_in (λ (q : Progress). is_switching q.stage ≡ true → q.batch.journal ≢ j) progress p others there sw (sym e))
+      at)
+
+  pub descriptor_firm : (j : ℕ) → j < journals_of v.layout
+      → AllByRecursion (λ (q : Progress). is_recording q.stage ≡ true → q.batch.journal ≢ j) progress
+      → IsFirm (descriptor_block v.slots j)
+  descriptor_firm j lt others = low_firm (descriptor_block v.slots j) (descriptor-below v.layout v.slots j lt)
+      (λ p there rec part. let other =
+      all_in (λ (q : Progress). is_recording q.stage ≡ true → q.batch.journal ≢ j) progress p others there rec in
+      elim part [
+        | inl at ↦ descriptors_apart v.slots j p.batch.journal (λ e. other (sym e)) at
+        | inr at ↦ descriptor_no_record v.slots j p.batch.journal at.0 at.1 at.2
+      ])
+      (λ p there sw at. gate_no_descriptor v.slots p.batch.journal j (sym at))
+
+  pub record_firm : (j i : ℕ) → j < journals_of v.layout → i < v.slots
+      → AllByRecursion (λ (q : Progress). is_recording q.stage ≡ true → q.batch.journal ≢ j) progress
+      → IsFirm (record_block v.slots j i)
+  record_firm j i lt within others = low_firm (record_block v.slots j i) (record-below v.layout v.slots j i lt within)
+      (λ p there rec part. let other =
+      all_in (λ (q : Progress). is_recording q.stage ≡ true → q.batch.journal ≢ j) progress p others there rec in
+      elim part [
+        | inl at ↦ descriptor_no_record v.slots p.batch.journal j i within (sym at)
+        | inr at ↦ records_apart v.slots j p.batch.journal i at.0 (λ e. other (sym e)) within at.1 at.2
+      ])
+      (λ p there sw at. gate_no_record v.slots p.batch.journal j i within (sym at))
+
+  pub home_firm : (b : ℕ) → IsHome (geometry_of v) b
+      → ((p : Progress) → IsIn p progress → is_applying p.stage ≡ true → Contains p.batch.homes b → ⊥) → IsFirm b
+  home_firm b home none = all_each (λ (p : Progress). IsFirmFor v.slots p b) progress (λ p there. record {
+    journal = λ rec part. low p there part;
+    gate = λ sw at.
+        absurd (omega (arith, home.low, at, gate-below v.layout v.slots p.batch.journal (batch_of p there).there));
+    home = none p there;
+  })
+    where
+      low : (p : Progress) → IsIn p progress → IsInJournal v.slots p.batch.journal b → ⊥
+      low p there (inl at) = absurd (omega (
+        arith,
+        home.low,
+        at,
+        descriptor-below v.layout v.slots p.batch.journal (batch_of p there).there,
+      ))
+      low p there (inr at) = absurd (omega (
+        arith,
+        home.low,
+        at.2,
+        record-below v.layout v.slots p.batch.journal at.0 (batch_of p there).there at.1,
+      ))
+
+  -- the parts of one write-out's journal
+  pub not_recording : (p : Progress) → IsIn p progress → is_recording p.stage ≡ false
+      → AllByRecursion (λ (q : Progress). is_recording q.stage ≡ true → q.batch.journal ≢ p.batch.journal) progress
+  not_recording p there not = all_map {P = λ (q : Progress). q.batch.journal ≡ p.batch.journal → q.stage ≡ p.stage}
+      {Q = λ (q : Progress). is_recording q.stage ≡ true → q.batch.journal ≢ p.batch.journal}
+      (λ q same rec e. both_ways (is_recording p.stage) not (ap is_recording (sym (same e)) ∙ rec)) progress
+      (one_stage progress p going.ordered there)
+
+  pub not_switching : (p : Progress) → IsIn p progress → is_switching p.stage ≡ false
+      → AllByRecursion (λ (q : Progress). is_switching q.stage ≡ true → q.batch.journal ≢ p.batch.journal) progress
+  not_switching p there not = all_map {P = λ (q : Progress). q.batch.journal ≡ p.batch.journal → q.stage ≡ p.stage}
+      {Q = λ (q : Progress). is_switching q.stage ≡ true → q.batch.journal ≢ p.batch.journal}
+      (λ q same sw e. both_ways (is_switching p.stage) not (ap is_switching (sym (same e)) ∙ sw)) progress
+      (one_stage progress p going.ordered there)
+
+  -- what stands for home blocks
+  few_sure : AreFew v.slots (sure_in progress)
+  few_sure = sure_all (λ (b : Batch). length b.homes ≤ v.slots) progress
+      (all_map {P = λ (p : Progress). IsBatch (geometry_of v) p.batch}
+      {Q = λ (p : Progress). is_sure p.stage ≡ true → length p.batch.homes ≤ v.slots}
+      (λ p is sure. is.described.homes.few) progress going.each)
+
+  there_sure : AllByRecursion (λ (b : Batch). b.journal < journals_of v.layout) (sure_in progress)
+  there_sure = sure_all (λ (b : Batch). b.journal < journals_of v.layout) progress
+      (all_map {P = λ (p : Progress). IsBatch (geometry_of v) p.batch}
+      {Q = λ (p : Progress). is_sure p.stage ≡ true → p.batch.journal < journals_of v.layout}
+      (λ p is sure. is.there) progress going.each)
+
+  -- no record is written in the journal of a sure batch
+  sure_apart : (j : ℕ) → has_journal (sure_in progress) j ≡ true
+      → AllByRecursion (λ (q : Progress). is_recording q.stage ≡ true → q.batch.journal ≢ j) progress
+  sure_apart j has =
+      all_each (λ (q : Progress). is_recording q.stage ≡ true → q.batch.journal ≢ j) progress (λ q there rec e.
+      both_ways (has_journal (sure_in progress) j)
+      (lacking (sure_in progress) j (sure_all (λ (b : Batch). b.journal ≢ j) progress
+      (all_map {P = λ (p : Progress). p.batch.journal ≡ q.batch.journal → p.stage ≡ q.stage}
+      {Q = λ (p : Progress). is_sure p.stage ≡ true → p.batch.journal ≢ j}
+      (λ p same sure is.
+      both_ways (is_recording q.stage) (sure_facts q.stage (ap is_sure (sym (same (is ∙ sym e))) ∙ sure)).3 rec)
+      progress (one_stage progress q going.ordered there)))) has)
+
+  pub covered_sure : (p : Progress) (b : ℕ) → IsIn p progress → is_applying p.stage ≡ true → Contains p.batch.homes b
+      → IsCovered (sure_in progress) b
+  covered_sure p b there applying has =
+      covered_of (sure_in progress) p.batch b (sure_there progress p there (applying_sure p.stage applying)) has
+
+  pub standing_firm : (b : ℕ) → IsHome (geometry_of v) b → IsFirm (standing_block v.slots (sure_in progress) b)
+  standing_firm b home = elim (standing-cases v.slots (sure_in progress) b few_sure) [
+    | inl slot ↦ subst IsFirm (sym slot.at)
+        (record_firm slot.journal slot.slot
+        (has-below (journals_of v.layout) (sure_in progress) slot.journal there_sure slot.has) slot.within
+        (sure_apart slot.journal slot.has))
+    | inr same ↦ subst IsFirm (sym same) (home_firm b home (λ p there applying has.
+        no_slot same (standing-recorded v.slots (sure_in progress) b few_sure (covered_sure p b there applying has))))
+  ]
+    where
+      no_slot : standing_block v.slots (sure_in progress) b ≡ b
+          → IsSlot v.slots (sure_in progress) (standing_block v.slots (sure_in progress) b)
+          → ⊥
+      no_slot same slot = absurd (omega (
+        arith,
+        home.low,
+        same,
+        slot.at,
+        record-below v.layout v.slots slot.journal slot.slot
+            (has-below (journals_of v.layout) (sure_in progress) slot.journal there_sure slot.has) slot.within,
+      ))
+
+  -- ---- what a crash leaves of them
+
+  module _ (old new : ℕ → List ℕ) (seen c : List ℕ) (s : IsSeen v progress old new seen)
+      (l : IsLeft v.slots progress seen c) where
+    pub gate_left : (j : ℕ) → IsFirm (gate_block v.slots j) → IsOpen c v.slots j → IsOpen seen v.slots j
+    gate_left j firm is = sym (first_same c seen (gate_block v.slots j) (l.firm (gate_block v.slots j) firm)) ∙ is
+
+    pub gate_kept : (j : ℕ) → IsFirm (gate_block v.slots j) → IsOpen seen v.slots j → IsOpen c v.slots j
+    gate_kept j firm is = first_same c seen (gate_block v.slots j) (l.firm (gate_block v.slots j) firm) ∙ is
+
+    pub sure_open : (p : Progress) → IsIn p progress → is_sure p.stage ≡ true → IsOpenBatch (geometry_of v) c p.batch
+    sure_open p there sure =
+        let w = (written_at v new seen progress p s.written there).1 in
+        let facts = sure_facts p.stage sure in
+        let is_batch = batch_of p there in
+        record {
+          there = is_batch.there;
+          gate = gate_kept p.batch.journal (gate_firm p.batch.journal is_batch.there (not_switching p there facts.2))
+              (subst (λ b. MatchBool b (IsOpen seen v.slots p.batch.journal) (IsOpen seen v.slots p.batch.journal → ⊥))
+              facts.0 w.gate);
+          descriptor = record {
+            described = is_batch.described;
+            spelled = l.firm (descriptor_block v.slots p.batch.journal)
+                (descriptor_firm p.batch.journal is_batch.there (not_recording p there facts.3))
+                ∙ w.descriptor facts.1;
+          };
+        }
+
+    pub holds_left : HoldsBy v (sure_in progress) (kept_in progress old new) c
+    holds_left = record {
+      super_block = subst (IsSuper v) (sym (l.firm 0 super_firm)) s.super_block;
+      long = subst (λ n. 4096 * block_count v ≤ n) (sym l.same_length) s.long;
+      each = sure_all (IsOpenBatch (geometry_of v) c) progress
+          (all_each (λ (p : Progress). is_sure p.stage ≡ true → IsOpenBatch (geometry_of v) c p.batch)
+          progress sure_open);
+      falling = sure_falling progress going.ordered;
+      contents_are = λ b home.
+          s.contents b home ∙ sym (l.firm (standing_block v.slots (sure_in progress) b) (standing_firm b home));
+    }
