@@ -1,0 +1,5 @@
+mod Alike
+mod Counting
+mod Early
+mod Examples
+mod Written
