@@ -17,6 +17,7 @@ pub mod OnTrack
 pub mod AtOnce
 pub mod Stops
 pub mod Words
+pub mod Unmarked
 pub mod inside
 pub mod Later
 pub mod Durability

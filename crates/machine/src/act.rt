@@ -1,5 +1,6 @@
 // What a processor does in one step, and what it is answered.
 ghost use Rattle.std.specs.Prelude.{◌≡◌, ◌↔◌, IsTrue};
+ghost use Rattle.machine.specs.Unmarked.{settles, unmarked_by};
 
 use crate::{FewBytes, MsyncFlags};
 use mappings::Rights;
@@ -181,6 +182,82 @@ pub enum Reply {
     Nothing,
     /// The step was refused.
     Refused(Refusal),
+}
+
+impl Reply {
+    /// Whether it is the other reply: the same kind, with the same values.
+    pub fn is_same(&self, other: &Reply) -> bool
+        ensures { IsTrue result ↔ (self.now ≡ other.now) }
+    {
+        match self {
+            Reply::Bytes(x) => matches!(other, Reply::Bytes(y) if *x == *y),
+            Reply::Stored => matches!(other, Reply::Stored),
+            Reply::Filled => matches!(other, Reply::Filled),
+            Reply::Evicted => matches!(other, Reply::Evicted),
+            Reply::Switched => matches!(other, Reply::Switched),
+            Reply::Idled => matches!(other, Reply::Idled),
+            Reply::Woken => matches!(other, Reply::Woken),
+            Reply::Fixed => matches!(other, Reply::Fixed),
+            Reply::Space(x) => matches!(other, Reply::Space(y) if *x == *y),
+            Reply::Destroyed => matches!(other, Reply::Destroyed),
+            Reply::Mapped => matches!(other, Reply::Mapped),
+            Reply::Begun => matches!(other, Reply::Begun),
+            Reply::Fine => matches!(other, Reply::Fine),
+            Reply::Unmapped => matches!(other, Reply::Unmapped),
+            Reply::Protected => matches!(other, Reply::Protected),
+            Reply::Resized => matches!(other, Reply::Resized),
+            Reply::Reclaimed => matches!(other, Reply::Reclaimed),
+            Reply::Kept => matches!(other, Reply::Kept),
+            Reply::Marked(x) => matches!(other, Reply::Marked(y) if *x == *y),
+            Reply::Acked => matches!(other, Reply::Acked),
+            Reply::Resumed => matches!(other, Reply::Resumed),
+            Reply::Going => matches!(other, Reply::Going),
+            Reply::Committed(x) => matches!(other, Reply::Committed(y) if *x == *y),
+            Reply::Done(x) => matches!(other, Reply::Done(y) if *x == *y),
+            Reply::Nothing => matches!(other, Reply::Nothing),
+            Reply::Refused(x) => matches!(other, Reply::Refused(y) if *x == *y),
+        }
+    }
+
+    /// What it says of stores and lengths that no mark holds yet: that there are some, that there are none, or nothing.
+    pub fn settles(&self) -> Option<bool>
+        ensures { result ≡ settles self.now }
+    {
+        match self {
+            Reply::Stored | Reply::Resized => Some(true),
+            Reply::Marked(_) => Some(false),
+            Reply::Bytes(_)
+            | Reply::Filled
+            | Reply::Evicted
+            | Reply::Switched
+            | Reply::Idled
+            | Reply::Woken
+            | Reply::Fixed
+            | Reply::Space(_)
+            | Reply::Destroyed
+            | Reply::Mapped
+            | Reply::Begun
+            | Reply::Fine
+            | Reply::Unmapped
+            | Reply::Protected
+            | Reply::Reclaimed
+            | Reply::Kept
+            | Reply::Acked
+            | Reply::Resumed
+            | Reply::Going
+            | Reply::Committed(_)
+            | Reply::Done(_)
+            | Reply::Nothing
+            | Reply::Refused(_) => None,
+        }
+    }
+
+    /// Whether there are stores or lengths that no mark holds yet, where before this reply there were some, or none.
+    pub fn leaves_unmarked(&self, before: bool) -> bool
+        ensures { result ≡ unmarked_by before self.now }
+    {
+        self.settles().unwrap_or(before)
+    }
 }
 
 impl fmt::Display for Reply {
