@@ -1,9 +1,9 @@
 -- What a copy of a disk holds while the calls of a run are made.
-use Rattle.std.proofs.Common.{◌≡◌, ℕ, zero, suc, ◌+◌, ◌-◌, ◌/◌, ◌<◌, ◌≤◌, Bool, true, false, ◌==◌, if◌then◌else◌, List, [], ◌∷◌, ◌++◌, length, map, min, max, take, drop, get_or, slice_range, slice_get, Option, Some, ◌⊎◌, refl, sym, ◌∙◌, ap, subst, arith, add-one, append-nil, length-drop, inl, inr}
+use Rattle.std.proofs.Common.{◌≡◌, ℕ, zero, suc, ◌+◌, ◌-◌, ◌/◌, ◌<◌, ◌≤◌, Bool, true, false, ◌==◌, if◌then◌else◌, List, [], ◌∷◌, ◌++◌, length, map, min, max, take, drop, get_or, slice_range, slice_get, Option, Some, None, ◌⊎◌, refl, sym, ◌∙◌, ap, subst, arith, add-one, append-nil, length-drop, inl, inr}
 use Rattle.std.proofs.lemmas.Bool.{cases_lt}
 use Rattle.std.proofs.lemmas.List.{take_all, drop_all, take_min, take_more, map_push}
 use Rattle.std.proofs.lemmas.List.Elements.{Contains-append_left}
-use Rattle.std.proofs.lemmas.Option.{slice_get-map}
+use Rattle.std.proofs.lemmas.Option.{slice_get-map, slice_get_read, slice_get_past}
 use Rattle.std.specs.List.{list_any, Contains}
 use Rattle.std.specs.Option.{option_map}
 use Rattle.crash_table.specs.declared.call.Call.{Call}
@@ -63,6 +63,16 @@ contains_more {X} old new y x is has = subst (λ (l : List X). Contains l x) (sy
 pub call_at : {A : Type 0} (kept : List (Call A)) (calls : List DeviceCall) (i : ℕ) (found : Option (Call A)) → calls_of kept ≡ calls → slice_get kept i ≡ found → slice_get calls i ≡ option_map (λ (c : Call A). call_of c) found
 call_at {A} kept calls i found is there =
     sym (ap (λ (l : List DeviceCall). slice_get l i) is) ∙ slice_get-map (λ (c : Call A). call_of c) kept i ∙ ap (option_map (λ (c : Call A). call_of c)) there
+
+-- the call that was read at an index, and that there is none past the last
+pub call_read : {A : Type 0} (kept : List (Call A)) (calls : List DeviceCall) (i : ℕ) (call : Call A) → calls_of kept ≡ calls
+    → i < length kept → call ≡ get_or kept i call → slice_get calls i ≡ Some (call_of call)
+call_read kept calls i call is below at =
+    call_at kept calls i (Some call) is (slice_get_read kept (length kept) i call refl below at)
+
+pub call_past : {A : Type 0} (kept : List (Call A)) (calls : List DeviceCall) (i : ℕ) → calls_of kept ≡ calls → length kept ≤ i
+    → slice_get calls i ≡ None
+call_past kept calls i is past = call_at kept calls i None is (slice_get_past kept i past)
 
 -- what is held within a call, and after it
 pub within_is : (image : List ℕ) (calls : List DeviceCall) (i : ℕ) (content : Content) (found : Option DeviceCall) → content ≡ content_before image calls i → slice_get calls i ≡ found → call_begun content found ≡ content_within image calls i

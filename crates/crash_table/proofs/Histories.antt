@@ -1,5 +1,5 @@
 -- Histories of runs, step by step: where their marks come from.
-use Rattle.std.proofs.Common.{◌≡◌, ◌⊎◌, inl, inr, ℕ, zero, suc, ◌+◌, ◌<◌, Bool, true, false, if◌then◌else◌, List, [], ◌∷◌, ◌++◌, length, take, Option, Some, None, refl, sym, ◌∙◌, ap, arith, append_assoc, append-nil}
+use Rattle.std.proofs.Common.{◌≡◌, ◌⊎◌, inl, inr, ℕ, zero, suc, ◌<◌, Bool, true, false, if◌then◌else◌, List, [], ◌∷◌, ◌++◌, length, take, Option, Some, None, refl, sym, ◌∙◌, ap, arith, append_assoc, append-nil}
 use Rattle.std.specs.Prelude.{slice_get, ◌||◌}
 use Rattle.std.specs.List.{fold, list_any}
 use Rattle.std.proofs.lemmas.List.Sums.{fold-append}
@@ -12,7 +12,8 @@ use Rattle.machine.specs.declared.act.Reply.TheVariants as replies
 use Rattle.machine.specs.declared.act.Step.{Step}
 use Rattle.machine.specs.History.{Event, Mark, Acknowledge, has_unmarked, since_mark, with_event, is_change}
 use Rattle.machine.specs.Told.{Told, Pending, Resizing, tell, tell_all, events_of, store_at, resized_at, place_told}
-use Rattle.crash_table.specs.inside.Kept.{unmarked_by, unmarked_after}
+use Rattle.machine.specs.Unmarked.{unmarked_by}
+use Rattle.crash_table.specs.inside.Kept.{unmarked_after}
 
 -- ---- lists
 

@@ -8,7 +8,8 @@ use Rattle.machine.specs.declared.act.Reply.TheVariants.{Marked, Going, Committe
 use Rattle.machine.specs.declared.act.Step.{Step}
 use Rattle.machine.specs.Runs.{StepsTaken}
 use Rattle.machine.specs.State.{Whole}
-use Rattle.crash_table.specs.inside.Kept.{unmarked_by, unmarked_after, HasCommitted}
+use Rattle.machine.specs.Unmarked.{unmarked_by}
+use Rattle.crash_table.specs.inside.Kept.{unmarked_after, HasCommitted}
 
 -- what the replies from one on leave of a flag
 pub flag_after : (replies : List Reply) (i : ℕ) (reply : Reply) (flag : Bool) → i < length replies → reply ≡ get_or replies i reply

@@ -91,7 +91,8 @@ with_copied bytes others at n = take at bytes ++ take n (drop at others) ++ drop
 abbrev pub left_of_blocks : Choice → Content → ℕ → List ℕ
 left_of_blocks choice content zero = content.synced
 left_of_blocks choice content (suc n) =
-    with_copied (left_of_blocks choice content n) content.seen (4096 * slice_index content.unsynced n) (new_bytes choice n)
+    with_copied (left_of_blocks choice content n) content.seen (4096 * slice_index content.unsynced n)
+    (new_bytes choice n)
 
 -- the bytes that a choice names: a crash leaves them where one was written since the last sync, and elsewhere what was
 -- there

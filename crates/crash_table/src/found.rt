@@ -1,5 +1,5 @@
 // The files at each mark of a run, and which mark's files an opening found.
-ghost use Rattle.std.specs.Prelude.{◌≡◌, ◌<◌, ℕ, List, length, map, take, slice_get, Some, IfOk, IfSome, OnOk, IsTrue, Contains};
+ghost use Rattle.std.specs.Prelude.{◌≡◌, ◌<◌, ℕ, List, length, map, take, slice_get, Some, IfOk, IfSome, OnOk, IsTrue, ◌↔◌, Contains};
 ghost use Rattle.machine.specs.declared.act.Reply.TheVariants.{Marked};
 ghost use Rattle.machine.specs.declared.act.Shape.{Shape};
 ghost use Rattle.machine.specs.declared.act.Step.{Step};
@@ -107,12 +107,9 @@ fn has_mark(replies: &[Reply], number: u32) -> bool
 
 // Whether a reply tells the mark of this number.
 fn is_mark(reply: &Reply, number: u32) -> bool
-    ensures { reply.now ≡ Marked number → IsTrue result }
+    ensures { IsTrue result ↔ (reply.now ≡ Marked number) }
 {
-    match reply {
-        Reply::Marked(mark) => *mark == number,
-        _ => false,
-    }
+    reply.is_same(&Reply::Marked(number))
 }
 
 // The files that are kept of the mark that the step of an index made.

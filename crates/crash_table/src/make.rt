@@ -1,5 +1,5 @@
 // Making steps, and noting what they are answered.
-ghost use Rattle.std.specs.Prelude.{◌≡◌, ℕ, List, [], length, take, false, IfOk, OnOk, IsTrue};
+ghost use Rattle.std.specs.Prelude.{◌≡◌, ℕ, List, [], length, take, false, IfOk, OnOk, IsTrue, ◌↔◌};
 ghost use Rattle.device.specs.Device.{Only};
 ghost use Rattle.volume_codec.specs.Files.{File};
 ghost use Rattle.volume_codec.specs.Recovery.{RecoversTo};
@@ -7,7 +7,7 @@ ghost use Rattle.machine.specs.declared.act.Reply.TheVariants as told;
 ghost use Rattle.machine.specs.Laws.{ReadsBack};
 ghost use Rattle.machine.specs.Runs.{StepsTaken};
 ghost use Rattle.crash_table.specs.Crashes.{history_of, HasEnded};
-ghost use Rattle.crash_table.specs.inside.Kept.{unmarked_by, unmarked_after, HasCommitted, IsAcknowledged};
+ghost use Rattle.crash_table.specs.inside.Kept.{unmarked_after, HasCommitted, IsAcknowledged};
 
 use crate::crash_fault::CrashFault;
 use crate::files::fault_of;
@@ -132,26 +132,24 @@ fn commit<D: Device, A: Allocator + Copy>(
 
 // Whether a reply says that this mark is durable.
 fn is_committed(reply: &Reply, number: u32) -> bool
-    ensures { IsTrue result → reply.now ≡ told.Committed number }
+    ensures { IsTrue result ↔ (reply.now ≡ told.Committed number) }
 {
-    match reply {
-        Reply::Committed(mark) => *mark == number,
-        _ => false,
-    }
+    reply.is_same(&Reply::Committed(number))
 }
 
 // Whether a reply says that a write-out goes on.
 fn is_going(reply: &Reply) -> bool
-    ensures { IsTrue result → reply.now ≡ told.Going }
+    ensures { IsTrue result ↔ (reply.now ≡ told.Going) }
 {
     matches!(reply, Reply::Going)
 }
 
 // Why a mark isn't written out, where a step of its write-out is answered so.
 fn fault_in(reply: &Reply) -> CrashFault {
-    match reply {
-        Reply::Refused(refusal) => fault_of(*refusal),
-        _ => CrashFault::Otherwise,
+    if let Reply::Refused(refusal) = reply {
+        fault_of(*refusal)
+    } else {
+        CrashFault::Otherwise
     }
 }
 
@@ -161,18 +159,7 @@ fn has_unmarked(replies: &[Reply]) -> bool
 {
     let mut has = false;
     for reply in replies {
-        has = is_unmarked(has, reply);
+        has = reply.leaves_unmarked(has);
     }
     has
-}
-
-// The same after one reply more.
-fn is_unmarked(before: bool, reply: &Reply) -> bool
-    ensures { result ≡ unmarked_by before reply.now }
-{
-    match reply {
-        Reply::Stored | Reply::Resized => true,
-        Reply::Marked(_) => false,
-        _ => before,
-    }
 }

@@ -1,5 +1,6 @@
 // A run, made once to learn its calls, its replies and the files at its marks, and again for each crash.
-ghost use Rattle.std.specs.Prelude.{◌≡◌, ◌↔◌, ◌<◌, ◌≤◌, IsTrue, List, length, slice_get, Some, IfOk, OnOk};
+ghost use Rattle.std.specs.Prelude.{◌≡◌, ◌≢◌, ◌↔◌, ◌<◌, ◌≤◌, IsTrue, List, length, slice_get, Some, Err};
+ghost use Rattle.std.specs.Prelude.{IfOk, IfErr, OnOk, alloc_error};
 ghost use Rattle.device.specs.Memory.{Recorded, new_disk};
 ghost use Rattle.volume_codec.specs.Files.{File};
 ghost use Rattle.volume_codec.specs.Recovery.{RecoversTo};
@@ -142,8 +143,26 @@ impl<'a, A: Allocator + Copy> Trial<'a, A> {
     /// fails. Then a crash leaves these bytes in the places that were written and not synced, and what is left is
     /// opened. The answer is the number of the newest mark whose files are found; 0: those before the run. The files
     /// that are found are always those at a mark, and never older than the last one that was acknowledged. `Otherwise`
-    /// where memory was refused to a run and another answer came of that, or the choice isn't as long as the disk.
+    /// exactly where the choice isn't as long as the disk; and where memory was refused, `Memory` alone, also where a
+    /// run was answered otherwise of that.
     pub fn crash(&self, fails: u64, choice: &[u8]) -> Result<u32, CrashFault>
+        ensures leaves { IfOk result (Leaves self.now fails choice.now) }
+        ensures otherwise { length choice.now ≢ length self.now.image → result ≡ Err CrashFault.Otherwise }
+        ensures memory { length choice.now ≡ length self.now.image
+            → IfErr result (λ why. why ≡ CrashFault.Memory alloc_error) }
+    {
+        if choice.len() != self.image().len() {
+            return Err(CrashFault::Otherwise);
+        }
+        match self.left(fails, choice) {
+            Ok(mark) => Ok(mark),
+            // A copy of the disk is opened, and each step answered, as the first time, unless memory is refused.
+            Err(_) => Err(CrashFault::Memory(AllocError)),
+        }
+    }
+
+    // The same, with the cause for which there is no answer.
+    fn left(&self, fails: u64, choice: &[u8]) -> Result<u32, CrashFault>
         ensures { IfOk result (Leaves self.now fails choice.now) }
     {
         let disk = FailingDisk::new(copy_of(self.alloc, self.plan.image)?, fails);
@@ -263,14 +282,11 @@ fn add_mark<A: Allocator + Copy>(
         → AreKept files plan.now.shape plan.now.steps.now replies.now marks.old.items
         → OnOk result (AreKept files plan.now.shape plan.now.steps.now replies.now marks.new.items) }
 {
-    match replies[at] {
-        Reply::Marked(number) => {
-            let mark = mark_of(alloc, plan, replies, at, number)?;
-            marks.push(mark)?;
-            Ok(())
-        }
-        _ => Ok(()),
+    if let Reply::Marked(number) = replies[at] {
+        let mark = mark_of(alloc, plan, replies, at, number)?;
+        marks.push(mark)?;
     }
+    Ok(())
 }
 
 // The files at the mark that the step of an index made.

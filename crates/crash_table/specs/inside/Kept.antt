@@ -1,15 +1,16 @@
 -- The files that are kept of each mark of a run.
-use Rattle.std.specs.Prelude.{ℕ, ◌≡◌, ◌<◌, ◌≤◌, ◌+◌, Bool, false, true, ◌⊎◌, List, [], ◌∷◌, ◌++◌, length, take, map, slice_get, Some, Contains}
+use Rattle.std.specs.Prelude.{ℕ, ◌≡◌, ◌<◌, ◌≤◌, ◌+◌, Bool, false, ◌⊎◌, List, [], ◌∷◌, ◌++◌, length, take, map, slice_get, Some, Contains}
 use Rattle.device.specs.declared.device.Device.{Ghosts}
 use Rattle.volume_codec.specs.Files.{File}
 use Rattle.volume_codec.specs.Recovery.{RecoversTo}
 use Rattle.machine.specs.declared.act.Reply.{Reply}
-use Rattle.machine.specs.declared.act.Reply.TheVariants.{Marked, Stored, Resized, Committed}
+use Rattle.machine.specs.declared.act.Reply.TheVariants.{Marked, Committed}
 use Rattle.machine.specs.declared.act.Shape.{Shape}
 use Rattle.machine.specs.declared.act.Step.{Step}
 use Rattle.machine.specs.History.{Event, Mark, files_after}
 use Rattle.machine.specs.Runs.{StepsTaken}
 use Rattle.machine.specs.State.{Whole}
+use Rattle.machine.specs.Unmarked.{unmarked_by}
 use Rattle.crash_table.specs.declared.found.MarkFiles.{MarkFiles}
 use Rattle.crash_table.specs.Crashes.{history_of}
 
@@ -26,13 +27,7 @@ abbrev pub bytes_at : List File → Shape → List Step → List Reply → ℕ �
 bytes_at files shape steps replies i number =
     contents_of (files_after files (up_to_mark files shape steps replies i number))
 
--- whether a store or a change of length was answered that no mark has yet, after one reply more
-abbrev pub unmarked_by : Bool → Reply → Bool
-unmarked_by before Stored = true
-unmarked_by before Resized = true
-unmarked_by before (Marked number) = false
-unmarked_by before reply = before
-
+-- whether a store or a change of length was answered that no mark has yet, after these replies
 abbrev pub unmarked_after : Bool → List Reply → Bool
 unmarked_after before [] = before
 unmarked_after before (reply ∷ replies) = unmarked_after (unmarked_by before reply) replies

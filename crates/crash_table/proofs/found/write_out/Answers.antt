@@ -15,7 +15,7 @@ returns g c =
       told = c.in_ok-told.told.items;
       marked = c.make.new.machine;
       made = c.in_ok-told.ensures;
-      same = sym c.deref.ensures.value ∙ c.are_same_replies.ensures alike;
+      same = sym c.deref.ensures.value ∙ c.are_same_replies.ensures.0 alike;
       acknowledged = acknowledged;
     })
     c.acknowledge.ensures

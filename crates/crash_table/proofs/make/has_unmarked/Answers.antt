@@ -9,7 +9,7 @@ loop-reply-preserved c =
     let replies = c.args.replies.now in
     let i = c.loop-reply.reply-index in
     let below : i < length replies = search rules in
-    ap (λ (flag : Bool). unmarked_after flag (drop (i + 1) replies)) c.is_unmarked-has.ensures
+    ap (λ (flag : Bool). unmarked_after flag (drop (i + 1) replies)) c.leaves_unmarked-has.ensures
     ∙ sym (flag_after replies i c.reply-item.result c.loop-reply.has below c.reply-item.is)
     ∙ c.loop-reply.invariant
 

@@ -9,7 +9,7 @@ use Rattle.crash_table.specs.Crashes.{HasEnded, IsUpTo}
 use Rattle.crash_table.specs.Disks.{failing_memory}
 use Rattle.crash_table.specs.Trials.{TrialValue, Leaves}
 use Rattle.crash_table.proofs.Left.{only_first, leaves_newest}
-use Rattle.crash_table.proofs.trial.Trial.crash.Goals as goal
+use Rattle.crash_table.proofs.trial.Trial.left.Goals as goal
 
 pub returns : goal.returns
 returns g c =
