@@ -15,7 +15,8 @@ use Rattle.session.specs.Commits.{AreWaits, BeginsMark, RefusesMark, IsLastAttem
 use Rattle.session.specs.Lengths.{AnswersChange, AreOthers, change_steps, change_replies, flush_by, tells_begun, tells_flushed, tells_refused}
 use Rattle.session.specs.Notes.{noted_all}
 use Rattle.session.specs.Ranges.{MakesStepsThat}
-use Rattle.session.specs.Steps.{Makes, IsOfCommit, AreOfCommit, tells_mark}
+use Rattle.session.specs.Steps.{Makes, is_of_commit, Passes, AreOfCommit, tells_mark}
+use Rattle.session.proofs.Each.{each_of_change, each_then}
 use Rattle.session.proofs.Phases.{begun_is}
 use Rattle.session.proofs.Rooms.{change_has}
 use Rattle.session.proofs.Stretches.{makes_then}
@@ -120,14 +121,8 @@ module _ (p : ℕ) where
 
 -- ---- steps of a commit read and store nothing
 
-commit_all : (p : ℕ) (steps : List Step) (told : List Reply) (steps' : List Step) (told' : List Reply) → AreOfCommit p steps told → AreOfCommit p steps' told' → AreOfCommit p (steps ++ steps') (told ++ told')
-commit_all p [] [] steps' told' first later = later
-commit_all p (step ∷ steps) (reply ∷ told) steps' told' first later = (first.0, commit_all p steps told steps' told' first.1 later)
-commit_all p [] (reply ∷ told) steps' told' first later = absurd first
-commit_all p (step ∷ steps) [] steps' told' first later = absurd first
-
-of_step : (p : ℕ) (step other : Step) (reply : Reply) → step ≡ other → IsOfCommit p other reply → IsOfCommit p step reply
-of_step p step other reply is of = subst (λ (s : Step). IsOfCommit p s reply) (sym is) of
+of_step : (p : ℕ) (step other : Step) (reply : Reply) → step ≡ other → Passes is_of_commit p other reply → Passes is_of_commit p step reply
+of_step p step other reply is of = subst (λ (s : Step). Passes is_of_commit p s reply) (sym is) of
 
 waits_of_commit : (p : ℕ) (steps : List Step) (told : List Reply) → AreWaits p steps told → AreOfCommit p steps told
 waits_of_commit p [] [] waits = tt
@@ -138,10 +133,10 @@ waits_of_commit p (step ∷ []) (reply ∷ told) waits = absurd waits
 waits_of_commit p (attempt ∷ step ∷ steps) [] waits = absurd waits
 waits_of_commit p (attempt ∷ step ∷ steps) (reply ∷ []) waits = absurd waits
 
-change_list : (p : ℕ) (answer : Reply) (others : List ℕ) → AreOthers p others → tells_mark answer ≡ true → AreOfCommit p (change_steps p others) (change_replies answer others)
-change_list p answer [] differ is = ((is, refl), tt)
-change_list p answer (other ∷ others) differ is =
-    ((refl, differ.0), commit_all p (change_steps p others) (change_replies answer others) (record { p = other; act = acts.Resume } ∷ []) (replies.Resumed ∷ []) (change_list p answer others differ.1 is) ((refl, differ.0), tt))
+change_list : (p : ℕ) (answer : Reply) (others : List ℕ) → AreOthers p others → tells_mark answer ≡ true
+    → AreOfCommit p (change_steps p others) (change_replies answer others)
+change_list p answer others differ is = each_of_change (Passes is_of_commit p) p answer others differ (is, refl)
+    (λ other not. (refl, not)) (λ other not. (refl, not))
 
 pub change_of_commit : (p : ℕ) (answer : Reply) → tells_mark answer ≡ true → (steps : List Step) (told : List Reply) → AnswersChange p answer steps told → AreOfCommit p steps told
 change_of_commit p answer is steps told it = change_has (AreOfCommit p) p answer steps told it (change_list p answer it.others it.differ is)
@@ -158,7 +153,7 @@ are : (p : ℕ) (steps front : List Step) (told now : List Reply) → steps ≡ 
 are p steps front told now s r of = subst (λ l. AreOfCommit p l told) (sym s) (subst (λ l. AreOfCommit p front l) (sym r) of)
 
 pub begins_of_commit : (p : ℕ) (steps : List Step) (told : List Reply) → BeginsMark p steps told → AreOfCommit p steps told
-begins_of_commit p steps told it = are p steps _ told _ it.steps_are it.replies_are (commit_all p it.waits it.waited (msync_by p ∷ []) (replies.Begun ∷ []) (waits_of_commit p it.waits it.waited it.busy) ((refl, refl), tt))
+begins_of_commit p steps told it = are p steps _ told _ it.steps_are it.replies_are (each_then (Passes is_of_commit p) it.waits it.waited (msync_by p ∷ []) (replies.Begun ∷ []) (waits_of_commit p it.waits it.waited it.busy) ((refl, refl), tt))
 
 last_of_commit : (p : ℕ) (answer : Reply) (steps : List Step) (told : List Reply) → IsLastAttempt p answer steps told → AreOfCommit p steps told
 last_of_commit p answer steps told (inl (s, r, refused, other)) = are p steps _ told _ s r ((refl, refl), tt)
@@ -171,14 +166,14 @@ written_of_commit p before mark steps told (inr (some, writes)) = writes_of_comm
 
 pub commits_of_commit : (p : ℕ) (before : Notes) (mark : ℕ) (steps : List Step) (told : List Reply) → CommitsMark p before mark steps told → AreOfCommit p steps told
 commits_of_commit p before mark steps told it = are p steps _ told _ it.steps_are it.replies_are
-    (commit_all p it.beginning it.begun (it.marking ++ it.writing) (it.marked ++ it.written) (begins_of_commit p it.beginning it.begun it.begins)
-    (commit_all p it.marking it.marked it.writing it.written (change_of_commit p (replies.Marked mark) refl it.marking it.marked it.makes) (written_of_commit p (noted_all before it.begun) mark it.writing it.written it.durable)))
+    (each_then (Passes is_of_commit p) it.beginning it.begun (it.marking ++ it.writing) (it.marked ++ it.written) (begins_of_commit p it.beginning it.begun it.begins)
+    (each_then (Passes is_of_commit p) it.marking it.marked it.writing it.written (change_of_commit p (replies.Marked mark) refl it.marking it.marked it.makes) (written_of_commit p (noted_all before it.begun) mark it.writing it.written it.durable)))
 
 pub stops_of_commit : (p : ℕ) (before : Notes) (answer : Reply) (steps : List Step) (told : List Reply) → StopsCommit p before answer steps told → AreOfCommit p steps told
-stops_of_commit p before answer steps told (inl it) = are p steps _ told _ it.steps_are it.replies_are (commit_all p it.waits it.waited it.last it.told (waits_of_commit p it.waits it.waited it.busy) (last_of_commit p answer it.last it.told it.refused))
+stops_of_commit p before answer steps told (inl it) = are p steps _ told _ it.steps_are it.replies_are (each_then (Passes is_of_commit p) it.waits it.waited it.last it.told (waits_of_commit p it.waits it.waited it.busy) (last_of_commit p answer it.last it.told it.refused))
 stops_of_commit p before answer steps told (inr it) = are p steps _ told _ it.steps_are it.replies_are
-    (commit_all p it.beginning it.begun (it.marking ++ it.writing) (it.marked ++ it.written) (begins_of_commit p it.beginning it.begun it.begins)
-    (commit_all p it.marking it.marked it.writing it.written (change_of_commit p (replies.Marked it.mark) refl it.marking it.marked it.makes) (writes_of_commit p it.mark answer it.writing it.written it.writes)))
+    (each_then (Passes is_of_commit p) it.beginning it.begun (it.marking ++ it.writing) (it.marked ++ it.written) (begins_of_commit p it.beginning it.begun it.begins)
+    (each_then (Passes is_of_commit p) it.marking it.marked it.writing it.written (change_of_commit p (replies.Marked it.mark) refl it.marking it.marked it.makes) (writes_of_commit p it.mark answer it.writing it.written it.writes)))
 
 pub answers_of_commit : (p : ℕ) (before : Notes) (committed : Result ℕ Reply) (steps : List Step) (told : List Reply) → AnswersCommit p before committed steps told → AreOfCommit p steps told
 answers_of_commit p before (Ok mark) steps told it = commits_of_commit p before mark steps told it

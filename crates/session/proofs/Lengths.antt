@@ -7,9 +7,10 @@ use Rattle.machine.specs.declared.act.Reply.TheVariants.{Begun, Nothing, Refused
 use Rattle.machine.specs.declared.act.Step.{Step}
 use Rattle.session.specs.Ends.{AreFruitless}
 use Rattle.session.specs.Lengths.{tells_begun, tells_later, tells_refused, flush_by, set_length_by, AnswersChange, IsTry, IsLeft, ChangesLength, RefusesLength}
-use Rattle.session.specs.Steps.{AreAside}
+use Rattle.session.specs.Steps.{IsAside, AreAside}
 use Rattle.session.specs.inside.Made.{AreTries, BeginsLength, AttemptsLength}
 use Rattle.session.proofs.Phases.{begun_is}
+use Rattle.session.proofs.Each.{each_so}
 use Rattle.session.proofs.Rooms.{vain_aside}
 
 -- one step of the write-outs alone
@@ -19,17 +20,9 @@ IsNext p reply steps replies = (steps ≡ flush_by p ∷ []) × (replies ≡ rep
 module _ (p file to : ℕ) where
   -- ---- tries
 
-  pub tries_then : (steps : List Step) (replies : List Reply) (steps' : List Step) (replies' : List Reply) → AreTries p file to steps replies → AreTries p file to steps' replies' → AreTries p file to (steps ++ steps') (replies ++ replies')
-  tries_then [] [] steps' replies' first later = later
-  tries_then (step ∷ steps) (reply ∷ replies) steps' replies' first later = (first.0, tries_then steps replies steps' replies' first.1 later)
-  tries_then [] (reply ∷ replies) steps' replies' first later = absurd first
-  tries_then (step ∷ steps) [] steps' replies' first later = absurd first
-
-  pub tries_aside : (steps : List Step) (replies : List Reply) → AreAside p steps replies → AreTries p file to steps replies
-  tries_aside [] [] aside = aside
-  tries_aside (step ∷ steps) (reply ∷ replies) aside = (inr aside.0, tries_aside steps replies aside.1)
-  tries_aside [] (reply ∷ replies) aside = absurd aside
-  tries_aside (step ∷ steps) [] aside = absurd aside
+  pub tries_aside : (steps : List Step) (replies : List Reply) → AreAside p steps replies
+      → AreTries p file to steps replies
+  tries_aside = each_so (IsAside p) (IsTry p file to) (λ step reply aside. inr aside)
 
   -- ---- it is begun
 

@@ -1,5 +1,6 @@
 pub mod Phases
 pub mod Stretches
+pub mod Each
 pub mod Pieces
 pub mod AtOnce
 pub mod Rooms
@@ -14,3 +15,4 @@ pub mod ListedMore
 pub mod Listed
 pub mod Marks
 pub mod Serves
+pub mod Public

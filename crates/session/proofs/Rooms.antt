@@ -18,9 +18,10 @@ use Rattle.session.specs.declared.notes.Notes.{Notes}
 use Rattle.session.specs.Ends.{tells_fault, tells_kept, tells_reclaimed, is_access, is_access_at, is_served, is_for_room, AreForRoom, is_fruitless, AreFruitless, MakesRoom, IsUnserved, EndsRange}
 use Rattle.session.specs.Lengths.{AnswersChange, AreOthers, change_steps, change_replies, flush_by}
 use Rattle.session.specs.Ranges.{MakesStepsThat}
-use Rattle.session.specs.Steps.{Makes, is_aside, IsAside, IsMadeFor, AreAside, tells_bytes, tells_stored, tells_fixed, tells_reclaim}
+use Rattle.session.specs.Steps.{Makes, is_aside, Passes, IsAside, IsMadeFor, AreAside, tells_bytes, tells_stored, tells_fixed, tells_reclaim}
 use Rattle.session.specs.inside.Aside.{IsAccessFor, LoadsOrStores, Serves, IsUnservedAside, AnswersAfter, StopsAt}
-use Rattle.session.proofs.Stretches.{aside_all, makes_then}
+use Rattle.session.proofs.Each.{each_of_change, each_so, each_then}
+use Rattle.session.proofs.Stretches.{makes_then}
 
 -- ---- single steps
 
@@ -68,37 +69,20 @@ not_fault reply is = absurd (false≢true is)
 
 -- ---- one after the other
 
-pub room_then : (p : ℕ) (steps : List Step) (told : List Reply) (steps' : List Step) (told' : List Reply) → AreForRoom p steps told → AreForRoom p steps' told' → AreForRoom p (steps ++ steps') (told ++ told')
-room_then p [] [] steps' told' first later = later
-room_then p (step ∷ steps) (reply ∷ told) steps' told' (is, first) later = (is, room_then p steps told steps' told' first later)
-room_then p [] (reply ∷ told) steps' told' first later = absurd first
-room_then p (step ∷ steps) [] steps' told' first later = absurd first
-
-pub vain_then : (p : ℕ) (steps : List Step) (told : List Reply) (steps' : List Step) (told' : List Reply) → AreFruitless p steps told → AreFruitless p steps' told' → AreFruitless p (steps ++ steps') (told ++ told')
-vain_then p [] [] steps' told' first later = later
-vain_then p (step ∷ steps) (reply ∷ told) steps' told' (is, first) later = (is, vain_then p steps told steps' told' first later)
-vain_then p [] (reply ∷ told) steps' told' first later = absurd first
-vain_then p (step ∷ steps) [] steps' told' first later = absurd first
-
 vain_room : (p : ℕ) (steps : List Step) (told : List Reply) → AreFruitless p steps told → AreForRoom p steps told
-vain_room p [] [] vain = tt
-vain_room p (step ∷ steps) (reply ∷ told) ((is, mine), more) = ((fruitless_room step.act reply is, mine), vain_room p steps told more)
-vain_room p [] (reply ∷ told) vain = absurd vain
-vain_room p (step ∷ steps) [] vain = absurd vain
+vain_room p = each_so (Passes is_fruitless p) (Passes is_for_room p)
+    (λ step reply is. (fruitless_room step.act reply is.0, is.1))
 
 pub are_aside : (p : ℕ) (steps : List Step) (told : List Reply) → AreForRoom p steps told → AreAside p steps told
-are_aside p [] [] room = tt
-are_aside p (step ∷ steps) (reply ∷ told) ((is, mine), more) = ((room_aside step.act reply is, mine), are_aside p steps told more)
-are_aside p [] (reply ∷ told) room = absurd room
-are_aside p (step ∷ steps) [] room = absurd room
+are_aside p = each_so (Passes is_for_room p) (IsAside p) (λ step reply is. (room_aside step.act reply is.0, is.1))
 
 pub vain_aside : (p : ℕ) (steps : List Step) (told : List Reply) → AreFruitless p steps told → AreAside p steps told
 vain_aside p steps told vain = are_aside p steps told (vain_room p steps told vain)
 
 -- no frame became free, and then one did or didn't
 pub makes_room_then : (p : ℕ) (made : Bool) (steps : List Step) (told : List Reply) (steps' : List Step) (told' : List Reply) → AreFruitless p steps told → MakesRoom p made steps' told' → MakesRoom p made (steps ++ steps') (told ++ told')
-makes_room_then p true steps told steps' told' first later = (room_then p steps told steps' told' (vain_room p steps told first) later.0, Contains-append_right told told' replies.Reclaimed later.1)
-makes_room_then p false steps told steps' told' first later = vain_then p steps told steps' told' first later
+makes_room_then p true steps told steps' told' first later = (each_then (Passes is_for_room p) steps told steps' told' (vain_room p steps told first) later.0, Contains-append_right told told' replies.Reclaimed later.1)
+makes_room_then p false steps told steps' told' first later = each_then (Passes is_fruitless p) steps told steps' told' first later
 
 pub flush_vain : (p : ℕ) (reply : Reply) → AreFruitless p (flush_by p ∷ []) (reply ∷ [])
 flush_vain p reply = ((refl, refl), tt)
@@ -113,15 +97,15 @@ pub change_has : (P : List Step → List Reply → Type 0) (p : ℕ) (answer : R
 change_has P p answer steps replies it holds = subst (P steps) (sym it.replies_are) (subst (λ (l : List Step). P l (change_replies answer it.others)) (sym it.steps_are) holds)
 
 -- the change of a reclaim, which is answered so
-change_vain : (p : ℕ) (answer : Reply) (others : List ℕ) → AreOthers p others → tells_kept answer ≡ true → AreFruitless p (change_steps p others) (change_replies answer others)
-change_vain p answer [] differ is = ((is, refl), tt)
-change_vain p answer (other ∷ others) differ is =
-    ((refl, differ.0), vain_then p (change_steps p others) (change_replies answer others) (record { p = other; act = acts.Resume } ∷ []) (replies.Resumed ∷ []) (change_vain p answer others differ.1 is) ((refl, differ.0), tt))
+change_vain : (p : ℕ) (answer : Reply) (others : List ℕ) → AreOthers p others → tells_kept answer ≡ true
+    → AreFruitless p (change_steps p others) (change_replies answer others)
+change_vain p answer others differ is = each_of_change (Passes is_fruitless p) p answer others differ (is, refl)
+    (λ other not. (refl, not)) (λ other not. (refl, not))
 
-change_room : (p : ℕ) (answer : Reply) (others : List ℕ) → AreOthers p others → tells_reclaim answer ≡ true → AreForRoom p (change_steps p others) (change_replies answer others)
-change_room p answer [] differ is = ((is, refl), tt)
-change_room p answer (other ∷ others) differ is =
-    ((refl, differ.0), room_then p (change_steps p others) (change_replies answer others) (record { p = other; act = acts.Resume } ∷ []) (replies.Resumed ∷ []) (change_room p answer others differ.1 is) ((refl, differ.0), tt))
+change_room : (p : ℕ) (answer : Reply) (others : List ℕ) → AreOthers p others → tells_reclaim answer ≡ true
+    → AreForRoom p (change_steps p others) (change_replies answer others)
+change_room p answer others differ is = each_of_change (Passes is_for_room p) p answer others differ (is, refl)
+    (λ other not. (refl, not)) (λ other not. (refl, not))
 
 -- the answer is one of the replies
 change_told : (answer : Reply) (others : List ℕ) → Contains (change_replies answer others) answer
@@ -169,7 +153,7 @@ module _ (p at : ℕ) (write : Bool) where
       → IsUnservedAside p at answer (fix_by ∷ (steps ++ fix_by ∷ [])) (first ∷ (told ++ answer ∷ []))
   unserved_again first answer one not steps told room =
       let last = unserved_one answer not [] [] tt in (
-        ((refl, refl), aside_all p steps told (fix_by ∷ []) (answer ∷ []) (are_aside p steps told room) last.0),
+        ((refl, refl), each_then (IsAside p) steps told (fix_by ∷ []) (answer ∷ []) (are_aside p steps told room) last.0),
         inl (refl, one, unserved_after answer steps told (fix_by ∷ []) (answer ∷ []) room last.1),
       )
 
@@ -222,7 +206,7 @@ stops_answered disk old new before after step at answer (aside, mine) here no-fa
   steps = it.steps ++ step ∷ [];
   replies = it.replies ++ answer ∷ [];
   makes = it.makes;
-  aside = aside_all step.p it.steps it.replies (step ∷ []) (answer ∷ []) it.aside ((aside, mine), tt);
+  aside = each_then (IsAside step.p) it.steps it.replies (step ∷ []) (answer ∷ []) it.aside ((aside, mine), tt);
   ends = ends_after step.p at answer it.steps it.replies (step ∷ []) (answer ∷ []) it.aside (inr (inl (refl, here, aside, refl, no-fault, refl, refl)));
 }
 
@@ -267,7 +251,7 @@ module _ {D : Type 0} (disk : Ghosts D) where
   answers_served old mid last new before between next after at write step fault reply aside first it made =
       let S : List Step → Type 0 = λ l. AreAside step.p l it.replies in
       let T : List Reply → Type 0 = λ l. AreAside step.p (it.holds.front ++ record { p = step.p; act = acts.Fix at write } ∷ []) l in
-      let front = aside_all step.p it.holds.front it.holds.told (record { p = step.p; act = acts.Fix at write } ∷ []) (replies.Fixed ∷ []) it.holds.aside ((refl, refl), tt) in
+      let front = each_then (IsAside step.p) it.holds.front it.holds.told (record { p = step.p; act = acts.Fix at write } ∷ []) (replies.Fixed ∷ []) it.holds.aside ((refl, refl), tt) in
       record {
         steps = step ∷ it.steps;
         replies = fault ∷ it.replies;

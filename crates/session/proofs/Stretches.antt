@@ -1,5 +1,5 @@
 -- Steps after steps: what was made, and that it reads and stores nothing.
-use Rattle.std.proofs.Common.{◌≡◌, ℕ, Bool, true, false, not, List, [], ◌∷◌, ◌++◌, refl, sym, ◌∙◌, ap, subst}
+use Rattle.std.proofs.Common.{◌≡◌, Bool, true, false, not, List, [], ◌∷◌, ◌++◌, refl, sym, ◌∙◌, ap, subst}
 use Rattle.device.specs.declared.device.Device.{Ghosts}
 use Rattle.machine.specs.declared.act.Reply.{Reply}
 use Rattle.machine.specs.declared.act.Step.{Step}
@@ -8,7 +8,7 @@ use Rattle.machine.specs.Runs.{StepsTaken}
 use Rattle.session.specs.declared.notes.Notes.{Notes}
 use Rattle.session.specs.Notes.{noted_after, noted_all}
 use Rattle.session.specs.Ranges.{MakesStepsThat}
-use Rattle.session.specs.Steps.{Makes, AreAside}
+use Rattle.session.specs.Steps.{Makes}
 use Rattle.session.specs.inside.Aside.{AnswersAfter}
 use Rattle.session.specs.inside.Made.{HasMade}
 
@@ -33,12 +33,6 @@ makes_then disk old mid new before between after steps replies steps' replies' f
   taken = taken_then disk old mid new steps replies steps' replies' first.taken later.taken;
   notes = later.notes ∙ ap (λ n. noted_all n replies') first.notes ∙ sym (noted_then before replies replies');
 }
-
-pub aside_all : (p : ℕ) (steps : List Step) (replies : List Reply) (steps' : List Step) (replies' : List Reply) → AreAside p steps replies → AreAside p steps' replies' → AreAside p (steps ++ steps') (replies ++ replies')
-aside_all p [] [] steps' replies' first later = later
-aside_all p (step ∷ steps) (reply ∷ replies) steps' replies' first later = (first.0, aside_all p steps replies steps' replies' first.1 later)
-aside_all p [] (reply ∷ replies) steps' replies' first later = absurd first
-aside_all p (step ∷ steps) [] steps' replies' first later = absurd first
 
 -- ---- steps of which something holds
 

@@ -1,12 +1,12 @@
 -- Where a range ends before its end.
-use Rattle.std.specs.Prelude.{ℕ, ◌≡◌, ◌⊎◌, ◌==◌, Bool, true, false, ⊤, List, [], ◌∷◌, Contains}
+use Rattle.std.specs.Prelude.{ℕ, ◌≡◌, ◌⊎◌, ◌==◌, Bool, true, false, List, [], ◌∷◌, Contains}
 use Rattle.page_entry.specs.declared.refusal.Refusal.TheVariants.{Fault}
 use Rattle.machine.specs.declared.act.Act.{Act}
 use Rattle.machine.specs.declared.act.Act.TheVariants.{Load, Store, Fix, Reclaim, Ack, Change, Resume, Flush}
 use Rattle.machine.specs.declared.act.Reply.{Reply}
 use Rattle.machine.specs.declared.act.Reply.TheVariants.{Reclaimed, Kept, Refused}
 use Rattle.machine.specs.declared.act.Step.{Step}
-use Rattle.session.specs.Steps.{is_aside, IsMadeFor, tells_acked, tells_fixed, tells_reclaim, tells_resumed}
+use Rattle.session.specs.Steps.{is_aside, Passes, AreEach, tells_acked, tells_fixed, tells_reclaim, tells_resumed}
 
 -- that an access met a page fault
 abbrev pub tells_fault : Reply → Bool
@@ -55,27 +55,16 @@ is_for_room Resume reply = tells_resumed reply
 is_for_room Flush reply = true
 is_for_room _ reply = false
 
--- such a step of what processor p does
-abbrev pub IsForRoom : ℕ → Step → Reply → Type 0
-IsForRoom p step reply = (is_for_room step.act reply ≡ true) × IsMadeFor p step.p step.act
-
 abbrev pub AreForRoom : ℕ → List Step → List Reply → Type 0
-AreForRoom p [] [] = ⊤
-AreForRoom p (step ∷ steps) (reply ∷ replies) = IsForRoom p step reply × AreForRoom p steps replies
-AreForRoom p steps replies = ⊥
+AreForRoom p = AreEach (Passes is_for_room p)
 
 -- such a step, by which none became free
 abbrev pub is_fruitless : Act → Reply → Bool
 is_fruitless Change reply = tells_kept reply
 is_fruitless act reply = is_for_room act reply
 
-abbrev pub IsFruitless : ℕ → Step → Reply → Type 0
-IsFruitless p step reply = (is_fruitless step.act reply ≡ true) × IsMadeFor p step.p step.act
-
 abbrev pub AreFruitless : ℕ → List Step → List Reply → Type 0
-AreFruitless p [] [] = ⊤
-AreFruitless p (step ∷ steps) (reply ∷ replies) = IsFruitless p step reply × AreFruitless p steps replies
-AreFruitless p steps replies = ⊥
+AreFruitless p = AreEach (Passes is_fruitless p)
 
 -- A frame was made free by such steps, or none was.
 abbrev pub MakesRoom : ℕ → Bool → List Step → List Reply → Type 0

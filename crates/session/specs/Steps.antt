@@ -76,22 +76,26 @@ is_of_commit (Msync va len flags) reply = true
 is_of_commit Change reply = tells_mark reply
 is_of_commit act reply = is_aside act reply
 
--- such a step of what processor p does
-abbrev pub IsAside : ℕ → Step → Reply → Type 0
-IsAside p step reply = (is_aside step.act reply ≡ true) × IsMadeFor p step.p step.act
+-- a step of what processor p does that passes a test by its act and its reply
+abbrev pub Passes : (Act → Reply → Bool) → ℕ → Step → Reply → Type 0
+Passes test p step reply = (test step.act reply ≡ true) × IsMadeFor p step.p step.act
 
-abbrev pub IsOfCommit : ℕ → Step → Reply → Type 0
-IsOfCommit p step reply = (is_of_commit step.act reply ≡ true) × IsMadeFor p step.p step.act
+-- of each of these steps and its reply this holds
+abbrev pub AreEach : (Step → Reply → Type 0) → List Step → List Reply → Type 0
+AreEach Is [] [] = ⊤
+AreEach Is (step ∷ steps) (reply ∷ replies) = Is step reply × AreEach Is steps replies
+AreEach Is steps replies = ⊥
+
+-- each reads and stores nothing
+abbrev pub IsAside : ℕ → Step → Reply → Type 0
+IsAside = Passes is_aside
 
 abbrev pub AreAside : ℕ → List Step → List Reply → Type 0
-AreAside p [] [] = ⊤
-AreAside p (step ∷ steps) (reply ∷ replies) = IsAside p step reply × AreAside p steps replies
-AreAside p steps replies = ⊥
+AreAside p = AreEach (IsAside p)
 
+-- each is of a commit
 abbrev pub AreOfCommit : ℕ → List Step → List Reply → Type 0
-AreOfCommit p [] [] = ⊤
-AreOfCommit p (step ∷ steps) (reply ∷ replies) = IsOfCommit p step reply × AreOfCommit p steps replies
-AreOfCommit p steps replies = ⊥
+AreOfCommit p = AreEach (Passes is_of_commit p)
 
 -- the address that lies so far behind another one
 abbrev pub behind : ℕ → ℕ → ℕ

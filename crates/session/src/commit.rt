@@ -104,9 +104,10 @@ fn mark_of(reply: &Reply) -> Option<u32>
     ensures some { IfSome result (λ mark. reply.now ≡ told.Marked mark) }
     ensures none { IfNone result ((mark : ℕ) → reply.now ≢ told.Marked mark) }
 {
-    match reply {
-        Reply::Marked(mark) => Some(*mark),
-        _ => None,
+    if let Reply::Marked(mark) = reply {
+        Some(*mark)
+    } else {
+        None
     }
 }
 
@@ -114,10 +115,7 @@ fn mark_of(reply: &Reply) -> Option<u32>
 fn is_committed(reply: &Reply, mark: u32) -> bool
     ensures { IsTrue result ↔ (reply.now ≡ told.Committed mark) }
 {
-    match reply {
-        Reply::Committed(committed) => *committed == mark,
-        _ => false,
-    }
+    matches!(reply, Reply::Committed(committed) if *committed == mark)
 }
 
 /// Whether commits have to be done first.

@@ -176,9 +176,10 @@ fn bytes_of(reply: &Reply) -> Option<&FewBytes>
     ensures some { IfSome result (λ bytes. reply.now ≡ told.Bytes bytes.now) }
     ensures none { IfNone result (tells_bytes reply.now ≡ false) }
 {
-    match reply {
-        Reply::Bytes(bytes) => Some(bytes),
-        _ => None,
+    if let Reply::Bytes(bytes) = reply {
+        Some(bytes)
+    } else {
+        None
     }
 }
 

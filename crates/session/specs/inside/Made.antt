@@ -1,5 +1,5 @@
 -- That steps were made.
-use Rattle.std.specs.Prelude.{ℕ, ◌≡◌, ◌⊎◌, ⊤, List, [], ◌∷◌}
+use Rattle.std.specs.Prelude.{ℕ, ◌≡◌, ◌⊎◌, List, [], ◌∷◌}
 use Rattle.device.specs.declared.device.Device.{Ghosts}
 use Rattle.page_entry.specs.declared.refusal.Refusal.TheVariants.{NoFrame}
 use Rattle.machine.specs.declared.act.Reply.{Reply}
@@ -9,7 +9,7 @@ use Rattle.machine.specs.State.{Whole}
 use Rattle.session.specs.declared.notes.Notes.{Notes}
 use Rattle.session.specs.Ends.{AreFruitless}
 use Rattle.session.specs.Lengths.{IsTry, set_length_by}
-use Rattle.session.specs.Steps.{Makes}
+use Rattle.session.specs.Steps.{Makes, AreEach}
 
 -- Steps were made.
 pub record HasMade {D : Type 0} (disk : Ghosts D) (old : Whole D) (before : Notes) (new : Whole D)
@@ -20,10 +20,7 @@ pub record HasMade {D : Type 0} (disk : Ghosts D) (old : Whole D) (before : Note
 
 -- steps before a length's change is begun
 abbrev pub AreTries : ℕ → ℕ → ℕ → List Step → List Reply → Type 0
-AreTries p file to [] [] = ⊤
-AreTries p file to (step ∷ steps) (reply ∷ replies) =
-    IsTry p file to step reply × AreTries p file to steps replies
-AreTries p file to steps replies = ⊥
+AreTries p file to = AreEach (IsTry p file to)
 
 -- such steps, and then the one that begins it
 abbrev pub BeginsLength : ℕ → ℕ → ℕ → List Step → List Reply → Type 0

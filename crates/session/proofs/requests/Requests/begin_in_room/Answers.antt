@@ -1,10 +1,11 @@
 use Rattle.std.proofs.Common.{refl, sym, ◌∙◌, ap}
 use Rattle.std.proofs.lemmas.Bool.{false≢true}
-use Rattle.session.specs.Lengths.{tells_begun, tells_later}
-use Rattle.session.proofs.Lengths.{IsAttempt, attempts_first, attempts_later, attempts_one, tries_aside, tries_one, tries_then}
+use Rattle.session.specs.Lengths.{IsTry, tells_begun, tells_later}
+use Rattle.session.proofs.Lengths.{IsAttempt, attempts_first, attempts_later, attempts_one, tries_aside, tries_one}
 use Rattle.session.proofs.Phases.{begins_kept, keeps_none, keeps_then, length_begins, lengths_keep}
 use Rattle.session.proofs.Pieces.{does_more, does_nothing}
 use Rattle.session.proofs.Rooms.{are_aside}
+use Rattle.session.proofs.Each.{each_then}
 use Rattle.session.proofs.Stretches.{does_one, does_then}
 use Rattle.session.proofs.requests.Requests.begin_in_room.Goals as goal
 
@@ -47,7 +48,7 @@ loop-preserved g c =
     let vain = does_one g.D.Device _ _ _ _ _ _ _ (tries_one p file to _ (ap tells_later (c.if-not-is_no_frame.ensures.0 refl))) c.make-begun.ensures in
     let room = does_more g.D.Device _ _ _ _ _ _ (λ steps replies room. tries_aside p file to steps replies (are_aside p steps replies room.0)) c.if-not-make_room.ensures.room in
     let kept = keeps_then _ _ _ (keeps_then _ _ _ c.loop.invariant.1 (lengths_keep g.D.Device _ _ _ _ _ _ _ _ (ap tells_begun (c.if-not-is_no_frame.ensures.0 refl)) c.make-begun.ensures)) c.if-not-make_room.ensures.phases in
-    (does_then g.D.Device _ _ _ _ _ _ _ _ _ (tries_then p file to) (does_then g.D.Device _ _ _ _ _ _ _ _ _ (tries_then p file to) c.loop.invariant.0 vain) room, kept)
+    (does_then g.D.Device _ _ _ _ _ _ _ _ _ (each_then (IsTry p file to)) (does_then g.D.Device _ _ _ _ _ _ _ _ _ (each_then (IsTry p file to)) c.loop.invariant.0 vain) room, kept)
 
 pub returns-clause-attempts : goal.returns-clause-attempts
 returns-clause-attempts g c =

@@ -1,15 +1,16 @@
 use Rattle.std.proofs.Common.{inl, inr, refl, sym, ◌∙◌, ap, subst, arith}
 use Rattle.std.proofs.lemmas.Bool.{false≢true}
 use Rattle.machine.specs.declared.act.Reply.{Reply}
-use Rattle.session.specs.Lengths.{tells_begun, tells_later}
+use Rattle.session.specs.Lengths.{IsTry, tells_begun, tells_later}
 use Rattle.session.specs.Ranges.{MakesStepsThat}
 use Rattle.session.specs.inside.Made.{AttemptsLength}
 use Rattle.session.proofs.Changes.{flush_is_other}
 use Rattle.session.proofs.Phases.{begins_kept, flushes_keep, keeps_none, keeps_then}
 use Rattle.session.proofs.Commits.{refused_is, step_unmade}
 use Rattle.session.proofs.Left.{attempts_left, flushed_fewer}
-use Rattle.session.proofs.Lengths.{IsNext, begins_attempted, begins_later, refuses_attempted, refuses_busy, refuses_later, tries_attempted, tries_flush, tries_then}
+use Rattle.session.proofs.Lengths.{IsNext, begins_attempted, begins_later, refuses_attempted, refuses_busy, refuses_later, tries_attempted, tries_flush}
 use Rattle.session.proofs.Pieces.{does_more, does_nothing}
+use Rattle.session.proofs.Each.{each_then}
 use Rattle.session.proofs.Stretches.{does_one, does_then}
 use Rattle.session.proofs.requests.Requests.begin_length.Goals as goal
 
@@ -66,10 +67,10 @@ loop-begun-preserved g c =
     let p = c.args.p in
     let file = c.args.file in
     let to = c.args.length in
-    let tried = does_then g.D.Device _ _ _ _ _ _ _ _ _ (tries_then p file to) c.loop-begun.invariant.0
+    let tried = does_then g.D.Device _ _ _ _ _ _ _ _ _ (each_then (IsTry p file to)) c.loop-begun.invariant.0
     (does_more g.D.Device _ _ _ _ _ _ (tries_attempted p file to _ (ap tells_later (c.if-not-is_busy.ensures.0 refl))) c.begin_in_room-begun.ensures.attempts) in
     let kept = keeps_then _ _ _ (keeps_then _ _ _ c.loop-begun.invariant.1 (c.begin_in_room-begun.ensures.phases (ap tells_begun (c.if-not-is_busy.ensures.0 refl)))) (flushes_keep g.D.Device _ _ _ _ _ _ c.flush-flushed.ensures) in
-    (does_then g.D.Device _ _ _ _ _ _ _ _ _ (tries_then p file to) tried (does_one g.D.Device _ _ _ _ _ _ _ (tries_flush p file to c.flush-flushed.result) c.flush-flushed.ensures), kept)
+    (does_then g.D.Device _ _ _ _ _ _ _ _ _ (each_then (IsTry p file to)) tried (does_one g.D.Device _ _ _ _ _ _ _ (tries_flush p file to c.flush-flushed.result) c.flush-flushed.ensures), kept)
 
 pub loop-begun-smaller : goal.loop-begun-smaller
 loop-begun-smaller g c =

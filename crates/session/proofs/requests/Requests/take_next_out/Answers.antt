@@ -1,7 +1,10 @@
 use Rattle.std.proofs.Common.{true}
 use Rattle.session.proofs.Phases.{keeps_from, keeps_none, keeps_then}
 use Rattle.session.proofs.Pieces.{does_from, does_nothing}
-use Rattle.session.proofs.Rooms.{makes_room_then, vain_then}
+use Rattle.session.proofs.Rooms.{makes_room_then}
+use Rattle.session.specs.Ends.{is_fruitless}
+use Rattle.session.specs.Steps.{Passes}
+use Rattle.session.proofs.Each.{each_then}
 use Rattle.session.proofs.Stretches.{does_then}
 use Rattle.session.proofs.requests.Requests.take_next_out.Goals as goal
 
@@ -16,7 +19,7 @@ returns-then-take_out-clause-phases g c = keeps_then _ _ _ c.loop.invariant.1 (k
 
 pub loop-preserved : goal.loop-preserved
 loop-preserved g c = (
-  does_then g.D.Device _ _ _ _ _ _ _ _ _ (vain_then c.args.p) c.loop.invariant.0 (does_from g.D.Device _ _ _ _ _ _ _ c.turn-page.ensures.machine c.turn-page.ensures.notes c.if-take_out.ensures.room),
+  does_then g.D.Device _ _ _ _ _ _ _ _ _ (each_then (Passes is_fruitless c.args.p)) c.loop.invariant.0 (does_from g.D.Device _ _ _ _ _ _ _ c.turn-page.ensures.machine c.turn-page.ensures.notes c.if-take_out.ensures.room),
   keeps_then _ _ _ c.loop.invariant.1 (keeps_from _ _ _ c.turn-page.ensures.machine c.if-take_out.ensures.phases),
 )
 
