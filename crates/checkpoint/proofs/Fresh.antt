@@ -1,5 +1,6 @@
 -- Notes that are as at boot.
-use Rattle.std.proofs.Common.{ℕ, zero, suc, ◌≡◌, ◌==◌, Bool, true, false, not, List, [], ◌∷◌, length, replicate, refl, ap, arith}
+use Rattle.std.proofs.Common.{ℕ, zero, suc, ◌≡◌, ◌==◌, Bool, true, false, not}
+use Rattle.std.proofs.Common.{List, [], ◌∷◌, length, replicate, refl, ap, arith}
 use Rattle.std.proofs.lemmas.Bool.Decides.{nat_tests}
 use Rattle.std.specs.List.{list_any}
 

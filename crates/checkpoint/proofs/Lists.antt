@@ -1,5 +1,6 @@
 -- Lists that have an element which passes a test.
-use Rattle.std.proofs.Common.{zero, suc, ◌≡◌, ◌||◌, ◌⊎◌, Bool, true, false, List, [], ◌∷◌, Contains, refl, ap, ◌∙◌, inl, inr, arith}
+use Rattle.std.proofs.Common.{zero, suc, ◌≡◌, ◌||◌, ◌⊎◌, Bool, true, false, List}
+use Rattle.std.proofs.Common.{[], ◌∷◌, Contains, refl, ap, ◌∙◌, inl, inr, arith}
 use Rattle.std.specs.List.{list_any}
 use Rattle.std.proofs.lemmas.Bool.{or_left, or_right}
 
@@ -14,10 +15,12 @@ Contains-cons_cases y ys x (zero, within, is) = inl is
 Contains-cons_cases y ys x (suc k, within, is) = inr (k, omega arith, is)
 
 -- an element that passes makes the test pass
-pub list_any-Contains : {X : Type 0} (test : X → Bool) (xs : List X) (x : X) → Contains xs x → test x ≡ true → list_any test xs ≡ true
+pub list_any-Contains : {X : Type 0} (test : X → Bool) (xs : List X) (x : X) → Contains xs x → test x ≡ true
+    → list_any test xs ≡ true
 list_any-Contains test [] x (k, within, is) passes = absurd (omega arith)
 list_any-Contains test (y ∷ ys) x (zero, within, is) passes = or_left (test y) (list_any test ys) (ap test is ∙ passes)
-list_any-Contains test (y ∷ ys) x (suc k, within, is) passes = or_right (test y) (list_any test ys) (list_any-Contains test ys x (k, omega arith, is) passes)
+list_any-Contains test (y ∷ ys) x (suc k, within, is) passes =
+    or_right (test y) (list_any test ys) (list_any-Contains test ys x (k, omega arith, is) passes)
 
 -- an element of the list that passes
 pub record Passing {X : Type 0} (test : X → Bool) (xs : List X) : Type 0 where
@@ -31,5 +34,6 @@ Passing-list_any test [] e = absurd (cc)
 Passing-list_any test (y ∷ ys) e =
     elim (test y) as (λ b. test y ≡ b → (b || list_any test ys) ≡ true → Passing test (y ∷ ys)) [
       | true ↦ λ passes _. record { item = y; there = Contains-head y ys; passes = passes }
-      | false ↦ λ _ rest. let found = Passing-list_any test ys rest in record { item = found.item; there = Contains-tail y ys found.item found.there; passes = found.passes }
+      | false ↦ λ _ rest. let found = Passing-list_any test ys rest in
+          record { item = found.item; there = Contains-tail y ys found.item found.there; passes = found.passes }
     ] refl e

@@ -1,7 +1,8 @@
 -- Which pages are dirty, which are frozen until their records are written, and what a checkpoint and the other
 -- changes make of entries and notes (Park, Kelly and Shen 2013: an msync takes all stores since the last one, and no
 -- later store may reach the journal before it does).
-use Rattle.std.specs.Prelude.{ℕ, ◌≡◌, ◌⊎◌, ◌↔◌, ◌==◌, ◌&&◌, not, Bool, true, false, List, [], ◌∷◌, length, map, replicate, drop, Option, Some, None, slice_index_or, Contains, if◌then◌else◌}
+use Rattle.std.specs.Prelude.{ℕ, ◌≡◌, ◌⊎◌, ◌↔◌, ◌==◌, ◌&&◌, not, Bool, true, false, List, [], ◌∷◌, length, map}
+use Rattle.std.specs.Prelude.{replicate, drop, Option, Some, None, slice_index_or, Contains, if◌then◌else◌}
 use Rattle.std.specs.List.{list_any}
 use Rattle.page_entry.specs.Entry.{Mapped}
 use Rattle.page_entry.specs.declared.numbers.FilePage.{FilePage}

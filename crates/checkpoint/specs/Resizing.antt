@@ -1,6 +1,7 @@
 -- What a change of a file's length does to pages: those past the new end leave memory, the bytes of the last one past
 -- it become zeros, and a growth brings pages of zeros (POSIX.1-2024, ftruncate).
-use Rattle.std.specs.Prelude.{ℕ, ◌≡◌, ◌↔◌, ◌⊎◌, ◌==◌, ◌&&◌, ◌+◌, ◌-◌, ◌*◌, ◌/◌, ◌<◌, ◌≤◌, nat_le, min, Bool, true, ◌++◌, List, length, take, Some, None, IsSome, if◌then◌else◌}
+use Rattle.std.specs.Prelude.{ℕ, ◌≡◌, ◌↔◌, ◌⊎◌, ◌==◌, ◌&&◌, ◌+◌, ◌-◌, ◌*◌, ◌/◌, ◌<◌, ◌≤◌, nat_le, min}
+use Rattle.std.specs.Prelude.{Bool, true, ◌++◌, List, length, take, Some, None, IsSome, if◌then◌else◌}
 use Rattle.page_entry.specs.declared.numbers.FilePage.{FilePage}
 use Rattle.frames.specs.Frames.{FramesState, Frame, frame_at, blank_bytes, zero_page}
 use Rattle.spaces.specs.Spaces.{Spaces, EditsEntries}

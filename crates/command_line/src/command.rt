@@ -26,50 +26,83 @@ fn job_of<'a, A: Allocator + Copy>(
     alloc: A,
     matches: &ArgMatches<'a>,
 ) -> Result<Job<'a, A>, WordFault<'a>> {
-    match matches.subcommand() {
-        Some(("format", words)) => format_job(alloc, words),
-        Some(("run", words)) => Ok(Job::Run {
-            disk: text(words, "DISK"),
-            script: text(words, "SCRIPT"),
-            trust: words.get_flag("trust"),
-        }),
-        Some(("threads", words)) => Ok(Job::Threads {
-            disk: text(words, "DISK"),
-            script: text(words, "SCRIPT"),
-            trust: words.get_flag("trust"),
-        }),
-        Some(("replay", words)) => Ok(Job::Replay {
-            disk: text(words, "DISK"),
-            trace: text(words, "TRACE"),
-            trust: words.get_flag("trust"),
-        }),
-        Some(("serve", words)) => Ok(Job::Serve {
-            disk: text(words, "DISK"),
-            trust: words.get_flag("trust"),
-        }),
-        Some(("crashes", words)) => Ok(Job::Crashes {
-            disk: text(words, "DISK"),
-            script: text(words, "SCRIPT"),
-            trust: words.get_flag("trust"),
-            form: form_of(words),
-        }),
-        Some(("migrate", words)) => migrate_job(words),
-        Some(("info", words)) => Ok(Job::Info(look_at(words))),
-        Some(("check", words)) => Ok(Job::Check(look_at(words))),
-        Some(("export", words)) => Ok(Job::Export(Export {
-            disk: text(words, "DISK"),
-            file: text(words, "FILE"),
-            out: text(words, "OUT"),
-            trust: words.get_flag("trust"),
-            json: words.get_flag("json"),
-        })),
-        Some((_, words)) => Ok(Job::Dump(look_at(words))),
-        None => Ok(Job::Dump(Look {
+    let Some((name, words)) = matches.subcommand() else {
+        return Ok(Job::Dump(Look {
             disk: "",
             trust: false,
             json: false,
-        })),
+        }));
+    };
+    match name {
+        "format" => format_job(alloc, words),
+        "migrate" => migrate_job(words),
+        "run" => Ok(run_job(words)),
+        "threads" => Ok(threads_job(words)),
+        "serve" => Ok(serve_job(words)),
+        "replay" => Ok(replay_job(words)),
+        _ => Ok(looking_job(name, words)),
     }
+}
+
+// What a command that only reads a volume is asked for.
+fn looking_job<'a, A: Allocator + Copy>(name: &str, words: &ArgMatches<'a>) -> Job<'a, A> {
+    match name {
+        "info" => Job::Info(look_at(words)),
+        "check" => Job::Check(look_at(words)),
+        "export" => export_job(words),
+        "crashes" => crashes_job(words),
+        _ => Job::Dump(look_at(words)),
+    }
+}
+
+fn run_job<'a, A: Allocator + Copy>(words: &ArgMatches<'a>) -> Job<'a, A> {
+    Job::Run {
+        disk: text(words, "DISK"),
+        script: text(words, "SCRIPT"),
+        trust: words.get_flag("trust"),
+    }
+}
+
+fn threads_job<'a, A: Allocator + Copy>(words: &ArgMatches<'a>) -> Job<'a, A> {
+    Job::Threads {
+        disk: text(words, "DISK"),
+        script: text(words, "SCRIPT"),
+        trust: words.get_flag("trust"),
+    }
+}
+
+fn replay_job<'a, A: Allocator + Copy>(words: &ArgMatches<'a>) -> Job<'a, A> {
+    Job::Replay {
+        disk: text(words, "DISK"),
+        trace: text(words, "TRACE"),
+        trust: words.get_flag("trust"),
+    }
+}
+
+fn serve_job<'a, A: Allocator + Copy>(words: &ArgMatches<'a>) -> Job<'a, A> {
+    Job::Serve {
+        disk: text(words, "DISK"),
+        trust: words.get_flag("trust"),
+    }
+}
+
+fn crashes_job<'a, A: Allocator + Copy>(words: &ArgMatches<'a>) -> Job<'a, A> {
+    Job::Crashes {
+        disk: text(words, "DISK"),
+        script: text(words, "SCRIPT"),
+        trust: words.get_flag("trust"),
+        form: form_of(words),
+    }
+}
+
+fn export_job<'a, A: Allocator + Copy>(words: &ArgMatches<'a>) -> Job<'a, A> {
+    Job::Export(Export {
+        disk: text(words, "DISK"),
+        file: text(words, "FILE"),
+        out: text(words, "OUT"),
+        trust: words.get_flag("trust"),
+        json: words.get_flag("json"),
+    })
 }
 
 fn look_at<'a>(words: &ArgMatches<'a>) -> Look<'a> {
@@ -133,23 +166,41 @@ fn text<'a>(words: &ArgMatches<'a>, name: &str) -> &'a str {
 }
 
 fn program<'a>(alloc: Global) -> Result<Command<'a>, AllocError> {
-    Command::new(alloc, "famsync")
+    let command = Command::new(alloc, "famsync")
         .version("0.2.0")
         .about(
             "Commits all stores to the files of a volume at once, whatever moment a crash comes at",
         )
-        .subcommand_required(true)
-        .subcommand(format_command(alloc)?)?
-        .subcommand(migrate_command(alloc)?)?
-        .subcommand(run_command(alloc)?)?
-        .subcommand(threads_command(alloc)?)?
-        .subcommand(serve_command(alloc)?)?
-        .subcommand(replay_command(alloc)?)?
-        .subcommand(dump_command(alloc)?)?
-        .subcommand(info_command(alloc)?)?
-        .subcommand(check_command(alloc)?)?
-        .subcommand(export_command(alloc)?)?
-        .subcommand(crashes_command(alloc)?)
+        .subcommand_required(true);
+    let command = with(command, format_command(alloc))?;
+    let command = with(command, migrate_command(alloc))?;
+    let command = with_runs(alloc, command)?;
+    let command = with_looks(alloc, command)?;
+    with(command, crashes_command(alloc))
+}
+
+// The commands that run what another file asks for.
+fn with_runs<'a>(alloc: Global, command: Command<'a>) -> Result<Command<'a>, AllocError> {
+    let command = with(command, run_command(alloc))?;
+    let command = with(command, threads_command(alloc))?;
+    let command = with(command, serve_command(alloc))?;
+    with(command, replay_command(alloc))
+}
+
+// The commands that only read a volume.
+fn with_looks<'a>(alloc: Global, command: Command<'a>) -> Result<Command<'a>, AllocError> {
+    let command = with(command, dump_command(alloc))?;
+    let command = with(command, info_command(alloc))?;
+    let command = with(command, check_command(alloc))?;
+    with(command, export_command(alloc))
+}
+
+// A command with one more subcommand.
+fn with<'a>(
+    command: Command<'a>,
+    below: Result<Command<'a>, AllocError>,
+) -> Result<Command<'a>, AllocError> {
+    command.subcommand(below?)
 }
 
 fn format_command<'a>(alloc: Global) -> Result<Command<'a>, AllocError> {
@@ -211,89 +262,102 @@ fn trust_option<'a>(alloc: Global) -> Arg<'a> {
         .help("Open the volume although a sync of it failed before")
 }
 
-fn run_command<'a>(alloc: Global) -> Result<Command<'a>, AllocError> {
-    Command::new(alloc, "run")
-        .about("Runs a script of steps on a volume, and prints a reply for each step")
+// A command on a volume, which is its first word.
+fn on_volume<'a>(alloc: Global, name: &'a str, about: &'a str) -> Result<Command<'a>, AllocError> {
+    Command::new(alloc, name)
+        .about(about)
         .arg(trust_option(alloc))?
-        .arg(word(alloc, "DISK", "The file that holds the volume"))?
-        .arg(word(
-            alloc,
-            "SCRIPT",
-            "The file that holds the script, a JSON object",
-        ))
+        .arg(word(alloc, "DISK", "The file that holds the volume"))
+}
+
+// The same of a command that prints JSON where it is asked to.
+fn on_volume_with_json<'a>(
+    alloc: Global,
+    name: &'a str,
+    about: &'a str,
+) -> Result<Command<'a>, AllocError> {
+    Command::new(alloc, name)
+        .about(about)
+        .arg(trust_option(alloc))?
+        .arg(json_option(alloc))?
+        .arg(word(alloc, "DISK", "The file that holds the volume"))
+}
+
+fn run_command<'a>(alloc: Global) -> Result<Command<'a>, AllocError> {
+    on_volume(
+        alloc,
+        "run",
+        "Runs a script of steps on a volume, and prints a reply for each step",
+    )?
+    .arg(word(
+        alloc,
+        "SCRIPT",
+        "The file that holds the script, a JSON object",
+    ))
 }
 
 fn threads_command<'a>(alloc: Global) -> Result<Command<'a>, AllocError> {
-    Command::new(alloc, "threads")
-        .about(
-            "Runs a program for each processor in a thread of its own, and prints a trace of all steps",
-        )
-        .arg(trust_option(alloc))?
-        .arg(word(alloc, "DISK", "The file that holds the volume"))?
-        .arg(word(
-            alloc,
-            "SCRIPT",
-            "The file that holds the script with the programs, a JSON object",
-        ))
+    on_volume(
+        alloc,
+        "threads",
+        "Runs a program for each processor in a thread of its own, and prints a trace of all steps",
+    )?
+    .arg(word(
+        alloc,
+        "SCRIPT",
+        "The file that holds the script with the programs, a JSON object",
+    ))
 }
 
 fn serve_command<'a>(alloc: Global) -> Result<Command<'a>, AllocError> {
-    Command::new(alloc, "serve")
-        .about(
-            "Answers requests on a volume: the first line of the input is the shape of a machine, and each further one a request",
-        )
-        .arg(trust_option(alloc))?
-        .arg(word(alloc, "DISK", "The file that holds the volume"))
+    on_volume(
+        alloc,
+        "serve",
+        "Answers requests on a volume: the first line of the input is the shape of a machine, and each further one a request",
+    )
 }
 
 fn replay_command<'a>(alloc: Global) -> Result<Command<'a>, AllocError> {
-    Command::new(alloc, "replay")
-        .about(
-            "Runs a trace again on a copy of a volume, and prints whether each reply is the same",
-        )
-        .arg(trust_option(alloc))?
-        .arg(word(alloc, "DISK", "The file that holds the volume"))?
-        .arg(word(alloc, "TRACE", "The file that holds the trace"))
+    on_volume(
+        alloc,
+        "replay",
+        "Runs a trace again on a copy of a volume, and prints whether each reply is the same",
+    )?
+    .arg(word(alloc, "TRACE", "The file that holds the trace"))
 }
 
 fn dump_command<'a>(alloc: Global) -> Result<Command<'a>, AllocError> {
-    Command::new(alloc, "dump")
-        .about("Prints the files of a volume as it would be opened, and leaves it as it is")
-        .arg(trust_option(alloc))?
-        .arg(json_option(alloc))?
-        .arg(word(alloc, "DISK", "The file that holds the volume"))
+    on_volume_with_json(
+        alloc,
+        "dump",
+        "Prints the files of a volume as it would be opened, and leaves it as it is",
+    )
 }
 
 fn info_command<'a>(alloc: Global) -> Result<Command<'a>, AllocError> {
-    Command::new(alloc, "info")
-        .about(
-            "Prints what the bytes of a volume say: its shape, its files, its journals, and what opening would do",
-        )
-        .arg(trust_option(alloc))?
-        .arg(json_option(alloc))?
-        .arg(word(alloc, "DISK", "The file that holds the volume"))
+    on_volume_with_json(
+        alloc,
+        "info",
+        "Prints what the bytes of a volume say: its shape, its files, its journals, and what opening would do",
+    )
 }
 
 fn check_command<'a>(alloc: Global) -> Result<Command<'a>, AllocError> {
-    Command::new(alloc, "check")
-        .about(
-            "Prints whether a volume is clean, needs opening or is damaged, with status 0, 1 or 3",
-        )
-        .arg(trust_option(alloc))?
-        .arg(json_option(alloc))?
-        .arg(word(alloc, "DISK", "The file that holds the volume"))
+    on_volume_with_json(
+        alloc,
+        "check",
+        "Prints whether a volume is clean, needs opening or is damaged, with status 0, 1 or 3",
+    )
 }
 
 fn export_command<'a>(alloc: Global) -> Result<Command<'a>, AllocError> {
-    Command::new(alloc, "export")
-        .about(
-            "Copies a file of a volume, as it would be opened, to the file OUT, and leaves the volume as it is",
-        )
-        .arg(trust_option(alloc))?
-        .arg(json_option(alloc))?
-        .arg(word(alloc, "DISK", "The file that holds the volume"))?
-        .arg(word(alloc, "FILE", "The name of the file in the volume"))?
-        .arg(word(alloc, "OUT", "The file to make or replace"))
+    on_volume_with_json(
+        alloc,
+        "export",
+        "Copies a file of a volume, as it would be opened, to the file OUT, and leaves the volume as it is",
+    )?
+    .arg(word(alloc, "FILE", "The name of the file in the volume"))?
+    .arg(word(alloc, "OUT", "The file to make or replace"))
 }
 
 fn crashes_command<'a>(alloc: Global) -> Result<Command<'a>, AllocError> {

@@ -1,6 +1,7 @@
 -- Loads and stores through a processor's TLB, and free fills and evictions (Intel SDM volume 3, "4-Level Paging",
 -- "Accessed and Dirty Flags", "Page-Fault Exceptions", "Caching Translation Information").
-use Rattle.std.specs.Prelude.{ℕ, ◌≡◌, ◌+◌, ◌/◌, ◌%◌, ◌^◌, ◌<◌, ◌≤◌, ◌&&◌, ◌||◌, ◌⊎◌, not, nat_lt, Bool, true, false, List, length, take, drop, Option, Some, None, IsSome, Result, Ok, Err, if◌then◌else◌}
+use Rattle.std.specs.Prelude.{ℕ, ◌≡◌, ◌+◌, ◌/◌, ◌%◌, ◌^◌, ◌<◌, ◌≤◌, ◌&&◌, ◌||◌, ◌⊎◌, not, nat_lt, Bool, true, false}
+use Rattle.std.specs.Prelude.{List, length, take, drop, Option, Some, None, IsSome, Result, Ok, Err, if◌then◌else◌}
 use Rattle.page_entry.specs.Entry.{Mapped}
 use Rattle.page_entry.specs.declared.refusal.Refusal.{Refusal}
 use Rattle.page_entry.specs.declared.refusal.Refusal.TheVariants as refusals

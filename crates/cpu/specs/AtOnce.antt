@@ -1,6 +1,7 @@
 -- Loads and stores of many bytes of a page at once, through what a processor has cached of the page: as each of the
 -- accesses of up to eight bytes that they stand for, they need no look at the page table, and change no cached entry.
-use Rattle.std.specs.Prelude.{ℕ, ◌-◌, ◌/◌, ◌%◌, ◌^◌, ◌&&◌, nat_lt, min, Bool, List, [], length, take, drop, Option, Some, None, is_none, if◌then◌else◌}
+use Rattle.std.specs.Prelude.{ℕ, ◌-◌, ◌/◌, ◌%◌, ◌^◌, ◌&&◌, nat_lt, min, Bool, List, []}
+use Rattle.std.specs.Prelude.{length, take, drop, Option, Some, None, is_none, if◌then◌else◌}
 use Rattle.frames.specs.Frames.{FramesState, frame_at, bytes_of, with_bytes}
 use Rattle.pcid_tlb.specs.Tlb.{cached}
 use Rattle.shootdown.specs.Shootdown.{ShootdownState, current, tlb_of, not_running}

@@ -67,11 +67,13 @@ fn done<D: Device, L: Origin<D>, R: Wait>(
 
 // The mark that an act is to make durable.
 fn mark_to_sync(act: &Act, changed: &Reply) -> Option<u64> {
-    match (act, changed) {
-        (Act::Msync { flags, .. }, Reply::Marked(mark)) if flags.contains(MsyncFlags::SYNC) => {
-            Some(u64::from(*mark))
-        }
-        _ => None,
+    if let Act::Msync { flags, .. } = act
+        && flags.contains(MsyncFlags::SYNC)
+        && let Reply::Marked(mark) = changed
+    {
+        Some(u64::from(*mark))
+    } else {
+        None
     }
 }
 
@@ -86,15 +88,28 @@ fn committed<D: Device, L: Origin<D>, R: Wait>(
     ensures { GoesOn cpu.old cpu.new }
 {
     for _ in rt.forever() {
-        if is_committed(rt, cpu, mark) {
-            break;
-        }
-        let flushed = made(rt, cpu, turns, &Act::Flush)?;
-        if matches!(flushed.reply, Reply::Refused(_)) {
+        if is_written(rt, cpu, turns, mark)? {
             break;
         }
     }
     Ok(())
+}
+
+// Whether a mark is durable; where it isn't, a step of the write-outs is made, and whether that is refused.
+#[tactic(auto, using(crate::proofs::Going::goes_further))]
+fn is_written<D: Device, L: Origin<D>, R: Wait>(
+    rt: &R,
+    cpu: &mut Cpu<D, Global, L>,
+    turns: u64,
+    mark: u64,
+) -> Result<bool, Stop>
+    ensures { GoesOn cpu.old cpu.new }
+{
+    if is_committed(rt, cpu, mark) {
+        return Ok(true);
+    }
+    let flushed = made(rt, cpu, turns, &Act::Flush)?;
+    Ok(matches!(flushed.reply, Reply::Refused(_)))
 }
 
 // Whether a mark is durable.
@@ -152,10 +167,7 @@ fn awaited<D: Device, L: Origin<D>, R: Wait>(
 
 // Whether a load read another byte than this one.
 fn has_other_byte(reply: &Reply, byte: u8) -> bool {
-    match reply {
-        Reply::Bytes(bytes) => bytes.as_slice() != [byte].as_slice(),
-        _ => false,
-    }
+    matches!(reply, Reply::Bytes(bytes) if bytes.as_slice() != [byte].as_slice())
 }
 
 // Makes an act, and serves its faults, until it is answered otherwise. Where a fault isn't served, the answer is why.
@@ -183,15 +195,35 @@ fn served<D: Device, L: Origin<D>, R: Wait>(
 
 // The act that serves the fault of a load or a store.
 fn fix_for(act: &Act, reply: &Reply) -> Option<Act> {
-    match (act, reply) {
-        (Act::Load { va, .. }, Reply::Refused(Refusal::Fault(_))) => Some(Act::Fix {
+    if !matches!(reply, Reply::Refused(Refusal::Fault(_))) {
+        return None;
+    }
+    match act {
+        Act::Load { va, .. } => Some(Act::Fix {
             va: *va,
             write: false,
         }),
-        (Act::Store { va, .. }, Reply::Refused(Refusal::Fault(_))) => Some(Act::Fix {
+        Act::Store { va, .. } => Some(Act::Fix {
             va: *va,
             write: true,
         }),
-        _ => None,
+        Act::Fill { .. }
+        | Act::Evict { .. }
+        | Act::Switch { .. }
+        | Act::Idle
+        | Act::Wake
+        | Act::Fix { .. }
+        | Act::Create
+        | Act::Destroy { .. }
+        | Act::Map { .. }
+        | Act::Unmap { .. }
+        | Act::Protect { .. }
+        | Act::Reclaim { .. }
+        | Act::SetLength { .. }
+        | Act::Msync { .. }
+        | Act::Ack
+        | Act::Change
+        | Act::Resume
+        | Act::Flush => None,
     }
 }

@@ -19,11 +19,15 @@ use Rattle.engine.specs.Engine.{HasStarted, HasNotStarted, KeepsDevice}
 use Rattle.engine.proofs.Runs.{taken_kept}
 
 -- the files that an honest device recovered to when it was opened
-opened_files : {D : Type 0} (disk : Ghosts D) (before : D) (volume : VolumeState D) → HasOpened disk before volume.table volume.device → RecoversTo (disk.seen before) (files_of volume.table (disk.seen volume.device))
+opened_files : {D : Type 0} (disk : Ghosts D) (before : D) (volume : VolumeState D)
+    → HasOpened disk before volume.table volume.device
+    → RecoversTo (disk.seen before) (files_of volume.table (disk.seen volume.device))
 opened_files disk before volume has = recovered_files disk before volume.device volume.table has
 
-booted_begins : {D : Type 0} (disk : Ghosts D) (volume : VolumeState D) (shape : Shape) → IsShape volume.table shape → IsAtRest disk volume → disk.is_honest volume.device
-    → Begins disk (files_of volume.table (disk.seen volume.device)) (record { state = fresh volume.table volume.lengths shape; device = volume.device })
+booted_begins : {D : Type 0} (disk : Ghosts D) (volume : VolumeState D) (shape : Shape)
+    → IsShape volume.table shape → IsAtRest disk volume → disk.is_honest volume.device
+    → Begins disk (files_of volume.table (disk.seen volume.device))
+    (record { state = fresh volume.table volume.lengths shape; device = volume.device })
 booted_begins disk volume shape shaped rest honest = record {
   fresh = record { shape = shape; fits = shaped; as_booted = refl };
   volume = rest.holds;
@@ -35,27 +39,39 @@ booted_begins disk volume shape shaped rest honest = record {
 }
 
 -- so a run may begin on it
-pub begins : {D : Type 0} (disk : Ghosts D) (before : D) (shape : Shape) (start : Whole D) (started : HasStarted disk before shape start) → disk.is_honest before
+pub begins : {D : Type 0} (disk : Ghosts D) (before : D) (shape : Shape)
+    (start : Whole D) (started : HasStarted disk before shape start)
+    → disk.is_honest before
     → (files : List File) × RecoversTo (disk.seen before) files × Begins disk files start
 begins {D} disk before shape start started honest =
     let volume = started.volume in
     let here = started.opened.kept.honest.1 honest in
     let files = files_of volume.table (disk.seen volume.device) in
-    let P : Whole D → Type 0 = λ w. Begins disk files w in
-    (files, opened_files disk before volume (started.opened.ended honest), subst P (sym started.booted) (booted_begins disk volume shape started.shaped (started.settled.at_rest here) here))
+    let P : Whole D → Type 0 = λ w. Begins disk files w in (
+      files,
+      opened_files disk before volume (started.opened.ended honest),
+      subst P (sym started.booted) (booted_begins disk volume shape started.shaped (started.settled.at_rest here) here),
+    )
 
 -- the device is kept by a start, by a refusal, and by a run
-pub started_kept : {D : Type 0} (disk : Ghosts D) (before : D) (shape : Shape) (start : Whole D) → HasStarted disk before shape start → KeepsDevice disk before start.device
+pub started_kept : {D : Type 0} (disk : Ghosts D) (before : D) (shape : Shape) (start : Whole D)
+    → HasStarted disk before shape start
+    → KeepsDevice disk before start.device
 started_kept {D} disk before shape start started =
     let P : Whole D → Type 0 = λ w. KeepsDevice disk before w.device in
     let kept = started.opened.kept in
     subst P (sym started.booted) (record { honest = kept.honest; len = kept.len })
 
-pub refused_kept : {D : Type 0} (disk : Ghosts D) (before : D) (shape : Shape) (after : D) (refusal : Refusal) → HasNotStarted disk before shape after refusal → KeepsDevice disk before after
+pub refused_kept : {D : Type 0} (disk : Ghosts D) (before : D) (shape : Shape) (after : D) (refusal : Refusal)
+    → HasNotStarted disk before shape after refusal
+    → KeepsDevice disk before after
 refused_kept disk before shape after refusal (inl opens) = record { honest = opens.kept.honest; len = opens.kept.len }
-refused_kept disk before shape after refusal (inr (table, opens, why)) = record { honest = opens.kept.honest; len = opens.kept.len }
+refused_kept disk before shape after refusal (inr (table, opens, why)) =
+    record { honest = opens.kept.honest; len = opens.kept.len }
 
-pub run_kept : {D : Type 0} (disk : Ghosts D) (before : D) (shape : Shape) (start : Whole D) (steps : List Step) (replies : List Reply) (last : Whole D) → HasStarted disk before shape start → StepsTaken disk start steps replies last
+pub run_kept : {D : Type 0} (disk : Ghosts D) (before : D) (shape : Shape)
+    (start : Whole D) (steps : List Step) (replies : List Reply) (last : Whole D)
+    → HasStarted disk before shape start → StepsTaken disk start steps replies last
     → KeepsDevice disk before last.device
 run_kept disk before shape start steps replies last started taken =
     let first = started_kept disk before shape start started in

@@ -1,6 +1,7 @@
 -- How a page fault is served: what is decided, in this order, and what is done (POSIX.1-2024, mmap, "References
 -- within the address range"; Park, Kelly and Shen 2013 for a store to a page whose record isn't written yet).
-use Rattle.std.specs.Prelude.{ℕ, ◌≡◌, ◌⊎◌, ◌*◌, ◌/◌, ◌^◌, ◌&&◌, ◌||◌, not, nat_le, Bool, true, false, List, Option, Some, None, Result, Ok, Err, slice_get, if◌then◌else◌}
+use Rattle.std.specs.Prelude.{ℕ, ◌≡◌, ◌⊎◌, ◌*◌, ◌/◌, ◌^◌, ◌&&◌, ◌||◌, not, nat_le, Bool, true, false}
+use Rattle.std.specs.Prelude.{List, Option, Some, None, Result, Ok, Err, slice_get, if◌then◌else◌}
 use Rattle.std.specs.List.{list_any}
 use Rattle.page_entry.specs.Entry.{Mapped}
 use Rattle.page_entry.specs.declared.numbers.FilePage.{FilePage}

@@ -1,5 +1,6 @@
 -- What serving a fault asks of the device, and what it answers.
-use Rattle.std.specs.Prelude.{ℕ, ◌≡◌, ◌⊎◌, ◌↔◌, ◌-◌, ◌*◌, ◌&&◌, not, Bool, true, is_none, List, ◌++◌, length, take, drop, replicate, Option, Some, None, if◌then◌else◌}
+use Rattle.std.specs.Prelude.{ℕ, ◌≡◌, ◌⊎◌, ◌↔◌, ◌-◌, ◌*◌, ◌&&◌, not, Bool, true, is_none, List, ◌++◌}
+use Rattle.std.specs.Prelude.{length, take, drop, replicate, Option, Some, None, if◌then◌else◌}
 use Rattle.page_entry.specs.declared.refusal.Refusal.{Refusal}
 use Rattle.page_entry.specs.declared.refusal.Refusal.TheVariants as refusals
 use Rattle.device.specs.Count.{raised}

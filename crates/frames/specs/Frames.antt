@@ -1,5 +1,7 @@
 -- What callers see of the frames of a machine: which are in use, for which page of which file, and with what bytes.
-use Rattle.std.specs.Prelude.{◌≡◌, ◌≢◌, ◌+◌, ◌<◌, ◌≤◌, ◌⊎◌, ◌↔◌, ℕ, Bool, List, [], ◌++◌, length, map, take, drop, replicate, Option, Some, None, is_none, is_some, IsSome, slice_index_or, slice_set, Contains}
+use Rattle.std.specs.Prelude.{◌≡◌, ◌≢◌, ◌+◌, ◌<◌, ◌≤◌, ◌⊎◌, ◌↔◌, ℕ, Bool, List, [], ◌++◌}
+use Rattle.std.specs.Prelude.{length, map, take, drop, replicate, Option, Some, None}
+use Rattle.std.specs.Prelude.{is_none, is_some, IsSome, slice_index_or, slice_set, Contains}
 use Rattle.std.specs.List.{list_any, All, AllPairs}
 use Rattle.page_entry.specs.declared.numbers.FilePage.{FilePage}
 

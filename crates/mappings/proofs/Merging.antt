@@ -1,11 +1,14 @@
 -- What a list of mappings is where each two of which the second goes on where the first ends are made one.
-use Rattle.std.proofs.Common.{◌≡◌, ◌≢◌, ℕ, zero, suc, ◌+◌, ◌-◌, ◌<◌, ◌≤◌, Bool, true, false, cond, ◌&&◌, ◌==◌, List, [], ◌∷◌, ◌++◌, length, get_or, min, take, drop, Some, refl, sym, ap, ◌∙◌, subst, inl, inr, arith}
+use Rattle.std.proofs.Common.{◌≡◌, ◌≢◌, ℕ, zero, suc, ◌+◌, ◌-◌, ◌<◌, ◌≤◌, Bool, true, false}
+use Rattle.std.proofs.Common.{cond, ◌&&◌, ◌==◌, List, [], ◌∷◌, ◌++◌, length, get_or, min}
+use Rattle.std.proofs.Common.{take, drop, Some, refl, sym, ap, ◌∙◌, subst, inl, inr, arith}
 use Rattle.std.proofs.lemmas.Bool.{cases_lt, false≢true}
 use Rattle.std.proofs.lemmas.Bool.Decides.{nat_tests}
 use Rattle.std.specs.List.{remove_range}
 use Rattle.std.specs.Prelude.{Vec}
 use Rattle.std.specs.Vec.{with_items}
-use Rattle.std.proofs.lemmas.List.{append_assoc, with_items_is, length-append, length-drop, length-take-le, take-append-le}
+use Rattle.std.proofs.lemmas.List.{append_assoc, with_items_is, length-append}
+use Rattle.std.proofs.lemmas.List.{length-drop, length-take-le, take-append-le}
 use borrow.Rule.Slice.PartMut.{put_mid, Post-is}
 use Rattle.mappings.specs.declared.place.Rights.{Rights}
 use Rattle.mappings.specs.declared.place.Rights.TheVariants.{Read, ReadWrite}
@@ -70,9 +73,11 @@ IsMapping-joined m n a b j = record {
 joins-joined : (m n t : Mapping) → m.first < m.end → n.first < n.end → Joins m n → joins (joined m n) t ≡ joins n t
 joins-joined m n t few some j =
     let page : m.place.page + (n.end - m.first) ≡ n.place.page + (n.end - n.first) = omega (arith, j.meet, j.page) in
-    λ i. n.end == t.first && (j.file i == t.place.file && (page i == t.place.page && (same_rights (j.rights i) t.place.rights && same_rights (j.access i) t.place.access)))
+    λ i. n.end == t.first && (j.file i == t.place.file
+    && (page i == t.place.page && (same_rights (j.rights i) t.place.rights && same_rights (j.access i) t.place.access)))
 
-lookup-joined : (q : ℕ) (m n : Mapping) (ms : List Mapping) → m.first < m.end → n.first < n.end → Joins m n → lookup q (joined m n ∷ ms) ≡ lookup q (m ∷ n ∷ ms)
+lookup-joined : (q : ℕ) (m n : Mapping) (ms : List Mapping) → m.first < m.end → n.first < n.end → Joins m n
+    → lookup q (joined m n ∷ ms) ≡ lookup q (m ∷ n ∷ ms)
 lookup-joined q m n ms few some j =
     let meet = j.meet in
     elim (cases_lt q m.end) [
@@ -83,27 +88,34 @@ lookup-joined q m n ms few some j =
       | inr above ↦
           let missed : covers m q ≡ false = grind (arith, nat_tests) in
           let same : covers (joined m n) q ≡ covers n q = grind (arith, nat_tests) in
-          rw (missed, same) (ap (λ p. cond (covers n q) (Some p) (lookup q ms)) (place_in-joined m n q few j (omega arith)))
+          rw (missed, same)
+          (ap (λ p. cond (covers n q) (Some p) (lookup q ms)) (place_in-joined m n q few j (omega arith)))
     ]
 
 -- mappings that go on are in order when they are one
-together : (low : ℕ) (m n : Mapping) (ms : List Mapping) → IsOrdered low (m ∷ n ∷ ms) → Joins m n → IsOrdered low (joined m n ∷ ms)
+together : (low : ℕ) (m n : Mapping) (ms : List Mapping) → IsOrdered low (m ∷ n ∷ ms) → Joins m n
+    → IsOrdered low (joined m n ∷ ms)
 together low m n ms o j = (o.0, IsMapping-joined m n o.1 o.2.1 j, o.2.2)
 
-pub lookup-merged_onto : (q low : ℕ) (m : Mapping) (ms : List Mapping) → IsOrdered low (m ∷ ms) → lookup q (merged_onto m ms) ≡ lookup q (m ∷ ms)
+pub lookup-merged_onto : (q low : ℕ) (m : Mapping) (ms : List Mapping) → IsOrdered low (m ∷ ms)
+    → lookup q (merged_onto m ms) ≡ lookup q (m ∷ ms)
 lookup-merged_onto q low m [] o = refl
 lookup-merged_onto q low m (n ∷ ms) o =
-    elim (joins m n) as (λ b. joins m n ≡ b → lookup q (cond b (merged_onto (joined m n) ms) (m ∷ merged_onto n ms)) ≡ lookup q (m ∷ n ∷ ms)) [
+    elim (joins m n) as (λ b.
+    joins m n ≡ b → lookup q (cond b (merged_onto (joined m n) ms) (m ∷ merged_onto n ms)) ≡ lookup q (m ∷ n ∷ ms)) [
       | true ↦ λ e.
           let j = Joins-from_test m n e in
-          lookup-merged_onto q low (joined m n) ms (together low m n ms o j) ∙ lookup-joined q m n ms o.1.has_pages o.2.1.has_pages j
+          lookup-merged_onto q low (joined m n) ms (together low m n ms o j)
+          ∙ lookup-joined q m n ms o.1.has_pages o.2.1.has_pages j
       | false ↦ λ e. ap (λ p. cond (covers m q) (Some (place_in m q)) p) (lookup-merged_onto q m.end n ms o.2)
     ] refl
 
-pub IsOrdered-merged_onto : (low : ℕ) (m : Mapping) (ms : List Mapping) → IsOrdered low (m ∷ ms) → IsOrdered low (merged_onto m ms)
+pub IsOrdered-merged_onto : (low : ℕ) (m : Mapping) (ms : List Mapping) → IsOrdered low (m ∷ ms)
+    → IsOrdered low (merged_onto m ms)
 IsOrdered-merged_onto low m [] o = o
 IsOrdered-merged_onto low m (n ∷ ms) o =
-    elim (joins m n) as (λ b. joins m n ≡ b → IsOrdered low (cond b (merged_onto (joined m n) ms) (m ∷ merged_onto n ms))) [
+    elim (joins m n)
+    as (λ b. joins m n ≡ b → IsOrdered low (cond b (merged_onto (joined m n) ms) (m ∷ merged_onto n ms))) [
       | true ↦ λ e. IsOrdered-merged_onto low (joined m n) ms (together low m n ms o (Joins-from_test m n e))
       | false ↦ λ e. (o.0, o.1, IsOrdered-merged_onto m.end n ms o.2)
     ] refl
@@ -154,11 +166,14 @@ merged-front (suc (suc a)) (m ∷ []) is = refl
 merged-front (suc a) (m ∷ n ∷ ms) is = rw is.0 (ap (λ l. m ∷ l) (merged-front a (n ∷ ms) is.1))
 
 -- its last mappings stay where they go on nowhere
-merged_onto-back : (low k : ℕ) (m : Mapping) (ms : List Mapping) → IsOrdered low (m ∷ ms) → k ≤ length ms → IsMerged (drop k (m ∷ ms)) → merged_onto m ms ≡ merged_onto m (take k ms) ++ drop k ms
+merged_onto-back : (low k : ℕ) (m : Mapping) (ms : List Mapping)
+    → IsOrdered low (m ∷ ms) → k ≤ length ms → IsMerged (drop k (m ∷ ms))
+    → merged_onto m ms ≡ merged_onto m (take k ms) ++ drop k ms
 merged_onto-back low zero m ms o h is = merged_onto-merged m ms is
 merged_onto-back low (suc k) m [] o h is = absurd (omega arith)
 merged_onto-back low (suc k) m (n ∷ ms) o h is =
-    elim (joins m n) as (λ b. joins m n ≡ b → cond b (merged_onto (joined m n) ms) (m ∷ merged_onto n ms) ≡ cond b (merged_onto (joined m n) (take k ms)) (m ∷ merged_onto n (take k ms)) ++ drop k ms) [
+    elim (joins m n) as (λ b. joins m n ≡ b → cond b (merged_onto (joined m n) ms) (m ∷ merged_onto n ms)
+    ≡ cond b (merged_onto (joined m n) (take k ms)) (m ∷ merged_onto n (take k ms)) ++ drop k ms) [
       | true ↦ λ e.
           let j = Joins-from_test m n e in
           merged_onto-back low k (joined m n) ms (together low m n ms o j) (omega arith) (replaced k ms j is)
@@ -169,7 +184,8 @@ merged_onto-back low (suc k) m (n ∷ ms) o h is =
     beside [] j apart = tt
     beside (t ∷ ms) j apart = joins-joined m n t o.1.has_pages o.2.1.has_pages j ∙ apart
 
-    replaced : (k : ℕ) (ms : List Mapping) → Joins m n → IsMerged (drop k (n ∷ ms)) → IsMerged (drop k (joined m n ∷ ms))
+    replaced : (k : ℕ) (ms : List Mapping) → Joins m n → IsMerged (drop k (n ∷ ms))
+        → IsMerged (drop k (joined m n ∷ ms))
     replaced zero ms j is = (beside ms j is.0, is.1)
     replaced (suc k) ms j is = is
 
@@ -181,11 +197,13 @@ IsMerged-last zero (m ∷ n ∷ ms) h = absurd (omega arith)
 IsMerged-last (suc n) [] h = tt
 IsMerged-last (suc n) (m ∷ ms) h = IsMerged-last n ms (omega arith)
 
-merged-back : (low a k c : ℕ) (ms : List Mapping) → IsOrdered low ms → a + k ≡ c → c < length ms → IsMerged (drop c ms) → merged (drop a ms) ≡ merged (take (suc k) (drop a ms)) ++ drop (suc c) ms
+merged-back : (low a k c : ℕ) (ms : List Mapping) → IsOrdered low ms → a + k ≡ c → c < length ms → IsMerged (drop c ms)
+    → merged (drop a ms) ≡ merged (take (suc k) (drop a ms)) ++ drop (suc c) ms
 merged-back low zero k c [] o same h is = absurd (omega arith)
 merged-back low zero k c (m ∷ ms) o same h is =
     let e : c ≡ k = omega arith in
-    merged_onto-back low k m ms o (omega arith) (subst (λ c. IsMerged (drop c (m ∷ ms))) e is) ∙ ap (λ c. merged_onto m (take k ms) ++ drop c ms) (sym e)
+    merged_onto-back low k m ms o (omega arith) (subst (λ c. IsMerged (drop c (m ∷ ms))) e is)
+    ∙ ap (λ c. merged_onto m (take k ms) ++ drop c ms) (sym e)
 merged-back low (suc a) k zero ms o same h is = absurd (omega arith)
 merged-back low (suc a) k (suc c) [] o same h is = absurd (omega arith)
 merged-back low (suc a) k (suc c) (m ∷ ms) o same h is = merged-back m.end a k c ms o.2 (omega arith) (omega arith) is
@@ -199,8 +217,15 @@ drop-none zero = refl
 drop-none (suc n) = refl
 
 -- only the mappings at some places and their neighbours can go on
-pub merged-around : (from to a b : ℕ) (ms : List Mapping) → IsOrdered 0 ms → from ≤ to → to ≤ length ms → IsMerged (take from ms) → IsMerged (drop to ms) → a ≡ from - 1 → b ≡ min (to + 1) (length ms) → merged ms ≡ take a ms ++ (merged (take (b - a) (drop a ms)) ++ drop b ms)
-merged-around from to a b [] o forward within front back ea eb = sym (rw (take-none {A = Mapping} a, drop-none {A = Mapping} a, drop-none {A = Mapping} b, take-none {A = Mapping} (b - a)) refl)
+pub merged-around : (from to a b : ℕ) (ms : List Mapping) → IsOrdered 0 ms → from ≤ to → to ≤ length ms
+    → IsMerged (take from ms) → IsMerged (drop to ms) → a ≡ from - 1 → b ≡ min (to + 1) (length ms)
+    → merged ms ≡ take a ms ++ (merged (take (b - a) (drop a ms)) ++ drop b ms)
+merged-around from to a b [] o forward within front back ea eb = sym (rw (
+  take-none {A = Mapping} a,
+  drop-none {A = Mapping} a,
+  drop-none {A = Mapping} b,
+  take-none {A = Mapping} (b - a),
+) refl)
 merged-around from to a b (m ∷ ms) o forward within front back ea eb =
     let list = m ∷ ms in
     let k = b - a - 1 in
@@ -215,10 +240,12 @@ merged-around from to a b (m ∷ ms) o forward within front back ea eb =
     ] in
     merged-front a list first
     ∙ ap (λ l. take a list ++ l) (merged-back 0 a k c list o (omega arith) (omega arith) last)
-    ∙ ap (λ n. take a list ++ (merged (take n (drop a list)) ++ drop (suc c) list)) {x = suc k} {y = b - a} (omega arith)
+    ∙ ap (λ n. take a list ++ (merged (take n (drop a list)) ++ drop (suc c) list)) {x = suc k}
+    {y = b - a} (omega arith)
     ∙ ap (λ n. take a list ++ (merged (take (b - a) (drop a list)) ++ drop n list)) {x = suc c} {y = b} (omega arith)
 
--- the mappings of an old list up to a place are merged: the first ones of the list, and the last one of them, to which more may be added
+-- the mappings of an old list up to a place are merged: the first ones of the list, and the last one of them, to which
+-- more may be added
 pub record MergesTo (old list : List Mapping) (last : Mapping) (kept index : ℕ) : Type 0 where
   pub less : kept < index
   pub within : index ≤ length old
@@ -238,7 +265,9 @@ drop-append-more (x ∷ xs) ys zero k e = absurd (omega arith)
 drop-append-more (x ∷ xs) ys (suc n) k e = drop-append-more xs ys n k (omega arith)
 
 -- a part that was written, and its end removed
-pub remove_range-put_mid : {X : Type 0} (xs new : List X) (a b kept : ℕ) → a ≤ b → b ≤ length xs → length new ≡ b - a → kept ≤ length new → remove_range (put_mid a (b - a) xs new) (a + kept) b ≡ take a xs ++ (take kept new ++ drop b xs)
+pub remove_range-put_mid : {X : Type 0} (xs new : List X) (a b kept : ℕ)
+    → a ≤ b → b ≤ length xs → length new ≡ b - a → kept ≤ length new
+    → remove_range (put_mid a (b - a) xs new) (a + kept) b ≡ take a xs ++ (take kept new ++ drop b xs)
 remove_range-put_mid xs new a b kept le within size few =
     let front : length (take a xs) ≡ a = length-take-le a xs (omega arith) in
     let back = drop b xs in
@@ -246,21 +275,37 @@ remove_range-put_mid xs new a b kept le within size few =
     (λ i. first front i ++ last front i) ∙ append_assoc (take a xs) (take kept new) back)
   where
     first : length (take a xs) ≡ a → take (a + kept) (take a xs ++ (new ++ drop b xs)) ≡ take a xs ++ take kept new
-    first front = take-append-more (take a xs) (new ++ drop b xs) (a + kept) kept (omega arith) ∙ ap (λ l. take a xs ++ l) (take-append-le kept new (drop b xs) few)
+    first front =
+        take-append-more (take a xs) (new ++ drop b xs) (a + kept) kept (omega arith)
+        ∙ ap (λ l. take a xs ++ l) (take-append-le kept new (drop b xs) few)
 
     last : length (take a xs) ≡ a → drop b (take a xs ++ (new ++ drop b xs)) ≡ drop b xs
-    last front = drop-append-more (take a xs) (new ++ drop b xs) b (b - a) (omega arith) ∙ drop-append-more new (drop b xs) (b - a) 0 (omega arith)
+    last front =
+        drop-append-more (take a xs) (new ++ drop b xs) b (b - a) (omega arith)
+        ∙ drop-append-more new (drop b xs) (b - a) 0 (omega arith)
 
-pub length-written : {X : Type 0} (xs new : List X) (a b : ℕ) → a ≤ b → b ≤ length xs → length new ≡ b - a → length (put_mid a (b - a) xs new) ≡ length xs
+pub length-written : {X : Type 0} (xs new : List X) (a b : ℕ) → a ≤ b → b ≤ length xs → length new ≡ b - a
+    → length (put_mid a (b - a) xs new) ≡ length xs
 length-written xs new a b le within size =
-    rw (Post-is a b xs le) (omega (arith, length-append (take a xs) (new ++ drop b xs), length-append new (drop b xs), length-take-le a xs (omega arith), length-drop b xs))
+    rw (Post-is a b xs le) (omega (
+      arith,
+      length-append (take a xs) (new ++ drop b xs),
+      length-append new (drop b xs),
+      length-take-le a xs (omega arith),
+      length-drop b xs,
+    ))
 
 -- the mappings around some places merged in their place
-pub merged-written : {Z : Type 0} (list : Vec Mapping Z) (now new : List Mapping) (from to a b kept : ℕ) → now ≡ list.items → IsOrdered 0 list.items → from ≤ to → to ≤ length list.items → IsMerged (take from list.items) → IsMerged (drop to list.items) → a ≡ from - 1 → b ≡ min (to + 1) (length list.items) → length new ≡ b - a → kept ≤ length new → take kept new ≡ merged (take (b - a) (drop a now)) → remove_range (with_items list (put_mid a (b - a) now new)).items (a + kept) b ≡ merged list.items
+pub merged-written : {Z : Type 0} (list : Vec Mapping Z) (now new : List Mapping) (from to a b kept : ℕ)
+    → now ≡ list.items → IsOrdered 0 list.items → from ≤ to → to ≤ length list.items → IsMerged (take from list.items)
+    → IsMerged (drop to list.items) → a ≡ from - 1 → b ≡ min (to + 1) (length list.items)
+    → length new ≡ b - a → kept ≤ length new → take kept new ≡ merged (take (b - a) (drop a now))
+    → remove_range (with_items list (put_mid a (b - a) now new)).items (a + kept) b ≡ merged list.items
 merged-written list now new from to a b kept is o forward within front back ea eb size few done =
     let le : a ≤ b = omega arith in
     let inside : b ≤ length now = omega (arith, ap length is) in
-    let items = with_items_is list (put_mid a (b - a) now new) (length-written now new a b le inside size ∙ ap length is ∙ sym list.ok.0) in
+    let items = with_items_is list (put_mid a (b - a) now new)
+    (length-written now new a b le inside size ∙ ap length is ∙ sym list.ok.0) in
     ap (λ (l : List Mapping). remove_range l (a + kept) b) items
     ∙ remove_range-put_mid now new a b kept le inside size few
     ∙ (λ i. take a (is i) ++ (done i ++ drop b (is i)))

@@ -1,5 +1,6 @@
 -- A range with all pages of the mappings at its ends that have the rights already.
-use Rattle.std.proofs.Common.{◌≡◌, ℕ, ◌+◌, ◌-◌, ◌<◌, ◌≤◌, ◌^◌, true, false, not, if◌then◌else◌, List, Option, Some, None, refl, sym, ap, ◌∙◌, subst, inl, inr, arith}
+use Rattle.std.proofs.Common.{◌≡◌, ℕ, ◌+◌, ◌-◌, ◌<◌, ◌≤◌, ◌^◌, true, false, not, if◌then◌else◌}
+use Rattle.std.proofs.Common.{List, Option, Some, None, refl, sym, ap, ◌∙◌, subst, inl, inr, arith}
 use Rattle.std.specs.Option.{option_map}
 use Rattle.std.specs.FinMap as fin_map
 use Rattle.std.specs.Cmp.{nat_cmp_total}
@@ -18,15 +19,22 @@ use Rattle.mappings.proofs.Merging.{same_rights-is}
 use Rattle.mappings.proofs.Inside.{goes_on_inside, goes_on_at_end, is_cut-inside, rights_inside}
 
 -- pages that have the rights may be given them
-pub same_widened : (ms : List Mapping) (rights : Rights) (first count low n : ℕ) → low ≤ first → first + count ≤ low + n → HaveRights ms low first rights → HaveRights ms (first + count) (low + n) rights → with_rights (places_of ms) low n rights ≡ with_rights (places_of ms) first count rights
+pub same_widened : (ms : List Mapping) (rights : Rights) (first count low n : ℕ) → low ≤ first
+    → first + count ≤ low + n → HaveRights ms low first rights → HaveRights ms (first + count) (low + n) rights
+    → with_rights (places_of ms) low n rights ≡ with_rights (places_of ms) first count rights
 same_widened ms rights first count low n begins ends before after =
     fin_map.same_map nat_cmp_total fin_map.nat_cmp-IsAntisymmetric _ _ (λ q.
-    get-with_rights (places_of ms) low n rights q ∙ at q (fin_map.get (places_of ms) q) refl ∙ sym (get-with_rights (places_of ms) first count rights q))
+    get-with_rights (places_of ms) low n rights q
+    ∙ at q (fin_map.get (places_of ms) q) refl
+    ∙ sym (get-with_rights (places_of ms) first count rights q))
   where
-    at : (q : ℕ) (o : Option Place) → fin_map.get (places_of ms) q ≡ o → option_map (λ place. if is_among low n q then record place { rights = rights } else place) o ≡ option_map (λ place. if is_among first count q then record place { rights = rights } else place) o
+    at : (q : ℕ) (o : Option Place) → fin_map.get (places_of ms) q ≡ o
+        → option_map (λ place. if is_among low n q then record place { rights = rights } else place) o
+        ≡ option_map (λ place. if is_among first count q then record place { rights = rights } else place) o
     at q None e = refl
     at q (Some place) e =
-        let whole : place.rights ≡ rights → record place { rights = rights } ≡ place = λ same. ap (λ r. record place { rights = r }) (sym same) in
+        let whole : place.rights ≡ rights → record place { rights = rights } ≡ place =
+        λ same. ap (λ r. record place { rights = r }) (sym same) in
         elim (cases_lt q low) [
           | inl less ↦ grind (arith, nat_tests)
           | inr more ↦ elim (cases_lt q first) [
@@ -42,39 +50,59 @@ same_widened ms rights first count low n begins ends before after =
         ]
 
 -- the pages before a page inside a mapping, where that has the rights
-pub begin-same : (ms : List Mapping) (page : ℕ) (rights : Rights) (m : Mapping) → IsKept ms → IsAround ms page m → same_rights m.place.rights rights ≡ true → IsBegin ms page rights m.first
+pub begin-same : (ms : List Mapping) (page : ℕ) (rights : Rights) (m : Mapping)
+    → IsKept ms → IsAround ms page m → same_rights m.place.rights rights ≡ true
+    → IsBegin ms page rights m.first
 begin-same ms page rights m kept is same = record {
   order = omega (arith, is.below);
-  have = λ q place low high got. rights_inside ms kept page m rights is (same_rights-is _ _ same) q place low (omega (arith, is.above)) got;
-  cut = goes_on_at_end ms kept page m is m.first (omega arith) (omega (arith, is.below, is.above)) (λ a b. omega arith) ∙ sym (is_cut-inside ms kept page m rights is ∙ ap not same);
+  have = λ q place low high got.
+      rights_inside ms kept page m rights is (same_rights-is _ _ same) q place low (omega (arith, is.above)) got;
+  cut = goes_on_at_end ms kept page m is m.first (omega arith) (omega (arith, is.below, is.above)) (λ a b. omega arith)
+      ∙ sym (is_cut-inside ms kept page m rights is ∙ ap not same);
 }
 
-pub begin-other : (ms : List Mapping) (page : ℕ) (rights : Rights) (m : Mapping) → IsKept ms → IsAround ms page m → same_rights m.place.rights rights ≡ false → IsBegin ms page rights page
+pub begin-other : (ms : List Mapping) (page : ℕ) (rights : Rights) (m : Mapping)
+    → IsKept ms → IsAround ms page m → same_rights m.place.rights rights ≡ false
+    → IsBegin ms page rights page
 begin-other ms page rights m kept is other = record {
   order = omega arith;
   have = λ q place low high got. absurd (omega arith);
-  cut = goes_on_inside ms page m kept.ordered is page is.below is.above ∙ sym (is_cut-inside ms kept page m rights is ∙ ap not other);
+  cut = goes_on_inside ms page m kept.ordered is page is.below is.above
+      ∙ sym (is_cut-inside ms kept page m rights is ∙ ap not other);
 }
 
 -- the pages from a page inside a mapping on, where that has the rights
-pub end-same : (ms : List Mapping) (page : ℕ) (rights : Rights) (m : Mapping) → IsKept ms → IsAround ms page m → same_rights m.place.rights rights ≡ true → IsEnd ms page rights m.end
+pub end-same : (ms : List Mapping) (page : ℕ) (rights : Rights) (m : Mapping)
+    → IsKept ms → IsAround ms page m → same_rights m.place.rights rights ≡ true
+    → IsEnd ms page rights m.end
 end-same ms page rights m kept is same = record {
   order = omega (arith, is.above);
-  below_end = omega (arith, ap (λ (n : Mapping). n.end) (is.found m), (mapping_at 0 ms kept.ordered is.at m is.within).below_end);
-  have = λ q place low high got. rights_inside ms kept page m rights is (same_rights-is _ _ same) q place (omega (arith, is.below)) high got;
-  cut = goes_on_at_end ms kept page m is m.end (omega (arith, is.below, is.above)) (omega arith) (λ a b. omega arith) ∙ sym (is_cut-inside ms kept page m rights is ∙ ap not same);
+  below_end = omega (
+    arith,
+    ap (λ (n : Mapping). n.end) (is.found m),
+    (mapping_at 0 ms kept.ordered is.at m is.within).below_end,
+  );
+  have = λ q place low high got.
+      rights_inside ms kept page m rights is (same_rights-is _ _ same) q place (omega (arith, is.below)) high got;
+  cut = goes_on_at_end ms kept page m is m.end (omega (arith, is.below, is.above)) (omega arith) (λ a b. omega arith)
+      ∙ sym (is_cut-inside ms kept page m rights is ∙ ap not same);
 }
 
-pub end-other : (ms : List Mapping) (page : ℕ) (rights : Rights) (m : Mapping) → page < 2 ^ 64 → IsKept ms → IsAround ms page m → same_rights m.place.rights rights ≡ false → IsEnd ms page rights page
+pub end-other : (ms : List Mapping) (page : ℕ) (rights : Rights) (m : Mapping) → page < 2 ^ 64
+    → IsKept ms → IsAround ms page m → same_rights m.place.rights rights ≡ false
+    → IsEnd ms page rights page
 end-other ms page rights m fits kept is other = record {
   order = omega arith;
   below_end = fits;
   have = λ q place low high got. absurd (omega arith);
-  cut = goes_on_inside ms page m kept.ordered is page is.below is.above ∙ sym (is_cut-inside ms kept page m rights is ∙ ap not other);
+  cut = goes_on_inside ms page m kept.ordered is page is.below is.above
+      ∙ sym (is_cut-inside ms kept page m rights is ∙ ap not other);
 }
 
 -- both ends together
-pub IsWidened-ends : (ms : List Mapping) (range : PageRange) (rights : Rights) (low high : ℕ) → IsBegin ms range.first rights low → IsEnd ms (range.first + range.count) rights high → IsWidened ms range rights (record { first = low; count = high - low })
+pub IsWidened-ends : (ms : List Mapping) (range : PageRange) (rights : Rights) (low high : ℕ)
+    → IsBegin ms range.first rights low → IsEnd ms (range.first + range.count) rights high
+    → IsWidened ms range rights (record { first = low; count = high - low })
 IsWidened-ends ms range rights low high begin end =
     let a = begin.order in
     let b = end.order in
@@ -85,5 +113,6 @@ IsWidened-ends ms range rights low high begin end =
       below_end = omega (arith, end.below_end);
       first = begin.cut;
       end = ap (goes_on (places_of ms)) last ∙ end.cut;
-      same = same_widened ms rights range.first range.count low (high - low) a (omega arith) begin.have (subst (λ n. HaveRights ms (range.first + range.count) n rights) (sym last) end.have);
+      same = same_widened ms rights range.first range.count low (high - low) a (omega arith) begin.have
+          (subst (λ n. HaveRights ms (range.first + range.count) n rights) (sym last) end.have);
     }

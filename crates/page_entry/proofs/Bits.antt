@@ -1,12 +1,15 @@
 -- Setting and clearing one bit of an entry, as a change of the record that the bits are.
-use Rattle.std.proofs.Common.{◌≡◌, ℕ, zero, suc, ◌+◌, ◌-◌, ◌*◌, ◌/◌, ◌%◌, ◌^◌, ◌<◌, ◌≤◌, ◌==◌, Bool, true, false, if◌then◌else◌, Option, Some, None, refl, sym, ap, ◌∙◌, subst, arith, is_some, bit_or}
+use Rattle.std.proofs.Common.{◌≡◌, ℕ, zero, suc, ◌+◌, ◌-◌, ◌*◌, ◌/◌, ◌%◌, ◌^◌, ◌<◌, ◌≤◌, ◌==◌, Bool, true, false}
+use Rattle.std.proofs.Common.{if◌then◌else◌, Option, Some, None, refl, sym, ap, ◌∙◌, subst, arith, is_some, bit_or}
 use Rattle.std.specs.Int.RustNames.{bit_and}
 use Rattle.std.specs.Int.Bits.{or_add_and}
 use Rattle.std.proofs.lemmas.Nat.{and-not, and_comm}
 use Rattle.std.proofs.lemmas.Nat.Bits.{and_pow}
 use Rattle.std.proofs.lemmas.Bool.Decides.{nat_tests}
 use Rattle.bitflags.specs.Sets.{without}
-use Rattle.page_entry.specs.Entry.{Mapped, flag_weight, bits_of, has_bit, entry_of, IsEntry, is_writable, is_accessed, is_dirty, with_present_of, with_writable_of, with_accessed_of, with_dirty_of, with_frame_of}
+use Rattle.page_entry.specs.Entry.{Mapped, flag_weight, bits_of, has_bit, entry_of, IsEntry}
+use Rattle.page_entry.specs.Entry.{is_writable, is_accessed, is_dirty, with_present_of}
+use Rattle.page_entry.specs.Entry.{with_writable_of, with_accessed_of, with_dirty_of, with_frame_of}
 
 -- setting bit k adds its weight where it was clear
 or_bit : (n k : ℕ) → bit_or n (2 ^ k) + (n / 2 ^ k % 2) * 2 ^ k ≡ n + 2 ^ k
@@ -35,20 +38,31 @@ abbrev bits : ℕ → Bool → Bool → Bool → ℕ
 bits f w a d = 1 + flag_weight w 2 + 4 + flag_weight a 32 + flag_weight d 64 + f * 4096
 
 -- the bits as multiples of their weights
-scaled : (f : ℕ) (w a d : Bool) → bits f w a d ≡ 5 + flag_weight w 1 * 2 + flag_weight a 1 * 32 + flag_weight d 1 * 64 + f * 4096
+scaled : (f : ℕ) (w a d : Bool)
+    → bits f w a d ≡ 5 + flag_weight w 1 * 2 + flag_weight a 1 * 32 + flag_weight d 1 * 64 + f * 4096
 scaled f w a d = omega (arith, flag_scaled w 2, flag_scaled a 32, flag_scaled d 64)
 
 has_writable : (f : ℕ) (w a d : Bool) → has_bit (bits f w a d) 1 ≡ w
-has_writable f w a d = ap (λ x. x == 1) (let e : bits f w a d / 2 % 2 ≡ flag_weight w 1 = omega (arith, scaled f w a d, flag_small w, flag_small a, flag_small d) in e) ∙ flag_test w
+has_writable f w a d =
+    ap (λ x. x == 1) (let e : bits f w a d / 2 % 2 ≡ flag_weight w 1 =
+    omega (arith, scaled f w a d, flag_small w, flag_small a, flag_small d) in e)
+    ∙ flag_test w
 
 has_accessed : (f : ℕ) (w a d : Bool) → has_bit (bits f w a d) 5 ≡ a
-has_accessed f w a d = ap (λ x. x == 1) (let e : bits f w a d / 32 % 2 ≡ flag_weight a 1 = omega (arith, scaled f w a d, flag_small w, flag_small a, flag_small d) in e) ∙ flag_test a
+has_accessed f w a d =
+    ap (λ x. x == 1) (let e : bits f w a d / 32 % 2 ≡ flag_weight a 1 =
+    omega (arith, scaled f w a d, flag_small w, flag_small a, flag_small d) in e)
+    ∙ flag_test a
 
 has_dirty : (f : ℕ) (w a d : Bool) → has_bit (bits f w a d) 6 ≡ d
-has_dirty f w a d = ap (λ x. x == 1) (let e : bits f w a d / 64 % 2 ≡ flag_weight d 1 = omega (arith, scaled f w a d, flag_small w, flag_small a, flag_small d) in e) ∙ flag_test d
+has_dirty f w a d =
+    ap (λ x. x == 1) (let e : bits f w a d / 64 % 2 ≡ flag_weight d 1 =
+    omega (arith, scaled f w a d, flag_small w, flag_small a, flag_small d) in e)
+    ∙ flag_test d
 
 has_present : (f : ℕ) (w a d : Bool) → has_bit (bits f w a d) 0 ≡ true
-has_present f w a d = ap (λ x. x == 1) (let e : bits f w a d / 1 % 2 ≡ 1 = omega (arith, scaled f w a d, flag_small w, flag_small a, flag_small d) in e)
+has_present f w a d = ap (λ x. x == 1) (let e : bits f w a d / 1 % 2 ≡ 1 =
+    omega (arith, scaled f w a d, flag_small w, flag_small a, flag_small d) in e)
 
 has_frame : (f : ℕ) (w a d : Bool) → bits f w a d / 4096 ≡ f
 has_frame f w a d = omega (arith, scaled f w a d, flag_small w, flag_small a, flag_small d)
@@ -57,8 +71,10 @@ small_bits : (f : ℕ) (w a d : Bool) → f < 2 ^ 32 → bits f w a d < 2 ^ 64
 small_bits f w a d small = omega (arith, scaled f w a d, flag_small w, flag_small a, flag_small d)
 
 -- a present entry's bits are that entry
-again : (f : ℕ) (w a d : Bool) → entry_of (bits f w a d) ≡ Some (record { frame = f; writable = w; accessed = a; dirty = d })
-again f w a d = rw (has_present f w a d, has_frame f w a d, has_writable f w a d, has_accessed f w a d, has_dirty f w a d) refl
+again : (f : ℕ) (w a d : Bool)
+    → entry_of (bits f w a d) ≡ Some (record { frame = f; writable = w; accessed = a; dirty = d })
+again f w a d =
+    rw (has_present f w a d, has_frame f w a d, has_writable f w a d, has_accessed f w a d, has_dirty f w a d) refl
 
 -- an entry with a frame of 32 bits
 abbrev pub IsSmall : Option Mapped → Type 0
@@ -78,54 +94,86 @@ IsEntry-bits_of e s = record { named = ap bits_of (entry_of-bits_of e); small = 
 
 small_entry : (e : Option Mapped) (n : ℕ) → bits_of e ≡ n → n / 4096 < 2 ^ 32 → IsSmall e
 small_entry None n same s = tt
-small_entry (Some m) n same s = subst (λ f. f < 2 ^ 32) (ap (λ x. x / 4096) (sym same) ∙ has_frame m.frame m.writable m.accessed m.dirty) s
+small_entry (Some m) n same s =
+    subst (λ f. f < 2 ^ 32) (ap (λ x. x / 4096) (sym same) ∙ has_frame m.frame m.writable m.accessed m.dirty) s
 
 pub IsSmall-entry_of : (n : ℕ) → IsEntry n → IsSmall (entry_of n)
 IsSmall-entry_of n is = small_entry (entry_of n) n is.named is.small
 
 -- what a test of one bit says
-one_bit : (n k : ℕ) (b : Bool) → n / 2 ^ k % 2 ≡ flag_weight b 1 → (flag_weight b 1 * 2 ^ k == 2 ^ k) ≡ b → (bit_and n (2 ^ k) == 2 ^ k) ≡ b
+one_bit : (n k : ℕ) (b : Bool) → n / 2 ^ k % 2 ≡ flag_weight b 1 → (flag_weight b 1 * 2 ^ k == 2 ^ k) ≡ b
+    → (bit_and n (2 ^ k) == 2 ^ k) ≡ b
 one_bit n k b at weighed = ap (λ x. x == 2 ^ k) (and_pow n k ∙ ap (λ x. x * 2 ^ k) at) ∙ weighed
 
 pub test_writable : (e : Option Mapped) → (bit_and (bits_of e) 2 == 2) ≡ is_writable e
 test_writable None = refl
 test_writable (Some m) = let f = m.frame in let w = m.writable in let a = m.accessed in let d = m.dirty in
-    one_bit (bits f w a d) 1 w (omega (arith, scaled f w a d, flag_small w, flag_small a, flag_small d)) (elim w as (λ b. (flag_weight b 1 * 2 == 2) ≡ b) [ true ↦ refl | false ↦ refl ])
+    one_bit (bits f w a d) 1 w (omega (arith, scaled f w a d, flag_small w, flag_small a, flag_small d))
+    (elim w as (λ b. (flag_weight b 1 * 2 == 2) ≡ b) [ true ↦ refl | false ↦ refl ])
 
 pub test_accessed : (e : Option Mapped) → (bit_and (bits_of e) 32 == 32) ≡ is_accessed e
 test_accessed None = refl
 test_accessed (Some m) = let f = m.frame in let w = m.writable in let a = m.accessed in let d = m.dirty in
-    one_bit (bits f w a d) 5 a (omega (arith, scaled f w a d, flag_small w, flag_small a, flag_small d)) (elim a as (λ b. (flag_weight b 1 * 32 == 32) ≡ b) [ true ↦ refl | false ↦ refl ])
+    one_bit (bits f w a d) 5 a (omega (arith, scaled f w a d, flag_small w, flag_small a, flag_small d))
+    (elim a as (λ b. (flag_weight b 1 * 32 == 32) ≡ b) [ true ↦ refl | false ↦ refl ])
 
 pub test_dirty : (e : Option Mapped) → (bit_and (bits_of e) 64 == 64) ≡ is_dirty e
 test_dirty None = refl
 test_dirty (Some m) = let f = m.frame in let w = m.writable in let a = m.accessed in let d = m.dirty in
-    one_bit (bits f w a d) 6 d (omega (arith, scaled f w a d, flag_small w, flag_small a, flag_small d)) (elim d as (λ b. (flag_weight b 1 * 64 == 64) ≡ b) [ true ↦ refl | false ↦ refl ])
+    one_bit (bits f w a d) 6 d (omega (arith, scaled f w a d, flag_small w, flag_small a, flag_small d))
+    (elim d as (λ b. (flag_weight b 1 * 64 == 64) ≡ b) [ true ↦ refl | false ↦ refl ])
 
 -- the bits with some of them set or cleared
 abbrev pub after_set : ℕ → ℕ → Bool → ℕ
 after_set n mask set = if set then bit_or n mask else without 64 n mask
 
-pub set_writable : (e : Option Mapped) (b : Bool) → IsSmall e → is_some e ≡ true → after_set (bits_of e) 2 b ≡ bits_of (with_writable_of e b)
+pub set_writable : (e : Option Mapped) (b : Bool) → IsSmall e → is_some e ≡ true
+    → after_set (bits_of e) 2 b ≡ bits_of (with_writable_of e b)
 set_writable None b s h = cc
 set_writable (Some m) true s h = let f = m.frame in let w = m.writable in let a = m.accessed in let d = m.dirty in
     omega (arith, or_bit (bits f w a d) 1, scaled f w a d, scaled f true a d, flag_small w, flag_small a, flag_small d)
 set_writable (Some m) false s h = let f = m.frame in let w = m.writable in let a = m.accessed in let d = m.dirty in
-    omega (arith, clear_bit (bits f w a d) 1 (small_bits f w a d s) (omega arith), scaled f w a d, scaled f false a d, flag_small w, flag_small a, flag_small d)
+    omega (
+      arith,
+      clear_bit (bits f w a d) 1 (small_bits f w a d s) (omega arith),
+      scaled f w a d,
+      scaled f false a d,
+      flag_small w,
+      flag_small a,
+      flag_small d,
+    )
 
-pub set_accessed : (e : Option Mapped) (b : Bool) → IsSmall e → is_some e ≡ true → after_set (bits_of e) 32 b ≡ bits_of (with_accessed_of e b)
+pub set_accessed : (e : Option Mapped) (b : Bool) → IsSmall e → is_some e ≡ true
+    → after_set (bits_of e) 32 b ≡ bits_of (with_accessed_of e b)
 set_accessed None b s h = cc
 set_accessed (Some m) true s h = let f = m.frame in let w = m.writable in let a = m.accessed in let d = m.dirty in
     omega (arith, or_bit (bits f w a d) 5, scaled f w a d, scaled f w true d, flag_small w, flag_small a, flag_small d)
 set_accessed (Some m) false s h = let f = m.frame in let w = m.writable in let a = m.accessed in let d = m.dirty in
-    omega (arith, clear_bit (bits f w a d) 5 (small_bits f w a d s) (omega arith), scaled f w a d, scaled f w false d, flag_small w, flag_small a, flag_small d)
+    omega (
+      arith,
+      clear_bit (bits f w a d) 5 (small_bits f w a d s) (omega arith),
+      scaled f w a d,
+      scaled f w false d,
+      flag_small w,
+      flag_small a,
+      flag_small d,
+    )
 
-pub set_dirty : (e : Option Mapped) (b : Bool) → IsSmall e → is_some e ≡ true → after_set (bits_of e) 64 b ≡ bits_of (with_dirty_of e b)
+pub set_dirty : (e : Option Mapped) (b : Bool) → IsSmall e → is_some e ≡ true
+    → after_set (bits_of e) 64 b ≡ bits_of (with_dirty_of e b)
 set_dirty None b s h = cc
 set_dirty (Some m) true s h = let f = m.frame in let w = m.writable in let a = m.accessed in let d = m.dirty in
     omega (arith, or_bit (bits f w a d) 6, scaled f w a d, scaled f w a true, flag_small w, flag_small a, flag_small d)
 set_dirty (Some m) false s h = let f = m.frame in let w = m.writable in let a = m.accessed in let d = m.dirty in
-    omega (arith, clear_bit (bits f w a d) 6 (small_bits f w a d s) (omega arith), scaled f w a d, scaled f w a false, flag_small w, flag_small a, flag_small d)
+    omega (
+      arith,
+      clear_bit (bits f w a d) 6 (small_bits f w a d s) (omega arith),
+      scaled f w a d,
+      scaled f w a false,
+      flag_small w,
+      flag_small a,
+      flag_small d,
+    )
 
 -- a change that computes the bits of another small entry makes that entry
 pub record Makes (bits : ℕ) (e : Option Mapped) : Type 0 where
@@ -143,19 +191,30 @@ pub record Computes (compute : ℕ → ℕ) (change : Option Mapped → Option M
   pub bits : (e : Option Mapped) → IsSmall e → is_some e ≡ true → compute (bits_of e) ≡ bits_of (change e)
   pub small : (e : Option Mapped) → IsSmall e → IsSmall (change e)
 
-pub changes : (compute : ℕ → ℕ) (change : Option Mapped → Option Mapped) → Computes compute change → (old new : ℕ) (e : Option Mapped) → IsEntry old → entry_of old ≡ e → is_some e ≡ true → new ≡ compute old → Makes new (change e)
+pub changes : (compute : ℕ → ℕ) (change : Option Mapped → Option Mapped) → Computes compute change
+    → (old new : ℕ) (e : Option Mapped) → IsEntry old → entry_of old ≡ e → is_some e ≡ true → new ≡ compute old
+    → Makes new (change e)
 changes compute change is old new e was view some same =
     let s : IsSmall e = subst IsSmall view (IsSmall-entry_of old was) in
     makes new (change e) (same ∙ ap compute (sym was.named ∙ ap bits_of view) ∙ is.bits e s some) (is.small e s)
 
 pub writable_changes : (b : Bool) → Computes (λ n. after_set n 2 b) (λ e. with_writable_of e b)
-writable_changes b = record { bits = λ e s h. set_writable e b s h; small = λ e. elim e as (λ e. IsSmall e → IsSmall (with_writable_of e b)) [ None ↦ λ s. s | Some m ↦ λ s. s ] }
+writable_changes b = record {
+  bits = λ e s h. set_writable e b s h;
+  small = λ e. elim e as (λ e. IsSmall e → IsSmall (with_writable_of e b)) [ None ↦ λ s. s | Some m ↦ λ s. s ];
+}
 
 pub accessed_changes : (b : Bool) → Computes (λ n. after_set n 32 b) (λ e. with_accessed_of e b)
-accessed_changes b = record { bits = λ e s h. set_accessed e b s h; small = λ e. elim e as (λ e. IsSmall e → IsSmall (with_accessed_of e b)) [ None ↦ λ s. s | Some m ↦ λ s. s ] }
+accessed_changes b = record {
+  bits = λ e s h. set_accessed e b s h;
+  small = λ e. elim e as (λ e. IsSmall e → IsSmall (with_accessed_of e b)) [ None ↦ λ s. s | Some m ↦ λ s. s ];
+}
 
 pub dirty_changes : (b : Bool) → Computes (λ n. after_set n 64 b) (λ e. with_dirty_of e b)
-dirty_changes b = record { bits = λ e s h. set_dirty e b s h; small = λ e. elim e as (λ e. IsSmall e → IsSmall (with_dirty_of e b)) [ None ↦ λ s. s | Some m ↦ λ s. s ] }
+dirty_changes b = record {
+  bits = λ e s h. set_dirty e b s h;
+  small = λ e. elim e as (λ e. IsSmall e → IsSmall (with_dirty_of e b)) [ None ↦ λ s. s | Some m ↦ λ s. s ];
+}
 
 -- a bit as a number is one where its weight is the weight of a set bit
 weighed : (bit : ℕ) (weight : ℕ) → bit < 2 → 0 < weight → (bit * weight == weight) ≡ (bit == 1)
@@ -168,9 +227,17 @@ pub test_bit : (n k : ℕ) → 0 < 2 ^ k → (bit_and n (2 ^ k) == 2 ^ k) ≡ ha
 test_bit n k some = ap (λ x. x == 2 ^ k) (and_pow n k) ∙ weighed (n / 2 ^ k % 2) (2 ^ k) (omega arith) some
 
 -- the entry that is made of these bits, one by one
-pub read_back : (n : ℕ) → with_dirty_of (with_accessed_of (with_writable_of (with_frame_of (with_present_of None (bit_and n 1 == 1)) (n / 4096)) (bit_and n 2 == 2)) (bit_and n 32 == 32)) (bit_and n 64 == 64) ≡ entry_of n
-read_back n = rw (test_bit n 0 (omega arith), test_bit n 1 (omega arith), test_bit n 5 (omega arith), test_bit n 6 (omega arith)) (by_present (has_bit n 0))
+pub read_back : (n : ℕ)
+    → with_dirty_of (with_accessed_of (with_writable_of (with_frame_of (with_present_of None (bit_and n 1 == 1))
+    (n / 4096)) (bit_and n 2 == 2)) (bit_and n 32 == 32)) (bit_and n 64 == 64) ≡ entry_of n
+read_back n =
+    rw (test_bit n 0 (omega arith), test_bit n 1 (omega arith), test_bit n 5 (omega arith), test_bit n 6 (omega arith))
+    (by_present (has_bit n 0))
   where
-    by_present : (b : Bool) → with_dirty_of (with_accessed_of (with_writable_of (with_frame_of (with_present_of None b) (n / 4096)) (has_bit n 1)) (has_bit n 5)) (has_bit n 6) ≡ (if b then Some (record { frame = n / 4096; writable = has_bit n 1; accessed = has_bit n 5; dirty = has_bit n 6 }) else None)
+    by_present : (b : Bool)
+        → with_dirty_of (with_accessed_of (with_writable_of (with_frame_of (with_present_of None b) (n / 4096))
+        (has_bit n 1)) (has_bit n 5)) (has_bit n 6) ≡ (if b
+        then Some (record { frame = n / 4096; writable = has_bit n 1; accessed = has_bit n 5; dirty = has_bit n 6 })
+        else None)
     by_present true = refl
     by_present false = refl

@@ -1,6 +1,7 @@
 -- An entry of a page table: absent, or a frame with its rights and what the processor noted of its use (Intel SDM
 -- volume 3, "4-Level Paging": the format of an entry that maps a 4 KiB page).
-use Rattle.std.specs.Prelude.{ℕ, ◌+◌, ◌*◌, ◌/◌, ◌%◌, ◌^◌, ◌<◌, ◌≡◌, ◌==◌, Bool, true, false, if◌then◌else◌, Option, Some, None, unwrap_or}
+use Rattle.std.specs.Prelude.{ℕ, ◌+◌, ◌*◌, ◌/◌, ◌%◌, ◌^◌, ◌<◌, ◌≡◌, ◌==◌, Bool, true}
+use Rattle.std.specs.Prelude.{false, if◌then◌else◌, Option, Some, None, unwrap_or}
 
 -- what a present entry says
 pub record Mapped : Type 0 where
@@ -16,7 +17,8 @@ flag_weight set weight = if set then weight else 0
 -- Bit 0 present, 1 writable, 2 user, 5 accessed, 6 dirty, 51:12 the frame. The user bit is set in each present entry.
 abbrev pub bits_of : Option Mapped → ℕ
 bits_of None = 0
-bits_of (Some m) = 1 + flag_weight m.writable 2 + 4 + flag_weight m.accessed 32 + flag_weight m.dirty 64 + m.frame * 4096
+bits_of (Some m) =
+    1 + flag_weight m.writable 2 + 4 + flag_weight m.accessed 32 + flag_weight m.dirty 64 + m.frame * 4096
 
 -- whether bit k is set
 abbrev pub has_bit : ℕ → ℕ → Bool

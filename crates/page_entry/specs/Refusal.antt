@@ -2,7 +2,11 @@
 use Rattle.std.specs.Prelude.{ℕ, List, ◌++◌, codes}
 use Rattle.std.specs.Fmt.{decimal}
 use Rattle.page_entry.specs.declared.refusal.Refusal.{Refusal}
-use Rattle.page_entry.specs.declared.refusal.Refusal.TheVariants.{Stalled, Locked, NotYet, Fault, SegvMapErr, SegvAccErr, BusAdrErr, Held, NoFrame, Device, Broken, Einval, Enomem, Eacces, Overlap, NoFile, Busy, NotResident, TraceFull, OutOfMemory, NotAVolume, Damaged, BadShape}
+use Rattle.page_entry.specs.declared.refusal.Refusal.TheVariants.{Stalled, Locked, NotYet, Fault, SegvMapErr}
+use Rattle.page_entry.specs.declared.refusal.Refusal.TheVariants.{SegvAccErr, BusAdrErr, Held, NoFrame, Device}
+use Rattle.page_entry.specs.declared.refusal.Refusal.TheVariants.{Broken, Einval, Enomem, Eacces, Overlap}
+use Rattle.page_entry.specs.declared.refusal.Refusal.TheVariants.{NoFile, Busy, NotResident, TraceFull}
+use Rattle.page_entry.specs.declared.refusal.Refusal.TheVariants.{OutOfMemory, NotAVolume, Damaged, BadShape}
 
 -- the name in lower case without spaces, and after `notyet` and `fault` one space and the number in decimal digits
 abbrev pub words_of : Refusal → List ℕ

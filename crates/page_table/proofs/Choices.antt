@@ -1,5 +1,6 @@
 -- Tests of numbers that are known to hold or to fail.
-use Rattle.std.proofs.Common.{◌≡◌, ◌≢◌, ℕ, ◌+◌, ◌<◌, ◌≤◌, Bool, true, false, eqb, ltb, not, is_some, List, Option, Some, None, arith}
+use Rattle.std.proofs.Common.{◌≡◌, ◌≢◌, ℕ, ◌+◌, ◌<◌, ◌≤◌, Bool, true, false, eqb}
+use Rattle.std.proofs.Common.{ltb, not, is_some, List, Option, Some, None, arith}
 use Rattle.std.proofs.lemmas.Bool.Decides.{nat_tests}
 use Rattle.page_table.specs.Table.{in_range}
 use Rattle.page_table.specs.Bits.{is_set, IsFirstSet}
@@ -38,7 +39,9 @@ pub some_used : (n : ℕ) (b : Bool) → b ≡ not (eqb n 0) → n ≢ 0 → b �
 some_used n b is some unused = absurd (let here = eq_false n 0 some in cc)
 
 -- a search that finds nothing
-pub none_set : (mask : List ℕ) (first end : ℕ) (found : Option ℕ) → IsFirstSet mask first end found → is_some found ≡ false → (i : ℕ) → first ≤ i → i < end → is_set mask i ≡ false
+pub none_set : (mask : List ℕ) (first end : ℕ) (found : Option ℕ)
+    → IsFirstSet mask first end found → is_some found ≡ false → (i : ℕ) → first ≤ i → i < end
+    → is_set mask i ≡ false
 none_set mask first end None none missed = none
 none_set mask first end (Some place) here missed = absurd (cc)
 

@@ -1,5 +1,6 @@
 -- Notes of the frames that marked words map as dirty, node by node, and of all entries of a table.
-use Rattle.std.proofs.Common.{◌≡◌, ◌≢◌, ◌⊎◌, ◌↔◌, ℕ, ◌+◌, ◌*◌, ◌/◌, ◌<◌, ◌≤◌, Bool, true, false, List, length, get_or, set, Option, Some, None, refl, sym, ap, ◌∙◌, subst, inl, inr, ⊎_elim, arith}
+use Rattle.std.proofs.Common.{◌≡◌, ◌≢◌, ◌⊎◌, ◌↔◌, ℕ, ◌+◌, ◌*◌, ◌/◌, ◌<◌, ◌≤◌, Bool, true, false, List, length}
+use Rattle.std.proofs.Common.{get_or, set, Option, Some, None, refl, sym, ap, ◌∙◌, subst, inl, inr, ⊎_elim, arith}
 use Rattle.std.proofs.lemmas.Bool.{cases_eq, cases_lt}
 use Rattle.std.proofs.lemmas.List.{length-set, get_or-set_same, get_or-set_other}
 use Rattle.std.specs.FinMap as maps
@@ -18,11 +19,15 @@ module _ (ws present : List ℕ) where
   pub NotesMarked-none : (first : ℕ) (notes : List Bool) → NotesMarked ws present first first notes notes
   NotesMarked-none first notes = record {
     size = refl;
-    noted = λ frame. (λ was. inl was, λ h. ⊎_elim (λ was. was) (λ d. absurd (let low = d.low in let high = d.high in omega arith)) h);
+    noted = λ frame. (
+      λ was. inl was,
+      λ h. ⊎_elim (λ was. was) (λ d. absurd (let low = d.low in let high = d.high in omega arith)) h,
+    );
   }
 
   -- of a longer part
-  wider : (a b first end frame : ℕ) → first ≤ a → b ≤ end → IsMarkedDirty ws present a b frame → IsMarkedDirty ws present first end frame
+  wider : (a b first end frame : ℕ) → first ≤ a → b ≤ end → IsMarkedDirty ws present a b frame
+      → IsMarkedDirty ws present first end frame
   wider a b first end frame low high d = record {
     place = d.place;
     low = omega (arith, d.low);
@@ -34,7 +39,8 @@ module _ (ws present : List ℕ) where
     dirty = d.dirty;
   }
 
-  narrower : (a b first end frame : ℕ) → (d : IsMarkedDirty ws present a b frame) → first ≤ d.place → d.place < end → IsMarkedDirty ws present first end frame
+  narrower : (a b first end frame : ℕ) → (d : IsMarkedDirty ws present a b frame) → first ≤ d.place → d.place < end
+      → IsMarkedDirty ws present first end frame
   narrower a b first end frame d low high = record {
     place = d.place;
     low = low;
@@ -47,11 +53,14 @@ module _ (ws present : List ℕ) where
   }
 
   -- up to a place before which no other word is marked
-  pub NotesMarked-all : (first place end : ℕ) (old new : List Bool) → place ≤ end → NotesMarked ws present first place old new → ((i : ℕ) → place ≤ i → i < end → is_set present i ≡ false) → NotesMarked ws present first end old new
+  pub NotesMarked-all : (first place end : ℕ) (old new : List Bool) → place ≤ end
+      → NotesMarked ws present first place old new → ((i : ℕ) → place ≤ i → i < end → is_set present i ≡ false)
+      → NotesMarked ws present first end old new
   NotesMarked-all first place end old new le done none = record {
     size = done.size;
     noted = λ frame. (
-      λ noted. ⊎_elim inl (λ d. inr (wider first place first end frame (omega arith) le d)) ((done.noted frame).0 noted),
+      λ noted. ⊎_elim inl (λ d. inr (wider first place first end frame (omega arith) le d))
+          ((done.noted frame).0 noted),
       λ h. (done.noted frame).1 (⊎_elim inl (λ d. inr (before frame d)) h),
     );
   }
@@ -63,37 +72,54 @@ module _ (ws present : List ℕ) where
       ]
 
   -- one part after the other
-  pub NotesMarked-joined : (first mid end : ℕ) (old now new : List Bool) → first ≤ mid → mid ≤ end → NotesMarked ws present first mid old now → NotesMarked ws present mid end now new → NotesMarked ws present first end old new
+  pub NotesMarked-joined : (first mid end : ℕ) (old now new : List Bool) → first ≤ mid → mid ≤ end
+      → NotesMarked ws present first mid old now → NotesMarked ws present mid end now new
+      → NotesMarked ws present first end old new
   NotesMarked-joined first mid end old now new low high done more = record {
     size = more.size ∙ done.size;
     noted = λ frame. (
       λ noted. ⊎_elim
-          (λ was. ⊎_elim inl (λ d. inr (wider first mid first end frame (omega arith) high d)) ((done.noted frame).0 was))
+          (λ was.
+          ⊎_elim inl (λ d. inr (wider first mid first end frame (omega arith) high d)) ((done.noted frame).0 was))
           (λ d. inr (wider mid end first end frame low (omega arith) d))
           ((more.noted frame).0 noted),
       λ h. (more.noted frame).1 (⊎_elim (λ was. inl ((done.noted frame).1 (inl was))) (λ d. part frame d) h),
     );
   }
     where
-      part : (frame : ℕ) → IsMarkedDirty ws present first end frame → (get_or now frame false ≡ true) ⊎ IsMarkedDirty ws present mid end frame
+      part : (frame : ℕ) → IsMarkedDirty ws present first end frame
+          → (get_or now frame false ≡ true) ⊎ IsMarkedDirty ws present mid end frame
       part frame d = elim (cases_lt d.place mid) [
         | inl below ↦ inl ((done.noted frame).1 (inr (narrower first end first mid frame d d.low below)))
         | inr above ↦ inr (narrower first end mid end frame d above d.high)
       ]
 
   -- a marked word that is dirty, and one that isn't
-  pub NotesMarked-dirty : (at : ℕ) (e : Option Mapped) (notes : List Bool) → is_set present at ≡ true → e ≡ entry_of (get_or ws at 0) → is_dirty e ≡ true → frame_of e < length notes → NotesMarked ws present at (at + 1) notes (set notes (frame_of e) true)
+  pub NotesMarked-dirty : (at : ℕ) (e : Option Mapped) (notes : List Bool) → is_set present at ≡ true
+      → e ≡ entry_of (get_or ws at 0) → is_dirty e ≡ true → frame_of e < length notes
+      → NotesMarked ws present at (at + 1) notes (set notes (frame_of e) true)
   NotesMarked-dirty at None notes marked read dirty within = absurd (cc)
   NotesMarked-dirty at (Some entry) notes marked read dirty within = record {
     size = length-set notes entry.frame true;
     noted = λ frame. (
       λ noted. elim (cases_eq frame entry.frame) [
-        | inl same ↦ inr (record { place = at; low = omega arith; high = omega arith; marked = marked; entry = entry; read = sym read; same_frame = sym same; dirty = dirty })
+        | inl same ↦ inr (record {
+          place = at;
+          low = omega arith;
+          high = omega arith;
+          marked = marked;
+          entry = entry;
+          read = sym read;
+          same_frame = sym same;
+          dirty = dirty;
+        })
         | inr other ↦ inl (sym (get_or-set_other notes entry.frame frame true false other) ∙ noted)
       ],
       λ h. elim (cases_eq frame entry.frame) [
-        | inl same ↦ ap (λ f. get_or (set notes entry.frame true) f false) same ∙ get_or-set_same notes entry.frame true false within
-        | inr other ↦ get_or-set_other notes entry.frame frame true false other ∙ ⊎_elim (λ was. was) (λ d. absurd (other (sym (one frame d)))) h
+        | inl same ↦ ap (λ f. get_or (set notes entry.frame true) f false) same
+            ∙ get_or-set_same notes entry.frame true false within
+        | inr other ↦ get_or-set_other notes entry.frame frame true false other
+            ∙ ⊎_elim (λ was. was) (λ d. absurd (other (sym (one frame d)))) h
       ],
     );
   }
@@ -104,7 +130,9 @@ module _ (ws present : List ℕ) where
           let same : Some entry ≡ Some d.entry = read ∙ ap (λ n. entry_of (get_or ws n 0)) (sym place) ∙ d.read in
           ap frame_of same ∙ d.same_frame
 
-  pub NotesMarked-clean : (at : ℕ) (e : Option Mapped) (notes : List Bool) → e ≡ entry_of (get_or ws at 0) → is_dirty e ≡ false → NotesMarked ws present at (at + 1) notes notes
+  pub NotesMarked-clean : (at : ℕ) (e : Option Mapped) (notes : List Bool)
+      → e ≡ entry_of (get_or ws at 0) → is_dirty e ≡ false
+      → NotesMarked ws present at (at + 1) notes notes
   NotesMarked-clean at e notes read clean = record {
     size = refl;
     noted = λ frame. (λ was. inl was, λ h. ⊎_elim (λ was. was) (λ d. absurd (not_dirty frame d)) h);
@@ -117,25 +145,39 @@ module _ (ws present : List ℕ) where
           let dirty : is_dirty e ≡ true = ap is_dirty same ∙ d.dirty in
           let never : ⊥ = cc in never
 
-  pub frame_below : (first end count at : ℕ) (e : Option Mapped) → AreBelow ws present first end count → first ≤ at → at < end → is_set present at ≡ true → e ≡ entry_of (get_or ws at 0) → is_dirty e ≡ true → frame_of e < count
+  pub frame_below : (first end count at : ℕ) (e : Option Mapped) → AreBelow ws present first end count
+      → first ≤ at → at < end → is_set present at ≡ true → e ≡ entry_of (get_or ws at 0) → is_dirty e ≡ true
+      → frame_of e < count
   frame_below first end count at None below low high marked read dirty = absurd (cc)
-  frame_below first end count at (Some entry) below low high marked read dirty = below at low high marked entry (sym read)
+  frame_below first end count at (Some entry) below low high marked read dirty =
+      below at low high marked entry (sym read)
 
   -- one more marked word
-  pub NotesMarked-next : (first place end at : ℕ) (old now new : List Bool) → first ≤ place → NotesMarked ws present first place old now → IsSet present place end at → NotesMarked ws present at (at + 1) now new → NotesMarked ws present first (at + 1) old new
+  pub NotesMarked-next : (first place end at : ℕ) (old now new : List Bool)
+      → first ≤ place → NotesMarked ws present first place old now
+      → IsSet present place end at → NotesMarked ws present at (at + 1) now new
+      → NotesMarked ws present first (at + 1) old new
   NotesMarked-next first place end at old now new low done found one =
       let from = found.low in
-      NotesMarked-joined first at (at + 1) old now new (omega arith) (omega arith) (NotesMarked-all first place at old now from done found.before) one
+      NotesMarked-joined first at (at + 1) old now new (omega arith) (omega arith)
+      (NotesMarked-all first place at old now from done found.before) one
 
 -- the next node in use is noted too
-pub NotesMarked-node : (ws present in_use : List ℕ) → HasMarks ws present in_use → (node end used : ℕ) (old now new : List Bool) → NotesMarked ws present 0 (node * 512) old now → IsSet in_use node end used → NotesMarked ws present (used * 512) ((used + 1) * 512) now new → NotesMarked ws present 0 ((used + 1) * 512) old new
+pub NotesMarked-node : (ws present in_use : List ℕ) → HasMarks ws present in_use
+    → (node end used : ℕ) (old now new : List Bool) → NotesMarked ws present 0 (node * 512) old now
+    → IsSet in_use node end used → NotesMarked ws present (used * 512) ((used + 1) * 512) now new
+    → NotesMarked ws present 0 ((used + 1) * 512) old new
 NotesMarked-node ws present in_use marks node end used old now new done found one =
     let low = found.low in
     NotesMarked-joined ws present 0 (used * 512) ((used + 1) * 512) old now new (omega arith) (omega arith)
-    (NotesMarked-all ws present 0 (node * 512) (used * 512) old now (omega arith) done (unused_between ws present in_use marks node used found.before)) one
+    (NotesMarked-all ws present 0 (node * 512) (used * 512) old now (omega arith) done
+    (unused_between ws present in_use marks node used found.before)) one
 
 -- and then all nodes are
-pub NotesMarked-whole : (ws present in_use : List ℕ) → IsTable ws → HasMarks ws present in_use → (node : ℕ) (old new : List Bool) → NotesMarked ws present 0 (node * 512) old new → ((i : ℕ) → node * 512 ≤ i → is_set present i ≡ false) → NotesMarked ws present 0 (length ws) old new
+pub NotesMarked-whole : (ws present in_use : List ℕ) → IsTable ws → HasMarks ws present in_use
+    → (node : ℕ) (old new : List Bool) → NotesMarked ws present 0 (node * 512) old new
+    → ((i : ℕ) → node * 512 ≤ i → is_set present i ≡ false)
+    → NotesMarked ws present 0 (length ws) old new
 NotesMarked-whole ws present in_use table marks node old new done none = record {
   size = done.size;
   noted = λ frame. (
@@ -145,7 +187,8 @@ NotesMarked-whole ws present in_use table marks node old new done none = record 
 }
   where
     within : (frame : ℕ) → IsMarkedDirty ws present 0 (node * 512) frame → IsMarkedDirty ws present 0 (length ws) frame
-    within frame d = narrower ws present 0 (node * 512) 0 (length ws) frame d (omega arith) (marked_within ws present table marks.marked d.place d.marked).0
+    within frame d = narrower ws present 0 (node * 512) 0 (length ws) frame d (omega arith)
+        (marked_within ws present table marks.marked d.place d.marked).0
 
     before : (frame : ℕ) → IsMarkedDirty ws present 0 (length ws) frame → IsMarkedDirty ws present 0 (node * 512) frame
     before frame d = elim (cases_lt d.place (node * 512)) [
@@ -154,21 +197,31 @@ NotesMarked-whole ws present in_use table marks node old new done none = record 
     ]
 
 -- a table's dirty entries
-module _ (ws present in_use : List ℕ) (t : TableState) (table : IsTable ws) (marks : HasMarks ws present in_use) (is : table_of ws ≡ t) where
+module _ (ws present in_use : List ℕ) (t : TableState) (table : IsTable ws) (marks : HasMarks ws present in_use)
+    (is : table_of ws ≡ t) where
   entry_is : (q : ℕ) → maps.get t.entries q ≡ entry_of (read_by_walk ws 4 q)
   entry_is q = ap (λ (s : TableState). maps.get s.entries q) (sym is) ∙ get_entry ws q
 
   -- the page of a marked word
-  at_page : (i : ℕ) (entry : Mapped) → is_set present i ≡ true → entry_of (get_or ws i 0) ≡ Some entry → (page : ℕ) × (maps.get t.entries page ≡ Some entry)
+  at_page : (i : ℕ) (entry : Mapped) → is_set present i ≡ true → entry_of (get_or ws i 0) ≡ Some entry
+      → (page : ℕ) × (maps.get t.entries page ≡ Some entry)
   at_page i entry marked read =
-      let found = marks.marked.pages i marked in
-      (found.0, entry_is found.0 ∙ ap entry_of (read_place ws found.0 found.1.leaf ∙ ap (λ n. get_or ws n 0) (sym found.1.same)) ∙ read)
+      let found = marks.marked.pages i marked in (
+        found.0,
+        entry_is found.0
+            ∙ ap entry_of (read_place ws found.0 found.1.leaf ∙ ap (λ n. get_or ws n 0) (sym found.1.same))
+            ∙ read,
+      )
 
-  pub AreBelow-entries : (count : ℕ) → ((page : ℕ) (entry : Mapped) → maps.get t.entries page ≡ Some entry → entry.frame < count) → (first end : ℕ) → AreBelow ws present first end count
-  AreBelow-entries count below first end = λ i low high marked entry read. (let found = at_page i entry marked read in below found.0 entry found.1)
+  pub AreBelow-entries : (count : ℕ)
+      → ((page : ℕ) (entry : Mapped) → maps.get t.entries page ≡ Some entry → entry.frame < count) → (first end : ℕ)
+      → AreBelow ws present first end count
+  AreBelow-entries count below first end =
+      λ i low high marked entry read. (let found = at_page i entry marked read in below found.0 entry found.1)
 
   -- the word of a page with an entry is marked, and its node in use
-  read_of : (page : ℕ) (entry : Mapped) → maps.get t.entries page ≡ Some entry → entry_of (read_by_walk ws 4 page) ≡ Some entry
+  read_of : (page : ℕ) (entry : Mapped) → maps.get t.entries page ≡ Some entry
+      → entry_of (read_by_walk ws 4 page) ≡ Some entry
   read_of page entry there = sym (entry_is page) ∙ there
 
   some_of : (page : ℕ) (entry : Mapped) → maps.get t.entries page ≡ Some entry → read_by_walk ws 4 page ≢ 0
@@ -178,13 +231,20 @@ module _ (ws present in_use : List ℕ) (t : TableState) (table : IsTable ws) (m
       nothing same = (let never : None ≡ Some entry = same in absurd (cc))
 
   leaf_of : (page : ℕ) (entry : Mapped) → maps.get t.entries page ≡ Some entry → 0 < read_by_walk ws 3 (page / 512)
-  leaf_of page entry there = elim (cases_eq (read_by_walk ws 3 (page / 512)) 0) [ inl none ↦ absurd (some_of page entry there (walk-none ws 3 page none)) | inr other ↦ omega arith ]
+  leaf_of page entry there = elim (cases_eq (read_by_walk ws 3 (page / 512)) 0) [
+    | inl none ↦ absurd (some_of page entry there (walk-none ws 3 page none))
+    | inr other ↦ omega arith
+  ]
 
-  marked_of : (page : ℕ) (entry : Mapped) → maps.get t.entries page ≡ Some entry → is_set present (place_of ws page) ≡ true
-  marked_of page entry there = test_of (read_by_walk ws 4 page) (is_set present (place_of ws page)) (marks.marked.entries page (leaf_of page entry there)) (some_of page entry there)
+  marked_of : (page : ℕ) (entry : Mapped) → maps.get t.entries page ≡ Some entry
+      → is_set present (place_of ws page) ≡ true
+  marked_of page entry there = test_of (read_by_walk ws 4 page) (is_set present (place_of ws page))
+      (marks.marked.entries page (leaf_of page entry there)) (some_of page entry there)
 
   -- where no node is in use, no page has one
-  pub none_in_use : (some : Bool) → (some ≡ false → (node : ℕ) → node < length ws / 512 → is_set in_use node ≡ false) → (page : ℕ) (entry : Mapped) → maps.get t.entries page ≡ Some entry → some ≡ true
+  pub none_in_use : (some : Bool) → (some ≡ false → (node : ℕ) → node < length ws / 512 → is_set in_use node ≡ false)
+      → (page : ℕ) (entry : Mapped) → maps.get t.entries page ≡ Some entry
+      → some ≡ true
   none_in_use true unused page entry there = refl
   none_in_use false unused page entry there =
       let node = place_of ws page / 512 in
@@ -194,7 +254,9 @@ module _ (ws present in_use : List ℕ) (t : TableState) (table : IsTable ws) (m
       absurd (cc)
 
   -- and the marked word of a page
-  at_place : (page : ℕ) (entry : Mapped) (frame : ℕ) → maps.get t.entries page ≡ Some entry → entry.frame ≡ frame → entry.dirty ≡ true → IsMarkedDirty ws present 0 (length ws) frame
+  at_place : (page : ℕ) (entry : Mapped) (frame : ℕ)
+      → maps.get t.entries page ≡ Some entry → entry.frame ≡ frame → entry.dirty ≡ true
+      → IsMarkedDirty ws present 0 (length ws) frame
   at_place page entry frame there same dirty = record {
     place = place_of ws page;
     low = omega arith;
@@ -206,12 +268,18 @@ module _ (ws present in_use : List ℕ) (t : TableState) (table : IsTable ws) (m
     dirty = dirty;
   }
 
-  pub noted_entries : (old new : List Bool) → NotesMarked ws present 0 (length ws) old new → (frame : ℕ) → (get_or new frame false ≡ true) ↔ ((get_or old frame false ≡ true) ⊎ ((page : ℕ) × (entry : Mapped) × (maps.get t.entries page ≡ Some entry) × (entry.frame ≡ frame) × (entry.dirty ≡ true)))
+  pub noted_entries : (old new : List Bool) → NotesMarked ws present 0 (length ws) old new → (frame : ℕ)
+      → (get_or new frame false ≡ true) ↔ ((get_or old frame false ≡ true) ⊎ ((page : ℕ) × (entry : Mapped)
+      × (maps.get t.entries page ≡ Some entry) × (entry.frame ≡ frame) × (entry.dirty ≡ true)))
   noted_entries old new notes frame = (
-    λ noted. ⊎_elim inl (λ d. inr (let found = at_page d.place d.entry d.marked d.read in (found.0, d.entry, found.1, d.same_frame, d.dirty))) ((notes.noted frame).0 noted),
+    λ noted. ⊎_elim inl (λ d. inr (let found = at_page d.place d.entry d.marked d.read in
+        (found.0, d.entry, found.1, d.same_frame, d.dirty))) ((notes.noted frame).0 noted),
     λ h. (notes.noted frame).1 (⊎_elim inl (λ d. inr (at_place d.0 d.1 frame d.2 d.3 d.4)) h),
   )
 
 -- notes of words that are these
-pub read_as : (ws vs present now : List ℕ) (old new : List Bool) → ws ≡ vs → present ≡ now → NotesMarked ws present 0 (length ws) old new → NotesMarked vs now 0 (length vs) old new
-read_as ws vs present now old new same marks notes = subst (λ (l : List ℕ). NotesMarked vs l 0 (length vs) old new) marks (subst (λ (l : List ℕ). NotesMarked l present 0 (length l) old new) same notes)
+pub read_as : (ws vs present now : List ℕ) (old new : List Bool) → ws ≡ vs
+    → present ≡ now → NotesMarked ws present 0 (length ws) old new
+    → NotesMarked vs now 0 (length vs) old new
+read_as ws vs present now old new same marks notes = subst (λ (l : List ℕ). NotesMarked vs l 0 (length vs) old new)
+    marks (subst (λ (l : List ℕ). NotesMarked l present 0 (length l) old new) same notes)

@@ -1,5 +1,6 @@
 -- What edits of parts of leaves do page by page.
-use Rattle.std.proofs.Common.{◌≡◌, ◌≢◌, ℕ, ◌+◌, ◌-◌, ◌*◌, ◌/◌, ◌%◌, ◌^◌, ◌<◌, ◌≤◌, Bool, true, false, cond, List, length, get_or, set, min, Option, Some, None, refl, sym, ap, ◌∙◌, subst, inl, inr, arith}
+use Rattle.std.proofs.Common.{◌≡◌, ◌≢◌, ℕ, ◌+◌, ◌-◌, ◌*◌, ◌/◌, ◌%◌, ◌^◌, ◌<◌, ◌≤◌, Bool, true, false, cond, List}
+use Rattle.std.proofs.Common.{length, get_or, set, min, Option, Some, None, refl, sym, ap, ◌∙◌, subst, inl, inr, arith}
 use Rattle.std.proofs.lemmas.Bool.{cases_eq, cases_lt}
 use Rattle.std.proofs.lemmas.Bool.Decides.{nat_tests}
 use Rattle.std.proofs.lemmas.List.{length-set, get_or-set_same, get_or-set_other}
@@ -36,7 +37,8 @@ changed-zero MakeReadOnly = refl
 changed-zero (Protect marked) = refl
 
 -- a present entry that is protected is present still
-some_bits : (e : Option Mapped) → 0 < bits_of e → (marked : Bor (List Bool)) → 0 < bits_of (changed_by (Protect marked) e)
+some_bits : (e : Option Mapped) → 0 < bits_of e → (marked : Bor (List Bool))
+    → 0 < bits_of (changed_by (Protect marked) e)
 some_bits None some marked = absurd (omega arith)
 some_bits (Some m) some marked = omega arith
 
@@ -46,12 +48,17 @@ Keeps-protected marked = λ n is some. some_bits (entry_of n) (subst (λ (k : �
 -- no page past those of four levels has an entry
 pub walk-high : (ws : List ℕ) (q : ℕ) → 2 ^ 36 ≤ q → read_by_walk ws 4 q ≡ 0
 walk-high ws q high =
-    let none : read_by_walk ws 0 (q / 512 / 512 / 512 / 512) ≡ 0 = walk-zero ws _ ∙ (let other : q / 512 / 512 / 512 / 512 ≢ 0 = omega arith in grind (arith, nat_tests)) in
-    walk-none ws 3 q (walk-none ws 2 (q / 512) (walk-none ws 1 (q / 512 / 512) (walk-none ws 0 (q / 512 / 512 / 512) none)))
+    let none : read_by_walk ws 0 (q / 512 / 512 / 512 / 512) ≡ 0 =
+    walk-zero ws _
+    ∙ (let other : q / 512 / 512 / 512 / 512 ≢ 0 = omega arith in grind (arith, nat_tests)) in
+    walk-none ws 3 q
+    (walk-none ws 2 (q / 512) (walk-none ws 1 (q / 512 / 512) (walk-none ws 0 (q / 512 / 512 / 512) none)))
 
 -- one leaf's pages changed
-pub EditsPages-leaf : (f : ℕ → ℕ) (start end : ℕ) (ws vs : List ℕ) → ((n : ℕ) → IsEntry n → IsEntry (f n)) → IsTable ws → 0 < read_by_walk ws 3 (start / 512) → start < end → end ≤ (start / 512 + 1) * 512 → length vs ≡ length ws
-    → ((i : ℕ) → get_or vs i 0 ≡ cond (in_range ((read_by_walk ws 3 (start / 512) - 1) * 512 + start % 512) ((read_by_walk ws 3 (start / 512) - 1) * 512 + start % 512 + (end - start)) i) (f (get_or ws i 0)) (get_or ws i 0))
+pub EditsPages-leaf : (f : ℕ → ℕ) (start end : ℕ) (ws vs : List ℕ) → ((n : ℕ) → IsEntry n → IsEntry (f n)) → IsTable ws
+    → 0 < read_by_walk ws 3 (start / 512) → start < end → end ≤ (start / 512 + 1) * 512 → length vs ≡ length ws
+    → ((i : ℕ) → get_or vs i 0 ≡ cond (in_range ((read_by_walk ws 3 (start / 512) - 1) * 512 + start % 512)
+    ((read_by_walk ws 3 (start / 512) - 1) * 512 + start % 512 + (end - start)) i) (f (get_or ws i 0)) (get_or ws i 0))
     → EditsPages f start end ws vs
 EditsPages-leaf f start end ws vs keeps table leaf forward block size each =
     let b = start / 512 in
@@ -60,12 +67,22 @@ EditsPages-leaf f start end ws vs keeps table leaf forward block size each =
     let hi = start % 512 + (end - start) in
     let high : hi ≤ 512 = omega arith in
     let at = (read_by_walk ws 3 b - 1) * 512 in
-    let each' : (i : ℕ) → get_or vs i 0 ≡ cond (in_range (at + lo) (at + hi) i) (f (get_or ws i 0)) (get_or ws i 0) = λ i. each i ∙ ap (λ n. cond (in_range (at + lo) n i) (f (get_or ws i 0)) (get_or ws i 0)) {x = at + lo + (end - start)} {y = at + hi} (omega arith) in
+    let each' : (i : ℕ) → get_or vs i 0 ≡ cond (in_range (at + lo) (at + hi) i) (f (get_or ws i 0)) (get_or ws i 0) =
+    λ i. each i ∙ ap (λ n. cond (in_range (at + lo) n i) (f (get_or ws i 0)) (get_or ws i 0))
+    {x = at + lo + (end - start)} {y = at + hi} (omega arith) in
     record {
-      table = record { whole = omega (arith, table.whole, size); tree = subst (λ n. IsTree vs (n / 512)) (sym size) (IsTree-edited ws used table.tree b leaf lo hi high f vs each' keeps size) };
+      table = record {
+        whole = omega (arith, table.whole, size);
+        tree = subst (λ n. IsTree vs (n / 512)) (sym size)
+            (IsTree-edited ws used table.tree b leaf lo hi high f vs each' keeps size);
+      };
       size = size;
       nodes = walk-edited ws used table.tree b leaf lo hi high f vs each';
-      pages = λ q. lookup-edited ws used table.tree b leaf lo hi high f vs each' q ∙ ap (λ (n : ℕ). cond (in_range n (b * 512 + hi) q) (f (read_by_walk ws 4 q)) (read_by_walk ws 4 q)) {x = b * 512 + lo} {y = start} (omega arith) ∙ ap (λ (n : ℕ). cond (in_range start n q) (f (read_by_walk ws 4 q)) (read_by_walk ws 4 q)) {x = b * 512 + hi} {y = end} (omega arith);
+      pages = λ q. lookup-edited ws used table.tree b leaf lo hi high f vs each' q
+          ∙ ap (λ (n : ℕ). cond (in_range n (b * 512 + hi) q) (f (read_by_walk ws 4 q)) (read_by_walk ws 4 q))
+          {x = b * 512 + lo} {y = start} (omega arith)
+          ∙ ap (λ (n : ℕ). cond (in_range start n q) (f (read_by_walk ws 4 q)) (read_by_walk ws 4 q)) {x = b * 512 + hi}
+          {y = end} (omega arith);
     }
 
 -- nothing changed yet
@@ -83,7 +100,9 @@ module _ (f : ℕ → ℕ) (zeros : f 0 ≡ 0) where
   chosen_same false n none = none
 
   -- one more page, before which no page has an entry
-  pub EditsPages-next : (start page end next e : ℕ) (ws vs us : List ℕ) → start ≤ page → EditsPages f start page ws vs → IsNext vs page end next → e ≡ f (read_by_walk vs 4 next) → EditsPages (λ _. e) next (next + 1) vs us → EditsPages f start (next + 1) ws us
+  pub EditsPages-next : (start page end next e : ℕ) (ws vs us : List ℕ) → start ≤ page → EditsPages f start page ws vs
+      → IsNext vs page end next → e ≡ f (read_by_walk vs 4 next) → EditsPages (λ _. e) next (next + 1) vs us
+      → EditsPages f start (next + 1) ws us
   EditsPages-next start page end next e ws vs us le done found e_is one = record {
     table = one.table;
     size = one.size ∙ done.size;
@@ -91,10 +110,13 @@ module _ (f : ℕ → ℕ) (zeros : f 0 ≡ 0) where
     pages = λ q. one.pages q ∙ elim (cases_lt q page) [
       | inl below ↦
           let here : in_range next (next + 1) q ≡ false = (let low = found.low in grind (arith, nat_tests)) in
-          let same : in_range start page q ≡ in_range start (next + 1) q = (let low = found.low in grind (arith, nat_tests)) in
+          let same : in_range start page q ≡ in_range start (next + 1) q =
+          (let low = found.low in grind (arith, nat_tests)) in
           rw here (done.pages q ∙ ap (λ t. cond t (f (read_by_walk ws 4 q)) (read_by_walk ws 4 q)) same)
       | inr above ↦
-          let old : read_by_walk vs 4 q ≡ read_by_walk ws 4 q = done.pages q ∙ (let missed : in_range start page q ≡ false = grind (arith, nat_tests) in rw missed refl) in
+          let old : read_by_walk vs 4 q ≡ read_by_walk ws 4 q =
+          done.pages q
+          ∙ (let missed : in_range start page q ≡ false = grind (arith, nat_tests) in rw missed refl) in
           elim (cases_lt q next) [
             | inl gap ↦
                 let here : in_range next (next + 1) q ≡ false = grind (arith, nat_tests) in
@@ -115,7 +137,9 @@ module _ (f : ℕ → ℕ) (zeros : f 0 ≡ 0) where
   }
 
   -- no more pages
-  pub EditsPages-all : (start page end most : ℕ) (ws vs : List ℕ) → start ≤ page → EditsPages f start page ws vs → ((q : ℕ) → page ≤ q → q < end → read_by_walk vs 4 q ≡ 0) → end ≡ min most (2 ^ 36) → (start < page → page ≤ end) → EditsPages f start most ws vs
+  pub EditsPages-all : (start page end most : ℕ) (ws vs : List ℕ) → start ≤ page → EditsPages f start page ws vs
+      → ((q : ℕ) → page ≤ q → q < end → read_by_walk vs 4 q ≡ 0) → end ≡ min most (2 ^ 36) → (start < page → page ≤ end)
+      → EditsPages f start most ws vs
   EditsPages-all start page end most ws vs le done none whole within = record {
     table = done.table;
     size = done.size;
@@ -140,7 +164,9 @@ module _ (f : ℕ → ℕ) (zeros : f 0 ≡ 0) where
           rw missed (elim (cases_lt q end) [
             | inl less ↦ gap less ∙ sym (chosen_same (in_range start most q) (read_by_walk ws 4 q) (gap less))
             | inr past ↦ elim (cases_lt q most) [
-              | inl less ↦ let empty = walk-high ws q (omega arith) in empty ∙ sym (chosen_same (in_range start most q) (read_by_walk ws 4 q) empty)
+              | inl less ↦
+                  let empty = walk-high ws q (omega arith) in
+                  empty ∙ sym (chosen_same (in_range start most q) (read_by_walk ws 4 q) empty)
               | inr more ↦ (let out : in_range start most q ≡ false = grind (arith, nat_tests) in rw out refl)
             ]
           ])
@@ -148,17 +174,30 @@ module _ (f : ℕ → ℕ) (zeros : f 0 ≡ 0) where
   }
 
 -- one page's entry set
-pub EditsPages-set : (ws : List ℕ) (page e node : ℕ) → IsTable ws → 0 < read_by_walk ws 3 (page / 512) → IsEntry e → node ≡ read_by_walk ws 3 (page / 512) → EditsPages (λ _. e) page (page + 1) ws (set ws ((node - 1) * 512 + page % 512) e)
+pub EditsPages-set : (ws : List ℕ) (page e node : ℕ) → IsTable ws
+    → 0 < read_by_walk ws 3 (page / 512) → IsEntry e → node ≡ read_by_walk ws 3 (page / 512)
+    → EditsPages (λ _. e) page (page + 1) ws (set ws ((node - 1) * 512 + page % 512) e)
 EditsPages-set ws page e node table leaf entry node_is =
     subst (λ (n : ℕ). EditsPages (λ _. e) page (page + 1) ws (set ws ((n - 1) * 512 + page % 512) e)) (sym node_is)
-    (EditsPages-leaf (λ _. e) page (page + 1) ws _ (λ n is. entry) table leaf (omega arith) (omega arith) (simp length-set) each)
+    (EditsPages-leaf (λ _. e) page (page + 1) ws _ (λ n is. entry) table leaf (omega arith) (omega arith)
+    (simp length-set) each)
   where
-    each : (i : ℕ) → get_or (set ws ((read_by_walk ws 3 (page / 512) - 1) * 512 + page % 512) e) i 0 ≡ cond (in_range ((read_by_walk ws 3 (page / 512) - 1) * 512 + page % 512) ((read_by_walk ws 3 (page / 512) - 1) * 512 + page % 512 + (page + 1 - page)) i) e (get_or ws i 0)
+    each : (i : ℕ)
+        → get_or (set ws ((read_by_walk ws 3 (page / 512) - 1) * 512 + page % 512) e) i 0
+        ≡ cond (in_range ((read_by_walk ws 3 (page / 512) - 1) * 512 + page % 512)
+        ((read_by_walk ws 3 (page / 512) - 1) * 512 + page % 512 + (page + 1 - page)) i) e (get_or ws i 0)
     each i = elim (cases_eq i ((read_by_walk ws 3 (page / 512) - 1) * 512 + page % 512)) [
       | inl same ↦
-          let inside : in_range ((read_by_walk ws 3 (page / 512) - 1) * 512 + page % 512) ((read_by_walk ws 3 (page / 512) - 1) * 512 + page % 512 + (page + 1 - page)) i ≡ true = grind (arith, nat_tests) in
-          ap (λ n. get_or (set ws ((read_by_walk ws 3 (page / 512) - 1) * 512 + page % 512) e) n 0) same ∙ get_or-set_same ws ((read_by_walk ws 3 (page / 512) - 1) * 512 + page % 512) e 0 (omega (arith, table.tree.walkable.within 3 (page / 512) (omega arith))) ∙ rw inside refl
+          let inside : in_range ((read_by_walk ws 3 (page / 512) - 1) * 512 + page % 512)
+          ((read_by_walk ws 3 (page / 512) - 1) * 512 + page % 512 + (page + 1 - page)) i ≡ true =
+          grind (arith, nat_tests) in
+          ap (λ n. get_or (set ws ((read_by_walk ws 3 (page / 512) - 1) * 512 + page % 512) e) n 0) same
+          ∙ get_or-set_same ws ((read_by_walk ws 3 (page / 512) - 1) * 512 + page % 512) e 0
+          (omega (arith, table.tree.walkable.within 3 (page / 512) (omega arith)))
+          ∙ rw inside refl
       | inr other ↦
-          let out : in_range ((read_by_walk ws 3 (page / 512) - 1) * 512 + page % 512) ((read_by_walk ws 3 (page / 512) - 1) * 512 + page % 512 + (page + 1 - page)) i ≡ false = grind (arith, nat_tests) in
+          let out : in_range ((read_by_walk ws 3 (page / 512) - 1) * 512 + page % 512)
+          ((read_by_walk ws 3 (page / 512) - 1) * 512 + page % 512 + (page + 1 - page)) i ≡ false =
+          grind (arith, nat_tests) in
           get_or-set_other ws ((read_by_walk ws 3 (page / 512) - 1) * 512 + page % 512) i e 0 other ∙ rw out refl
     ]

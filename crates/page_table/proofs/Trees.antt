@@ -1,5 +1,6 @@
 -- What a walk reads after words of one node have changed, and after a new node was linked.
-use Rattle.std.proofs.Common.{◌≡◌, ◌≢◌, ℕ, zero, suc, ◌+◌, ◌-◌, ◌*◌, ◌/◌, ◌%◌, ◌^◌, ◌<◌, ◌≤◌, Bool, true, false, cond, eqb, List, length, get_or, refl, sym, ap, ◌∙◌, subst, inl, inr, arith}
+use Rattle.std.proofs.Common.{◌≡◌, ◌≢◌, ℕ, zero, suc, ◌+◌, ◌-◌, ◌*◌, ◌/◌, ◌%◌, ◌^◌, ◌<◌, ◌≤◌, Bool, true, false}
+use Rattle.std.proofs.Common.{cond, eqb, List, length, get_or, refl, sym, ap, ◌∙◌, subst, inl, inr, arith}
 use Rattle.std.proofs.lemmas.Bool.{cases_eq}
 use Rattle.std.proofs.lemmas.Bool.Decides.{nat_tests}
 use Rattle.page_entry.specs.Entry.{IsEntry}
@@ -23,27 +24,35 @@ pub word_of_none : (ws : List ℕ) (k p : ℕ) → k ≡ 0 → word ws k p ≡ 0
 word_of_none ws k p none = rw none refl
 
 -- the same, of a depth that isn't 0
-pub walk_deeper : (ws : List ℕ) (d b : ℕ) → 0 < d → read_by_walk ws d b ≡ word ws (read_by_walk ws (d - 1) (b / 512)) (b % 512)
+pub walk_deeper : (ws : List ℕ) (d b : ℕ) → 0 < d
+    → read_by_walk ws d b ≡ word ws (read_by_walk ws (d - 1) (b / 512)) (b % 512)
 walk_deeper ws zero b some = absurd (omega arith)
-walk_deeper ws (suc d) b some = walk-suc ws d b ∙ ap (λ n. word ws (read_by_walk ws n (b / 512)) (b % 512)) {x = d} {y = suc d - 1} (omega arith)
+walk_deeper ws (suc d) b some =
+    walk-suc ws d b
+    ∙ ap (λ n. word ws (read_by_walk ws n (b / 512)) (b % 512)) {x = d} {y = suc d - 1} (omega arith)
 
 -- where a block has no node, no block within it has one
 pub walk-none : (ws : List ℕ) (d b : ℕ) → read_by_walk ws d (b / 512) ≡ 0 → read_by_walk ws (suc d) b ≡ 0
 walk-none ws d b none = walk-suc ws d b ∙ word_of_none ws _ _ none
 
 -- words that read alike give walks that read alike
-pub walk-alike : (ws vs : List ℕ) → ((i : ℕ) → get_or vs i 0 ≡ get_or ws i 0) → (d b : ℕ) → read_by_walk vs d b ≡ read_by_walk ws d b
+pub walk-alike : (ws vs : List ℕ) → ((i : ℕ) → get_or vs i 0 ≡ get_or ws i 0) → (d b : ℕ)
+    → read_by_walk vs d b ≡ read_by_walk ws d b
 walk-alike ws vs same zero b = walk-zero vs b ∙ sym (walk-zero ws b)
 walk-alike ws vs same (suc d) b =
     walk-suc vs d b ∙ ap (λ k. word vs k (b % 512)) (walk-alike ws vs same d (b / 512))
-    ∙ ap (λ x. cond (eqb (read_by_walk ws d (b / 512)) 0) 0 x) (same ((read_by_walk ws d (b / 512) - 1) * 512 + b % 512))
+    ∙ ap (λ x. cond (eqb (read_by_walk ws d (b / 512)) 0) 0 x)
+    (same ((read_by_walk ws d (b / 512) - 1) * 512 + b % 512))
     ∙ sym (walk-suc ws d b)
 
 -- places of different nodes differ
-apart_places : (k n p lo hi : ℕ) → 0 < k → 0 < n → p < 512 → hi ≤ 512 → k ≢ n → in_range ((n - 1) * 512 + lo) ((n - 1) * 512 + hi) ((k - 1) * 512 + p) ≡ false
+apart_places : (k n p lo hi : ℕ) → 0 < k → 0 < n → p < 512 → hi ≤ 512 → k ≢ n
+    → in_range ((n - 1) * 512 + lo) ((n - 1) * 512 + hi) ((k - 1) * 512 + p) ≡ false
 apart_places k n p lo hi some node place high other = grind (arith, nat_tests)
 
-same_places : (k n b lo hi q : ℕ) → k ≡ n → q / 512 ≡ b → in_range ((n - 1) * 512 + lo) ((n - 1) * 512 + hi) ((k - 1) * 512 + q % 512) ≡ in_range (b * 512 + lo) (b * 512 + hi) q
+same_places : (k n b lo hi q : ℕ) → k ≡ n → q / 512 ≡ b
+    → in_range ((n - 1) * 512 + lo) ((n - 1) * 512 + hi) ((k - 1) * 512 + q % 512)
+    ≡ in_range (b * 512 + lo) (b * 512 + hi) q
 same_places k n b lo hi q same block =
     let whole : q ≡ b * 512 + q % 512 = omega arith in
     ap (λ m. in_range ((n - 1) * 512 + lo) ((n - 1) * 512 + hi) ((m - 1) * 512 + q % 512)) same
@@ -55,14 +64,22 @@ same_places k n b lo hi q same block =
 other_block : (b lo hi q : ℕ) → hi ≤ 512 → q / 512 ≢ b → in_range (b * 512 + lo) (b * 512 + hi) q ≡ false
 other_block b lo hi q high other = grind (arith, nat_tests)
 
-past_node : (n used lo hi i : ℕ) → n ≤ used → 0 < n → hi ≤ 512 → used * 512 ≤ i → in_range ((n - 1) * 512 + lo) ((n - 1) * 512 + hi) i ≡ false
+past_node : (n used lo hi i : ℕ) → n ≤ used → 0 < n → hi ≤ 512 → used * 512 ≤ i
+    → in_range ((n - 1) * 512 + lo) ((n - 1) * 512 + hi) i ≡ false
 past_node n used lo hi i below some high past = grind (arith, nat_tests)
 
 module _ (ws : List ℕ) (used : ℕ) (is : IsTree ws used) where
-  module _ (b : ℕ) (some : 0 < read_by_walk ws 3 b) (lo hi : ℕ) (high : hi ≤ 512) (f : ℕ → ℕ) (vs : List ℕ) (each : (i : ℕ) → get_or vs i 0 ≡ cond (in_range ((read_by_walk ws 3 b - 1) * 512 + lo) ((read_by_walk ws 3 b - 1) * 512 + hi) i) (f (get_or ws i 0)) (get_or ws i 0)) where
+  module _ (b : ℕ) (some : 0 < read_by_walk ws 3 b) (lo hi : ℕ)
+      (high : hi ≤ 512) (f : ℕ → ℕ) (vs : List ℕ) (each : (i : ℕ)
+      → get_or vs i 0 ≡ cond (in_range ((read_by_walk ws 3 b - 1) * 512 + lo) ((read_by_walk ws 3 b - 1) * 512 + hi) i)
+      (f (get_or ws i 0)) (get_or ws i 0)) where
     outside : (k p : ℕ) → 0 < k → p < 512 → k ≢ read_by_walk ws 3 b → word vs k p ≡ word ws k p
     outside k p node place other =
-        word_of_node vs k p node ∙ each _ ∙ ap (λ t. cond t (f (get_or ws ((k - 1) * 512 + p) 0)) (get_or ws ((k - 1) * 512 + p) 0)) (apart_places k (read_by_walk ws 3 b) p lo hi node some place high other) ∙ sym (word_of_node ws k p node)
+        word_of_node vs k p node
+        ∙ each _
+        ∙ ap (λ t. cond t (f (get_or ws ((k - 1) * 512 + p) 0)) (get_or ws ((k - 1) * 512 + p) 0))
+        (apart_places k (read_by_walk ws 3 b) p lo hi node some place high other)
+        ∙ sym (word_of_node ws k p node)
 
     -- the nodes stay
     pub walk-edited : (d c : ℕ) → d ≤ 3 → read_by_walk vs d c ≡ read_by_walk ws d c
@@ -72,12 +89,15 @@ module _ (ws : List ℕ) (used : ℕ) (is : IsTree ws used) where
         walk-suc vs d c ∙ ap (λ k. word vs k (c % 512)) (walk-edited d (c / 512) (omega arith))
         ∙ elim (cases_eq k 0) [
           | inl none ↦ word_of_none vs k _ none ∙ sym (word_of_none ws k _ none)
-          | inr node ↦ outside k (c % 512) (omega arith) (omega arith) (λ same. let e = (is.apart d (c / 512) 3 b (omega arith) (omega arith) (omega arith) same).0 in omega arith)
+          | inr node ↦ outside k (c % 512) (omega arith) (omega arith) (λ same. let e =
+              (is.apart d (c / 512) 3 b (omega arith) (omega arith) (omega arith) same).0 in omega arith)
         ]
         ∙ sym (walk-suc ws d c)
 
     -- and each entry of the places changes
-    pub lookup-edited : (q : ℕ) → read_by_walk vs 4 q ≡ cond (in_range (b * 512 + lo) (b * 512 + hi) q) (f (read_by_walk ws 4 q)) (read_by_walk ws 4 q)
+    pub lookup-edited : (q : ℕ)
+        → read_by_walk vs 4 q
+        ≡ cond (in_range (b * 512 + lo) (b * 512 + hi) q) (f (read_by_walk ws 4 q)) (read_by_walk ws 4 q)
     lookup-edited q =
         let k = read_by_walk ws 3 (q / 512) in
         walk-suc vs 3 q ∙ ap (λ k. word vs k (q % 512)) (walk-edited 3 (q / 512) (omega arith))
@@ -85,16 +105,20 @@ module _ (ws : List ℕ) (used : ℕ) (is : IsTree ws used) where
           | inl same ↦
               let k_is : k ≡ read_by_walk ws 3 b = ap (read_by_walk ws 3) same in
               let node : 0 < k = omega arith in
-              let place : (k - 1) * 512 + q % 512 ≡ (read_by_walk ws 3 b - 1) * 512 + q % 512 = ap (λ n. (n - 1) * 512 + q % 512) k_is in
+              let place : (k - 1) * 512 + q % 512 ≡ (read_by_walk ws 3 b - 1) * 512 + q % 512 =
+              ap (λ n. (n - 1) * 512 + q % 512) k_is in
               let here : word ws k (q % 512) ≡ read_by_walk ws 4 q = sym (walk-suc ws 3 q) in
               word_of_node vs k _ node ∙ each _
-              ∙ ap (λ x. cond (in_range ((read_by_walk ws 3 b - 1) * 512 + lo) ((read_by_walk ws 3 b - 1) * 512 + hi) ((k - 1) * 512 + q % 512)) (f x) x) (sym (word_of_node ws k (q % 512) node) ∙ here)
-              ∙ ap (λ t. cond t (f (read_by_walk ws 4 q)) (read_by_walk ws 4 q)) (same_places k (read_by_walk ws 3 b) b lo hi q k_is same)
+              ∙ ap (λ x. cond (in_range ((read_by_walk ws 3 b - 1) * 512 + lo) ((read_by_walk ws 3 b - 1) * 512 + hi)
+              ((k - 1) * 512 + q % 512)) (f x) x) (sym (word_of_node ws k (q % 512) node) ∙ here)
+              ∙ ap (λ t. cond t (f (read_by_walk ws 4 q)) (read_by_walk ws 4 q))
+              (same_places k (read_by_walk ws 3 b) b lo hi q k_is same)
           | inr other ↦
               let missed : in_range (b * 512 + lo) (b * 512 + hi) q ≡ false = other_block b lo hi q high other in
               elim (cases_eq k 0) [
                 | inl none ↦ word_of_none vs k _ none ∙ sym (word_of_none ws k _ none)
-                | inr node ↦ outside k (q % 512) (omega arith) (omega arith) (λ same. other (is.apart 3 (q / 512) 3 b (omega arith) (omega arith) (omega arith) same).1)
+                | inr node ↦ outside k (q % 512) (omega arith) (omega arith)
+                    (λ same. other (is.apart 3 (q / 512) 3 b (omega arith) (omega arith) (omega arith) same).1)
               ]
               ∙ sym (walk-suc ws 3 q) ∙ sym (ap (λ t. cond t (f (read_by_walk ws 4 q)) (read_by_walk ws 4 q)) missed)
         ]
@@ -106,9 +130,12 @@ module _ (ws : List ℕ) (used : ℕ) (is : IsTree ws used) where
       room = omega (arith, is.room);
       walkable = record { within = λ d c le. omega (arith, walk-edited d c le, is.walkable.within d c le) };
       below = λ d c le. omega (arith, walk-edited d c le, is.below d c le);
-      apart = λ d c e a le me node same. is.apart d c e a le me (omega (arith, walk-edited d c le)) (sym (walk-edited d c le) ∙ same ∙ walk-edited e a me);
-      unused = λ i past. each i ∙ ap (λ t. cond t (f (get_or ws i 0)) (get_or ws i 0)) (past_node (read_by_walk ws 3 b) used lo hi i (is.below 3 b (omega arith)) some high past) ∙ is.unused i past;
-      entries = λ q. subst IsEntry (sym (lookup-edited q)) (chosen (in_range (b * 512 + lo) (b * 512 + hi) q) (read_by_walk ws 4 q) (is.entries q) (keeps _ (is.entries q)));
+      apart = λ d c e a le me node same. is.apart d c e a le me (omega (arith, walk-edited d c le))
+          (sym (walk-edited d c le) ∙ same ∙ walk-edited e a me);
+      unused = λ i past. each i ∙ ap (λ t. cond t (f (get_or ws i 0)) (get_or ws i 0))
+          (past_node (read_by_walk ws 3 b) used lo hi i (is.below 3 b (omega arith)) some high past) ∙ is.unused i past;
+      entries = λ q. subst IsEntry (sym (lookup-edited q)) (chosen (in_range (b * 512 + lo) (b * 512 + hi) q)
+          (read_by_walk ws 4 q) (is.entries q) (keeps _ (is.entries q)));
     }
       where
         chosen : (t : Bool) (n : ℕ) → IsEntry n → IsEntry (f n) → IsEntry (cond t (f n) n)
@@ -117,20 +144,25 @@ module _ (ws : List ℕ) (used : ℕ) (is : IsTree ws used) where
 
 -- a block within another one, two and three levels up
 pub walk-up : (ws : List ℕ) (q : ℕ) → read_by_walk ws 2 (q / 2 ^ 18) ≡ 0 → read_by_walk ws 3 (q / 512) ≡ 0
-walk-up ws q none = walk-none ws 2 (q / 512) (ap (read_by_walk ws 2) {x = q / 512 / 512} {y = q / 2 ^ 18} (omega arith) ∙ none)
+walk-up ws q none =
+    walk-none ws 2 (q / 512) (ap (read_by_walk ws 2) {x = q / 512 / 512} {y = q / 2 ^ 18} (omega arith) ∙ none)
 
 pub walk-up-two : (ws : List ℕ) (q : ℕ) → read_by_walk ws 1 (q / 2 ^ 27) ≡ 0 → read_by_walk ws 3 (q / 512) ≡ 0
-walk-up-two ws q none = walk-up ws q (walk-none ws 1 (q / 2 ^ 18) (ap (read_by_walk ws 1) {x = q / 2 ^ 18 / 512} {y = q / 2 ^ 27} (omega arith) ∙ none))
+walk-up-two ws q none = walk-up ws q
+    (walk-none ws 1 (q / 2 ^ 18) (ap (read_by_walk ws 1) {x = q / 2 ^ 18 / 512} {y = q / 2 ^ 27} (omega arith) ∙ none))
 
 -- the end of a missing block of each size
-pub past_root_block : (ws : List ℕ) (page : ℕ) → read_by_walk ws 1 (page / 2 ^ 27) ≡ 0 → IsPastGap ws page ((page / 2 ^ 27 + 1) * 2 ^ 27)
+pub past_root_block : (ws : List ℕ) (page : ℕ) → read_by_walk ws 1 (page / 2 ^ 27) ≡ 0
+    → IsPastGap ws page ((page / 2 ^ 27 + 1) * 2 ^ 27)
 past_root_block ws page none = record {
   low = omega arith;
   leaf = λ same. absurd (omega arith);
-  gap = λ q low high. walk-up-two ws q (ap (read_by_walk ws 1) {x = q / 2 ^ 27} {y = page / 2 ^ 27} (omega arith) ∙ none);
+  gap = λ q low high.
+      walk-up-two ws q (ap (read_by_walk ws 1) {x = q / 2 ^ 27} {y = page / 2 ^ 27} (omega arith) ∙ none);
 }
 
-pub past_middle_block : (ws : List ℕ) (page : ℕ) → read_by_walk ws 2 (page / 2 ^ 18) ≡ 0 → IsPastGap ws page ((page / 2 ^ 18 + 1) * 2 ^ 18)
+pub past_middle_block : (ws : List ℕ) (page : ℕ) → read_by_walk ws 2 (page / 2 ^ 18) ≡ 0
+    → IsPastGap ws page ((page / 2 ^ 18 + 1) * 2 ^ 18)
 past_middle_block ws page none = record {
   low = omega arith;
   leaf = λ same. absurd (omega arith);

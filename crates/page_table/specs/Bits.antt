@@ -1,5 +1,6 @@
 -- Masks: bit i of a mask is bit i % 64 of its word i / 64.
-use Rattle.std.specs.Prelude.{ℕ, ◌/◌, ◌%◌, ◌≡◌, ◌≤◌, ◌<◌, ◌==◌, Bool, true, false, if◌then◌else◌, List, length, slice_index_or, Option, Some, None}
+use Rattle.std.specs.Prelude.{ℕ, ◌/◌, ◌%◌, ◌≡◌, ◌≤◌, ◌<◌, ◌==◌, Bool, true, false}
+use Rattle.std.specs.Prelude.{if◌then◌else◌, List, length, slice_index_or, Option, Some, None}
 use Rattle.page_entry.specs.Entry.{has_bit}
 
 -- whether a bit of a mask is set

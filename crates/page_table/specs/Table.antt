@@ -1,6 +1,7 @@
 -- A page table as a map from page to entry, with the pages that have grown. A page is the number of 4 KiB of linear
 -- addresses; a range has the pages from `first` up to and without `end`.
-use Rattle.std.specs.Prelude.{ℕ, ◌-◌, ◌/◌, ◌≡◌, ◌≤◌, ◌<◌, Bool, true, false, not, ◌&&◌, nat_le, nat_lt, if◌then◌else◌, slice_index_or, List, map, Option, Some, None, refl}
+use Rattle.std.specs.Prelude.{ℕ, ◌-◌, ◌/◌, ◌≡◌, ◌≤◌, ◌<◌, Bool, true, false, not, ◌&&◌, nat_le, nat_lt}
+use Rattle.std.specs.Prelude.{if◌then◌else◌, slice_index_or, List, map, Option, Some, None, refl}
 use Rattle.std.specs.List.{filter}
 use Rattle.std.specs.Ordering.{nat_cmp}
 use Rattle.std.specs.Coded.{Coded, code_by, coded×, coded_ℕ, coded_bool}

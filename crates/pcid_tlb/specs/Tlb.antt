@@ -1,10 +1,12 @@
 -- A translation lookaside buffer whose entries are tagged with a PCID, and what fills and invalidations make of it
 -- (Intel SDM volume 3, "Caching Translation Information" and "Invalidation of TLBs and Paging-Structure Caches").
-use Rattle.std.specs.Prelude.{◌≡◌, ◌<◌, ◌≤◌, ℕ, Bool, true, ◌&&◌, not, ◌==◌, nat_lt, if◌then◌else◌, List, ◌∷◌, [], ◌++◌, length, drop, Option}
+use Rattle.std.specs.Prelude.{◌≡◌, ◌<◌, ◌≤◌, ℕ, Bool, true, ◌&&◌, not, ◌==◌, nat_lt}
+use Rattle.std.specs.Prelude.{if◌then◌else◌, List, ◌∷◌, [], ◌++◌, length, drop, Option}
 use Rattle.std.specs.List.{filter, find, remove, AllPairs}
 use Rattle.pcid_tlb.specs.declared.CachedEntry.{CachedEntry}
 use Rattle.pcid_tlb.specs.declared.Invpcid.{Invpcid}
-use Rattle.pcid_tlb.specs.declared.Invpcid.TheVariants.{IndividualAddress, SingleContext, AllContextsAndGlobals, AllContexts}
+use Rattle.pcid_tlb.specs.declared.Invpcid.TheVariants.{IndividualAddress, SingleContext}
+use Rattle.pcid_tlb.specs.declared.Invpcid.TheVariants.{AllContextsAndGlobals, AllContexts}
 
 -- how many entries fit, and the entries that are cached, oldest first
 pub record TlbState : Type 0 where

@@ -14,7 +14,7 @@ use Rattle.volume_codec.specs.Recovery.{Batch}
 use Rattle.volume_codec.proofs.Layouts.{gate_block-low}
 use Rattle.journal.specs.WriteOut.{IsBatch}
 use Rattle.journal.specs.Finished.{IsOutside, gate_byte, HoldsVolume, RecoversSame, Finishes}
-use Rattle.journal.proofs.Recorded.{recovers_of}
+use Rattle.journal.proofs.Public.{recovers_of}
 use Rattle.recovery.specs.Counts.{HasCause, IsAccounted}
 use Rattle.recovery.specs.inside.Carrying.{AreShut, IsCarrying, CarriesOut}
 use Rattle.recovery.specs.inside.Reading.{carry_calls}

@@ -1,25 +1,15 @@
 -- How far the marks of a trace have come, read off its replies.
-use Rattle.std.specs.Prelude.{ℕ, ◌≡◌, ◌≤◌, ⊤, Bool, true, false, if◌then◌else◌, List, Option, Some, None, unwrap_or}
+use Rattle.std.specs.Prelude.{ℕ, ◌≡◌, ◌≤◌, ⊤, Bool, true, false, if◌then◌else◌, List}
 use Rattle.std.specs.List.{fold}
 use Rattle.horizon.specs.Seen.{IsRaisedTo}
 use Rattle.machine.specs.declared.act.Reply.{Reply}
 use Rattle.machine.specs.declared.act.Reply.TheVariants as replies
+use Rattle.machine.specs.Unmarked.{unmarked_by}
 use Rattle.service.specs.declared.entry.Entry.{Entry}
-
--- what a reply says of stores and lengths that no mark holds yet: there are some, there are none, or nothing of them
-abbrev pub settles : Reply → Option Bool
-settles replies.Stored = Some true
-settles replies.Resized = Some true
-settles (replies.Marked number) = Some false
-settles reply = None
-
--- whether there are some after one more reply
-abbrev pub unmarked_with : Bool → Reply → Bool
-unmarked_with unmarked reply = unwrap_or (settles reply) unmarked
 
 -- whether something was stored, or a length set, since the last mark of a trace, or since its start
 abbrev pub has_unmarked : List Entry → Bool
-has_unmarked trace = fold (λ unmarked e. unmarked_with unmarked e.reply) false trace
+has_unmarked trace = fold (λ unmarked e. unmarked_by unmarked e.reply) false trace
 
 -- the number of the last acknowledged mark after one more reply: a commit acknowledges its mark, and a mark itself
 -- where nothing was stored, and no length set, since the mark before
@@ -31,7 +21,7 @@ acknowledged_with number unmarked reply = number
 -- the number of the last acknowledged mark of a trace, 0 where there is none, and whether something is unmarked
 abbrev pub marks_of : List Entry → ℕ × Bool
 marks_of trace =
-    fold (λ marks e. (acknowledged_with marks.0 marks.1 e.reply, unmarked_with marks.1 e.reply)) (0, false) trace
+    fold (λ marks e. (acknowledged_with marks.0 marks.1 e.reply, unmarked_by marks.1 e.reply)) (0, false) trace
 
 abbrev pub last_acknowledged : List Entry → ℕ
 last_acknowledged trace = (marks_of trace).0

@@ -1,6 +1,6 @@
 // One entry of a trace, and whether it is progress.
 ghost use Rattle.std.specs.Prelude.{◌≡◌, ◌<◌, ◌+◌, if◌then◌else◌};
-ghost use Rattle.service.specs.Trace.{is_progress};
+ghost use Rattle.service.specs.Trace.{is_progress, may_be_seen, has_done};
 
 use machine::{Act, Reply, Step};
 use page_entry::{ProcessorNumber, Refusal};
@@ -35,13 +35,66 @@ pub(crate) fn step_of(p: ProcessorNumber, act: &Act) -> Step
 fn is_progress(act: &Act, reply: &Reply) -> bool
     ensures { result ≡ is_progress act.now reply.now }
 {
+    may_be_seen(act) && has_done(reply)
+}
+
+// Whether an act may change what another processor sees.
+fn may_be_seen(act: &Act) -> bool
+    ensures { result ≡ may_be_seen act.now }
+{
     match act {
         Act::Load { .. } | Act::Fill { .. } | Act::Evict { .. } => false,
-        _ => match reply {
-            Reply::Refused(Refusal::Device) => true,
-            Reply::Refused(_) | Reply::Nothing => false,
-            _ => true,
-        },
+        Act::Store { .. }
+        | Act::Switch { .. }
+        | Act::Idle
+        | Act::Wake
+        | Act::Fix { .. }
+        | Act::Create
+        | Act::Destroy { .. }
+        | Act::Map { .. }
+        | Act::Unmap { .. }
+        | Act::Protect { .. }
+        | Act::Reclaim { .. }
+        | Act::SetLength { .. }
+        | Act::Msync { .. }
+        | Act::Ack
+        | Act::Change
+        | Act::Resume
+        | Act::Flush => true,
+    }
+}
+
+// Whether a reply says that something was done, or that a device call failed.
+fn has_done(reply: &Reply) -> bool
+    ensures { result ≡ has_done reply.now }
+{
+    match reply {
+        Reply::Refused(refusal) => matches!(refusal, Refusal::Device),
+        Reply::Nothing => false,
+        Reply::Bytes(_)
+        | Reply::Stored
+        | Reply::Filled
+        | Reply::Evicted
+        | Reply::Switched
+        | Reply::Idled
+        | Reply::Woken
+        | Reply::Fixed
+        | Reply::Space(_)
+        | Reply::Destroyed
+        | Reply::Mapped
+        | Reply::Begun
+        | Reply::Fine
+        | Reply::Unmapped
+        | Reply::Protected
+        | Reply::Resized
+        | Reply::Reclaimed
+        | Reply::Kept
+        | Reply::Marked(_)
+        | Reply::Acked
+        | Reply::Resumed
+        | Reply::Going
+        | Reply::Committed(_)
+        | Reply::Done(_) => true,
     }
 }
 

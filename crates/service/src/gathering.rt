@@ -1,11 +1,10 @@
 // What is compared when a service is gathered, and how its count is closed.
-ghost use Rattle.std.specs.Prelude.{ℕ, ◌≡◌, ◌<◌, length, IsTrue, Some, None, IfSome};
+ghost use Rattle.std.specs.Prelude.{ℕ, ◌≡◌, ◌↔◌, ◌<◌, length, IsTrue, Some, None, IfSome};
 ghost use Rattle.service.specs.Trace.{of_processor};
 ghost use Rattle.service.specs.Gathering.{IsAmong, AreAnswered, answered_calls};
 ghost use Rattle.service.specs.Serving.{ServesFrom};
 
 use crate::locked::{Locked, Room};
-use crate::same::is_answer_of;
 use crate::{Cpu, Entry, Origin};
 use device::Device;
 use machine::{Act, Machine, Reply};
@@ -42,6 +41,13 @@ fn is_among<D: Device, A: Allocator + Copy, L: Origin<D>>(cpus: &[Cpu<D, A, L>],
         }
     }
     false
+}
+
+// Whether an answer is that of an entry.
+fn is_answer_of(entry: &Entry, answer: &(Act, Reply)) -> bool
+    ensures { IsTrue result ↔ (answer.now ≡ (entry.now.step.act, entry.now.reply)) }
+{
+    answer.0.is_same(&entry.step.act) && answer.1.is_same(&entry.reply)
 }
 
 // Whether the entries of a processor are these acts with these replies, in order.

@@ -10,7 +10,6 @@ mod gathering;
 mod locked;
 mod processor;
 mod raising;
-mod same;
 mod service;
 mod shared;
 mod starting;

@@ -1,6 +1,6 @@
 // How far the horizon is raised: by the last entry of the trace, and by what of the trace no mark holds yet.
 ghost use Rattle.std.specs.Prelude.{◌≡◌};
-ghost use Rattle.service.specs.Marks.{settles, has_unmarked};
+ghost use Rattle.service.specs.Marks.{has_unmarked};
 ghost use Rattle.service.specs.inside.Raising.{raise_by};
 
 use crate::Entry;
@@ -14,17 +14,6 @@ pub(crate) enum Raise {
     Committed(u64),
 }
 
-// What a reply says of stores and lengths that no mark holds yet.
-fn settles(reply: &Reply) -> Option<bool>
-    ensures { result ≡ settles reply.now }
-{
-    match reply {
-        Reply::Stored | Reply::Resized => Some(true),
-        Reply::Marked(_) => Some(false),
-        _ => None,
-    }
-}
-
 // Whether something was stored, or a length set, since the last mark of these entries, or since their start.
 pub(crate) fn has_unmarked(trace: &[Entry]) -> bool
     ensures { result ≡ has_unmarked trace.now }
@@ -32,7 +21,7 @@ pub(crate) fn has_unmarked(trace: &[Entry]) -> bool
     let mut left = trace.len();
     while left > 0 {
         left -= 1;
-        match settles(&trace[left].reply) {
+        match trace[left].reply.settles() {
             Some(unmarked) => return unmarked,
             None => {}
         }
@@ -53,6 +42,29 @@ pub(crate) fn raise_by(before: &[Entry], reply: &Reply) -> Raise
             }
         }
         Reply::Committed(mark) => Raise::Committed(u64::from(*mark)),
-        _ => Raise::Nothing,
+        Reply::Bytes(_)
+        | Reply::Stored
+        | Reply::Filled
+        | Reply::Evicted
+        | Reply::Switched
+        | Reply::Idled
+        | Reply::Woken
+        | Reply::Fixed
+        | Reply::Space(_)
+        | Reply::Destroyed
+        | Reply::Mapped
+        | Reply::Begun
+        | Reply::Fine
+        | Reply::Unmapped
+        | Reply::Protected
+        | Reply::Resized
+        | Reply::Reclaimed
+        | Reply::Kept
+        | Reply::Acked
+        | Reply::Resumed
+        | Reply::Going
+        | Reply::Done(_)
+        | Reply::Nothing
+        | Reply::Refused(_) => Raise::Nothing,
     }
 }

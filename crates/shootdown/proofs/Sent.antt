@@ -1,5 +1,6 @@
 -- A change sends invalidations for all that it affects.
-use Rattle.std.proofs.Common.{◌≡◌, ℕ, ◌+◌, ◌-◌, ◌<◌, ◌≤◌, Bool, true, false, cond, ◌==◌, ◌&&◌, ◌||◌, ltb, nat_le, List, [], ◌∷◌, map, get_or, refl, ap, ◌∙◌, arith}
+use Rattle.std.proofs.Common.{◌≡◌, ℕ, ◌+◌, ◌-◌, ◌<◌, ◌≤◌, Bool, true, false, cond, ◌==◌, ◌&&◌}
+use Rattle.std.proofs.Common.{◌||◌, ltb, nat_le, List, [], ◌∷◌, map, get_or, refl, ap, ◌∙◌, arith}
 use Rattle.std.specs.List.{list_any, range_with_len}
 use Rattle.std.proofs.lemmas.Bool.{and_parts, and_from, eq-eqb, leb-true, ltb-true, or_left}
 use Rattle.std.proofs.lemmas.List.Folds.{list_any_at}
@@ -27,28 +28,36 @@ among_parts first count page among =
     let parts = and_parts (nat_le first page) (ltb page (first + count)) among in
     (leb-true first page parts.0, ltb-true page (first + count) parts.1)
 
-sent_of_range : (pcid : ℕ) (range : PageRange) (q page : ℕ) → (q == pcid && is_among range.first range.count page) ≡ true → queue_drops (range_actions pcid range) q page ≡ true
+sent_of_range : (pcid : ℕ) (range : PageRange) (q page : ℕ)
+    → (q == pcid && is_among range.first range.count page) ≡ true
+    → queue_drops (range_actions pcid range) q page ≡ true
 sent_of_range pcid range q page affected = go (nat_le range.count 4)
   where
     here : (q == pcid) ≡ true
     here = (and_parts (q == pcid) (is_among range.first range.count page) affected).0
 
     within : (range.first ≤ page) × (page < range.first + range.count)
-    within = among_parts range.first range.count page (and_parts (q == pcid) (is_among range.first range.count page) affected).1
+    within = among_parts range.first range.count page
+        (and_parts (q == pcid) (is_among range.first range.count page) affected).1
 
-    go : (b : Bool) → queue_drops (cond b (map (IndividualAddress pcid) (range_with_len range.first range.count)) (SingleContext pcid ∷ [])) q page ≡ true
+    go : (b : Bool)
+        → queue_drops (cond b (map (IndividualAddress pcid) (range_with_len range.first range.count))
+        (SingleContext pcid ∷ [])) q page ≡ true
     go true =
         let i = page - range.first in
         let below : i < range.count = let w = within in omega arith in
-        let same : page ≡ get_or (range_with_len range.first range.count) i 0 = let w = within in omega (arith, get_or-range_with_len range.first range.count i 0 below) in
+        let same : page ≡ get_or (range_with_len range.first range.count) i 0 =
+        let w = within in omega (arith, get_or-range_with_len range.first range.count i 0 below) in
         any-map (λ a. drops_page a q page) (IndividualAddress pcid) (range_with_len range.first range.count)
-        ∙ list_any_at (λ x. q == pcid && page == x) (range_with_len range.first range.count) i 0 (omega (arith, length-range_with_len range.first range.count))
+        ∙ list_any_at (λ x. q == pcid && page == x) (range_with_len range.first range.count) i 0
+        (omega (arith, length-range_with_len range.first range.count))
         (and_from (q == pcid) (page == get_or (range_with_len range.first range.count) i 0) here (eq-eqb page _ same))
     go false = or_left (q == pcid) false here
 
 -- ---- the entries of a page of a file
 
-sent_of_entries : (spaces : Spaces) (owner : FilePage) (q page : ℕ) → has_entry_of spaces owner q page ≡ true → queue_drops (entry_actions spaces owner) q page ≡ true
+sent_of_entries : (spaces : Spaces) (owner : FilePage) (q page : ℕ) → has_entry_of spaces owner q page ≡ true
+    → queue_drops (entry_actions spaces owner) q page ≡ true
 sent_of_entries spaces owner q page affected =
     let there = Contains-entries_of spaces owner q page affected in
     let drops : ℕ × ℕ → Bool = λ entry. q == entry.0 && page == entry.1 in
@@ -59,7 +68,8 @@ sent_of_entries spaces owner q page affected =
 -- ---- every change
 
 -- what a change affects, one of its invalidations drops
-pub sent : (spaces : Spaces) (change : Change) (q page : ℕ) → affects spaces change q page ≡ true → queue_drops (actions_of spaces change) q page ≡ true
+pub sent : (spaces : Spaces) (change : Change) (q page : ℕ) → affects spaces change q page ≡ true
+    → queue_drops (actions_of spaces change) q page ≡ true
 sent spaces (Unmap pcid range) q page affected = sent_of_range pcid range q page affected
 sent spaces (Protect pcid range rights) q page affected = sent_of_range pcid range q page affected
 sent spaces (Reclaim owner) q page affected = sent_of_entries spaces owner q page affected

@@ -1,5 +1,6 @@
 -- The flags of a processor as the bits of 64 words.
-use Rattle.std.proofs.Common.{◌≡◌, ℕ, ◌/◌, ◌%◌, ◌^◌, ◌<◌, ◌≤◌, Bool, true, false, cond, eqb, List, length, get_or, set, replicate, sym, ap, ◌∙◌, inl, inr, arith, get_or-set_same, get_or-set_other}
+use Rattle.std.proofs.Common.{◌≡◌, ℕ, ◌/◌, ◌%◌, ◌^◌, ◌<◌, ◌≤◌, Bool, true, false, cond, eqb, List, length, get_or}
+use Rattle.std.proofs.Common.{set, replicate, sym, ap, ◌∙◌, inl, inr, arith, get_or-set_same, get_or-set_other}
 use Rattle.std.specs.Int.{bit_at}
 use Rattle.std.specs.Int.RustNames.{bit_and}
 use Rattle.std.proofs.lemmas.Bool.{cases_eq, cases_lt}
@@ -16,7 +17,8 @@ unfolding flags_of
 length-flags_of words = length-map-range_with_len (is_set words) 0 pcids
 
 -- the flag of a PCID is its bit, and there is none past the last PCID
-pub get_or-flags_of : (words : List ℕ) (pcid : ℕ) → pcid < pcids → get_or (flags_of words) pcid false ≡ is_set words pcid
+pub get_or-flags_of : (words : List ℕ) (pcid : ℕ) → pcid < pcids
+    → get_or (flags_of words) pcid false ≡ is_set words pcid
 unfolding flags_of
 get_or-flags_of words pcid below = get_or-map-range_with_len (is_set words) 0 pcids pcid pcid false below (omega arith)
 
@@ -24,21 +26,29 @@ pub get_or-flags_of_past : (words : List ℕ) (pcid : ℕ) → pcids ≤ pcid �
 get_or-flags_of_past words pcid past = get_or_past (flags_of words) pcid false (omega (arith, length-flags_of words))
 
 -- flags that are as the bits
-pub flags_of-from_each : (words : List ℕ) (flags : List Bool) → length flags ≡ pcids → ((k : ℕ) → k < pcids → is_set words k ≡ get_or flags k false) → flags_of words ≡ flags
+pub flags_of-from_each : (words : List ℕ) (flags : List Bool) → length flags ≡ pcids
+    → ((k : ℕ) → k < pcids → is_set words k ≡ get_or flags k false)
+    → flags_of words ≡ flags
 flags_of-from_each words flags size each =
     ext_get_or false (flags_of words) flags (length-flags_of words ∙ sym size)
-    (λ k within. let below : k < pcids = omega (arith, length-flags_of words) in get_or-flags_of words k below ∙ each k below)
+    (λ k within. let below : k < pcids = omega (arith, length-flags_of words) in
+    get_or-flags_of words k below ∙ each k below)
 
 -- a bit is set or cleared
-pub flags_of-marked : (old new : List ℕ) (pcid : ℕ) (b : Bool) → pcid < pcids → Marks pcid b old new → flags_of new ≡ set (flags_of old) pcid b
+pub flags_of-marked : (old new : List ℕ) (pcid : ℕ) (b : Bool) → pcid < pcids → Marks pcid b old new
+    → flags_of new ≡ set (flags_of old) pcid b
 flags_of-marked old new pcid b within marks =
-    flags_of-from_each new (set (flags_of old) pcid b) (length-set (flags_of old) pcid b ∙ length-flags_of old) (λ k below. marks.bits k ∙ elim (cases_eq k pcid) [
+    flags_of-from_each new (set (flags_of old) pcid b) (length-set (flags_of old) pcid b ∙ length-flags_of old)
+    (λ k below. marks.bits k ∙ elim (cases_eq k pcid) [
       | inl same ↦
           let e : eqb k pcid ≡ true = grind (arith, nat_tests) in
-          ap (λ t. cond t b (is_set old k)) e ∙ sym (ap (λ n. get_or (set (flags_of old) pcid b) n false) same ∙ get_or-set_same (flags_of old) pcid b false (omega (arith, length-flags_of old)))
+          ap (λ t. cond t b (is_set old k)) e
+          ∙ sym (ap (λ n. get_or (set (flags_of old) pcid b) n false) same
+          ∙ get_or-set_same (flags_of old) pcid b false (omega (arith, length-flags_of old)))
       | inr other ↦
           let e : eqb k pcid ≡ false = grind (arith, nat_tests) in
-          ap (λ t. cond t b (is_set old k)) e ∙ sym (get_or-set_other (flags_of old) pcid k b false other ∙ get_or-flags_of old k below)
+          ap (λ t. cond t b (is_set old k)) e
+          ∙ sym (get_or-set_other (flags_of old) pcid k b false other ∙ get_or-flags_of old k below)
     ])
 
 -- words of zeros
@@ -49,7 +59,9 @@ zeros_at n i = elim (cases_lt i n) [
 ]
 
 is_set-zeros : (n i : ℕ) → is_set (replicate n 0) i ≡ false
-is_set-zeros n i = ap (λ word. eqb (bit_at word (i % 64)) 1) (zeros_at n (i / 64)) ∙ ap (λ b. eqb b 1) (bit_at-zero (i % 64))
+is_set-zeros n i =
+    ap (λ word. eqb (bit_at word (i % 64)) 1) (zeros_at n (i / 64))
+    ∙ ap (λ b. eqb b 1) (bit_at-zero (i % 64))
 
 pub flags_of-zeros : (words count : ℕ) → count ≡ pcids → flags_of (replicate words 0) ≡ replicate count false
 flags_of-zeros words count all =
@@ -57,5 +69,6 @@ flags_of-zeros words count all =
     (λ k below. is_set-zeros words k ∙ sym (get_or-replicate count k false false (omega arith)))
 
 -- the test of a bit
-pub bit_test : (words : List ℕ) (pcid : ℕ) → eqb (bit_and (get_or words (pcid / 64) 0 / 2 ^ (pcid % 64)) 1) 1 ≡ is_set words pcid
+pub bit_test : (words : List ℕ) (pcid : ℕ)
+    → eqb (bit_and (get_or words (pcid / 64) 0 / 2 ^ (pcid % 64)) 1) 1 ≡ is_set words pcid
 bit_test words pcid = ap (λ b. eqb b 1) (shr_and_one (get_or words (pcid / 64) 0) (pcid % 64))

@@ -1,5 +1,6 @@
 -- What each call of a processor answers and leaves, by its answer.
-use Rattle.std.specs.Prelude.{ℕ, ◌≡◌, ◌≤◌, ◌+◌, ◌^◌, ◌==◌, ◌&&◌, not, Bool, true, false, is_some, Option, Some, None, Result, Ok, Err, if◌then◌else◌}
+use Rattle.std.specs.Prelude.{ℕ, ◌≡◌, ◌≤◌, ◌+◌, ◌^◌, ◌==◌, ◌&&◌, not, Bool, true, false}
+use Rattle.std.specs.Prelude.{is_some, Option, Some, None, Result, Ok, Err, if◌then◌else◌}
 use Rattle.std.specs.Option.{option_or, option_map}
 use Rattle.page_entry.specs.declared.refusal.Refusal.{Refusal}
 use Rattle.page_entry.specs.declared.refusal.Refusal.TheVariants.{Einval, Locked, NotYet, Busy}
@@ -10,7 +11,8 @@ use Rattle.spaces.specs.Requests.{is_user_space}
 use Rattle.shootdown.specs.declared.lock.Lock.{Lock}
 use Rattle.shootdown.specs.declared.proc_state.ProcState.{ProcState}
 use Rattle.shootdown.specs.declared.proc_state.ProcState.TheVariants as states
-use Rattle.shootdown.specs.Shootdown.{ShootdownState, is_there, state_of, not_running, not_free, is_interrupted, interrupted, is_current, stalled, resumed, idled, switched_to}
+use Rattle.shootdown.specs.Shootdown.{ShootdownState, is_there, state_of, not_running, not_free, is_interrupted}
+use Rattle.shootdown.specs.Shootdown.{interrupted, is_current, stalled, resumed, idled, switched_to}
 
 -- there is no processor with this number
 abbrev pub not_there : ShootdownState → ℕ → Option Refusal

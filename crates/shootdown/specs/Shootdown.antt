@@ -1,7 +1,9 @@
 -- The processors and the machine's one lock, and how a change of mappings goes through the four phases of a shootdown:
 -- the initiator takes the lock, queues invalidations and interrupts; the others stall; the change is made; they go on
 -- (Black, Rashid, Golub, Hill and Baron 1989).
-use Rattle.std.specs.Prelude.{ℕ, ◌≡◌, ◌≢◌, ◌↔◌, ◌<◌, ◌≤◌, ◌+◌, ◌==◌, nat_lt, nat_le, Bool, true, false, is_some, not, List, [], ◌∷◌, length, map, replicate, slice_set, slice_index_or, count_by, Option, Some, None, if◌then◌else◌}
+use Rattle.std.specs.Prelude.{ℕ, ◌≡◌, ◌≢◌, ◌↔◌, ◌<◌, ◌≤◌, ◌+◌, ◌==◌, nat_lt, nat_le, Bool, true}
+use Rattle.std.specs.Prelude.{false, is_some, not, List, [], ◌∷◌, length, map, replicate, slice_set}
+use Rattle.std.specs.Prelude.{slice_index_or, count_by, Option, Some, None, if◌then◌else◌}
 use Rattle.std.specs.Option.{option_or}
 use Rattle.std.specs.List.{list_any, range_with_len}
 use Rattle.page_entry.specs.declared.numbers.FilePage.{FilePage}
@@ -18,7 +20,8 @@ use Rattle.spaces.specs.Changes.{entries_of, touches}
 use Rattle.shootdown.specs.declared.lock.Lock.{Lock}
 use Rattle.shootdown.specs.declared.proc_state.ProcState.{ProcState}
 use Rattle.shootdown.specs.declared.proc_state.ProcState.TheVariants.{Active, Interrupted, Stalled, Initiating, Idle}
-use Rattle.shootdown.specs.Processors.{Processor, fresh_processor, is_running, told, told_all, woken, switched, IsProcessor}
+use Rattle.shootdown.specs.Processors.{Processor, fresh_processor, is_running, told}
+use Rattle.shootdown.specs.Processors.{told_all, woken, switched, IsProcessor}
 
 -- the processors, and who holds the lock, if anybody, and for which change
 pub record ShootdownState : Type 0 where

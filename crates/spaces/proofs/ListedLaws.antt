@@ -27,11 +27,16 @@ both true b h = (refl, h)
 both false b h = absurd (false≢true h)
 
 -- the dirty pages of a range of a space are those with a dirty entry
-pub in_dirty_pages : (m : Spaces) (pcid first count page : ℕ) → Contains (dirty_in (space_at m pcid).entries first (first + count)) page → (is_among first count page ≡ true) × (is_dirty (entry_at m pcid page) ≡ true)
+pub in_dirty_pages : (m : Spaces) (pcid first count page : ℕ)
+    → Contains (dirty_in (space_at m pcid).entries first (first + count)) page
+    → (is_among first count page ≡ true) × (is_dirty (entry_at m pcid page) ≡ true)
 in_dirty_pages m pcid first count page has =
-    both _ _ (sym (dirty_in-lists (space_at m pcid).entries first (first + count) page) ∙ found (λ p. eqb p page) (dirty_in (space_at m pcid).entries first (first + count)) page has (grind (arith, nat_tests)))
+    both _ _ (sym (dirty_in-lists (space_at m pcid).entries first (first + count) page) ∙ found (λ p. eqb p page)
+    (dirty_in (space_at m pcid).entries first (first + count)) page has (grind (arith, nat_tests)))
 
-pub Contains-dirty_pages : (m : Spaces) (pcid first count page : ℕ) → is_among first count page ≡ true → is_dirty (entry_at m pcid page) ≡ true → Contains (dirty_in (space_at m pcid).entries first (first + count)) page
+pub Contains-dirty_pages : (m : Spaces) (pcid first count page : ℕ)
+    → is_among first count page ≡ true → is_dirty (entry_at m pcid page) ≡ true
+    → Contains (dirty_in (space_at m pcid).entries first (first + count)) page
 Contains-dirty_pages m pcid first count page among dirty =
     let any = dirty_in-lists (space_at m pcid).entries first (first + count) page ∙ (λ i. among i && dirty i) in
     let it = find_in (λ p. eqb p page) (dirty_in (space_at m pcid).entries first (first + count)) any in

@@ -1,5 +1,7 @@
 -- What the spaces are after each update: whether a space is there, and what is at a page of one.
-use Rattle.std.proofs.Common.{◌≡◌, ◌≢◌, ℕ, zero, suc, ◌+◌, ◌-◌, Bool, true, false, cond, not, eqb, if◌then◌else◌, ◌==◌, ◌&&◌, ◌||◌, Option, Some, None, is_some, IsSome, unwrap_or, refl, sym, ap, ◌∙◌, subst, inl, inr, arith}
+use Rattle.std.proofs.Common.{◌≡◌, ◌≢◌, ℕ, zero, suc, ◌+◌, ◌-◌, Bool, true, false, cond, not}
+use Rattle.std.proofs.Common.{eqb, if◌then◌else◌, ◌==◌, ◌&&◌, ◌||◌, Option, Some, None, is_some}
+use Rattle.std.proofs.Common.{IsSome, unwrap_or, refl, sym, ap, ◌∙◌, subst, inl, inr, arith}
 use Rattle.std.specs.Option.{option_map}
 use Rattle.std.specs.Ordering.{nat_cmp}
 use Rattle.std.specs.Cmp.{nat_cmp_total, unsigned_tied}
@@ -14,7 +16,9 @@ use Rattle.mappings.specs.declared.place.Rights.{Rights}
 use Rattle.mappings.specs.declared.page_range.PageRange.{PageRange}
 use Rattle.mappings.specs.Places.{advanced, is_among, with_range, without_range, any_mapped, all_mapped}
 use Rattle.mappings.proofs.PlacesLaws.{get-with_range, get-without_range, get-with_rights}
-use Rattle.spaces.specs.Spaces.{AddressSpace, Spaces, empty_space, has_space, space_at, entry_at, place_at, first_spaces, with_space, with_entry, with_mapping, without_mapping, EditsEntries, SetsRights}
+use Rattle.spaces.specs.Spaces.{AddressSpace, Spaces, empty_space, has_space, space_at}
+use Rattle.spaces.specs.Spaces.{entry_at, place_at, first_spaces, with_space, with_entry}
+use Rattle.spaces.specs.Spaces.{with_mapping, without_mapping, EditsEntries, SetsRights}
 
 -- two sets of spaces with the same space of each PCID are the same
 pub same_spaces : (m n : Spaces) → ((q : ℕ) → maps.get m q ≡ maps.get n q) → m ≡ n
@@ -24,7 +28,9 @@ same_spaces m n each = maps.same_map nat_cmp_total maps.nat_cmp-IsAntisymmetric 
 
 module _ (m : Spaces) (n : ℕ) (s : AddressSpace) where
   pub get-with_space : (q : ℕ) → maps.get (with_space m n s) q ≡ cond (eqb q n) (Some s) (maps.get m q)
-  get-with_space q = maps.get-insert nat_cmp_total m n s q ∙ ap (λ b. cond b (Some s) (maps.get m q)) (unsigned_tied q n)
+  get-with_space q =
+      maps.get-insert nat_cmp_total m n s q
+      ∙ ap (λ b. cond b (Some s) (maps.get m q)) (unsigned_tied q n)
 
   pub has_space-with_space : (q : ℕ) → has_space (with_space m n s) q ≡ (q == n || has_space m q)
   has_space-with_space q = ap is_some (get-with_space q) ∙ by_test (eqb q n)
@@ -36,7 +42,8 @@ module _ (m : Spaces) (n : ℕ) (s : AddressSpace) where
   pub space_at-with_space : (q : ℕ) → space_at (with_space m n s) q ≡ (if q == n then s else space_at m q)
   space_at-with_space q = ap (λ o. unwrap_or o empty_space) (get-with_space q) ∙ by_test (eqb q n)
     where
-      by_test : (b : Bool) → unwrap_or (cond b (Some s) (maps.get m q)) empty_space ≡ cond b s (unwrap_or (maps.get m q) empty_space)
+      by_test : (b : Bool)
+          → unwrap_or (cond b (Some s) (maps.get m q)) empty_space ≡ cond b s (unwrap_or (maps.get m q) empty_space)
       by_test true = refl
       by_test false = refl
 
@@ -47,17 +54,20 @@ module _ (m : Spaces) (n : ℕ) (s : AddressSpace) where
   space_at-with_space_other q other = grind (arith, nat_tests, space_at-with_space q)
 
   -- what of a space is another, where that of the one at n is another
-  at_page : {X : Type 0} (part : AddressSpace → X) (q : ℕ) → part (space_at (with_space m n s) q) ≡ (if q == n then part s else part (space_at m q))
+  at_page : {X : Type 0} (part : AddressSpace → X) (q : ℕ)
+      → part (space_at (with_space m n s) q) ≡ (if q == n then part s else part (space_at m q))
   at_page part q = ap part (space_at-with_space q) ∙ by_test (eqb q n)
     where
       by_test : (b : Bool) → part (cond b s (space_at m q)) ≡ cond b (part s) (part (space_at m q))
       by_test true = refl
       by_test false = refl
 
-  pub entry_at-with_space : (q page : ℕ) → entry_at (with_space m n s) q page ≡ (if q == n then maps.get s.entries page else entry_at m q page)
+  pub entry_at-with_space : (q page : ℕ)
+      → entry_at (with_space m n s) q page ≡ (if q == n then maps.get s.entries page else entry_at m q page)
   entry_at-with_space q page = at_page (λ x. maps.get x.entries page) q
 
-  pub place_at-with_space : (q page : ℕ) → place_at (with_space m n s) q page ≡ (if q == n then maps.get s.places page else place_at m q page)
+  pub place_at-with_space : (q page : ℕ)
+      → place_at (with_space m n s) q page ≡ (if q == n then maps.get s.places page else place_at m q page)
   place_at-with_space q page = at_page (λ x. maps.get x.places page) q
 
 -- nothing is mapped in a space that maps nothing
@@ -70,7 +80,9 @@ get-empty_places page = maps.get-empty nat_cmp page
 -- no page of a range is mapped there, and each page only of a range without pages
 pub any_mapped-empty : (first count : ℕ) → any_mapped empty_space.places first count ≡ false
 any_mapped-empty first zero = refl
-any_mapped-empty first (suc count) = ap (λ o. is_some o || any_mapped empty_space.places (first + 1) count) (get-empty_places first) ∙ any_mapped-empty (first + 1) count
+any_mapped-empty first (suc count) =
+    ap (λ o. is_some o || any_mapped empty_space.places (first + 1) count) (get-empty_places first)
+    ∙ any_mapped-empty (first + 1) count
 
 pub all_mapped-empty : (first count : ℕ) → all_mapped empty_space.places first count ≡ (count == 0)
 all_mapped-empty first zero = refl
@@ -81,7 +93,10 @@ all_mapped-empty first (suc count) =
 -- ---- space 0 alone
 
 pub has_space-first_spaces : (q : ℕ) → has_space first_spaces q ≡ (q == 0)
-has_space-first_spaces q = has_space-with_space maps.empty 0 empty_space q ∙ ap (λ o. q == 0 || is_some o) (maps.get-empty nat_cmp q) ∙ or_false (eqb q 0)
+has_space-first_spaces q =
+    has_space-with_space maps.empty 0 empty_space q
+    ∙ ap (λ o. q == 0 || is_some o) (maps.get-empty nat_cmp q)
+    ∙ or_false (eqb q 0)
   where
     or_false : (b : Bool) → (b || false) ≡ b
     or_false true = refl
@@ -89,7 +104,10 @@ has_space-first_spaces q = has_space-with_space maps.empty 0 empty_space q ∙ a
 
 -- no PCID leads to a space that maps something
 space_at-first_spaces : (q : ℕ) → space_at first_spaces q ≡ empty_space
-space_at-first_spaces q = space_at-with_space maps.empty 0 empty_space q ∙ ap (λ o. if q == 0 then empty_space else unwrap_or o empty_space) (maps.get-empty nat_cmp q) ∙ either (eqb q 0)
+space_at-first_spaces q =
+    space_at-with_space maps.empty 0 empty_space q
+    ∙ ap (λ o. if q == 0 then empty_space else unwrap_or o empty_space) (maps.get-empty nat_cmp q)
+    ∙ either (eqb q 0)
   where
     either : (b : Bool) → cond b empty_space empty_space ≡ empty_space
     either true = refl
@@ -114,7 +132,8 @@ space_at-missing m n none = by_get (maps.get m n) none
 module _ (m : Spaces) (n : ℕ) (free : has_space m n ≡ false) where
   space_at-create : (q : ℕ) → space_at (with_space m n empty_space) q ≡ space_at m q
   space_at-create q = elim (cases_eq q n) [
-    | inl same ↦ subst (λ k. space_at (with_space m n empty_space) k ≡ space_at m k) (sym same) (space_at-with_space_same m n empty_space ∙ sym (space_at-missing m n free))
+    | inl same ↦ subst (λ k. space_at (with_space m n empty_space) k ≡ space_at m k) (sym same)
+        (space_at-with_space_same m n empty_space ∙ sym (space_at-missing m n free))
     | inr other ↦ space_at-with_space_other m n empty_space q other
   ]
 
@@ -140,7 +159,9 @@ module _ (m : Spaces) (n : ℕ) where
   pub space_at-remove : (q : ℕ) → space_at (maps.remove m n) q ≡ (if q == n then empty_space else space_at m q)
   space_at-remove q = ap (λ o. unwrap_or o empty_space) (get-remove q) ∙ by_test (eqb q n)
     where
-      by_test : (b : Bool) → unwrap_or (cond b None (maps.get m q)) empty_space ≡ cond b empty_space (unwrap_or (maps.get m q) empty_space)
+      by_test : (b : Bool)
+          → unwrap_or (cond b None (maps.get m q)) empty_space
+          ≡ cond b empty_space (unwrap_or (maps.get m q) empty_space)
       by_test true = refl
       by_test false = refl
 
@@ -166,18 +187,22 @@ nested true b x y = refl
 nested false b x y = refl
 
 -- where the PCIDs are the same, so is what is at a page of each
-here_or_there : {X : Type 0} (q n : ℕ) (at : ℕ → X) (x : X → X) → cond (eqb q n) (x (at n)) (at q) ≡ cond (eqb q n) (x (at q)) (at q)
+here_or_there : {X : Type 0} (q n : ℕ) (at : ℕ → X) (x : X → X)
+    → cond (eqb q n) (x (at n)) (at q) ≡ cond (eqb q n) (x (at q)) (at q)
 here_or_there q n at x = elim (eqb q n) as (λ b. eqb q n ≡ b → cond b (x (at n)) (at q) ≡ cond b (x (at q)) (at q)) [
   | true ↦ λ same. let e : n ≡ q = grind (arith, nat_tests) in ap (λ k. x (at k)) e
   | false ↦ λ other. refl
 ] refl
 
 -- a space that is there stays when it is replaced
-pub has_space-with_space_there : (m : Spaces) (n : ℕ) (s : AddressSpace) → has_space m n ≡ true → (q : ℕ) → has_space (with_space m n s) q ≡ has_space m q
-has_space-with_space_there m n s there q = has_space-with_space m n s q ∙ (elim (eqb q n) as (λ b. eqb q n ≡ b → (b || has_space m q) ≡ has_space m q) [
-  | true ↦ λ same. let e : n ≡ q = grind (arith, nat_tests) in sym there ∙ ap (has_space m) e
-  | false ↦ λ other. refl
-] refl)
+pub has_space-with_space_there : (m : Spaces) (n : ℕ) (s : AddressSpace) → has_space m n ≡ true → (q : ℕ)
+    → has_space (with_space m n s) q ≡ has_space m q
+has_space-with_space_there m n s there q =
+    has_space-with_space m n s q
+    ∙ (elim (eqb q n) as (λ b. eqb q n ≡ b → (b || has_space m q) ≡ has_space m q) [
+      | true ↦ λ same. let e : n ≡ q = grind (arith, nat_tests) in sym there ∙ ap (has_space m) e
+      | false ↦ λ other. refl
+    ] refl)
 
 -- and where it is replaced by itself, nothing changes
 pub with_space-itself : (m : Spaces) (n : ℕ) → has_space m n ≡ true → with_space m n (space_at m n) ≡ m
@@ -195,11 +220,13 @@ with_space-itself m n there = same_spaces _ m (λ q. get-with_space m n (space_a
 pub has_space-place_at : (m : Spaces) (n page : ℕ) → IsSome (place_at m n page) → has_space m n ≡ true
 has_space-place_at m n page some = elim (has_space m n) as (λ b. has_space m n ≡ b → b ≡ true) [
   | true ↦ λ _. refl
-  | false ↦ λ none. absurd (false≢true (subst IsSome (ap (λ x. maps.get x.places page) (space_at-missing m n none) ∙ get-empty_places page) some))
+  | false ↦ λ none. absurd (false≢true (subst IsSome
+      (ap (λ x. maps.get x.places page) (space_at-missing m n none) ∙ get-empty_places page) some))
 ] refl
 
 module _ (m : Spaces) (n page : ℕ) (entry : Option Mapped) where
-  pub entry_at-with_entry : (q at : ℕ) → entry_at (with_entry m n page entry) q at ≡ (if q == n && at == page then entry else entry_at m q at)
+  pub entry_at-with_entry : (q at : ℕ)
+      → entry_at (with_entry m n page entry) q at ≡ (if q == n && at == page then entry else entry_at m q at)
   entry_at-with_entry q at =
       entry_at-with_space m n (record (space_at m n) { entries = put_entry (space_at m n).entries page entry }) q at
       ∙ ap (λ e. cond (eqb q n) e (entry_at m q at)) (get-put_entry (space_at m n).entries page entry at)
@@ -232,21 +259,28 @@ module _ (m : Spaces) (n page : ℕ) (entry : Option Mapped) where
 module _ (m : Spaces) (n : ℕ) (range : PageRange) (place : Place) where
   pub entry_at-with_mapping : (q at : ℕ) → entry_at (with_mapping m n range place) q at ≡ entry_at m q at
   entry_at-with_mapping q at =
-      entry_at-with_space m n (record (space_at m n) { places = with_range (space_at m n).places range.first range.count place }) q at
+      entry_at-with_space m n
+      (record (space_at m n) { places = with_range (space_at m n).places range.first range.count place }) q at
       ∙ here_or_there q n (λ k. entry_at m k at) (λ e. e) ∙ either (eqb q n)
     where
       either : (b : Bool) → cond b (entry_at m q at) (entry_at m q at) ≡ entry_at m q at
       either true = refl
       either false = refl
 
-  pub place_at-with_mapping : (q at : ℕ) → place_at (with_mapping m n range place) q at ≡ (if q == n && is_among range.first range.count at then Some (advanced place (at - range.first)) else place_at m q at)
+  pub place_at-with_mapping : (q at : ℕ)
+      → place_at (with_mapping m n range place) q at ≡ (if q == n && is_among range.first range.count at
+      then Some (advanced place (at - range.first)) else place_at m q at)
   place_at-with_mapping q at =
-      place_at-with_space m n (record (space_at m n) { places = with_range (space_at m n).places range.first range.count place }) q at
-      ∙ ap (λ p. cond (eqb q n) p (place_at m q at)) (get-with_range (space_at m n).places range.first range.count place at)
-      ∙ here_or_there q n (λ k. place_at m k at) (cond (is_among range.first range.count at) (Some (advanced place (at - range.first))))
+      place_at-with_space m n
+      (record (space_at m n) { places = with_range (space_at m n).places range.first range.count place }) q at
+      ∙ ap (λ p. cond (eqb q n) p (place_at m q at))
+      (get-with_range (space_at m n).places range.first range.count place at)
+      ∙ here_or_there q n (λ k. place_at m k at)
+      (cond (is_among range.first range.count at) (Some (advanced place (at - range.first))))
       ∙ nested (eqb q n) (is_among range.first range.count at) _ (place_at m q at)
 
-  pub has_space-with_mapping : has_space m n ≡ true → (q : ℕ) → has_space (with_mapping m n range place) q ≡ has_space m q
+  pub has_space-with_mapping : has_space m n ≡ true → (q : ℕ)
+      → has_space (with_mapping m n range place) q ≡ has_space m q
   has_space-with_mapping there q = has_space-with_space_there m n _ there q
 
 -- ---- pages that are unmapped
@@ -259,29 +293,38 @@ module _ (m : Spaces) (n : ℕ) (range : PageRange) where
     places = without_range (space_at m n).places range.first range.count;
   }
 
-  pub entry_at-without_mapping : (q at : ℕ) → entry_at (without_mapping m n range) q at ≡ (if q == n && is_among range.first range.count at then None else entry_at m q at)
+  pub entry_at-without_mapping : (q at : ℕ)
+      → entry_at (without_mapping m n range) q at
+      ≡ (if q == n && is_among range.first range.count at then None else entry_at m q at)
   unfolding unmapped
   entry_at-without_mapping q at =
       entry_at-with_space m n unmapped q at
-      ∙ ap (λ e. cond (eqb q n) e (entry_at m q at)) (get-outside_range (space_at m n).entries range.first (range.first + range.count) at)
+      ∙ ap (λ e. cond (eqb q n) e (entry_at m q at))
+      (get-outside_range (space_at m n).entries range.first (range.first + range.count) at)
       ∙ here_or_there q n (λ k. entry_at m k at) (cond (is_among range.first range.count at) None)
       ∙ nested (eqb q n) (is_among range.first range.count at) None (entry_at m q at)
 
-  pub place_at-without_mapping : (q at : ℕ) → place_at (without_mapping m n range) q at ≡ (if q == n && is_among range.first range.count at then None else place_at m q at)
+  pub place_at-without_mapping : (q at : ℕ)
+      → place_at (without_mapping m n range) q at
+      ≡ (if q == n && is_among range.first range.count at then None else place_at m q at)
   unfolding unmapped
   place_at-without_mapping q at =
       place_at-with_space m n unmapped q at
-      ∙ ap (λ p. cond (eqb q n) p (place_at m q at)) (get-without_range (space_at m n).places range.first range.count at)
+      ∙ ap (λ p. cond (eqb q n) p (place_at m q at))
+      (get-without_range (space_at m n).places range.first range.count at)
       ∙ here_or_there q n (λ k. place_at m k at) (cond (is_among range.first range.count at) None)
       ∙ nested (eqb q n) (is_among range.first range.count at) None (place_at m q at)
 
-  pub has_space-without_mapping : has_space m n ≡ true → (q : ℕ) → has_space (without_mapping m n range) q ≡ has_space m q
+  pub has_space-without_mapping : has_space m n ≡ true → (q : ℕ)
+      → has_space (without_mapping m n range) q ≡ has_space m q
   has_space-without_mapping there q = has_space-with_space_there m n _ there q
 
 -- ---- entries that are edited
 
 -- what is mapped stays
-pub place_at-EditsEntries : (edit : ℕ → ℕ → Option Mapped → Option Mapped) (old new : Spaces) → EditsEntries edit old new → (q at : ℕ) → place_at new q at ≡ place_at old q at
+pub place_at-EditsEntries : (edit : ℕ → ℕ → Option Mapped → Option Mapped) (old new : Spaces)
+    → EditsEntries edit old new → (q at : ℕ)
+    → place_at new q at ≡ place_at old q at
 place_at-EditsEntries edit old new edits q at = ap (λ places. maps.get places at) (edits.same_places q)
 
 -- ---- pages that get rights
@@ -291,15 +334,24 @@ abbrev pub with_rights_of : Rights → Place → Place
 with_rights_of rights place = record place { rights = rights }
 
 -- what a page maps is the same but for the rights of those in the range
-pub place_at-SetsRights : (pcid : ℕ) (range : PageRange) (rights : Rights) (old new : Spaces) → SetsRights pcid range rights old new → (q at : ℕ) → place_at new q at ≡ (if q == pcid && is_among range.first range.count at then option_map (with_rights_of rights) (place_at old q at) else place_at old q at)
+pub place_at-SetsRights : (pcid : ℕ) (range : PageRange) (rights : Rights) (old new : Spaces)
+    → SetsRights pcid range rights old new → (q at : ℕ)
+    → place_at new q at ≡ (if q == pcid && is_among range.first range.count at
+    then option_map (with_rights_of rights) (place_at old q at) else place_at old q at)
 place_at-SetsRights pcid range rights old new sets q at = elim (cases_eq q pcid) [
   | inl same ↦
-      subst (λ k. place_at new k at ≡ cond (eqb k pcid && is_among range.first range.count at) (option_map (with_rights_of rights) (place_at old k at)) (place_at old k at)) (sym same)
-      (ap (λ places. maps.get places at) sets.rights_set ∙ get-with_rights (space_at old pcid).places range.first range.count rights at ∙ by_test (eqb pcid pcid) (grind (arith, nat_tests)) (is_among range.first range.count at) (place_at old pcid at))
-  | inr other ↦ ap (λ places. maps.get places at) (sets.other_places q other) ∙ untouched (eqb q pcid) (grind (arith, nat_tests)) _ _ _
+      subst (λ k. place_at new k at ≡ cond (eqb k pcid && is_among range.first range.count at)
+      (option_map (with_rights_of rights) (place_at old k at)) (place_at old k at)) (sym same)
+      (ap (λ places. maps.get places at) sets.rights_set
+      ∙ get-with_rights (space_at old pcid).places range.first range.count rights at
+      ∙ by_test (eqb pcid pcid) (grind (arith, nat_tests)) (is_among range.first range.count at) (place_at old pcid at))
+  | inr other ↦ ap (λ places. maps.get places at) (sets.other_places q other)
+      ∙ untouched (eqb q pcid) (grind (arith, nat_tests)) _ _ _
 ]
   where
-    by_test : (a : Bool) → a ≡ true → (b : Bool) (p : Option Place) → option_map (λ place. cond b (with_rights_of rights place) place) p ≡ cond (a && b) (option_map (with_rights_of rights) p) p
+    by_test : (a : Bool) → a ≡ true → (b : Bool) (p : Option Place)
+        → option_map (λ place. cond b (with_rights_of rights place) place) p
+        ≡ cond (a && b) (option_map (with_rights_of rights) p) p
     by_test true h true p = refl
     by_test true h false None = refl
     by_test true h false (Some place) = refl

@@ -1,6 +1,7 @@
 -- The five changes that need a shootdown, and what each affects (Black, Rashid, Golub, Hill and Baron 1989: the
 -- processors that may use a mapping are stopped before it changes).
-use Rattle.std.specs.Prelude.{ℕ, ◌≡◌, ◌⊎◌, ◌*◌, ◌==◌, ◌&&◌, nat_le, Bool, true, false, is_some, if◌then◌else◌, List, map, filter, Option, Some, None}
+use Rattle.std.specs.Prelude.{ℕ, ◌≡◌, ◌⊎◌, ◌*◌, ◌==◌, ◌&&◌, nat_le, Bool, true, false}
+use Rattle.std.specs.Prelude.{is_some, if◌then◌else◌, List, map, filter, Option, Some, None}
 use Rattle.std.specs.List.{list_any, flat_map}
 use Rattle.std.specs.Ordering.{nat_cmp}
 use Rattle.std.specs.FinMap as maps

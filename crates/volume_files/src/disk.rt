@@ -89,14 +89,34 @@ where
 {
     let place = place(rt, path)?;
     let disk = open_disk(rt, path, &place, Access::Read, trust, note)?;
-    match print_volume(alloc, OverlayDisk::new(alloc, disk), out) {
+    print_disk(alloc, path, disk, out)
+}
+
+// Prints the files of the volume of a device, from a copy that keeps in memory what is written.
+fn print_disk<'a, D, A, W>(
+    alloc: A,
+    path: &'a str,
+    device: D,
+    out: &mut W,
+) -> Result<(), FileFailure<'a>>
+where
+    D: Device + Drop,
+    A: Allocator + Copy,
+    W: Write,
+{
+    match print_volume(alloc, OverlayDisk::new(alloc, device), out) {
         Ok(Ok(())) => Ok(()),
-        Ok(Err(DumpFault::Output(fault))) => Err(FileFailure::Output(fault)),
-        Ok(Err(DumpFault::Unreadable(refusal))) => Err(unreadable(path, refusal)),
-        Err((refusal, mut copy)) => {
-            let was_refused_memory = copy.was_refused_memory();
-            let cause = refused_to_open(alloc, refusal, &mut copy);
-            Err(refused_on_copy(path, was_refused_memory, cause))
+        Ok(Err(fault)) => Err(fault.of(path)),
+        Err((refusal, mut copy)) => Err(not_opened_on_copy(alloc, path, refusal, &mut copy)),
+    }
+}
+
+impl DumpFault {
+    // Says so of the volume at a path.
+    fn of(self, path: &str) -> FileFailure<'_> {
+        match self {
+            DumpFault::Output(fault) => FileFailure::Output(fault),
+            DumpFault::Unreadable(refusal) => unreadable(path, refusal),
         }
     }
 }
@@ -123,6 +143,26 @@ pub fn refused_on_copy<'a>(
     } else {
         FileFailure::Disk { path, cause }
     }
+}
+
+/// Why the volume at a path wasn't opened.
+pub fn not_opened<'a>(path: &'a str, cause: Refused<'a>) -> FileFailure<'a> {
+    match cause.refusal {
+        Refusal::OutOfMemory => FileFailure::Memory(AllocError),
+        _ => FileFailure::Disk { path, cause },
+    }
+}
+
+/// Why the volume at a path wasn't opened on this copy of its disk, which keeps in memory what is written.
+pub fn not_opened_on_copy<'a, D: Device, A: Allocator + Copy>(
+    alloc: A,
+    path: &'a str,
+    refusal: Refusal,
+    copy: &mut OverlayDisk<D, A>,
+) -> FileFailure<'a> {
+    let was_refused_memory = copy.was_refused_memory();
+    let cause = refused_to_open(alloc, refusal, copy);
+    refused_on_copy(path, was_refused_memory, cause)
 }
 
 // Prints the files of the volume of a device, as it would be opened. A refusal to open it hands the device back.

@@ -1,12 +1,11 @@
 // Copying a file out of a volume: whole, in a file of its own, which then takes the name that was asked for.
-use crate::cause::refused_to_open;
 use crate::copying::{CopyFault, copy_file};
-use crate::disk::{VolumeDisk, open_disk, refused_on_copy, unreadable};
+use crate::disk::{not_opened_on_copy, open_disk, unreadable};
 use crate::failure::FileFailure;
-use crate::making::{renamed, take_after};
+use crate::making::{named, take_after};
 use crate::volume_file::{Access, off_streams, other_kind, place, sync_folder_of};
 use crate::watched_file::SyncNote;
-use device::OverlayDisk;
+use device::{Device, OverlayDisk};
 use std::alloc::Allocator;
 use std::fs::{File, Files, OpenOptions, TryLockError};
 use std::io::ErrorKind;
@@ -40,30 +39,72 @@ where
 {
     let from = place(rt, plan.disk)?;
     let disk = open_disk(rt, plan.disk, &from, Access::Read, trust, note)?;
+    copied_out(rt, alloc, plan, disk, &from)
+}
+
+// Copies a file of the volume of a disk, whose own file is at a place, to where it was asked for.
+fn copied_out<'a, R, D, A>(
+    rt: &R,
+    alloc: A,
+    plan: ExportPlan<'a>,
+    disk: D,
+    from: &str,
+) -> Result<u64, FileFailure<'a>>
+where
+    R: Files<File = File> + AllocGlobal,
+    D: Device + Drop,
+    A: Allocator + Copy,
+{
     let to = place(rt, plan.out)?;
-    // It is locked until the end.
-    let old = old_copy(rt, plan.out, &from, &to)?;
+    // Both files are locked until the end.
+    let old = old_copy(rt, plan.out, from, &to)?;
+    let (count, _file) = named_copy(rt, alloc, plan, disk, old.as_ref(), &to)?;
+    settled(rt, plan, count, &to)
+}
+
+// Makes sure that the name of a copy of so many bytes is on the disk.
+fn settled<'a, R: Files<File = File>>(
+    rt: &R,
+    plan: ExportPlan<'a>,
+    count: u64,
+    to: &str,
+) -> Result<u64, FileFailure<'a>> {
+    match sync_folder_of(rt, to) {
+        Ok(()) => Ok(count),
+        Err(cause) => Err(FileFailure::File {
+            path: plan.out,
+            cause,
+        }),
+    }
+}
+
+// Makes the copy in another file, and gives that the name that was asked for. Where it wasn't made, or can't have the
+// name, it is taken away. Where that can't be done either, the next export says that it is there.
+fn named_copy<'a, R, D, A>(
+    rt: &R,
+    alloc: A,
+    plan: ExportPlan<'a>,
+    disk: D,
+    old: Option<&File>,
+    to: &str,
+) -> Result<(u64, File), FileFailure<'a>>
+where
+    R: Files<File = File> + AllocGlobal,
+    D: Device + Drop,
+    A: Allocator + Copy,
+{
     let new = format!(in rt.alloc(); "{to}.new")?;
-    let file = new_copy(rt, plan.out, &new)?;
-    let (count, _file) = match copied(alloc, plan, disk, old.as_ref(), file).and_then(|(
-        count,
-        file,
-    )| match renamed(rt, plan.out, &new, &to, file) {
-        Ok(file) => Ok((count, file)),
-        Err(failure) => Err(failure),
-    }) {
-        Ok(done) => done,
-        Err(failure) => {
-            // Where it can't be taken away either, the next export says that it is there.
-            let _ = fs::remove_file(rt, new.as_str());
-            return Err(failure);
+    let mut file = new_copy(rt, plan.out, &new)?;
+    match copied(alloc, plan, disk, old, &mut file) {
+        Ok(count) => {
+            let file = named(rt, plan.out, &new, to, Ok(file))?;
+            Ok((count, file))
         }
-    };
-    sync_folder_of(rt, &to).map_err(|cause| FileFailure::File {
-        path: plan.out,
-        cause,
-    })?;
-    Ok(count)
+        Err(failure) => {
+            let _ = fs::remove_file(rt, new.as_str());
+            Err(failure)
+        }
+    }
 }
 
 // The file that a copy is to replace, locked, if there is one.
@@ -120,35 +161,64 @@ where
     }
 }
 
-// Makes the copy in a new file, and hands that back, all of it on the disk, with the number of its bytes.
-fn copied<'a, R, A>(
+// Makes the copy in a new file, with all of it on the disk, and says how many bytes it has.
+fn copied<'a, D, A>(
     alloc: A,
     plan: ExportPlan<'a>,
-    disk: VolumeDisk<'_, R>,
+    disk: D,
     old: Option<&File>,
-    file: File,
-) -> Result<(u64, File), FileFailure<'a>>
+    file: &mut File,
+) -> Result<u64, FileFailure<'a>>
 where
-    R: Files<File = File> + AllocGlobal,
+    D: Device + Drop,
     A: Allocator + Copy,
 {
-    let path = plan.out;
-    let failed = |cause: io::Error| FileFailure::File { path, cause };
-    let mut file = file;
-    if let Some(old) = old {
-        take_after(&file, old).map_err(failed)?;
+    match after(old, file) {
+        Ok(()) => {
+            let count = written(alloc, plan, disk, file)?;
+            synced(plan, count, file)
+        }
+        Err(cause) => Err(FileFailure::File {
+            path: plan.out,
+            cause,
+        }),
     }
-    match copy_file(alloc, OverlayDisk::new(alloc, disk), plan.file, &mut file) {
-        Ok(Ok(count)) => {
-            file.sync_all().map_err(failed)?;
-            Ok((count, file))
-        }
+}
+
+// Gives a new file what it has of an old one, if there is one.
+fn after(old: Option<&File>, file: &File) -> io::Result<()> {
+    match old {
+        Some(old) => take_after(file, old),
+        None => Ok(()),
+    }
+}
+
+// Makes sure that a copy of so many bytes is on the disk.
+fn synced<'a>(plan: ExportPlan<'a>, count: u64, file: &File) -> Result<u64, FileFailure<'a>> {
+    match file.sync_all() {
+        Ok(()) => Ok(count),
+        Err(cause) => Err(FileFailure::File {
+            path: plan.out,
+            cause,
+        }),
+    }
+}
+
+// Writes the bytes of the file in the volume of a disk to a file, and says how many they are.
+fn written<'a, D, A>(
+    alloc: A,
+    plan: ExportPlan<'a>,
+    disk: D,
+    file: &mut File,
+) -> Result<u64, FileFailure<'a>>
+where
+    D: Device + Drop,
+    A: Allocator + Copy,
+{
+    match copy_file(alloc, OverlayDisk::new(alloc, disk), plan.file, file) {
+        Ok(Ok(count)) => Ok(count),
         Ok(Err(fault)) => Err(fault.of(plan)),
-        Err((refusal, mut copy)) => {
-            let was_refused_memory = copy.was_refused_memory();
-            let cause = refused_to_open(alloc, refusal, &mut copy);
-            Err(refused_on_copy(plan.disk, was_refused_memory, cause))
-        }
+        Err((refusal, mut copy)) => Err(not_opened_on_copy(alloc, plan.disk, refusal, &mut copy)),
     }
 }
 

@@ -18,7 +18,7 @@ pub enum FileFailure<'a> {
     InUse { path: &'a str },
     /// The file of the volume is of another kind.
     #[error("disk {path:?}: it is {kind}, and a volume is a regular file")]
-    NotRegular { path: &'a str, kind: &'static str },
+    NotRegular { path: &'a str, kind: &'a str },
     /// The file of the volume has several names, by which others may use it.
     #[error("disk {path:?}: the file has {names} names, and one that is written to may have one")]
     SeveralNames { path: &'a str, names: u64 },
@@ -33,7 +33,7 @@ pub enum FileFailure<'a> {
     NoFile { path: &'a str, file: &'a str },
     /// A copy would replace something else than a regular file.
     #[error("file {path:?}: it is {kind}, and a copy replaces a regular file alone")]
-    NotReplaced { path: &'a str, kind: &'static str },
+    NotReplaced { path: &'a str, kind: &'a str },
     /// A copy would replace the file of the volume.
     #[error("file {path:?}: it is the file of the volume")]
     SameFile { path: &'a str },

@@ -48,14 +48,47 @@ where
         Err(refusal) => return Err(plan.refused(path, refusal)),
     };
     let place = place(rt, path)?;
-    let new = format!(in rt.alloc(); "{place}.new")?;
-    // Both files are locked until the end.
-    let old = old_file(rt, path, &place)?;
-    let file = new_file(rt, path, &new)?;
-    let volume = made(rt, alloc, path, &place, plan, blocks, old.as_ref(), file);
-    let _file = named(rt, path, &new, &place, volume)?;
-    settle(rt, path, &place)?;
+    format_at(rt, alloc, path, plan, blocks, &place)?;
     Ok(blocks)
+}
+
+// Makes or replaces the file at a place by the volume of a plan, which has so many blocks.
+fn format_at<'a, R, A>(
+    rt: &R,
+    alloc: A,
+    path: &'a str,
+    plan: Plan<'a, '_>,
+    blocks: u64,
+    place: &str,
+) -> Result<(), FileFailure<'a>>
+where
+    R: Files<File = File> + AllocGlobal,
+    A: Allocator + Copy,
+{
+    // Both files are locked until the end.
+    let old = old_file(rt, path, place)?;
+    let _file = named_volume(rt, alloc, path, plan, blocks, old.as_ref(), place)?;
+    settle(rt, path, place)
+}
+
+// Makes the volume of a plan in a new file, and gives that the name of the old one.
+fn named_volume<'a, R, A>(
+    rt: &R,
+    alloc: A,
+    path: &'a str,
+    plan: Plan<'a, '_>,
+    blocks: u64,
+    old: Option<&File>,
+    place: &str,
+) -> Result<File, FileFailure<'a>>
+where
+    R: Files<File = File> + AllocGlobal,
+    A: Allocator + Copy,
+{
+    let new = format!(in rt.alloc(); "{place}.new")?;
+    let file = new_file(rt, path, &new)?;
+    let volume = made(rt, alloc, path, place, plan, blocks, old, file);
+    named(rt, path, &new, place, volume)
 }
 
 /// Gives the new file, in which all of a volume is on the disk, the name of the old one. Where it wasn't made, or can't
@@ -162,17 +195,31 @@ where
     R: Files<File = File>,
     A: Allocator + Copy,
 {
-    lock(path, &file, Access::Write)?;
-    match old {
-        Some(old) => take_after(&file, old).map_err(|cause| FileFailure::File { path, cause })?,
-        // Nobody else makes one while this new file is there, but one may have been made before.
-        None if fs::exists(rt, place).unwrap_or(true) => return Err(FileFailure::InUse { path }),
-        None => {}
-    }
+    prepare(rt, path, place, old, &file)?;
     fill(alloc, path, &file, blocks)?;
     match FileDisk::over(file) {
         Ok(disk) => Ok(disk),
         Err((cause, _)) => Err(FileFailure::File { path, cause }),
+    }
+}
+
+// Locks a new file, and gives it what it has of the old one, if there is one.
+fn prepare<'a, R>(
+    rt: &R,
+    path: &'a str,
+    place: &str,
+    old: Option<&File>,
+    file: &File,
+) -> Result<(), FileFailure<'a>>
+where
+    R: Files<File = File>,
+{
+    lock(path, file, Access::Write)?;
+    match old {
+        Some(old) => take_after(file, old).map_err(|cause| FileFailure::File { path, cause }),
+        // Nobody else makes one while this new file is there, but one may have been made before.
+        None if fs::exists(rt, place).unwrap_or(true) => Err(FileFailure::InUse { path }),
+        None => Ok(()),
     }
 }
 

@@ -1,7 +1,7 @@
 // Migrating a volume: its files go into a new one whose files can grow, which is made in a file of its own as `format`
 // makes one.
-use crate::cause::{Refused, refused_to_migrate, refused_to_open};
-use crate::disk::{VolumeDisk, open_to_write};
+use crate::cause::{refused_to_migrate, refused_to_open};
+use crate::disk::{VolumeDisk, not_opened, open_to_write};
 use crate::failure::FileFailure;
 use crate::making::{named, new_file, old_file, ready, settle};
 use crate::volume_file::place;
@@ -58,9 +58,25 @@ where
     let to = place(rt, plan.new)?;
     judge_apart(rt, plan, &from, &to)?;
     let disk = open_to_write(rt, plan.old, &from, trust, note)?;
+    migrate_disk(rt, alloc, plan, &to, disk, note)
+}
+
+// Makes the new volume at a place of the one on a disk.
+fn migrate_disk<'a, R, A>(
+    rt: &R,
+    alloc: A,
+    plan: MigrationPlan<'a>,
+    to: &str,
+    disk: VolumeDisk<'_, R>,
+    note: &mut SyncNote,
+) -> Result<u64, FileFailure<'a>>
+where
+    R: Files<File = File> + AllocGlobal,
+    A: Allocator + Copy,
+{
     match recovery::open(alloc, disk) {
         Ok(mut volume) => {
-            let blocks = made_of(rt, alloc, plan, &to, &mut volume);
+            let blocks = made_of(rt, alloc, plan, to, &mut volume);
             *note = volume.into_device().into_file().into_note();
             blocks
         }
@@ -69,14 +85,6 @@ where
             *note = disk.into_file().into_note();
             Err(not_opened(plan.old, cause))
         }
-    }
-}
-
-// Why the old volume wasn't opened.
-fn not_opened<'a>(path: &'a str, cause: Refused<'a>) -> FileFailure<'a> {
-    match cause.refusal {
-        Refusal::OutOfMemory => FileFailure::Memory(AllocError),
-        _ => FileFailure::Disk { path, cause },
     }
 }
 
@@ -113,15 +121,16 @@ where
 }
 
 // Makes the new volume at a place, where its shape is accepted, and says how many blocks it has.
-fn made_of<'a, R, A>(
+fn made_of<'a, R, D, A>(
     rt: &R,
     alloc: A,
     plan: MigrationPlan<'a>,
     to: &str,
-    volume: &mut Volume<VolumeDisk<'_, R>, A>,
+    volume: &mut Volume<D, A>,
 ) -> Result<u64, FileFailure<'a>>
 where
     R: Files<File = File> + AllocGlobal,
+    D: Device,
     A: Allocator + Copy,
 {
     let path = plan.new;
@@ -129,28 +138,46 @@ where
         Ok(blocks) => blocks,
         Err(refusal) => return Err(plan.refused(refusal, false)),
     };
-    let new = format!(in rt.alloc(); "{to}.new")?;
     // Both files are locked until the end.
     let old = old_file(rt, path, to)?;
-    let file = new_file(rt, path, &new)?;
-    let made = match ready(rt, alloc, path, to, blocks, old.as_ref(), file) {
-        Ok(disk) => copied(alloc, plan, volume, disk),
-        Err(failure) => Err(failure),
-    };
-    let _file = named(rt, path, &new, to, made)?;
+    let _file = named_copy(rt, alloc, plan, to, blocks, old.as_ref(), volume)?;
     settle(rt, path, to)?;
     Ok(blocks)
 }
 
-// Copies the volume on to a disk over a new file, and hands the file back, all of it on the disk.
-fn copied<'a, R, A>(
+// Makes the new volume, of so many blocks, in a new file, and gives that the name of the old one.
+fn named_copy<'a, R, D, A>(
+    rt: &R,
     alloc: A,
     plan: MigrationPlan<'a>,
-    volume: &mut Volume<VolumeDisk<'_, R>, A>,
-    disk: FileDisk<File>,
+    to: &str,
+    blocks: u64,
+    old: Option<&File>,
+    volume: &mut Volume<D, A>,
 ) -> Result<File, FileFailure<'a>>
 where
     R: Files<File = File> + AllocGlobal,
+    D: Device,
+    A: Allocator + Copy,
+{
+    let new = format!(in rt.alloc(); "{to}.new")?;
+    let file = new_file(rt, plan.new, &new)?;
+    let made = match ready(rt, alloc, plan.new, to, blocks, old, file) {
+        Ok(disk) => copied(alloc, plan, volume, disk),
+        Err(failure) => Err(failure),
+    };
+    named(rt, plan.new, &new, to, made)
+}
+
+// Copies the volume on to a disk over a new file, and hands the file back, all of it on the disk.
+fn copied<'a, D, A>(
+    alloc: A,
+    plan: MigrationPlan<'a>,
+    volume: &mut Volume<D, A>,
+    disk: FileDisk<File>,
+) -> Result<File, FileFailure<'a>>
+where
+    D: Device,
     A: Allocator + Copy,
 {
     let mut disk = disk;

@@ -1,5 +1,6 @@
 -- How notes are taken, and what is gathered of them.
-use Rattle.std.specs.Prelude.{ℕ, ◌≡◌, ◌⊎◌, ◌↔◌, ◌≤◌, Bool, true, false, List, [], ◌∷◌, length, Option, None, slice_index_or, Contains, if◌then◌else◌}
+use Rattle.std.specs.Prelude.{ℕ, ◌≡◌, ◌⊎◌, ◌↔◌, ◌≤◌, Bool, true, false, List, [], ◌∷◌}
+use Rattle.std.specs.Prelude.{length, Option, None, slice_index_or, Contains, if◌then◌else◌}
 use Rattle.page_entry.specs.declared.numbers.FilePage.{FilePage}
 use Rattle.frames.specs.Frames.{FramesState, frame_at, page_of}
 use Rattle.spaces.specs.Spaces.{Spaces}

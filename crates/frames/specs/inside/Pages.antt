@@ -1,5 +1,6 @@
 -- How numbered pages are kept: the page of a file for each number in use, and bytes for each number.
-use Rattle.std.specs.Prelude.{◌<◌, ◌≤◌, ◌^◌, ◌==◌, ◌&&◌, ◌||◌, nat_lt, ℕ, suc, Bool, false, List, [], ◌∷◌, length, Option, Some, None, IsSome}
+use Rattle.std.specs.Prelude.{◌<◌, ◌≤◌, ◌^◌, ◌==◌, ◌&&◌, ◌||◌, nat_lt, ℕ, suc, Bool}
+use Rattle.std.specs.Prelude.{false, List, [], ◌∷◌, length, Option, Some, None, IsSome}
 use Rattle.slab.specs.Slab.{Slab, get}
 use Rattle.page_entry.specs.declared.numbers.FilePage.{FilePage}
 use Rattle.frames.specs.Frames.{Frame}

@@ -1,5 +1,6 @@
 -- Edits of a list of mappings.
-use Rattle.std.specs.Prelude.{ℕ, ◌+◌, ◌^◌, ◌<◌, ◌≤◌, ◌≡◌, Bool, true, ◌&&◌, ◌||◌, ◌⊎◌, nat_le, nat_lt, if◌then◌else◌, Option, Some, None, List, [], ◌∷◌, length, slice_index_or}
+use Rattle.std.specs.Prelude.{ℕ, ◌+◌, ◌^◌, ◌<◌, ◌≤◌, ◌≡◌, Bool, true, ◌&&◌, ◌||◌, ◌⊎◌, nat_le, nat_lt}
+use Rattle.std.specs.Prelude.{if◌then◌else◌, Option, Some, None, List, [], ◌∷◌, length, slice_index_or}
 use Rattle.std.specs.List.{insert}
 use Rattle.mappings.specs.declared.place.Rights.{Rights}
 use Rattle.mappings.specs.declared.mapping.Mapping.{Mapping}
@@ -117,8 +118,8 @@ abbrev pub HaveRights : List Mapping → ℕ → ℕ → Rights → Type 0
 HaveRights list low high rights = (q : ℕ) (place : Place) → low ≤ q → q < high
     → fin_map.get (places_of list) q ≡ Some place → place.rights ≡ rights
 
--- the pages before this one have the rights from the first page on, and a mapping goes on at that one only where it has other
--- rights at this one
+-- the pages before this one have the rights from the first page on, and a mapping goes on at that one only where it has
+-- other rights at this one
 pub record IsBegin (list : List Mapping) (page : ℕ) (rights : Rights) (first : ℕ) : Type 0 where
   pub order : first ≤ page
   pub have : HaveRights list first page rights

@@ -1,5 +1,7 @@
--- Which words of a table's nodes are present entries: a bit for each word, and for each node whether one of its words is.
-use Rattle.std.specs.Prelude.{ℕ, ◌+◌, ◌-◌, ◌*◌, ◌/◌, ◌%◌, ◌≡◌, ◌⊎◌, ◌↔◌, ◌≤◌, ◌<◌, ◌&&◌, Bool, nat_lt, true, false, if◌then◌else◌, List, length, slice_index_or, Option, Some, None}
+-- Which words of a table's nodes are present entries: a bit for each word, and for each node whether one of its words
+-- is.
+use Rattle.std.specs.Prelude.{ℕ, ◌+◌, ◌-◌, ◌*◌, ◌/◌, ◌%◌, ◌≡◌, ◌⊎◌, ◌↔◌, ◌≤◌, ◌<◌, ◌&&◌, Bool, nat_lt}
+use Rattle.std.specs.Prelude.{true, false, if◌then◌else◌, List, length, slice_index_or, Option, Some, None}
 use Rattle.page_entry.specs.Entry.{Mapped, entry_of, IsEntry}
 use Rattle.page_table.specs.Table.{in_range}
 use Rattle.page_table.specs.Bits.{is_set}

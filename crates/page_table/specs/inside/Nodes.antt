@@ -1,7 +1,8 @@
 -- The nodes of a table: 512 words each, one after the other in one list. Nodes are numbered from 1, the root; a word of
 -- the last level is an entry's bits, and any other one the number of a node of the next level, or 0 for none (Intel SDM
 -- volume 3, "4-Level Paging": four levels, indexed by bits 47:39, 38:30, 29:21 and 20:12 of an address).
-use Rattle.std.specs.Prelude.{ℕ, zero, suc, ◌+◌, ◌-◌, ◌*◌, ◌/◌, ◌%◌, ◌^◌, ◌≡◌, ◌≤◌, ◌<◌, ◌==◌, Bool, nat_lt, true, false, if◌then◌else◌, List, [], ◌∷◌, length, slice_index_or, Option, Some, None}
+use Rattle.std.specs.Prelude.{ℕ, zero, suc, ◌+◌, ◌-◌, ◌*◌, ◌/◌, ◌%◌, ◌^◌, ◌≡◌, ◌≤◌, ◌<◌, ◌==◌, Bool, nat_lt, true}
+use Rattle.std.specs.Prelude.{false, if◌then◌else◌, List, [], ◌∷◌, length, slice_index_or, Option, Some, None}
 use Rattle.std.specs.FinMap as maps
 use Rattle.std.specs.FinSet as sets
 use Rattle.page_entry.specs.Entry.{Mapped, entry_of, has_bit, IsEntry}
@@ -13,8 +14,8 @@ abbrev pub word : List ℕ → ℕ → ℕ → ℕ
 word words node place = if node == 0 then 0 else slice_index_or words ((node - 1) * 512 + place) 0
 
 -- What a walk over so many levels reads that leads to this block of pages; a block is named by the first of its pages
--- divided by how many it has: 2^36, 2^27, 2^18 and 2^9 pages, and one page. Up to depth 3 the number of a node, or 0 for
--- none; at depth 4 an entry's bits, or 0.
+-- divided by how many it has: 2^36, 2^27, 2^18 and 2^9 pages, and one page. Up to depth 3 the number of a node, or 0
+-- for none; at depth 4 an entry's bits, or 0.
 unfoldable pub read_by_walk : List ℕ → ℕ → ℕ → ℕ
 read_by_walk words zero block = if block == 0 then 1 else 0
 read_by_walk words (suc depth) block = word words (read_by_walk words depth (block / 512)) (block % 512)
@@ -29,7 +30,9 @@ pub record IsTree (words : List ℕ) (used : ℕ) : Type 0 where
   pub room : used * 512 ≤ length words
   pub walkable : IsWalkable words
   pub below : (depth block : ℕ) → depth ≤ 3 → read_by_walk words depth block ≤ used
-  pub apart : (d b e c : ℕ) → d ≤ 3 → e ≤ 3 → 0 < read_by_walk words d b → read_by_walk words d b ≡ read_by_walk words e c → (d ≡ e) × (b ≡ c)
+  pub apart : (d b e c : ℕ) → d ≤ 3 → e ≤ 3 → 0 < read_by_walk words d b
+      → read_by_walk words d b ≡ read_by_walk words e c
+      → (d ≡ e) × (b ≡ c)
   pub unused : (i : ℕ) → used * 512 ≤ i → slice_index_or words i 0 ≡ 0
   pub entries : (page : ℕ) → IsEntry (read_by_walk words 4 page)
 
@@ -69,7 +72,8 @@ pub record EditsPages (f : ℕ → ℕ) (start end : ℕ) (old new : List ℕ) :
   pub table : IsTable new
   pub size : length new ≡ length old
   pub nodes : (depth block : ℕ) → depth ≤ 3 → read_by_walk new depth block ≡ read_by_walk old depth block
-  pub pages : (q : ℕ) → read_by_walk new 4 q ≡ (if in_range start end q then f (read_by_walk old 4 q) else read_by_walk old 4 q)
+  pub pages : (q : ℕ)
+      → read_by_walk new 4 q ≡ (if in_range start end q then f (read_by_walk old 4 q) else read_by_walk old 4 q)
 
 -- how many of these blocks, from `first` on, have no node
 abbrev pub missing : List ℕ → ℕ → ℕ → ℕ → ℕ
@@ -83,7 +87,8 @@ pub record LinksBlocks (depth first end used made : ℕ) (old new : List ℕ) : 
   pub size : length new ≡ length old
   pub count : made ≡ used + missing old depth first (end - first)
   pub linked : (block : ℕ) → first ≤ block → block < end → 0 < read_by_walk new depth block
-  pub same : (d b : ℕ) → d ≤ 4 → (d ≡ depth → first ≤ b → b < end → 0 < read_by_walk old d b) → read_by_walk new d b ≡ read_by_walk old d b
+  pub same : (d b : ℕ) → d ≤ 4 → (d ≡ depth → first ≤ b → b < end → 0 < read_by_walk old d b)
+      → read_by_walk new d b ≡ read_by_walk old d b
 
 -- how many nodes have to be made so that each page of a range that isn't empty has a leaf
 abbrev pub needed : List ℕ → ℕ → ℕ → ℕ
@@ -92,15 +97,16 @@ needed words start end =
     + missing words 2 (start / 2 ^ 18) ((end - 1) / 2 ^ 18 + 1 - start / 2 ^ 18)
     + missing words 3 (start / 512) ((end - 1) / 512 + 1 - start / 512)
 
--- the same entries; each block of 512 pages that has a page of the range has a leaf, and no other one has that had none;
--- leaves stay
+-- the same entries; each block of 512 pages that has a page of the range has a leaf, and no other one has that had
+-- none; leaves stay
 pub record GrowsPages (start end : ℕ) (old new : List ℕ) : Type 0 where
   pub table : IsTable new
   pub size : length new ≡ length old
   pub entries : (page : ℕ) → read_by_walk new 4 page ≡ read_by_walk old 4 page
   pub grown : (block : ℕ) → start / 512 ≤ block → block ≤ (end - 1) / 512 → 0 < read_by_walk new 3 block
   pub kept : (block : ℕ) → 0 < read_by_walk old 3 block → read_by_walk new 3 block ≡ read_by_walk old 3 block
-  pub others : (block : ℕ) → (start / 512 ≤ block → (end - 1) / 512 < block) → read_by_walk new 3 block ≡ read_by_walk old 3 block
+  pub others : (block : ℕ) → (start / 512 ≤ block → (end - 1) / 512 < block)
+      → read_by_walk new 3 block ≡ read_by_walk old 3 block
 
 -- a page's entry before these, if it is present
 abbrev pub with_page_entry : ℕ → Option Mapped → List (ℕ × Mapped) → List (ℕ × Mapped)

@@ -1,5 +1,6 @@
 -- How the spaces are kept: a slot for each PCID, with a space or none.
-use Rattle.std.specs.Prelude.{ℕ, ◌≡◌, ◌≢◌, ◌⊎◌, ◌↔◌, ◌+◌, ◌≤◌, ◌<◌, Bool, true, false, not, is_some, List, [], ◌∷◌, length, slice_index_or, Option, Some, None, IsSome, refl}
+use Rattle.std.specs.Prelude.{ℕ, ◌≡◌, ◌≢◌, ◌⊎◌, ◌↔◌, ◌+◌, ◌≤◌, ◌<◌, Bool, true, false, not, is_some}
+use Rattle.std.specs.Prelude.{List, [], ◌∷◌, length, slice_index_or, Option, Some, None, IsSome, refl}
 use Rattle.std.specs.Option.{option_map}
 use Rattle.std.specs.Coded.{Coded, code_by, coded×, coded_ℕ, coded_option}
 use Rattle.std.specs.Ordering.{nat_cmp}
@@ -32,7 +33,8 @@ space_of s = record { entries = s.entries; places = s.places }
 
 -- the table has grown at each page of the range
 abbrev pub AreGrown : SpaceState → PageRange → Type 0
-AreGrown s range = (page : ℕ) → range.first ≤ page → page < range.first + range.count → sets.contains s.grown page ≡ true
+AreGrown s range =
+    (page : ℕ) → range.first ≤ page → page < range.first + range.count → sets.contains s.grown page ≡ true
 
 -- the entry of each mapped page can be set without memory
 abbrev pub HasRoom : TableState → MappingsState → Type 0
@@ -86,13 +88,15 @@ without_each entries [] = entries
 without_each entries (page ∷ pages) = without_each (maps.remove entries page) pages
 
 -- a user space has room for what one unmap of a range splits, or for what giving its pages the rights does
-pub record IsPrepared (slots : List (Option SpaceState)) (pcid : ℕ) (range : PageRange) (rights : Option Rights) : Type 0 where
+pub record IsPrepared (slots : List (Option SpaceState)) (pcid : ℕ) (range : PageRange)
+    (rights : Option Rights) : Type 0 where
   pub user_space : is_user_space (spaces_of slots) pcid ≡ true
   pub user_range : is_user_range range ≡ true
   pub room : (s : SpaceState) → slot_at slots pcid ≡ Some s → splits s.places range rights ≤ s.spare
 
 -- what the slots always keep
-pub record AreSlots (slots : List (Option SpaceState)) (prepared : Option (ℕ × PageRange × Option Rights)) : Type 0 where
+pub record AreSlots (slots : List (Option SpaceState))
+    (prepared : Option (ℕ × PageRange × Option Rights)) : Type 0 where
   pub spaces : AreSpaces (spaces_of slots)
   pub few : length slots ≤ 4096
   pub ready : (pcid : ℕ) (range : PageRange) (rights : Option Rights) → prepared ≡ Some (pcid, range, rights)
@@ -113,7 +117,8 @@ pub record AreFreed (slots : List (Option SpaceState)) (freed : List ℕ) : Type
   pub past : (pcid : ℕ) → length slots ≤ pcid → is_set freed pcid ≡ false
 
 -- the entries of one slot's space are edited, if it has one; the other slots stay
-pub record EditsSlot (f : SpaceState → maps.FinMap nat_cmp Mapped) (pcid : ℕ) (old new : List (Option SpaceState)) : Type 0 where
+pub record EditsSlot (f : SpaceState → maps.FinMap nat_cmp Mapped) (pcid : ℕ)
+    (old new : List (Option SpaceState)) : Type 0 where
   pub size : length new ≡ length old
   pub here : slot_at new pcid ≡ option_map (edited f) (slot_at old pcid)
   pub others : (q : ℕ) → q ≢ pcid → slot_at new q ≡ slot_at old q
@@ -165,7 +170,8 @@ range_code = code_by (ℕ × ℕ) (coded× coded_ℕ coded_ℕ) (λ r. (r.first,
     (λ p. record { first = p.0; count = p.1 }) (λ _. refl)
 
 abbrev pub prepared_code : Coded (ℕ × PageRange × Option Rights)
-prepared_code = code_by (ℕ × (PageRange × Option Rights)) (coded× coded_ℕ (coded× range_code (coded_option rights_code)))
+prepared_code =
+    code_by (ℕ × (PageRange × Option Rights)) (coded× coded_ℕ (coded× range_code (coded_option rights_code)))
     (λ p. (p.0, (p.1, p.2))) (λ c. (c.0, c.1.0, c.1.1)) (λ _. refl)
 
 abbrev pub spaces_code : Coded SpacesState

@@ -9,4 +9,6 @@ loop-page-preserved g c =
     let none : FilePage = record { file = 0; page = 0 } in
     let pages = c.args.pages.now in
     let i = c.loop-page.page-index in
-    c.free_copy.ensures ∙ ap (λ memory. without_copy_of memory (get_or pages i none)) c.loop-page.invariant ∙ sym (without_copies_of-more c.args.frames.now pages i none c.loop-page-test.true)
+    c.free_copy.ensures
+    ∙ ap (λ memory. without_copy_of memory (get_or pages i none)) c.loop-page.invariant
+    ∙ sym (without_copies_of-more c.args.frames.now pages i none c.loop-page-test.true)

@@ -20,15 +20,29 @@ loop-frame-preserved g c =
     elim c.if-notes-frame.branch [
       | then-notes-frame w ↦
           let after = w.push_reserved.ensures in
-          let gives : noted_page memory notes frame ≡ Some page = cond-true (noted_in notes frame) _ None w.if-notes-frame.true ∙ sym c.owner.ensures.owner ∙ c.unwrap-page.ensures in
-          let items = filter_map-more (noted_page memory notes) order i 0 c.loop-frame.pages.items w.push_reserved.new.self.items c.loop-frame-test.true before.listed (after.items ∙ ap (λ o. c.loop-frame.pages.items ++ option_to_list o) (sym gives)) in
-          rw w.pages-is (record { listed = items; few = omega (arith, after.len, before.few); room = after.capacity ∙ before.room })
+          let gives : noted_page memory notes frame ≡ Some page =
+          cond-true (noted_in notes frame) _ None w.if-notes-frame.true
+          ∙ sym c.owner.ensures.owner
+          ∙ c.unwrap-page.ensures in
+          let items = filter_map-more (noted_page memory notes) order i 0 c.loop-frame.pages.items
+          w.push_reserved.new.self.items c.loop-frame-test.true before.listed
+          (after.items ∙ ap (λ o. c.loop-frame.pages.items ++ option_to_list o) (sym gives)) in
+          rw w.pages-is (record {
+            listed = items;
+            few = omega (arith, after.len, before.few);
+            room = after.capacity ∙ before.room;
+          })
       | else-notes-frame w ↦
-          let gives : noted_page memory notes frame ≡ None = cond-false (noted_in notes frame) _ None w.if-notes-frame.false in
-          let items = filter_map-more (noted_page memory notes) order i 0 c.loop-frame.pages.items c.loop-frame.pages.items c.loop-frame-test.true before.listed (sym (append-nil c.loop-frame.pages.items) ∙ ap (λ o. c.loop-frame.pages.items ++ option_to_list o) (sym gives)) in
+          let gives : noted_page memory notes frame ≡ None =
+          cond-false (noted_in notes frame) _ None w.if-notes-frame.false in
+          let items = filter_map-more (noted_page memory notes) order i 0 c.loop-frame.pages.items
+          c.loop-frame.pages.items c.loop-frame-test.true before.listed (sym (append-nil c.loop-frame.pages.items)
+          ∙ ap (λ o. c.loop-frame.pages.items ++ option_to_list o) (sym gives)) in
           rw w.pages-is (record { listed = items; few = omega (arith, before.few); room = before.room })
     ]
 
 pub returns-clause-listed : goal.returns-clause-listed
-returns-clause-listed g c = AreNotedPages-listed c.args.frames.now c.args.notes.now c.in_order-frame-items.result.now c.loop-frame.pages.items c.in_order-frame-items.ensures.order
-    (c.loop-frame.invariant.listed ∙ ap (filter_map (noted_page c.args.frames.now c.args.notes.now)) (take_all c.loop-frame.frame-index c.in_order-frame-items.result.now c.loop-frame-test.false))
+returns-clause-listed g c = AreNotedPages-listed c.args.frames.now c.args.notes.now c.in_order-frame-items.result.now
+    c.loop-frame.pages.items c.in_order-frame-items.ensures.order
+    (c.loop-frame.invariant.listed ∙ ap (filter_map (noted_page c.args.frames.now c.args.notes.now))
+    (take_all c.loop-frame.frame-index c.in_order-frame-items.result.now c.loop-frame-test.false))

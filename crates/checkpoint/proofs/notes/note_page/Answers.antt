@@ -16,7 +16,8 @@ loop-pcid-init g c = record {
 
 pub note-requires : goal.note-requires
 note-requires g c =
-    let d = is_dirty-at c.args.spaces.now.map c.in-Some.pcid c.in-Some.q (sym (c.dirty.ensures ∙ ap is_dirty c.entry-entry.ensures.entry) ∙ c.if-dirty.true) in
+    let d = is_dirty-at c.args.spaces.now.map c.in-Some.pcid c.in-Some.q
+    (sym (c.dirty.ensures ∙ ap is_dirty c.entry-entry.ensures.entry) ∙ c.if-dirty.true) in
     let frame = ap frame_of (c.entry-entry.ensures.entry ∙ d.present) in
     let below = c.requires c.in-Some.pcid c.in-Some.q d.entry d.present in
     omega (arith, frame, below, c.loop-pcid.auto.notes)
@@ -24,30 +25,40 @@ note-requires g c =
 pub loop-pcid-preserved-then-dirty : goal.loop-pcid-preserved-then-dirty
 loop-pcid-preserved-then-dirty g c =
     let spaces = c.args.spaces.now.map in
-    let next = entries_of-next spaces c.args.page c.loop-pcid.yielded c.loop-pcid.pcid-iterator (c.in-Some.pcid, c.in-Some.q) c.next.new.self c.loop-pcid.invariant.listed c.in-Some.ensures.steps in
-    let d = is_dirty-at spaces c.in-Some.pcid c.in-Some.q (sym (c.dirty.ensures ∙ ap is_dirty c.entry-entry.ensures.entry) ∙ c.if-dirty.true) in
+    let next = entries_of-next spaces c.args.page c.loop-pcid.yielded c.loop-pcid.pcid-iterator
+    (c.in-Some.pcid, c.in-Some.q) c.next.new.self c.loop-pcid.invariant.listed c.in-Some.ensures.steps in
+    let d = is_dirty-at spaces c.in-Some.pcid c.in-Some.q
+    (sym (c.dirty.ensures ∙ ap is_dirty c.entry-entry.ensures.entry) ∙ c.if-dirty.true) in
     let frame = ap frame_of (c.entry-entry.ensures.entry ∙ d.present) in
     let below = c.requires c.in-Some.pcid c.in-Some.q d.entry d.present in
     record {
       can = tt;
       finite = tt;
       listed = next.1;
-      noted = AreNoted-came spaces c.loop-pcid.yielded c.in-Some.pcid c.in-Some.q c.args.notes.now c.loop-pcid.notes c.note.new.notes c.loop-pcid.invariant.noted d (omega (arith, below, c.loop-pcid.auto.notes)) (c.note.ensures ∙ ap (λ f. set c.loop-pcid.notes f true) frame);
+      noted = AreNoted-came spaces c.loop-pcid.yielded c.in-Some.pcid c.in-Some.q c.args.notes.now c.loop-pcid.notes
+          c.note.new.notes c.loop-pcid.invariant.noted d (omega (arith, below, c.loop-pcid.auto.notes))
+          (c.note.ensures ∙ ap (λ f. set c.loop-pcid.notes f true) frame);
     }
 
 pub loop-pcid-preserved : goal.loop-pcid-preserved
 loop-pcid-preserved g c =
     let spaces = c.args.spaces.now.map in
-    let next = entries_of-next spaces c.args.page c.loop-pcid.yielded c.loop-pcid.pcid-iterator (c.in-Some.pcid, c.in-Some.q) c.next.new.self c.loop-pcid.invariant.listed c.in-Some.ensures.steps in
-    let clean : is_dirty (entry_at spaces c.in-Some.pcid c.in-Some.q) ≡ false = sym (c.dirty.ensures ∙ ap is_dirty c.entry-entry.ensures.entry) ∙ c.if-dirty.false in
+    let next = entries_of-next spaces c.args.page c.loop-pcid.yielded c.loop-pcid.pcid-iterator
+    (c.in-Some.pcid, c.in-Some.q) c.next.new.self c.loop-pcid.invariant.listed c.in-Some.ensures.steps in
+    let clean : is_dirty (entry_at spaces c.in-Some.pcid c.in-Some.q) ≡ false =
+    sym (c.dirty.ensures ∙ ap is_dirty c.entry-entry.ensures.entry)
+    ∙ c.if-dirty.false in
     record {
       can = tt;
       finite = tt;
       listed = next.1;
-      noted = AreNoted-passed spaces c.loop-pcid.yielded c.in-Some.pcid c.in-Some.q c.args.notes.now c.loop-pcid.notes c.loop-pcid.invariant.noted clean;
+      noted = AreNoted-passed spaces c.loop-pcid.yielded c.in-Some.pcid c.in-Some.q c.args.notes.now c.loop-pcid.notes
+          c.loop-pcid.invariant.noted clean;
     }
 
 pub returns : goal.returns
 returns g c =
-    let all = walk-end (entries_of c.args.spaces.now.map c.args.page) c.loop-pcid.yielded c.loop-pcid.pcid-iterator c.loop-pcid.invariant.listed c.in-None.ensures.steps.0 in
-    AreNoted-mappings c.args.spaces.now.map c.args.page c.loop-pcid.yielded c.args.notes.now c.loop-pcid.notes all c.loop-pcid.invariant.noted
+    let all = walk-end (entries_of c.args.spaces.now.map c.args.page) c.loop-pcid.yielded c.loop-pcid.pcid-iterator
+    c.loop-pcid.invariant.listed c.in-None.ensures.steps.0 in
+    AreNoted-mappings c.args.spaces.now.map c.args.page c.loop-pcid.yielded c.args.notes.now c.loop-pcid.notes all
+    c.loop-pcid.invariant.noted

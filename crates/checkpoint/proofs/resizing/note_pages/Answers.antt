@@ -13,7 +13,11 @@ loop-page-preserved g c =
       | in-Some w ↦
           let holds = w.in-Some.ensures.found in
           rw w.notes-is
-          (NotesPages-more memory file c.args.first page c.args.notes.now c.loop-page.notes w.in-Some.frame (λ k it. c.find.ensures.are.one_frame k w.in-Some.frame _ it holds) c.loop-page.auto.page holds (omega (arith, Holds-within memory w.in-Some.frame _ holds, c.requires.sized, c.loop-page.auto.notes)) c.loop-page.invariant)
+          (NotesPages-more memory file c.args.first page c.args.notes.now c.loop-page.notes w.in-Some.frame
+          (λ k it. c.find.ensures.are.one_frame k w.in-Some.frame _ it holds) c.loop-page.auto.page holds
+          (omega (arith, Holds-within memory w.in-Some.frame _ holds, c.requires.sized, c.loop-page.auto.notes))
+          c.loop-page.invariant)
       | in_default w ↦
-          rw w.notes-is (NotesPages-none memory file c.args.first page c.args.notes.now c.loop-page.notes w.in_default.ensures.none c.loop-page.invariant)
+          rw w.notes-is (NotesPages-none memory file c.args.first page c.args.notes.now c.loop-page.notes
+          w.in_default.ensures.none c.loop-page.invariant)
     ]

@@ -8,17 +8,28 @@ use Rattle.cpu.proofs.access.load.Goals as goal
 
 pub bytes-requires : goal.bytes-requires
 bytes-requires g c =
-    in_use c.args.shootdown.now c.translate.new.shootdown c.args.spaces.now.map c.translate.new.spaces.map c.args.frames.now c.args.p (c.args.va / 4096) false c.in_ok-frame.frame c.requires c.in_ok-at.ensures.ok.0 c.in_ok-frame.ensures.ok
+    in_use c.args.shootdown.now c.translate.new.shootdown c.args.spaces.now.map
+    c.translate.new.spaces.map c.args.frames.now c.args.p
+    (c.args.va / 4096) false c.in_ok-frame.frame c.requires c.in_ok-at.ensures.ok.0 c.in_ok-frame.ensures.ok
 
 pub returns-clause-through : goal.returns-clause-through
 returns-clause-through g c =
     let memory = c.args.frames.now in
-    let r = reached c.args.shootdown.now c.translate.new.shootdown c.args.spaces.now.map c.translate.new.spaces.map memory c.args.p (c.args.va / 4096) false c.in_ok-frame.frame c.requires c.in_ok-at.ensures.ok.0 c.in_ok-frame.ensures.ok in
+    let r =
+    reached c.args.shootdown.now c.translate.new.shootdown c.args.spaces.now.map c.translate.new.spaces.map memory
+    c.args.p (c.args.va / 4096) false c.in_ok-frame.frame c.requires c.in_ok-at.ensures.ok.0 c.in_ok-frame.ensures.ok in
     let count : c.in_ok-at.at + c.args.count - c.in_ok-at.at ≡ c.args.count = omega arith in
-    let bytes : c.bytes.result.now ≡ bytes_of (frame_at memory r.entry.frame) = c.bytes.ensures.bytes ∙ ap (λ f. bytes_of (frame_at memory f)) r.frame_is in
-    record { entry = r.entry; present = r.present; read = λ i. take (count i) (drop (c.in_ok-at.ensures.ok.2 i) (bytes i)) }
+    let bytes : c.bytes.result.now ≡ bytes_of (frame_at memory r.entry.frame) =
+    c.bytes.ensures.bytes
+    ∙ ap (λ f. bytes_of (frame_at memory f)) r.frame_is in
+    record {
+      entry = r.entry;
+      present = r.present;
+      read = λ i. take (count i) (drop (c.in_ok-at.ensures.ok.2 i) (bytes i));
+    }
 
 pub returns-in_err-at-clause-loaded : goal.returns-in_err-at-clause-loaded
 returns-in_err-at-clause-loaded g c =
     let p = err_from_is_err_and c.from_residual.result c.from_residual.ensures.1 in
-    rw (p.1, p.2) (Loads-refused (hardware c.args.shootdown.now c.args.spaces.now.map c.args.frames.now) c.args.p c.args.va c.args.count _ (c.in_err-at.ensures.err c.args.spaces.now.map c.args.frames.now))
+    rw (p.1, p.2) (Loads-refused (hardware c.args.shootdown.now c.args.spaces.now.map c.args.frames.now) c.args.p
+    c.args.va c.args.count _ (c.in_err-at.ensures.err c.args.spaces.now.map c.args.frames.now))

@@ -9,7 +9,9 @@ use Rattle.cpu.proofs.access.store.Goals as goal
 
 pub write-requires-clause-in_use : goal.write-requires-clause-in_use
 write-requires-clause-in_use g c =
-    in_use c.args.shootdown.now c.translate.new.shootdown c.args.spaces.now.map c.translate.new.spaces.map c.args.frames.now c.args.p (c.args.va / 4096) true c.in_ok-frame.frame c.requires c.in_ok-at.ensures.ok.0 c.in_ok-frame.ensures.ok
+    in_use c.args.shootdown.now c.translate.new.shootdown c.args.spaces.now.map
+    c.translate.new.spaces.map c.args.frames.now c.args.p
+    (c.args.va / 4096) true c.in_ok-frame.frame c.requires c.in_ok-at.ensures.ok.0 c.in_ok-frame.ensures.ok
 
 pub returns-clause-stored : goal.returns-clause-stored
 returns-clause-stored g c =
@@ -17,7 +19,8 @@ returns-clause-stored g c =
     let frame = c.in_ok-frame.frame in
     let mid = hardware c.translate.new.shootdown c.translate.new.spaces.map memory in
     let written : c.write.new.self ≡ with_bytes memory frame (c.args.va % 4096) c.args.bytes.now =
-    ◌∙◌ {b = with_bytes memory frame c.in_ok-at.at c.args.bytes.now} c.write.ensures (ap (λ at. with_bytes memory frame at c.args.bytes.now) c.in_ok-at.ensures.ok.2) in
+    ◌∙◌ {b = with_bytes memory frame c.in_ok-at.at c.args.bytes.now} c.write.ensures
+    (ap (λ at. with_bytes memory frame at c.args.bytes.now) c.in_ok-at.ensures.ok.2) in
     record {
       running = c.in_ok-at.ensures.ok.0;
       access = c.in_ok-at.ensures.ok.1;
@@ -30,27 +33,34 @@ returns-clause-stored g c =
 pub returns-clause-through : goal.returns-clause-through
 returns-clause-through g c =
     let memory = c.args.frames.now in
-    let r = reached c.args.shootdown.now c.translate.new.shootdown c.args.spaces.now.map c.translate.new.spaces.map memory c.args.p (c.args.va / 4096) true c.in_ok-frame.frame c.requires c.in_ok-at.ensures.ok.0 c.in_ok-frame.ensures.ok in
+    let r =
+    reached c.args.shootdown.now c.translate.new.shootdown c.args.spaces.now.map c.translate.new.spaces.map memory
+    c.args.p (c.args.va / 4096) true c.in_ok-frame.frame c.requires c.in_ok-at.ensures.ok.0 c.in_ok-frame.ensures.ok in
     record {
       entry = r.entry;
       present = r.present;
       allowed = r.writable refl;
-      written = ◌∙◌ {b = with_bytes memory c.in_ok-frame.frame c.in_ok-at.at c.args.bytes.now} c.write.ensures (λ i. with_bytes memory (r.frame_is i) (c.in_ok-at.ensures.ok.2 i) c.args.bytes.now);
+      written = ◌∙◌ {b = with_bytes memory c.in_ok-frame.frame c.in_ok-at.at c.args.bytes.now} c.write.ensures
+          (λ i. with_bytes memory (r.frame_is i) (c.in_ok-at.ensures.ok.2 i) c.args.bytes.now);
     }
 
 pub returns-clause-dirty : goal.returns-clause-dirty
 returns-clause-dirty g c =
-    let r = reached c.args.shootdown.now c.translate.new.shootdown c.args.spaces.now.map c.translate.new.spaces.map c.args.frames.now c.args.p (c.args.va / 4096) true c.in_ok-frame.frame c.requires c.in_ok-at.ensures.ok.0 c.in_ok-frame.ensures.ok in
+    let r = reached c.args.shootdown.now c.translate.new.shootdown
+    c.args.spaces.now.map c.translate.new.spaces.map c.args.frames.now c.args.p
+    (c.args.va / 4096) true c.in_ok-frame.frame c.requires c.in_ok-at.ensures.ok.0 c.in_ok-frame.ensures.ok in
     r.dirty refl
 
 pub returns-clause-reachable : goal.returns-clause-reachable
 returns-clause-reachable g c =
     let memory = c.args.frames.now in
-    IsReachable-OnlyUses c.args.spaces.now c.translate.new.spaces c.args.shootdown.now c.translate.new.shootdown memory c.write.new.self c.translate.ensures.uses
+    IsReachable-OnlyUses c.args.spaces.now c.translate.new.spaces c.args.shootdown.now c.translate.new.shootdown memory
+    c.write.new.self c.translate.ensures.uses
     (in_use-written memory c.write.new.self c.in_ok-frame.frame c.in_ok-at.at c.args.bytes.now c.write.ensures)
     c.requires (c.translate.ensures.coherent c.requires.coheres)
 
 pub returns-in_err-at-clause-stored : goal.returns-in_err-at-clause-stored
 returns-in_err-at-clause-stored g c =
     let p = err_from_is_err_and c.from_residual.result c.from_residual.ensures.1 in
-    rw (p.1, p.2) (Stores-refused (hardware c.args.shootdown.now c.args.spaces.now.map c.args.frames.now) c.args.p c.args.va c.args.bytes.now _ (c.in_err-at.ensures.err c.args.spaces.now.map c.args.frames.now))
+    rw (p.1, p.2) (Stores-refused (hardware c.args.shootdown.now c.args.spaces.now.map c.args.frames.now) c.args.p
+    c.args.va c.args.bytes.now _ (c.in_err-at.ensures.err c.args.spaces.now.map c.args.frames.now))

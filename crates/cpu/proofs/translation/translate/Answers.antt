@@ -6,4 +6,5 @@ pub returns-in-Err-clause-coherent : goal.returns-in-Err-clause-coherent
 returns-in-Err-clause-coherent g c = λ coheres.
     let s = c.args.shootdown.now in
     let kept = c.in-Err.ensures.err in
-    rw (c.drop_page.ensures.dropped, kept.2, kept.1) (Coheres-without_page s c.args.p _ c.args.page (is_there_below s c.args.p c.requires) c.args.spaces.now.map coheres)
+    rw (c.drop_page.ensures.dropped, kept.2, kept.1)
+    (Coheres-without_page s c.args.p _ c.args.page (is_there_below s c.args.p c.requires) c.args.spaces.now.map coheres)

@@ -14,14 +14,23 @@ returns-then-not-hear g c =
     let old = c.args.machine.now in
     let new = c.enter-reply.new.self in
     let steps = c.args.portion.now in
-    let count : length (earlier ++ reply ∷ []) ≡ c.loop-step.step-index + 1 = length_more earlier reply _ c.loop-step.invariant.1 in
+    let count : length (earlier ++ reply ∷ []) ≡ c.loop-step.step-index + 1 =
+    length_more earlier reply _ c.loop-step.invariant.1 in
     let below : c.loop-step.step-index < length steps = search rules in
     let taken : StepsTaken g.D.Device old (take (c.loop-step.step-index + 1) steps) (earlier ++ reply ∷ []) new =
-    taken_next g.D.Device old c.loop-step.machine new steps c.loop-step.step-index c.step-item.result earlier reply below c.step-item.is c.loop-step.invariant.3 c.enter-reply.ensures.taken in
+    taken_next g.D.Device old c.loop-step.machine new steps c.loop-step.step-index c.step-item.result earlier reply
+    below c.step-item.is c.loop-step.invariant.3 c.enter-reply.ensures.taken in
     let P : ℕ → Type 0 = λ n. StepsTaken g.D.Device old (take n steps) (earlier ++ reply ∷ []) new in (
       earlier ++ reply ∷ [],
       λ never. absurd (false≢true never),
-      λ ended. record { earlier = earlier; last = reply; split = refl; before = c.loop-step.listener; heard = c.loop-step.invariant.2; stopped = c.if-not-hear.ensures },
+      λ ended. record {
+        earlier = earlier;
+        last = reply;
+        split = refl;
+        before = c.loop-step.listener;
+        heard = c.loop-step.invariant.2;
+        stopped = c.if-not-hear.ensures;
+      },
       subst P (sym count) taken,
     )
 
@@ -32,6 +41,9 @@ loop-step-preserved g c =
     let below : c.loop-step.step-index < length c.args.portion.now = search rules in (
       earlier ++ reply ∷ [],
       length_more earlier reply _ c.loop-step.invariant.1,
-      heard_more g.L.Listener.hears c.args.listener.now c.loop-step.listener c.hear.new.self earlier reply c.loop-step.invariant.2 c.if-not-hear.ensures,
-      taken_next g.D.Device c.args.machine.now c.loop-step.machine c.enter-reply.new.self c.args.portion.now c.loop-step.step-index c.step-item.result earlier reply below c.step-item.is c.loop-step.invariant.3 c.enter-reply.ensures.taken,
+      heard_more g.L.Listener.hears c.args.listener.now c.loop-step.listener c.hear.new.self earlier reply
+          c.loop-step.invariant.2 c.if-not-hear.ensures,
+      taken_next g.D.Device c.args.machine.now c.loop-step.machine c.enter-reply.new.self c.args.portion.now
+          c.loop-step.step-index c.step-item.result earlier reply below c.step-item.is c.loop-step.invariant.3
+          c.enter-reply.ensures.taken,
     )

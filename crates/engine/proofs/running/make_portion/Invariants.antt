@@ -5,5 +5,6 @@ use Rattle.engine.specs.Listening.{HasHeard}
 use Rattle.engine.proofs.running.make_portion.Given as goal
 
 abbrev pub invariant-loop-step : goal.invariant-loop-step
-invariant-loop-step g l = (replies : List Reply) × (length replies ≡ l.step-index) × HasHeard g.L.Listener.hears l.initial.listener replies l.listener
+invariant-loop-step g l = (replies : List Reply) × (length replies ≡ l.step-index)
+    × HasHeard g.L.Listener.hears l.initial.listener replies l.listener
     × StepsTaken g.D.Device l.initial.machine (take l.step-index l.portion) replies l.machine

@@ -5,7 +5,8 @@ use Rattle.engine.specs.Listening.{HasHeard}
 use Rattle.engine.proofs.running.make_steps.Given as goal
 
 abbrev pub invariant-loop-from : goal.invariant-loop-from
-invariant-loop-from g l = (replies : List Reply) × (length replies ≡ l.from) × (l.from ≤ length l.steps) × HasHeard g.L.Listener.hears l.initial.listener replies l.listener
+invariant-loop-from g l = (replies : List Reply) × (length replies ≡ l.from) × (l.from ≤ length l.steps)
+    × HasHeard g.L.Listener.hears l.initial.listener replies l.listener
     × StepsTaken g.D.Device l.initial.machine (take l.from l.steps) replies l.machine
 
 abbrev pub decreases-loop-from : goal.decreases-loop-from

@@ -18,4 +18,5 @@ returns-in-Ok-boot-clause-started g c = record {
 pub returns-in-Ok-boot-clause-fresh : goal.returns-in-Ok-boot-clause-fresh
 returns-in-Ok-boot-clause-fresh g c =
     let P : Whole g.row.D.Denot → Type 0 = λ w. IsFresh w.state in
-    subst P (sym c.in-Ok-boot.ensures.booted) (record { shape = c.args.shape; fits = c.in-Ok-boot.ensures.shaped; as_booted = refl })
+    subst P (sym c.in-Ok-boot.ensures.booted)
+    (record { shape = c.args.shape; fits = c.in-Ok-boot.ensures.shaped; as_booted = refl })

@@ -12,9 +12,12 @@ returns-in-Some g c =
     let memory = c.args.frames.now in
     let fault = c.args.fault in
     let allowed = sym c.lacks_right.ensures ∙ c.if-lacks_right.false in
-    let inside : leb fault.length (4096 * fault.place.page) ≡ false = lt-leb fault.length (4096 * fault.place.page) (omega (arith, c.if-fault-from.false, c.from.ensures)) in
+    let inside : leb fault.length (4096 * fault.place.page) ≡ false =
+    lt-leb fault.length (4096 * fault.place.page) (omega (arith, c.if-fault-from.false, c.from.ensures)) in
     subst (IsPlanned memory c.args.checkpoint.now fault) (sym c.plan_for.ensures)
-    (planned-found memory c.args.checkpoint.now fault allowed inside c.in-Some.frame c.copies_out-copies.result (c.copies_out-copies.ensures ∙ ap (λ page. copies_out memory c.args.checkpoint.now page fault.write) c.page_at-page.ensures)
+    (planned-found memory c.args.checkpoint.now fault allowed inside c.in-Some.frame c.copies_out-copies.result
+    (c.copies_out-copies.ensures
+    ∙ ap (λ page. copies_out memory c.args.checkpoint.now page fault.write) c.page_at-page.ensures)
     (c.in-Some.ensures.found ∙ ap (λ page. Some page) c.page_at-page.ensures))
 
 pub returns-in-None : goal.returns-in-None
@@ -22,6 +25,10 @@ returns-in-None g c =
     let memory = c.args.frames.now in
     let fault = c.args.fault in
     let allowed = sym c.lacks_right.ensures ∙ c.if-lacks_right.false in
-    let inside : leb fault.length (4096 * fault.place.page) ≡ false = lt-leb fault.length (4096 * fault.place.page) (omega (arith, c.if-fault-from.false, c.from.ensures)) in
-    let absent : is_in_memory memory (page_at fault.place) ≡ false = list_any-no_page memory.frames (page_at fault.place) (λ frame holds. c.in-None.ensures.none frame (holds ∙ ap (λ page. Some page) (sym c.page_at-page.ensures))) in
-    planned-absent memory c.args.checkpoint.now fault allowed inside c.plan_to_read.result absent (copies_out-absent memory c.args.checkpoint.now fault allowed inside c.requires absent) c.plan_to_read.ensures
+    let inside : leb fault.length (4096 * fault.place.page) ≡ false =
+    lt-leb fault.length (4096 * fault.place.page) (omega (arith, c.if-fault-from.false, c.from.ensures)) in
+    let absent : is_in_memory memory (page_at fault.place) ≡ false =
+    list_any-no_page memory.frames (page_at fault.place)
+    (λ frame holds. c.in-None.ensures.none frame (holds ∙ ap (λ page. Some page) (sym c.page_at-page.ensures))) in
+    planned-absent memory c.args.checkpoint.now fault allowed inside c.plan_to_read.result absent
+    (copies_out-absent memory c.args.checkpoint.now fault allowed inside c.requires absent) c.plan_to_read.ensures

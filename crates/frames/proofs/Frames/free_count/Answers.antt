@@ -7,7 +7,14 @@ use Rattle.frames.proofs.Frames.free_count.Goals as goal
 pub returns-clause-count : goal.returns-clause-count
 returns-clause-count g c =
     let inside : c.count.result - c.len.result ≡ count_by is_none c.self.inside.frames =
-    omega (arith, c.count.ensures, c.len.ensures, c.self.invariant.counted, c.self.inside.order.ok.0, free_and_used c.self.inside.frames) in
+    omega (
+      arith,
+      c.count.ensures,
+      c.len.ensures,
+      c.self.invariant.counted,
+      c.self.inside.order.ok.0,
+      free_and_used c.self.inside.frames,
+    ) in
     inside ∙ ap (λ (s : FramesState). count_by is_none s.frames) c.self.view_is
 
 pub returns-clause-any : goal.returns-clause-any

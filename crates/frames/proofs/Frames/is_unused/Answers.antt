@@ -11,7 +11,8 @@ returns-then-is_empty g c =
     let counted = c.self.invariant.counted in
     let empty = c.if-is_empty.ensures in
     let none : ltb 0 (count_by is_some c.self.inside.frames) ≡ false = grind (arith, nat_tests) in
-    c.is_unused.ensures ∙ sym (ap (λ b. not b && not (has_used c.self.inside.copies)) (has_used-counted c.self.inside.frames ∙ none))
+    c.is_unused.ensures
+    ∙ sym (ap (λ b. not b && not (has_used c.self.inside.copies)) (has_used-counted c.self.inside.frames ∙ none))
     ∙ ap (λ (s : FramesState). not (has_used s.frames) && not (has_used s.copies)) c.self.view_is
 
 -- a frame is listed
@@ -21,5 +22,6 @@ returns-else-is_empty g c =
     let counted = c.self.invariant.counted in
     let empty = c.if-is_empty.ensures in
     let some : ltb 0 (count_by is_some c.self.inside.frames) ≡ true = grind (arith, nat_tests) in
-    c.if-is_empty.false ∙ sym (ap (λ b. not b && not (has_used c.self.inside.copies)) (has_used-counted c.self.inside.frames ∙ some))
+    c.if-is_empty.false
+    ∙ sym (ap (λ b. not b && not (has_used c.self.inside.copies)) (has_used-counted c.self.inside.frames ∙ some))
     ∙ ap (λ (s : FramesState). not (has_used s.frames) && not (has_used s.copies)) c.self.view_is

@@ -14,7 +14,12 @@ insert_at-requires-clause-room g c =
 pub invariant_of-self-2 : goal.invariant_of-self-2
 invariant_of-self-2 g c =
     let s : FramesState = record { frames = c.self.inside.frames; copies = c.self.inside.copies } in
-    let at : IsPlaceOf c.self.inside.frames c.self.inside.order.items c.args.page c.place_of-place.result = subst (λ order. IsPlaceOf c.self.inside.frames order c.args.page c.place_of-place.result) c.deref.ensures.value c.place_of-place.ensures in
-    let none : HasNoFrame s c.args.page = subst (λ (s : FramesState). HasNoFrame s c.args.page) (sym c.self.view_is) c.requires in
+    let at : IsPlaceOf c.self.inside.frames c.self.inside.order.items c.args.page c.place_of-place.result =
+    subst (λ order. IsPlaceOf c.self.inside.frames order c.args.page c.place_of-place.result) c.deref.ensures.value
+    c.place_of-place.ensures in
+    let none : HasNoFrame s c.args.page =
+    subst (λ (s : FramesState). HasNoFrame s c.args.page) (sym c.self.view_is) c.requires in
     rw (c.in-Some.ensures.page, c.insert_at.ensures.items, c.insert_at.ensures.capacity)
-    (IsListed-with_page s c.self.inside.order.items _ c.in-Some.frame c.args.page c.args.bytes.now c.place_of-place.result c.self.invariant c.in-Some.ensures.was_free none (IsPage-array c.args.bytes.now c.told-bytes c.fits-bytes) at)
+    (IsListed-with_page s c.self.inside.order.items _ c.in-Some.frame c.args.page
+    c.args.bytes.now c.place_of-place.result c.self.invariant c.in-Some.ensures.was_free none
+    (IsPage-array c.args.bytes.now c.told-bytes c.fits-bytes) at)

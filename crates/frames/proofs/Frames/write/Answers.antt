@@ -8,4 +8,5 @@ pub invariant_of-self : goal.invariant_of-self
 invariant_of-self g c =
     let s : FramesState = record { frames = c.self.inside.frames; copies = c.self.inside.copies } in
     rw c.write.ensures
-    (IsListed-with_bytes s _ _ c.args.frame c.args.at c.args.bytes.now c.self.invariant c.requires.within (All-from_get_or (λ byte. byte < 256) c.args.bytes.now 0 (λ k h. omega (arith, c.type_inv.bytes k))))
+    (IsListed-with_bytes s _ _ c.args.frame c.args.at c.args.bytes.now c.self.invariant c.requires.within
+    (All-from_get_or (λ byte. byte < 256) c.args.bytes.now 0 (λ k h. omega (arith, c.type_inv.bytes k))))

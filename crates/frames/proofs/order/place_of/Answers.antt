@@ -11,5 +11,6 @@ returns g c =
     let page = c.args.page in
     record {
       within = c.partition_point.ensures.bound;
-      parts = IsPartitionPoint-from_clause (λ frame. comes_before (page_of (get_or c.args.frames.now frame None)) page) order _ c.partition_point.ensures.partitioned c.requires (λ a r f called. search rules);
+      parts = IsPartitionPoint-from_clause (λ frame. comes_before (page_of (get_or c.args.frames.now frame None)) page)
+          order _ c.partition_point.ensures.partitioned c.requires (λ a r f called. search rules);
     }

@@ -13,5 +13,10 @@ compare_exchange_as-requires g c =
     let first = c.max.ensures in
     let second = c.max-in-loop.ensures in
     let up : Lifts c.load_as-found.result (c.max.result ∷ c.max-in-loop.result ∷ []) =
-    record { stalled = omega arith; committed = omega arith; ordered = omega arith } in
-    (search rules, (search rules, (search rules, raises_committed _ _ c.load_as-found.result (c.max.result ∷ c.max-in-loop.result ∷ []) up)))
+    record { stalled = omega arith; committed = omega arith; ordered = omega arith } in (
+      search rules,
+      (
+        search rules,
+        (search rules, raises_committed _ _ c.load_as-found.result (c.max.result ∷ c.max-in-loop.result ∷ []) up),
+      ),
+    )

@@ -12,5 +12,13 @@ compare_exchange_as-requires g c =
     let low = seen.within.ordered in
     let first = c.max.ensures in
     let up : Lifts c.load_as-found.result (c.max.result ∷ slice_index c.load_as-found.result 1 ∷ []) =
-    record { stalled = omega arith; committed = le_refl _; ordered = omega arith } in
-    (search rules, (search rules, (search rules, raises_stalled _ _ c.load_as-found.result (c.max.result ∷ slice_index c.load_as-found.result 1 ∷ []) up refl)))
+    record { stalled = omega arith; committed = le_refl _; ordered = omega arith } in (
+      search rules,
+      (
+        search rules,
+        (
+          search rules,
+          raises_stalled _ _ c.load_as-found.result (c.max.result ∷ slice_index c.load_as-found.result 1 ∷ []) up refl,
+        ),
+      ),
+    )

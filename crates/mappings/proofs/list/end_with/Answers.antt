@@ -11,4 +11,5 @@ returns-in-Some c =
 pub returns-in_default : goal.returns-in_default
 returns-in_default c =
     let other : same_rights c.in-Some.mapping.place.rights c.args.rights ≡ false = search rules in
-    end-other c.args.list.now c.args.page c.args.rights c.in-Some.mapping c.ranges.page.fits c.requires c.in-Some.ensures.found other
+    end-other c.args.list.now c.args.page c.args.rights c.in-Some.mapping c.ranges.page.fits c.requires
+    c.in-Some.ensures.found other

@@ -9,4 +9,5 @@ returns c =
     let list = c.args.list.now in
     let page = c.args.page in
     IsFirstAfter-from_partition list page _ c.partition_point.ensures.bound
-    (IsPartitionPoint-from_clause (λ m. leb m.end page) list _ c.partition_point.ensures.partitioned (IsPartitionedBy-leb (λ m. m.end) list page (ends_rise 0 list c.requires)) (λ a r f called. search rules))
+    (IsPartitionPoint-from_clause (λ m. leb m.end page) list _ c.partition_point.ensures.partitioned
+    (IsPartitionedBy-leb (λ m. m.end) list page (ends_rise 0 list c.requires)) (λ a r f called. search rules))

@@ -10,5 +10,6 @@ returns c =
     let range = c.args.range in
     let end = range.first + range.count in
     IsMeeting-from_searches list range.first end _ _ _ c.first_after-from.ensures c.partition_point-to.ensures.bound
-    (IsPartitionPoint-from_clause (λ m. ltb m.first end) list _ c.partition_point-to.ensures.partitioned (IsPartitionedBy-ltb (λ m. m.first) list end (firsts_rise 0 list c.requires)) (λ a r f called. search rules))
+    (IsPartitionPoint-from_clause (λ m. ltb m.first end) list _ c.partition_point-to.ensures.partitioned
+    (IsPartitionedBy-ltb (λ m. m.first) list end (firsts_rise 0 list c.requires)) (λ a r f called. search rules))
     c.max.ensures

@@ -10,4 +10,5 @@ loop-mapping-preserved c =
     let list = c.loop-mapping.list in
     let i = c.loop-mapping.mapping-index in
     let within : i < length list = omega arith in
-    rw c.with_rights.ensures (map_over_more (given_rights c.args.rights) c.args.list.now list i _ c.loop-mapping-test.true c.loop-mapping.invariant (get_or_default list i _ _ within))
+    rw c.with_rights.ensures (map_over_more (given_rights c.args.rights) c.args.list.now list i _
+    c.loop-mapping-test.true c.loop-mapping.invariant (get_or_default list i _ _ within))

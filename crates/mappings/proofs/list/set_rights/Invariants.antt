@@ -4,4 +4,5 @@ use Rattle.mappings.proofs.list.set_rights.Given as goal
 
 -- the mappings so far have changed, the others not yet
 abbrev pub invariant-loop-mapping : goal.invariant-loop-mapping
-invariant-loop-mapping l = l.list ≡ map (given_rights l.rights) (take l.mapping-index l.fn.list) ++ drop l.mapping-index l.fn.list
+invariant-loop-mapping l =
+    l.list ≡ map (given_rights l.rights) (take l.mapping-index l.fn.list) ++ drop l.mapping-index l.fn.list

@@ -10,22 +10,28 @@ use Rattle.mappings.proofs.list.split.Goals as goal
 pub returns-then-at-len-clause-items : goal.returns-then-at-len-clause-items
 returns-then-at-len-clause-items g c =
     let list = c.args.list.now.items in
-    let after : IsFirstAfter list c.args.page c.first_after-at.result = rw c.deref.ensures.value at c.first_after-at.ensures in
+    let after : IsFirstAfter list c.args.page c.first_after-at.result =
+    rw c.deref.ensures.value at c.first_after-at.ensures in
     let past : length list ≤ c.first_after-at.result = search rules in
-    sym (split_at_apart c.args.page 0 list c.first_after-at.result c.requires.ordered after (λ d within. absurd (omega arith)))
+    sym (split_at_apart c.args.page 0 list c.first_after-at.result c.requires.ordered after
+    (λ d within. absurd (omega arith)))
 
 pub from_page-requires-clause-pages : goal.from_page-requires-clause-pages
 from_page-requires-clause-pages g c =
-    subst IsMapping (sym c.index-whole.ensures) (mapping_at 0 c.args.list.now.items c.requires.ordered c.first_after-at.result c.index-whole.result.now (search rules))
+    subst IsMapping (sym c.index-whole.ensures)
+    (mapping_at 0 c.args.list.now.items c.requires.ordered c.first_after-at.result c.index-whole.result.now
+    (search rules))
 
 -- there is room for one more
 pub unreachable-requires : goal.unreachable-requires
 unreachable-requires g c =
     let list = c.args.list.now.items in
     let whole = c.index-whole.result.now in
-    let after : IsFirstAfter list c.args.page c.first_after-at.result = rw c.deref.ensures.value at c.first_after-at.ensures in
+    let after : IsFirstAfter list c.args.page c.first_after-at.result =
+    rw c.deref.ensures.value at c.first_after-at.ensures in
     let within : c.first_after-at.result < length list = search rules in
-    let longer = length-split_at_cut c.args.page 0 list c.first_after-at.result whole c.requires.ordered after within (sym c.index-whole.ensures) c.if-whole-page.true in
+    let longer = length-split_at_cut c.args.page 0 list c.first_after-at.result whole c.requires.ordered after within
+    (sym c.index-whole.ensures) c.if-whole-page.true in
     let room = c.requires.room in
     search rules
 
@@ -33,9 +39,11 @@ pub returns-in-Ok-clause-items : goal.returns-in-Ok-clause-items
 returns-in-Ok-clause-items g c =
     let list = c.args.list.now.items in
     let whole = c.index-whole.result.now in
-    let after : IsFirstAfter list c.args.page c.first_after-at.result = rw c.deref.ensures.value at c.first_after-at.ensures in
+    let after : IsFirstAfter list c.args.page c.first_after-at.result =
+    rw c.deref.ensures.value at c.first_after-at.ensures in
     let within : c.first_after-at.result < length list = search rules in
-    let parts = split_at-insert c.args.page 0 list c.first_after-at.result whole c.requires.ordered after within (sym c.index-whole.ensures) c.if-whole-page.true in
+    let parts = split_at-insert c.args.page 0 list c.first_after-at.result whole c.requires.ordered after within
+    (sym c.index-whole.ensures) c.if-whole-page.true in
     c.in-Ok.ensures.items ∙ rw (add-one, c.from_page.ensures) parts
 
 -- the first mapping that ends after the page doesn't begin before it
@@ -43,7 +51,9 @@ pub returns-else-whole-page-clause-items : goal.returns-else-whole-page-clause-i
 returns-else-whole-page-clause-items g c =
     let list = c.args.list.now.items in
     let whole = c.index-whole.result.now in
-    let after : IsFirstAfter list c.args.page c.first_after-at.result = rw c.deref.ensures.value at c.first_after-at.ensures in
+    let after : IsFirstAfter list c.args.page c.first_after-at.result =
+    rw c.deref.ensures.value at c.first_after-at.ensures in
     let apart : c.args.page ≤ whole.first = c.if-whole-page.false in
     sym (split_at_apart c.args.page 0 list c.first_after-at.result c.requires.ordered after
-    (λ d within. subst (λ (m : Mapping). c.args.page ≤ m.first) (c.index-whole.ensures ∙ get_or_default list _ whole d within) apart))
+    (λ d within. subst (λ (m : Mapping). c.args.page ≤ m.first)
+    (c.index-whole.ensures ∙ get_or_default list _ whole d within) apart))

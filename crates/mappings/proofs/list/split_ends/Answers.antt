@@ -10,7 +10,8 @@ split-requires-clause-room g c =
     search rules
 
 pub split-requires-2-clause-ordered : goal.split-requires-2-clause-ordered
-split-requires-2-clause-ordered g c = rw c.split.ensures.items (IsOrdered-split_at (c.args.range.first + c.args.range.count) 0 c.args.list.now.items c.requires.kept.ordered)
+split-requires-2-clause-ordered g c = rw c.split.ensures.items
+    (IsOrdered-split_at (c.args.range.first + c.args.range.count) 0 c.args.list.now.items c.requires.kept.ordered)
 
 pub split-requires-2-clause-room : goal.split-requires-2-clause-room
 split-requires-2-clause-room g c =
@@ -20,4 +21,5 @@ split-requires-2-clause-room g c =
     rw c.split.ensures.items (search rules)
 
 pub returns : goal.returns
-returns g c = rw (c.split-2.ensures.items, c.split.ensures.items) (IsSplit-split_at c.args.list.now.items c.args.range.first c.args.range.count c.requires.kept.ordered c.requires.kept.merged)
+returns g c = rw (c.split-2.ensures.items, c.split.ensures.items) (IsSplit-split_at c.args.list.now.items
+    c.args.range.first c.args.range.count c.requires.kept.ordered c.requires.kept.merged)

@@ -11,13 +11,15 @@ returns-then-is_empty-clause-places g c =
     let list = c.args.list.now.items in
     let range = c.args.range in
     let places = c.meeting-places.result in
-    let meeting = subst (λ l. IsMeeting l range.first (range.first + range.count) places.start places.end) c.deref.ensures.value c.meeting-places.ensures in
+    let meeting = subst (λ l. IsMeeting l range.first (range.first + range.count) places.start places.end)
+    c.deref.ensures.value c.meeting-places.ensures in
     let none : places.end ≤ places.start = search rules in
     removed_nothing list range.first range.count places.start places.end c.requires.pages c.requires.kept meeting none
 
 pub part_from-after-requires-clause-pages : goal.part_from-after-requires-clause-pages
 part_from-after-requires-clause-pages g c =
-    subst IsMapping (sym c.index-2.ensures) (mapping_at 0 c.args.list.now.items c.requires.kept.ordered (c.meeting-places.result.end - 1) c.index-2.result.now (search rules))
+    subst IsMapping (sym c.index-2.ensures) (mapping_at 0 c.args.list.now.items c.requires.kept.ordered
+    (c.meeting-places.result.end - 1) c.index-2.result.now (search rules))
 
 -- there is room for both parts
 pub put-requires-2-clause-room : goal.put-requires-2-clause-room
@@ -25,34 +27,58 @@ put-requires-2-clause-room g c some =
     let list = c.args.list.now.items in
     let range = c.args.range in
     let places = c.meeting-places.result in
-    let meeting = subst (λ l. IsMeeting l range.first (range.first + range.count) places.start places.end) c.deref.ensures.value c.meeting-places.ensures in
+    let meeting = subst (λ l. IsMeeting l range.first (range.first + range.count) places.start places.end)
+    c.deref.ensures.value c.meeting-places.ensures in
     let less : places.start < places.end = search rules in
     let p = c.part_below-before.ensures in
     let q = c.part_from-after.ensures in
-    let room = room_for_parts list range.first range.count places.start places.end c.index.result.now c.index-2.result.now c.requires.kept meeting less (sym c.index.ensures) (sym c.index-2.ensures) (subst IsSome p some) in
+    let room =
+    room_for_parts list range.first range.count places.start places.end c.index.result.now c.index-2.result.now
+    c.requires.kept meeting less (sym c.index.ensures) (sym c.index-2.ensures) (subst IsSome p some) in
     let items = c.put.ensures.items ∙ (λ i. put_at (c.remove_range.ensures.items i) places.start (q i)) in
-    omega (arith, room, ap length items, c.put.ensures.capacity, c.remove_range.ensures.capacity, c.requires.room, c.put.new.list.ok.0, c.args.list.now.ok.0)
+    omega (
+      arith,
+      room,
+      ap length items,
+      c.put.ensures.capacity,
+      c.remove_range.ensures.capacity,
+      c.requires.room,
+      c.put.new.list.ok.0,
+      c.args.list.now.ok.0,
+    )
 
 pub returns-clause-kept : goal.returns-clause-kept
 returns-clause-kept g c =
     let list = c.args.list.now.items in
     let range = c.args.range in
     let places = c.meeting-places.result in
-    let meeting = subst (λ l. IsMeeting l range.first (range.first + range.count) places.start places.end) c.deref.ensures.value c.meeting-places.ensures in
+    let meeting = subst (λ l. IsMeeting l range.first (range.first + range.count) places.start places.end)
+    c.deref.ensures.value c.meeting-places.ensures in
     let less : places.start < places.end = search rules in
     let p = c.part_below-before.ensures in
     let q = c.part_from-after.ensures in
-    let items = c.put-2.ensures.items ∙ (λ i. put_at ((c.put.ensures.items ∙ (λ j. put_at (c.remove_range.ensures.items j) places.start (q j))) i) places.start (p i)) in
-    (removed_by_parts list c.put-2.new.list.items range.first range.count places.start places.end c.index.result.now c.index-2.result.now c.requires.pages c.requires.kept meeting less (sym c.index.ensures) (sym c.index-2.ensures) items).0
+    let items =
+    c.put-2.ensures.items
+    ∙ (λ i. put_at ((c.put.ensures.items ∙ (λ j. put_at (c.remove_range.ensures.items j) places.start (q j))) i)
+    places.start (p i)) in
+    (removed_by_parts list c.put-2.new.list.items range.first range.count places.start places.end
+    c.index.result.now c.index-2.result.now c.requires.pages c.requires.kept meeting less (sym c.index.ensures)
+    (sym c.index-2.ensures) items).0
 
 pub returns-clause-places : goal.returns-clause-places
 returns-clause-places g c =
     let list = c.args.list.now.items in
     let range = c.args.range in
     let places = c.meeting-places.result in
-    let meeting = subst (λ l. IsMeeting l range.first (range.first + range.count) places.start places.end) c.deref.ensures.value c.meeting-places.ensures in
+    let meeting = subst (λ l. IsMeeting l range.first (range.first + range.count) places.start places.end)
+    c.deref.ensures.value c.meeting-places.ensures in
     let less : places.start < places.end = search rules in
     let p = c.part_below-before.ensures in
     let q = c.part_from-after.ensures in
-    let items = c.put-2.ensures.items ∙ (λ i. put_at ((c.put.ensures.items ∙ (λ j. put_at (c.remove_range.ensures.items j) places.start (q j))) i) places.start (p i)) in
-    (removed_by_parts list c.put-2.new.list.items range.first range.count places.start places.end c.index.result.now c.index-2.result.now c.requires.pages c.requires.kept meeting less (sym c.index.ensures) (sym c.index-2.ensures) items).1
+    let items =
+    c.put-2.ensures.items
+    ∙ (λ i. put_at ((c.put.ensures.items ∙ (λ j. put_at (c.remove_range.ensures.items j) places.start (q j))) i)
+    places.start (p i)) in
+    (removed_by_parts list c.put-2.new.list.items range.first range.count places.start places.end
+    c.index.result.now c.index-2.result.now c.requires.pages c.requires.kept meeting less (sym c.index.ensures)
+    (sym c.index-2.ensures) items).1

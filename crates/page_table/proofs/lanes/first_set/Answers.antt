@@ -14,7 +14,9 @@ returns-then-word-ne0 c =
     let inv = c.loop-place.invariant in
     let fits : m < 2 ^ 64 = (c.type_inv.mask (place / 64)).fits in
     IsSet-from mask c.args.from place c.args.end _ inv.low inv.before
-    (rest_lowest mask place c.args.end m word _ c.loop-place-test.true c.requires.whole refl refl fits (bit_at-trailing_zeros w64 word (let some = c.if-word-ne0.true in omega arith) (omega (arith, div-le_self m (2 ^ (place % 64))))))
+    (rest_lowest mask place c.args.end m word _ c.loop-place-test.true c.requires.whole refl refl fits
+    (bit_at-trailing_zeros w64 word (let some = c.if-word-ne0.true in
+    omega arith) (omega (arith, div-le_self m (2 ^ (place % 64))))))
 
 pub loop-place-preserved : goal.loop-place-preserved
 loop-place-preserved c =
@@ -22,5 +24,8 @@ loop-place-preserved c =
     let inv = c.loop-place.invariant in
     record {
       low = omega (arith, inv.low);
-      before = λ i from upto less. elim (cases_lt i place) [ inl earlier ↦ inv.before i from earlier less | inr later ↦ rest_blank c.args.mask.now place i c.if-word-ne0.false later upto ];
+      before = λ i from upto less. elim (cases_lt i place) [
+        | inl earlier ↦ inv.before i from earlier less
+        | inr later ↦ rest_blank c.args.mask.now place i c.if-word-ne0.false later upto
+      ];
     }

@@ -10,7 +10,8 @@ of_bits-requires c =
     let found = c.in-Some.ensures in
     let low = found.low in
     let from = inv.low in
-    subst IsEntry (sym (not_yet (changed_bits c.args.change) c.args.present.now (c.args.node * 512) c.entries.place c.args.words.now c.entries.words inv.done c.in-Some.at low))
+    subst IsEntry (sym (not_yet (changed_bits c.args.change) c.args.present.now
+    (c.args.node * 512) c.entries.place c.args.words.now c.entries.words inv.done c.in-Some.at low))
     (c.requires.entries c.in-Some.at (omega arith) found.high found.here).1
 
 pub entries-preserved : goal.entries-preserved
@@ -23,11 +24,14 @@ entries-preserved c =
     record {
       low = omega arith;
       high = omega arith;
-      done = EditsMarked-next (changed_bits c.args.change) c.args.present.now (c.args.node * 512) c.entries.place ((c.args.node + 1) * 512) c.in-Some.at c.bits.result c.args.words.now c.entries.words from inv.done found (omega (arith, c.entries.auto.words, c.requires.node))
+      done = EditsMarked-next (changed_bits c.args.change) c.args.present.now (c.args.node * 512) c.entries.place
+          ((c.args.node + 1) * 512) c.in-Some.at c.bits.result c.args.words.now c.entries.words from inv.done found
+          (omega (arith, c.entries.auto.words, c.requires.node))
           (c.bits.ensures.bits ∙ ap bits_of (c.changed.ensures ∙ ap (changed_by c.args.change) c.of_bits.ensures));
     }
 
 pub returns : goal.returns
 returns c =
     let inv = c.entries.invariant in
-    EditsMarked-all (changed_bits c.args.change) c.args.present.now (c.args.node * 512) c.entries.place ((c.args.node + 1) * 512) c.args.words.now c.entries.words inv.high inv.done c.in_default.ensures
+    EditsMarked-all (changed_bits c.args.change) c.args.present.now (c.args.node * 512) c.entries.place
+    ((c.args.node + 1) * 512) c.args.words.now c.entries.words inv.high inv.done c.in_default.ensures

@@ -6,12 +6,16 @@ use Rattle.page_table.proofs.nodes.+walk.Goals as goal
 
 pub returns-then-block-eq0 : goal.returns-then-block-eq0
 returns-then-block-eq0 t c =
-    sym (ap (λ d. read_by_walk c.args.words.now d c.args.block) c.if-depth-eq0.true ∙ walk-zero c.args.words.now c.args.block ∙ ap (λ b. cond (eqb b 0) 1 0) c.if-block-eq0.true)
+    sym (ap (λ d. read_by_walk c.args.words.now d c.args.block) c.if-depth-eq0.true
+    ∙ walk-zero c.args.words.now c.args.block ∙ ap (λ b. cond (eqb b 0) 1 0) c.if-block-eq0.true)
 
 pub returns-else-block-eq0 : goal.returns-else-block-eq0
 returns-else-block-eq0 t c =
-    sym (ap (λ d. read_by_walk c.args.words.now d c.args.block) c.if-depth-eq0.true ∙ walk-zero c.args.words.now c.args.block ∙ grind (arith, nat_tests))
+    sym (ap (λ d. read_by_walk c.args.words.now d c.args.block) c.if-depth-eq0.true
+    ∙ walk-zero c.args.words.now c.args.block ∙ grind (arith, nat_tests))
 
 pub returns : goal.returns
 returns t c =
-    c.word.ensures ∙ ap (λ n. word c.args.words.now n (c.args.block % 512)) c.walk.ensures ∙ sym (walk_deeper c.args.words.now c.args.depth c.args.block (omega arith))
+    c.word.ensures
+    ∙ ap (λ n. word c.args.words.now n (c.args.block % 512)) c.walk.ensures
+    ∙ sym (walk_deeper c.args.words.now c.args.depth c.args.block (omega arith))

@@ -9,11 +9,18 @@ use Rattle.pcid_tlb.proofs.Tlb.invlpg.Goals as goal
 pub invariant_of-self : goal.invariant_of-self
 invariant_of-self g c =
     let test = λ (e : CachedEntry). not (is_of c.args.pcid c.args.page e) in
-    let kept : c.retain.new.self.items ≡ filter test c.self.inside.entries.items = filter_same _ test _ (λ x b f' k. search (rules, tests)) c.self.inside.entries.items c.retain.new.self.items c.retain.ensures.filtered in
-    (rw kept (IsTlb-keep_entries test (record { capacity = c.self.inside.capacity; entries = c.self.inside.entries.items }) c.self.invariant.0), rw c.retain.ensures.capacity c.self.invariant.1)
+    let kept : c.retain.new.self.items ≡ filter test c.self.inside.entries.items =
+    filter_same _ test _ (λ x b f' k. search (rules, tests)) c.self.inside.entries.items c.retain.new.self.items
+    c.retain.ensures.filtered in (
+      rw kept (IsTlb-keep_entries test
+          (record { capacity = c.self.inside.capacity; entries = c.self.inside.entries.items }) c.self.invariant.0),
+      rw c.retain.ensures.capacity c.self.invariant.1,
+    )
 
 pub returns : goal.returns
 returns g c =
     let test = λ (e : CachedEntry). not (is_of c.args.pcid c.args.page e) in
-    let kept : c.retain.new.self.items ≡ filter test c.self.inside.entries.items = filter_same _ test _ (λ x b f' k. search (rules, tests)) c.self.inside.entries.items c.retain.new.self.items c.retain.ensures.filtered in
+    let kept : c.retain.new.self.items ≡ filter test c.self.inside.entries.items =
+    filter_same _ test _
+    (λ x b f' k. search (rules, tests)) c.self.inside.entries.items c.retain.new.self.items c.retain.ensures.filtered in
     rw (kept, ← c.self.view_is)

@@ -1,4 +1,5 @@
-use Rattle.shootdown.proofs.CoherenceLaws.{Coheres-fresh, Coheres-stalled, Coheres-idled, Coheres-resumed, Coheres-switched_to, Coheres-filled, Coheres-evicted, Coheres-without_page}
+use Rattle.shootdown.proofs.CoherenceLaws.{Coheres-fresh, Coheres-stalled, Coheres-idled, Coheres-resumed}
+use Rattle.shootdown.proofs.CoherenceLaws.{Coheres-switched_to, Coheres-filled, Coheres-evicted, Coheres-without_page}
 use Rattle.shootdown.proofs.laws.kept_by_processors.Goals as goal
 
 pub returns : goal.returns

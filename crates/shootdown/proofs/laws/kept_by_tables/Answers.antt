@@ -7,6 +7,8 @@ pub returns : goal.returns
 returns c = record {
   grown = Coheres-grown;
   removed = λ spaces s pcid is elsewhere coheres.
-      Coheres-destroyed spaces (maps.remove spaces pcid) s pcid is elsewhere (λ q page other. entry_at-remove_other spaces pcid q page other) (λ lock held. IsNoWider-remove lock.change spaces pcid) coheres;
+      Coheres-destroyed spaces (maps.remove spaces pcid) s pcid is elsewhere
+      (λ q page other. entry_at-remove_other spaces pcid q page other)
+      (λ lock held. IsNoWider-remove lock.change spaces pcid) coheres;
   forgotten = IsForgotten-destroyed;
 }

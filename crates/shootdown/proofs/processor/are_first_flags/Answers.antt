@@ -6,8 +6,10 @@ use Rattle.shootdown.proofs.processor.are_first_flags.Goals as goal
 
 pub returns-then-has_flag : goal.returns-then-has_flag
 returns-then-has_flag c = (
-  (λ unset. are_first c.args.flags.now c.first_set.result c.first_set.ensures (sym c.has_flag.ensures ∙ c.if-has_flag.true) (c.is_none.ensures ∙ ap not unset)),
-  (λ same. not-false _ (sym c.is_none.ensures ∙ first_alone c.args.flags.now c.first_set.result c.first_set.ensures same)),
+  (λ unset. are_first c.args.flags.now c.first_set.result c.first_set.ensures
+      (sym c.has_flag.ensures ∙ c.if-has_flag.true) (c.is_none.ensures ∙ ap not unset)),
+  (λ same.
+      not-false _ (sym c.is_none.ensures ∙ first_alone c.args.flags.now c.first_set.result c.first_set.ensures same)),
 )
 
 pub returns-else-has_flag : goal.returns-else-has_flag

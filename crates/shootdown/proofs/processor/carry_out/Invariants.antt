@@ -9,4 +9,6 @@ use Rattle.shootdown.proofs.processor.carry_out.Given as goal
 abbrev pub invariant-loop-action : goal.invariant-loop-action
 invariant-loop-action g l =
     (l.tlb ≡ keep_entries (λ e. not (queue_drops (take l.action-index l.queue) e.pcid e.page)) l.fn.tlb)
-    × (flags_of l.may_cache ≡ flags_kept (λ pcid. pcid == l.space || not (list_any (λ a. drops_pcid a pcid) (take l.action-index l.queue))) 0 (flags_of l.fn.may_cache))
+    × (flags_of l.may_cache
+    ≡ flags_kept (λ pcid. pcid == l.space || not (list_any (λ a. drops_pcid a pcid) (take l.action-index l.queue))) 0
+    (flags_of l.fn.may_cache))

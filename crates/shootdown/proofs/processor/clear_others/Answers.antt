@@ -1,4 +1,5 @@
-use Rattle.std.proofs.Common.{◌≡◌, ◌<◌, true, false, List, Bool, ℕ, length, get_or, replicate, set, sym, ap, ◌∙◌, inl, inr, arith}
+use Rattle.std.proofs.Common.{◌≡◌, ◌<◌, true, false, List, Bool, ℕ, length, get_or}
+use Rattle.std.proofs.Common.{replicate, set, sym, ap, ◌∙◌, inl, inr, arith}
 use Rattle.std.proofs.lemmas.Bool.{cases_lt, false≢true}
 use Rattle.shootdown.specs.Processors.{pcids}
 use Rattle.shootdown.specs.inside.Flags.{flags_of}
@@ -14,8 +15,11 @@ set_below words pcid here = elim (cases_lt pcid pcids) [
 ]
 
 -- the flags when the words are cleared
-cleared : (words filled : List ℕ) → filled ≡ replicate (length words) 0 → flags_of filled ≡ replicate (length (flags_of words)) false
-cleared words filled is = ap flags_of is ∙ flags_of-zeros (length words) (length (flags_of words)) (length-flags_of words)
+cleared : (words filled : List ℕ) → filled ≡ replicate (length words) 0
+    → flags_of filled ≡ replicate (length (flags_of words)) false
+cleared words filled is =
+    ap flags_of is
+    ∙ flags_of-zeros (length words) (length (flags_of words)) (length-flags_of words)
 
 pub mark-requires : goal.mark-requires
 mark-requires c =
@@ -28,10 +32,12 @@ returns-then-kept c =
     let here = sym c.has_flag-kept.ensures ∙ c.if-kept.true in
     let below = set_below words c.args.pcid here in
     flags_of-marked c.fill.new.self c.mark.new.mask c.args.pcid true below c.mark.ensures
-    ∙ ap (λ (flags : List Bool). set flags c.args.pcid true) (cleared words c.fill.new.self (c.fill.ensures.after (λ y is. is)))
+    ∙ ap (λ (flags : List Bool). set flags c.args.pcid true)
+    (cleared words c.fill.new.self (c.fill.ensures.after (λ y is. is)))
     ∙ cleared-set (flags_of words) c.args.pcid (omega (arith, below, length-flags_of words)) here
 
 pub returns-else-kept : goal.returns-else-kept
 returns-else-kept c =
     let words = c.args.flags.now in
-    cleared words c.fill.new.self (c.fill.ensures.after (λ y is. is)) ∙ cleared-clear (flags_of words) c.args.pcid (sym c.has_flag-kept.ensures ∙ c.if-kept.false)
+    cleared words c.fill.new.self (c.fill.ensures.after (λ y is. is))
+    ∙ cleared-clear (flags_of words) c.args.pcid (sym c.has_flag-kept.ensures ∙ c.if-kept.false)

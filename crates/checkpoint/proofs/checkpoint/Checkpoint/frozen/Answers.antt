@@ -7,4 +7,5 @@ pub returns-clause-rising : goal.returns-clause-rising
 returns-clause-rising g c =
     let pages = c.deref.result.now in
     let n = c.self.inside.released in
-    rw (take_all (length pages - n) (drop n pages) (omega (arith, length-drop n pages))) (AreRising-drop n pages (rw c.deref.ensures.value c.self.invariant.rising))
+    rw (take_all (length pages - n) (drop n pages) (omega (arith, length-drop n pages)))
+    (AreRising-drop n pages (rw c.deref.ensures.value c.self.invariant.rising))

@@ -7,5 +7,6 @@ use Rattle.checkpoint.proofs.checkpoint.Checkpoint.is_frozen.Goals as goal
 pub returns : goal.returns
 returns g c =
     c.is_ok.ensures.value
-    ∙ is_ok-searched c.frozen.result.now c.args.page c.binary_search.result c.frozen.ensures.rising c.binary_search.ensures.bound c.binary_search.ensures.position
+    ∙ is_ok-searched c.frozen.result.now c.args.page c.binary_search.result c.frozen.ensures.rising
+    c.binary_search.ensures.bound c.binary_search.ensures.position
     ∙ ap (list_any (same_page c.args.page)) c.frozen.ensures.frozen

@@ -4,4 +4,5 @@ use Rattle.checkpoint.proofs.Searches.{AreRising-drop}
 use Rattle.checkpoint.proofs.checkpoint.Checkpoint.take_first.Goals as goal
 
 pub returns-clause-rising : goal.returns-clause-rising
-returns-clause-rising g c = subst AreRising (ap (λ (s : CheckpointState). s.frozen) c.self.view_is) (AreRising-drop c.self.inside.released c.self.inside.pages.items c.self.invariant.rising)
+returns-clause-rising g c = subst AreRising (ap (λ (s : CheckpointState). s.frozen) c.self.view_is)
+    (AreRising-drop c.self.inside.released c.self.inside.pages.items c.self.invariant.rising)

@@ -3,12 +3,19 @@ use Rattle.std.proofs.lemmas.Option.{slice_get-get_or}
 use Rattle.slab.specs.Slab.{get}
 use Rattle.frames.specs.Frames.{has_free}
 use Rattle.frames.specs.inside.Pages.{frame_of, frames_by}
-use Rattle.frames.proofs.PageLemmas.{length-frames_by, get_or-frames_by, frames_by-update, has_free-frames_by, none_free-frames_by, all_in_use, vacant_within}
+use Rattle.frames.proofs.PageLemmas.{length-frames_by, get_or-frames_by, frames_by-update}
+use Rattle.frames.proofs.PageLemmas.{has_free-frames_by, none_free-frames_by, all_in_use, vacant_within}
 use Rattle.frames.proofs.pages.Pages.insert.Goals as goal
 
 pub returns-then-len-capacity-clause-free : goal.returns-then-len-capacity-clause-free
 returns-then-len-capacity-clause-free g c =
-    sym (ap has_free (sym c.self.view_is) ∙ none_free-frames_by (get c.self.inside.pages) c.self.inside.bytes.items (λ k h. all_in_use c.self.inside.pages.slots c.self.inside.pages.capacity (omega (arith, c.capacity.ensures.slots, c.capacity.ensures.value)) (sym c.len.ensures ∙ c.if-len-capacity.true ∙ c.capacity.ensures.value) k (omega (arith, c.self.invariant.room))))
+    sym (ap has_free (sym c.self.view_is) ∙ none_free-frames_by (get c.self.inside.pages) c.self.inside.bytes.items
+    (λ k h. all_in_use c.self.inside.pages.slots c.self.inside.pages.capacity (omega (
+      arith,
+      c.capacity.ensures.slots,
+      c.capacity.ensures.value,
+    )) (sym c.len.ensures ∙ c.if-len-capacity.true ∙ c.capacity.ensures.value) k
+    (omega (arith, c.self.invariant.room))))
 
 pub returns-clause-was_free : goal.returns-clause-was_free
 returns-clause-was_free g c =
@@ -16,14 +23,20 @@ returns-clause-was_free g c =
     let pages = c.self.inside.bytes.items in
     let number = c.insert_reserved-number.result in
     let vacant = c.insert_reserved-number.ensures.was_vacant in
-    let below : number < c.self.inside.pages.capacity = omega (arith, c.insert_reserved-number.ensures.key_in_range, c.insert_reserved-number.ensures.capacity) in
+    let below : number < c.self.inside.pages.capacity =
+    omega (arith, c.insert_reserved-number.ensures.key_in_range, c.insert_reserved-number.ensures.capacity) in
     let within : number < length pages = vacant_within c.self.invariant number below vacant in
-    rw (← c.self.view_is) (slice_get-get_or (frames_by page_at pages) number None (omega (arith, length-frames_by page_at pages)) ∙ ap (λ f. Some f) (get_or-frames_by page_at pages number within ∙ ap (λ o. frame_of o (get_or pages number [])) vacant))
+    rw (← c.self.view_is)
+    (slice_get-get_or (frames_by page_at pages) number None (omega (arith, length-frames_by page_at pages))
+    ∙ ap (λ f. Some f)
+    (get_or-frames_by page_at pages number within ∙ ap (λ o. frame_of o (get_or pages number [])) vacant))
 
 pub returns-clause-page : goal.returns-clause-page
 returns-clause-page g c =
     let updates = c.insert_reserved-number.ensures.updates in
-    frames_by-update (get c.self.inside.pages) (get c.insert_reserved-number.new.self) c.self.inside.bytes.items c.insert_reserved-number.result c.args.bytes.now updates.others ∙ rw (updates.changed, c.self.view_is)
+    frames_by-update (get c.self.inside.pages) (get c.insert_reserved-number.new.self)
+    c.self.inside.bytes.items c.insert_reserved-number.result c.args.bytes.now updates.others
+    ∙ rw (updates.changed, c.self.view_is)
 
 pub returns-clause-free : goal.returns-clause-free
 returns-clause-free g c =
@@ -31,6 +44,7 @@ returns-clause-free g c =
     let pages = c.self.inside.bytes.items in
     let number = c.insert_reserved-number.result in
     let vacant = c.insert_reserved-number.ensures.was_vacant in
-    let below : number < c.self.inside.pages.capacity = omega (arith, c.insert_reserved-number.ensures.key_in_range, c.insert_reserved-number.ensures.capacity) in
+    let below : number < c.self.inside.pages.capacity =
+    omega (arith, c.insert_reserved-number.ensures.key_in_range, c.insert_reserved-number.ensures.capacity) in
     let within : number < length pages = vacant_within c.self.invariant number below vacant in
     sym (ap has_free (sym c.self.view_is) ∙ has_free-frames_by page_at pages number within vacant)

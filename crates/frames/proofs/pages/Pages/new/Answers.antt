@@ -17,4 +17,6 @@ invariant_of-result g c =
 pub returns : goal.returns
 returns g c =
     let size = ap length c.in_ok-bytes.ensures ∙ length-replicate c.args.count zero_page in
-    frames_by-none (get c.in_ok-pages.pages) c.in_ok-bytes.bytes.items (λ k h. c.in_ok-pages.ensures.free k (omega (arith, size))) ∙ ap (λ n. replicate n None) size
+    frames_by-none (get c.in_ok-pages.pages) c.in_ok-bytes.bytes.items
+    (λ k h. c.in_ok-pages.ensures.free k (omega (arith, size)))
+    ∙ ap (λ n. replicate n None) size

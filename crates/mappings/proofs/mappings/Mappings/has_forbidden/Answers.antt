@@ -14,9 +14,11 @@ returns-then-range-gt0 g c =
     let range = c.args.range in
     let places = c.meeting.result in
     let test = λ (m : Mapping). not (allows m.place.access c.args.rights) in
-    let meeting = subst (λ l. IsMeeting l range.first (range.first + range.count) places.start places.end) c.deref-then-range-gt0.ensures.value c.meeting.ensures in
+    let meeting = subst (λ l. IsMeeting l range.first (range.first + range.count) places.start places.end)
+    c.deref-then-range-gt0.ensures.value c.meeting.ensures in
     c.any_forbids.ensures
-    ∙ ap (λ (l : List Mapping). list_any test (take (places.end - places.start) (drop places.start l))) c.deref.ensures.value
+    ∙ ap (λ (l : List Mapping). list_any test (take (places.end - places.start) (drop places.start l)))
+    c.deref.ensures.value
     ∙ list_any-meeting test list range.first range.count places.start places.end meeting
     ∙ any_forbids-meets list range.first range.count c.args.rights c.self.invariant.ordered c.if-range-gt0.true
     ∙ ap (λ (s : MappingsState). any_forbids s.places range.first range.count c.args.rights) c.self.view_is

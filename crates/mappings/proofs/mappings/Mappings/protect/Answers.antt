@@ -11,7 +11,15 @@ merge_around-requires-clause-ordered g c =
     let range = c.widened-range.result in
     let list = c.split_ends.new.list in
     let places = c.meeting-places.result in
-    let is = IsNearlyMerged-rights list c.self.inside.list.items c.deref_mut.result.now c.set_rights.new.list range.first range.count places.start places.end c.args.rights (omega (arith, positive c.args.range c.args.rights c.args.self.now.places (sym c.may_protect.ensures ∙ c.in_ok-may_protect.was), c.widened-range.ensures.begins, c.widened-range.ensures.ends)) c.split_ends.ensures (subst (λ l. IsMeeting l range.first (range.first + range.count) places.start places.end) c.deref-2.ensures.value c.meeting-places.ensures) c.deref_mut.ensures.value c.set_rights.ensures in
+    let is = IsNearlyMerged-rights list c.self.inside.list.items c.deref_mut.result.now c.set_rights.new.list
+    range.first range.count places.start places.end c.args.rights (omega (
+      arith,
+      positive c.args.range c.args.rights c.args.self.now.places (sym c.may_protect.ensures ∙ c.in_ok-may_protect.was),
+      c.widened-range.ensures.begins,
+      c.widened-range.ensures.ends,
+    )) c.split_ends.ensures (subst (λ l. IsMeeting l range.first (range.first + range.count) places.start places.end)
+    c.deref-2.ensures.value c.meeting-places.ensures)
+    c.deref_mut.ensures.value c.set_rights.ensures in
     is.ordered
 
 pub merge_around-requires-clause-before : goal.merge_around-requires-clause-before
@@ -19,7 +27,15 @@ merge_around-requires-clause-before g c =
     let range = c.widened-range.result in
     let list = c.split_ends.new.list in
     let places = c.meeting-places.result in
-    let is = IsNearlyMerged-rights list c.self.inside.list.items c.deref_mut.result.now c.set_rights.new.list range.first range.count places.start places.end c.args.rights (omega (arith, positive c.args.range c.args.rights c.args.self.now.places (sym c.may_protect.ensures ∙ c.in_ok-may_protect.was), c.widened-range.ensures.begins, c.widened-range.ensures.ends)) c.split_ends.ensures (subst (λ l. IsMeeting l range.first (range.first + range.count) places.start places.end) c.deref-2.ensures.value c.meeting-places.ensures) c.deref_mut.ensures.value c.set_rights.ensures in
+    let is = IsNearlyMerged-rights list c.self.inside.list.items c.deref_mut.result.now c.set_rights.new.list
+    range.first range.count places.start places.end c.args.rights (omega (
+      arith,
+      positive c.args.range c.args.rights c.args.self.now.places (sym c.may_protect.ensures ∙ c.in_ok-may_protect.was),
+      c.widened-range.ensures.begins,
+      c.widened-range.ensures.ends,
+    )) c.split_ends.ensures (subst (λ l. IsMeeting l range.first (range.first + range.count) places.start places.end)
+    c.deref-2.ensures.value c.meeting-places.ensures)
+    c.deref_mut.ensures.value c.set_rights.ensures in
     is.before
 
 pub merge_around-requires-clause-after : goal.merge_around-requires-clause-after
@@ -27,7 +43,15 @@ merge_around-requires-clause-after g c =
     let range = c.widened-range.result in
     let list = c.split_ends.new.list in
     let places = c.meeting-places.result in
-    let is = IsNearlyMerged-rights list c.self.inside.list.items c.deref_mut.result.now c.set_rights.new.list range.first range.count places.start places.end c.args.rights (omega (arith, positive c.args.range c.args.rights c.args.self.now.places (sym c.may_protect.ensures ∙ c.in_ok-may_protect.was), c.widened-range.ensures.begins, c.widened-range.ensures.ends)) c.split_ends.ensures (subst (λ l. IsMeeting l range.first (range.first + range.count) places.start places.end) c.deref-2.ensures.value c.meeting-places.ensures) c.deref_mut.ensures.value c.set_rights.ensures in
+    let is = IsNearlyMerged-rights list c.self.inside.list.items c.deref_mut.result.now c.set_rights.new.list
+    range.first range.count places.start places.end c.args.rights (omega (
+      arith,
+      positive c.args.range c.args.rights c.args.self.now.places (sym c.may_protect.ensures ∙ c.in_ok-may_protect.was),
+      c.widened-range.ensures.begins,
+      c.widened-range.ensures.ends,
+    )) c.split_ends.ensures (subst (λ l. IsMeeting l range.first (range.first + range.count) places.start places.end)
+    c.deref-2.ensures.value c.meeting-places.ensures)
+    c.deref_mut.ensures.value c.set_rights.ensures in
     is.after
 
 pub invariant_of-self : goal.invariant_of-self
@@ -35,7 +59,15 @@ invariant_of-self g c =
     let range = c.widened-range.result in
     let list = c.split_ends.new.list in
     let places = c.meeting-places.result in
-    let is = IsNearlyMerged-rights list c.self.inside.list.items c.deref_mut.result.now c.set_rights.new.list range.first range.count places.start places.end c.args.rights (omega (arith, positive c.args.range c.args.rights c.args.self.now.places (sym c.may_protect.ensures ∙ c.in_ok-may_protect.was), c.widened-range.ensures.begins, c.widened-range.ensures.ends)) c.split_ends.ensures (subst (λ l. IsMeeting l range.first (range.first + range.count) places.start places.end) c.deref-2.ensures.value c.meeting-places.ensures) c.deref_mut.ensures.value c.set_rights.ensures in
+    let is = IsNearlyMerged-rights list c.self.inside.list.items c.deref_mut.result.now c.set_rights.new.list
+    range.first range.count places.start places.end c.args.rights (omega (
+      arith,
+      positive c.args.range c.args.rights c.args.self.now.places (sym c.may_protect.ensures ∙ c.in_ok-may_protect.was),
+      c.widened-range.ensures.begins,
+      c.widened-range.ensures.ends,
+    )) c.split_ends.ensures (subst (λ l. IsMeeting l range.first (range.first + range.count) places.start places.end)
+    c.deref-2.ensures.value c.meeting-places.ensures)
+    c.deref_mut.ensures.value c.set_rights.ensures in
     IsKept-merged c.merge_around.new.list.items is c.merge_around.ensures.items
 
 pub returns-clause-protected : goal.returns-clause-protected
@@ -43,6 +75,19 @@ returns-clause-protected g c =
     let range = c.widened-range.result in
     let list = c.split_ends.new.list in
     let places = c.meeting-places.result in
-    let is = IsNearlyMerged-rights list c.self.inside.list.items c.deref_mut.result.now c.set_rights.new.list range.first range.count places.start places.end c.args.rights (omega (arith, positive c.args.range c.args.rights c.args.self.now.places (sym c.may_protect.ensures ∙ c.in_ok-may_protect.was), c.widened-range.ensures.begins, c.widened-range.ensures.ends)) c.split_ends.ensures (subst (λ l. IsMeeting l range.first (range.first + range.count) places.start places.end) c.deref-2.ensures.value c.meeting-places.ensures) c.deref_mut.ensures.value c.set_rights.ensures in
-    let same = subst (λ l. with_rights (places_of l) range.first range.count c.args.rights ≡ with_rights (places_of l) c.args.range.first c.args.range.count c.args.rights) c.deref.ensures.value c.widened-range.ensures.same in
-    places_of-nearly c.merge_around.new.list.items is c.merge_around.ensures.items ∙ same ∙ ap (λ (p : Places). with_rights p c.args.range.first c.args.range.count c.args.rights) (ap (λ (s : MappingsState). s.places) c.self.view_is)
+    let is = IsNearlyMerged-rights list c.self.inside.list.items c.deref_mut.result.now c.set_rights.new.list
+    range.first range.count places.start places.end c.args.rights (omega (
+      arith,
+      positive c.args.range c.args.rights c.args.self.now.places (sym c.may_protect.ensures ∙ c.in_ok-may_protect.was),
+      c.widened-range.ensures.begins,
+      c.widened-range.ensures.ends,
+    )) c.split_ends.ensures (subst (λ l. IsMeeting l range.first (range.first + range.count) places.start places.end)
+    c.deref-2.ensures.value c.meeting-places.ensures)
+    c.deref_mut.ensures.value c.set_rights.ensures in
+    let same = subst (λ l. with_rights (places_of l) range.first range.count c.args.rights
+    ≡ with_rights (places_of l) c.args.range.first c.args.range.count c.args.rights)
+    c.deref.ensures.value c.widened-range.ensures.same in
+    places_of-nearly c.merge_around.new.list.items is c.merge_around.ensures.items
+    ∙ same
+    ∙ ap (λ (p : Places). with_rights p c.args.range.first c.args.range.count c.args.rights)
+    (ap (λ (s : MappingsState). s.places) c.self.view_is)

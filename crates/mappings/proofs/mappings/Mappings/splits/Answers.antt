@@ -17,7 +17,8 @@ returns-in-Some g c =
     let past = c.args.range.first + c.args.range.count in
     let end = c.saturating_add-end.result in
     let sum = c.saturating_add-end.ensures in
-    let same = subst (λ (p : Places). is_cut p end rights ≡ is_cut p past rights) (ap (λ (s : MappingsState). s.places) c.self.view_is)
+    let same = subst (λ (p : Places). is_cut p end rights ≡ is_cut p past rights)
+    (ap (λ (s : MappingsState). s.places) c.self.view_is)
     (is_cut_end list past end rights c.self.invariant.ordered (λ less. omega arith) (λ more. omega arith)) in
     let one = c.from-in-Some.ensures ∙ one_if _ ∙ ap (λ b. cond b 1 0) c.is_cut.ensures in
     let two = c.from-in-Some-2.ensures ∙ one_if _ ∙ ap (λ b. cond b 1 0) (c.is_cut-in-Some.ensures ∙ same) in

@@ -19,7 +19,9 @@ returns-then-at-len g c =
     let after = subst (λ list. IsFirstAfter list page at) c.deref.ensures.value c.first_after-at.ensures in
     let read = c.index.result.now in
     let found = get-places_of list page ∙ lookup_at 0 list c.self.invariant.ordered page at read after (search rules) in
-    rw (← c.self.view_is) (c.place_of.ensures ∙ sym (subst (λ m. fin_map.get (places_of list) page ≡ cond (covers m page) (Some (place_in m page)) None) (sym c.index.ensures) found))
+    rw (← c.self.view_is) (c.place_of.ensures
+    ∙ sym (subst (λ m. fin_map.get (places_of list) page ≡ cond (covers m page) (Some (place_in m page)) None)
+    (sym c.index.ensures) found))
 
 pub returns-else-at-len : goal.returns-else-at-len
 returns-else-at-len g c =

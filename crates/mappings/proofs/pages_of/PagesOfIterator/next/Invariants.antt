@@ -6,7 +6,8 @@ use Rattle.mappings.proofs.pages_of.PagesOfIterator.next.Given as goal
 abbrev pub invariant-loop-mapping : goal.invariant-loop-mapping
 invariant-loop-mapping l = record {
   ordered : IsOrdered 0 l.self-inside.rest.now;
-  same_pages : pages_listed l.self-inside.rest.now l.self-inside.file l.self-inside.page ≡ pages_listed l.initial.self-inside.rest.now l.initial.self-inside.file l.initial.self-inside.page;
+  same_pages : pages_listed l.self-inside.rest.now l.self-inside.file l.self-inside.page
+      ≡ pages_listed l.initial.self-inside.rest.now l.initial.self-inside.file l.initial.self-inside.page;
 }
 
 abbrev pub decreases-loop-mapping : goal.decreases-loop-mapping

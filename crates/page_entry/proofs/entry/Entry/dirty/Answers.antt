@@ -5,4 +5,8 @@ use Rattle.page_entry.proofs.Bits.{test_dirty}
 use Rattle.page_entry.proofs.entry.Entry.dirty.Goals as goal
 
 pub returns : goal.returns
-returns c = c.contains.ensures tt ∙ ap (λ n. bit_and n 64 == 64) (sym c.self.invariant.named) ∙ test_dirty (entry_of c.self.inside.0) ∙ ap is_dirty c.self.view_is
+returns c =
+    c.contains.ensures tt
+    ∙ ap (λ n. bit_and n 64 == 64) (sym c.self.invariant.named)
+    ∙ test_dirty (entry_of c.self.inside.0)
+    ∙ ap is_dirty c.self.view_is

@@ -8,5 +8,7 @@ use Rattle.page_table.proofs.table.Table.get.Goals as goal
 
 pub returns : goal.returns
 returns g c =
-    c.of_bits.ensures ∙ ap entry_of (c.walk.ensures ∙ ap (λ (ws : List ℕ). read_by_walk ws 4 c.args.page) c.deref.ensures.value)
-    ∙ sym (get_entry c.self.inside.words.items c.args.page) ∙ ap (λ (t : TableState). maps.get t.entries c.args.page) c.self.view_is
+    c.of_bits.ensures
+    ∙ ap entry_of (c.walk.ensures ∙ ap (λ (ws : List ℕ). read_by_walk ws 4 c.args.page) c.deref.ensures.value)
+    ∙ sym (get_entry c.self.inside.words.items c.args.page)
+    ∙ ap (λ (t : TableState). maps.get t.entries c.args.page) c.self.view_is

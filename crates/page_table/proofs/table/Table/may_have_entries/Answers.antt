@@ -8,5 +8,7 @@ has_used-requires-clause-ample g c = omega (arith, c.self.invariant.marks.ample,
 
 pub returns : goal.returns
 returns g c =
-    none_in_use c.self.inside.words.items c.self.inside.present.items c.self.inside.in_use.items c.args.self.now c.self.invariant.table c.self.invariant.marks c.self.view_is c.has_used.result
-    (λ off node within. ap (λ l. is_set l node) (sym c.deref.ensures.value) ∙ c.has_used.ensures off node (omega (arith, within)))
+    none_in_use c.self.inside.words.items c.self.inside.present.items c.self.inside.in_use.items c.args.self.now
+    c.self.invariant.table c.self.invariant.marks c.self.view_is c.has_used.result
+    (λ off node within.
+    ap (λ l. is_set l node) (sym c.deref.ensures.value) ∙ c.has_used.ensures off node (omega (arith, within)))

@@ -5,5 +5,8 @@ use Rattle.page_table.proofs.table.Table.nodes.Goals as goal
 
 pub returns : goal.returns
 returns g c =
-    let count : c.len.result ≡ length c.self.inside.words.items = omega (arith, c.len.ensures, c.self.inside.words.ok.0) in
-    ap (λ (n : ℕ). n / 512) count ∙ sym (nodes-table_of c.self.inside.words.items) ∙ ap (λ (t : TableState). t.nodes) c.self.view_is
+    let count : c.len.result ≡ length c.self.inside.words.items =
+    omega (arith, c.len.ensures, c.self.inside.words.ok.0) in
+    ap (λ (n : ℕ). n / 512) count
+    ∙ sym (nodes-table_of c.self.inside.words.items)
+    ∙ ap (λ (t : TableState). t.nodes) c.self.view_is

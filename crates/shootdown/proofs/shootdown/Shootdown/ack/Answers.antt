@@ -10,13 +10,19 @@ invariant_of-self g c =
     let old = c.args.self.now in
     let p = c.args.p in
     let there = c.in_ok-state.ensures.ok.0 in
-    let new = moved_to _ old p _ _ (λ (x : Processor). record x { state = Stalled }) c.self.view_is there c.index_mut.ensures.value c.set_state.ensures in
-    subst IsShootdown (sym new) (IsShootdown-stalled old p c.state.ensures.kept (is_there_below old p there) (sym c.in_ok-state.ensures.ok.1 ∙ c.in-Interrupted.is))
+    let new = moved_to _ old p _ _ (λ (x : Processor). record x { state = Stalled }) c.self.view_is there
+    c.index_mut.ensures.value c.set_state.ensures in
+    subst IsShootdown (sym new) (IsShootdown-stalled old p c.state.ensures.kept (is_there_below old p there)
+    (sym c.in_ok-state.ensures.ok.1 ∙ c.in-Interrupted.is))
 
 pub returns-in-Interrupted : goal.returns-in-Interrupted
 returns-in-Interrupted g c =
     let old = c.args.self.now in
     let p = c.args.p in
     let there = c.in_ok-state.ensures.ok.0 in
-    let new = moved_to _ old p _ _ (λ (x : Processor). record x { state = Stalled }) c.self.view_is there c.index_mut.ensures.value c.set_state.ensures in
-    record { acked = (not_there_none old p there, ap is_interrupted (sym c.in_ok-state.ensures.ok.1 ∙ c.in-Interrupted.is), new) }
+    let new = moved_to _ old p _ _ (λ (x : Processor). record x { state = Stalled }) c.self.view_is there
+    c.index_mut.ensures.value c.set_state.ensures in
+    record {
+      acked =
+          (not_there_none old p there, ap is_interrupted (sym c.in_ok-state.ensures.ok.1 ∙ c.in-Interrupted.is), new);
+    }

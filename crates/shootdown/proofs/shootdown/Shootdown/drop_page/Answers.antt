@@ -11,5 +11,8 @@ pub invariant_of-self : goal.invariant_of-self
 invariant_of-self g c =
     let old = c.args.self.now in
     let p = c.args.p in
-    let new = moved_to _ old p _ _ (λ (x : Processor). record x { tlb = without_page x.tlb x.space c.args.page }) c.self.view_is c.requires c.index_mut.ensures.value c.drop_page.ensures in
-    subst IsShootdown (sym new) (let is : IsShootdown old = subst IsShootdown c.self.view_is c.self.invariant in IsShootdown-same_state old p _ is (is_there_below old p c.requires) (IsProcessor-without_page (processor_at old p) _ c.args.page (is.each p (is_there_below old p c.requires))) refl)
+    let new = moved_to _ old p _ _ (λ (x : Processor). record x { tlb = without_page x.tlb x.space c.args.page })
+    c.self.view_is c.requires c.index_mut.ensures.value c.drop_page.ensures in
+    subst IsShootdown (sym new) (let is : IsShootdown old = subst IsShootdown c.self.view_is c.self.invariant in
+    IsShootdown-same_state old p _ is (is_there_below old p c.requires)
+    (IsProcessor-without_page (processor_at old p) _ c.args.page (is.each p (is_there_below old p c.requires))) refl)

@@ -11,8 +11,14 @@ pub invariant_of-self : goal.invariant_of-self
 invariant_of-self g c =
     let old = c.args.self.now in
     let p = c.args.p in
-    let new = moved_to _ old p _ _ (λ (x : Processor). record x { tlb = evicted x.tlb c.args.slot }) c.self.view_is c.requires c.index_mut.ensures.value c.evict.ensures.rest in
-    subst IsShootdown (sym new) (let is : IsShootdown old = subst IsShootdown c.self.view_is c.self.invariant in IsShootdown-same_state old p _ is (is_there_below old p c.requires) (IsProcessor-evicted (processor_at old p) c.args.slot (is.each p (is_there_below old p c.requires))) refl)
+    let new = moved_to _ old p _ _ (λ (x : Processor). record x { tlb = evicted x.tlb c.args.slot }) c.self.view_is
+    c.requires c.index_mut.ensures.value c.evict.ensures.rest in
+    subst IsShootdown (sym new) (let is : IsShootdown old = subst IsShootdown c.self.view_is c.self.invariant in
+    IsShootdown-same_state old p _ is (is_there_below old p c.requires)
+    (IsProcessor-evicted (processor_at old p) c.args.slot (is.each p (is_there_below old p c.requires))) refl)
 
 pub returns-clause-evicted : goal.returns-clause-evicted
-returns-clause-evicted g c = c.evict.ensures.evicted ∙ ap (λ (x : Processor). nat_lt c.args.slot (length x.tlb.entries)) (read_at _ c.args.self.now c.args.p _ c.self.view_is c.requires c.index_mut.ensures.value)
+returns-clause-evicted g c =
+    c.evict.ensures.evicted
+    ∙ ap (λ (x : Processor). nat_lt c.args.slot (length x.tlb.entries))
+    (read_at _ c.args.self.now c.args.p _ c.self.view_is c.requires c.index_mut.ensures.value)

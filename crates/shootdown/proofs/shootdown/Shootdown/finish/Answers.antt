@@ -14,7 +14,8 @@ invariant_of-self g c =
     let p = c.args.p in
     let is : IsShootdown old = subst IsShootdown c.self.view_is c.self.invariant in
     let lock = held_by old.lock p c.requires.held in
-    let new = ap free (moved_to _ old p _ _ woken c.self.view_is (holder_there old p is c.requires.held) c.index_mut.ensures.value c.wake.ensures) in
+    let new = ap free (moved_to _ old p _ _ woken c.self.view_is
+    (holder_there old p is c.requires.held) c.index_mut.ensures.value c.wake.ensures) in
     subst IsShootdown (sym new) (IsShootdown-finished old p lock.0 is lock.1 lock.2 c.requires.quiet)
 
 pub returns : goal.returns
@@ -22,4 +23,7 @@ unfolding free
 returns g c =
     let old = c.args.self.now in
     let is : IsShootdown old = subst IsShootdown c.self.view_is c.self.invariant in
-    record { finished = ap free (moved_to _ old c.args.p _ _ woken c.self.view_is (holder_there old c.args.p is c.requires.held) c.index_mut.ensures.value c.wake.ensures) }
+    record {
+      finished = ap free (moved_to _ old c.args.p _ _ woken c.self.view_is
+          (holder_there old c.args.p is c.requires.held) c.index_mut.ensures.value c.wake.ensures);
+    }

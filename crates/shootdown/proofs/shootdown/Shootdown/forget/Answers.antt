@@ -10,13 +10,22 @@ use Rattle.shootdown.proofs.shootdown.Shootdown.forget.Goals as goal
 
 pub invariant_of-self : goal.invariant_of-self
 invariant_of-self g c =
-    rw (with_items_is c.self.inside.processors c.tell_all.new.processors (omega arith), c.tell_all.ensures, c.deref_mut.ensures.value) (IsShootdown-destroyed _ c.args.pcid c.self.invariant)
+    rw (
+      with_items_is c.self.inside.processors c.tell_all.new.processors (omega arith),
+      c.tell_all.ensures,
+      c.deref_mut.ensures.value,
+    ) (IsShootdown-destroyed _ c.args.pcid c.self.invariant)
 
 pub returns-clause-forgotten : goal.returns-clause-forgotten
 returns-clause-forgotten g c =
     let old = c.args.self.now in
     let is : IsShootdown old = subst IsShootdown c.self.view_is c.self.invariant in
-    let processors = with_items_is c.self.inside.processors c.tell_all.new.processors (omega arith) ∙ c.tell_all.ensures ∙ ap (map (λ (x : Processor). told x (SingleContext c.args.pcid))) c.deref_mut.ensures.value in
-    let with_processors : List Processor → ShootdownState = λ xs. record { processors = xs; lock = c.self.inside.lock } in
+    let processors =
+    with_items_is c.self.inside.processors c.tell_all.new.processors (omega arith)
+    ∙ c.tell_all.ensures
+    ∙ ap (map (λ (x : Processor). told x (SingleContext c.args.pcid))) c.deref_mut.ensures.value in
+    let with_processors : List Processor → ShootdownState =
+    λ xs. record { processors = xs; lock = c.self.inside.lock } in
     let new = ap with_processors processors ∙ ap (λ (s : ShootdownState). destroyed s c.args.pcid) c.self.view_is in
-    subst (λ (s : ShootdownState). IsForgotten s c.args.pcid) (sym new) (IsForgotten-destroyed old c.args.pcid is (λ p within. elsewhere old.processors c.args.pcid c.requires p (fresh_processor 1) within))
+    subst (λ (s : ShootdownState). IsForgotten s c.args.pcid) (sym new) (IsForgotten-destroyed old c.args.pcid is
+    (λ p within. elsewhere old.processors c.args.pcid c.requires p (fresh_processor 1) within))

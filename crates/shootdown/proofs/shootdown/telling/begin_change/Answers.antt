@@ -8,4 +8,6 @@ pub returns : goal.returns
 returns g c =
     let spaces = c.args.spaces.now.map in
     let change = c.args.change.now in
-    c.tell_of_change.ensures ∙ ap (map (λ x. told_all x (actions_of spaces change))) c.interrupt.ensures ∙ begun_from-parts c.args.p spaces change 0 c.args.processors.now
+    c.tell_of_change.ensures
+    ∙ ap (map (λ x. told_all x (actions_of spaces change))) c.interrupt.ensures
+    ∙ begun_from-parts c.args.p spaces change 0 c.args.processors.now

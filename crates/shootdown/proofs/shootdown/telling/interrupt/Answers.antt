@@ -13,9 +13,13 @@ loop-i-preserved g c =
     let xs = c.loop-i.processors in
     let i = c.loop-i.i in
     let x = get_or xs i c.index-processors-i.result in
-    let begun : ℕ → Processor → Processor = λ k y. record y { state = state_begun c.args.p c.args.spaces.now.map c.args.change.now k y } in
-    let new : c.set_state.new.self ≡ begun i x = c.set_state.ensures ∙ ap (λ (st : ProcState). record x { state = st }) c.state_begun-state.ensures in
-    rw new (made_more begun i c.args.processors.now xs x (omega arith) c.loop-i.auto.processors (ap (λ (d : Processor). get_or xs i d) c.index-processors-i.is) c.loop-i.invariant)
+    let begun : ℕ → Processor → Processor =
+    λ k y. record y { state = state_begun c.args.p c.args.spaces.now.map c.args.change.now k y } in
+    let new : c.set_state.new.self ≡ begun i x =
+    c.set_state.ensures
+    ∙ ap (λ (st : ProcState). record x { state = st }) c.state_begun-state.ensures in
+    rw new (made_more begun i c.args.processors.now xs x (omega arith) c.loop-i.auto.processors
+    (ap (λ (d : Processor). get_or xs i d) c.index-processors-i.is) c.loop-i.invariant)
 
 pub returns : goal.returns
 returns g c = made_all _ _ _ _ c.loop-i.auto.processors (omega arith) c.loop-i.invariant

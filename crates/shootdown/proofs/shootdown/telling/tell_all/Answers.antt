@@ -7,4 +7,5 @@ pub loop-processor-preserved : goal.loop-processor-preserved
 loop-processor-preserved g c =
     let xs = c.loop-processor.processors in
     let i = c.loop-processor.processor-index in
-    rw c.tell.ensures (map_over_more (λ (x : Processor). told x c.args.action) c.args.processors.now xs i _ (omega arith) c.loop-processor.invariant (ap (λ (d : Processor). get_or xs i d) c.processor-item.is))
+    rw c.tell.ensures (map_over_more (λ (x : Processor). told x c.args.action) c.args.processors.now xs i _
+    (omega arith) c.loop-processor.invariant (ap (λ (d : Processor). get_or xs i d) c.processor-item.is))

@@ -18,12 +18,16 @@ loop-pcid-preserved g c =
     let now : ℕ × ℕ = (c.in-Some.pcid, c.in-Some.page) in
     c.tell_all.ensures ∙ ap (map (λ x. told x (action now))) c.loop-pcid.invariant
     ∙ told-map_told_all (map action c.loop-pcid.yielded) (action now) xs
-    ∙ ap (λ (actions : List Invpcid). map (λ x. told_all x actions) xs) (sym (map-append action c.loop-pcid.yielded (now ∷ [])))
+    ∙ ap (λ (actions : List Invpcid). map (λ x. told_all x actions) xs)
+    (sym (map-append action c.loop-pcid.yielded (now ∷ [])))
 
 pub returns : goal.returns
 returns g c =
     let all = entries_of c.args.spaces.now.map c.args.page in
     let here = c.into_iter-pcid-iterator.ensures.into_iter_gives ∙ c.entries_of-pcid-items.ensures in
-    let end = YieldsList-end (YieldsList-from_first (λ x. x) (λ entries. entries) all here) c.loop-pcid.yielded _ c.loop-pcid.yielded_by _ _ c.in-None.is c.next.ensures.steps in
+    let end = YieldsList-end (YieldsList-from_first (λ x. x) (λ entries. entries) all here) c.loop-pcid.yielded _
+    c.loop-pcid.yielded_by _ _ c.in-None.is c.next.ensures.steps in
     c.loop-pcid.invariant
-    ∙ ap (λ (entries : List (ℕ × ℕ)). map (λ x. told_all x (map (λ entry. IndividualAddress entry.0 entry.1) entries)) c.args.processors.now) (sym (map-id c.loop-pcid.yielded) ∙ end.0)
+    ∙ ap (λ (entries : List (ℕ × ℕ)).
+    map (λ x. told_all x (map (λ entry. IndividualAddress entry.0 entry.1) entries)) c.args.processors.now)
+    (sym (map-id c.loop-pcid.yielded) ∙ end.0)

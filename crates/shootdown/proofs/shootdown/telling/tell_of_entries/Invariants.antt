@@ -6,4 +6,5 @@ use Rattle.shootdown.proofs.shootdown.telling.tell_of_entries.Given as goal
 -- the processors are told of the entries that were listed
 abbrev pub invariant-loop-pcid : goal.invariant-loop-pcid
 invariant-loop-pcid g l =
-    l.processors ≡ map (λ x. told_all x (map (λ entry. IndividualAddress entry.0 entry.1) l.yielded)) l.initial.processors
+    l.processors
+    ≡ map (λ x. told_all x (map (λ entry. IndividualAddress entry.0 entry.1) l.yielded)) l.initial.processors

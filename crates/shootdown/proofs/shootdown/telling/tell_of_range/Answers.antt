@@ -11,7 +11,9 @@ use Rattle.shootdown.proofs.shootdown.telling.tell_of_range.Goals as goal
 pub loop-page-init : goal.loop-page-init
 loop-page-init g c =
     let none : c.args.range.first - c.args.range.first ≡ 0 = omega arith in
-    sym (map-id c.args.processors.now) ∙ ap (λ n. map (λ x. told_all x (map (IndividualAddress c.args.pcid) (range_with_len c.args.range.first n))) c.args.processors.now) (sym none)
+    sym (map-id c.args.processors.now)
+    ∙ ap (λ n. map (λ x. told_all x (map (IndividualAddress c.args.pcid) (range_with_len c.args.range.first n)))
+    c.args.processors.now) (sym none)
 
 pub loop-page-preserved : goal.loop-page-preserved
 loop-page-preserved g c =
@@ -20,5 +22,6 @@ loop-page-preserved g c =
     let page = c.loop-page.page in
     let pcid = c.args.pcid in
     c.tell_all-in-loop-page.ensures ∙ ap (map (λ x. told x (IndividualAddress pcid page))) c.loop-page.invariant
-    ∙ told-map_told_all (map (IndividualAddress pcid) (range_with_len first (page - first))) (IndividualAddress pcid page) xs
+    ∙ told-map_told_all (map (IndividualAddress pcid) (range_with_len first (page - first)))
+    (IndividualAddress pcid page) xs
     ∙ ap (λ (actions : List Invpcid). map (λ x. told_all x actions) xs) (addresses_more pcid first page (omega arith))

@@ -7,4 +7,6 @@ use Rattle.shootdown.proofs.shootdown.telling.tell_of_range.Given as goal
 -- the processors are told of the pages below
 abbrev pub invariant-loop-page : goal.invariant-loop-page
 invariant-loop-page g l =
-    l.processors ≡ map (λ x. told_all x (map (IndividualAddress l.pcid) (range_with_len l.fn.range.first (l.page - l.fn.range.first)))) l.initial.processors
+    l.processors ≡ map (λ x.
+    told_all x (map (IndividualAddress l.pcid) (range_with_len l.fn.range.first (l.page - l.fn.range.first))))
+    l.initial.processors

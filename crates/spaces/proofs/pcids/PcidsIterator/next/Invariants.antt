@@ -6,7 +6,8 @@ use Rattle.spaces.proofs.pcids.PcidsIterator.next.Given as goal
 abbrev pub invariant-loop-slot : goal.invariant-loop-slot
 invariant-loop-slot g l = record {
   small : l.self-inside.next + length l.self-inside.slots.now ≤ 4096;
-  same : listed_from l.self-inside.next l.self-inside.slots.now ≡ listed_from l.initial.self-inside.next l.initial.self-inside.slots.now;
+  same : listed_from l.self-inside.next l.self-inside.slots.now
+      ≡ listed_from l.initial.self-inside.next l.initial.self-inside.slots.now;
 }
 
 abbrev pub decreases-loop-slot : goal.decreases-loop-slot

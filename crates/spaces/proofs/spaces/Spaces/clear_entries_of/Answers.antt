@@ -12,18 +12,36 @@ use Rattle.spaces.proofs.spaces.Spaces.clear_entries_of.Goals as goal
 pub invariant_of-self : goal.invariant_of-self
 invariant_of-self g c =
     let slots = c.self.inside.slots.items in
-    let is = c.clear_slots.ensures ∙ ap (map (option_map (edited (λ s. without_entries s.places c.args.page s.entries)))) c.deref_mut.ensures.value in
-    let whole = written c.self.inside.slots.len c.clear_slots.new.slots slots (omega (arith, c.self.inside.slots.ok.0)) (ap length is ∙ length-map slots (option_map (edited (λ s. without_entries s.places c.args.page s.entries)))) ∙ is in (
+    let is =
+    c.clear_slots.ensures
+    ∙ ap (map (option_map (edited (λ s. without_entries s.places c.args.page s.entries)))) c.deref_mut.ensures.value in
+    let whole =
+    written c.self.inside.slots.len c.clear_slots.new.slots slots (omega (arith, c.self.inside.slots.ok.0))
+    (ap length is ∙ length-map slots (option_map (edited (λ s. without_entries s.places c.args.page s.entries))))
+    ∙ is in (
       subst (λ l. AreSlots l c.self.inside.prepared) (sym whole)
-          (slots_edited (λ s. without_entries s.places c.args.page s.entries) slots c.self.inside.prepared c.self.invariant.0 (without_entries_of c.args.page (spaces_of slots)) (edits-cleared slots c.args.page) (absent_stays_cleared c.args.page (spaces_of slots))),
-      subst (λ l. AreInUse l c.self.inside.in_use) (sym whole) (in_use_cleared slots c.self.inside.in_use c.args.page c.self.invariant.1),
-      subst (λ l. AreFreed l c.self.inside.freed) (sym whole) (freed_edited (λ s. without_entries s.places c.args.page s.entries) slots c.self.inside.freed c.self.invariant.2),
+          (slots_edited (λ s. without_entries s.places c.args.page s.entries) slots c.self.inside.prepared
+          c.self.invariant.0 (without_entries_of c.args.page (spaces_of slots)) (edits-cleared slots c.args.page)
+          (absent_stays_cleared c.args.page (spaces_of slots))),
+      subst (λ l. AreInUse l c.self.inside.in_use) (sym whole)
+          (in_use_cleared slots c.self.inside.in_use c.args.page c.self.invariant.1),
+      subst (λ l. AreFreed l c.self.inside.freed) (sym whole)
+          (freed_edited (λ s. without_entries s.places c.args.page s.entries) slots c.self.inside.freed
+          c.self.invariant.2),
     )
 
 pub returns-clause-entries : goal.returns-clause-entries
 returns-clause-entries g c =
     let slots = c.self.inside.slots.items in
-    let is = c.clear_slots.ensures ∙ ap (map (option_map (edited (λ s. without_entries s.places c.args.page s.entries)))) c.deref_mut.ensures.value in
-    let whole = written c.self.inside.slots.len c.clear_slots.new.slots slots (omega (arith, c.self.inside.slots.ok.0)) (ap length is ∙ length-map slots (option_map (edited (λ s. without_entries s.places c.args.page s.entries)))) ∙ is in
-    subst (λ l. EditsEntries (without_entries_of c.args.page c.args.self.now.map) c.args.self.now.map (spaces_of l)) (sym whole)
-    (subst (λ (s : SpacesState). EditsEntries (without_entries_of c.args.page s.map) s.map (spaces_of (map (option_map (edited (λ s. without_entries s.places c.args.page s.entries))) slots))) c.self.view_is (edits-cleared slots c.args.page))
+    let is =
+    c.clear_slots.ensures
+    ∙ ap (map (option_map (edited (λ s. without_entries s.places c.args.page s.entries)))) c.deref_mut.ensures.value in
+    let whole =
+    written c.self.inside.slots.len c.clear_slots.new.slots slots (omega (arith, c.self.inside.slots.ok.0))
+    (ap length is ∙ length-map slots (option_map (edited (λ s. without_entries s.places c.args.page s.entries))))
+    ∙ is in
+    subst (λ l. EditsEntries (without_entries_of c.args.page c.args.self.now.map) c.args.self.now.map (spaces_of l))
+    (sym whole)
+    (subst (λ (s : SpacesState). EditsEntries (without_entries_of c.args.page s.map) s.map
+    (spaces_of (map (option_map (edited (λ s. without_entries s.places c.args.page s.entries))) slots)))
+    c.self.view_is (edits-cleared slots c.args.page))

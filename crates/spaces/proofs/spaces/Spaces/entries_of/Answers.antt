@@ -14,7 +14,8 @@ unreachable-requires g c =
 
 pub unreachable-requires-in_default-slot : goal.unreachable-requires-in_default-slot
 unreachable-requires-in_default-slot g c =
-    first_slot_is_there c.self.inside.slots.items c.in-Some.slot.now c.in-Some.later.now c.self.invariant.0.spaces.first (sym c.deref.ensures.value ∙ c.in-Some.ensures.cases.0) c.in_default-slot.is
+    first_slot_is_there c.self.inside.slots.items c.in-Some.slot.now c.in-Some.later.now c.self.invariant.0.spaces.first
+    (sym c.deref.ensures.value ∙ c.in-Some.ensures.cases.0) c.in_default-slot.is
 
 pub returns : goal.returns
 returns g c =
@@ -22,7 +23,11 @@ returns g c =
     let owner = c.args.page in
     let are = sym c.deref.ensures.value ∙ c.in-Some.ensures.cases.0 in
     let first = c.in-Some-slot.first in
-    let listed = entries-spaces_of slots ∙ ap (listed_from 0) are ∙ ap (λ slot. with_slot 0 slot (listed_from 1 c.in-Some.later.now)) c.in-Some-slot.is in
-    ap (λ (here : List ℕ). map (λ page. (0, page)) here ++ entries_in (listed_from 1 c.in-Some.later.now) owner) c.entry_pages.ensures
+    let listed =
+    entries-spaces_of slots
+    ∙ ap (listed_from 0) are
+    ∙ ap (λ slot. with_slot 0 slot (listed_from 1 c.in-Some.later.now)) c.in-Some-slot.is in
+    ap (λ (here : List ℕ). map (λ page. (0, page)) here ++ entries_in (listed_from 1 c.in-Some.later.now) owner)
+    c.entry_pages.ensures
     ∙ sym (ap (λ spaces. entries_in spaces owner) listed)
     ∙ ap (λ (s : SpacesState). entries_of s.map owner) c.self.view_is

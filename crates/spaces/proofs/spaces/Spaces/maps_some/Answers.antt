@@ -6,4 +6,5 @@ use Rattle.spaces.proofs.spaces.Spaces.maps_some.Goals as goal
 
 pub returns-in-None : goal.returns-in-None
 returns-in-None g c =
-    sym (ap (λ (x : AddressSpace). any_mapped x.places c.args.range.first c.args.range.count) c.in-None.ensures.missing.nothing ∙ any_mapped-empty c.args.range.first c.args.range.count)
+    sym (ap (λ (x : AddressSpace). any_mapped x.places c.args.range.first c.args.range.count)
+    c.in-None.ensures.missing.nothing ∙ any_mapped-empty c.args.range.first c.args.range.count)

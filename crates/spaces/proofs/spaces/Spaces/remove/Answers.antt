@@ -31,5 +31,7 @@ pub returns : goal.returns
 returns g c =
     let slots = c.self.inside.slots.items in
     let user = subst (λ (s : SpacesState). is_user_space s.map c.args.pcid ≡ true) (sym c.self.view_is) c.requires in
-    let now = spaces_of-clear slots c.args.pcid (within_slots slots c.args.pcid (user_space (spaces_of slots) c.args.pcid user).1) ∙ ap (λ (s : SpacesState). maps.remove s.map c.args.pcid) c.self.view_is in
+    let now =
+    spaces_of-clear slots c.args.pcid (within_slots slots c.args.pcid (user_space (spaces_of slots) c.args.pcid user).1)
+    ∙ ap (λ (s : SpacesState). maps.remove s.map c.args.pcid) c.self.view_is in
     λ i. record { map = now i; prepared = None }

@@ -10,43 +10,59 @@ use Rattle.spaces.proofs.spaces.Spaces.unmap.Goals as goal
 
 pub index_mut-requires : goal.index_mut-requires
 index_mut-requires g c =
-    let there : has_space (spaces_of c.self.inside.slots.items) c.args.pcid ≡ true = (user_space (spaces_of c.self.inside.slots.items) c.args.pcid (c.self.invariant.0.ready c.args.pcid c.args.range None (ap (λ (s : SpacesState). s.prepared) c.self.view_is ∙ c.requires)).user_space).1 in
+    let there : has_space (spaces_of c.self.inside.slots.items) c.args.pcid ≡ true =
+    (user_space (spaces_of c.self.inside.slots.items) c.args.pcid (c.self.invariant.0.ready c.args.pcid c.args.range
+    None (ap (λ (s : SpacesState). s.prepared) c.self.view_is ∙ c.requires)).user_space).1 in
     let within = within_slots c.self.inside.slots.items c.args.pcid there in
     omega (arith, c.self.inside.slots.ok.0)
 
 pub unreachable-requires : goal.unreachable-requires
 unreachable-requires g c =
-    let there : has_space (spaces_of c.self.inside.slots.items) c.args.pcid ≡ true = (user_space (spaces_of c.self.inside.slots.items) c.args.pcid (c.self.invariant.0.ready c.args.pcid c.args.range None (ap (λ (s : SpacesState). s.prepared) c.self.view_is ∙ c.requires)).user_space).1 in
-    never_missing c.self.inside.slots.items c.args.pcid c.index_mut.result.now there c.index_mut.ensures.value c.in_default.is
+    let there : has_space (spaces_of c.self.inside.slots.items) c.args.pcid ≡ true =
+    (user_space (spaces_of c.self.inside.slots.items) c.args.pcid (c.self.invariant.0.ready c.args.pcid c.args.range
+    None (ap (λ (s : SpacesState). s.prepared) c.self.view_is ∙ c.requires)).user_space).1 in
+    never_missing c.self.inside.slots.items c.args.pcid c.index_mut.result.now there c.index_mut.ensures.value
+    c.in_default.is
 
 pub unmap-requires-clause-user : goal.unmap-requires-clause-user
 unmap-requires-clause-user g c =
-    (c.self.invariant.0.ready c.args.pcid c.args.range None (ap (λ (s : SpacesState). s.prepared) c.self.view_is ∙ c.requires)).user_range
+    (c.self.invariant.0.ready c.args.pcid c.args.range None
+    (ap (λ (s : SpacesState). s.prepared) c.self.view_is ∙ c.requires)).user_range
 
 pub unmap-requires-clause-room : goal.unmap-requires-clause-room
 unmap-requires-clause-room g c =
     let slots = c.self.inside.slots.items in
-    let ready = c.self.invariant.0.ready c.args.pcid c.args.range None (ap (λ (s : SpacesState). s.prepared) c.self.view_is ∙ c.requires) in
-    ready.room c.in-Some.space (slot_is c.self.inside.slots.items c.args.pcid c.index_mut.result.now c.in-Some.space (user_space (spaces_of slots) c.args.pcid ready.user_space).1 c.index_mut.ensures.value c.in-Some.is)
+    let ready = c.self.invariant.0.ready c.args.pcid c.args.range None
+    (ap (λ (s : SpacesState). s.prepared) c.self.view_is ∙ c.requires) in
+    ready.room c.in-Some.space (slot_is c.self.inside.slots.items c.args.pcid c.index_mut.result.now c.in-Some.space
+    (user_space (spaces_of slots) c.args.pcid ready.user_space).1 c.index_mut.ensures.value c.in-Some.is)
 
 pub invariant_of-self : goal.invariant_of-self
 invariant_of-self g c =
     let slots = c.self.inside.slots.items in
-    let ready = c.self.invariant.0.ready c.args.pcid c.args.range None (ap (λ (s : SpacesState). s.prepared) c.self.view_is ∙ c.requires) in
+    let ready = c.self.invariant.0.ready c.args.pcid c.args.range None
+    (ap (λ (s : SpacesState). s.prepared) c.self.view_is ∙ c.requires) in
     let there = (user_space (spaces_of slots) c.args.pcid ready.user_space).1 in
-    let at = slot_is c.self.inside.slots.items c.args.pcid c.index_mut.result.now c.in-Some.space (user_space (spaces_of slots) c.args.pcid ready.user_space).1 c.index_mut.ensures.value c.in-Some.is in
-    let is = set-without_mapping slots c.args.pcid c.in-Some.space at c.unmap.new.self c.args.range c.unmap.ensures.places c.unmap.ensures.entries in (
+    let at = slot_is c.self.inside.slots.items c.args.pcid c.index_mut.result.now c.in-Some.space
+    (user_space (spaces_of slots) c.args.pcid ready.user_space).1 c.index_mut.ensures.value c.in-Some.is in
+    let is = set-without_mapping slots c.args.pcid c.in-Some.space at c.unmap.new.self c.args.range
+    c.unmap.ensures.places c.unmap.ensures.entries in (
       slots_changed slots c.args.pcid c.in-Some.space at c.unmap.new.self c.self.inside.prepared c.self.invariant.0
-          (subst AreSpaces (sym is) (AreSpaces-without_mapping (spaces_of slots) c.args.pcid c.args.range c.self.invariant.0.spaces there)),
-      in_use_outside slots c.self.inside.in_use c.args.pcid c.args.range.first (c.args.range.first + c.args.range.count) c.in-Some.space c.unmap.new.self c.self.invariant.1 at c.unmap.ensures.entries,
+          (subst AreSpaces (sym is)
+          (AreSpaces-without_mapping (spaces_of slots) c.args.pcid c.args.range c.self.invariant.0.spaces there)),
+      in_use_outside slots c.self.inside.in_use c.args.pcid c.args.range.first (c.args.range.first + c.args.range.count)
+          c.in-Some.space c.unmap.new.self c.self.invariant.1 at c.unmap.ensures.entries,
       freed_same slots c.self.inside.freed c.args.pcid c.in-Some.space c.unmap.new.self c.self.invariant.2 at,
     )
 
 pub returns : goal.returns
 returns g c =
     let slots = c.self.inside.slots.items in
-    let ready = c.self.invariant.0.ready c.args.pcid c.args.range None (ap (λ (s : SpacesState). s.prepared) c.self.view_is ∙ c.requires) in
-    let at = slot_is c.self.inside.slots.items c.args.pcid c.index_mut.result.now c.in-Some.space (user_space (spaces_of slots) c.args.pcid ready.user_space).1 c.index_mut.ensures.value c.in-Some.is in
-    let is = set-without_mapping slots c.args.pcid c.in-Some.space at c.unmap.new.self c.args.range c.unmap.ensures.places c.unmap.ensures.entries in
+    let ready = c.self.invariant.0.ready c.args.pcid c.args.range None
+    (ap (λ (s : SpacesState). s.prepared) c.self.view_is ∙ c.requires) in
+    let at = slot_is c.self.inside.slots.items c.args.pcid c.index_mut.result.now c.in-Some.space
+    (user_space (spaces_of slots) c.args.pcid ready.user_space).1 c.index_mut.ensures.value c.in-Some.is in
+    let is = set-without_mapping slots c.args.pcid c.in-Some.space at c.unmap.new.self c.args.range
+    c.unmap.ensures.places c.unmap.ensures.entries in
     let now = is ∙ ap (λ (s : SpacesState). without_mapping s.map c.args.pcid c.args.range) c.self.view_is in
     λ i. record { map = now i; prepared = None }
