@@ -62,7 +62,7 @@ enum famsync_code {
     FAMSYNC_SEGVACCERR = -24, /* the mapping doesn't allow this access */
     FAMSYNC_BUSADRERR = -25,  /* the page is past the file's end */
     FAMSYNC_NOFRAME = -27,    /* more pages were stored to, or added to a file, than one commit can have */
-    FAMSYNC_DEVICE = -28,     /* a read, a write or a sync of the volume failed, or was refused memory */
+    FAMSYNC_DEVICE = -28,     /* a read, a write or a sync of the volume failed, or had no memory; errno says how */
     FAMSYNC_BROKEN = -29,     /* a write or a sync failed earlier, and the session is over */
     FAMSYNC_EINVAL = -30,     /* a number is outside the range that the volume or its addresses have */
     FAMSYNC_ENOMEM = -31,     /* there are no addresses left */
@@ -131,7 +131,7 @@ int famsync_store(famsync *handle, uint64_t address, const void *bytes, size_t c
    next call takes them again. FAMSYNC_NOFRAME: the pages that were stored to are more than one commit can have; no
    later call can commit them either. FAMSYNC_DEVICE: a write or a sync failed, nothing is acknowledged, and the session
    is over: each later call answers FAMSYNC_BROKEN. Where that was a sync, the volume is marked as suspect, as the
-   program does it.
+   program does it. errno says how, and is ENOMEM where memory was refused: then the disk isn't to blame.
 
    What a commit writes after its acknowledgement is written by a thread of the library's own while nobody calls, or by
    the next commit; with `foreground` there is no such thread. */

@@ -8,8 +8,6 @@
 
 /* Where the first mapping lies. */
 #define FIRST_ADDRESS 65536u
-/* How many writes are gathered at least, besides one for each frame. */
-#define GATHERED 16u
 
 bool is_forked(const famsync *handle)
 {
@@ -21,6 +19,7 @@ static int why_over(famsync *handle)
 {
     bool told = handle->told;
     handle->told = true;
+    errno = handle->error;
     return told ? FAMSYNC_BROKEN : handle->ended;
 }
 
@@ -109,8 +108,9 @@ static int open_core(famsync *handle, const struct famsync_options *options)
     }
     if (code == FAMSYNC_OK)
         code = read_files(handle);
+    /* Between two syncs no more is written than a journal has, which comes before the files. */
     if (code == FAMSYNC_OK)
-        code = begin_gathering(&handle->gathered, handle->frames + GATHERED);
+        code = begin_gathering(&handle->gathered, handle->head);
     return code == FAMSYNC_OK ? drain(handle) : code;
 }
 
@@ -200,7 +200,7 @@ static int finish(famsync *handle)
 {
     int code = FAMSYNC_OK;
     while (handle->left && code == FAMSYNC_OK)
-        code = write_out(handle, UINT32_MAX);
+        code = write_out(handle, false);
     return code;
 }
 
@@ -220,6 +220,8 @@ int famsync_close(famsync *handle)
     pthread_mutex_unlock(&handle->turn);
     end_background(handle);
     code = handle->ended == FAMSYNC_OK ? finish(handle) : handle->ended;
+    if (handle->ended != FAMSYNC_OK)
+        errno = handle->error;
     drop(handle);
     return code;
 }

@@ -1,13 +1,19 @@
 /* What a commit writes after its acknowledgement: its pages to their places, while nobody calls. */
 #include "inside.h"
 
-/* The most steps that are made while a call may have to wait for them. */
-#define STEPS 256
-
-int write_out(famsync *handle, uint32_t steps)
+/* Neighbours are one system call where they are gathered together, so nothing is written before the steps ask for a
+   sync. Between two steps the thread gives way: a call waits for one of them, which copies a page; or where they ask
+   for a sync, for the writes of one commit and for that sync, as it waits for a commit, which has two. */
+int write_out(famsync *handle, bool gives_way)
 {
-    int32_t answer = famsync_core_write_out(handle->core, steps, &handle->core.at);
-    int code = drain(handle);
+    int32_t answer;
+    int code;
+    do {
+        if (gives_way && atomic_load(&handle->callers) > 0)
+            return FAMSYNC_OK;
+        answer = famsync_core_write_out(handle->core, 1, &handle->core.at);
+    } while (answer == FAMSYNC_CORE_OK && !ends_with_sync(handle));
+    code = drain(handle);
     handle->left = answer == FAMSYNC_CORE_OK && code == FAMSYNC_OK;
     return code != FAMSYNC_OK ? code : answer_of(handle, answer);
 }
@@ -19,7 +25,7 @@ static void *work(void *argument)
     pthread_mutex_lock(&handle->turn);
     while (!handle->stopping) {
         if (handle->left && handle->ended == FAMSYNC_OK && atomic_load(&handle->callers) == 0)
-            (void)write_out(handle, STEPS);
+            (void)write_out(handle, true);
         else
             pthread_cond_wait(&handle->work, &handle->turn);
         /* whoever came meanwhile goes first */

@@ -1,6 +1,7 @@
 /* Codes in words, and the library's codes for those of the core. */
 #include "inside.h"
 
+#include <errno.h>
 #include <stdarg.h>
 #include <stdio.h>
 
@@ -73,11 +74,22 @@ int code_of(int64_t core_code)
     }
 }
 
+/* The core has no frame also where it had no memory to write a commit home, by which one gets free. Then it refuses the
+   next step of that; else nothing is left of it. */
+static int why_no_frame(famsync *handle)
+{
+    int code = write_out(handle, false);
+    return code == FAMSYNC_OK ? FAMSYNC_NOFRAME : code;
+}
+
 int answer_of(famsync *handle, int64_t core_code)
 {
+    if (core_code == FAMSYNC_CORE_NOFRAME)
+        return why_no_frame(handle);
     if (core_code != FAMSYNC_CORE_DEVICE && core_code != FAMSYNC_CORE_BROKEN)
         return code_of(core_code);
     handle->ended = FAMSYNC_DEVICE;
+    handle->error = errno = ENOMEM;
     return FAMSYNC_DEVICE;
 }
 

@@ -2,12 +2,24 @@
    meanwhile. */
 #include "inside.h"
 
+#include <errno.h>
+
+/* Where the commit before was begun to be written home, its writes wait for a sync of their own: that of another commit
+   would part them. */
+static int end_write_out(famsync *handle)
+{
+    return famsync_core_waiting(handle->core, &handle->core.at) > 0 ? write_out(handle, false) : FAMSYNC_OK;
+}
+
 /* Makes a commit in the core, and what it records; it is acknowledged once all that was made. */
 static int commit(famsync *handle, uint64_t *mark)
 {
     uint32_t number = 0;
-    int code = answer_of(handle, famsync_core_commit(handle->core, &number, &handle->core.at));
-    int drained = drain(handle);
+    int code = end_write_out(handle), drained;
+    if (code != FAMSYNC_OK)
+        return code;
+    code = answer_of(handle, famsync_core_commit(handle->core, &number, &handle->core.at));
+    drained = drain(handle);
     if (drained != FAMSYNC_OK)
         return drained;
     if (code != FAMSYNC_OK)
@@ -42,17 +54,19 @@ static void commit_for_waiters(famsync *handle)
 {
     struct waiter *waiters, *next;
     uint64_t mark = 0;
-    int code = enter(handle);
+    int code = enter(handle), error;
     pthread_mutex_lock(&handle->queue);
     waiters = handle->waiters;
     handle->waiters = NULL;
     pthread_mutex_unlock(&handle->queue);
     if (code == FAMSYNC_OK)
         code = leave(handle, commit_stores(handle, &mark));
+    error = errno;
     pthread_mutex_lock(&handle->queue);
     for (struct waiter *waiter = waiters; waiter; waiter = next) {
         next = waiter->next;
         waiter->code = code;
+        waiter->error = error;
         waiter->mark = mark;
         waiter->done = true;
     }
@@ -84,5 +98,7 @@ int famsync_msync(famsync *handle, uint64_t *mark)
     pthread_mutex_unlock(&handle->queue);
     if (mine.code == FAMSYNC_OK && mark)
         *mark = mine.mark;
+    if (mine.code != FAMSYNC_OK)
+        errno = mine.error;
     return mine.code;
 }

@@ -42,6 +42,7 @@ void end_gathering(struct gathered *gathered)
 static int fail(famsync *handle)
 {
     handle->ended = FAMSYNC_DEVICE;
+    handle->error = errno;
     return FAMSYNC_DEVICE;
 }
 
@@ -125,6 +126,13 @@ static bool look_at(famsync *handle, uint32_t others, struct call *call)
                              &handle->core.at) == FAMSYNC_CORE_OK;
 }
 
+bool ends_with_sync(famsync *handle)
+{
+    int64_t waiting = famsync_core_waiting(handle->core, &handle->core.at);
+    struct call newest;
+    return waiting > 0 && look_at(handle, (uint32_t)waiting - 1, &newest) && newest.kind == KIND_SYNC;
+}
+
 /* Gathers the oldest writes, up to a sync or to one that can't go with them. */
 static void gather_oldest(famsync *handle)
 {
@@ -192,6 +200,8 @@ int drain(famsync *handle)
 {
     struct call oldest;
     int code = FAMSYNC_OK;
+    if (!ends_with_sync(handle))
+        return FAMSYNC_OK;
     while (code == FAMSYNC_OK && look_at(handle, 0, &oldest))
         code = oldest.kind == KIND_SYNC ? make_sync(handle) : make_writes(handle);
     return code;

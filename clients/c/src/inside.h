@@ -74,7 +74,7 @@ struct reading {
 struct waiter {
     struct waiter *next;
     bool done;
-    int code;
+    int code, error; /* what it is answered, and errno */
     uint64_t mark;
 };
 
@@ -85,6 +85,7 @@ struct famsync {
     famsync_core core;    /* the handle; it never leaves the library */
     struct volume volume;
     int ended; /* FAMSYNC_DEVICE once a write or a sync has failed */
+    int error; /* and errno then */
     bool told; /* a call has answered that */
     bool torn; /* memory was closed of which a refused msync had stored a part */
     unsigned files;
@@ -115,7 +116,7 @@ struct famsync {
 };
 
 /* codes.c: the code of the library for one of the core; and for one that a request of the session was answered: where
-   the core had no memory to record a call, now or earlier, the session is over. */
+   the core had no memory to record a call, now or earlier, the session is over, and errno is ENOMEM. */
 int code_of(int64_t core_code);
 int answer_of(famsync *handle, int64_t core_code);
 
@@ -136,8 +137,11 @@ void unlock_volume(struct volume *volume);
 /* Marks a volume as suspect, and makes sure that the mark is on the disk. */
 int mark_suspect(const struct volume *volume);
 
-/* drain.c: makes the calls that the core has recorded. An error ends the session. */
+/* drain.c: makes the calls that the core has recorded, unless the newest of them is a write: writes that aren't to be
+   synced yet wait. An error ends the session. */
 int drain(famsync *handle);
+/* Whether the newest of the calls that wait is a sync. */
+bool ends_with_sync(famsync *handle);
 int begin_gathering(struct gathered *gathered, unsigned pieces);
 void end_gathering(struct gathered *gathered);
 
@@ -163,8 +167,8 @@ bool has_memory(const famsync *handle, unsigned file);
 /* background.c: the thread that writes what is left of a commit. */
 void begin_background(famsync *handle);
 void end_background(famsync *handle);
-/* Makes up to so many steps of what is left of a commit; the caller has its turn. */
-int write_out(famsync *handle, uint32_t steps);
+/* Makes what is left of a commit, up to its next sync, or until another call comes; the caller has its turn. */
+int write_out(famsync *handle, bool gives_way);
 
 /* forks.c: the handles of this process, so that a forked one lets their volumes go. */
 void enter_handle(famsync *handle);

@@ -72,6 +72,12 @@ int mark_suspect(const struct volume *volume)
     return FAMSYNC_OK;
 }
 
+int64_t famsync_core_waiting(famsync_core core, uint8_t **at)
+{
+    *at = core.at;
+    return calls - told;
+}
+
 int32_t famsync_core_call(famsync_core core, uint32_t index, uint32_t *kind, uint64_t *offset, const uint8_t **bytes,
                           uint64_t *length, uint8_t **at)
 {
@@ -154,6 +160,7 @@ static void any_calls(unsigned seed)
         else
             record_write(page + (uint64_t)rand() % PAGE, (uint64_t)rand() % 200 + 1);
     }
+    record_sync();
     in_parts = seed % 2 == 0;
     want(drained(seed % 5 == 0 ? 1 : 1 + seed % 40) == FAMSYNC_OK && told == calls, "calls are left");
     in_parts = false;
@@ -187,6 +194,19 @@ static void failing(void)
     }
 }
 
+/* Writes behind which no sync waits are left, and made with those that come. */
+static void not_synced_yet(void)
+{
+    begin(4);
+    want(drained(16) == FAMSYNC_OK && writes == 0, "a write where none waits");
+    record_write(4096, 4096);
+    want(drained(16) == FAMSYNC_OK && told == 0 && writes == 0, "a write was made before its sync");
+    record_write(0, 4096);
+    record_write(8192, 4096);
+    record_sync();
+    want(drained(16) == FAMSYNC_OK && told == 4 && writes == 1 && syncs == 1, "neighbours weren't made together");
+}
+
 int main(void)
 {
     for (unsigned seed = 1; seed <= 400; seed++)
@@ -196,6 +216,7 @@ int main(void)
     neighbours(1024, 1);
     neighbours(1025, 2);
     failing();
+    not_synced_yet();
     printf("clients/c: drain: as it should be\n");
     return 0;
 }

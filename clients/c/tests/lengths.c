@@ -10,18 +10,18 @@ static uint64_t mapped(famsync *handle, const char *file, uint64_t length)
     return address;
 }
 
-static void grows_and_shrinks(void)
+static unsigned char bytes[CAPACITY], found[CAPACITY], none[CAPACITY];
+
+static void grows(void)
 {
-    static unsigned char bytes[CAPACITY], found[CAPACITY], none[CAPACITY];
     uint64_t address;
-    size_t done;
     make_volume_of(3, 12, "a=5000/40000 b=0/4096");
     famsync *handle = opened();
     WANT(famsync_frames(handle) == 11 && famsync_file_length(handle, 0) == 5000 && famsync_file_length(handle, 1) == 0);
     memset(bytes, 7, sizeof bytes);
     address = mapped(handle, "a", CAPACITY);
     WANT_CODE(famsync_store(handle, address, bytes, 5000, NULL), FAMSYNC_OK);
-    WANT_CODE(famsync_store(handle, address + 8192, bytes, 1, &done), FAMSYNC_BUSADRERR);
+    WANT_CODE(famsync_store(handle, address + 8192, bytes, 1, NULL), FAMSYNC_BUSADRERR);
     WANT_CODE(famsync_msync(handle, NULL), FAMSYNC_OK);
     /* what it grows by is zeros, which can be stored to; nothing of it is durable yet */
     WANT_CODE(famsync_setlength(handle, "a", 20000), FAMSYNC_OK);
@@ -39,9 +39,15 @@ static void grows_and_shrinks(void)
     WANT_CODE(famsync_setlength(handle, "a", 20000), FAMSYNC_OK);
     WANT_CODE(famsync_msync(handle, NULL), FAMSYNC_OK);
     WANT_CODE(famsync_close(handle), FAMSYNC_OK);
-    handle = opened();
+}
+
+/* The next session finds it, and makes it shorter. */
+static void shrinks(void)
+{
+    famsync *handle = opened();
+    uint64_t address = mapped(handle, "a", CAPACITY);
+    size_t done;
     WANT(famsync_file_length(handle, 0) == 20000);
-    address = mapped(handle, "a", CAPACITY);
     WANT_CODE(famsync_load(handle, address, found, 20000, NULL), FAMSYNC_OK);
     WANT(memcmp(found, bytes, 5000) == 0 && memcmp(found + 5000, none, 14999) == 0 && found[19999] == 7);
     /* what is cut off is gone, also where it grows again */
@@ -94,7 +100,6 @@ static void plain_memory(void)
 
 static void refusals(void)
 {
-    static unsigned char bytes[4 * 4096];
     uint64_t address;
     make_volume_of(3, 6, "a=5000/40000 b=16384");
     famsync *handle = opened();
@@ -116,20 +121,23 @@ static void refusals(void)
     WANT_CODE(famsync_setlength(handle, "a", 4096), FAMSYNC_OK);
     WANT_CODE(famsync_msync(handle, NULL), FAMSYNC_OK);
     address = mapped(handle, "b", 0);
-    WANT_CODE(famsync_load(handle, address, bytes, sizeof bytes, NULL), FAMSYNC_OK);
+    WANT_CODE(famsync_load(handle, address, bytes, 16384, NULL), FAMSYNC_OK);
     WANT_CODE(famsync_setlength(handle, "a", 16384), FAMSYNC_OK);
     WANT_CODE(famsync_msync(handle, NULL), FAMSYNC_OK);
     WANT_CODE(famsync_setlength(handle, "a", 4096), FAMSYNC_OK);
     WANT_CODE(famsync_msync(handle, NULL), FAMSYNC_OK);
-    WANT_CODE(famsync_store(handle, address, bytes, sizeof bytes, NULL), FAMSYNC_OK);
+    WANT_CODE(famsync_store(handle, address, bytes, 16384, NULL), FAMSYNC_OK);
     WANT_CODE(famsync_setlength(handle, "a", 16384), FAMSYNC_NOFRAME);
     WANT_CODE(famsync_msync(handle, NULL), FAMSYNC_OK);
     WANT_CODE(famsync_setlength(handle, "a", 16384), FAMSYNC_OK);
     WANT_CODE(famsync_close(handle), FAMSYNC_OK);
-    /* layouts without lengths */
+}
+
+static void layouts_without_lengths(void)
+{
     for (unsigned layout = 1; layout <= 2; layout++) {
         make_volume_of(layout, 6, "a=5000");
-        handle = opened();
+        famsync *handle = opened();
         WANT_CODE(famsync_setlength(handle, "a", 5000), FAMSYNC_EINVAL);
         WANT_CODE(famsync_setlength(handle, "a", 4000), FAMSYNC_EINVAL);
         WANT_CODE(famsync_msync(handle, NULL), FAMSYNC_OK);
@@ -186,9 +194,11 @@ static void forked(void)
 
 int main(void)
 {
-    grows_and_shrinks();
+    grows();
+    shrinks();
     plain_memory();
     refusals();
+    layouts_without_lengths();
     threads();
     forked();
     printf("clients/c: lengths: as it should be\n");

@@ -49,11 +49,14 @@ static void stores_are_kept(void)
     WANT_CODE(famsync_memory_close(a), FAMSYNC_OK);
     WANT_CODE(famsync_memory_close(b), FAMSYNC_OK);
     WANT_CODE(famsync_close(handle), FAMSYNC_OK);
-    handle = opened();
-    a = memory_of(handle, "a");
-    b = memory_of(handle, "b");
-    at = famsync_memory_at(a);
-    other = famsync_memory_at(b);
+}
+
+/* By the next session. */
+static void stores_are_found(void)
+{
+    famsync *handle = opened();
+    famsync_memory *a = memory_of(handle, "a"), *b = memory_of(handle, "b");
+    unsigned char *at = famsync_memory_at(a), *other = famsync_memory_at(b);
     WANT(at[0] == 1 && at[1] == 0 && at[4095] == 2 && at[4096] == 3 && at[19999] == 4 && other[4999] == 5);
     /* loads and stores see what was committed */
     uint64_t address;
@@ -186,10 +189,19 @@ static void too_many_pages(void)
     for (int i = 0; i < 8; i++)
         WANT(at[i * 2 * 4096] == 1);
     WANT(at[8 * 2 * 4096] == 0);
-    /* Pages that famsync_store wrote count, too, and are found by the core alone: then a part was stored, which no
-       later call may commit. */
-    uint64_t address;
+    WANT_CODE(famsync_memory_close(a), FAMSYNC_OK);
+    WANT_CODE(famsync_close(handle), FAMSYNC_OK);
+}
+
+/* Of the same volume. Pages that famsync_store wrote count, too, and are found by the core alone: then a part was
+   stored, which no later call may commit. */
+static void too_many_with_stores(void)
+{
     static unsigned char bytes[4 * 4096];
+    famsync *handle = opened();
+    famsync_memory *a = memory_of(handle, "a");
+    unsigned char *at = famsync_memory_at(a);
+    uint64_t address;
     memset(bytes, 9, sizeof bytes);
     WANT_CODE(famsync_map(handle, "a", 16 * 4096, 0, FAMSYNC_READ | FAMSYNC_WRITE, &address), FAMSYNC_OK);
     WANT_CODE(famsync_store(handle, address, bytes, sizeof bytes, NULL), FAMSYNC_OK);
@@ -284,8 +296,10 @@ int main(void)
     handler_before();
     past_the_end();
     stores_are_kept();
+    stores_are_found();
     other_faults();
     too_many_pages();
+    too_many_with_stores();
     no_frames();
     rising_stores();
     many_handles();

@@ -505,8 +505,8 @@ int32_t famsync_core_write_out(famsync_core handle, uint32_t most, uint8_t **at)
     struct core *core = core_of(handle);
     struct journal *journal;
     *at = handle.at;
-    if (!core->open)
-        return FAMSYNC_CORE_ORDER;
+    if (!core->open || core->broken)
+        return core->open ? FAMSYNC_CORE_BROKEN : FAMSYNC_CORE_ORDER;
     for (; (journal = oldest_open(core)) && most > 0; most--)
         if (!step(core, journal))
             return broken(core);
@@ -636,13 +636,16 @@ static void drop_page(struct core *core, struct page *page)
     core->resident--;
 }
 
-/* Takes a clean page out of memory, if there is one, in turn; what is left of commits is written before. */
+/* Takes a clean page out of memory, if there is one, in turn; what is left of commits is written before. Where that
+   can't be recorded, nobody is told but by the next commit. */
 static bool make_room(struct core *core)
 {
     struct journal *journal;
-    while ((journal = oldest_open(core)))
-        if (!step(core, journal))
-            break;
+    while (!core->broken && (journal = oldest_open(core)))
+        if (!step(core, journal)) {
+            core->broken = true;
+            return false;
+        }
     for (uint32_t tries = 0; tries < 2 * core->blocks; tries++) {
         uint32_t block = core->turn++ % core->blocks;
         for (uint32_t i = 0; i < core->files; i++) {

@@ -6,9 +6,12 @@ static unsigned char pattern(size_t at, unsigned round)
     return (unsigned char)(at * 7 + at / 4096 * 13 + round * 101 + 1);
 }
 
-static void any_address_any_count(void)
+#define LENGTH 300000u
+
+/* Stores at each of some places, and loads what is there then. */
+static void store_each(famsync *handle, uint64_t address, unsigned char *bytes)
 {
-    static unsigned char bytes[300000], found[300000];
+    static unsigned char found[LENGTH];
     /* clang-format off */
     static const size_t cases[][2] = {
         {0, 0},     {0, 1},        {1, 7},         {4093, 8},     {4093, 9},         {65535, 1},      {65535, 2},
@@ -16,16 +19,8 @@ static void any_address_any_count(void)
         {8, 131072}, {4093, 70000}, {299999, 1},    {230000, 70000},
     };
     /* clang-format on */
-    uint64_t address, mark;
-    unsigned round = 0;
     size_t done;
-    make_volume(100, "a=300000 b=5000");
-    famsync *handle = opened();
-    WANT(famsync_files(handle) == 2 && famsync_frames(handle) == 100);
-    WANT(strcmp(famsync_file_name(handle, 1), "b") == 0 && famsync_file_length(handle, 1) == 5000);
-    WANT(famsync_file_name(handle, 2) == NULL);
-    WANT_CODE(famsync_map(handle, "a", 0, 0, FAMSYNC_READ | FAMSYNC_WRITE, &address), FAMSYNC_OK);
-    for (; round < sizeof cases / sizeof *cases; round++) {
+    for (unsigned round = 0; round < sizeof cases / sizeof *cases; round++) {
         size_t place = cases[round][0], count = cases[round][1];
         for (size_t i = 0; i < count; i++)
             bytes[place + i] = pattern(i, round);
@@ -35,6 +30,19 @@ static void any_address_any_count(void)
         WANT_CODE(famsync_load(handle, address + place, found, count, &done), FAMSYNC_OK);
         WANT(done == count && memcmp(found, bytes + place, count) == 0);
     }
+}
+
+static void any_address_any_count(void)
+{
+    static unsigned char bytes[LENGTH], found[LENGTH];
+    uint64_t address, mark;
+    make_volume(100, "a=300000 b=5000");
+    famsync *handle = opened();
+    WANT(famsync_files(handle) == 2 && famsync_frames(handle) == 100);
+    WANT(strcmp(famsync_file_name(handle, 1), "b") == 0 && famsync_file_length(handle, 1) == 5000);
+    WANT(famsync_file_name(handle, 2) == NULL);
+    WANT_CODE(famsync_map(handle, "a", 0, 0, FAMSYNC_READ | FAMSYNC_WRITE, &address), FAMSYNC_OK);
+    store_each(handle, address, bytes);
     WANT(famsync_acknowledged(handle) == 0);
     WANT_CODE(famsync_msync(handle, &mark), FAMSYNC_OK);
     WANT(mark == 1 && famsync_acknowledged(handle) == 1);

@@ -3,9 +3,14 @@
  * each, the same in all, that is raised by one and committed, round by round; `b` has the number as its length.
  *
  *   session VOLUME make [FILES]               makes a volume
- *   session VOLUME work ROUNDS [foreground]   prints each call that fails, and the number of each round that is done
+ *   session VOLUME work ROUNDS [foreground|few]
+ *                                             prints each call that fails, and the number of each round that is done;
+ *                                             `few`: in the foreground, with no more frames than a round stores to, and
+ *                                             another page is loaded after each
  *   session VOLUME load                       the same for ever, by three threads, each with pages of its own
  *   session VOLUME find [trust]               prints the numbers that are there
+ *
+ * A call that fails is printed with its code, and with errno where that says how.
  */
 #include "test.h"
 
@@ -13,16 +18,24 @@
 
 #define PAGES 10
 #define THREADS 3
-
-static int failures;
+#define FEW (PAGES + 1) /* as many pages as a round stores to */
 
 static int tell(const char *call, int code)
 {
     if (code == FAMSYNC_OK)
         return 0;
-    failures++;
-    printf("%s %d\n", call, code);
+    if (code == FAMSYNC_DEVICE || code == FAMSYNC_SYSTEM)
+        printf("%s %d %d\n", call, code, errno);
+    else
+        printf("%s %d\n", call, code);
     return 1;
+}
+
+/* Another page comes into memory, so that one of those that a commit had has to leave. */
+static int load_another(famsync *handle, uint64_t address, uint64_t number)
+{
+    unsigned char byte;
+    return tell("load", famsync_load(handle, address + (PAGES + number % PAGES) * 4096, &byte, 1, NULL));
 }
 
 /* The half of the pages is stored to by plain memory, and the other half by famsync_store. */
@@ -42,24 +55,33 @@ static int one_round(famsync *handle, famsync_memory *memory, uint64_t address, 
     return failed;
 }
 
-static int work(uint64_t rounds, bool foreground)
+static void make_rounds(famsync *handle, famsync_memory *memory, uint64_t address, uint64_t first, uint64_t end)
+{
+    bool few = famsync_frames(handle) == FEW;
+    int left = 3; /* a call that failed may be tried again */
+    for (uint64_t round = first; round < end && left > 0;) {
+        if (one_round(handle, memory, address, round)) {
+            left--;
+            continue;
+        }
+        if (few)
+            left -= load_another(handle, address, round);
+        round++;
+    }
+}
+
+static int work(uint64_t rounds, const char *how)
 {
     famsync *handle;
     famsync_memory *memory;
     uint64_t address, number;
-    struct famsync_options options = {.foreground = foreground};
+    struct famsync_options options = {.foreground = *how, .frames = strcmp(how, "few") == 0 ? FEW : 0};
     if (tell("open", famsync_open(volume, &options, &handle)))
         return 0;
     if (!tell("memory", famsync_memory_open(handle, "a", &memory))) {
         if (!tell("map", famsync_map(handle, "a", 0, 0, 3, &address)) &&
-            !tell("load", famsync_load(handle, address + 4096 + 4000, &number, 8, NULL))) {
-            int left = 3; /* a call that failed may be tried again */
-            for (uint64_t round = number + 1; round <= number + rounds && left > 0;)
-                if (one_round(handle, memory, address, round))
-                    left--;
-                else
-                    round++;
-        }
+            !tell("load", famsync_load(handle, address + 4096 + 4000, &number, 8, NULL)))
+            make_rounds(handle, memory, address, number + 1, number + 1 + rounds);
         tell("forget", famsync_memory_close(memory));
     }
     tell("close", famsync_close(handle));
@@ -137,7 +159,7 @@ int main(int count, char **words)
         return 0;
     }
     if (strcmp(words[2], "work") == 0)
-        return work((uint64_t)atoi(words[3]), count > 4);
+        return work((uint64_t)atoi(words[3]), count > 4 ? words[4] : "");
     if (strcmp(words[2], "load") == 0)
         return loaded();
     return find(count > 3);

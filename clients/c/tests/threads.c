@@ -1,24 +1,33 @@
-/* Several threads store to plain memory while others commit: each commit has what was stored up to one moment. */
+/* Several threads store to plain memory while others commit: each commit has what was stored up to one moment. Handlers
+   of signals store meanwhile, too. */
 #include "test.h"
 
 #include <stdatomic.h>
+#include <sys/time.h>
 
-/* The sanitizer of threads makes handlers of signals later, with SIGSEGV blocked. */
+/* The sanitizer of threads makes handlers of signals later, within a call of the system that the thread makes, and with
+   SIGSEGV blocked. */
 #if defined(__SANITIZE_THREAD__)
-#define DELAYS_SIGNALS
+#define DELAYS_SIGNALS 1
 #elif defined(__has_feature)
 #if __has_feature(thread_sanitizer)
-#define DELAYS_SIGNALS
+#define DELAYS_SIGNALS 1
 #endif
+#endif
+#ifndef DELAYS_SIGNALS
+#define DELAYS_SIGNALS 0
 #endif
 
 #define WORKERS 3
 #define STEPS 6
+#define COMMITS 25u
+#define SIGNALS 10u /* the most that come between two commits */
 
 static famsync *handle;
 static unsigned char *at;
-static atomic_bool stopped;
 static uint64_t address;
+static atomic_bool stopped, quiet;
+static atomic_uint commits, alarms, interrupts;
 
 /* Counts in one page after the other, the last one first and then back: at each moment the counts fall by at most one
    from a page that is counted earlier to one that is counted later. */
@@ -47,59 +56,134 @@ static void *others_load(void *argument)
     return NULL;
 }
 
+#define SIGNALS_AT ((size_t)WORKERS * STEPS * 4096)
+
 /* A signal handler that stores, too: it may come while pages are closed. */
-static void on_alarm(int number)
+static void on_signal(int number)
 {
-    (void)number;
-    at[(size_t)WORKERS * STEPS * 4096]++;
+    sigset_t fault;
+    sigemptyset(&fault);
+    sigaddset(&fault, SIGSEGV);
+    if (DELAYS_SIGNALS)
+        pthread_sigmask(SIG_UNBLOCK, &fault, NULL);
+    atomic_fetch_add((atomic_uint *)(void *)(at + SIGNALS_AT), 1);
+    atomic_fetch_add(number == SIGALRM ? &alarms : &interrupts, 1);
+}
+
+/* The thread that commits, the workers, and the one that loads; and how many of them are interrupted. */
+struct threads {
+    pthread_t thread[WORKERS + 2];
+    unsigned interrupted;
+};
+
+/* Interrupts the others in turn, at any moment; but never before the signal before was handled, and only some times a
+   commit. So signals don't pile up, and all others go on, however slow the machine is. */
+static void *interrupt(void *argument)
+{
+    const struct threads *threads = argument;
+    unsigned sent = 0, seed = 1;
+    while (!atomic_load(&quiet) || atomic_load(&interrupts) < sent) {
+        if (atomic_load(&interrupts) == sent && sent < SIGNALS * (atomic_load(&commits) + 1) && !atomic_load(&quiet))
+            WANT(pthread_kill(threads->thread[sent++ % threads->interrupted], SIGUSR1) == 0);
+        usleep((useconds_t)(rand_r(&seed) % 500));
+    }
+    return NULL;
+}
+
+/* One signal comes soon, as the pages are closed and copied or a little later. */
+static void alarm_soon(void)
+{
+    static unsigned seed = 1;
+    struct itimerval once = {.it_value = {0, 1 + rand_r(&seed) % 300}};
+    WANT(setitimer(ITIMER_REAL, &once, NULL) == 0);
+}
+
+/* What was committed is of one moment: answers how many workers were within a round then. */
+static unsigned judge(const unsigned char *committed)
+{
+    unsigned between = 0;
+    for (unsigned worker = 0; worker < WORKERS; worker++) {
+        uint64_t first = 0, last = 0, count;
+        for (unsigned step = 0; step < STEPS; step++) {
+            size_t place = (size_t)((unsigned char *)(uintptr_t)count_of(worker, step) - at);
+            memcpy(&count, committed + place, sizeof count);
+            if (step == 0)
+                first = last = count;
+            WANT(count <= last && count + 1 >= first);
+            last = count;
+        }
+        between += last != first;
+    }
+    return between;
+}
+
+/* What a load finds is what was committed. */
+static void commit(unsigned char *committed, size_t count)
+{
+    WANT_CODE(famsync_msync(handle, NULL), FAMSYNC_OK);
+    WANT_CODE(famsync_load(handle, address, committed, count, NULL), FAMSYNC_OK);
+}
+
+static void begin(struct threads *threads, pthread_t *interrupter)
+{
+    struct sigaction action = {.sa_handler = on_signal, .sa_flags = SA_RESTART};
+    sigemptyset(&action.sa_mask);
+    WANT(sigaction(SIGALRM, &action, NULL) == 0 && sigaction(SIGUSR1, &action, NULL) == 0);
+    threads->thread[0] = pthread_self();
+    threads->interrupted = DELAYS_SIGNALS ? 1 : WORKERS + 2;
+    for (uintptr_t i = 0; i < WORKERS; i++)
+        WANT(pthread_create(&threads->thread[1 + i], NULL, work, (void *)i) == 0);
+    WANT(pthread_create(&threads->thread[1 + WORKERS], NULL, others_load, NULL) == 0);
+    WANT(pthread_create(interrupter, NULL, interrupt, threads) == 0);
+}
+
+/* Signals of both kinds come with each commit. */
+static unsigned commit_all(unsigned char *committed, size_t count)
+{
+    unsigned between = 0;
+    for (unsigned number = 1; number <= COMMITS; number++) {
+        usleep(1000); /* so that the others store, too, where there are few processors */
+        alarm_soon();
+        commit(committed, count);
+        between += judge(committed);
+        while (atomic_load(&alarms) < number || atomic_load(&interrupts) < number)
+            usleep(100);
+        atomic_fetch_add(&commits, 1);
+    }
+    return between;
+}
+
+static void end(const struct threads *threads, pthread_t interrupter)
+{
+    atomic_store(&quiet, true);
+    pthread_join(interrupter, NULL);
+    atomic_store(&stopped, true);
+    for (unsigned i = 1; i < WORKERS + 2; i++)
+        pthread_join(threads->thread[i], NULL);
 }
 
 int main(void)
 {
-    pthread_t workers[WORKERS], loader;
-    static unsigned char committed[WORKERS * STEPS * 4096];
+    static unsigned char committed[SIGNALS_AT + 4096];
+    struct threads threads;
+    pthread_t interrupter;
     famsync_memory *memory;
-    unsigned commits = 0, between = 0;
+    unsigned between, counted;
     make_volume(24, "a=77824");
     handle = opened();
     WANT_CODE(famsync_memory_open(handle, "a", &memory), FAMSYNC_OK);
     at = famsync_memory_at(memory);
     WANT_CODE(famsync_map(handle, "a", 0, 0, FAMSYNC_READ, &address), FAMSYNC_OK);
-    for (uintptr_t i = 0; i < WORKERS; i++)
-        WANT(pthread_create(&workers[i], NULL, work, (void *)i) == 0);
-    WANT(pthread_create(&loader, NULL, others_load, NULL) == 0);
-    struct sigaction action = {.sa_handler = on_alarm, .sa_flags = SA_RESTART};
-    WANT(sigaction(SIGALRM, &action, NULL) == 0);
-#ifndef DELAYS_SIGNALS
-    ualarm(2000, 2000);
-#endif
-    for (; commits < 25; commits++) {
-        usleep(1000); /* so that the others store, too, where there are few processors */
-        WANT_CODE(famsync_msync(handle, NULL), FAMSYNC_OK);
-        /* what a load finds is what was committed */
-        WANT_CODE(famsync_load(handle, address, committed, sizeof committed, NULL), FAMSYNC_OK);
-        for (unsigned worker = 0; worker < WORKERS; worker++) {
-            uint64_t first = 0, last = 0;
-            for (unsigned step = 0; step < STEPS; step++) {
-                uint64_t count;
-                size_t place = (size_t)((unsigned char *)(uintptr_t)count_of(worker, step) - at);
-                memcpy(&count, committed + place, sizeof count);
-                if (step == 0)
-                    first = last = count;
-                WANT(count <= last && count + 1 >= first);
-                between += count != first && step == STEPS - 1;
-                last = count;
-            }
-        }
-    }
-    ualarm(0, 0);
-    atomic_store(&stopped, true);
-    for (int i = 0; i < WORKERS; i++)
-        pthread_join(workers[i], NULL);
-    pthread_join(loader, NULL);
-    WANT(famsync_acknowledged(handle) == commits);
+    begin(&threads, &interrupter);
+    between = commit_all(committed, sizeof committed);
+    end(&threads, interrupter);
+    commit(committed, sizeof committed);
+    memcpy(&counted, committed + SIGNALS_AT, sizeof counted);
+    WANT(counted == alarms + interrupts && alarms == COMMITS && interrupts >= COMMITS);
+    WANT(famsync_acknowledged(handle) == COMMITS + 1);
     WANT_CODE(famsync_memory_close(memory), FAMSYNC_OK);
     WANT_CODE(famsync_close(handle), FAMSYNC_OK);
-    printf("clients/c: threads: as it should be (%u of %u cuts fell within a round)\n", between, commits * WORKERS);
+    printf("clients/c: threads: as it should be (%u of %u cuts fell within a round, %u signals)\n", between,
+           COMMITS * WORKERS, counted);
     return 0;
 }

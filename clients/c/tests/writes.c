@@ -1,0 +1,165 @@
+/* How many calls of the system a commit is, counted to the end of its write-out: four writes and one more for each
+   further run of neighbouring pages, and four syncs; however many pages it has, and whoever calls meanwhile. */
+#include "test.h"
+
+#include <stdatomic.h>
+#include <sys/syscall.h>
+#include <sys/uio.h>
+
+#define SLOTS 1020
+#define COMMITS 3
+
+static atomic_uint writes, syncs;
+
+ssize_t pwritev(int file, const struct iovec *range, int count, off_t offset)
+{
+    atomic_fetch_add(&writes, 1);
+    return syscall(SYS_pwritev, file, range, count, offset, 0);
+}
+
+int fdatasync(int file)
+{
+    atomic_fetch_add(&syncs, 1);
+    return (int)syscall(SYS_fdatasync, file);
+}
+
+/* A commit: of so many pages, of which every such one of the file is one. */
+struct shape {
+    unsigned layout, pages, apart;
+};
+
+enum way { BY_POINTER, BY_CALL };
+
+static famsync *handle;
+static famsync_memory *memory;
+static uint64_t address;
+static atomic_bool stopped;
+
+static void make_file(struct shape shape)
+{
+    char files[60];
+    snprintf(files, sizeof files, "a=%u%s", shape.pages * shape.apart * 4096, shape.layout == 3 ? " b=9000" : "");
+    make_volume_of(shape.layout, SLOTS, files);
+}
+
+static void begin(struct famsync_options options, enum way way)
+{
+    handle = opened_with(options);
+    if (way == BY_POINTER)
+        WANT_CODE(famsync_memory_open(handle, "a", &memory), FAMSYNC_OK);
+    WANT_CODE(famsync_map(handle, "a", 0, 0, FAMSYNC_READ | FAMSYNC_WRITE, &address), FAMSYNC_OK);
+    atomic_store(&writes, 0);
+    atomic_store(&syncs, 0);
+}
+
+static void end(enum way way)
+{
+    if (way == BY_POINTER)
+        WANT_CODE(famsync_memory_close(memory), FAMSYNC_OK);
+    WANT_CODE(famsync_close(handle), FAMSYNC_OK);
+}
+
+static void commit(struct shape shape, enum way way, uint64_t number)
+{
+    for (uint64_t i = 0; i < shape.pages; i++) {
+        uint64_t at = i * shape.apart * 4096;
+        if (way == BY_POINTER)
+            memcpy((unsigned char *)famsync_memory_at(memory) + at, &number, sizeof number);
+        else
+            WANT_CODE(famsync_store(handle, address + at, &number, sizeof number, NULL), FAMSYNC_OK);
+    }
+    /* the block of the lengths, which is a neighbour of the first file's first page */
+    if (shape.layout == 3)
+        WANT_CODE(famsync_setlength(handle, "b", 9000 - number), FAMSYNC_OK);
+    WANT_CODE(famsync_msync(handle, NULL), FAMSYNC_OK);
+}
+
+/* Every second commit comes right after the one before, and the others later, when that may be written home. */
+static void count_commits(struct shape shape, enum way way, struct famsync_options options)
+{
+    unsigned runs = shape.apart > 1 ? shape.pages : 1;
+    make_file(shape);
+    begin(options, way);
+    for (uint64_t number = 1; number <= COMMITS; number++) {
+        commit(shape, way, number);
+        if (number % 2 == 0)
+            usleep(20000);
+    }
+    end(way);
+    if (writes != COMMITS * (3 + runs) || syncs != COMMITS * 4) {
+        fprintf(stderr, "writes: %u pages, every %u, layout %u: %u writes and %u syncs of %d commits\n", shape.pages,
+                shape.apart, shape.layout, writes, syncs, COMMITS);
+        exit(1);
+    }
+}
+
+static void *others_load(void *argument)
+{
+    unsigned char byte;
+    (void)argument;
+    while (!atomic_load(&stopped)) {
+        WANT_CODE(famsync_load(handle, address, &byte, 1, NULL), FAMSYNC_OK);
+        usleep(100);
+    }
+    return NULL;
+}
+
+/* Calls of another thread, which come at any moment of a write-out. */
+static void beside_others(struct shape shape)
+{
+    pthread_t loader;
+    make_file(shape);
+    begin((struct famsync_options){0}, BY_POINTER);
+    atomic_store(&stopped, false);
+    WANT(pthread_create(&loader, NULL, others_load, NULL) == 0);
+    for (uint64_t number = 1; number <= COMMITS; number++) {
+        commit(shape, BY_POINTER, number);
+        usleep(10000);
+    }
+    atomic_store(&stopped, true);
+    pthread_join(loader, NULL);
+    end(BY_POINTER);
+    WANT(writes == COMMITS * 4 && syncs == COMMITS * 4);
+}
+
+/* What an ended process left of its commit is two writes, also in a session that has fewer frames. */
+static void after_an_end(struct shape shape)
+{
+    int status;
+    make_file(shape);
+    pid_t child = fork();
+    WANT(child >= 0);
+    if (child == 0) {
+        begin((struct famsync_options){.foreground = 1}, BY_POINTER);
+        commit(shape, BY_POINTER, 1);
+        _exit(writes == 2 && syncs == 2 ? 0 : 1);
+    }
+    WANT(waitpid(child, &status, 0) == child && WIFEXITED(status) && WEXITSTATUS(status) == 0);
+    atomic_store(&writes, 0);
+    atomic_store(&syncs, 0);
+    handle = opened_with((struct famsync_options){.frames = 1});
+    WANT(writes == 2 && syncs == 2);
+    WANT_CODE(famsync_close(handle), FAMSYNC_OK);
+}
+
+int main(void)
+{
+    for (int foreground = 0; foreground <= 1; foreground++) {
+        struct famsync_options options = {.foreground = foreground};
+        for (unsigned layout = 1; layout <= 3; layout++) {
+            unsigned most = layout == 3 ? SLOTS - 1 : SLOTS;
+            count_commits((struct shape){layout, most, 1}, BY_POINTER, options);
+            count_commits((struct shape){layout, 1, 1}, BY_POINTER, options);
+        }
+        count_commits((struct shape){1, SLOTS, 1}, BY_CALL, options);
+        count_commits((struct shape){1, 300, 2}, BY_POINTER, options);
+        count_commits((struct shape){2, 300, 2}, BY_CALL, options);
+    }
+    for (unsigned layout = 1; layout <= 3; layout++) {
+        struct shape shape = {layout, layout == 3 ? SLOTS - 1 : SLOTS, 1};
+        beside_others(shape);
+        after_an_end(shape);
+    }
+    printf("clients/c: writes: as it should be\n");
+    return 0;
+}
