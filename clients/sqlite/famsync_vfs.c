@@ -35,8 +35,9 @@ struct database {
     sqlite3_int64 room;    /* the most bytes that it can have */
     sqlite3_int64 size;    /* and how many it has */
     sqlite3_int64 kept;    /* how many it has by the last commit */
-    unsigned char **waits; /* one a page: what it is to be, or a null pointer */
-    size_t *order;         /* the pages that wait, as they came */
+    unsigned char **waits; /* one a page: what it is to be, in `pages`, or a null pointer */
+    unsigned char *pages;  /* the bytes of those that wait, as they came, with room for one more than may wait */
+    size_t *order;         /* which pages these are */
     unsigned waiting;      /* how many wait */
     unsigned limit;        /* the most of them */
     bool torn;             /* a commit failed on its way: nothing of this connection counts any more */
@@ -77,18 +78,15 @@ static int code_for_open(int code)
 
 static void drop_waiting(struct database *database)
 {
-    while (database->waiting > 0) {
-        size_t page = database->order[--database->waiting];
-        sqlite3_free(database->waits[page]);
-        database->waits[page] = NULL;
-    }
+    while (database->waiting > 0)
+        database->waits[database->order[--database->waiting]] = NULL;
 }
 
 static int close_database(sqlite3_file *file)
 {
     struct database *database = (struct database *)file;
-    drop_waiting(database);
     sqlite3_free(database->waits);
+    sqlite3_free(database->pages);
     sqlite3_free(database->order);
     return code_for(famsync_close(database->volume), SQLITE_IOERR_CLOSE);
 }
@@ -127,36 +125,20 @@ static int read_database(sqlite3_file *file, void *bytes, int count, sqlite3_int
     return end < (size_t)count ? SQLITE_IOERR_SHORT_READ : SQLITE_OK;
 }
 
-/* What the volume has of a page, as memory of its own. */
-static int copy_page(const struct database *database, size_t page, unsigned char **copy)
-{
-    uint64_t begin = database->address + page * PAGE;
-    int code = FAMSYNC_NOMEMORY;
-    *copy = sqlite3_malloc(PAGE);
-    if (*copy)
-        code = famsync_load(database->volume, begin, *copy, PAGE, NULL);
-    if (code == FAMSYNC_OK)
-        return SQLITE_OK;
-    sqlite3_free(*copy);
-    *copy = NULL;
-    return code_for(code, SQLITE_IOERR_WRITE);
-}
-
 /* Writes what lies in one page of the volume. A page that has these bytes doesn't begin to wait, so that a rollback can
    write back what wasn't changed where no more pages can wait. */
 static int write_part(struct database *database, const char *bytes, size_t count, uint64_t place)
 {
     size_t page = place / PAGE, within = place % PAGE;
     if (!database->waits[page]) {
-        unsigned char *copy;
-        int code = copy_page(database, page, &copy);
-        bool same = code == SQLITE_OK && memcmp(copy + within, bytes, count) == 0;
-        if (code == SQLITE_OK && !same && database->waiting == database->limit)
-            code = SQLITE_FULL;
-        if (code != SQLITE_OK || same) {
-            sqlite3_free(copy);
-            return code;
-        }
+        unsigned char *copy = database->pages + (size_t)database->waiting * PAGE;
+        int code = famsync_load(database->volume, database->address + place - within, copy, PAGE, NULL);
+        if (code != FAMSYNC_OK)
+            return code_for(code, SQLITE_IOERR_WRITE);
+        if (memcmp(copy + within, bytes, count) == 0)
+            return SQLITE_OK;
+        if (database->waiting == database->limit)
+            return SQLITE_FULL;
         database->waits[page] = copy;
         database->order[database->waiting++] = page;
     }
@@ -377,7 +359,8 @@ static int map_database(struct database *database, const char *name)
     database->limit = famsync_frames(database->volume) - 1;
     database->waits = memory_for(length / PAGE, sizeof *database->waits);
     database->order = memory_for(database->limit, sizeof *database->order);
-    return database->waits && database->order ? read_size(database) : SQLITE_NOMEM;
+    database->pages = sqlite3_malloc64(((sqlite3_uint64)database->limit + 1) * PAGE);
+    return database->waits && database->order && database->pages ? read_size(database) : SQLITE_NOMEM;
 }
 
 static int open_file(sqlite3_vfs *vfs, const char *path, sqlite3_file *file, int flags, int *found)
