@@ -418,6 +418,9 @@ int32_t famsync_core_open(famsync_core handle, uint32_t frames, uint32_t copies,
     most = core->slots - (core->layout == 3);
     if (code == FAMSYNC_CORE_OK && (frames > most || copies > 64))
         code = FAMSYNC_CORE_BADSHAPE;
+    /* what was written before is made sure of */
+    if (code == FAMSYNC_CORE_OK && !sync_disk(core))
+        code = FAMSYNC_CORE_NOMEMORY;
     if (code == FAMSYNC_CORE_OK)
         code = recover_all(core);
     if (code == FAMSYNC_CORE_OK)

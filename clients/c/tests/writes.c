@@ -122,7 +122,8 @@ static void beside_others(struct shape shape)
     WANT(writes == COMMITS * 4 && syncs == COMMITS * 4);
 }
 
-/* What an ended process left of its commit is two writes, also in a session that has fewer frames. */
+/* What an ended process left of its commit is two writes and two syncs, after the sync with which each opening begins;
+   also in a session that has fewer frames. */
 static void after_an_end(struct shape shape)
 {
     int status;
@@ -138,7 +139,7 @@ static void after_an_end(struct shape shape)
     atomic_store(&writes, 0);
     atomic_store(&syncs, 0);
     handle = opened_with((struct famsync_options){.frames = 1});
-    WANT(writes == 2 && syncs == 2);
+    WANT(writes == 2 && syncs == 3);
     WANT_CODE(famsync_close(handle), FAMSYNC_OK);
 }
 
