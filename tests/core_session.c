@@ -244,6 +244,7 @@ static void store(uint64_t address, const char *text)
         printf("%s after %" PRIu64 "\n", word_of(code), done);
 }
 
+/* Rule: deferred acknowledgement */
 /* A mark is acknowledged once the calls that waited after its commit are made, and no sooner. */
 static void commit(void)
 {

@@ -102,6 +102,7 @@ def failed_calls():
     want(os.stat("v.img").st_mode & 0o7777 == 0o640, "with its mode")
 
 
+# Rule: suspect volume
 def failed_syncs():
     words = ["run", "v.img", "newer.json"]
     volume()

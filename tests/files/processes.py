@@ -30,6 +30,7 @@ def closed_descriptors():
         has("a 5000\nb 4096\n")
 
 
+# Rule: file lock
 def two_processes():
     for first, second in itertools.product(["format", "run"], COMMANDS):
         words, after = COMMANDS[first]

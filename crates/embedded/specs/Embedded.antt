@@ -78,6 +78,8 @@ abbrev pub HasMade : (made mark : ℕ) → Whole Recorded → Notes → Type 0
 HasMade made mark machine notes =
     (committed : HasCommitted mark machine notes) × (made < 2 ^ 64 - 1 → moment_of committed.new.device ≤ made)
 
+-- Rule: deferred acknowledgement: A core's mark is acknowledged once its host has made the calls that its commit
+-- recorded.
 -- Of the machine over the disk in memory that made the calls: it was started over a device, and from there steps led
 -- to it, of which exactly this is noted. By these steps the mark of the last commit was committed, and needs as many device
 -- calls as were recorded then; and so was the one that is acknowledged, whose calls the host has made.

@@ -161,6 +161,7 @@ pub(crate) fn is_made(waiting: usize, needed: u64, made: u64) -> bool
     waiting == 0 || needed <= made
 }
 
+// Rule: deferred acknowledgement
 // The last mark that is acknowledged: that of the last commit where its calls were made, and else the one before.
 pub(crate) fn settled(
     is_sure: bool,

@@ -29,10 +29,12 @@ place_of_fault spaces pcid va write =
 abbrev pub is_in_memory : FramesState → FilePage → Bool
 is_in_memory memory owner = list_any (is_of_page owner) memory.frames
 
+-- Rule: frozen page: A frozen page is copied before it is stored to, and its record has the bytes of the mark.
 -- a store to a held page takes a copy of its bytes
 abbrev pub copies_out : FramesState → CheckpointState → FilePage → Bool → Bool
 copies_out memory c owner write = write && is_held memory c owner
 
+-- Rule: busadrerr: No page is served that begins past the end of its file.
 -- Why a fault at a place isn't served, in this order, where the file has so many bytes: the page begins past the
 -- file's end; it is held, and no copy frame is free; it isn't in memory, and no frame is free; it isn't in memory,
 -- and the machine is broken. A read that fails comes after these.
@@ -44,6 +46,7 @@ fault_refusal memory c broken place length write =
     else (if not (has_free memory.frames) then Some refusals.NoFrame
     else (if broken then Some refusals.Device else None))))
 
+-- Rule: free frame: A page gets any frame that is free, and `noframe` is answered only where none is.
 -- the frames with a page in one of them: one that had it, or a free one that gets these bytes
 abbrev pub Brings : FramesState → FilePage → List ℕ → ℕ → FramesState → Type 0
 Brings memory owner bytes frame new =

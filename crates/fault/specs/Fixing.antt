@@ -17,6 +17,7 @@ use Rattle.fault.specs.Fault.{is_in_memory, fault_refusal, FaultServed}
 abbrev pub block_from : List ℕ → ℕ → List ℕ
 block_from disk home = take 4096 (drop home disk)
 
+-- Rule: zeros past the end: A page that is read in has zeros past the end of its file, whatever the disk has there.
 -- the bytes of a page up to the file's end, where the file has so many bytes, and zeros after it
 abbrev pub cut_to_length : ℕ → ℕ → List ℕ → List ℕ
 cut_to_length length_of page bytes =

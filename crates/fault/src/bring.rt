@@ -18,6 +18,7 @@ use frames::Frames;
 use page_entry::{FrameNumber, Refusal};
 use std::alloc::Allocator;
 
+// Rule: frozen page
 // Copies the bytes of the frame that has a page to a free copy frame; `Held` exactly where none is free.
 fn keep_copy<A: Allocator + Copy>(
     frames: &mut Frames<A>,

@@ -20,6 +20,7 @@ fn clear(bytes: &mut [u8])
     bytes.fill(0);
 }
 
+// Rule: zeros past the end
 // Makes every byte of a page of a file zero from the file's end on, where the file has so many bytes.
 fn clear_past_end(page: &mut [u8; 4096], len: u64, index: PageIndex)
     ensures cut { page.new ≡ cut_to_length len index page.old }

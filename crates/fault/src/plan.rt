@@ -43,6 +43,7 @@ fn has_free_frame<A: Allocator + Copy>(frames: &Frames<A>) -> bool
     frames.free_count() > 0
 }
 
+// Rule: frozen page
 // Whether an access to a page takes a copy of its bytes: a store to a held page does.
 fn copies_out<A: Allocator + Copy>(
     frames: &Frames<A>,
@@ -76,6 +77,7 @@ pub(crate) fn decide<A: Allocator + Copy>(
     if lacks_right(fault) {
         return Err(Refusal::SegvAccErr);
     }
+    // Rule: busadrerr
     if fault.length <= PAGE * u64::from(fault.place.page) {
         return Err(Refusal::BusAdrErr);
     }

@@ -138,6 +138,7 @@ impl<A: Allocator + Copy> Frames<A> {
         }
     }
 
+    // Rule: free frame
     /// Gives a free frame to a page that no frame has, its bytes all 0; `NoFrame` exactly where none is free. Which of
     /// the free frames it is stays open.
     pub fn take(&mut self, page: FilePage) -> Result<FrameNumber, Refusal>

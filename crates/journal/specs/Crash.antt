@@ -15,6 +15,7 @@ LeftBefore v old new (Some Opening) c = Recovers v old c
 LeftBefore v old new (Some Committing) c = Recovers v old c ⊎ Recovers v new c
 LeftBefore v old new stage c = Recovers v new c
 
+-- Rule: torn gate: A gate that is torn is open or closed, so that a crash leaves all of a commit or nothing.
 -- what a crash may leave within the step of this stage, or after it where a device call failed
 abbrev pub LeftWithin : SuperValue → (ℕ → List ℕ) → (ℕ → List ℕ) → Option Stage → List ℕ → Type 0
 LeftWithin v old new (Some Opening) c = Recovers v old c ⊎ Recovers v new c

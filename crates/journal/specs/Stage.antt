@@ -7,6 +7,8 @@ use Rattle.journal.specs.declared.stage.Stage.TheVariants.{Committing, Applying,
 use Rattle.journal.specs.declared.flushed.Flushed.{Flushed}
 use Rattle.journal.specs.declared.flushed.Flushed.TheVariants.{Going, Committed, Done}
 
+-- Rule: closing order: A batch's home blocks are synced before its gate is closed, it is done once that is synced, and
+-- an opening carries out the older of two open journals first.
 -- the stages of a write-out of so many blocks, in order, one for each step
 abbrev pub stages : ℕ → List Stage
 stages blocks =

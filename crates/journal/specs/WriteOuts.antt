@@ -75,6 +75,7 @@ outs_record outs = if outs.broken then None else option_and_then next_record (cu
 abbrev pub outs_home : WriteOutsValue → Option ℕ
 outs_home outs = if outs.broken then None else option_and_then next_home (current outs.batches)
 
+-- Rule: busy: No further commit begins while one isn't committed yet, or while each journal is in use.
 -- no further batch may begin: one isn't committed, or there are as many as journals
 abbrev pub is_busy : WriteOutsValue → Bool
 is_busy outs = has_uncommitted outs.batches || length outs.batches == journals_of outs.geometry.layout

@@ -89,6 +89,7 @@ pub fn unread_blocks()
         → Contains opened batch → Contains batch.homes b → IsHome (geometry_of v) b → IsUnread v opened b }
 {}
 
+// Rule: torn gate
 /// What becomes of recovered contents where a gate's byte is torn. While the gate is open as it was, or closed as it
 /// was, they stay. Where it opens over a descriptor and records that are there, the batch's blocks get the records.
 /// Where the gate of the oldest batch closes, whose records are all at home, they stay.

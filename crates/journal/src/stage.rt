@@ -54,6 +54,7 @@ impl Stage {
     }
 }
 
+// Rule: closing order
 /// The next stage of a write-out of so many blocks after so many steps; `None` once it is done.
 pub fn stage_at(blocks: u32, steps: u32) -> Option<Stage>
     ensures { result ≡ stage_at blocks steps }

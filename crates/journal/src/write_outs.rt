@@ -174,6 +174,7 @@ impl<A: Allocator + Copy> WriteOuts<A> {
         }
     }
 
+    // Rule: busy
     /// Whether no further batch may begin: one isn't committed, or as many aren't done as there are journals.
     pub fn is_busy(&self) -> bool
         ensures { result ≡ is_busy self.now }

@@ -67,6 +67,7 @@ length_refusal s file to =
     ∷ refuse_if (nat_le (length s.table.files) file) refusals.NoFile
     ∷ refuse_if (nat_lt (capacity_of s file) to) refusals.Einval ∷ [])
 
+-- Rule: notresident: A file doesn't grow from inside a page that isn't in memory.
 -- whether a file is to grow from inside a page that isn't in memory
 abbrev pub lacks_last_page : State → ℕ → ℕ → Bool
 lacks_last_page s file to =

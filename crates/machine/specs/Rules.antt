@@ -165,6 +165,8 @@ pub record ProtectMade (s : State) (p : ℕ) (new : State) : Type 0 where
   pub rights_set : SetsRights pcid range rights s.hardware.spaces spaces
   pub done : new ≡ end_change s p spaces s.hardware.memory s.checkpoint
 
+-- Rule: kept: A page stays in memory while it is dirty, a batch that isn't done has it, it has bytes past its file's
+-- end, or the machine is broken.
 -- the page in a frame may leave memory: it is clean, its batches are done, its home block has its bytes (nothing was
 -- stored past the file's end), and the machine isn't broken
 pub record MayLeave (s : State) (owner : FilePage) (frame : ℕ) : Type 0 where

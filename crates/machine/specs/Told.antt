@@ -91,6 +91,7 @@ abbrev pub resized_at : Told → Option Pending → List Event
 resized_at told (Some (Resizing file to)) = SetLength file (length_told told file) to ∷ []
 resized_at told pending = []
 
+-- Rule: empty mark: A mark before which nothing was stored and no length changed is acknowledged at once.
 -- what an act of processor p and its reply add to the history: a mark is durable at once if nothing was
 -- stored and no length was changed since the former one
 abbrev pub events_of : Told → ℕ → Act → Reply → List Event

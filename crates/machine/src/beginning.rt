@@ -114,6 +114,7 @@ impl<D: Device, A: Allocator + Copy> Layers<D, A> {
         Ok(())
     }
 
+    // Rule: notresident
     // Whether a file is to grow from inside a page that isn't in memory.
     fn lacks_last_page(&self, file: FileNumber, length: u64) -> bool
         requires sound { IsSound (state_in self.now) }
@@ -188,6 +189,7 @@ impl<D: Device, A: Allocator + Copy> Layers<D, A> {
         Ok(Reply::Begun)
     }
 
+    // Rule: busy
     // Whether no further commit may begin: no journal is free for it, or the marks' numbers are used up.
     fn is_busy(&self) -> bool
         ensures { result ≡ (is_busy self.now.write_outs || nat_le (2 ^ 32 - 1) self.now.marks) }

@@ -65,6 +65,7 @@ impl<D: Device, A: Allocator + Copy> Layers<D, A> {
             && is_cut(self.frames.bytes(frame), left)
     }
 
+    // Rule: kept
     // The frame of a page, if the page may leave memory.
     fn frame_to_free(&self, page: FilePage) -> Option<FrameNumber>
         requires sound { IsSound (state_in self.now) }

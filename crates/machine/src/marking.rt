@@ -68,6 +68,7 @@ impl<D: Device, A: Allocator + Copy> Layers<D, A> {
             .begin(u64::from(self.marks), &homes[..pages.len()]);
     }
 
+    // Rule: empty mark
     // All stores so far belong to the next mark. The dirty pages are gathered, and can't be stored to until their
     // records are written.
     pub(crate) fn mark(&mut self, p: ProcessorNumber) -> Reply

@@ -21,6 +21,7 @@ pub struct PageRange {
 }
 
 impl PageRange {
+    // Rule: rounded length
     /// The pages of the `len` bytes from `va` on, rounded up to whole pages.
     ///
     /// `Einval` if `va` isn't a multiple of 4,096, `len` is 0, or the pages aren't within bytes 4,096 to 2^47.

@@ -56,6 +56,7 @@ cr3_loaded t pcid keep = if keep then t else without_pcid t pcid
 abbrev pub with_room : ℕ → List CachedEntry → List CachedEntry
 with_room capacity entries = if nat_lt (length entries) capacity then entries else drop 1 entries
 
+-- Rule: full TLB: An entry of a page that isn't cached yet takes the place of the oldest in a full TLB.
 -- with an entry as the newest, in the place of one of its page and PCID, or of the oldest where no other fits
 abbrev pub filled : TlbState → CachedEntry → TlbState
 filled t e = record t { entries = with_room t.capacity (filter (λ x. not (is_of e.pcid e.page x)) t.entries) ++ e ∷ [] }

@@ -98,6 +98,7 @@ impl<A: Allocator + Copy> Tlb<A> {
             .copied()
     }
 
+    // Rule: full TLB
     /// Caches an entry as the newest. It replaces one of its page and PCID; where the TLB is full without such a one,
     /// the oldest is dropped.
     pub fn fill(&mut self, entry: CachedEntry)

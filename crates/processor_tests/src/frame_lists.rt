@@ -96,6 +96,7 @@ fn take_both(rt: &impl Abort, frames: &mut Frames) -> (FrameNumber, FrameNumber)
     (first, second)
 }
 
+// Rule: free frame
 #[test]
 fn takes_each_frame_once(rt: HostRuntime) {
     let mut frames = Frames::new(rt.alloc(), 2, 0).expect(&rt, "memory");

@@ -19,6 +19,7 @@ fn range(first: PageNumber, count: u64) -> PageRange {
     PageRange { first, count }
 }
 
+// Rule: rounded length
 #[test]
 fn ranges_of_bytes(rt: HostRuntime) {
     assert!(rt; PageRange::of_bytes(4096, 12288) == Ok(range(1, 3)));

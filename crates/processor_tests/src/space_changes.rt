@@ -89,6 +89,7 @@ fn create_again(rt: &impl Abort, spaces: &mut Spaces) {
     assert!(rt; create(spaces) == Err(Refusal::Enomem));
 }
 
+// Rule: lowest free PCID
 #[test]
 fn pcids_are_the_lowest_that_are_free(rt: HostRuntime) {
     let mut spaces = Spaces::new(rt.alloc()).expect(&rt, "memory");

@@ -35,6 +35,7 @@ fn fill_two(
     assert!(rt; is_cached(tlb, 2, 5, Some(other_space)));
 }
 
+// Rule: full TLB
 #[test]
 fn full_tlb_drops_the_oldest(rt: HostRuntime) {
     let mut tlb = Tlb::new(rt.alloc(), 2).expect(&rt, "a TLB");

@@ -54,6 +54,7 @@ fn read_table<D: Device, A: Allocator + Copy>(alloc: A, device: &mut D) -> Resul
     Ok(table)
 }
 
+// Rule: gate byte
 /// Whether the gate of each journal is open.
 fn read_gates<D: Device>(device: &mut D, geometry: &Geometry) -> Result<[bool; 2], Refusal>
     requires { 4096 * geometry.now.blocks ≤ length (D.seen device.old) }
@@ -174,6 +175,7 @@ fn read_journals<D: Device, A: Allocator + Copy>(
     Ok(found)
 }
 
+// Rule: equal marks
 /// Puts the journals in the order of their marks, the newest first. `Damaged` where two have one mark.
 fn put_newest_first<A: Allocator + Copy>(found: &mut Vec<OpenJournal<A>, A>) -> Result<(), Refusal>
     requires { length found.old.items ≤ 2 }
@@ -256,6 +258,7 @@ fn begins_with<A: Allocator + Copy>(journal: &OpenJournal<A>, home: u32) -> bool
     journal.descriptor.homes()[0] == home
 }
 
+// Rule: standing lengths
 /// The block that has the recovered bytes of the first home block, where these journals are open, the newest first. A
 /// record for that block is the first of its journal, as records are in the order of their home blocks.
 fn standing_first<A: Allocator + Copy>(geometry: &Geometry, found: &[OpenJournal<A>]) -> u32
@@ -383,6 +386,7 @@ fn carry_out<D: Device, A: Allocator + Copy>(
     }
 }
 
+// Rule: closing order
 /// Carries out all open journals, the oldest first: each gate is closed before the next journal's records are written.
 fn carry_out_all<D: Device, A: Allocator + Copy>(
     device: &mut D,

@@ -13,6 +13,7 @@ abbrev pub IsNextLine : List ℕ → List ℕ → List ℕ → Type 0
 IsNextLine bytes line rest =
     HasNoFeed line × ((bytes ≡ line ++ 10 ∷ rest) ⊎ ((bytes ≡ line) × (line ≢ []) × (rest ≡ [])))
 
+-- Rule: long line: A line of more than 262144 bytes is skipped up to its line feed, and nothing of it is read.
 -- A line of no more than 262144 bytes is told as it is, and of a longer one only that there is one.
 abbrev pub IsTold : Option (List ℕ) → List ℕ → Type 0
 IsTold (Some told) line = (told ≡ line) × (length line ≤ 262144)

@@ -7,6 +7,7 @@ use std::alloc::Allocator;
 use std::io;
 use std::io::{BufRead, ErrorKind};
 
+// Rule: long line
 /// The most bytes of a line, without its line feed.
 pub const MOST_OF_LINE: u64 = 262_144;
 

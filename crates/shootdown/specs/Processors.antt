@@ -80,6 +80,7 @@ drained p = record p {
   may_cache = flags_kept (λ pcid. pcid == p.space || not (list_any (λ a. drops_pcid a pcid) p.queue)) 0 p.may_cache;
 }
 
+-- Rule: full queue: The ninth invalidation in a queue makes one of all that a processor caches.
 -- an invalidation more in a queue; the ninth makes one of all
 abbrev pub queued : List Invpcid → Invpcid → List Invpcid
 queued queue a = if nat_lt (length queue) queue_len then queue ++ a ∷ [] else AllContexts ∷ []

@@ -133,6 +133,7 @@ impl<A: Allocator + Copy> Processor<A> {
         }
     }
 
+    // Rule: full queue
     // Tells it of an invalidation, if it may cache what that drops. In a full queue the invalidation of everything
     // takes the place of all.
     pub(crate) fn tell(&mut self, action: Invpcid)
@@ -149,6 +150,7 @@ impl<A: Allocator + Copy> Processor<A> {
         }
     }
 
+    // Rule: stale entry
     // Carries out the queue.
     pub(crate) fn drain(&mut self)
         ensures { self.new ≡ drained self.old }

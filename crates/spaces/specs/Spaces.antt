@@ -75,6 +75,7 @@ without_mapping spaces pcid range =
       places = without_range space.places range.first range.count;
     })
 
+-- Rule: lowest free PCID: A space gets the lowest PCID from 1 on that no space has.
 -- The lowest PCID from 1 on of which there is no space. PCIDs have 12 bits.
 pub record IsLowestFree (spaces : Spaces) (pcid : ℕ) : Type 0 where
   pub some : 0 < pcid

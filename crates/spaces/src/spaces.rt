@@ -290,6 +290,7 @@ impl<A: Allocator + Copy> Spaces<A> {
         }
     }
 
+    // Rule: lowest free PCID
     /// Makes a space that maps nothing, of the lowest PCID from 1 on that is free. After an error nothing has changed.
     ///
     /// `Enomem` if no PCID is free, `OutOfMemory` if memory is refused.

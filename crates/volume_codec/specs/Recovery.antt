@@ -9,6 +9,7 @@ use Rattle.volume_codec.specs.Super.{SuperValue, IsSuper, pages_of, block_count,
 use Rattle.volume_codec.specs.Descriptor.{IsDescriptor}
 use Rattle.volume_codec.specs.Lengths.{lengths_in, HasLengths}
 
+-- Rule: gate byte: A gate is open where its block begins with 0xA7, and closed by every other byte.
 -- the gate of journal j is open, where its block begins with the byte 0xA7; every other byte closes it
 abbrev pub IsOpen : List ℕ → ℕ → ℕ → Type 0
 IsOpen bytes slots j = slice_index bytes (4096 * gate_block slots j) ≡ 0xA7
@@ -27,6 +28,7 @@ pub record IsOpenBatch (g : GeometryValue) (bytes : List ℕ) (batch : Batch) : 
   pub descriptor : IsDescriptor g (record { mark = batch.mark; homes = batch.homes })
       (block_at bytes (descriptor_block g.slots batch.journal))
 
+-- Rule: equal marks: Two open journals don't have the same mark: that is a damaged volume.
 -- the marks fall strictly: the newest batch comes first
 abbrev pub IsNewer : Batch → List Batch → Type 0
 IsNewer batch [] = Unit {0}
@@ -51,6 +53,7 @@ abbrev pub record_or : ℕ → ℕ → List ℕ → ℕ → ℕ
 record_or other records [] b = other
 record_or other records (home ∷ homes) b = if b == home then records else record_or other (records + 1) homes b
 
+-- Rule: standing lengths: The lengths are those of the newest open journal that has them, else of the lengths block.
 -- the block that has the recovered bytes of home block b: its record in the newest batch that has one, else b itself
 abbrev pub standing_block : ℕ → List Batch → ℕ → ℕ
 standing_block slots [] b = b
@@ -97,10 +100,12 @@ pub record RecoversTo (bytes : List ℕ) (files : List File) : Type 0 where
   pub lengths : HasLengths table contents
   pub files_are : files ≡ files_in table contents
 
+-- Rule: notavolume: Less than a block, or bytes that begin with no layout's magic, are no volume.
 -- no volume: too short for a super block, or without the magic of any layout
 abbrev pub IsNotAVolume : List ℕ → Type 0
 IsNotAVolume bytes = (length bytes < 4096) ⊎ ((layout : Layout) → take 8 bytes ≢ magic_of layout)
 
+-- Rule: damaged: Bytes that begin with a layout's magic and break any other rule are a damaged volume.
 -- a damaged volume: it begins as one and recovers to no files
 pub record IsDamaged (bytes : List ℕ) : Type 0 where
   pub long : 4096 ≤ length bytes

@@ -2,6 +2,7 @@
 ghost use Rattle.std.specs.Prelude.{◌≡◌, ◌≢◌, ◌≤◌, IfSome, IfNone, List};
 ghost use Rattle.volume_codec.specs.Layout.{number_of, magic_of, journals_of, lengths_blocks as lengths};
 
+// Rule: gate byte
 /// The byte that opens a journal's gate; it is the first of the gate's block, and every other value closes the gate.
 pub const OPEN_GATE: u8 = 0xA7;
 

@@ -296,6 +296,7 @@ fn files_at(entries: &[u8], count: usize) -> [FileSpec<'_>; 64]
     files
 }
 
+// Rule: damaged
 /// What a block is whose table was refused: damaged where the table breaks the rules.
 fn damage_of(refusal: Refusal) -> Refusal
     ensures { result ≡ damage refusal }
@@ -316,6 +317,7 @@ fn layout_of(block: &[u8; 4096]) -> Option<Layout>
     Layout::from_magic(magic)
 }
 
+// Rule: notavolume
 /// The table that a super block says, in the layout whose magic it begins with. `NotAVolume` where it begins with none;
 /// `Damaged` where it breaks any other rule of the grammar. Either may be `OutOfMemory`.
 pub fn read_super<A: Allocator + Copy>(alloc: A, block: &[u8; 4096]) -> Result<Super<A>, Refusal>

@@ -21,6 +21,7 @@ use std::io::{Read, Write};
 /// The disk over the file of a volume.
 pub type VolumeDisk<'a, R> = FileDisk<WatchedFile<'a, File, R>>;
 
+// Rule: suspect volume
 /// Opens the file of a volume at a place, locks it and syncs it. A volume that is marked as suspect is opened only
 /// where it is trusted. `path` names it in a failure, and `note` gets what is to be said of a sync that failed.
 pub fn open_disk<'a, 'b, R>(

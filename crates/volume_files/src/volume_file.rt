@@ -33,6 +33,7 @@ where
     }
 }
 
+// Rule: file lock
 /// Opens the file at a place, and locks it: alone where it is written to, else beside other readers. It is a regular
 /// file, and one that is written to has no other name. Until it is dropped, no other process that asks for such a lock
 /// gets one. `path` names it in a failure.
