@@ -5,5 +5,6 @@ use Rattle.device.specs.Memory.{DiskChange}
 use Rattle.device.specs.inside.Deferring.{AreCounted}
 
 -- one more was counted
-pub counted_more : (count more : ℕ) (changes : List DiskChange) (change : DiskChange) → AreCounted count changes → more ≡ min (count + 1) (2 ^ 64 - 1) → AreCounted more (change ∷ changes)
+pub counted_more : (count more : ℕ) (changes : List DiskChange) (change : DiskChange) → AreCounted count changes
+    → more ≡ min (count + 1) (2 ^ 64 - 1) → AreCounted more (change ∷ changes)
 counted_more count more changes change are is = omega (arith, are, is)

@@ -7,7 +7,9 @@ use Rattle.device.specs.declared.device.Device.{Ghosts}
 use Rattle.device.proofs.Moments.{leaves_at_start}
 
 -- no call was made
-pub did_nothing : {D : Type 0} (disk : Ghosts D) (device : D) → ((c : List ℕ) → disk.left_since device (disk.moment device) c → disk.may_leave device c) → Did disk device Nothing true device
+pub did_nothing : {D : Type 0} (disk : Ghosts D) (device : D)
+    → ((c : List ℕ) → disk.left_since device (disk.moment device) c → disk.may_leave device c)
+    → Did disk device Nothing true device
 did_nothing disk device now = record {
   seen = λ honest. refl;
   unread = λ honest failed from to copy few calls. refl;
@@ -23,20 +25,29 @@ did_nothing disk device now = record {
 }
 
 -- the same work, which came out the same
-pub did_as : {D : Type 0} (disk : Ghosts D) {old new : D} {work other : Work} {done came : Bool} → work ≡ other → done ≡ came → Did disk old work done new → Did disk old other came new
-did_as disk {old} {new} {work} {other} {done} {came} works outcomes did = subst (λ (w : Work). Did disk old w came new) works (subst (λ b. Did disk old work b new) outcomes did)
+pub did_as : {D : Type 0} (disk : Ghosts D) {old new : D} {work other : Work} {done came : Bool} → work ≡ other
+    → done ≡ came → Did disk old work done new → Did disk old other came new
+did_as disk {old} {new} {work} {other} {done} {came} works outcomes did =
+    subst (λ (w : Work). Did disk old w came new) works (subst (λ b. Did disk old work b new) outcomes did)
 
-module _ {D : Type 0} {disk : Ghosts D} {old new : D} {work : Work} {done : Bool} (did : Did disk old work done new) where
+module _ {D : Type 0} {disk : Ghosts D} {old new : D} {work : Work} {done : Bool}
+    (did : Did disk old work done new) where
   -- where all calls succeeded
   pub done_seen : disk.is_honest old → done ≡ true → disk.seen new ≡ worked (disk.seen old) work
-  done_seen honest is = subst (λ b. MatchBool b (disk.seen new ≡ worked (disk.seen old) work) (TornByWork work (disk.seen old) (disk.seen new))) is (did.seen honest)
+  done_seen honest is = subst (λ b. MatchBool b (disk.seen new ≡ worked (disk.seen old) work)
+      (TornByWork work (disk.seen old) (disk.seen new))) is (did.seen honest)
 
-  pub done_calls : disk.calls_made old + calls_of work < 2 ^ 64 → done ≡ true → disk.calls_made new ≡ disk.calls_made old + calls_of work
-  done_calls few is = subst (λ b. MatchBool b (disk.calls_made new ≡ disk.calls_made old + calls_of work) (HasFailed work (disk.calls_made old) (disk.calls_made new))) is (did.calls few)
+  pub done_calls : disk.calls_made old + calls_of work < 2 ^ 64 → done ≡ true
+      → disk.calls_made new ≡ disk.calls_made old + calls_of work
+  done_calls few is = subst (λ b. MatchBool b (disk.calls_made new ≡ disk.calls_made old + calls_of work)
+      (HasFailed work (disk.calls_made old) (disk.calls_made new))) is (did.calls few)
 
   -- where one failed
   pub failed_seen : disk.is_honest old → done ≡ false → TornByWork work (disk.seen old) (disk.seen new)
-  failed_seen honest is = subst (λ b. MatchBool b (disk.seen new ≡ worked (disk.seen old) work) (TornByWork work (disk.seen old) (disk.seen new))) is (did.seen honest)
+  failed_seen honest is = subst (λ b. MatchBool b (disk.seen new ≡ worked (disk.seen old) work)
+      (TornByWork work (disk.seen old) (disk.seen new))) is (did.seen honest)
 
-  pub failed_calls : disk.calls_made old + calls_of work < 2 ^ 64 → done ≡ false → HasFailed work (disk.calls_made old) (disk.calls_made new)
-  failed_calls few is = subst (λ b. MatchBool b (disk.calls_made new ≡ disk.calls_made old + calls_of work) (HasFailed work (disk.calls_made old) (disk.calls_made new))) is (did.calls few)
+  pub failed_calls : disk.calls_made old + calls_of work < 2 ^ 64 → done ≡ false
+      → HasFailed work (disk.calls_made old) (disk.calls_made new)
+  failed_calls few is = subst (λ b. MatchBool b (disk.calls_made new ≡ disk.calls_made old + calls_of work)
+      (HasFailed work (disk.calls_made old) (disk.calls_made new))) is (did.calls few)

@@ -1,10 +1,12 @@
 -- A disk over another is a disk in memory that first held what the other gives.
-use Rattle.std.proofs.Common.{◌≡◌, ℕ, ◌+◌, ◌≤◌, Bool, List, length, refl, sym, ◌∙◌, ap, subst, arith, Result, Ok, Err, OnOk, OnErr}
+use Rattle.std.proofs.Common.{◌≡◌, ℕ, ◌+◌, ◌≤◌, Bool, List, length, refl, sym}
+use Rattle.std.proofs.Common.{◌∙◌, ap, subst, arith, Result, Ok, Err, OnOk, OnErr}
 use Rattle.std.proofs.lemmas.List.{ext_get_or}
 use Rattle.std.specs.Prelude.{slice_range}
 use Rattle.device.specs.Device.{LeavesOnly, Only}
 use Rattle.device.specs.Failing.{IsPassedOn}
-use Rattle.device.specs.Memory.{DiskChange, Recorded, content_after, MayBeLeft, seen_of, may_leave_of, moment_of, left_since_of}
+use Rattle.device.specs.Memory.{DiskChange, Recorded, content_after, MayBeLeft}
+use Rattle.device.specs.Memory.{seen_of, may_leave_of, moment_of, left_since_of}
 use Rattle.device.specs.Memory.DiskChange.{write, sync}
 use Rattle.device.specs.Memory as memory
 use Rattle.device.specs.Overlay.{Overlaid, as_recorded, after_change, after_refusal}
@@ -13,52 +15,81 @@ use Rattle.device.proofs.Outcomes.{ok_map}
 use Rattle.device.proofs.Patches.{length-content_after}
 use Rattle.device.proofs.Ranges.{length-written}
 
-pub as_changed : {D T E : Type 0} (seen : D → List ℕ) (result : Result T E) (old new : Overlaid D) (change : DiskChange) → OnOk result (new ≡ after_change old change) → OnOk result (as_recorded seen new ≡ memory.after_change (as_recorded seen old) change)
+pub as_changed : {D T E : Type 0} (seen : D → List ℕ) (result : Result T E) (old new : Overlaid D) (change : DiskChange)
+    → OnOk result (new ≡ after_change old change)
+    → OnOk result (as_recorded seen new ≡ memory.after_change (as_recorded seen old) change)
 as_changed seen (Ok x) old new change is = ap (as_recorded seen) is
 as_changed seen (Err e) old new change is = tt
 
 -- Nothing but the counts is another where memory was refused.
-pub as_refused : {D T E : Type 0} (seen : D → List ℕ) (result : Result T E) (old new : Overlaid D) → OnErr result (new ≡ after_refusal old) → OnErr result (as_recorded seen new ≡ memory.after_refusal (as_recorded seen old))
+pub as_refused : {D T E : Type 0} (seen : D → List ℕ) (result : Result T E) (old new : Overlaid D)
+    → OnErr result (new ≡ after_refusal old)
+    → OnErr result (as_recorded seen new ≡ memory.after_refusal (as_recorded seen old))
 as_refused seen (Ok x) old new is = tt
 as_refused seen (Err e) old new is = ap (as_recorded seen) is
 
-pub same_inner : {D T E : Type 0} (result : Result T E) (old new : Overlaid D) (change : DiskChange) → OnOk result (new ≡ after_change old change) → OnErr result (new ≡ after_refusal old) → new.inner ≡ old.inner
+pub same_inner : {D T E : Type 0} (result : Result T E) (old new : Overlaid D) (change : DiskChange)
+    → OnOk result (new ≡ after_change old change) → OnErr result (new ≡ after_refusal old) → new.inner ≡ old.inner
 same_inner (Ok x) old new change done refused = ap (λ (d : Overlaid _). d.inner) done
 same_inner (Err e) old new change done refused = ap (λ (d : Overlaid _). d.inner) refused
 
-pub overlay_time : {D : Type 0} (seen : D → List ℕ) (old new : Overlaid D) (P : List ℕ → Type 0) → LeavesOnly moment_of left_since_of (as_recorded seen old) (as_recorded seen new) P
-    → LeavesOnly (λ (d : Overlaid D). moment_of (as_recorded seen d)) (λ (d : Overlaid D). left_since_of (as_recorded seen d)) old new P
-overlay_time seen old new P time = record { later = time.later; each = time.each; before = time.before; keeps = time.keeps }
+pub overlay_time : {D : Type 0} (seen : D → List ℕ) (old new : Overlaid D) (P : List ℕ → Type 0)
+    → LeavesOnly moment_of left_since_of (as_recorded seen old) (as_recorded seen new) P
+    → LeavesOnly (λ (d : Overlaid D). moment_of (as_recorded seen d))
+    (λ (d : Overlaid D). left_since_of (as_recorded seen d)) old new P
+overlay_time seen old new P time =
+    record { later = time.later; each = time.each; before = time.before; keeps = time.keeps }
 
-pub length_after_write : {T E : Type 0} (result : Result T E) (old new : Recorded) (at : ℕ) (bytes : List ℕ) → at + length bytes ≤ length (seen_of old) → OnOk result (new ≡ memory.after_change old (write at bytes)) → OnErr result (new ≡ memory.after_refusal old) → length (seen_of new) ≡ length (seen_of old)
+pub length_after_write : {T E : Type 0} (result : Result T E) (old new : Recorded) (at : ℕ) (bytes : List ℕ)
+    → at + length bytes ≤ length (seen_of old) → OnOk result (new ≡ memory.after_change old (write at bytes))
+    → OnErr result (new ≡ memory.after_refusal old) → length (seen_of new) ≡ length (seen_of old)
 length_after_write (Ok x) old new at bytes fits done refused = rw done (length-written (seen_of old) at bytes fits)
 length_after_write (Err e) old new at bytes fits done refused = rw refused refl
 
-pub sure_after_sync : {T E : Type 0} (result : Result T E) (old new : Recorded) → OnOk result (new ≡ memory.after_change old sync) → OnOk result (Only (may_leave_of new) (seen_of old))
-sure_after_sync (Ok x) old new done = rw done (λ c left. ext_get_or 0 c (seen_of old) left.same_length (λ i lt. left.synced i refl))
+pub sure_after_sync : {T E : Type 0} (result : Result T E) (old new : Recorded)
+    → OnOk result (new ≡ memory.after_change old sync) → OnOk result (Only (may_leave_of new) (seen_of old))
+sure_after_sync (Ok x) old new done =
+    rw done (λ c left. ext_get_or 0 c (seen_of old) left.same_length (λ i lt. left.synced i refl))
 sure_after_sync (Err e) old new done = tt
 
 -- It is as long as the disk under it, as its fields say: its writes are within that.
-pub length_of_overlay : {D : Type 0} (seen : D → List ℕ) (disk : Overlaid D) (inner : D) (changes : List DiskChange) (refused : Bool) (calls faults : ℕ) → record { inner = inner; changes = changes; refused = refused; calls = calls; faults = faults } ≡ disk → AreWithin (length (seen inner)) changes → length (seen_of (as_recorded seen disk)) ≡ length (seen inner)
+pub length_of_overlay : {D : Type 0} (seen : D → List ℕ) (disk : Overlaid D) (inner : D) (changes : List DiskChange)
+    (refused : Bool) (calls faults : ℕ)
+    → record { inner = inner; changes = changes; refused = refused; calls = calls; faults = faults } ≡ disk
+    → AreWithin (length (seen inner)) changes → length (seen_of (as_recorded seen disk)) ≡ length (seen inner)
 length_of_overlay seen disk inner changes refused calls faults is within =
-    ap (λ (d : Overlaid _). length (seen_of (as_recorded seen d))) (sym is) ∙ length-content_after (seen inner) changes within
+    ap (λ (d : Overlaid _). length (seen_of (as_recorded seen d))) (sym is)
+    ∙ length-content_after (seen inner) changes within
 
 -- These changes make new of old, wherever old is the m places from at on of some content.
 abbrev pub Patches : List ℕ → List ℕ → ℕ → ℕ → List DiskChange → Type 0
-Patches old new at m changes = (first : List ℕ) → at + m ≤ length first → AreWithin (length first) changes → old ≡ slice_range first at (at + m) → new ≡ slice_range (content_after first changes) at (at + m)
+Patches old new at m changes = (first : List ℕ) → at + m ≤ length first → AreWithin (length first) changes
+    → old ≡ slice_range first at (at + m) → new ≡ slice_range (content_after first changes) at (at + m)
 
 -- a part of what it gives: what was read of the disk under it, patched by its writes
-pub read_and_patched : {D T E : Type 0} (seen : D → List ℕ) (result outcome : Result T E) (disk : Overlaid D) (inner : D) (changes : List DiskChange) (refused : Bool) (calls faults : ℕ) (at n m : ℕ) (old new : List ℕ)
-    → record { inner = inner; changes = changes; refused = refused; calls = calls; faults = faults } ≡ disk → AreWithin (length (seen inner)) changes → at + n ≤ length (seen_of (as_recorded seen disk)) → m ≡ n → result ≡ outcome
-    → Patches old new at m changes → OnOk outcome (old ≡ slice_range (seen inner) at (at + n)) → OnOk result (new ≡ slice_range (seen_of (as_recorded seen disk)) at (at + n))
-read_and_patched seen result outcome disk inner changes refused calls faults at n m old new is within fits same_length same patches read =
+pub read_and_patched : {D T E : Type 0} (seen : D → List ℕ) (result outcome : Result T E) (disk : Overlaid D)
+    (inner : D) (changes : List DiskChange) (refused : Bool) (calls faults : ℕ) (at n m : ℕ) (old new : List ℕ)
+    → record { inner = inner; changes = changes; refused = refused; calls = calls; faults = faults } ≡ disk
+    → AreWithin (length (seen inner)) changes → at + n ≤ length (seen_of (as_recorded seen disk)) → m ≡ n
+    → result ≡ outcome
+    → Patches old new at m changes → OnOk outcome (old ≡ slice_range (seen inner) at (at + n))
+    → OnOk result (new ≡ slice_range (seen_of (as_recorded seen disk)) at (at + n))
+read_and_patched seen result outcome disk inner changes refused calls faults at n m old new is within fits
+    same_length same patches read =
     let long = length_of_overlay seen disk inner changes refused calls faults is within in
-    let P : ℕ → Type 0 = λ k. old ≡ slice_range (seen inner) at (at + k) → new ≡ slice_range (content_after (seen inner) changes) at (at + k) in
+    let P : ℕ → Type 0 = λ k. old ≡ slice_range (seen inner) at (at + k)
+    → new ≡ slice_range (content_after (seen inner) changes) at (at + k) in
     let Q : Result _ _ → Type 0 = λ r. OnOk r (new ≡ slice_range (seen_of (as_recorded seen disk)) at (at + n)) in
     let patched = subst P same_length (patches (seen inner) (omega (arith, fits, long, same_length)) within) in
-    let given : slice_range (content_after (seen inner) changes) at (at + n) ≡ slice_range (seen_of (as_recorded seen disk)) at (at + n) = ap (λ (d : Overlaid _). slice_range (seen_of (as_recorded seen d)) at (at + n)) is in
+    let given : slice_range (content_after (seen inner) changes) at (at + n)
+    ≡ slice_range (seen_of (as_recorded seen disk)) at (at + n) =
+    ap (λ (d : Overlaid _). slice_range (seen_of (as_recorded seen d)) at (at + n)) is in
     subst Q (sym same) (ok_map outcome (λ e. patched e ∙ given) read)
 
-pub passed_on : {D T E : Type 0} {calls_made faults_met : D → ℕ} {old new old' new' : D} {result result' : Result T E} → old ≡ old' → new ≡ new' → result ≡ result' → IsPassedOn calls_made faults_met old new result → IsPassedOn calls_made faults_met old' new' result'
-passed_on {calls_made = calls_made} {faults_met = faults_met} {new = new} {old' = old'} {new' = new'} {result = result} o n r passed =
-    subst (λ x. IsPassedOn calls_made faults_met old' new' x) r (subst (λ x. IsPassedOn calls_made faults_met old' x result) n (subst (λ x. IsPassedOn calls_made faults_met x new result) o passed))
+pub passed_on : {D T E : Type 0} {calls_made faults_met : D → ℕ} {old new old' new' : D} {result result' : Result T E}
+    → old ≡ old' → new ≡ new' → result ≡ result' → IsPassedOn calls_made faults_met old new result
+    → IsPassedOn calls_made faults_met old' new' result'
+passed_on {calls_made = calls_made} {faults_met = faults_met} {new = new} {old' = old'} {new' = new'}
+    {result = result} o n r passed =
+    subst (λ x. IsPassedOn calls_made faults_met old' new' x) r (subst (λ x. IsPassedOn calls_made faults_met old' x
+    result) n (subst (λ x. IsPassedOn calls_made faults_met x new result) o passed))

@@ -1,45 +1,66 @@
 -- What a write changes in a list, and what a torn range leaves.
-use Rattle.std.proofs.Common.{◌≡◌, ◌<◌, ◌≤◌, ℕ, ◌+◌, ◌-◌, List, ◌++◌, length, take, drop, get_or, refl, sym, ◌∙◌, ap, subst, arith, append_assoc, length-append, length-take, length-drop}
-use Rattle.std.proofs.lemmas.List.{take_at, drop_at, get_or_append_left, get_or-append_right, get_or-take, get_or-drop, ext_get_or}
+use Rattle.std.proofs.Common.{◌≡◌, ◌<◌, ◌≤◌, ℕ, ◌+◌, ◌-◌, List, ◌++◌, length, take, drop, get_or, refl, sym}
+use Rattle.std.proofs.Common.{◌∙◌, ap, subst, arith, append_assoc, length-append, length-take, length-drop}
+use Rattle.std.proofs.lemmas.List.{take_at, drop_at, get_or_append_left, get_or-append_right}
+use Rattle.std.proofs.lemmas.List.{get_or-take, get_or-drop, ext_get_or}
 use Rattle.std.specs.Prelude.{slice_range}
 use Rattle.device.specs.Device.{written, Torn, TornFrom}
 
-pub length-written : (old : List ℕ) (at : ℕ) (bytes : List ℕ) → at + length bytes ≤ length old → length (written old at bytes) ≡ length old
+pub length-written : (old : List ℕ) (at : ℕ) (bytes : List ℕ) → at + length bytes ≤ length old
+    → length (written old at bytes) ≡ length old
 length-written old at bytes fits =
-    omega (arith, length-append (take at old ++ bytes) (drop (at + length bytes) old), length-append (take at old) bytes, length-take at old, length-drop (at + length bytes) old)
+    omega (
+      arith,
+      length-append (take at old ++ bytes) (drop (at + length bytes) old),
+      length-append (take at old) bytes,
+      length-take at old,
+      length-drop (at + length bytes) old,
+    )
 
 -- the place is before the range that is written
-pub written_before : (old : List ℕ) (at : ℕ) (bytes : List ℕ) (i : ℕ) → at + length bytes ≤ length old → i < at → get_or (written old at bytes) i 0 ≡ get_or old i 0
+pub written_before : (old : List ℕ) (at : ℕ) (bytes : List ℕ) (i : ℕ) → at + length bytes ≤ length old → i < at
+    → get_or (written old at bytes) i 0 ≡ get_or old i 0
 written_before old at bytes i fits lt =
     let front : length (take at old) ≡ at = omega (arith, length-take at old) in
-    let first : get_or (written old at bytes) i 0 ≡ get_or (take at old ++ bytes) i 0 = get_or_append_left (take at old ++ bytes) (drop (at + length bytes) old) 0 i (omega (arith, front, length-append (take at old) bytes)) in
+    let first : get_or (written old at bytes) i 0 ≡ get_or (take at old ++ bytes) i 0 = get_or_append_left (take at old
+    ++ bytes) (drop (at + length bytes) old) 0 i (omega (arith, front, length-append (take at old) bytes)) in
     first ∙ get_or_append_left (take at old) bytes 0 i (omega (arith, front)) ∙ get_or-take at old i 0 lt
 
 -- the place is in the range that is written
-pub written_within : (old : List ℕ) (at : ℕ) (bytes : List ℕ) (i : ℕ) → at + length bytes ≤ length old → at ≤ i → i < at + length bytes → get_or (written old at bytes) i 0 ≡ get_or bytes (i - at) 0
+pub written_within : (old : List ℕ) (at : ℕ) (bytes : List ℕ) (i : ℕ) → at + length bytes ≤ length old → at ≤ i
+    → i < at + length bytes → get_or (written old at bytes) i 0 ≡ get_or bytes (i - at) 0
 written_within old at bytes i fits le lt =
     let front : length (take at old) ≡ at = omega (arith, length-take at old) in
-    let first : get_or (written old at bytes) i 0 ≡ get_or (take at old ++ bytes) i 0 = get_or_append_left (take at old ++ bytes) (drop (at + length bytes) old) 0 i (omega (arith, front, length-append (take at old) bytes)) in
+    let first : get_or (written old at bytes) i 0 ≡ get_or (take at old ++ bytes) i 0 = get_or_append_left (take at old
+    ++ bytes) (drop (at + length bytes) old) 0 i (omega (arith, front, length-append (take at old) bytes)) in
     first ∙ get_or-append_right (take at old) bytes at i 0 front le
 
 -- the place is past the range that is written
-pub written_after : (old : List ℕ) (at : ℕ) (bytes : List ℕ) (i : ℕ) → at + length bytes ≤ length old → at + length bytes ≤ i → get_or (written old at bytes) i 0 ≡ get_or old i 0
+pub written_after : (old : List ℕ) (at : ℕ) (bytes : List ℕ) (i : ℕ) → at + length bytes ≤ length old
+    → at + length bytes ≤ i → get_or (written old at bytes) i 0 ≡ get_or old i 0
 written_after old at bytes i fits le =
-    let front : length (take at old ++ bytes) ≡ at + length bytes = omega (arith, length-append (take at old) bytes, length-take at old) in
-    let first : get_or (written old at bytes) i 0 ≡ get_or (drop (at + length bytes) old) (i - (at + length bytes)) 0 = get_or-append_right (take at old ++ bytes) (drop (at + length bytes) old) (at + length bytes) i 0 front le in
+    let front : length (take at old ++ bytes) ≡ at + length bytes =
+    omega (arith, length-append (take at old) bytes, length-take at old) in
+    let first : get_or (written old at bytes) i 0 ≡ get_or (drop (at + length bytes) old) (i - (at + length bytes)) 0 =
+    get_or-append_right (take at old ++ bytes) (drop (at + length bytes) old) (at + length bytes) i 0 front le in
     let place : at + length bytes + (i - (at + length bytes)) ≡ i = omega arith in
     first ∙ get_or-drop (at + length bytes) old (i - (at + length bytes)) 0 ∙ ap (λ k. get_or old k 0) place
 
-pub take-written : (old : List ℕ) (at : ℕ) (bytes : List ℕ) → at + length bytes ≤ length old → take at (written old at bytes) ≡ take at old
+pub take-written : (old : List ℕ) (at : ℕ) (bytes : List ℕ) → at + length bytes ≤ length old
+    → take at (written old at bytes) ≡ take at old
 take-written old at bytes fits =
-    ap (take at) (append_assoc (take at old) bytes (drop (at + length bytes) old)) ∙ take_at (take at old) (bytes ++ drop (at + length bytes) old) at (omega (arith, length-take at old))
+    ap (take at) (append_assoc (take at old) bytes (drop (at + length bytes) old))
+    ∙ take_at (take at old) (bytes ++ drop (at + length bytes) old) at (omega (arith, length-take at old))
 
-pub drop-written : (old : List ℕ) (at : ℕ) (bytes : List ℕ) → at + length bytes ≤ length old → drop (at + length bytes) (written old at bytes) ≡ drop (at + length bytes) old
+pub drop-written : (old : List ℕ) (at : ℕ) (bytes : List ℕ) → at + length bytes ≤ length old
+    → drop (at + length bytes) (written old at bytes) ≡ drop (at + length bytes) old
 drop-written old at bytes fits =
-    drop_at (take at old ++ bytes) (drop (at + length bytes) old) (at + length bytes) (omega (arith, length-append (take at old) bytes, length-take at old))
+    drop_at (take at old ++ bytes) (drop (at + length bytes) old) (at + length bytes)
+    (omega (arith, length-append (take at old) bytes, length-take at old))
 
 -- a write changes no more than its range
-pub torn_by_write : (old : List ℕ) (at : ℕ) (bytes : List ℕ) → at + length bytes ≤ length old → Torn at (length bytes) old (written old at bytes)
+pub torn_by_write : (old : List ℕ) (at : ℕ) (bytes : List ℕ) → at + length bytes ≤ length old
+    → Torn at (length bytes) old (written old at bytes)
 torn_by_write old at bytes fits = record {
   before = take-written old at bytes fits;
   after = drop-written old at bytes fits;
@@ -52,10 +73,12 @@ torn_none at n old = record { before = refl; after = refl; same_length = refl }
 
 -- places before a torn range keep their bytes
 pub torn_before : {at n : ℕ} {old new : List ℕ} → Torn at n old new → (i : ℕ) → i < at → get_or new i 0 ≡ get_or old i 0
-torn_before {at} {n} {old} {new} torn i lt = sym (get_or-take at new i 0 lt) ∙ ap (λ (l : List ℕ). get_or l i 0) torn.before ∙ get_or-take at old i 0 lt
+torn_before {at} {n} {old} {new} torn i lt =
+    sym (get_or-take at new i 0 lt) ∙ ap (λ (l : List ℕ). get_or l i 0) torn.before ∙ get_or-take at old i 0 lt
 
 -- places past a torn range keep their bytes
-pub torn_after : {at n : ℕ} {old new : List ℕ} → Torn at n old new → (i : ℕ) → at + n ≤ i → get_or new i 0 ≡ get_or old i 0
+pub torn_after : {at n : ℕ} {old new : List ℕ} → Torn at n old new → (i : ℕ) → at + n ≤ i
+    → get_or new i 0 ≡ get_or old i 0
 torn_after {at} {n} {old} {new} torn i le =
     let place : at + n + (i - (at + n)) ≡ i = omega arith in
     sym (get_or-drop (at + n) new (i - (at + n)) 0 ∙ ap (λ k. get_or new k 0) place)
@@ -70,11 +93,14 @@ restored seen c at n = written c at (take n (drop at seen))
 length-part : (seen : List ℕ) (at n : ℕ) → at + n ≤ length seen → length (take n (drop at seen)) ≡ n
 length-part seen at n fits = omega (arith, length-take n (drop at seen), length-drop at seen)
 
-pub length-restored : (seen c : List ℕ) (at n : ℕ) → at + n ≤ length seen → length c ≡ length seen → length (restored seen c at n) ≡ length c
-length-restored seen c at n fits same = length-written c at (take n (drop at seen)) (omega (arith, length-part seen at n fits))
+pub length-restored : (seen c : List ℕ) (at n : ℕ) → at + n ≤ length seen → length c ≡ length seen
+    → length (restored seen c at n) ≡ length c
+length-restored seen c at n fits same =
+    length-written c at (take n (drop at seen)) (omega (arith, length-part seen at n fits))
 
 -- c is torn from it
-pub torn_restored : (seen c : List ℕ) (at n : ℕ) → at + n ≤ length seen → length c ≡ length seen → Torn at n (restored seen c at n) c
+pub torn_restored : (seen c : List ℕ) (at n : ℕ) → at + n ≤ length seen → length c ≡ length seen
+    → Torn at n (restored seen c at n) c
 torn_restored seen c at n fits same =
     let part = length-part seen at n fits in
     let by_write = torn_by_write c at (take n (drop at seen)) (omega (arith, part)) in
@@ -84,29 +110,40 @@ torn_restored seen c at n fits same =
       same_length = sym by_write.same_length;
     }
 
-pub restored_before : (seen c : List ℕ) (at n i : ℕ) → at + n ≤ length seen → length c ≡ length seen → i < at → get_or (restored seen c at n) i 0 ≡ get_or c i 0
-restored_before seen c at n i fits same lt = written_before c at (take n (drop at seen)) i (omega (arith, length-part seen at n fits)) lt
+pub restored_before : (seen c : List ℕ) (at n i : ℕ) → at + n ≤ length seen → length c ≡ length seen → i < at
+    → get_or (restored seen c at n) i 0 ≡ get_or c i 0
+restored_before seen c at n i fits same lt =
+    written_before c at (take n (drop at seen)) i (omega (arith, length-part seen at n fits)) lt
 
-pub restored_within : (seen c : List ℕ) (at n i : ℕ) → at + n ≤ length seen → length c ≡ length seen → at ≤ i → i < at + n → get_or (restored seen c at n) i 0 ≡ get_or seen i 0
+pub restored_within : (seen c : List ℕ) (at n i : ℕ) → at + n ≤ length seen → length c ≡ length seen → at ≤ i
+    → i < at + n → get_or (restored seen c at n) i 0 ≡ get_or seen i 0
 restored_within seen c at n i fits same le lt =
     let part = length-part seen at n fits in
     let place : at + (i - at) ≡ i = omega arith in
-    let inner : get_or (take n (drop at seen)) (i - at) 0 ≡ get_or (drop at seen) (i - at) 0 = get_or-take n (drop at seen) (i - at) 0 (omega arith) in
+    let inner : get_or (take n (drop at seen)) (i - at) 0 ≡ get_or (drop at seen) (i - at) 0 =
+    get_or-take n (drop at seen) (i - at) 0 (omega arith) in
     written_within c at (take n (drop at seen)) i (omega (arith, part)) le (omega (arith, part))
     ∙ inner ∙ get_or-drop at seen (i - at) 0 ∙ ap (λ k. get_or seen k 0) place
 
-pub restored_after : (seen c : List ℕ) (at n i : ℕ) → at + n ≤ length seen → length c ≡ length seen → at + n ≤ i → get_or (restored seen c at n) i 0 ≡ get_or c i 0
+pub restored_after : (seen c : List ℕ) (at n i : ℕ) → at + n ≤ length seen → length c ≡ length seen → at + n ≤ i
+    → get_or (restored seen c at n) i 0 ≡ get_or c i 0
 restored_after seen c at n i fits same le =
     let part = length-part seen at n fits in
     written_after c at (take n (drop at seen)) i (omega (arith, part)) (omega (arith, part))
 
 -- what is written is read again
-pub part_written : (old : List ℕ) (at : ℕ) (bytes : List ℕ) → at + length bytes ≤ length old → slice_range (written old at bytes) at (at + length bytes) ≡ bytes
+pub part_written : (old : List ℕ) (at : ℕ) (bytes : List ℕ) → at + length bytes ≤ length old
+    → slice_range (written old at bytes) at (at + length bytes) ≡ bytes
 part_written old at bytes fits =
     let n = at + length bytes - at in
     let count : n ≡ length bytes = omega arith in
     let long : length (take n (drop at (written old at bytes))) ≡ length bytes =
-    omega (arith, length-take n (drop at (written old at bytes)), length-drop at (written old at bytes), length-written old at bytes fits) in
+    omega (
+      arith,
+      length-take n (drop at (written old at bytes)),
+      length-drop at (written old at bytes),
+      length-written old at bytes fits,
+    ) in
     ext_get_or 0 (take n (drop at (written old at bytes))) bytes long (λ k lt.
     let within : k < length bytes = omega (arith, lt, long) in
     let place : at + k - at ≡ k = omega arith in
@@ -116,12 +153,16 @@ part_written old at bytes fits =
     ∙ ap (λ p. get_or bytes p 0) place)
 
 -- two lists that agree at each place out of a range differ by a torn range
-pub torn_from_places : (at n : ℕ) (old new : List ℕ) → length new ≡ length old → ((i : ℕ) → i < at → get_or new i 0 ≡ get_or old i 0) → ((i : ℕ) → at + n ≤ i → get_or new i 0 ≡ get_or old i 0) → Torn at n old new
+pub torn_from_places : (at n : ℕ) (old new : List ℕ) → length new ≡ length old
+    → ((i : ℕ) → i < at → get_or new i 0 ≡ get_or old i 0) → ((i : ℕ) → at + n ≤ i → get_or new i 0 ≡ get_or old i 0)
+    → Torn at n old new
 torn_from_places at n old new same before after = record {
-  before = ext_get_or 0 (take at new) (take at old) (omega (arith, same, length-take at new, length-take at old)) (λ i lt.
+  before = ext_get_or 0 (take at new) (take at old)
+      (omega (arith, same, length-take at new, length-take at old)) (λ i lt.
       let within : i < at = omega (arith, lt, length-take at new) in
       get_or-take at new i 0 within ∙ before i within ∙ sym (get_or-take at old i 0 within));
-  after = ext_get_or 0 (drop (at + n) new) (drop (at + n) old) (omega (arith, same, length-drop (at + n) new, length-drop (at + n) old)) (λ i lt.
+  after = ext_get_or 0 (drop (at + n) new) (drop (at + n) old)
+      (omega (arith, same, length-drop (at + n) new, length-drop (at + n) old)) (λ i lt.
       get_or-drop (at + n) new i 0 ∙ after (at + n + i) (omega arith) ∙ sym (get_or-drop (at + n) old i 0));
   same_length = same;
 }
@@ -135,8 +176,10 @@ torn_twice first second = record {
 }
 
 -- torn in a range is torn in each wider one
-pub torn_wider : {at n : ℕ} {old new : List ℕ} → Torn at n old new → (from len : ℕ) → from ≤ at → at + n ≤ from + len → Torn from len old new
-torn_wider {at} {n} {old} {new} torn from len le end = torn_from_places from len old new torn.same_length (λ i lt. torn_before torn i (omega (arith, le, lt))) (λ i past. torn_after torn i (omega (arith, end, past)))
+pub torn_wider : {at n : ℕ} {old new : List ℕ} → Torn at n old new → (from len : ℕ) → from ≤ at → at + n ≤ from + len
+    → Torn from len old new
+torn_wider {at} {n} {old} {new} torn from len le end = torn_from_places from len old new torn.same_length
+    (λ i lt. torn_before torn i (omega (arith, le, lt))) (λ i past. torn_after torn i (omega (arith, end, past)))
 
 -- what may be left is torn from what may be left
 pub torn_from_none : {lists : List ℕ → Type 0} (at n : ℕ) {c : List ℕ} → lists c → TornFrom at n lists c

@@ -1,5 +1,7 @@
 -- A disk whose writes and syncs are recorded for somebody else to make, over the blocks of 4,096 bytes that it knows.
-use Rattle.std.specs.Prelude.{◌≡◌, ⊤, ℕ, zero, suc, ◌+◌, ◌-◌, ◌*◌, ◌/◌, ◌^◌, min, Bool, true, false, if◌then◌else◌, Option, Some, None, List, [], ◌∷◌, ◌++◌, length, take, drop, replicate, get_or, set, slice_get, slice_range, nat_lt, ◌&&◌, ◌||◌}
+use Rattle.std.specs.Prelude.{◌≡◌, ⊤, ℕ, zero, suc, ◌+◌, ◌-◌, ◌*◌, ◌/◌, ◌^◌, min, Bool, true, false}
+use Rattle.std.specs.Prelude.{if◌then◌else◌, Option, Some, None, List, [], ◌∷◌, ◌++◌, length, take}
+use Rattle.std.specs.Prelude.{drop, replicate, get_or, set, slice_get, slice_range, nat_lt, ◌&&◌, ◌||◌}
 use Rattle.std.specs.Int.{div_ceil}
 use Rattle.device.specs.Count.{raised}
 use Rattle.device.specs.Memory.{DiskChange, Recorded, seen_of, may_leave_of, moment_of}
@@ -188,4 +190,5 @@ pub record IsBehind {D : Type 0} (is_honest : D → Type 0) (seen : D → List �
     (device : D) (disk : Deferred) : Type 0 where
   pub honest : is_honest device
   pub seen_torn : TornByWork (work_of (oldest disk)) (seen_of (carried_out disk)) (seen device)
-  pub left : (c : List ℕ) → may_leave device c → TornFromWork (work_of (oldest disk)) (may_leave_of (carried_out disk)) c
+  pub left : (c : List ℕ) → may_leave device c
+      → TornFromWork (work_of (oldest disk)) (may_leave_of (carried_out disk)) c

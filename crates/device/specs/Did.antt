@@ -1,5 +1,6 @@
 -- What device calls did, in one record.
-use Rattle.std.specs.Prelude.{◌≡◌, ◌≢◌, ◌↔◌, ℕ, ◌+◌, ◌^◌, ◌<◌, Bool, true, false, if◌then◌else◌, MatchBool, List, length}
+use Rattle.std.specs.Prelude.{◌≡◌, ◌≢◌, ◌↔◌, ℕ, ◌+◌, ◌^◌, ◌<◌, Bool, true}
+use Rattle.std.specs.Prelude.{false, if◌then◌else◌, MatchBool, List, length}
 use Rattle.device.specs.Count.{raised}
 use Rattle.device.specs.Device.{Only, LeavesOnly}
 use Rattle.device.specs.Work.{Work, CopyBlock, Sync, Nothing, worked, TornByWork, TornFromWork, calls_of, HasFailed}

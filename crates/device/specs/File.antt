@@ -1,5 +1,6 @@
 -- A disk over a file: which calls of the file it makes, and what it gives of the file's bytes.
-use Rattle.std.specs.Prelude.{⊤, ◌≡◌, ℕ, Bool, if◌then◌else◌, List, [], ◌∷◌, ◌++◌, length, take, replicate, Option, Some, None}
+use Rattle.std.specs.Prelude.{⊤, ◌≡◌, ℕ, Bool, if◌then◌else◌, List, [], ◌∷◌}
+use Rattle.std.specs.Prelude.{◌++◌, length, take, replicate, Option, Some, None}
 use Rattle.device.specs.Count.{raised}
 
 -- a call of a file: the offset and what the buffer then holds, the offset and the bytes, or a sync of all that is known

@@ -1,5 +1,6 @@
 -- A disk in memory, as the record of its calls: what it held at first, and the writes and syncs since.
-use Rattle.std.specs.Prelude.{◌≡◌, ◌^◌, ℕ, ◌+◌, ◌-◌, ◌≤◌, min, Bool, false, ◌&&◌, ◌||◌, List, [], ◌∷◌, length, drop, nat_le, nat_lt, if◌then◌else◌, slice_index}
+use Rattle.std.specs.Prelude.{◌≡◌, ◌^◌, ℕ, ◌+◌, ◌-◌, ◌≤◌, min, Bool, false, ◌&&◌, ◌||◌, List}
+use Rattle.std.specs.Prelude.{[], ◌∷◌, length, drop, nat_le, nat_lt, if◌then◌else◌, slice_index}
 use Rattle.device.specs.Count.{raised}
 use Rattle.device.specs.Device.{written}
 

@@ -1,5 +1,6 @@
 -- What a crash leaves while a host makes the calls.
-use Rattle.std.proofs.Common.{◌≡◌, ◌≤◌, ◌⊎◌, inl, inr, ℕ, List, [], ◌∷◌, ◌++◌, take, refl, sym, ◌∙◌, ap, subst, arith, Contains}
+use Rattle.std.proofs.Common.{◌≡◌, ◌≤◌, ◌⊎◌, inl, inr, ℕ, List, [], ◌∷◌, ◌++◌}
+use Rattle.std.proofs.Common.{take, refl, sym, ◌∙◌, ap, subst, arith, Contains}
 use Rattle.device.specs.Deferred.{Deferred, as_recorded, carried_moment}
 use Rattle.device.specs.Device.{LeavesOnly}
 use Rattle.device.specs.Memory.{Recorded, left_since_of}
@@ -18,7 +19,9 @@ use Rattle.embedded.specs.Hosting.{KeepsMark, told_with_later}
 use Rattle.embedded.specs.Recorded.{recorded_disk}
 
 -- what has one property has another
-pub leaves_as : {D : Type 0} {moment : D → ℕ} {left_since : D → ℕ → List ℕ → Type 0} {old new : D} {P Q : List ℕ → Type 0} → ((c : List ℕ) → P c → Q c) → LeavesOnly moment left_since old new P → LeavesOnly moment left_since old new Q
+pub leaves_as : {D : Type 0} {moment : D → ℕ} {left_since : D → ℕ → List ℕ → Type 0} {old new : D}
+    {P Q : List ℕ → Type 0} → ((c : List ℕ) → P c → Q c) → LeavesOnly moment left_since old new P
+    → LeavesOnly moment left_since old new Q
 leaves_as {D} {moment} {left_since} {old} {new} {P} {Q} so it = record {
   later = it.later;
   each = λ c left. so c (it.each c left);
@@ -31,28 +34,41 @@ leaves_as {D} {moment} {left_since} {old} {new} {P} {Q} so it = record {
     before_or c (inr p) = inr (so c p)
 
 -- since an earlier moment
-pub sooner : (disk : Deferred) (t : ℕ) (c : List ℕ) → t ≤ carried_moment disk → left_since_of (as_recorded disk) (carried_moment disk) c → left_since_of (as_recorded disk) t c
+pub sooner : (disk : Deferred) (t : ℕ) (c : List ℕ) → t ≤ carried_moment disk
+    → left_since_of (as_recorded disk) (carried_moment disk) c → left_since_of (as_recorded disk) t c
 sooner disk t c le (newer, most, time, left) = (newer, most, omega (arith, le, time), left)
 
 -- what steps and further steps tell
-pub told_then : (told : Told) (old mid : Whole Recorded) (steps later : List Step) (replies more : List Reply) → StepsTaken recorded_disk old steps replies mid → tell_all told (steps ++ later) (replies ++ more) ≡ tell_all (tell_all told steps replies) later more
+pub told_then : (told : Told) (old mid : Whole Recorded) (steps later : List Step) (replies more : List Reply)
+    → StepsTaken recorded_disk old steps replies mid
+    → tell_all told (steps ++ later) (replies ++ more) ≡ tell_all (tell_all told steps replies) later more
 told_then told old mid [] later [] more taken = refl
-told_then told old mid (step ∷ steps) later (reply ∷ replies) more (next, here, rest) = told_then (tell told step reply) next mid steps later replies more rest
+told_then told old mid (step ∷ steps) later (reply ∷ replies) more (next, here, rest) =
+    told_then (tell told step reply) next mid steps later replies more rest
 told_then told old mid [] later (reply ∷ replies) more taken = absurd taken
 told_then told old mid (step ∷ steps) later [] more taken = absurd taken
 
 -- A mark that is acknowledged whatever comes later is kept.
-module _ (files : List File) (mark : ℕ) (machine : Whole Recorded) (notes : Notes) (it : HasCommitted mark machine notes) (has : (n : ℕ) → Contains (told_with_later files mark machine notes it n) (Acknowledge mark)) where
+module _ (files : List File) (mark : ℕ) (machine : Whole Recorded) (notes : Notes)
+    (it : HasCommitted mark machine notes)
+    (has : (n : ℕ) → Contains (told_with_later files mark machine notes it n) (Acknowledge mark)) where
   abbrev first : Told
   first = told_first files it.start.state
 
-  both : (n : ℕ) → tell_all first (it.earlier ++ (it.steps ++ take n it.later)) (it.told ++ (it.replies ++ take n it.more)) ≡ tell_all (tell_all first (it.earlier ++ it.steps) (it.told ++ it.replies)) (take n it.later) (take n it.more)
+  both : (n : ℕ)
+      → tell_all first (it.earlier ++ (it.steps ++ take n it.later)) (it.told ++ (it.replies ++ take n it.more))
+      ≡ tell_all (tell_all first (it.earlier ++ it.steps) (it.told ++ it.replies)) (take n it.later) (take n it.more)
   both n =
-      told_then first it.start it.old it.earlier (it.steps ++ take n it.later) it.told (it.replies ++ take n it.more) it.makes_earlier.taken
-      ∙ told_then (tell_all first it.earlier it.told) it.old it.new it.steps (take n it.later) it.replies (take n it.more) it.makes.taken
-      ∙ ap (λ (x : Told). tell_all x (take n it.later) (take n it.more)) (sym (told_then first it.start it.old it.earlier it.steps it.told it.replies it.makes_earlier.taken))
+      told_then first it.start it.old it.earlier (it.steps ++ take n it.later) it.told
+      (it.replies ++ take n it.more) it.makes_earlier.taken
+      ∙ told_then (tell_all first it.earlier it.told) it.old it.new it.steps (take n it.later) it.replies
+      (take n it.more) it.makes.taken
+      ∙ ap (λ (x : Told). tell_all x (take n it.later) (take n it.more))
+      (sym (told_then first it.start it.old it.earlier it.steps it.told it.replies it.makes_earlier.taken))
 
-  pub kept : (c : List ℕ) → ReadsBackSince files (tell_all (told_first files it.start.state) (it.earlier ++ it.steps) (it.told ++ it.replies)) it.later it.more c → KeepsMark files mark machine notes it c
+  pub kept : (c : List ℕ) → ReadsBackSince files
+      (tell_all (told_first files it.start.state) (it.earlier ++ it.steps) (it.told ++ it.replies)) it.later it.more c
+      → KeepsMark files mark machine notes it c
   kept c (n, back) = record {
     later = n;
     back = subst (λ (x : Told). ReadsBack files x.history c) (sym (both n)) back;

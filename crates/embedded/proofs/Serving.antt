@@ -17,33 +17,47 @@ use Rattle.session.proofs.Public.{served_none, served_does, makes_none, makes_th
 use Rattle.embedded.specs.Recorded.{deferred_disk, recorded_disk, recorded}
 use Rattle.embedded.specs.Embedded.{last_committed, last_needed, HasCommitted, HasNeeded, HasMade, ServesWell}
 use Rattle.embedded.proofs.Counting.{counted_moments}
-use Rattle.embedded.proofs.Through.{step_through, makes_through, makes_honest, does_through, started_through, started_honest}
+use Rattle.embedded.proofs.Through.{step_through, makes_through, makes_honest}
+use Rattle.embedded.proofs.Through.{does_through, started_through, started_honest}
 
 -- ---- over the disk in memory
 
-pub start_recorded : (before : Deferred) (shape : Shape) (start : Whole Deferred) → IsSuppliedWell before → HasStarted deferred_disk before shape start → HasStarted recorded_disk (as_recorded before) shape (recorded start)
-start_recorded before shape start well it = started_through as_recorded recorded_disk IsSuppliedWell (λ _. tt) before shape start well it
+pub start_recorded : (before : Deferred) (shape : Shape) (start : Whole Deferred) → IsSuppliedWell before
+    → HasStarted deferred_disk before shape start → HasStarted recorded_disk (as_recorded before) shape (recorded start)
+start_recorded before shape start well it =
+    started_through as_recorded recorded_disk IsSuppliedWell (λ _. tt) before shape start well it
 
-pub step_recorded : (old new : Whole Deferred) (step : Step) (reply : Reply) → IsSuppliedWell old.device → StepTaken deferred_disk old step reply new → StepTaken recorded_disk (recorded old) step reply (recorded new)
-step_recorded old new step reply well it = step_through as_recorded recorded_disk IsSuppliedWell (λ _. tt) old new step reply well it
+pub step_recorded : (old new : Whole Deferred) (step : Step) (reply : Reply) → IsSuppliedWell old.device
+    → StepTaken deferred_disk old step reply new → StepTaken recorded_disk (recorded old) step reply (recorded new)
+step_recorded old new step reply well it =
+    step_through as_recorded recorded_disk IsSuppliedWell (λ _. tt) old new step reply well it
 
-pub does_recorded : (old new : Whole Deferred) (before after : Notes) (what : List Step → List Reply → Type 0) → IsSuppliedWell old.device → MakesStepsThat deferred_disk old before what new after
+pub does_recorded : (old new : Whole Deferred) (before after : Notes) (what : List Step → List Reply → Type 0)
+    → IsSuppliedWell old.device → MakesStepsThat deferred_disk old before what new after
     → MakesStepsThat recorded_disk (recorded old) before what (recorded new) after
-does_recorded old new before after what well it = does_through as_recorded recorded_disk IsSuppliedWell (λ _. tt) old new before after what well it
+does_recorded old new before after what well it =
+    does_through as_recorded recorded_disk IsSuppliedWell (λ _. tt) old new before after what well it
 
-pub makes_recorded : (old new : Whole Deferred) (before after : Notes) (steps : List Step) (replies : List Reply) → IsSuppliedWell old.device → Makes deferred_disk old before steps replies new after
+pub makes_recorded : (old new : Whole Deferred) (before after : Notes) (steps : List Step) (replies : List Reply)
+    → IsSuppliedWell old.device → Makes deferred_disk old before steps replies new after
     → Makes recorded_disk (recorded old) before steps replies (recorded new) after
-makes_recorded old new before after steps replies well it = makes_through as_recorded recorded_disk IsSuppliedWell (λ _. tt) old new before after steps replies well it
+makes_recorded old new before after steps replies well it =
+    makes_through as_recorded recorded_disk IsSuppliedWell (λ _. tt) old new before after steps replies well it
 
-pub makes_well : (old new : Whole Deferred) (before after : Notes) (steps : List Step) (replies : List Reply) → Makes deferred_disk old before steps replies new after → IsSuppliedWell new.device → IsSuppliedWell old.device
-makes_well old new before after steps replies it well = makes_honest as_recorded recorded_disk IsSuppliedWell (λ _. tt) old new before after steps replies it well
+pub makes_well : (old new : Whole Deferred) (before after : Notes) (steps : List Step) (replies : List Reply)
+    → Makes deferred_disk old before steps replies new after → IsSuppliedWell new.device → IsSuppliedWell old.device
+makes_well old new before after steps replies it well =
+    makes_honest as_recorded recorded_disk IsSuppliedWell (λ _. tt) old new before after steps replies it well
 
-pub does_well : (old new : Whole Deferred) (before after : Notes) (what : List Step → List Reply → Type 0) → MakesStepsThat deferred_disk old before what new after → IsSuppliedWell new.device → IsSuppliedWell old.device
-does_well old new before after what it well = makes_honest as_recorded recorded_disk IsSuppliedWell (λ _. tt) old new before after it.steps it.replies it.makes well
+pub does_well : (old new : Whole Deferred) (before after : Notes) (what : List Step → List Reply → Type 0)
+    → MakesStepsThat deferred_disk old before what new after → IsSuppliedWell new.device → IsSuppliedWell old.device
+does_well old new before after what it well = makes_honest as_recorded recorded_disk IsSuppliedWell
+    (λ _. tt) old new before after it.steps it.replies it.makes well
 
 -- ---- further steps
 
-module _ (mark : ℕ) (old new : Whole Recorded) (before after : Notes) (steps : List Step) (replies : List Reply) (it : Makes recorded_disk old before steps replies new after) where
+module _ (mark : ℕ) (old new : Whole Recorded) (before after : Notes) (steps : List Step) (replies : List Reply)
+    (it : Makes recorded_disk old before steps replies new after) where
   committed_more : HasCommitted mark old before → HasCommitted mark new after
   committed_more c = record {
     before = c.before;
@@ -64,22 +78,28 @@ module _ (mark : ℕ) (old new : Whole Recorded) (before after : Notes) (steps :
     commits = c.commits;
     later = c.later ++ steps;
     more = c.more ++ replies;
-    makes_later = makes_then recorded_disk c.new old new c.after before after c.later c.more steps replies c.makes_later it;
+    makes_later =
+        makes_then recorded_disk c.new old new c.after before after c.later c.more steps replies c.makes_later it;
   }
 
-module _ (old new : Whole Recorded) (before after : Notes) (steps : List Step) (replies : List Reply) (it : Makes recorded_disk old before steps replies new after) where
-  needs_more : (needed : ℕ) (committed : Option ℕ) → IfSome committed (λ mark. HasNeeded needed mark old before) → IfSome committed (λ mark. HasNeeded needed mark new after)
+module _ (old new : Whole Recorded) (before after : Notes) (steps : List Step) (replies : List Reply)
+    (it : Makes recorded_disk old before steps replies new after) where
+  needs_more : (needed : ℕ) (committed : Option ℕ) → IfSome committed (λ mark. HasNeeded needed mark old before)
+      → IfSome committed (λ mark. HasNeeded needed mark new after)
   unfolding committed_more
   needs_more needed None c = tt
   needs_more needed (Some mark) c = (committed_more mark old new before after steps replies it c.0, c.1)
 
-  made_more : (made : ℕ) (acknowledged : Option ℕ) → IfSome acknowledged (λ mark. HasMade made mark old before) → IfSome acknowledged (λ mark. HasMade made mark new after)
+  made_more : (made : ℕ) (acknowledged : Option ℕ) → IfSome acknowledged (λ mark. HasMade made mark old before)
+      → IfSome acknowledged (λ mark. HasMade made mark new after)
   unfolding committed_more
   made_more made None c = tt
   made_more made (Some mark) c = (committed_more mark old new before after steps replies it c.0, c.1)
 
 -- what was served goes on with further steps
-pub serves_more : (committed : Option ℕ) (needed made : ℕ) (acknowledged : Option ℕ) (old new : Whole Deferred) (before after : Notes) (what : List Step → List Reply → Type 0) → ServesWell old before committed needed made acknowledged
+pub serves_more : (committed : Option ℕ) (needed made : ℕ) (acknowledged : Option ℕ) (old new : Whole Deferred)
+    (before after : Notes) (what : List Step → List Reply → Type 0)
+    → ServesWell old before committed needed made acknowledged
     → MakesStepsThat deferred_disk old before what new after → ServesWell new after committed needed made acknowledged
 serves_more committed needed made acknowledged old new before after what served it = λ well.
     let first = does_well old new before after what it well in
@@ -87,30 +107,37 @@ serves_more committed needed made acknowledged old new before after what served 
     let had = served first in
     record {
       serving = served_does recorded_disk (recorded old) (recorded new) before after what had.serving seen;
-      commits = needs_more (recorded old) (recorded new) before after seen.steps seen.replies seen.makes needed committed had.commits;
-      sure = made_more (recorded old) (recorded new) before after seen.steps seen.replies seen.makes made acknowledged had.sure;
+      commits = needs_more (recorded old)
+          (recorded new) before after seen.steps seen.replies seen.makes needed committed had.commits;
+      sure = made_more (recorded old)
+          (recorded new) before after seen.steps seen.replies seen.makes made acknowledged had.sure;
     }
 
 -- a start
-pub serves_none : (before : Deferred) (shape : Shape) (start : Whole Deferred) (needed made : ℕ) → HasStarted deferred_disk before shape start → ServesWell start no_notes None needed made None
+pub serves_none : (before : Deferred) (shape : Shape) (start : Whole Deferred) (needed made : ℕ)
+    → HasStarted deferred_disk before shape start → ServesWell start no_notes None needed made None
 serves_none before shape start needed made it = λ well.
     let first = started_honest as_recorded recorded_disk IsSuppliedWell (λ _. tt) before shape start it well in
     record {
-      serving = served_none recorded_disk (as_recorded before) shape (recorded start) (start_recorded before shape start first it);
+      serving = served_none recorded_disk (as_recorded before) shape (recorded start)
+          (start_recorded before shape start first it);
       commits = tt;
       sure = tt;
     }
 
 -- a commit
-pub serves_commit : (committed : Option ℕ) (needed made : ℕ) (acknowledged : Option ℕ) (p mark : ℕ) (old new : Whole Deferred) (before after : Notes) → ServesWell old before committed needed made acknowledged
-    → MakesStepsThat deferred_disk old before (CommitsMark p before mark) new after → ServesWell new after (Some mark) (recorded_calls new.device) made acknowledged
+pub serves_commit : (committed : Option ℕ) (needed made : ℕ) (acknowledged : Option ℕ) (p mark : ℕ)
+    (old new : Whole Deferred) (before after : Notes) → ServesWell old before committed needed made acknowledged
+    → MakesStepsThat deferred_disk old before (CommitsMark p before mark) new after
+    → ServesWell new after (Some mark) (recorded_calls new.device) made acknowledged
 serves_commit committed needed made acknowledged p mark old new before after served it = λ well.
     let first = does_well old new before after (CommitsMark p before mark) it well in
     let seen = does_recorded old new before after (CommitsMark p before mark) first it in
     let had = served first in
     let (start, earlier, told, was) = had.serving in
     record {
-      serving = served_does recorded_disk (recorded old) (recorded new) before after (CommitsMark p before mark) had.serving seen;
+      serving = served_does recorded_disk (recorded old) (recorded new) before after
+          (CommitsMark p before mark) had.serving seen;
       commits = (
         record {
           before = was.before;
@@ -135,12 +162,19 @@ serves_commit committed needed made acknowledged p mark old new before after ser
         },
         counted_moments new.device,
       );
-      sure = made_more (recorded old) (recorded new) before after seen.steps seen.replies seen.makes made acknowledged had.sure;
+      sure = made_more (recorded old)
+          (recorded new) before after seen.steps seen.replies seen.makes made acknowledged had.sure;
     }
 
 -- a commit, whatever it came to
-pub serves_commits : (committed : Option ℕ) (needed made : ℕ) (acknowledged : Option ℕ) (p : ℕ) (result : Result ℕ Reply) (old new : Whole Deferred) (before after : Notes) → ServesWell old before committed needed made acknowledged
-    → IfOk result (λ mark. MakesStepsThat deferred_disk old before (CommitsMark p before mark) new after) → IfErr result (λ reply. MakesStepsThat deferred_disk old before (StopsCommit p before reply) new after)
-    → ServesWell new after (last_committed result committed) (last_needed result (recorded_calls new.device) needed) made acknowledged
-serves_commits committed needed made acknowledged p (Ok mark) old new before after served ok err = serves_commit committed needed made acknowledged p mark old new before after served ok
-serves_commits committed needed made acknowledged p (Err reply) old new before after served ok err = serves_more committed needed made acknowledged old new before after (StopsCommit p before reply) served err
+pub serves_commits : (committed : Option ℕ) (needed made : ℕ) (acknowledged : Option ℕ) (p : ℕ)
+    (result : Result ℕ Reply) (old new : Whole Deferred) (before after : Notes)
+    → ServesWell old before committed needed made acknowledged
+    → IfOk result (λ mark. MakesStepsThat deferred_disk old before (CommitsMark p before mark) new after)
+    → IfErr result (λ reply. MakesStepsThat deferred_disk old before (StopsCommit p before reply) new after)
+    → ServesWell new after (last_committed result committed)
+    (last_needed result (recorded_calls new.device) needed) made acknowledged
+serves_commits committed needed made acknowledged p (Ok mark) old new before after served ok err =
+    serves_commit committed needed made acknowledged p mark old new before after served ok
+serves_commits committed needed made acknowledged p (Err reply) old new before after served ok err =
+    serves_more committed needed made acknowledged old new before after (StopsCommit p before reply) served err

@@ -1,5 +1,6 @@
 -- A disk that was tended between two requests is the same disk in memory.
-use Rattle.std.proofs.Common.{◌≡◌, ◌≤◌, ◌<◌, ℕ, ◌+◌, ◌-◌, ◌^◌, ◌==◌, ◌∷◌, get_or, Bool, true, false, if◌then◌else◌, List, length, Option, Some, None, IfSome, refl, sym, ◌∙◌, ap, subst, arith}
+use Rattle.std.proofs.Common.{◌≡◌, ◌≤◌, ◌<◌, ℕ, ◌+◌, ◌-◌, ◌^◌, ◌==◌, ◌∷◌, get_or, Bool, true, false, if◌then◌else◌}
+use Rattle.std.proofs.Common.{List, length, Option, Some, None, IfSome, refl, sym, ◌∙◌, ap, subst, arith}
 use Rattle.device.specs.Deferred.{Deferred, as_recorded, after_supply, with_known, block_of, IsSuppliedWell}
 use Rattle.device.specs.Memory.{Recorded, seen_of, moment_of}
 use Rattle.machine.specs.State.{Whole}
@@ -12,75 +13,105 @@ use Rattle.embedded.specs.declared.tending.Forgetting.{Forgetting}
 use Rattle.embedded.specs.inside.Tending.{HasSupplied, HasForgotten}
 use Rattle.embedded.proofs.Counting.{steps_later, still_made, needs_made}
 
-either_as : (b : Bool) (x y : Deferred) → as_recorded x ≡ as_recorded y → as_recorded (if b then x else y) ≡ as_recorded y
+either_as : (b : Bool) (x y : Deferred) → as_recorded x ≡ as_recorded y
+    → as_recorded (if b then x else y) ≡ as_recorded y
 either_as true x y same = same
 either_as false x y same = refl
 
-either_well : (b : Bool) (x y : Deferred) → (IsSuppliedWell x → IsSuppliedWell y) → IsSuppliedWell (if b then x else y) → IsSuppliedWell y
+either_well : (b : Bool) (x y : Deferred) → (IsSuppliedWell x → IsSuppliedWell y) → IsSuppliedWell (if b then x else y)
+    → IsSuppliedWell y
 either_well true x y keeps well = keeps well
 either_well false x y keeps well = well
 
-known_as : (b : Bool) (x y : Deferred) → as_recorded y ≡ as_recorded x → as_recorded (if b then x else y) ≡ as_recorded x
+known_as : (b : Bool) (x y : Deferred) → as_recorded y ≡ as_recorded x
+    → as_recorded (if b then x else y) ≡ as_recorded x
 known_as true x y same = refl
 known_as false x y same = same
 
-known_well : (b : Bool) (x y : Deferred) → (IsSuppliedWell y → IsSuppliedWell x) → IsSuppliedWell (if b then x else y) → IsSuppliedWell x
+known_well : (b : Bool) (x y : Deferred) → (IsSuppliedWell y → IsSuppliedWell x) → IsSuppliedWell (if b then x else y)
+    → IsSuppliedWell x
 known_well true x y keeps well = well
 known_well false x y keeps well = keeps well
 
 -- a block more was supplied
 abbrev added : Deferred → ℕ → List ℕ → Deferred
-added disk block bytes = record disk { known = with_known disk.known block (block + 1); supplied = (bytes, block_of (seen_of (as_recorded disk)) block) ∷ disk.supplied }
+added disk block bytes = record disk {
+  known = with_known disk.known block (block + 1);
+  supplied = (bytes, block_of (seen_of (as_recorded disk)) block) ∷ disk.supplied;
+}
 
-added_well : (disk : Deferred) (block : ℕ) (bytes : List ℕ) → IsSuppliedWell (added disk block bytes) → IsSuppliedWell disk
+added_well : (disk : Deferred) (block : ℕ) (bytes : List ℕ) → IsSuppliedWell (added disk block bytes)
+    → IsSuppliedWell disk
 added_well disk block bytes well = well.1
 
-pub supplied_as : (disk : Deferred) (block : ℕ) (bytes : List ℕ) → as_recorded (with_supplied disk block bytes) ≡ as_recorded disk
-supplied_as disk block bytes = either_as (is_of_disk disk block) (after_supply disk block bytes) disk (known_as (get_or disk.known block false) disk (added disk block bytes) refl)
+pub supplied_as : (disk : Deferred) (block : ℕ) (bytes : List ℕ)
+    → as_recorded (with_supplied disk block bytes) ≡ as_recorded disk
+supplied_as disk block bytes = either_as (is_of_disk disk block) (after_supply disk block bytes) disk
+    (known_as (get_or disk.known block false) disk (added disk block bytes) refl)
 
-pub supplied_well : (disk : Deferred) (block : ℕ) (bytes : List ℕ) → IsSuppliedWell (with_supplied disk block bytes) → IsSuppliedWell disk
-supplied_well disk block bytes = either_well (is_of_disk disk block) (after_supply disk block bytes) disk (known_well (get_or disk.known block false) disk (added disk block bytes) (added_well disk block bytes))
+pub supplied_well : (disk : Deferred) (block : ℕ) (bytes : List ℕ) → IsSuppliedWell (with_supplied disk block bytes)
+    → IsSuppliedWell disk
+supplied_well disk block bytes = either_well (is_of_disk disk block) (after_supply disk block bytes) disk
+    (known_well (get_or disk.known block false) disk (added disk block bytes) (added_well disk block bytes))
 
 -- whatever came of it
-pub tended_supply : (old new : Supplying) (before after : Deferred) → HasSupplied old before after new → (as_recorded after ≡ as_recorded before) × (IsSuppliedWell after → IsSuppliedWell before)
+pub tended_supply : (old new : Supplying) (before after : Deferred) → HasSupplied old before after new
+    → (as_recorded after ≡ as_recorded before) × (IsSuppliedWell after → IsSuppliedWell before)
 tended_supply old new before after it = by new.refused refl
   where
-    by : (b : Bool) → new.refused ≡ b → (as_recorded after ≡ as_recorded before) × (IsSuppliedWell after → IsSuppliedWell before)
+    by : (b : Bool) → new.refused ≡ b
+        → (as_recorded after ≡ as_recorded before) × (IsSuppliedWell after → IsSuppliedWell before)
     by true is = (ap as_recorded (it.err is), subst IsSuppliedWell (it.err is))
-    by false is = (ap as_recorded (it.ok is) ∙ supplied_as before old.block old.bytes.now, λ well. supplied_well before old.block old.bytes.now (subst IsSuppliedWell (it.ok is) well))
+    by false is = (
+      ap as_recorded (it.ok is) ∙ supplied_as before old.block old.bytes.now,
+      λ well. supplied_well before old.block old.bytes.now (subst IsSuppliedWell (it.ok is) well),
+    )
 
 -- a block was forgotten, or not
-pub tended_forget : (old new : Forgetting) (before after : Deferred) → HasForgotten old before after new → (as_recorded after ≡ as_recorded before) × (IsSuppliedWell after → IsSuppliedWell before)
+pub tended_forget : (old new : Forgetting) (before after : Deferred) → HasForgotten old before after new
+    → (as_recorded after ≡ as_recorded before) × (IsSuppliedWell after → IsSuppliedWell before)
 tended_forget old new before after it = by new.done refl
   where
-    by : (b : Bool) → new.done ≡ b → (as_recorded after ≡ as_recorded before) × (IsSuppliedWell after → IsSuppliedWell before)
+    by : (b : Bool) → new.done ≡ b
+        → (as_recorded after ≡ as_recorded before) × (IsSuppliedWell after → IsSuppliedWell before)
     by true is = (ap as_recorded (it.forgotten is), λ well. subst IsSuppliedWell (it.forgotten is) well)
     by false is = (ap as_recorded (it.kept is), subst IsSuppliedWell (it.kept is))
 
 -- the machine with its device
-pub machine_is : (old new : Whole Deferred) (device : Deferred) → new.state ≡ old.state → new.device ≡ device → new ≡ with_device old device
-machine_is old new device state is = ap (λ s. with_device (record { state = s; device = old.device }) new.device) state ∙ ap (with_device old) is
+pub machine_is : (old new : Whole Deferred) (device : Deferred) → new.state ≡ old.state → new.device ≡ device
+    → new ≡ with_device old device
+machine_is old new device state is =
+    ap (λ s. with_device (record { state = s; device = old.device }) new.device) state ∙ ap (with_device old) is
 
-pub same_recorded : (old new : Whole Deferred) → new.state ≡ old.state → as_recorded new.device ≡ as_recorded old.device → recorded new ≡ recorded old
+pub same_recorded : (old new : Whole Deferred) → new.state ≡ old.state → as_recorded new.device ≡ as_recorded old.device
+    → recorded new ≡ recorded old
 same_recorded old new state device =
     let P : Recorded → Whole Recorded = λ d. record { state = old.state; device = d } in
     ap (λ s. record { state = s; device = as_recorded new.device }) state ∙ ap P device
 
 -- what was served, is served
-module _ (committed : Option ℕ) (needed made : ℕ) (acknowledged : Option ℕ) (old new : Whole Deferred) (before after : Notes) where
-  pub serves_tended : recorded new ≡ recorded old → after ≡ before → (IsSuppliedWell new.device → IsSuppliedWell old.device) → ServesWell old before committed needed made acknowledged → ServesWell new after committed needed made acknowledged
+module _ (committed : Option ℕ) (needed made : ℕ) (acknowledged : Option ℕ) (old new : Whole Deferred)
+    (before after : Notes) where
+  pub serves_tended : recorded new ≡ recorded old → after ≡ before
+      → (IsSuppliedWell new.device → IsSuppliedWell old.device)
+      → ServesWell old before committed needed made acknowledged
+      → ServesWell new after committed needed made acknowledged
   serves_tended same notes keeps served = λ well.
       let P : Notes → Type 0 = λ n. HasServed (recorded old) n committed needed made acknowledged in
       let Q : Whole Recorded → Type 0 = λ m. HasServed m after committed needed made acknowledged in
       subst Q (sym same) (subst P (sym notes) (served (keeps well)))
 
-  pub serves_over : new.state ≡ old.state → after ≡ before → (as_recorded new.device ≡ as_recorded old.device) × (IsSuppliedWell new.device → IsSuppliedWell old.device)
-      → ServesWell old before committed needed made acknowledged → ServesWell new after committed needed made acknowledged
+  pub serves_over : new.state ≡ old.state → after ≡ before
+      → (as_recorded new.device ≡ as_recorded old.device) × (IsSuppliedWell new.device → IsSuppliedWell old.device)
+      → ServesWell old before committed needed made acknowledged
+      → ServesWell new after committed needed made acknowledged
   serves_over state notes tended served = serves_tended (same_recorded old new state tended.0) notes tended.1 served
 
 -- The calls are counted, and where those of the last commit were made its mark is acknowledged.
-module _ (needed made counted : ℕ) (machine : Whole Deferred) (notes : Notes) (more : counted < 2 ^ 64 - 1 → made ≤ counted) where
-  pub later_calls : (mark : ℕ) (it : HasCommitted mark (recorded machine) notes) → moment_of it.new.device ≤ length machine.device.changes
+module _ (needed made counted : ℕ) (machine : Whole Deferred) (notes : Notes)
+    (more : counted < 2 ^ 64 - 1 → made ≤ counted) where
+  pub later_calls : (mark : ℕ) (it : HasCommitted mark (recorded machine) notes)
+      → moment_of it.new.device ≤ length machine.device.changes
   later_calls mark it =
       let later = steps_later it.new (recorded machine) it.later it.more it.makes_later.taken in
       omega (arith, later)
@@ -88,30 +119,40 @@ module _ (needed made counted : ℕ) (machine : Whole Deferred) (notes : Notes) 
   abbrev now : ℕ
   now = made_of machine.device counted
 
-  sure_before : (acknowledged : Option ℕ) → IfSome acknowledged (λ mark. HasMade made mark (recorded machine) notes) → IfSome acknowledged (λ mark. HasMade now mark (recorded machine) notes)
+  sure_before : (acknowledged : Option ℕ) → IfSome acknowledged (λ mark. HasMade made mark (recorded machine) notes)
+      → IfSome acknowledged (λ mark. HasMade now mark (recorded machine) notes)
   sure_before None c = tt
   sure_before (Some mark) c = (
     c.0,
-    still_made (machine.device.waiting == 0) (moment_of c.0.new.device) made counted (length machine.device.changes) more (later_calls mark c.0) c.1,
+    still_made (machine.device.waiting == 0) (moment_of c.0.new.device) made counted
+        (length machine.device.changes) more (later_calls mark c.0) c.1,
   )
 
-  sure_now : (committed : Option ℕ) → are_made machine.device.waiting needed now ≡ true → IfSome committed (λ mark. HasNeeded needed mark (recorded machine) notes) → IfSome committed (λ mark. HasMade now mark (recorded machine) notes)
+  sure_now : (committed : Option ℕ) → are_made machine.device.waiting needed now ≡ true
+      → IfSome committed (λ mark. HasNeeded needed mark (recorded machine) notes)
+      → IfSome committed (λ mark. HasMade now mark (recorded machine) notes)
   sure_now None enough c = tt
   sure_now (Some mark) enough c = (
     c.0,
-    needs_made (machine.device.waiting == 0) (moment_of c.0.new.device) needed counted (length machine.device.changes) c.1 (later_calls mark c.0) enough,
+    needs_made (machine.device.waiting == 0) (moment_of c.0.new.device) needed counted
+        (length machine.device.changes) c.1 (later_calls mark c.0) enough,
   )
 
-  sure_if : (committed acknowledged : Option ℕ) (sure : Bool) → are_made machine.device.waiting needed now ≡ sure → IfSome committed (λ mark. HasNeeded needed mark (recorded machine) notes)
-      → IfSome acknowledged (λ mark. HasMade made mark (recorded machine) notes) → IfSome (if sure then committed else acknowledged) (λ mark. HasMade now mark (recorded machine) notes)
+  sure_if : (committed acknowledged : Option ℕ) (sure : Bool) → are_made machine.device.waiting needed now ≡ sure
+      → IfSome committed (λ mark. HasNeeded needed mark (recorded machine) notes)
+      → IfSome acknowledged (λ mark. HasMade made mark (recorded machine) notes)
+      → IfSome (if sure then committed else acknowledged) (λ mark. HasMade now mark (recorded machine) notes)
   sure_if committed acknowledged true enough commits sure = sure_now committed enough commits
   sure_if committed acknowledged false enough commits sure = sure_before acknowledged sure
 
-  pub serves_settled : (committed acknowledged settled : Option ℕ) (is : ℕ) (sure : Bool) → is ≡ now → sure ≡ are_made machine.device.waiting needed is → settled ≡ (if sure then committed else acknowledged)
-      → ServesWell machine notes committed needed made acknowledged → ServesWell machine notes committed needed is settled
+  pub serves_settled : (committed acknowledged settled : Option ℕ) (is : ℕ) (sure : Bool) → is ≡ now
+      → sure ≡ are_made machine.device.waiting needed is → settled ≡ (if sure then committed else acknowledged)
+      → ServesWell machine notes committed needed made acknowledged
+      → ServesWell machine notes committed needed is settled
   serves_settled committed acknowledged settled is sure same tests settles served = λ well.
       let had = served well in
-      let enough : are_made machine.device.waiting needed now ≡ sure = sym (tests ∙ ap (are_made machine.device.waiting needed) same) in
+      let enough : are_made machine.device.waiting needed now ≡ sure =
+      sym (tests ∙ ap (are_made machine.device.waiting needed) same) in
       let P : Option ℕ → Type 0 = λ a. IfSome a (λ mark. HasMade now mark (recorded machine) notes) in
       let Q : ℕ → Type 0 = λ n. HasServed (recorded machine) notes committed needed n settled in
       subst Q (sym same) (record {

@@ -21,7 +21,8 @@ use Rattle.session.specs.declared.notes.Notes.{Notes}
 use Rattle.session.specs.Ranges.{MakesStepsThat}
 use Rattle.session.specs.Steps.{Makes}
 
-module _ {D E : Type 0} (image : D → E) (model : Ghosts E) (honest : D → Type 0) (all : (e : E) → model.is_honest e) where
+module _ {D E : Type 0} (image : D → E) (model : Ghosts E) (honest : D → Type 0)
+    (all : (e : E) → model.is_honest e) where
   -- the device that is seen through its image
   abbrev pub through : Ghosts D
   through = record {
@@ -37,11 +38,14 @@ module _ {D E : Type 0} (image : D → E) (model : Ghosts E) (honest : D → Typ
   abbrev pub over : Whole D → Whole E
   over w = record { state = w.state; device = image w.device }
 
-  leaves : (old new : D) (P : List ℕ → Type 0) → LeavesOnly through.moment through.left_since old new P → LeavesOnly model.moment model.left_since (image old) (image new) P
+  leaves : (old new : D) (P : List ℕ → Type 0) → LeavesOnly through.moment through.left_since old new P
+      → LeavesOnly model.moment model.left_since (image old) (image new) P
   leaves old new P l = record { later = l.later; each = l.each; before = l.before; keeps = l.keeps }
 
-  reads : (failed : Bool) (old new : D) → honest old → ReadsOnce through.seen through.may_leave through.is_honest through.moment through.left_since through.calls_made through.faults_met failed old new
-      → ReadsOnce model.seen model.may_leave model.is_honest model.moment model.left_since model.calls_made model.faults_met failed (image old) (image new)
+  reads : (failed : Bool) (old new : D) → honest old → ReadsOnce through.seen through.may_leave through.is_honest
+      through.moment through.left_since through.calls_made through.faults_met failed old new
+      → ReadsOnce model.seen model.may_leave model.is_honest model.moment model.left_since model.calls_made
+      model.faults_met failed (image old) (image new)
   reads failed old new well r = record {
     same = λ _. r.same well;
     keeps = λ _. r.keeps well;
@@ -53,12 +57,15 @@ module _ {D E : Type 0} (image : D → E) (model : Ghosts E) (honest : D → Typ
     one_fault = r.one_fault;
   }
 
-  after : (s : State) (p : ℕ) (act : Act) (reply : Reply) (old new : D) → honest old → DeviceAfter through s p act reply old new → DeviceAfter model s p act reply (image old) (image new)
-  after s p (acts.Fix va write) reply old new well it = record { untouched = λ h. ap image (it.untouched h); read = λ h. reads _ old new well (it.read h) }
+  after : (s : State) (p : ℕ) (act : Act) (reply : Reply) (old new : D) → honest old
+      → DeviceAfter through s p act reply old new → DeviceAfter model s p act reply (image old) (image new)
+  after s p (acts.Fix va write) reply old new well it =
+      record { untouched = λ h. ap image (it.untouched h); read = λ h. reads _ old new well (it.read h) }
   after s p acts.Flush reply old new well it = λ h. ap image (it h)
   after s p act reply old new well it = ap image it
 
-  made : (old new : Whole D) (step : Step) (reply : Reply) → StepMade through old step reply new → StepMade model (over old) step reply (over new)
+  made : (old new : Whole D) (step : Step) (reply : Reply) → StepMade through old step reply new
+      → StepMade model (over old) step reply (over new)
   made old new step reply it = record {
     answered = it.answered;
     left = it.left;
@@ -68,7 +75,8 @@ module _ {D E : Type 0} (image : D → E) (model : Ghosts E) (honest : D → Typ
   }
 
   -- a step
-  pub step_through : (old new : Whole D) (step : Step) (reply : Reply) → honest old.device → StepTaken through old step reply new → StepTaken model (over old) step reply (over new)
+  pub step_through : (old new : Whole D) (step : Step) (reply : Reply) → honest old.device
+      → StepTaken through old step reply new → StepTaken model (over old) step reply (over new)
   step_through old new step reply well taken = record {
     answered = taken.answered;
     made = λ _. made old new step reply (taken.made well);
@@ -79,7 +87,8 @@ module _ {D E : Type 0} (image : D → E) (model : Ghosts E) (honest : D → Typ
   }
 
   -- steps
-  steps_through : (old new : Whole D) (steps : List Step) (replies : List Reply) → honest old.device → StepsTaken through old steps replies new → StepsTaken model (over old) steps replies (over new)
+  steps_through : (old new : Whole D) (steps : List Step) (replies : List Reply) → honest old.device
+      → StepsTaken through old steps replies new → StepsTaken model (over old) steps replies (over new)
   steps_through old new [] [] well taken = ap over taken
   steps_through old new (step ∷ steps) (reply ∷ replies) well (mid, first, rest) = (
     over mid,
@@ -90,37 +99,66 @@ module _ {D E : Type 0} (image : D → E) (model : Ghosts E) (honest : D → Typ
   steps_through old new (step ∷ steps) [] well taken = absurd taken
 
   -- steps keep a device honest, and make none so
-  steps_honest : (old new : Whole D) (steps : List Step) (replies : List Reply) → StepsTaken through old steps replies new → honest new.device → honest old.device
+  steps_honest : (old new : Whole D) (steps : List Step) (replies : List Reply)
+      → StepsTaken through old steps replies new → honest new.device → honest old.device
   steps_honest old new [] [] taken well = let P : Whole D → Type 0 = λ w. honest w.device in subst P taken well
-  steps_honest old new (step ∷ steps) (reply ∷ replies) (mid, first, rest) well = first.honest.0 (steps_honest mid new steps replies rest well)
+  steps_honest old new (step ∷ steps) (reply ∷ replies) (mid, first, rest) well =
+      first.honest.0 (steps_honest mid new steps replies rest well)
   steps_honest old new [] (reply ∷ replies) taken well = absurd taken
   steps_honest old new (step ∷ steps) [] taken well = absurd taken
 
-  pub makes_through : (old new : Whole D) (before after : Notes) (steps : List Step) (replies : List Reply) → honest old.device → Makes through old before steps replies new after → Makes model (over old) before steps replies (over new) after
-  makes_through old new before after steps replies well it = record { taken = steps_through old new steps replies well it.taken; notes = it.notes }
+  pub makes_through : (old new : Whole D) (before after : Notes) (steps : List Step) (replies : List Reply)
+      → honest old.device → Makes through old before steps replies new after
+      → Makes model (over old) before steps replies (over new) after
+  makes_through old new before after steps replies well it =
+      record { taken = steps_through old new steps replies well it.taken; notes = it.notes }
 
-  pub makes_honest : (old new : Whole D) (before after : Notes) (steps : List Step) (replies : List Reply) → Makes through old before steps replies new after → honest new.device → honest old.device
+  pub makes_honest : (old new : Whole D) (before after : Notes) (steps : List Step) (replies : List Reply)
+      → Makes through old before steps replies new after → honest new.device → honest old.device
   makes_honest old new before after steps replies it well = steps_honest old new steps replies it.taken well
 
-  pub does_through : (old new : Whole D) (before after : Notes) (what : List Step → List Reply → Type 0) → honest old.device → MakesStepsThat through old before what new after → MakesStepsThat model (over old) before what (over new) after
-  does_through old new before after what well it = record { steps = it.steps; replies = it.replies; makes = makes_through old new before after it.steps it.replies well it.makes; holds = it.holds }
+  pub does_through : (old new : Whole D) (before after : Notes) (what : List Step → List Reply → Type 0)
+      → honest old.device → MakesStepsThat through old before what new after
+      → MakesStepsThat model (over old) before what (over new) after
+  does_through old new before after what well it = record {
+    steps = it.steps;
+    replies = it.replies;
+    makes = makes_through old new before after it.steps it.replies well it.makes;
+    holds = it.holds;
+  }
 
   -- ---- a start
 
-  at_rest : (volume : VolumeState D) → IsAtRest through volume → IsAtRest model (record { table = volume.table; lengths = volume.lengths; device = image volume.device })
-  at_rest volume it = record { holds = it.holds; lengths_fit = it.lengths_fit; lengths_are = it.lengths_are; synced = it.synced }
+  at_rest : (volume : VolumeState D) → IsAtRest through volume
+      → IsAtRest model (record { table = volume.table; lengths = volume.lengths; device = image volume.device })
+  at_rest volume it =
+      record { holds = it.holds; lengths_fit = it.lengths_fit; lengths_are = it.lengths_are; synced = it.synced }
 
-  has_opened : (before : D) (table : SuperValue) (after : D) → HasOpened through before table after → HasOpened model (image before) table (image after)
-  has_opened before table after it = record { batches = it.batches; held = it.held; lengths = it.lengths; opened = it.opened; synced = it.synced; calls = it.calls }
+  has_opened : (before : D) (table : SuperValue) (after : D) → HasOpened through before table after
+      → HasOpened model (image before) table (image after)
+  has_opened before table after it = record {
+    batches = it.batches;
+    held = it.held;
+    lengths = it.lengths;
+    opened = it.opened;
+    synced = it.synced;
+    calls = it.calls;
+  }
 
-  opened : (before : D) (table : SuperValue) (after : D) → honest before → Opens through before (Ok table) after → Opens model (image before) (Ok table) (image after)
+  opened : (before : D) (table : SuperValue) (after : D) → honest before → Opens through before (Ok table) after
+      → Opens model (image before) (Ok table) (image after)
   opened before table after well it = record {
-    kept = record { honest = (λ _. all (image before), λ _. all (image after)); len = it.kept.len; cause = it.kept.cause };
+    kept = record {
+      honest = (λ _. all (image before), λ _. all (image after));
+      len = it.kept.len;
+      cause = it.kept.cause;
+    };
     ended = λ _. has_opened before table after (it.ended well);
     within = λ _. leaves before after _ (it.within well);
   }
 
-  pub started_through : (before : D) (shape : Shape) (start : Whole D) → honest before → HasStarted through before shape start → HasStarted model (image before) shape (over start)
+  pub started_through : (before : D) (shape : Shape) (start : Whole D) → honest before
+      → HasStarted through before shape start → HasStarted model (image before) shape (over start)
   started_through before shape start well it =
       let volume = it.volume in
       record {
@@ -138,7 +176,8 @@ module _ {D E : Type 0} (image : D → E) (model : Ghosts E) (honest : D → Typ
       }
 
   -- a device that was started on was honest if it is
-  pub started_honest : (before : D) (shape : Shape) (start : Whole D) → HasStarted through before shape start → honest start.device → honest before
+  pub started_honest : (before : D) (shape : Shape) (start : Whole D) → HasStarted through before shape start
+      → honest start.device → honest before
   started_honest before shape start it well =
       let P : Whole D → Type 0 = λ w. honest w.device in
       it.opened.kept.honest.0 (subst P it.booted well)

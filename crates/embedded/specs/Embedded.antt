@@ -1,5 +1,6 @@
 -- A machine whose device calls a host makes, and the marks that it committed.
-use Rattle.std.specs.Prelude.{ℕ, ◌≡◌, ◌==◌, ◌-◌, ◌^◌, ◌<◌, ◌≤◌, min, nat_le, Bool, ◌||◌, if◌then◌else◌, List, Option, Some, IfSome, Result, Ok, Err}
+use Rattle.std.specs.Prelude.{ℕ, ◌≡◌, ◌==◌, ◌-◌, ◌^◌, ◌<◌, ◌≤◌, min, nat_le, Bool, ◌||◌}
+use Rattle.std.specs.Prelude.{if◌then◌else◌, List, Option, Some, IfSome, Result, Ok, Err}
 use Rattle.device.specs.Deferred.{Deferred, IsSuppliedWell, recorded_calls}
 use Rattle.device.specs.Memory.{Recorded, moment_of}
 use Rattle.machine.specs.declared.act.Reply.{Reply}
@@ -81,8 +82,8 @@ HasMade made mark machine notes =
 -- Rule: deferred acknowledgement: A core's mark is acknowledged once its host has made the calls that its commit
 -- recorded.
 -- Of the machine over the disk in memory that made the calls: it was started over a device, and from there steps led
--- to it, of which exactly this is noted. By these steps the mark of the last commit was committed, and needs as many device
--- calls as were recorded then; and so was the one that is acknowledged, whose calls the host has made.
+-- to it, of which exactly this is noted. By these steps the mark of the last commit was committed, and needs as many
+-- device calls as were recorded then; and so was the one that is acknowledged, whose calls the host has made.
 pub record HasServed (machine : Whole Recorded) (notes : Notes) (committed : Option ℕ) (needed made : ℕ)
     (acknowledged : Option ℕ) : Type 0 where
   pub serving : IsServing recorded_disk machine notes

@@ -20,8 +20,8 @@ abbrev pub told_with_later : (files : List File) (mark : ℕ) (machine : Whole R
 told_with_later files mark machine notes it n = history_of files it.start
     (it.earlier ++ (it.steps ++ take n it.later)) (it.told ++ (it.replies ++ take n it.more))
 
--- These bytes read back as the files after a durable prefix of what was told by the steps up to the end of a commit, and
--- by some after it. The mark of the commit is acknowledged in that; so the prefix has it.
+-- These bytes read back as the files after a durable prefix of what was told by the steps up to the end of a commit,
+-- and by some after it. The mark of the commit is acknowledged in that; so the prefix has it.
 pub record KeepsMark (files : List File) (mark : ℕ) (machine : Whole Recorded) (notes : Notes)
     (committed : HasCommitted mark machine notes) (disk : List ℕ) : Type 0 where
   pub later : ℕ

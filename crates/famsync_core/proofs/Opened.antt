@@ -28,7 +28,8 @@ module _ {M : Type 1} {𝓤 : Ura M} {𝓛 : Logic 𝓤} {K : Type 0} {Γ : List
       let Word = λ (ps ws : List Val). vs ≡ vstruct (of_list (ps ++ (ws ++ []))) ∷ [] in
       fsplit t $ fpick t (λ parts. fsplit t $ feq_l t (λ whole. fsplit t $ feq_l t (λ first. fsplit t $
       handle_tells state_box.al t d.alloc parts.1.0 (λ bytes second fits. move t (1 ∷ []) $ drop t $ move t (1 ∷ []) $
-      in_a_block t d.at Owns (fst∗ 𝓤 (never 𝓤) (sem 𝓛 (ghosts.dealloc_token d.alloc (bare (lone state.the_row.mir)) null_ptr)))
+      in_a_block t d.at Owns
+      (fst∗ 𝓤 (never 𝓤) (sem 𝓛 (ghosts.dealloc_token d.alloc (bare (lone state.the_row.mir)) null_ptr)))
       (λ b o place. go b o bytes place
       (subst (λ (p : Ptr). Word (ptr_val p ∷ []) (bytes ∷ [])) place
       (subst (λ (ws : List Val). Word (ptr_val d.at ∷ []) ws) second

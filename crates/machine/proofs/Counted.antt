@@ -9,7 +9,8 @@ use Rattle.machine.proofs.Names.{Nothing, work_at, calls_of, WriteOut, next_stag
 use Rattle.machine.proofs.Names.{answer_of, calls_in_steps, WriteOutsValue, has_uncommitted, advanced, outs_after}
 use Rattle.machine.proofs.Names.{outs_record, next_answer, next_batch, begun, IsAt, stage_is, early_calls, all_calls}
 use Rattle.machine.proofs.Names.{current-oldest, Act, Reply, Step, State, Whole, home_of, Acts, MarkMade}
-use Rattle.machine.proofs.Names.{with_batch, mark_homes, is_page_next, after_record, reply_to, step_work, StepTaken, StepsTaken, listed_work}
+use Rattle.machine.proofs.Names.{with_batch, mark_homes, is_page_next, after_record}
+use Rattle.machine.proofs.Names.{reply_to, step_work, StepTaken, StepsTaken, listed_work}
 use Rattle.machine.proofs.Names.{asked_for, AskFor, IsOnTrack, IsSound, Performed, Moved, Marked, Failed}
 use Rattle.journal.specs.declared.flushed.Flushed.TheVariants as flushed
 use Rattle.journal.specs.WriteOuts.{current}
@@ -49,9 +50,11 @@ module _ (w : WriteOut) where
   at_stage g h bytes (Some stage) at = (tt, λ goes. (refl, refl))
 
   answered_at : (g : GeometryValue) (answer : Flushed) → answer_of w ≡ answer → IsAnswered w.batch w.steps answer
-  answered_at g answer is = subst (IsAnswered w.batch w.steps) is (at_stage g g [] (next_stage w) (stage_is (blocks w) w.steps)).0
+  answered_at g answer is =
+      subst (IsAnswered w.batch w.steps) is (at_stage g g [] (next_stage w) (stage_is (blocks w) w.steps)).0
 
-  one_work : (g h : GeometryValue) (bytes : List ℕ) → GoesOn (answer_of w) → IsOneWork (work_of g bytes w) (work_of h [] w)
+  one_work : (g h : GeometryValue) (bytes : List ℕ) → GoesOn (answer_of w)
+      → IsOneWork (work_of g bytes w) (work_of h [] w)
   one_work g h bytes = (at_stage g h bytes (next_stage w) (stage_is (blocks w) w.steps)).1
 
 -- ---- the write-out of one mark among others
@@ -84,12 +87,14 @@ module _ (n : ℕ) where
       by true rest = (none.0, rest)
       by false rest = (none.0, none.1)
 
-  none_push : (batches : List WriteOut) (w : WriteOut) → HasNone batches → w.batch.mark ≢ n → HasNone (batches ++ w ∷ [])
+  none_push : (batches : List WriteOut) (w : WriteOut) → HasNone batches → w.batch.mark ≢ n
+      → HasNone (batches ++ w ∷ [])
   none_push [] w none other = (other, tt)
   none_push (x ∷ newer) w none other = (none.0, none_push newer w none.1 other)
 
 -- the oldest is done
-done_oldest : (w : WriteOut) (newer : List WriteOut) (mark : ℕ) → option_map_or answer_of (current (w ∷ newer)) flushed.Broken ≡ flushed.Done mark → has_uncommitted newer ≡ false
+done_oldest : (w : WriteOut) (newer : List WriteOut) (mark : ℕ)
+    → option_map_or answer_of (current (w ∷ newer)) flushed.Broken ≡ flushed.Done mark → has_uncommitted newer ≡ false
 done_oldest w newer mark e = (committed_parts w newer (none_when_done (w ∷ newer) mark e)).1
 
 module _ (n : ℕ) (batch : Batch) (its : batch.mark ≡ n) where
@@ -102,7 +107,8 @@ module _ (n : ℕ) (batch : Batch) (its : batch.mark ≡ n) where
   HasOne m [] = ⊥
   HasOne m (w ∷ newer) = ((w ≡ after_steps m) × HasNone n newer) ⊎ ((w.batch.mark ≢ n) × HasOne m newer)
 
-  one_push : (m : ℕ) (batches : List WriteOut) (w : WriteOut) → HasOne m batches → w.batch.mark ≢ n → HasOne m (batches ++ w ∷ [])
+  one_push : (m : ℕ) (batches : List WriteOut) (w : WriteOut) → HasOne m batches → w.batch.mark ≢ n
+      → HasOne m (batches ++ w ∷ [])
   one_push m [] w one other = absurd one
   one_push m (x ∷ newer) w (inl one) other = inl (one.0, none_push n newer w one.1 other)
   one_push m (x ∷ newer) w (inr one) other = inr (one.0, one_push m newer w one.1 other)
@@ -113,13 +119,15 @@ module _ (n : ℕ) (batch : Batch) (its : batch.mark ≡ n) where
 
   -- the next step is of it, or of another
   abbrev Goes : ℕ → Option WriteOut → List WriteOut → Type 0
-  Goes m next after = ((next ≡ Some (after_steps m)) × HasOne (m + 1) after) ⊎ ((option_map_or (is_of n) next false ≡ false) × HasOne m after)
+  Goes m next after = ((next ≡ Some (after_steps m)) × HasOne (m + 1) after)
+      ⊎ ((option_map_or (is_of n) next false ≡ false) × HasOne m after)
 
   one_advanced : (m : ℕ) (batches : List WriteOut) → HasOne m batches → Goes m (current batches) (advanced batches)
   one_advanced m [] one = absurd one
   one_advanced m (w ∷ newer) one = by (has_uncommitted newer) one (λ rest. one_advanced m newer rest)
     where
-      by : (b : Bool) → HasOne m (w ∷ newer) → (HasOne m newer → Goes m (current newer) (advanced newer)) → Goes m (cond b (current newer) (Some w)) (cond b (w ∷ advanced newer) (advanced_of w ∷ newer))
+      by : (b : Bool) → HasOne m (w ∷ newer) → (HasOne m newer → Goes m (current newer) (advanced newer))
+          → Goes m (cond b (current newer) (Some w)) (cond b (w ∷ advanced newer) (advanced_of w ∷ newer))
       by true (inl one) later = inr (none_next n newer one.1, inl (one.0, none_advanced n newer one.1))
       by true (inr one) later = elim (later one.1) [
         | inl this ↦ inl (this.0, inr (one.0, this.1))
@@ -132,27 +140,41 @@ module _ (n : ℕ) (batch : Batch) (its : batch.mark ≡ n) where
   abbrev Ends : ℕ → Option WriteOut → List WriteOut → Type 0
   Ends m next after = HasNone n after ⊎ ((option_map_or (is_of n) next false ≡ false) × HasOne m after)
 
-  one_done : (m : ℕ) (batches : List WriteOut) (mark : ℕ) → HasOne m batches → option_map_or answer_of (current batches) flushed.Broken ≡ flushed.Done mark → Ends m (current batches) (drop 1 batches)
+  one_done : (m : ℕ) (batches : List WriteOut) (mark : ℕ) → HasOne m batches
+      → option_map_or answer_of (current batches) flushed.Broken ≡ flushed.Done mark
+      → Ends m (current batches) (drop 1 batches)
   one_done m [] mark one e = absurd one
   one_done m (w ∷ newer) mark (inl one) e = inl one.1
   one_done m (w ∷ newer) mark (inr one) e =
-      inr (ap (λ (o : Option WriteOut). option_map_or (is_of n) o false) (current-oldest w newer (done_oldest w newer mark e)) ∙ ne_eqb w.batch.mark n one.0, one.1)
+      inr (
+        ap (λ (o : Option WriteOut). option_map_or (is_of n) o false)
+            (current-oldest w newer (done_oldest w newer mark e)) ∙ ne_eqb w.batch.mark n one.0,
+        one.1,
+      )
 
 -- ---- what was asked for so far
 
 -- what the next step answers, where no device call has failed
-whole_answer : (outs : WriteOutsValue) → GoesOn (next_answer outs) → (outs.broken ≡ false) × (next_answer outs ≡ option_map_or answer_of (current outs.batches) flushed.Broken)
+whole_answer : (outs : WriteOutsValue) → GoesOn (next_answer outs)
+    → (outs.broken ≡ false) × (next_answer outs ≡ option_map_or answer_of (current outs.batches) flushed.Broken)
 whole_answer outs goes = elim (cases_Bool outs.broken) [
-  | inl broken ↦ absurd (subst GoesOn (cond-true outs.broken flushed.Broken (option_map_or answer_of (current outs.batches) flushed.Broken) broken) goes)
-  | inr whole ↦ (whole, cond-false outs.broken flushed.Broken (option_map_or answer_of (current outs.batches) flushed.Broken) whole)
+  | inl broken ↦ absurd (subst GoesOn (cond-true outs.broken flushed.Broken
+      (option_map_or answer_of (current outs.batches) flushed.Broken) broken) goes)
+  | inr whole ↦ (
+    whole,
+    cond-false outs.broken flushed.Broken (option_map_or answer_of (current outs.batches) flushed.Broken) whole,
+  )
 ]
 
 -- the work of a step that goes on with the write-outs
-work_now : (s : State) (act : Act) (reply : Reply) → act ≡ acts.Flush → (answer : Flushed) → reply ≡ reply_to answer → GoesOn answer → s.write_outs.broken ≡ false
-    → step_work s act reply ≡ option_map_or (work_of s.write_outs.geometry (next_record s)) (current s.write_outs.batches) Nothing
+work_now : (s : State) (act : Act) (reply : Reply) → act ≡ acts.Flush → (answer : Flushed) → reply ≡ reply_to answer
+    → GoesOn answer → s.write_outs.broken ≡ false
+    → step_work s act reply ≡ option_map_or (work_of s.write_outs.geometry (next_record s))
+    (current s.write_outs.batches) Nothing
 work_now s act reply act_is answer reply_is goes whole =
     (λ i. step_work s (act_is i) (reply_is i)) ∙ step_asks s answer goes
-    ∙ cond-false s.write_outs.broken Nothing (option_map_or (work_of s.write_outs.geometry (next_record s)) (current s.write_outs.batches) Nothing) whole
+    ∙ cond-false s.write_outs.broken Nothing
+    (option_map_or (work_of s.write_outs.geometry (next_record s)) (current s.write_outs.batches) Nothing) whole
 
 module _ (n : ℕ) (batch : Batch) (its : batch.mark ≡ n) (g : GeometryValue) where
   -- these batches have its write-out, and its steps so far asked for these works
@@ -170,7 +192,8 @@ module _ (n : ℕ) (batch : Batch) (its : batch.mark ≡ n) (g : GeometryValue) 
   abbrev asked : List WriteOut → Work → List Work
   asked batches work = cond (is_next n batches) (listed_work work) []
 
-  asked_nothing : (batches : List WriteOut) (works : List Work) (work : Work) → work ≡ Nothing → works ++ asked batches work ≡ works
+  asked_nothing : (batches : List WriteOut) (works : List Work) (work : Work) → work ≡ Nothing
+      → works ++ asked batches work ≡ works
   asked_nothing batches works work none = ap (λ w. works ++ asked batches w) none ∙ either (is_next n batches)
     where
       either : (b : Bool) → works ++ cond b (listed_work Nothing) [] ≡ works
@@ -178,41 +201,58 @@ module _ (n : ℕ) (batch : Batch) (its : batch.mark ≡ n) (g : GeometryValue) 
       either false = append-nil works
 
   -- a step that isn't of it
-  passed : (batches after : List WriteOut) (works : List Work) (work : Work) (m : ℕ) → is_next n batches ≡ false → HasOne n batch its m after
+  passed : (batches after : List WriteOut) (works : List Work) (work : Work) (m : ℕ) → is_next n batches ≡ false
+      → HasOne n batch its m after
       → length works ≡ m → sum_by calls_of works ≡ calls_in_steps g batch m → Tells after (works ++ asked batches work)
   passed batches after works work m other one count calls =
-      subst (Tells after) (sym (ap (λ more. works ++ more) (cond-false (is_next n batches) (listed_work work) [] other) ∙ append-nil works)) (inr (record { m = m; one = one; count = count; calls = calls }))
+      subst (Tells after) (sym (ap (λ more. works ++ more) (cond-false (is_next n batches) (listed_work work) [] other)
+      ∙ append-nil works)) (inr (record { m = m; one = one; count = count; calls = calls }))
 
   -- a step of it
-  asks_work : (batches : List WriteOut) (works : List Work) (h : GeometryValue) (bytes : List ℕ) → GoesOn (option_map_or answer_of (current batches) flushed.Broken) → (u : IsUnder batches works)
-      → current batches ≡ Some (after_steps n batch its u.m) → (length (works ++ asked batches (option_map_or (work_of h bytes) (current batches) Nothing)) ≡ suc u.m)
-      × (sum_by calls_of (works ++ asked batches (option_map_or (work_of h bytes) (current batches) Nothing)) ≡ calls_in_steps g batch (suc u.m))
+  asks_work : (batches : List WriteOut) (works : List Work) (h : GeometryValue) (bytes : List ℕ)
+      → GoesOn (option_map_or answer_of (current batches) flushed.Broken) → (u : IsUnder batches works)
+      → current batches ≡ Some (after_steps n batch its u.m)
+      → (length (works ++ asked batches (option_map_or (work_of h bytes) (current batches) Nothing)) ≡ suc u.m)
+      × (sum_by calls_of (works ++ asked batches (option_map_or (work_of h bytes) (current batches) Nothing))
+      ≡ calls_in_steps g batch (suc u.m))
   asks_work batches works h bytes goes u now =
       let own = after_steps n batch its u.m in
-      let next : is_next n batches ≡ true = ap (λ (o : Option WriteOut). option_map_or (is_of n) o false) now ∙ eq-eqb batch.mark n its in
-      let work : asked batches (option_map_or (work_of h bytes) (current batches) Nothing) ≡ listed_work (work_of h bytes own) =
+      let next : is_next n batches ≡ true =
+      ap (λ (o : Option WriteOut). option_map_or (is_of n) o false) now ∙ eq-eqb batch.mark n its in
+      let work : asked batches (option_map_or (work_of h bytes) (current batches) Nothing)
+      ≡ listed_work (work_of h bytes own) =
       cond-true (is_next n batches) (listed_work (option_map_or (work_of h bytes) (current batches) Nothing)) [] next
       ∙ ap (λ (o : Option WriteOut). listed_work (option_map_or (work_of h bytes) o Nothing)) now in
-      let one = one_work own h g bytes (subst GoesOn (ap (λ (o : Option WriteOut). option_map_or answer_of o flushed.Broken) now) goes) in
-      subst (λ more. (length (works ++ more) ≡ suc u.m) × (sum_by calls_of (works ++ more) ≡ calls_in_steps g batch (suc u.m))) (sym work) (
+      let one = one_work own h g bytes
+      (subst GoesOn (ap (λ (o : Option WriteOut). option_map_or answer_of o flushed.Broken) now) goes) in
+      subst (λ more. (length (works ++ more) ≡ suc u.m)
+      × (sum_by calls_of (works ++ more) ≡ calls_in_steps g batch (suc u.m))) (sym work) (
         omega (arith, length-append works (listed_work (work_of h bytes own)), u.count, one.0),
         omega (arith, sum_by-append calls_of works (listed_work (work_of h bytes own)), u.calls, one.1),
       )
 
   -- a step of it, or of another
-  advances : (batches : List WriteOut) (works : List Work) (h : GeometryValue) (bytes : List ℕ) → GoesOn (option_map_or answer_of (current batches) flushed.Broken) → Tells batches works
+  advances : (batches : List WriteOut) (works : List Work) (h : GeometryValue) (bytes : List ℕ)
+      → GoesOn (option_map_or answer_of (current batches) flushed.Broken) → Tells batches works
       → Tells (advanced batches) (works ++ asked batches (option_map_or (work_of h bytes) (current batches) Nothing))
   advances batches works h bytes goes (inl none) = inl (none_advanced n batches none)
   advances batches works h bytes goes (inr u) = elim (one_advanced n batch its u.m batches u.one) [
     | inl this ↦
         (let next : u.m + 1 ≡ suc u.m = omega arith in
         let more = asks_work batches works h bytes goes u this.0 in
-        inr (record { m = suc u.m; one = subst (λ k. HasOne n batch its k (advanced batches)) next this.1; count = more.0; calls = more.1 }))
-    | inr other ↦ passed batches (advanced batches) works (option_map_or (work_of h bytes) (current batches) Nothing) u.m other.0 other.1 u.count u.calls
+        inr (record {
+          m = suc u.m;
+          one = subst (λ k. HasOne n batch its k (advanced batches)) next this.1;
+          count = more.0;
+          calls = more.1;
+        }))
+    | inr other ↦ passed batches (advanced batches) works
+        (option_map_or (work_of h bytes) (current batches) Nothing) u.m other.0 other.1 u.count u.calls
   ]
 
   -- a write-out is done
-  finishes : (batches : List WriteOut) (works : List Work) (work : Work) (mark : ℕ) → option_map_or answer_of (current batches) flushed.Broken ≡ flushed.Done mark → Tells batches works
+  finishes : (batches : List WriteOut) (works : List Work) (work : Work) (mark : ℕ)
+      → option_map_or answer_of (current batches) flushed.Broken ≡ flushed.Done mark → Tells batches works
       → Tells (drop 1 batches) (works ++ asked batches work)
   finishes [] works work mark e (inl none) = inl tt
   finishes (w ∷ newer) works work mark e (inl none) = inl none.1
@@ -228,123 +268,161 @@ module _ (n : ℕ) (batch : Batch) (its : batch.mark ≡ n) (g : GeometryValue) 
   Stands outs works = (outs.broken ≡ true) ⊎ Tells outs.batches works
 
   module _ (s : State) (works : List Work) where
-    marked : (number : ℕ) (homes : List ℕ) → number ≢ n → Stands s.write_outs works → Stands (with_batch s number homes) works
+    marked : (number : ℕ) (homes : List ℕ) → number ≢ n → Stands s.write_outs works
+        → Stands (with_batch s number homes) works
     marked number [] other st = st
     marked number (home ∷ homes) other st = by s.write_outs.broken st
       where
-        by : (b : Bool) → Stands s.write_outs works → Stands (cond b s.write_outs (begun s.write_outs number (home ∷ homes))) works
+        by : (b : Bool) → Stands s.write_outs works
+            → Stands (cond b s.write_outs (begun s.write_outs number (home ∷ homes))) works
         by true st = st
         by false (inl broken) = inl broken
-        by false (inr (inl none)) = inr (inl (none_push n s.write_outs.batches (begun_of (next_batch s.write_outs number (home ∷ homes))) none other))
+        by false (inr (inl none)) = inr (inl
+            (none_push n s.write_outs.batches (begun_of (next_batch s.write_outs number (home ∷ homes))) none other))
         by false (inr (inr u)) = inr (inr (record {
           m = u.m;
-          one = one_push n batch its u.m s.write_outs.batches (begun_of (next_batch s.write_outs number (home ∷ homes))) u.one other;
+          one = one_push n batch its u.m s.write_outs.batches
+              (begun_of (next_batch s.write_outs number (home ∷ homes))) u.one other;
           count = u.count;
           calls = u.calls;
         }))
 
     -- a step of the write-outs that answers so
-    stepped : (a : Flushed) → GoesOn a → option_map_or answer_of (current s.write_outs.batches) flushed.Broken ≡ a → Stands s.write_outs works
-        → Stands (outs_after s.write_outs a) (works ++ asked s.write_outs.batches (option_map_or (work_of s.write_outs.geometry (next_record s)) (current s.write_outs.batches) Nothing))
+    stepped : (a : Flushed) → GoesOn a → option_map_or answer_of (current s.write_outs.batches) flushed.Broken ≡ a
+        → Stands s.write_outs works
+        → Stands (outs_after s.write_outs a) (works ++ asked s.write_outs.batches
+        (option_map_or (work_of s.write_outs.geometry (next_record s)) (current s.write_outs.batches) Nothing))
     stepped flushed.Device goes e st = absurd goes
     stepped flushed.Broken goes e st = absurd goes
     stepped (flushed.Done mark) goes e (inr tells) = inr (finishes s.write_outs.batches works _ mark e tells)
     stepped answer goes e (inl broken) = inl broken
-    stepped answer goes e (inr tells) = inr (advances s.write_outs.batches works s.write_outs.geometry (next_record s) (subst GoesOn (sym e) goes) tells)
+    stepped answer goes e (inr tells) = inr
+        (advances s.write_outs.batches works s.write_outs.geometry (next_record s) (subst GoesOn (sym e) goes) tells)
 
-  module _ (s : State) (disk : List ℕ) (p : ℕ) (act : Act) (reply : Reply) (new : State) (disk' : List ℕ) (sound : IsSound s) where
+  module _ (s : State) (disk : List ℕ) (p : ℕ) (act : Act) (reply : Reply) (new : State) (disk' : List ℕ)
+      (sound : IsSound s) where
     -- marks are counted on
     more_marks : Performed s disk p act reply new disk' → n ≤ s.marks → n ≤ new.marks
     more_marks (Moved by) le = omega (arith, le, (moves_leave disk s by.says new sound by.moves).1)
-    more_marks (Marked number act_is reply_is made same_disk) le = let same : new.marks ≡ number = ap (λ (x : State). x.marks) made.done in omega (arith, le, same, made.next)
-    more_marks (Resized act_is reply_is made same_disk) le = let same = ap (λ (x : State). x.marks) made.done in omega (arith, le, same)
-    more_marks (Stepped act_is by fine) le = let same = ap (λ (x : State). x.marks) by.made.done ∙ either (is_page_next s) in omega (arith, le, same)
+    more_marks (Marked number act_is reply_is made same_disk) le =
+        let same : new.marks ≡ number = ap (λ (x : State). x.marks) made.done in omega (arith, le, same, made.next)
+    more_marks (Resized act_is reply_is made same_disk) le =
+        let same = ap (λ (x : State). x.marks) made.done in omega (arith, le, same)
+    more_marks (Stepped act_is by fine) le =
+        let same = ap (λ (x : State). x.marks) by.made.done ∙ either (is_page_next s) in omega (arith, le, same)
       where
         either : (b : Bool) → (cond b (after_record s) s).marks ≡ s.marks
         either true = refl
         either false = refl
-    more_marks (Failed act_is reply_is made) le = let same = ap (λ (x : State). x.marks) made.done in omega (arith, le, same)
+    more_marks (Failed act_is reply_is made) le =
+        let same = ap (λ (x : State). x.marks) made.done in omega (arith, le, same)
 
     -- a step that asks for nothing
-    idles : (outs : WriteOutsValue) (works : List Work) → new.write_outs ≡ outs → step_work s act reply ≡ Nothing → Stands outs works → Stands new.write_outs (works ++ asked_for n s act reply)
+    idles : (outs : WriteOutsValue) (works : List Work) → new.write_outs ≡ outs → step_work s act reply ≡ Nothing
+        → Stands outs works → Stands new.write_outs (works ++ asked_for n s act reply)
     idles outs works same none st =
-        subst (λ o. Stands o (works ++ asked_for n s act reply)) (sym same) (subst (Stands outs) (sym (asked_nothing s.write_outs.batches works (step_work s act reply) none)) st)
+        subst (λ o. Stands o (works ++ asked_for n s act reply)) (sym same)
+        (subst (Stands outs) (sym (asked_nothing s.write_outs.batches works (step_work s act reply) none)) st)
 
-    stands_next : Performed s disk p act reply new disk' → n ≤ s.marks → (works : List Work) → Stands s.write_outs works → Stands new.write_outs (works ++ asked_for n s act reply)
-    stands_next (Moved by) le works st = idles s.write_outs works (moves_leave disk s by.says new sound by.moves).0 by.no_work st
+    stands_next : Performed s disk p act reply new disk' → n ≤ s.marks → (works : List Work) → Stands s.write_outs works
+        → Stands new.write_outs (works ++ asked_for n s act reply)
+    stands_next (Moved by) le works st =
+        idles s.write_outs works (moves_leave disk s by.says new sound by.moves).0 by.no_work st
     stands_next (Marked number act_is reply_is made same_disk) le works st =
-        idles (with_batch s number (mark_homes s made.pages)) works (ap (λ (x : State). x.write_outs) made.done) (λ i. step_work s (act_is i) (reply_is i))
+        idles (with_batch s number (mark_homes s made.pages)) works (ap (λ (x : State). x.write_outs) made.done)
+        (λ i. step_work s (act_is i) (reply_is i))
         (marked s works number (mark_homes s made.pages) (λ same. absurd (omega (arith, le, made.next, same))) st)
     stands_next (Resized act_is reply_is made same_disk) le works st =
-        idles s.write_outs works (ap (λ (x : State). x.write_outs) made.done) (λ i. step_work s (act_is i) (reply_is i)) st
+        idles s.write_outs works (ap (λ (x : State). x.write_outs) made.done)
+        (λ i. step_work s (act_is i) (reply_is i)) st
     stands_next (Stepped act_is by fine) le works st =
         let goes = step_goes (next_answer s.write_outs) reply by.answered fine in
         let whole = whole_answer s.write_outs goes in
         subst (λ o. Stands o (works ++ asked_for n s act reply)) (sym (ap (λ (x : State). x.write_outs) by.made.done))
-        (subst (λ w. Stands (outs_after s.write_outs (next_answer s.write_outs)) (works ++ asked s.write_outs.batches w)) (sym (work_now s act reply act_is (next_answer s.write_outs) by.answered goes whole.0))
+        (subst (λ w. Stands (outs_after s.write_outs (next_answer s.write_outs)) (works ++ asked s.write_outs.batches
+        w)) (sym (work_now s act reply act_is (next_answer s.write_outs) by.answered goes whole.0))
         (stepped s works (next_answer s.write_outs) goes (sym whole.1) st))
     stands_next (Failed act_is reply_is made) le works st = inl (ap (λ (x : State). x.write_outs.broken) made.done)
 
   -- ---- runs, with one step more
 
-  module _ {D : Type 0} (disk : Ghosts D) (last new : Whole D) (step : Step) (reply : Reply) (here : StepTaken disk last step reply new) where
+  module _ {D : Type 0} (disk : Ghosts D) (last new : Whole D) (step : Step) (reply : Reply)
+      (here : StepTaken disk last step reply new) where
     -- what a run asks for from these works on
     record Asks (old : Whole D) (steps : List Step) (answers : List Reply) (before : List Work) : Type 0 where
       works : List Work
-      asks : AskFor disk n old (steps ++ step ∷ []) (answers ++ reply ∷ []) new (works ++ asked_for n last.state step.act reply)
+      asks : AskFor disk n old (steps ++ step ∷ []) (answers ++ reply ∷ []) new
+          (works ++ asked_for n last.state step.act reply)
       stands : Stands last.state.write_outs (before ++ works)
 
-    run : (steps : List Step) (answers : List Reply) (old : Whole D) (before : List Work) → IsSound old.state → n ≤ old.state.marks → StepsTaken disk old steps answers last
+    run : (steps : List Step) (answers : List Reply) (old : Whole D) (before : List Work) → IsSound old.state
+        → n ≤ old.state.marks → StepsTaken disk old steps answers last
         → Stands old.state.write_outs before → Asks old steps answers before
     run [] [] old before sound le taken st = subst (λ (x : Whole D). Asks x [] [] before) taken (record {
       works = [];
       asks = (new, [], here, (refl, refl), sym (append-nil (asked_for n last.state step.act reply)));
-      stands = subst (λ (x : Whole D). Stands x.state.write_outs (before ++ [])) (sym taken) (subst (Stands old.state.write_outs) (sym (append-nil before)) st);
+      stands = subst (λ (x : Whole D). Stands x.state.write_outs (before ++ [])) (sym taken)
+          (subst (Stands old.state.write_outs) (sym (append-nil before)) st);
     })
     run (first ∷ steps) (answer ∷ answers) old before sound le (mid, taken, rest) st =
         let by = performed old.state taken.answered.0 first answer mid.state taken.answered.1 sound taken.answered.2 in
         let sound' = performed_sound sound by in
         let its = asked_for n old.state first.act answer in
-        let le' = more_marks old.state taken.answered.0 first.p first.act answer mid.state taken.answered.1 sound by le in
-        let st' = stands_next old.state taken.answered.0 first.p first.act answer mid.state taken.answered.1 sound by le before st in
+        let le' =
+        more_marks old.state taken.answered.0 first.p first.act answer mid.state taken.answered.1 sound by le in
+        let st' = stands_next old.state taken.answered.0 first.p first.act answer mid.state taken.answered.1
+        sound by le before st in
         let later = run steps answers mid (before ++ its) sound' le' rest st' in
         record {
           works = its ++ later.works;
-          asks = (mid, later.works ++ asked_for n last.state step.act reply, taken, later.asks, append_assoc its later.works (asked_for n last.state step.act reply));
+          asks = (
+            mid,
+            later.works ++ asked_for n last.state step.act reply,
+            taken,
+            later.asks,
+            append_assoc its later.works (asked_for n last.state step.act reply),
+          );
           stands = subst (Stands last.state.write_outs) (append_assoc before its later.works) later.stands;
         }
     run steps answers old before sound le taken st = absurd taken
 
     -- a last step that answers so, with the mark, is of its write-out
-    module _ (answer : Flushed) (goes : GoesOn answer) (tells : (w : WriteOut) → answer_of w ≡ answer → w.batch.mark ≡ n) (works : List Work) where
+    module _ (answer : Flushed) (goes : GoesOn answer)
+        (tells : (w : WriteOut) → answer_of w ≡ answer → w.batch.mark ≡ n) (works : List Work) where
       abbrev all_works : List Work
       all_works = works ++ asked_for n last.state step.act reply
 
       abbrev HasEnded : Type 0
-      HasEnded = (m : ℕ) × (answer_of (after_steps n batch its m) ≡ answer) × (length all_works ≡ suc m) × (sum_by calls_of all_works ≡ calls_in_steps g batch (suc m))
+      HasEnded = (m : ℕ) × (answer_of (after_steps n batch its m) ≡ answer) × (length all_works ≡ suc m)
+          × (sum_by calls_of all_works ≡ calls_in_steps g batch (suc m))
 
-      is_of_answer : (o : Option WriteOut) → option_map_or answer_of o flushed.Broken ≡ answer → option_map_or (is_of n) o false ≡ true
+      is_of_answer : (o : Option WriteOut) → option_map_or answer_of o flushed.Broken ≡ answer
+          → option_map_or (is_of n) o false ≡ true
       is_of_answer None e = absurd (subst GoesOn (sym e) goes)
       is_of_answer (Some w) e = eq-eqb w.batch.mark n (tells w e)
 
-      ends : step.act ≡ acts.Flush → reply ≡ reply_to (next_answer last.state.write_outs) → next_answer last.state.write_outs ≡ answer → Stands last.state.write_outs works → HasEnded
+      ends : step.act ≡ acts.Flush → reply ≡ reply_to (next_answer last.state.write_outs)
+          → next_answer last.state.write_outs ≡ answer → Stands last.state.write_outs works → HasEnded
       ends act_is reply_is is st =
           let outs = last.state.write_outs in
           let whole = whole_answer outs (subst GoesOn (sym is) goes) in
           let e = sym whole.1 ∙ is in
           let next = is_of_answer (current outs.batches) e in
-          let now = work_now last.state step.act reply act_is (next_answer outs) reply_is (subst GoesOn (sym is) goes) whole.0 in
+          let now = work_now last.state step.act reply act_is (next_answer outs) reply_is
+          (subst GoesOn (sym is) goes) whole.0 in
           elim st [
             | inl broken ↦ absurd (both_ways outs.broken whole.0 broken)
             | inr (inl none) ↦ absurd (both_ways (is_next n outs.batches) (none_next n outs.batches none) next)
             | inr (inr u) ↦ elim (one_advanced n batch its u.m outs.batches u.one) [
               | inr other ↦ absurd (both_ways (is_next n outs.batches) other.0 next)
               | inl this ↦
-                  let more = asks_work outs.batches works outs.geometry (next_record last.state) (subst GoesOn (sym e) goes) u this.0 in (
+                  let more = asks_work outs.batches works outs.geometry (next_record last.state)
+                  (subst GoesOn (sym e) goes) u this.0 in (
                     u.m,
                     ap (λ (o : Option WriteOut). option_map_or answer_of o flushed.Broken) (sym this.0) ∙ e,
                     subst (λ w. length (works ++ asked outs.batches w) ≡ suc u.m) (sym now) more.0,
-                    subst (λ w. sum_by calls_of (works ++ asked outs.batches w) ≡ calls_in_steps g batch (suc u.m)) (sym now) more.1,
+                    subst (λ w. sum_by calls_of (works ++ asked outs.batches w) ≡ calls_in_steps g batch (suc u.m))
+                        (sym now) more.1,
                   )
             ]
           ]
@@ -353,7 +431,8 @@ module _ (n : ℕ) (batch : Batch) (its : batch.mark ≡ n) (g : GeometryValue) 
 
 module _ (s : State) (disk : List ℕ) (p : ℕ) (new : State) (disk' : List ℕ) (number : ℕ) where
   abbrev IsStep : Act → Flushed → Type 0
-  IsStep act answer = Acts s disk p act (reply_to answer) new disk' → (act ≡ acts.Flush) × (next_answer s.write_outs ≡ answer)
+  IsStep act answer = Acts s disk p act (reply_to answer) new disk'
+      → (act ≡ acts.Flush) × (next_answer s.write_outs ≡ answer)
 
   steps_alone : (act : Act) → IsStep act (flushed.Committed number) × IsStep act (flushed.Done number)
   steps_alone acts.Flush = (λ rule. (refl, rule.answered), λ rule. (refl, rule.answered))
@@ -361,7 +440,9 @@ module _ (s : State) (disk : List ℕ) (p : ℕ) (new : State) (disk' : List ℕ
 
 -- ---- from the mark on
 
-module _ {D : Type 0} (disk : Ghosts D) (files : List File) (start old marked last new : Whole D) (earlier steps : List Step) (told answers : List Reply) (p number : ℕ) (mark : MarkMade old.state p number marked.state) (step : Step)
+module _ {D : Type 0} (disk : Ghosts D) (files : List File) (start old marked last new : Whole D)
+    (earlier steps : List Step) (told answers : List Reply) (p number : ℕ)
+    (mark : MarkMade old.state p number marked.state) (step : Step)
     (on : IsOnTrack disk files start earlier told old) (taken : StepsTaken disk marked steps answers last) where
   abbrev s : State
   s = old.state
@@ -377,14 +458,22 @@ module _ {D : Type 0} (disk : Ghosts D) (files : List File) (start old marked la
 
   none_before : HasNone number s.write_outs.batches
   none_before = recursion_from_All (λ (w : WriteOut). w.batch.mark ≢ number) s.write_outs.batches
-      (All-weaker (λ (w : WriteOut). (0 < w.batch.mark) × (w.batch.mark ≤ s.marks)) (λ (w : WriteOut). w.batch.mark ≢ number) (λ w is same. absurd (omega (arith, is.1, same, mark.next))) s.write_outs.batches sound.write_outs.marked)
+      (All-weaker (λ (w : WriteOut). (0 < w.batch.mark) × (w.batch.mark ≤ s.marks))
+      (λ (w : WriteOut). w.batch.mark ≢ number)
+      (λ w is same. absurd (omega (arith, is.1, same, mark.next))) s.write_outs.batches sound.write_outs.marked)
 
   begins : (homes : List ℕ) → Stands number (next_batch s.write_outs number homes) refl g (with_batch s number homes) []
   begins [] = inr (inl none_before)
-  begins (home ∷ others) = elim s.write_outs.broken as (λ b. s.write_outs.broken ≡ b → Stands number batch refl g (cond b s.write_outs (begun s.write_outs number homes)) []) [
-    | true ↦ λ broken. inl broken
-    | false ↦ λ whole. inr (inr (record { m = 0; one = one_begun number batch refl s.write_outs.batches none_before; count = refl; calls = refl }))
-  ] refl
+  begins (home ∷ others) = elim s.write_outs.broken as (λ b. s.write_outs.broken ≡ b
+      → Stands number batch refl g (cond b s.write_outs (begun s.write_outs number homes)) []) [
+        | true ↦ λ broken. inl broken
+        | false ↦ λ whole. inr (inr (record {
+          m = 0;
+          one = one_begun number batch refl s.write_outs.batches none_before;
+          count = refl;
+          calls = refl;
+        }))
+      ] refl
     where
       homes : List ℕ
       homes = home ∷ others
@@ -394,21 +483,29 @@ module _ {D : Type 0} (disk : Ghosts D) (files : List File) (start old marked la
 
   -- what was asked for in so many steps, as many calls as these make
   abbrev HasAsked : Reply → ℕ → Type 0
-  HasAsked reply count = (works : List Work) × AskFor disk number marked (steps ++ step ∷ []) (answers ++ reply ∷ []) new works × (length works ≡ count) × (sum_by calls_of works ≡ calls_in_steps g its_batch count)
+  HasAsked reply count = (works : List Work) × AskFor disk number marked (steps ++ step ∷ []) (answers ++ reply ∷ [])
+      new works × (length works ≡ count) × (sum_by calls_of works ≡ calls_in_steps g its_batch count)
 
-  counted : (answer : Flushed) → GoesOn answer → ((w : WriteOut) → answer_of w ≡ answer → w.batch.mark ≡ number) → ((d d' : List ℕ) → IsStep last.state d step.p new.state d' number step.act answer) → StepTaken disk last step (reply_to answer) new
+  counted : (answer : Flushed) → GoesOn answer → ((w : WriteOut) → answer_of w ≡ answer → w.batch.mark ≡ number)
+      → ((d d' : List ℕ) → IsStep last.state d step.p new.state d' number step.act answer)
+      → StepTaken disk last step (reply_to answer) new
       → (m : ℕ) × (answer_of (record { batch = its_batch; steps = m }) ≡ answer) × HasAsked (reply_to answer) (suc m)
   counted answer goes tells is_step here =
       let reply = reply_to answer in
       let marks : marked.state.marks ≡ number = ap (λ (x : State). x.marks) mark.done in
-      let st = subst (λ o. Stands number its_batch refl g o []) (sym (ap (λ (x : State). x.write_outs) mark.done)) (begins (mark_homes s mark.pages)) in
-      let asked = run number its_batch refl g disk last new step reply here steps answers marked [] (marked_sound s p number marked.state mark sound) (omega (arith, marks)) taken st in
+      let st = subst (λ o. Stands number its_batch refl g o []) (sym (ap (λ (x : State). x.write_outs) mark.done))
+      (begins (mark_homes s mark.pages)) in
+      let asked = run number its_batch refl g disk last new step reply here steps answers marked []
+      (marked_sound s p number marked.state mark sound) (omega (arith, marks)) taken st in
       let flush = is_step here.answered.0 here.answered.1 here.answered.2 in
-      let end = ends number its_batch refl g disk last new step reply here answer goes tells asked.works flush.0 (ap reply_to (sym flush.1)) flush.1 asked.stands in
+      let end = ends number its_batch refl g disk last new step reply here answer goes tells asked.works flush.0
+      (ap reply_to (sym flush.1)) flush.1 asked.stands in
       (end.0, end.1, (asked.works ++ asked_for number last.state step.act reply, asked.asks, end.2, end.3))
 
   pub committed_count : StepTaken disk last step (replies.Committed number) new
-      → (works : List Work) × AskFor disk number marked (steps ++ step ∷ []) (answers ++ replies.Committed number ∷ []) new works × (length works ≡ length (mark_homes s mark.pages) + 4) × (sum_by calls_of works ≡ length (mark_homes s mark.pages) + 4)
+      → (works : List Work) × AskFor disk number marked (steps ++ step ∷ [])
+      (answers ++ replies.Committed number ∷ []) new works × (length works ≡ length (mark_homes s mark.pages) + 4)
+      × (sum_by calls_of works ≡ length (mark_homes s mark.pages) + 4)
   committed_count here =
       let found = counted (flushed.Committed number) tt (λ w e. (answered_at w g (flushed.Committed number) e).0)
       (λ d d'. (steps_alone last.state d step.p new.state d' number step.act).0) here in
@@ -418,12 +515,18 @@ module _ {D : Type 0} (disk : Ghosts D) (files : List File) (start old marked la
       (found.2.0, found.2.1, found.2.2 ∙ count, found.2.3 ∙ early_calls g its_batch (suc found.0) few ∙ count)
 
   pub done_count : StepTaken disk last step (replies.Done number) new
-      → (works : List Work) × AskFor disk number marked (steps ++ step ∷ []) (answers ++ replies.Done number ∷ []) new works × (length works ≡ 2 * length (mark_homes s mark.pages) + 7) × (sum_by calls_of works ≡ 3 * length (mark_homes s mark.pages) + 7)
+      → (works : List Work) × AskFor disk number marked (steps ++ step ∷ [])
+      (answers ++ replies.Done number ∷ []) new works × (length works ≡ 2 * length (mark_homes s mark.pages) + 7)
+      × (sum_by calls_of works ≡ 3 * length (mark_homes s mark.pages) + 7)
   done_count here =
       let found = counted (flushed.Done number) tt (λ w e. (answered_at w g (flushed.Done number) e).0)
       (λ d d'. (steps_alone last.state d step.p new.state d' number step.act).1) here in
       let at = (answered_at (record { batch = its_batch; steps = found.0 }) g (flushed.Done number) found.1).1 in
       let count : suc found.0 ≡ 2 * length its_batch.homes + 7 = omega (arith, at) in
       let steps_are : suc found.0 ≡ 2 * length (mark_homes s mark.pages) + 7 = omega (arith, at) in
-      let calls_are : 3 * length its_batch.homes + 7 ≡ 3 * length (mark_homes s mark.pages) + 7 = refl in
-      (found.2.0, found.2.1, found.2.2 ∙ steps_are, found.2.3 ∙ ap (calls_in_steps g its_batch) count ∙ all_calls g its_batch ∙ calls_are)
+      let calls_are : 3 * length its_batch.homes + 7 ≡ 3 * length (mark_homes s mark.pages) + 7 = refl in (
+        found.2.0,
+        found.2.1,
+        found.2.2 ∙ steps_are,
+        found.2.3 ∙ ap (calls_in_steps g its_batch) count ∙ all_calls g its_batch ∙ calls_are,
+      )

@@ -72,7 +72,8 @@ pub use Rattle.machine.specs.OnTrack.{IsOnTrack}
 pub use Rattle.machine.specs.Refusals.{first_of, is_absent, is_msync, mapping_refusal, pages_in_file, reads_page}
 pub use Rattle.machine.specs.Refusals.{lacks_frames, lacks_last_page, length_refusal, resize_refusal}
 pub use Rattle.machine.specs.Refusals.{reason_against, refuse_if, served_refusal, why_not}
-pub use Rattle.machine.specs.Rules.{Accesses, Acts, Answers, FixMade, FlushFailed, FlushMade, MarkMade, MayChange, ResizeMade}
+pub use Rattle.machine.specs.Rules.{Accesses, Acts, Answers, FixMade, FlushFailed}
+pub use Rattle.machine.specs.Rules.{FlushMade, MarkMade, MayChange, ResizeMade}
 pub use Rattle.machine.specs.Rules.{MayLeave, ProtectMade, ReclaimKept, ReclaimMade, Refuses, Rules}
 pub use Rattle.machine.specs.Rules.{SpaceDestroyed, UnmapMade, WantsMemory}
 pub use Rattle.machine.specs.Rules.{after_failure, after_record, begin_change, bytes_at_mark, bytes_with, end_change}
@@ -102,7 +103,8 @@ pub use Rattle.machine.specs.inside.Moves.{AreSpacesTold, Begin, Beginning, Begi
 pub use Rattle.machine.specs.inside.Moves.{Changing, Copy, Destroy, Drop, End, Ending, EndsChange, Entering, Failed}
 pub use Rattle.machine.specs.inside.Moves.{IsMoved, IsProcessorTold, Leaving, Mapping, Marked, Move, Moved, Moves}
 pub use Rattle.machine.specs.inside.Moves.{Performed, Remap, Replace, ReplacesProcessor, ReplacesSpaces, Running}
-pub use Rattle.machine.specs.inside.Moves.{HasStepped, SameDirty, Saying, Silent, Store, StoresBytes, Storing, effect_of}
+pub use Rattle.machine.specs.inside.Moves.{HasStepped, SameDirty, Saying, Silent}
+pub use Rattle.machine.specs.inside.Moves.{Store, StoresBytes, Storing, effect_of}
 pub use Rattle.machine.specs.inside.Moves.{ending_of, reply_to, said, said_all}
 pub use Rattle.machine.specs.inside.Sound.{AreOlderCommitted, AreSpacesSound, AreWriteOutsSound, IsMemory}
 pub use Rattle.machine.specs.inside.Sound.{IsMemorySound, IsPrepared, IsSound, IsSource, IsResizable}
@@ -213,7 +215,8 @@ pub use Rattle.std.specs.Option.{IfNone, IfSome, option_and_then, option_map, op
 pub use Rattle.std.specs.Ordering.{nat_cmp}
 pub use Rattle.std.specs.Prelude.{IfErr, IfOk, IsTrue, MatchBool, min, nat_lt}
 pub use Rattle.volume_codec.proofs.Public.{blocks_from-device, fits_geometry, length-block_at, length-file}
-pub use Rattle.volume_codec.proofs.Public.{has_lengths-same, length-lengths_in, length-padded, length-zeros, lengths_in-same}
+pub use Rattle.volume_codec.proofs.Public.{has_lengths-same, length-lengths_in}
+pub use Rattle.volume_codec.proofs.Public.{length-padded, length-zeros, lengths_in-same}
 pub use Rattle.volume_codec.proofs.Public.{length-number_text, reads_lengths, said_lengths, take-past}
 pub use Rattle.volume_codec.proofs.Public.{total_pages-take_le, total_pages-take_more, zeros-nil}
 pub use Rattle.volume_codec.specs.Descriptor.{AreHomes, RiseWithin}

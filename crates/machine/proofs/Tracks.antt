@@ -16,22 +16,32 @@ module _ {D : Type 0} (Safe : Told → Whole D → Step → Reply → Whole D �
   Through = Throughout Safe
 
   -- one step more is told last
-  pub tell_more : (told : Told) (old : Whole D) (steps : List Step) (replies : List Reply) (now : Whole D) (step : Step) (reply : Reply) → Through told old steps replies now
+  pub tell_more : (told : Told) (old : Whole D) (steps : List Step) (replies : List Reply) (now : Whole D) (step : Step)
+      (reply : Reply) → Through told old steps replies now
       → tell_all told (steps ++ step ∷ []) (replies ++ reply ∷ []) ≡ tell (tell_all told steps replies) step reply
   tell_more told old [] [] now step reply run = refl
-  tell_more told old (first ∷ steps) (answer ∷ replies) now step reply run = tell_more (tell told first answer) run.0 steps replies now step reply run.2
+  tell_more told old (first ∷ steps) (answer ∷ replies) now step reply run =
+      tell_more (tell told first answer) run.0 steps replies now step reply run.2
   tell_more told old steps replies now step reply run = absurd run
 
-  pub through_more : (told : Told) (old : Whole D) (steps : List Step) (replies : List Reply) (now : Whole D) (step : Step) (reply : Reply) (new : Whole D) → Through told old steps replies now
-      → Safe (tell_all told steps replies) now step reply new → Through told old (steps ++ step ∷ []) (replies ++ reply ∷ []) new
-  through_more told old [] [] now step reply new run safe = (new, subst (λ (x : Whole D). Safe told x step reply new) run safe, refl)
-  through_more told old (first ∷ steps) (answer ∷ replies) now step reply new run safe = (run.0, run.1, through_more (tell told first answer) run.0 steps replies now step reply new run.2 safe)
+  pub through_more : (told : Told) (old : Whole D) (steps : List Step) (replies : List Reply) (now : Whole D)
+      (step : Step) (reply : Reply) (new : Whole D) → Through told old steps replies now
+      → Safe (tell_all told steps replies) now step reply new
+      → Through told old (steps ++ step ∷ []) (replies ++ reply ∷ []) new
+  through_more told old [] [] now step reply new run safe =
+      (new, subst (λ (x : Whole D). Safe told x step reply new) run safe, refl)
+  through_more told old (first ∷ steps) (answer ∷ replies) now step reply new run safe =
+      (run.0, run.1, through_more (tell told first answer) run.0 steps replies now step reply new run.2 safe)
   through_more told old steps replies now step reply new run safe = absurd run
 
-  pub each_more : (P : Told → ℕ → Act → Reply → Type 0) (told : Told) (old : Whole D) (steps : List Step) (replies : List Reply) (now : Whole D) (step : Step) (reply : Reply) → Through told old steps replies now → EachStep P told steps replies
-      → P (tell_all told steps replies) step.p step.act reply → EachStep P told (steps ++ step ∷ []) (replies ++ reply ∷ [])
+  pub each_more : (P : Told → ℕ → Act → Reply → Type 0) (told : Told) (old : Whole D) (steps : List Step)
+      (replies : List Reply) (now : Whole D) (step : Step) (reply : Reply) → Through told old steps replies now
+      → EachStep P told steps replies
+      → P (tell_all told steps replies) step.p step.act reply
+      → EachStep P told (steps ++ step ∷ []) (replies ++ reply ∷ [])
   each_more P told old [] [] now step reply run each here = (here, tt)
-  each_more P told old (first ∷ steps) (answer ∷ replies) now step reply run each here = (each.0, each_more P (tell told first answer) run.0 steps replies now step reply run.2 each.1 here)
+  each_more P told old (first ∷ steps) (answer ∷ replies) now step reply run each here =
+      (each.0, each_more P (tell told first answer) run.0 steps replies now step reply run.2 each.1 here)
   each_more P told old steps replies now step reply run each here = absurd run
 
 -- ---- runs
@@ -44,7 +54,8 @@ module _ {D : Type 0} (disk : Ghosts D) (files : List File) (start : Whole D) wh
       let are : AreLengths s.table s.lengths = subst (AreLengths s.table) (sym begins.lengths_are) begins.fit.are in
       let sound = fresh_sound s begins.fresh begins.volume.super_block.fits are.count
       (lengths_within s.table.files s.lengths are.count are.within) in
-      let has = files_at_start files s (disk.seen start.device) sound (ap (λ (x : State). x.resized) begins.fresh.as_booted) begins.volume begins.files_are begins.lengths_are in
+      let has = files_at_start files s (disk.seen start.device) sound
+      (ap (λ (x : State). x.resized) begins.fresh.as_booted) begins.volume begins.files_are begins.lengths_are in
       let pages = pages_at_start files s begins.fresh has in
       let d = durable_at_start disk files start sound begins in
       record {
@@ -67,7 +78,8 @@ module _ {D : Type 0} (disk : Ghosts D) (files : List File) (start : Whole D) wh
       }
 
   -- and a step leads on
-  pub follows_more : (steps : List Step) (replies : List Reply) (now : Whole D) (step : Step) (reply : Reply) (new : Whole D) → Follows disk files start steps replies now
+  pub follows_more : (steps : List Step) (replies : List Reply) (now : Whole D) (step : Step) (reply : Reply)
+      (new : Whole D) → Follows disk files start steps replies now
       → StepTaken disk now step reply new → Follows disk files start (steps ++ step ∷ []) (replies ++ reply ∷ []) new
   follows_more steps replies now step reply new on taken =
       let first = told_first files start.state in
@@ -76,9 +88,13 @@ module _ {D : Type 0} (disk : Ghosts D) (files : List File) (start : Whole D) wh
       record {
         begins = on.begins;
         honest = taken.honest.1 on.honest;
-        through = through_more (StepIsSafe disk files) first start steps replies now step reply new on.through (step_safe disk files told now step reply new on.tracked taken on.honest);
-        lawful = each_more (StepIsSafe disk files) (IsLawful files) first start steps replies now step reply on.through on.lawful (lawful files told now.state (disk.seen now.device) step.p step.act reply new.state (disk.seen new.device) on.tracked.sound on.tracked.arranged on.tracked.latest (taken.made on.honest).answered);
-        tracked = subst (λ (x : Told). IsTracked files x new.state (disk.seen new.device) (disk.may_leave new.device)) (sym (tell_more (StepIsSafe disk files) first start steps replies now step reply on.through)) t;
+        through = through_more (StepIsSafe disk files) first start steps replies now step reply new on.through
+            (step_safe disk files told now step reply new on.tracked taken on.honest);
+        lawful = each_more (StepIsSafe disk files) (IsLawful files) first start steps replies now step reply on.through
+            on.lawful (lawful files told now.state (disk.seen now.device) step.p step.act reply new.state (disk.seen
+            new.device) on.tracked.sound on.tracked.arranged on.tracked.latest (taken.made on.honest).answered);
+        tracked = subst (λ (x : Told). IsTracked files x new.state (disk.seen new.device) (disk.may_leave new.device))
+            (sym (tell_more (StepIsSafe disk files) first start steps replies now step reply on.through)) t;
       }
 
 -- ---- the laws hold on the track of a run
@@ -86,22 +102,31 @@ module _ {D : Type 0} (disk : Ghosts D) (files : List File) (start : Whole D) wh
 abbrev On : {D : Type 0} → Ghosts D → List File → Whole D → List Step → List Reply → Whole D → Type 0
 On disk = Follows disk
 
-pub follows_all : {D : Type 0} → (disk : Ghosts D) (files : List File) (start : Whole D) (earlier : List Step) (told : List Reply) (old : Whole D) (steps : List Step) (replies : List Reply) (new : Whole D) → On disk files start earlier told old
+pub follows_all : {D : Type 0} → (disk : Ghosts D) (files : List File) (start : Whole D) (earlier : List Step)
+    (told : List Reply) (old : Whole D) (steps : List Step) (replies : List Reply) (new : Whole D)
+    → On disk files start earlier told old
     → StepsTaken disk old steps replies new → On disk files start (earlier ++ steps) (told ++ replies) new
-follows_all {D} disk files start earlier told old [] [] new on taken = rw (append-nil earlier, append-nil told) (subst (λ (x : Whole D). On disk files start earlier told x) (sym taken) on)
+follows_all {D} disk files start earlier told old [] [] new on taken = rw (append-nil earlier, append-nil told)
+    (subst (λ (x : Whole D). On disk files start earlier told x) (sym taken) on)
 follows_all disk files start earlier told old (step ∷ steps) (reply ∷ replies) new on (mid, here, rest) =
     let next = follows_more disk files start earlier told old step reply mid on here in
-    rw (sym (append_assoc earlier (step ∷ []) steps), sym (append_assoc told (reply ∷ []) replies)) (follows_all disk files start (earlier ++ step ∷ []) (told ++ reply ∷ []) mid steps replies new next rest)
+    rw (sym (append_assoc earlier (step ∷ []) steps), sym (append_assoc told (reply ∷ []) replies))
+    (follows_all disk files start (earlier ++ step ∷ []) (told ++ reply ∷ []) mid steps replies new next rest)
 follows_all disk files start earlier told old steps replies new on taken = absurd taken
 
 -- what is on the track of a run follows from its start
-pub follows : {D : Type 0} (disk : Ghosts D) (files : List File) (start : Whole D) (steps : List Step) (replies : List Reply) (now : Whole D) → IsOnTrack disk files start steps replies now → On disk files start steps replies now
+pub follows : {D : Type 0} (disk : Ghosts D) (files : List File) (start : Whole D) (steps : List Step)
+    (replies : List Reply) (now : Whole D) → IsOnTrack disk files start steps replies now
+    → On disk files start steps replies now
 follows disk files start steps replies now on =
     follows_all disk files start [] [] start steps replies now (follows_first disk files start on.begins) on.taken
 
 -- one run after another
-pub taken_then : {D : Type 0} (disk : Ghosts D) (old mid new : Whole D) (steps : List Step) (replies : List Reply) (later : List Step) (told : List Reply) → StepsTaken disk old steps replies mid → StepsTaken disk mid later told new
+pub taken_then : {D : Type 0} (disk : Ghosts D) (old mid new : Whole D) (steps : List Step) (replies : List Reply)
+    (later : List Step) (told : List Reply) → StepsTaken disk old steps replies mid → StepsTaken disk mid later told new
     → StepsTaken disk old (steps ++ later) (replies ++ told) new
-taken_then {D} disk old mid new [] [] later told first rest = let P : Whole D → Type 0 = λ m. StepsTaken disk m later told new in subst P first rest
-taken_then disk old mid new (step ∷ steps) (reply ∷ replies) later told (next, here, first) rest = (next, here, taken_then disk next mid new steps replies later told first rest)
+taken_then {D} disk old mid new [] [] later told first rest =
+    let P : Whole D → Type 0 = λ m. StepsTaken disk m later told new in subst P first rest
+taken_then disk old mid new (step ∷ steps) (reply ∷ replies) later told (next, here, first) rest =
+    (next, here, taken_then disk next mid new steps replies later told first rest)
 taken_then disk old mid new steps replies later told first rest = absurd first

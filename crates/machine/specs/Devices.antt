@@ -1,5 +1,6 @@
--- What a step makes of the device itself, honest or not. A step of the write-outs does its work on it, and a fault whose
--- page isn't in memory makes one read of it. Any other act, and any refusal before a device call, leaves it alone.
+-- What a step makes of the device itself, honest or not. A step of the write-outs does its work on it, and a fault
+-- whose page isn't in memory makes one read of it. Any other act, and any refusal before a device call, leaves it
+-- alone.
 use Rattle.std.specs.Prelude.{ℕ, ◌≡◌, Bool, true, false}
 use Rattle.device.specs.declared.device.Device.{Ghosts}
 use Rattle.fault.specs.Fixing.{ReadsOnce}

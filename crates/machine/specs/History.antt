@@ -1,6 +1,7 @@
 -- The history of a run: what was stored, where marks stand, and which marks were acknowledged; and the memory and the
 -- files that a history leaves (Park, Kelly and Shen 2013: the whole effect of an msync or none of it).
-use Rattle.std.specs.Prelude.{ℕ, ◌+◌, ◌-◌, ◌*◌, ◌/◌, ◌%◌, ◌==◌, ◌≡◌, nat_lt, nat_le, min, Bool, true, false, ◌&&◌, ◌⊎◌, if◌then◌else◌, List, [], ◌∷◌, ◌++◌, length, map, take, drop, slice_set, Contains}
+use Rattle.std.specs.Prelude.{ℕ, ◌+◌, ◌-◌, ◌*◌, ◌/◌, ◌%◌, ◌==◌, ◌≡◌, nat_lt, nat_le, min, Bool, true, false, ◌&&◌}
+use Rattle.std.specs.Prelude.{◌⊎◌, if◌then◌else◌, List, [], ◌∷◌, ◌++◌, length, map, take, drop, slice_set, Contains}
 use Rattle.std.specs.List.{fold, list_any}
 use Rattle.volume_codec.specs.Files.{File}
 use Rattle.volume_codec.specs.Text.{padded}

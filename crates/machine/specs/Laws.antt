@@ -1,5 +1,6 @@
 -- What holds of whole runs, by what their steps and replies tell.
-use Rattle.std.specs.Prelude.{ℕ, ◌≡◌, ◌*◌, ◌/◌, ◌%◌, ◌<◌, ◌≤◌, ◌^◌, Bool, true, false, not, ◌||◌, ◌⊎◌, List, [], ◌∷◌, length, take, drop, map, replicate, Some, None, slice_index_or}
+use Rattle.std.specs.Prelude.{ℕ, ◌≡◌, ◌*◌, ◌/◌, ◌%◌, ◌<◌, ◌≤◌, ◌^◌, Bool, true, false, not, ◌||◌, ◌⊎◌, List}
+use Rattle.std.specs.Prelude.{[], ◌∷◌, length, take, drop, map, replicate, Some, None, slice_index_or}
 use Rattle.std.specs.FinMap as maps
 use Rattle.page_entry.specs.declared.refusal.Refusal.TheVariants as refusals
 use Rattle.mappings.specs.declared.place.Place.{Place}

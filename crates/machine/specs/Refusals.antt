@@ -1,6 +1,8 @@
 -- Why an act is refused: of the reasons that hold, the first in this order is answered (POSIX.1-2024 for the calls on
 -- mappings; the order is this project's own). The reasons of processors and of the lock are those of the shootdown.
-use Rattle.std.specs.Prelude.{ℕ, ◌+◌, ◌-◌, ◌/◌, ◌%◌, ◌^◌, ◌==◌, ◌&&◌, ◌||◌, not, nat_lt, nat_le, Bool, true, false, List, [], ◌∷◌, count_by, length, Option, Some, None, is_none, Result, Ok, Err, if◌then◌else◌}
+use Rattle.std.specs.Prelude.{ℕ, ◌+◌, ◌-◌, ◌/◌, ◌%◌, ◌^◌, ◌==◌, ◌&&◌, ◌||◌, not, nat_lt}
+use Rattle.std.specs.Prelude.{nat_le, Bool, true, false, List, [], ◌∷◌, count_by, length}
+use Rattle.std.specs.Prelude.{Option, Some, None, is_none, Result, Ok, Err, if◌then◌else◌}
 use Rattle.std.specs.Option.{option_or}
 use Rattle.page_entry.specs.declared.refusal.Refusal.{Refusal}
 use Rattle.page_entry.specs.declared.refusal.Refusal.TheVariants as refusals
@@ -14,7 +16,8 @@ use Rattle.volume_codec.specs.Super.{pages_of}
 use Rattle.spaces.specs.Spaces.{space_at}
 use Rattle.spaces.specs.Requests.{judged_range, judged_mapping, judged_protection, maps_each}
 use Rattle.shootdown.specs.Shootdown.{current, not_running, not_free}
-use Rattle.shootdown.specs.Calls.{not_there, is_stalled, is_idle, wait_refusal, idle_refusal, switch_refusal, change_refusal, destroy_refusal}
+use Rattle.shootdown.specs.Calls.{not_there, is_stalled, is_idle, wait_refusal, idle_refusal}
+use Rattle.shootdown.specs.Calls.{switch_refusal, change_refusal, destroy_refusal}
 use Rattle.checkpoint.specs.Backing.{page_at}
 use Rattle.fault.specs.Fault.{is_in_memory, place_of_fault, fault_refusal}
 use Rattle.journal.specs.WriteOuts.{is_busy}

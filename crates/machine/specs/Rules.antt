@@ -3,7 +3,8 @@
 -- where one of its calls fails, also where that call is a read; which free frame or copy frame is taken; and whether a
 -- growth of memory is refused. Sources: POSIX.1-2024 (mmap, munmap, mprotect, msync), Intel SDM volume 3 (4-level
 -- paging, TLBs, PCIDs), Black and others 1989 (shootdown), Park, Kelly and Shen 2013 (failure-atomic msync).
-use Rattle.std.specs.Prelude.{ℕ, ◌≡◌, ◌≢◌, ◌+◌, ◌/◌, ◌<◌, ◌⊎◌, nat_le, Bool, true, false, not, List, [], ◌∷◌, ◌++◌, map, Option, Some, None, Ok, Err, slice_index_or, slice_set, if◌then◌else◌}
+use Rattle.std.specs.Prelude.{ℕ, ◌≡◌, ◌≢◌, ◌+◌, ◌/◌, ◌<◌, ◌⊎◌, nat_le, Bool, true, false, not, List, [], ◌∷◌}
+use Rattle.std.specs.Prelude.{◌++◌, map, Option, Some, None, Ok, Err, slice_index_or, slice_set, if◌then◌else◌}
 use Rattle.std.specs.Option.{option_map_or}
 use Rattle.std.specs.FinMap as maps
 use Rattle.page_entry.specs.declared.numbers.FilePage.{FilePage}
@@ -19,17 +20,21 @@ use Rattle.frames.specs.Frames.{FramesState, Frame, frame_at, bytes_of, without_
 use Rattle.journal.specs.declared.flushed.Flushed.{Flushed}
 use Rattle.journal.specs.declared.flushed.Flushed.TheVariants as flushed
 use Rattle.journal.specs.Work.{Work, worked, TornByWork}
-use Rattle.journal.specs.WriteOuts.{WriteOutsValue, begun as outs_begun, next_work, next_answer, outs_after, outs_home, HasBlock}
+use Rattle.journal.specs.WriteOuts.{WriteOutsValue, begun as outs_begun, next_work}
+use Rattle.journal.specs.WriteOuts.{next_answer, outs_after, outs_home, HasBlock}
 use Rattle.spaces.specs.declared.change.Change.{Change}
 use Rattle.spaces.specs.declared.change.Change.TheVariants as changes
 use Rattle.spaces.specs.Changes.{without_entries_of}
-use Rattle.spaces.specs.Spaces.{Spaces, space_at, empty_space, with_space, with_mapping, without_mapping, SetsRights, EditsEntries, IsLowestFree}
+use Rattle.spaces.specs.Spaces.{Spaces, space_at, empty_space, with_space, with_mapping}
+use Rattle.spaces.specs.Spaces.{without_mapping, SetsRights, EditsEntries, IsLowestFree}
 use Rattle.spaces.specs.Requests.{judged_range, judged_mapping, judged_protection, maps_some}
 use Rattle.shootdown.specs.declared.proc_state.ProcState.TheVariants.{Interrupted, Stalled, Idle}
-use Rattle.shootdown.specs.Shootdown.{ShootdownState, current, state_of, begun, stalled, finished, resumed, idled, switched_to, destroyed}
+use Rattle.shootdown.specs.Shootdown.{ShootdownState, current, state_of, begun, stalled}
+use Rattle.shootdown.specs.Shootdown.{finished, resumed, idled, switched_to, destroyed}
 use Rattle.shootdown.specs.Calls.{change_refusal}
 use Rattle.cpu.specs.Access.{Hardware, Loads, Stores, Fills, Evicts}
-use Rattle.checkpoint.specs.Checkpoint.{CheckpointState, Holds, IsDirty, Gathers, ProtectsNoted, NotesTaken, IsInRange, IsInSpace, same_page, without_notes, without_copy_of, released, thawed}
+use Rattle.checkpoint.specs.Checkpoint.{CheckpointState, Holds, IsDirty, Gathers, ProtectsNoted, NotesTaken, IsInRange}
+use Rattle.checkpoint.specs.Checkpoint.{IsInSpace, same_page, without_notes, without_copy_of, released, thawed}
 use Rattle.checkpoint.specs.Backing.{page_at}
 use Rattle.checkpoint.specs.Resizing.{PagesResized}
 use Rattle.fault.specs.Fault.{FaultServed, is_in_memory, place_of_fault}

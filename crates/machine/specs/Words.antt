@@ -4,7 +4,10 @@ use Rattle.std.specs.List.{flat_map}
 use Rattle.std.specs.Fmt.{decimal}
 use Rattle.page_entry.specs.Refusal.{words_of}
 use Rattle.machine.specs.declared.act.Reply.{Reply}
-use Rattle.machine.specs.declared.act.Reply.TheVariants.{Bytes, Stored, Filled, Evicted, Switched, Idled, Woken, Fixed, Space, Destroyed, Mapped, Begun, Fine, Unmapped, Protected, Resized, Reclaimed, Kept, Marked, Acked, Resumed, Going, Committed, Done, Nothing, Refused}
+use Rattle.machine.specs.declared.act.Reply.TheVariants.{Bytes, Stored, Filled, Evicted, Switched, Idled, Woken}
+use Rattle.machine.specs.declared.act.Reply.TheVariants.{Fixed, Space, Destroyed, Mapped, Begun, Fine, Unmapped}
+use Rattle.machine.specs.declared.act.Reply.TheVariants.{Protected, Resized, Reclaimed, Kept, Marked, Acked}
+use Rattle.machine.specs.declared.act.Reply.TheVariants.{Resumed, Going, Committed, Done, Nothing, Refused}
 
 -- numbers in decimal digits, each after one space
 abbrev pub numbers_text : List ℕ → List ℕ

@@ -2,9 +2,12 @@
 use Rattle.std.specs.Prelude.{ℕ, List, [], ◌∷◌, find, codes, Option, Some, None}
 use Rattle.std.specs.Str.{bytes_eq}
 use Rattle.serde_json.specs.Data.{Data}
-use Rattle.scripts.specs.Arguments.{if_some, byte_of, short_of, page_number_of, long_of, flags_of, prot_of, access_of, keep_of, write_of, few_bytes_of}
+use Rattle.scripts.specs.Arguments.{if_some, byte_of, short_of, page_number_of, long_of, flags_of}
+use Rattle.scripts.specs.Arguments.{prot_of, access_of, keep_of, write_of, few_bytes_of}
 use Rattle.machine.specs.declared.act.Act.{Act}
-use Rattle.machine.specs.declared.act.Act.TheVariants.{Load, Store, Fill, Evict, Switch, Idle, Wake, Fix, Create, Destroy, Map, Unmap, Protect, Reclaim, Msync, SetLength, Ack, Change, Resume, Flush}
+use Rattle.machine.specs.declared.act.Act.TheVariants.{Load, Store, Fill, Evict, Switch, Idle, Wake, Fix}
+use Rattle.machine.specs.declared.act.Act.TheVariants.{Create, Destroy, Map, Unmap, Protect, Reclaim}
+use Rattle.machine.specs.declared.act.Act.TheVariants.{Msync, SetLength, Ack, Change, Resume, Flush}
 
 -- no arguments
 abbrev pub without_more : Act → List Data → Option Act
@@ -93,11 +96,14 @@ set_length_of _ = None
 abbrev pub acts_by_name : List (List ℕ × (List Data → Option Act))
 acts_by_name =
     (codes "load", load_of) ∷ (codes "store", store_of) ∷ (codes "fill", fill_of) ∷ (codes "evict", evict_of)
-    ∷ (codes "switch", switch_of) ∷ (codes "idle", without_more Idle) ∷ (codes "wake", without_more Wake) ∷ (codes "fix", fix_of)
-    ∷ (codes "create", without_more Create) ∷ (codes "destroy", destroy_of) ∷ (codes "map", map_of) ∷ (codes "unmap", unmap_of)
+    ∷ (codes "switch", switch_of) ∷ (codes "idle", without_more Idle)
+    ∷ (codes "wake", without_more Wake) ∷ (codes "fix", fix_of)
+    ∷ (codes "create", without_more Create) ∷ (codes "destroy", destroy_of) ∷ (codes "map", map_of)
+    ∷ (codes "unmap", unmap_of)
     ∷ (codes "protect", protect_of) ∷ (codes "reclaim", reclaim_of) ∷ (codes "msync", msync_of)
     ∷ (codes "setlength", set_length_of) ∷ (codes "ack", without_more Ack)
-    ∷ (codes "change", without_more Change) ∷ (codes "resume", without_more Resume) ∷ (codes "flush", without_more Flush) ∷ []
+    ∷ (codes "change", without_more Change) ∷ (codes "resume", without_more Resume)
+    ∷ (codes "flush", without_more Flush) ∷ []
 
 -- the act of a name and arguments
 abbrev pub act_of : List ℕ → List Data → Option Act

@@ -1,6 +1,8 @@
 -- Why a script is refused.
 use Rattle.scripts.specs.declared.script_fault.ScriptFault.{ScriptFault}
-use Rattle.scripts.specs.declared.script_fault.ScriptFault.TheVariants.{NotUtf8, NotJson, NotAnObject, Missing, Unknown, Number, NotAList, Step, Programs, Program, Command, Processor, Memory}
+use Rattle.scripts.specs.declared.script_fault.ScriptFault.TheVariants.{NotUtf8, NotJson, NotAnObject, Missing}
+use Rattle.scripts.specs.declared.script_fault.ScriptFault.TheVariants.{Unknown, Number, NotAList, Step, Programs}
+use Rattle.scripts.specs.declared.script_fault.ScriptFault.TheVariants.{Program, Command, Processor, Memory}
 
 -- memory was refused
 abbrev pub IsMemory : ScriptFault → Type 0

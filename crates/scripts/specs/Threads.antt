@@ -1,6 +1,7 @@
--- Scripts for threads: a machine's shape, the room of the trace, steps to make first, and a program of commands for each
--- processor.
-use Rattle.std.specs.Prelude.{ℕ, ◌&&◌, ◌==◌, nat_lt, List, [], ◌∷◌, length, Bool, find, if◌then◌else◌, codes, Option, Some, None}
+-- Scripts for threads: a machine's shape, the room of the trace, steps to make first, and a program of commands for
+-- each processor.
+use Rattle.std.specs.Prelude.{ℕ, ◌&&◌, ◌==◌, nat_lt, List, [], ◌∷◌, length, Bool}
+use Rattle.std.specs.Prelude.{find, if◌then◌else◌, codes, Option, Some, None}
 use Rattle.std.specs.List.{list_all}
 use Rattle.std.specs.Str.{bytes_eq}
 use Rattle.serde_json.specs.Data.{Data}

@@ -32,27 +32,38 @@ module _ {disk : List ℕ} (s : State) (p : ℕ) {new : State} (sound : IsSound 
   pub load_moves : (va count : ℕ) (bytes : List ℕ) (h : Hardware) → LoadMade s.hardware p va count bytes h
       → new ≡ with_hardware s h → SilentMoves disk s new
   load_moves va count bytes h made is =
-      let t = is_translated s.hardware p (va / 4096) false made.frame h sound.spaces.coheres made.running made.translation in
+      let t = is_translated s.hardware p
+      (va / 4096) false made.frame h sound.spaces.coheres made.running made.translation in
       elim t.reached [
         | inl kept ↦ same_moves h kept.0 is
-        | inr noted ↦ walk_moves s p (va / 4096) t.entry (record t.entry { accessed = true; dirty = t.entry.dirty || false }) sound (running_below s.hardware.shootdown p made.running).0 t.present
-            (record { same_frame = refl; same_right = refl; still_dirty = λ dirty. or_false t.entry.dirty ∙ dirty }) disk new (or_false t.entry.dirty) (is ∙ ap (with_hardware s) noted)
+        | inr noted ↦ walk_moves s p (va / 4096) t.entry
+            (record t.entry { accessed = true; dirty = t.entry.dirty || false }) sound
+            (running_below s.hardware.shootdown p made.running).0 t.present
+            (record { same_frame = refl; same_right = refl; still_dirty = λ dirty. or_false t.entry.dirty ∙ dirty })
+            disk new (or_false t.entry.dirty) (is ∙ ap (with_hardware s) noted)
       ]
 
   pub fill_moves : (page : ℕ) (answer : Bool) (h : Hardware) → is_there s.hardware.shootdown p ≡ true
       → (answer, h) ≡ filled_by s.hardware p page (entry_at s.hardware.spaces (current s.hardware.shootdown p) page)
       → new ≡ with_hardware s h → SilentMoves disk s new
   fill_moves page answer h there made is =
-      elim (filled_cases s.hardware p page answer h (entry_at s.hardware.spaces (current s.hardware.shootdown p) page) refl made) [
+      elim (filled_cases s.hardware p page answer h
+      (entry_at s.hardware.spaces (current s.hardware.shootdown p) page) refl made) [
         | inl same ↦ same_moves h same is
-        | inr noted ↦ walk_moves s p page noted.0 (record noted.0 { accessed = true }) sound (is_there_below s.hardware.shootdown p there) noted.1
-            (record { same_frame = refl; same_right = refl; still_dirty = λ dirty. dirty }) disk new refl (is ∙ ap (with_hardware s) noted.2)
+        | inr noted ↦ walk_moves s p page noted.0 (record noted.0 { accessed = true }) sound
+            (is_there_below s.hardware.shootdown p there) noted.1
+            (record { same_frame = refl; same_right = refl; still_dirty = λ dirty. dirty }) disk new refl
+            (is ∙ ap (with_hardware s) noted.2)
       ]
 
   pub evict_moves : (slot : ℕ) (h : Hardware) → is_there s.hardware.shootdown p ≡ true
-      → h ≡ record s.hardware { shootdown = with_tlb s.hardware.shootdown p (evicted (tlb_of s.hardware.shootdown p) slot) } → new ≡ with_hardware s h → SilentMoves disk s new
+      → h ≡ record s.hardware {
+        shootdown = with_tlb s.hardware.shootdown p
+            (evicted (tlb_of s.hardware.shootdown p) slot);
+      } → new ≡ with_hardware s h → SilentMoves disk s new
   evict_moves slot h there made is =
       let below = is_there_below s.hardware.shootdown p there in
       one_move (Replace (tlb_replaced s p (evicted (processor_at s.hardware.shootdown p).tlb slot) new sound below
       (IsShootdown-evicted s.hardware.shootdown p slot sound.spaces.shootdown below)
-      (Coheres-evicted s.hardware.shootdown p slot below s.hardware.spaces sound.spaces.coheres) (is ∙ ap (with_hardware s) made)))
+      (Coheres-evicted s.hardware.shootdown p slot below s.hardware.spaces sound.spaces.coheres)
+      (is ∙ ap (with_hardware s) made)))

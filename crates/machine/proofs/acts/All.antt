@@ -50,7 +50,19 @@ module _ (s : State) (disk : List ℕ) (p : ℕ) (new : State) (disk' : List ℕ
       silently (same_moves s p sound rule.0.0 rule.0.1.1 rule.0.2) (λ told. refl) refl rule.1
   performed_act (acts.Store va bytes) replies.Stored rule = Moved (record {
     says = Storing p va bytes ∷ [];
-    moves = (new, Store (record { p = p; va = va; bytes = bytes; hardware = rule.0.0; made = rule.0.1; says_is = refl; done = rule.0.2 }), refl);
+    moves = (
+      new,
+      Store (record {
+        p = p;
+        va = va;
+        bytes = bytes;
+        hardware = rule.0.0;
+        made = rule.0.1;
+        says_is = refl;
+        done = rule.0.2;
+      }),
+      refl,
+    );
     tells = λ told. refl;
     no_work = refl;
     same_disk = rule.1;
@@ -76,30 +88,38 @@ module _ (s : State) (disk : List ℕ) (p : ℕ) (new : State) (disk' : List ℕ
   performed_act acts.Idle replies.Idled rule =
       moved (idle_moves s p sound rule.0.0 rule.0.1) (λ told. refl) (λ told. refl) refl rule.1
   performed_act acts.Wake replies.Woken rule =
-      moved (resume_moves s p sound (wait_admitted is_idle s.hardware.shootdown p rule.0.0 (ap is_idle rule.0.1.0)) rule.0.1.1) (λ told. refl) (λ told. refl) refl rule.1
+      moved (resume_moves s p sound (wait_admitted is_idle s.hardware.shootdown p rule.0.0 (ap is_idle rule.0.1.0))
+      rule.0.1.1) (λ told. refl) (λ told. refl) refl rule.1
   performed_act acts.Wake replies.Nothing rule = silently (no_moves rule.0.1.1) (λ told. refl) refl rule.1
   performed_act (acts.Fix va write) replies.Fixed rule =
       silently (fix_moves s disk sound p va write new rule.0.0 rule.0.1) (λ told. refl) refl rule.1
   performed_act acts.Create (replies.Space pcid) rule =
       moved (create_moves s p pcid rule.0.0 rule.0.1.0 sound rule.0.1.1) (λ told. refl) (λ told. refl) refl rule.1
   performed_act (acts.Destroy space) replies.Destroyed rule =
-      moved {says = Leaving space} (Destroy (record { p = p; pcid = space; allowed = rule.0.0; made = rule.0.1; says_is = refl })) (λ told. refl) (λ told. refl) refl rule.1
+      moved {says = Leaving space}
+      (Destroy (record { p = p; pcid = space; allowed = rule.0.0; made = rule.0.1; says_is = refl })) (λ told. refl)
+      (λ told. refl) refl rule.1
   performed_act (acts.Map space va len file offset prot access) replies.Mapped rule =
       moved (map_moves s p space va len file offset prot access rule.0.1.0 rule.0.0 rule.0.1.1 rule.0.1.2 sound)
       (λ told. ap (λ r. record (mapped_in told space file prot access r) { history = told.history ++ [] })
-      (judged_so (is_user_space s.hardware.spaces space) (mapped_pages_of va len offset) rule.0.1.0 rule.0.1.1)) (λ told. refl) refl rule.1
+      (judged_so (is_user_space s.hardware.spaces space) (mapped_pages_of va len offset) rule.0.1.0 rule.0.1.1))
+      (λ told. refl) refl rule.1
   performed_act (acts.Unmap space va len) replies.Begun rule =
       moved (unmap_moves s p space va len rule.0.1.0 rule.0.0 rule.0.1.1 rule.0.1.3)
       (λ told. ap (λ r. record (begun_by told p (begun_unmap space r)) { history = told.history ++ [] })
-      (judged_so (is_user_space s.hardware.spaces space) (range_of_bytes va len) rule.0.1.0 rule.0.1.1)) (λ told. refl) refl rule.1
+      (judged_so (is_user_space s.hardware.spaces space) (range_of_bytes va len) rule.0.1.0 rule.0.1.1))
+      (λ told. refl) refl rule.1
   performed_act (acts.Unmap space va len) replies.Fine rule = silently (no_moves rule.0.1.3) (λ told. refl) refl rule.1
   performed_act (acts.Protect space va len prot) replies.Begun rule =
       moved (protect_moves s p space va len prot rule.0.1.0 rule.0.0 rule.0.1.1 rule.0.1.2)
       (λ told. ap (λ r. record (begun_by told p (begun_protect space prot r)) { history = told.history ++ [] })
-      (judged_so (is_user_space s.hardware.spaces space) (range_of_bytes va len) rule.0.1.0 (judged_protection-ok s.hardware.spaces space va len prot rule.0.1.0 rule.0.1.1).0)) (λ told. refl) refl rule.1
+      (judged_so (is_user_space s.hardware.spaces space) (range_of_bytes va len) rule.0.1.0 (judged_protection-ok
+      s.hardware.spaces space va len prot rule.0.1.0 rule.0.1.1).0)) (λ told. refl) refl rule.1
   performed_act (acts.Reclaim file page) replies.Begun rule =
-      moved (reclaim_moves s p (record { file = file; page = page }) rule.0.0 rule.0.1.0 rule.0.1.1) (λ told. refl) (λ told. refl) refl rule.1
-  performed_act (acts.Reclaim file page) replies.Nothing rule = silently (no_moves rule.0.1.1) (λ told. refl) refl rule.1
+      moved (reclaim_moves s p (record { file = file; page = page }) rule.0.0 rule.0.1.0 rule.0.1.1) (λ told. refl)
+      (λ told. refl) refl rule.1
+  performed_act (acts.Reclaim file page) replies.Nothing rule =
+      silently (no_moves rule.0.1.1) (λ told. refl) refl rule.1
   performed_act (acts.SetLength file to) replies.Begun rule =
       moved (set_length_moves s p file to rule.0.0 rule.0.1.0 rule.0.1.1) (λ told. refl) (λ told. refl) refl rule.1
   performed_act (acts.SetLength file to) replies.Fine rule = silently (no_moves rule.0.1.1) (λ told. refl) refl rule.1
@@ -109,21 +129,26 @@ module _ (s : State) (disk : List ℕ) (p : ℕ) (new : State) (disk' : List ℕ
       moved (ack_moves s p sound rule.0.0 rule.0.1.0 rule.0.1.1) (λ told. refl) (λ told. refl) refl rule.1
   performed_act acts.Ack replies.Nothing rule = silently (no_moves rule.0.1.1) (λ told. refl) refl rule.1
   performed_act acts.Change replies.Unmapped rule =
-      moved (unmapped_moves disk s p new sound rule.0.1) (λ told. refl) (λ told. changed_history told told.pending) refl rule.1
+      moved (unmapped_moves disk s p new sound rule.0.1) (λ told. refl)
+      (λ told. changed_history told told.pending) refl rule.1
   performed_act acts.Change replies.Protected rule =
-      moved (protected_moves disk s p new sound rule.0.1) (λ told. refl) (λ told. changed_history told told.pending) refl rule.1
+      moved (protected_moves disk s p new sound rule.0.1) (λ told. refl)
+      (λ told. changed_history told told.pending) refl rule.1
   performed_act acts.Change replies.Reclaimed rule =
-      moved_all (Ending p ∷ Silent ∷ []) (reclaimed_moves disk s p new sound rule.0.1) (λ told. refl) (λ told. refl) refl rule.1
+      moved_all (Ending p ∷ Silent ∷ []) (reclaimed_moves disk s p new sound rule.0.1) (λ told. refl)
+      (λ told. refl) refl rule.1
   performed_act acts.Change replies.Kept rule =
       moved (kept_moves disk s p new sound rule.0.1) (λ told. refl) (λ told. refl) refl rule.1
   performed_act acts.Change replies.Resized rule = Resized refl refl rule.0.1 rule.1
   performed_act acts.Change (replies.Marked number) rule = Marked number refl refl rule.0.1 rule.1
   performed_act acts.Change replies.Nothing rule = silently (no_moves rule.0.1.1) (λ told. refl) refl rule.1
   performed_act acts.Resume replies.Resumed rule =
-      moved (resume_moves s p sound (wait_admitted is_stalled s.hardware.shootdown p rule.0.0 (ap is_stalled rule.0.1.0)) rule.0.1.1) (λ told. refl) (λ told. refl) refl rule.1
+      moved (resume_moves s p sound (wait_admitted is_stalled s.hardware.shootdown p rule.0.0
+      (ap is_stalled rule.0.1.0)) rule.0.1.1) (λ told. refl) (λ told. refl) refl rule.1
   performed_act acts.Resume replies.Nothing rule = silently (no_moves rule.0.1.1) (λ told. refl) refl rule.1
   performed_act acts.Flush replies.Going rule = Flushed refl (stepped flushed.Going rule) (λ why e. cc)
-  performed_act acts.Flush (replies.Committed number) rule = Flushed refl (stepped (flushed.Committed number) rule) (λ why e. cc)
+  performed_act acts.Flush (replies.Committed number) rule =
+      Flushed refl (stepped (flushed.Committed number) rule) (λ why e. cc)
   performed_act acts.Flush (replies.Done number) rule = Flushed refl (stepped (flushed.Done number) rule) (λ why e. cc)
   performed_act acts.Flush replies.Nothing rule = silently (no_moves rule.0.1.1) (λ told. refl) refl rule.1
   performed_act acts.Flush (replies.Refused refusals.Device) rule = Failed refl refl rule

@@ -24,7 +24,8 @@ places_changed : (pcid : ℕ) (change : Places → Places) (old new : Spaces) �
     → ((q : ℕ) → has_space new q ≡ has_space old q)
     → (space_at new pcid).places ≡ change (space_at old pcid).places
     → ((q : ℕ) → q ≢ pcid → (space_at new q).places ≡ (space_at old q).places) → ChangesPlaces pcid change old new
-places_changed pcid change old new there same here others = record { there = λ q. same q ∙ sym (as_before q); here = here; others = others }
+places_changed pcid change old new there same here others =
+    record { there = λ q. same q ∙ sym (as_before q); here = here; others = others }
   where
     as_before : (q : ℕ) → (eqb q pcid || has_space old q) ≡ has_space old q
     as_before q = elim (cases_eq q pcid) [
@@ -58,14 +59,20 @@ module _ (disk : List ℕ) (s : State) (p : ℕ) (new : State) (sound : IsSound 
         are_spaces = AreSpaces-without_mapping old made.pcid made.range sound.spaces.spaces there;
         same_spaces = has_space-without_mapping old made.pcid made.range there;
         in_table = λ q page place is.
-            sound.spaces.in_table q page place (kept_some (eqb q made.pcid && is_among made.range.first made.range.count page) (place_at old q page) place (sym (place_at-without_mapping old made.pcid made.range q page) ∙ is));
+            sound.spaces.in_table q page place
+            (kept_some (eqb q made.pcid && is_among made.range.first made.range.count page)
+            (place_at old q page) place (sym (place_at-without_mapping old made.pcid made.range q page) ∙ is));
         same_frozen = made.noted.frozen;
         same_notes = made.noted.same_length;
         noted = notes_in_use s made.checkpoint (IsInRange made.pcid made.range) made.noted sound.memory;
-        backed = AreBacked-frozen s.hardware.memory s.checkpoint made.checkpoint spaces made.noted.frozen (AreBacked-without_mapping s.hardware.memory s.checkpoint old made.pcid made.range sound.memory.backed);
-        dirty = λ frame. dirty_taken (IsInRange made.pcid made.range) old spaces s.checkpoint made.checkpoint frame (takes_range old made.pcid made.range) made.noted;
-        told = places_changed made.pcid (λ places. without_range places made.range.first made.range.count) old spaces there (has_space-without_mapping old made.pcid made.range there)
-            (ap (λ (x : AddressSpace). x.places) (space_at-with_space_same old made.pcid _)) (λ q other. ap (λ (x : AddressSpace). x.places) (space_at-with_space_other old made.pcid _ q other));
+        backed = AreBacked-frozen s.hardware.memory s.checkpoint made.checkpoint spaces made.noted.frozen
+            (AreBacked-without_mapping s.hardware.memory s.checkpoint old made.pcid made.range sound.memory.backed);
+        dirty = λ frame. dirty_taken (IsInRange made.pcid made.range) old spaces s.checkpoint made.checkpoint frame
+            (takes_range old made.pcid made.range) made.noted;
+        told = places_changed made.pcid (λ places. without_range places made.range.first made.range.count) old spaces
+            there (has_space-without_mapping old made.pcid made.range there)
+            (ap (λ (x : AddressSpace). x.places) (space_at-with_space_same old made.pcid _))
+            (λ q other. ap (λ (x : AddressSpace). x.places) (space_at-with_space_other old made.pcid _ q other));
         says_is = refl;
         done = made.done;
       })
@@ -86,12 +93,14 @@ module _ (disk : List ℕ) (s : State) (p : ℕ) (new : State) (sound : IsSound 
         wider = record { affected = λ pcid page now. now; touched = λ pcid now. now };
         are_spaces = AreSpaces-SetsRights made.pcid made.range made.rights old made.spaces sound.spaces.spaces sets;
         same_spaces = sets.same_spaces;
-        in_table = λ q page place is. in_files q page place (eqb q made.pcid && is_among made.range.first made.range.count page) (place_at old q page) refl
+        in_table = λ q page place is. in_files q page place
+            (eqb q made.pcid && is_among made.range.first made.range.count page) (place_at old q page) refl
             (sym (place_at-SetsRights made.pcid made.range made.rights old made.spaces sets q page) ∙ is);
         same_frozen = refl;
         same_notes = refl;
         noted = sound.memory.noted;
-        backed = AreBacked-rights_set s.hardware.memory s.checkpoint old made.spaces made.pcid made.range made.rights sets sound.memory.backed;
+        backed = AreBacked-rights_set s.hardware.memory s.checkpoint old made.spaces made.pcid made.range made.rights
+            sets sound.memory.backed;
         dirty = λ frame. dirty_rights made.pcid made.range made.rights old made.spaces s.checkpoint frame sets;
         told = places_changed made.pcid _ old made.spaces there sets.same_spaces sets.rights_set sets.other_places;
         says_is = refl;
@@ -101,7 +110,8 @@ module _ (disk : List ℕ) (s : State) (p : ℕ) (new : State) (sound : IsSound 
       in_files : (q page : ℕ) (place : Place) (b : Bool) (o : Option Place) → place_at s.hardware.spaces q page ≡ o
           → cond b (option_map (with_rights_of made.rights) o) o ≡ Some place → place.file < length s.table.files
       in_files q page place true None at e = absurd (cc)
-      in_files q page place true (Some was) at e = subst (λ (x : Place). x.file < length s.table.files) (same_some e) (sound.spaces.in_table q page was at)
+      in_files q page place true (Some was) at e =
+          subst (λ (x : Place). x.file < length s.table.files) (same_some e) (sound.spaces.in_table q page was at)
       in_files q page place false o at e = sound.spaces.in_table q page place (at ∙ e)
 
   pub kept_moves : ReclaimKept s p new → Move disk s (Ending p) new
@@ -138,34 +148,51 @@ module _ (disk : List ℕ) (s : State) (p : ℕ) (new : State) (sound : IsSound 
         → entry.frame ≡ made.frame
     its_frame pcid page entry present maps =
         let is = sound.memory.backed pcid page entry present in
-        let same : page_at is.place ≡ made.owner = same_page-true (page_at is.place) made.owner (sym (ap (is_place_of made.owner) is.mapped) ∙ maps) in
-        sound.memory.memory.one_frame entry.frame made.frame made.owner (is.held ∙ ap (λ x. Some x) same) made.leaves.held
+        let same : page_at is.place ≡ made.owner =
+        same_page-true (page_at is.place) made.owner (sym (ap (is_place_of made.owner) is.mapped) ∙ maps) in
+        sound.memory.memory.one_frame entry.frame made.frame made.owner
+        (is.held ∙ ap (λ x. Some x) same) made.leaves.held
 
     was : (pcid page : ℕ) (entry : Mapped) → entry_at made.spaces pcid page ≡ Some entry
         → (maps_it pcid page ≡ false) × (entry_at old pcid page ≡ Some entry)
-    was pcid page entry present = stays (maps_it pcid page) (entry_at old pcid page) entry (sym (made.cleared.entries pcid page) ∙ present)
+    was pcid page entry present =
+        stays (maps_it pcid page) (entry_at old pcid page) entry (sym (made.cleared.entries pcid page) ∙ present)
 
     -- no entry maps the frame any more
     unmapped : (pcid page : ℕ) (entry : Mapped) → entry_at made.spaces pcid page ≡ Some entry → entry.frame ≢ made.frame
     unmapped pcid page entry present same =
         let before = was pcid page entry present in
         let backed = sound.memory.backed pcid page entry before.1 in
-        let page_is : page_at backed.place ≡ made.owner = same_some (sym backed.held ∙ ap (λ k. page_of (frame_at s.hardware.memory k)) same ∙ made.leaves.held) in
+        let page_is : page_at backed.place ≡ made.owner =
+        same_some (sym backed.held ∙ ap (λ k. page_of (frame_at s.hardware.memory k)) same ∙ made.leaves.held) in
         false≢true (sym before.0 ∙ ap (is_place_of made.owner) backed.mapped
         ∙ and_from (eqb backed.place.file made.owner.file) (eqb backed.place.page made.owner.page)
-        (eq-eqb backed.place.file made.owner.file (ap (λ (o : FilePage). o.file) page_is)) (eq-eqb backed.place.page made.owner.page (ap (λ (o : FilePage). o.page) page_is)))
+        (eq-eqb backed.place.file made.owner.file (ap (λ (o : FilePage). o.file) page_is))
+        (eq-eqb backed.place.page made.owner.page (ap (λ (o : FilePage). o.page) page_is)))
 
     -- its frame is clean, so none of these entries is dirty, and the same frames are
     taken_clean : (frame : ℕ) → HasDirtyEntry old (λ pcid page. maps_it pcid page ≡ true) frame → ⊥
     taken_clean frame d =
         let own = its_frame d.pcid d.page d.entry d.present d.there in
-        made.leaves.clean (inr (record { pcid = d.pcid; page = d.page; there = tt; entry = d.entry; present = d.present; same_frame = own; dirty = d.dirty }))
+        made.leaves.clean (inr (record {
+          pcid = d.pcid;
+          page = d.page;
+          there = tt;
+          entry = d.entry;
+          present = d.present;
+          same_frame = own;
+          dirty = d.dirty;
+        }))
 
     same_dirty : SameDirty s made.spaces s.checkpoint
     same_dirty frame =
         dirty_taken (λ pcid page. maps_it pcid page ≡ true) old made.spaces s.checkpoint s.checkpoint frame
         (record { test = maps_it; entries = made.cleared.entries; passes = λ pcid page is. is })
-        (record { same_length = refl; noted = λ k. (λ noted. inl noted, ⊎_elim (λ noted. noted) (λ has. absurd (taken_clean k has))); frozen = refl })
+        (record {
+          same_length = refl;
+          noted = λ k. (λ noted. inl noted, ⊎_elim (λ noted. noted) (λ has. absurd (taken_clean k has)));
+          frozen = refl;
+        })
 
     abbrev mid : State
     mid = end_change s p made.spaces s.hardware.memory s.checkpoint
@@ -182,14 +209,18 @@ module _ (disk : List ℕ) (s : State) (p : ℕ) (new : State) (sound : IsSound 
         checkpoint = s.checkpoint;
         only = ChangesOnlyAffected-reclaim made.owner old made.spaces made.cleared;
         wider = IsNoWider-same_places (changes.Reclaim made.owner) old made.spaces made.cleared.same_places
-            (λ pcid page now. had_entry (maps_it pcid page) (entry_at old pcid page) (sym (ap is_some (made.cleared.entries pcid page)) ∙ now));
-        are_spaces = AreSpaces-EditsEntries (without_entries_of made.owner old) old made.spaces sound.spaces.spaces made.cleared (λ q at. nothing (is_place_of made.owner (place_at old q at)));
+            (λ pcid page now. had_entry (maps_it pcid page) (entry_at old pcid page)
+            (sym (ap is_some (made.cleared.entries pcid page)) ∙ now));
+        are_spaces = AreSpaces-EditsEntries (without_entries_of made.owner old) old made.spaces sound.spaces.spaces
+            made.cleared (λ q at. nothing (is_place_of made.owner (place_at old q at)));
         same_spaces = made.cleared.same_spaces;
-        in_table = λ q page place is. sound.spaces.in_table q page place (sym (place_at-EditsEntries (without_entries_of made.owner old) old made.spaces made.cleared q page) ∙ is);
+        in_table = λ q page place is. sound.spaces.in_table q page place
+            (sym (place_at-EditsEntries (without_entries_of made.owner old) old made.spaces made.cleared q page) ∙ is);
         same_frozen = refl;
         same_notes = refl;
         noted = sound.memory.noted;
-        backed = AreBacked-cleared s.hardware.memory s.checkpoint old made.spaces made.owner made.cleared sound.memory.backed;
+        backed = AreBacked-cleared s.hardware.memory s.checkpoint old made.spaces made.owner
+            made.cleared sound.memory.backed;
         dirty = same_dirty;
         told = record { there = made.cleared.same_spaces; places = made.cleared.same_places };
         says_is = refl;

@@ -27,13 +27,25 @@ module _ (s : State) (disk : List ℕ) (sound : IsSound s) where
       → Brings s.hardware.memory owner (page_from s disk owner) frame mid
       → IsThere owner frame mid × (mid.copies ≡ s.hardware.memory.copies)
   brought owner frame mid in_file whole unlocked_now (inl there) =
-      subst (λ (m : FramesState). IsThere owner frame m × (m.copies ≡ s.hardware.memory.copies)) (sym there.1) (record { moves = no_moves refl; holds = there.0 }, refl)
+      subst (λ (m : FramesState). IsThere owner frame m × (m.copies ≡ s.hardware.memory.copies)) (sym there.1)
+      (record { moves = no_moves refl; holds = there.0 }, refl)
   brought owner frame mid in_file whole unlocked_now (inr read) =
       let page : Frame = record { page = owner; bytes = page_from s disk owner } in
       subst (λ (m : FramesState). IsThere owner frame m × (m.copies ≡ s.hardware.memory.copies)) (sym read.2) (
         record {
-          moves = one_move (Bring (record { owner = owner; frame = frame; in_file = in_file; absent = read.0; whole = whole read.0; unlocked = unlocked_now; free = read.1; says_is = refl; done = refl }));
-          holds = ap page_of (get_or-set_same s.hardware.memory.frames frame (Some page) None (slice_get_within s.hardware.memory.frames frame None read.1));
+          moves = one_move (Bring (record {
+            owner = owner;
+            frame = frame;
+            in_file = in_file;
+            absent = read.0;
+            whole = whole read.0;
+            unlocked = unlocked_now;
+            free = read.1;
+            says_is = refl;
+            done = refl;
+          }));
+          holds = ap page_of (get_or-set_same s.hardware.memory.frames frame (Some page) None
+              (slice_get_within s.hardware.memory.frames frame None read.1));
         },
         refl,
       )
@@ -46,7 +58,16 @@ module _ (s : State) (disk : List ℕ) (sound : IsSound s) where
   copied true owner frame mid memory there held copies =
       subst (IsThere owner frame) (sym copies.2) (record {
         moves = then_silent there.moves
-            (one_move (Copy (record { owner = owner; frame = frame; copy = copies.0; holds = there.holds; held = held refl; free = copies.1; says_is = refl; done = refl })));
+            (one_move (Copy (record {
+              owner = owner;
+              frame = frame;
+              copy = copies.0;
+              holds = there.holds;
+              held = held refl;
+              free = copies.1;
+              says_is = refl;
+              done = refl;
+            })));
         holds = there.holds;
       })
 
@@ -60,21 +81,29 @@ module _ (s : State) (disk : List ℕ) (sound : IsSound s) where
       let owner = page_at made.place in
       let served = made.served in
       let mapped = (led_to h.spaces pcid va write made.place made.leads).mapped in
-      let may = servable h.memory c s.write_outs.broken made.place (length_of s made.place.file) write (served_at_fix s p va write made.place allowed made.leads) in
+      let may = servable h.memory c s.write_outs.broken made.place (length_of s made.place.file) write
+      (served_at_fix s p va write made.place allowed made.leads) in
       let free = (free_below h.shootdown p (free_of s p _ allowed)).1 in
-      let in_file : IsInFile s owner = record { there = sound.spaces.in_table pcid page made.place mapped; inside = may.inside } in
+      let in_file : IsInFile s owner =
+      record { there = sound.spaces.in_table pcid page made.place mapped; inside = may.inside } in
       let half = brought owner served.frame served.mid in_file may.absent free served.brought in
       let held : copies_out h.memory c owner write ≡ true → is_held served.mid c owner ≡ true = λ copies.
-      ap (λ (copies : List (Option Frame)). is_frozen c owner && not (list_any (is_of_page owner) copies)) half.1 ∙ (and_parts write (is_held h.memory c owner) copies).1 in
-      let now = copied (copies_out h.memory c owner write) owner served.frame served.mid made.memory half.0 held served.copied in
+      ap (λ (copies : List (Option Frame)). is_frozen c owner && not (list_any (is_of_page owner) copies)) half.1
+      ∙ (and_parts write (is_held h.memory c owner) copies).1 in
+      let now = copied (copies_out h.memory c owner write) owner served.frame served.mid made.memory
+      half.0 held served.copied in
       let last = with_memory s made.memory in
       let still = moves_sound disk s now.moves.says last now.moves.moves sound in
       let can = may_write made.place.rights && not (is_held made.memory c owner) in
       let entry = fixed_entry (entry_at h.spaces pcid page) served.frame can write in
       then_silent now.moves (then_silent
-      (one_move (Remap (with_entry h.spaces pcid page (Some entry)) (entry_replaced last pcid page made.place entry mapped
-      (MayBe-fixed made.memory c h.spaces pcid page made.place served.frame can write (entry_at h.spaces pcid page) refl mapped refl now.holds still.memory.backed)
-      (λ was present. subst (λ (o : Option Mapped). Keeps was (fixed_entry o served.frame can write)) (sym present) (Keeps-fixed was served.frame can write))
+      (one_move
+      (Remap (with_entry h.spaces pcid page (Some entry)) (entry_replaced last pcid page made.place entry mapped
+      (MayBe-fixed made.memory c h.spaces pcid page made.place served.frame can write
+      (entry_at h.spaces pcid page) refl mapped refl now.holds still.memory.backed)
+      (λ was present. subst (λ (o : Option Mapped). Keeps was (fixed_entry o served.frame can write)) (sym present)
+      (Keeps-fixed was served.frame can write))
       (λ lock is. unlocked h.shootdown.lock lock free is) still)
       (λ frame. dirty_fixed h.spaces pcid page served.frame can write (entry_at h.spaces pcid page) refl c frame)))
-      (no_moves (made.done ∙ (λ i. record s { hardware = record h { spaces = served.entry i; memory = made.memory } }))))
+      (no_moves
+      (made.done ∙ (λ i. record s { hardware = record h { spaces = served.entry i; memory = made.memory } }))))

@@ -35,8 +35,10 @@ module _ {disk : List ℕ} (s : State) (p : ℕ) {new : State} (sound : IsSound 
         p = p;
         x = switched (processor_at s.hardware.shootdown p) pcid keep;
         there = free.0;
-        is_shootdown = IsShootdown-switched_to s.hardware.shootdown p pcid keep sound.spaces.shootdown free.0 (sound.spaces.spaces.small pcid may.1);
-        coheres = Coheres-switched_to s.hardware.shootdown p pcid keep free.0 free.1 s.hardware.spaces sound.spaces.coheres;
+        is_shootdown = IsShootdown-switched_to s.hardware.shootdown p pcid keep sound.spaces.shootdown free.0
+            (sound.spaces.spaces.small pcid may.1);
+        coheres =
+            Coheres-switched_to s.hardware.shootdown p pcid keep free.0 free.1 s.hardware.spaces sound.spaces.coheres;
         space = may.1;
         told = (refl, refl, refl);
         done = is;
@@ -47,18 +49,21 @@ module _ {disk : List ℕ} (s : State) (p : ℕ) {new : State} (sound : IsSound 
   ack_moves none state is =
       let there = there_below s.hardware.shootdown p none in
       goes (record (processor_at s.hardware.shootdown p) { state = Stalled }) false there refl refl
-      (IsShootdown-stalled s.hardware.shootdown p sound.spaces.shootdown there state) (Coheres-stalled s.hardware.shootdown p there s.hardware.spaces sound.spaces.coheres) is
+      (IsShootdown-stalled s.hardware.shootdown p sound.spaces.shootdown there state)
+      (Coheres-stalled s.hardware.shootdown p there s.hardware.spaces sound.spaces.coheres) is
 
   pub idle_moves : idle_refusal s.hardware.shootdown p ≡ None → new ≡ with_shootdown s (idled s.hardware.shootdown p)
       → Move disk s (Running p false) new
   idle_moves none is =
       let may = idle_admitted s.hardware.shootdown p none in
       goes (record (processor_at s.hardware.shootdown p) { state = Idle }) false may.0 refl refl
-      (IsShootdown-idled s.hardware.shootdown p sound.spaces.shootdown may.0 may.1) (Coheres-idled s.hardware.shootdown p may.0 s.hardware.spaces sound.spaces.coheres) is
+      (IsShootdown-idled s.hardware.shootdown p sound.spaces.shootdown may.0 may.1)
+      (Coheres-idled s.hardware.shootdown p may.0 s.hardware.spaces sound.spaces.coheres) is
 
   -- one that waited goes on, once the lock is free
   pub resume_moves : (p < length s.hardware.shootdown.processors) × (s.hardware.shootdown.lock ≡ None)
       → new ≡ with_shootdown s (resumed s.hardware.shootdown p) → Move disk s (Running p true) new
   resume_moves may is =
       goes (woken (processor_at s.hardware.shootdown p)) true may.0 refl refl
-      (IsShootdown-resumed s.hardware.shootdown p sound.spaces.shootdown may.0 may.1) (Coheres-resumed s.hardware.shootdown p may.0 may.1 s.hardware.spaces sound.spaces.coheres) is
+      (IsShootdown-resumed s.hardware.shootdown p sound.spaces.shootdown may.0 may.1)
+      (Coheres-resumed s.hardware.shootdown p may.0 may.1 s.hardware.spaces sound.spaces.coheres) is

@@ -2,7 +2,8 @@
 use Rattle.machine.proofs.Names.{ℕ, ◌≡◌, ◌≢◌, ◌+◌, ◌-◌, ◌^◌, ◌<◌, Bool, true, false, not, ◌&&◌, cond, List, [], length}
 use Rattle.machine.proofs.Names.{Result, Ok, Err, is_err, is_none, refl, sym, ap, ◌∙◌, subst, arith, raised, LeavesOnly}
 use Rattle.machine.proofs.Names.{Ghosts, Did, leaves_at_start, Refusal, Work, WriteAt, CopyBlock, Sync, Nothing}
-use Rattle.machine.proofs.Names.{TornFromWork, calls_of, ReadsOnce, Act, Reply, Step, Layers, State, reason_against, Acts}
+use Rattle.machine.proofs.Names.{TornFromWork, calls_of, ReadsOnce, Act, Reply}
+use Rattle.machine.proofs.Names.{Step, Layers, State, reason_against, Acts}
 use Rattle.machine.proofs.Names.{Answers, CallsOf, Counts, DeviceAfterFix, DeviceAfter, reads_page, has_failed}
 use Rattle.machine.proofs.Names.{step_work, state_in, AnswersBy, KeepsReserved, IsQuiet, ActDone, false≢true}
 use Rattle.page_entry.specs.declared.refusal.Refusal.TheVariants as refusals
@@ -19,27 +20,34 @@ SinceNow {D} disk = (device : D) (c : List ℕ) → disk.left_since device (disk
 act_as : {D Z : Type 0} (disk : Ghosts D) (old new : Layers D Z) (step : Step) (act : Act) (reply : Reply)
     → step.act ≡ act
     → ActDone disk old (record { p = step.p; act = act }) reply new → ActDone disk old step reply new
-act_as disk old new step act reply is done = subst (λ (a : Act). ActDone disk old (record { p = step.p; act = a }) reply new) (sym is) done
+act_as disk old new step act reply is done =
+    subst (λ (a : Act). ActDone disk old (record { p = step.p; act = a }) reply new) (sym is) done
 
 module _ {D Z : Type 0} (disk : Ghosts D) (since_now : SinceNow disk) (old new : Layers D Z) where
   -- the device is as it was
   still_done : (p : ℕ) (act : Act) (reply : Reply)
-      → AnswersBy (disk.is_honest old.device) (λ d d'. Acts (state_in old) d p act reply (state_in new) d') (disk.seen old.device) (disk.seen new.device)
+      → AnswersBy (disk.is_honest old.device) (λ d d'. Acts (state_in old) d p act reply (state_in new) d')
+      (disk.seen old.device) (disk.seen new.device)
       → new.device ≡ old.device → step_work (state_in old) act reply ≡ Nothing
       → DeviceAfter disk (state_in old) p act reply old.device old.device
-      → CallsOf (state_in old) p act reply (disk.calls_made old.device) (disk.calls_made old.device) (disk.faults_met old.device) (disk.faults_met old.device)
+      → CallsOf (state_in old) p act reply (disk.calls_made old.device) (disk.calls_made old.device)
+      (disk.faults_met old.device) (disk.faults_met old.device)
       → KeepsReserved old new → ActDone disk old (record { p = p; act = act }) reply new
   still_done p act reply rules same work after calls kept = record {
     rules = rules;
-    left = λ c may. subst (λ (w : Work). TornFromWork w (disk.may_leave old.device) c) (sym work) (subst (λ (x : D). disk.may_leave x c) same may);
+    left = λ c may. subst (λ (w : Work). TornFromWork w (disk.may_leave old.device) c) (sym work)
+        (subst (λ (x : D). disk.may_leave x c) same may);
     sure = λ honest other sync. absurd (let both = sym work ∙ sync in cc);
     unread = λ honest from to refused copy few calls. absurd (let both = sym work ∙ copy in cc);
-    time = subst (λ (x : D). LeavesOnly disk.moment disk.left_since old.device x (TornFromWork (step_work (state_in old) act reply) (disk.may_leave old.device))) (sym same)
-        (subst (λ (w : Work). LeavesOnly disk.moment disk.left_since old.device old.device (TornFromWork w (disk.may_leave old.device))) (sym work) (leaves_at_start (λ c left. since_now old.device c left)));
+    time = subst (λ (x : D). LeavesOnly disk.moment disk.left_since old.device x
+        (TornFromWork (step_work (state_in old) act reply) (disk.may_leave old.device))) (sym same)
+        (subst (λ (w : Work). LeavesOnly disk.moment disk.left_since old.device old.device (TornFromWork w
+        (disk.may_leave old.device))) (sym work) (leaves_at_start (λ c left. since_now old.device c left)));
     honest = (λ h. subst disk.is_honest same h, λ h. subst disk.is_honest (sym same) h);
     len = ap (λ (x : D). length (disk.seen x)) same;
     device = subst (λ (x : D). DeviceAfter disk (state_in old) p act reply old.device x) (sym same) after;
-    calls = subst (λ (x : D). CallsOf (state_in old) p act reply (disk.calls_made old.device) (disk.calls_made x) (disk.faults_met old.device) (disk.faults_met x)) (sym same) calls;
+    calls = subst (λ (x : D). CallsOf (state_in old) p act reply (disk.calls_made old.device) (disk.calls_made x)
+        (disk.faults_met old.device) (disk.faults_met x)) (sym same) calls;
     kept = kept;
   }
 
@@ -52,8 +60,10 @@ module _ {D Z : Type 0} (disk : Ghosts D) (since_now : SinceNow disk) (old new :
   quiet_done step act is reply quiet rules work after counts =
       act_as disk old new step act reply is (still_done step.p act reply (record {
         some_disk = ([], [], rules []);
-        own_disk = λ h. subst (λ (x : D). Acts (state_in old) (disk.seen old.device) step.p act reply (state_in new) (disk.seen x)) (sym quiet.same_device) (rules (disk.seen old.device));
-      }) quiet.same_device work (after _) (counts _ _) (record { same_table = quiet.same_table; still_reserved = quiet.still_reserved }))
+        own_disk = λ h. subst (λ (x : D). Acts (state_in old) (disk.seen old.device) step.p act reply (state_in new)
+            (disk.seen x)) (sym quiet.same_device) (rules (disk.seen old.device));
+      }) quiet.same_device work (after _) (counts _ _)
+      (record { same_table = quiet.same_table; still_reserved = quiet.still_reserved }))
 
 -- ---- a step of the write-outs
 
@@ -84,7 +94,8 @@ module _ {D : Type 0} (disk : Ghosts D) (old new : D) where
 
 pub flush_done : {D Z : Type 0} (disk : Ghosts D) (old new : Layers D Z) (step : Step) (reply : Reply)
     → step.act ≡ acts.Flush
-    → AnswersBy (disk.is_honest old.device) (λ d d'. Acts (state_in old) d step.p acts.Flush reply (state_in new) d') (disk.seen old.device) (disk.seen new.device)
+    → AnswersBy (disk.is_honest old.device) (λ d d'. Acts (state_in old) d step.p acts.Flush reply (state_in new) d')
+    (disk.seen old.device) (disk.seen new.device)
     → Did disk old.device (step_work (state_in old) acts.Flush reply) (not (has_failed reply)) new.device
     → KeepsReserved old new → ActDone disk old step reply new
 flush_done {D} disk old new step reply is rules did kept =
@@ -92,7 +103,8 @@ flush_done {D} disk old new step reply is rules did kept =
       rules = rules;
       left = did.left;
       sure = λ honest other sync. did.sure honest (unfailed reply other) sync;
-      unread = λ honest from to refused copy few calls. did.unread honest (ap (λ r. not (has_failed r)) refused) from to copy (omega (arith, few)) calls;
+      unread = λ honest from to refused copy few calls.
+          did.unread honest (ap (λ r. not (has_failed r)) refused) from to copy (omega (arith, few)) calls;
       time = did.time;
       honest = did.honest;
       len = did.same_length;
@@ -113,35 +125,44 @@ failed_if : (s : State) (d : List ℕ) (p va : ℕ) (write : Bool) (result : Res
     → is_err result ≡ has_failed (reply_to result)
 failed_if s d p va write (Ok reply) new fixed reads rule = ap has_failed (sym fixed)
 failed_if s d p va write (Err refusals.Device) new fixed reads rule = refl
-failed_if s d p va write (Err why) new fixed reads rule = absurd (unread (is_none (reason_against s p (acts.Fix va write))) reads (ap is_none rule.0))
+failed_if s d p va write (Err why) new fixed reads rule =
+    absurd (unread (is_none (reason_against s p (acts.Fix va write))) reads (ap is_none rule.0))
   where
     unread : (b : Bool)
-        → (b && Rattle.machine.specs.Refusals.is_absent s (Rattle.fault.specs.Fault.place_of_fault s.hardware.spaces (Rattle.shootdown.specs.Shootdown.current s.hardware.shootdown p) va write)) ≡ true
+        → (b && Rattle.machine.specs.Refusals.is_absent s (Rattle.fault.specs.Fault.place_of_fault s.hardware.spaces
+        (Rattle.shootdown.specs.Shootdown.current s.hardware.shootdown p) va write)) ≡ true
         → b ≡ false → ⊥
     unread true e f = absurd (cc)
     unread false e f = absurd (cc)
 
-pub fix_done : {D Z : Type 0} (disk : Ghosts D) (since_now : SinceNow disk) (old new : Layers D Z) (step : Step) (va : ℕ) (write : Bool) (result : Result Reply Refusal)
+pub fix_done : {D Z : Type 0} (disk : Ghosts D) (since_now : SinceNow disk) (old new : Layers D Z) (step : Step)
+    (va : ℕ) (write : Bool) (result : Result Reply Refusal)
     → step.act ≡ acts.Fix va write
-    → AnswersBy (disk.is_honest old.device) (λ d d'. Answers (state_in old) d step.p (acts.Fix va write) (reply_to result) (state_in new) × (d' ≡ d)) (disk.seen old.device) (disk.seen new.device)
+    → AnswersBy (disk.is_honest old.device) (λ d d'. Answers (state_in old) d step.p (acts.Fix va write)
+    (reply_to result) (state_in new) × (d' ≡ d)) (disk.seen old.device) (disk.seen new.device)
     → Rattle.std.specs.Result.IfOk result (λ reply. reply ≡ replies.Fixed)
     → (reads_page (state_in old) step.p va write ≡ false → new.device ≡ old.device)
     → (reads_page (state_in old) step.p va write ≡ true
-    → ReadsOnce disk.seen disk.may_leave disk.is_honest disk.moment disk.left_since disk.calls_made disk.faults_met (is_err result) old.device new.device)
+    → ReadsOnce disk.seen disk.may_leave disk.is_honest disk.moment disk.left_since disk.calls_made disk.faults_met
+    (is_err result) old.device new.device)
     → KeepsReserved old new → ActDone disk old step (reply_to result) new
 fix_done {D} disk since_now old new step va write result is rules fixed untouched read kept =
-    act_as disk old new step (acts.Fix va write) (reply_to result) is (by (reads_page (state_in old) step.p va write) refl)
+    act_as disk old new step (acts.Fix va write) (reply_to result) is
+    (by (reads_page (state_in old) step.p va write) refl)
   where
     by : (b : Bool) → reads_page (state_in old) step.p va write ≡ b
         → ActDone disk old (record { p = step.p; act = acts.Fix va write }) (reply_to result) new
     by false e =
         still_done disk since_now old new step.p (acts.Fix va write) (reply_to result) rules (untouched e) refl
-        (subst (λ b. DeviceAfterFix disk b (reply_to result) old.device old.device) (sym e) (record { untouched = λ _. refl; read = λ reads. absurd (false≢true reads) }))
-        (subst (λ b. FixCalls b (reply_to result) (disk.calls_made old.device) (disk.calls_made old.device) (disk.faults_met old.device) (disk.faults_met old.device)) (sym e)
+        (subst (λ b. DeviceAfterFix disk b (reply_to result) old.device old.device) (sym e)
+        (record { untouched = λ _. refl; read = λ reads. absurd (false≢true reads) }))
+        (subst (λ b. FixCalls b (reply_to result) (disk.calls_made old.device) (disk.calls_made old.device)
+        (disk.faults_met old.device) (disk.faults_met old.device)) (sym e)
         (refl, refl)) kept
     by true e =
         let made = read e in
-        let failed = failed_if (state_in old) rules.some_disk.0 step.p va write result (state_in new) fixed e rules.some_disk.2.0 in
+        let failed = failed_if (state_in old) rules.some_disk.0 step.p va write result
+        (state_in new) fixed e rules.some_disk.2.0 in
         record {
           rules = rules;
           left = made.left;
@@ -152,9 +173,14 @@ fix_done {D} disk since_now old new step va write result is rules fixed untouche
           len = made.len;
           device = subst (λ b. DeviceAfterFix disk b (reply_to result) old.device new.device) (sym e) (record {
             untouched = λ other. absurd (false≢true (sym other));
-            read = λ _. subst (λ b. ReadsOnce disk.seen disk.may_leave disk.is_honest disk.moment disk.left_since disk.calls_made disk.faults_met b old.device new.device) failed made;
+            read = λ _. subst (λ b. ReadsOnce disk.seen disk.may_leave disk.is_honest disk.moment disk.left_since
+                disk.calls_made disk.faults_met b old.device new.device) failed made;
           });
-          calls = subst (λ b. FixCalls b (reply_to result) (disk.calls_made old.device) (disk.calls_made new.device) (disk.faults_met old.device) (disk.faults_met new.device)) (sym e)
-              (made.one_call, made.one_fault ∙ ap (λ b. cond b (raised (disk.faults_met old.device)) (disk.faults_met old.device)) failed);
+          calls = subst (λ b. FixCalls b (reply_to result) (disk.calls_made old.device) (disk.calls_made new.device)
+              (disk.faults_met old.device) (disk.faults_met new.device)) (sym e) (
+                made.one_call,
+                made.one_fault
+                    ∙ ap (λ b. cond b (raised (disk.faults_met old.device)) (disk.faults_met old.device)) failed,
+              );
           kept = kept;
         }

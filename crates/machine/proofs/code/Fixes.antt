@@ -5,7 +5,8 @@ use Rattle.machine.proofs.Names.{subst, ⊎_elim, arith, drop_at, take_all, Refu
 use Rattle.machine.proofs.Names.{block_at, length-zeros, FramesState, has_free, Spaces, current, not_free, page_at}
 use Rattle.machine.proofs.Names.{FaultServed, is_in_memory, copies_out, place_of_fault, fault_refusal, FixRefused}
 use Rattle.machine.proofs.Names.{FixDone, refusal_of, reads_home, block_from, State, length_of, home_of, page_from}
-use Rattle.machine.proofs.Names.{served_refusal, reason_against, is_absent, reads_page, Answers, with_hardware, AnswersBy}
+use Rattle.machine.proofs.Names.{served_refusal, reason_against, is_absent}
+use Rattle.machine.proofs.Names.{reads_page, Answers, with_hardware, AnswersBy}
 use Rattle.page_entry.specs.declared.refusal.Refusal.TheVariants as refusals
 use Rattle.machine.specs.declared.act.Act.TheVariants as acts
 use Rattle.fault.specs.declared.page_fault.PageFault.{PageFault}
@@ -17,11 +18,13 @@ use Rattle.machine.proofs.code.Refusals.{passed, found, alone, at_most}
 
 -- ---- refused before anything is read
 
-pub fixes_refused : (s : State) (d : List ℕ) (p va : ℕ) (write : Bool) (why : Refusal) → reason_against s p (acts.Fix va write) ≡ Some why → Answers s d p (acts.Fix va write) (replies.Refused why) s
+pub fixes_refused : (s : State) (d : List ℕ) (p va : ℕ) (write : Bool) (why : Refusal)
+    → reason_against s p (acts.Fix va write) ≡ Some why → Answers s d p (acts.Fix va write) (replies.Refused why) s
 fixes_refused s d p va write refusals.Device is = (inl is, refl)
 fixes_refused s d p va write why is = (is, refl)
 
-pub refused_by : (honest : Type 0) (s : State) (disk : List ℕ) (p va : ℕ) (write : Bool) (why : Refusal) → reason_against s p (acts.Fix va write) ≡ Some why
+pub refused_by : (honest : Type 0) (s : State) (disk : List ℕ) (p va : ℕ) (write : Bool) (why : Refusal)
+    → reason_against s p (acts.Fix va write) ≡ Some why
     → AnswersBy honest (λ d d'. Answers s d p (acts.Fix va write) (replies.Refused why) s × (d' ≡ d)) disk disk
 refused_by honest s disk p va write why is = record {
   some_disk = ([], [], (fixes_refused s [] p va write why is, refl));
@@ -29,31 +32,44 @@ refused_by honest s disk p va write why is = record {
 }
 
 -- nothing is read then
-pub refused_unread : (s : State) (p va : ℕ) (write : Bool) (why : Refusal) → reason_against s p (acts.Fix va write) ≡ Some why → reads_page s p va write ≡ false
-refused_unread s p va write why is = ap (λ r. is_none r && is_absent s (place_of_fault s.hardware.spaces (current s.hardware.shootdown p) va write)) is
+pub refused_unread : (s : State) (p va : ℕ) (write : Bool) (why : Refusal)
+    → reason_against s p (acts.Fix va write) ≡ Some why → reads_page s p va write ≡ false
+refused_unread s p va write why is =
+    ap (λ r. is_none r && is_absent s (place_of_fault s.hardware.spaces (current s.hardware.shootdown p) va write)) is
 
 -- the processor may not act
-pub fix-not_free : (s : State) (p va : ℕ) (write : Bool) (why : Refusal) → not_free s.hardware.shootdown p ≡ Some why → reason_against s p (acts.Fix va write) ≡ Some why
+pub fix-not_free : (s : State) (p va : ℕ) (write : Bool) (why : Refusal) → not_free s.hardware.shootdown p ≡ Some why
+    → reason_against s p (acts.Fix va write) ≡ Some why
 fix-not_free s p va write why is =
-    found (not_free s.hardware.shootdown p) (served_refusal s write (place_of_fault s.hardware.spaces (current s.hardware.shootdown p) va write) ∷ []) why is
+    found (not_free s.hardware.shootdown p) (served_refusal s write
+    (place_of_fault s.hardware.spaces (current s.hardware.shootdown p) va write) ∷ []) why is
 
 -- by where the address leads
-pub fix-leads : (s : State) (p va : ℕ) (write : Bool) (leads : Result Place Refusal) → not_free s.hardware.shootdown p ≡ None
-    → place_of_fault s.hardware.spaces (current s.hardware.shootdown p) va write ≡ leads → reason_against s p (acts.Fix va write) ≡ served_refusal s write leads
+pub fix-leads : (s : State) (p va : ℕ) (write : Bool) (leads : Result Place Refusal)
+    → not_free s.hardware.shootdown p ≡ None
+    → place_of_fault s.hardware.spaces (current s.hardware.shootdown p) va write ≡ leads
+    → reason_against s p (acts.Fix va write) ≡ served_refusal s write leads
 fix-leads s p va write leads free is =
     let served = served_refusal s write (place_of_fault s.hardware.spaces (current s.hardware.shootdown p) va write) in
-    passed (not_free s.hardware.shootdown p) (served ∷ []) (served_refusal s write leads) free (alone served ∙ ap (served_refusal s write) is)
+    passed (not_free s.hardware.shootdown p) (served ∷ []) (served_refusal s write leads) free
+    (alone served ∙ ap (served_refusal s write) is)
 
 -- the page begins past the file's end
 pub fix-past : (s : State) (p va : ℕ) (write : Bool) (place : Place) → not_free s.hardware.shootdown p ≡ None
-    → place_of_fault s.hardware.spaces (current s.hardware.shootdown p) va write ≡ Ok place → length_of s place.file ≤ 4096 * place.page → reason_against s p (acts.Fix va write) ≡ Some refusals.BusAdrErr
+    → place_of_fault s.hardware.spaces (current s.hardware.shootdown p) va write ≡ Ok place
+    → length_of s place.file ≤ 4096 * place.page → reason_against s p (acts.Fix va write) ≡ Some refusals.BusAdrErr
 fix-past s p va write place free leads past =
-    let copies = copies_out s.hardware.memory s.checkpoint (page_at place) write && not (has_free s.hardware.memory.copies) in
-    let rest = cond copies (Some refusals.Held) (cond (is_in_memory s.hardware.memory (page_at place)) None (cond (not (has_free s.hardware.memory.frames)) (Some refusals.NoFrame) (cond s.write_outs.broken (Some refusals.Device) None))) in
-    fix-leads s p va write (Ok place) free leads ∙ ap (λ b. cond b (Some refusals.BusAdrErr) rest) (at_most (length_of s place.file) (4096 * place.page) past)
+    let copies = copies_out s.hardware.memory s.checkpoint (page_at place) write
+    && not (has_free s.hardware.memory.copies) in
+    let rest = cond copies (Some refusals.Held)
+    (cond (is_in_memory s.hardware.memory (page_at place)) None (cond (not (has_free s.hardware.memory.frames))
+    (Some refusals.NoFrame) (cond s.write_outs.broken (Some refusals.Device) None))) in
+    fix-leads s p va write (Ok place) free leads
+    ∙ ap (λ b. cond b (Some refusals.BusAdrErr) rest) (at_most (length_of s place.file) (4096 * place.page) past)
 
 -- a device of which one page was read at most
-pub seen_same : {D : Type 0} (seen : D → List ℕ) (old new : D) (reads : Bool) → (reads ≡ false → new ≡ old) → (reads ≡ true → seen new ≡ seen old) → seen new ≡ seen old
+pub seen_same : {D : Type 0} (seen : D → List ℕ) (old new : D) (reads : Bool) → (reads ≡ false → new ≡ old)
+    → (reads ≡ true → seen new ≡ seen old) → seen new ≡ seen old
 seen_same seen old new true untouched read = read refl
 seen_same seen old new false untouched read = ap seen (untouched refl)
 
@@ -70,9 +86,19 @@ pub record IsFaultAt (s : State) (p va : ℕ) (write : Bool) (fault : PageFault)
   pub length_is : fault.length ≡ length_of s fault.place.file
   pub broken : fault.broken ≡ s.write_outs.broken
 
-pub fault_at : (s : State) (p va : ℕ) (write : Bool) (place : Place) (pcid home length_is : ℕ) (broken : Bool) → not_free s.hardware.shootdown p ≡ None → pcid ≡ current s.hardware.shootdown p
-    → Ok place ≡ place_of_fault s.hardware.spaces pcid va write → home ≡ home_of s.table (page_at place) → length_is ≡ length_of s place.file → broken ≡ s.write_outs.broken
-    → IsFaultAt s p va write (record { pcid = pcid; page = va / 4096; place = place; write = write; home = 4096 * home; length = length_is; broken = broken })
+pub fault_at : (s : State) (p va : ℕ) (write : Bool) (place : Place) (pcid home length_is : ℕ) (broken : Bool)
+    → not_free s.hardware.shootdown p ≡ None → pcid ≡ current s.hardware.shootdown p
+    → Ok place ≡ place_of_fault s.hardware.spaces pcid va write → home ≡ home_of s.table (page_at place)
+    → length_is ≡ length_of s place.file → broken ≡ s.write_outs.broken
+    → IsFaultAt s p va write (record {
+      pcid = pcid;
+      page = va / 4096;
+      place = place;
+      write = write;
+      home = 4096 * home;
+      length = length_is;
+      broken = broken;
+    })
 fault_at s p va write place pcid home length_is broken free space leads at_home as_long whole = record {
   free = free;
   leads = ap (λ q. place_of_fault s.hardware.spaces q va write) (sym space) ∙ sym leads;
@@ -88,9 +114,11 @@ module _ (s : State) (p va : ℕ) (write : Bool) (fault : PageFault) (at : IsFau
   pub same_refusal : reason_against s p (acts.Fix va write) ≡ refusal_of s.hardware.memory s.checkpoint fault
   same_refusal =
       fix-leads s p va write (Ok fault.place) at.free at.leads
-      ∙ (λ i. fault_refusal s.hardware.memory s.checkpoint (sym at.broken i) fault.place (sym at.length_is i) (sym at.stores i))
+      ∙ (λ i. fault_refusal s.hardware.memory s.checkpoint (sym at.broken i) fault.place
+      (sym at.length_is i) (sym at.stores i))
       ∙ sym (cond-false (fault.write && not (may_write fault.place.rights)) _ _
-      (ap (λ b. b && not (may_write fault.place.rights)) at.stores ∙ and_not write (may_write fault.place.rights) (led_to s.hardware.spaces (current s.hardware.shootdown p) va write fault.place at.leads).allowed))
+      (ap (λ b. b && not (may_write fault.place.rights)) at.stores ∙ and_not write (may_write fault.place.rights)
+      (led_to s.hardware.spaces (current s.hardware.shootdown p) va write fault.place at.leads).allowed))
     where
       and_not : (a b : Bool) → (not a || b) ≡ true → (a && not b) ≡ false
       and_not true true e = refl
@@ -101,7 +129,8 @@ module _ (s : State) (p va : ℕ) (write : Bool) (fault : PageFault) (at : IsFau
   same_reads = λ i. is_none (same_refusal i) && is_absent s (at.leads i)
 
   -- it was refused, or its read failed
-  pub refused_fix : (honest : Type 0) (disk disk' : List ℕ) (why : Refusal) → (honest → disk' ≡ disk) → FixRefused s.hardware.memory s.checkpoint fault why
+  pub refused_fix : (honest : Type 0) (disk disk' : List ℕ) (why : Refusal) → (honest → disk' ≡ disk)
+      → FixRefused s.hardware.memory s.checkpoint fault why
       → AnswersBy honest (λ d d'. Answers s d p (acts.Fix va write) (replies.Refused why) s × (d' ≡ d)) disk disk'
   refused_fix honest disk disk' why same refused =
       let all : (d : List ℕ) → Answers s d p (acts.Fix va write) (replies.Refused why) s = λ d. ⊎_elim
@@ -121,23 +150,28 @@ module _ (s : State) (p va : ℕ) (write : Bool) (fault : PageFault) (at : IsFau
 
   block_there : (block : List ℕ) → length block ≡ 4096 → block_at (with_block block) home ≡ block
   unfolding home with_block
-  block_there block size = ap (take 4096) (drop_at (zeros (4096 * home)) block (4096 * home) (length-zeros (4096 * home))) ∙ all
+  block_there block size =
+      ap (take 4096) (drop_at (zeros (4096 * home)) block (4096 * home) (length-zeros (4096 * home))) ∙ all
     where
       all : take 4096 block ≡ block
       all = take_all 4096 block (omega (arith, size))
 
   -- the page that is read where its home block has these bytes
-  page_read : (d block bytes : List ℕ) → bytes ≡ cut_by fault.length fault.place.page block → block_at d home ≡ block → bytes ≡ page_from s d (page_at fault.place)
+  page_read : (d block bytes : List ℕ) → bytes ≡ cut_by fault.length fault.place.page block → block_at d home ≡ block
+      → bytes ≡ page_from s d (page_at fault.place)
   unfolding home zeros
   page_read d block bytes cut there =
-      cut ∙ ap (λ n. cut_by n fault.place.page block) at.length_is ∙ ap (λ (x : List ℕ). cut_by (length_of s fault.place.file) fault.place.page x) (sym there)
+      cut ∙ ap (λ n. cut_by n fault.place.page block) at.length_is
+      ∙ ap (λ (x : List ℕ). cut_by (length_of s fault.place.file) fault.place.page x) (sym there)
 
   module _ (spaces' : Spaces) (memory' : FramesState) where
     ServedWith : List ℕ → Type 0
-    ServedWith bytes = FaultServed s.hardware.spaces s.hardware.memory s.checkpoint (current s.hardware.shootdown p) (va / 4096) fault.place write bytes spaces' memory'
+    ServedWith bytes = FaultServed s.hardware.spaces s.hardware.memory s.checkpoint (current s.hardware.shootdown p)
+        (va / 4096) fault.place write bytes spaces' memory'
 
     -- a page that was in memory isn't read
-    unread : (bytes other : List ℕ) → is_in_memory s.hardware.memory (page_at fault.place) ≡ true → ServedWith bytes → ServedWith other
+    unread : (bytes other : List ℕ) → is_in_memory s.hardware.memory (page_at fault.place) ≡ true → ServedWith bytes
+        → ServedWith other
     unfolding ServedWith
     unread bytes other there served = record {
       frame = served.frame;
@@ -147,25 +181,39 @@ module _ (s : State) (p va : ℕ) (write : Bool) (fault : PageFault) (at : IsFau
       entry = served.entry;
     }
 
-    here : (bytes : List ℕ) → FaultServed s.hardware.spaces s.hardware.memory s.checkpoint fault.pcid fault.page fault.place fault.write bytes spaces' memory' → ServedWith bytes
+    here : (bytes : List ℕ) → FaultServed s.hardware.spaces s.hardware.memory s.checkpoint fault.pcid fault.page
+        fault.place fault.write bytes spaces' memory' → ServedWith bytes
     unfolding ServedWith
     here bytes served =
-        subst (λ w. FaultServed s.hardware.spaces s.hardware.memory s.checkpoint (current s.hardware.shootdown p) (va / 4096) fault.place w bytes spaces' memory') at.stores
-        (subst (λ n. FaultServed s.hardware.spaces s.hardware.memory s.checkpoint (current s.hardware.shootdown p) n fault.place fault.write bytes spaces' memory') at.page
-        (subst (λ n. FaultServed s.hardware.spaces s.hardware.memory s.checkpoint n fault.page fault.place fault.write bytes spaces' memory') at.pcid served))
+        subst (λ w. FaultServed s.hardware.spaces s.hardware.memory s.checkpoint (current s.hardware.shootdown p)
+        (va / 4096) fault.place w bytes spaces' memory') at.stores
+        (subst (λ n. FaultServed s.hardware.spaces s.hardware.memory s.checkpoint
+        (current s.hardware.shootdown p) n fault.place fault.write bytes spaces' memory') at.page
+        (subst (λ n. FaultServed s.hardware.spaces s.hardware.memory s.checkpoint n fault.page fault.place fault.write
+        bytes spaces' memory') at.pcid served))
 
     new : State
     new = with_hardware s (record s.hardware { spaces = spaces'; memory = memory' })
 
-    fixed : refusal_of s.hardware.memory s.checkpoint fault ≡ None → (d : List ℕ) → ServedWith (page_from s d (page_at fault.place)) → Answers s d p (acts.Fix va write) replies.Fixed new
+    fixed : refusal_of s.hardware.memory s.checkpoint fault ≡ None → (d : List ℕ)
+        → ServedWith (page_from s d (page_at fault.place)) → Answers s d p (acts.Fix va write) replies.Fixed new
     unfolding ServedWith new
     fixed allowed d served = (
       same_refusal ∙ allowed,
-      record { place = fault.place; leads = at.leads; spaces = spaces'; memory = memory'; served = served; done = refl },
+      record {
+        place = fault.place;
+        leads = at.leads;
+        spaces = spaces';
+        memory = memory';
+        served = served;
+        done = refl;
+      },
     )
 
-    pub served_fix : (honest : Type 0) (disk disk' : List ℕ) → (honest → disk' ≡ disk) → FixDone honest disk s.hardware.spaces s.hardware.memory s.checkpoint fault spaces' memory'
-        → AnswersBy honest (λ d d'. Answers s d p (acts.Fix va write) replies.Fixed (with_hardware s (record s.hardware { spaces = spaces'; memory = memory' })) × (d' ≡ d)) disk disk'
+    pub served_fix : (honest : Type 0) (disk disk' : List ℕ) → (honest → disk' ≡ disk)
+        → FixDone honest disk s.hardware.spaces s.hardware.memory s.checkpoint fault spaces' memory'
+        → AnswersBy honest (λ d d'. Answers s d p (acts.Fix va write) replies.Fixed
+        (with_hardware s (record s.hardware { spaces = spaces'; memory = memory' })) × (d' ≡ d)) disk disk'
     unfolding ServedWith new home
     served_fix honest disk disk' same done = by (is_in_memory s.hardware.memory (page_at fault.place)) refl
       where
@@ -173,15 +221,33 @@ module _ (s : State) (p va : ℕ) (write : Bool) (fault : PageFault) (at : IsFau
         was = here done.bytes done.served
 
         by : (b : Bool) → is_in_memory s.hardware.memory (page_at fault.place) ≡ b
-            → AnswersBy honest (λ d d'. Answers s d p (acts.Fix va write) replies.Fixed (with_hardware s (record s.hardware { spaces = spaces'; memory = memory' })) × (d' ≡ d)) disk disk'
+            → AnswersBy honest (λ d d'. Answers s d p (acts.Fix va write) replies.Fixed
+            (with_hardware s (record s.hardware { spaces = spaces'; memory = memory' })) × (d' ≡ d)) disk disk'
         by true there = record {
-          some_disk = ([], [], (fixed done.allowed [] (unread done.bytes (page_from s [] (page_at fault.place)) there was), refl));
-          own_disk = λ h. (fixed done.allowed disk (unread done.bytes (page_from s disk (page_at fault.place)) there was), same h);
+          some_disk = (
+            [],
+            [],
+            (fixed done.allowed [] (unread done.bytes (page_from s [] (page_at fault.place)) there was), refl),
+          );
+          own_disk = λ h.
+              (fixed done.allowed disk (unread done.bytes (page_from s disk (page_at fault.place)) there was), same h);
         }
         by false absent =
             let read = done.read (λ i. is_none (done.allowed i) && not (absent i)) in
             let d = with_block read.block in
             record {
-              some_disk = (d, d, (fixed done.allowed d (subst ServedWith (page_read d read.block done.bytes read.cut (block_there read.block read.whole.size)) was), refl));
-              own_disk = λ h. (fixed done.allowed disk (subst ServedWith (page_read disk read.block done.bytes read.cut (sym (read.there h ∙ ap (block_from disk) at.home))) was), same h);
+              some_disk = (
+                d,
+                d,
+                (
+                  fixed done.allowed d (subst ServedWith
+                      (page_read d read.block done.bytes read.cut (block_there read.block read.whole.size)) was),
+                  refl,
+                ),
+              );
+              own_disk = λ h. (
+                fixed done.allowed disk (subst ServedWith (page_read disk read.block done.bytes read.cut
+                    (sym (read.there h ∙ ap (block_from disk) at.home))) was),
+                same h,
+              );
             }

@@ -22,7 +22,11 @@ stepped s answer = record s {
 
 -- the same where a record was written or wasn't
 with_record : (s : State) (writes : Bool) (outs new : WriteOutsValue) → outs ≡ new
-    → record s { hardware = record s.hardware { memory = released_memory writes s.checkpoint s.hardware.memory }; checkpoint = released_pages writes s.checkpoint; write_outs = outs }
+    → record s {
+      hardware = record s.hardware { memory = released_memory writes s.checkpoint s.hardware.memory };
+      checkpoint = released_pages writes s.checkpoint;
+      write_outs = outs;
+    }
     ≡ record (cond writes (after_record s) s) { write_outs = new }
 with_record s true outs new is = ap (λ (o : WriteOutsValue). record (after_record s) { write_outs = o }) is
 with_record s false outs new is = ap (λ (o : WriteOutsValue). record s { write_outs = o }) is
@@ -36,41 +40,62 @@ nothing_torn (CopyBlock from to) = not_torn _ _ []
 nothing_torn Sync = refl
 nothing_torn Nothing = refl
 
-module _ (honest : Type 0) (s : State) (disk disk' : List ℕ) (p : ℕ) (allowed : reason_against s p acts.Flush ≡ None) (some : s.write_outs.batches ≢ []) where
+module _ (honest : Type 0) (s : State) (disk disk' : List ℕ) (p : ℕ) (allowed : reason_against s p acts.Flush ≡ None)
+    (some : s.write_outs.batches ≢ []) where
   made : (answer : Flushed) (new : State) → answer ≡ next_answer s.write_outs
-      → new ≡ record (cond (is_page_next s) (after_record s) s) { write_outs = outs_after s.write_outs (next_answer s.write_outs) }
+      → new ≡ record (cond (is_page_next s) (after_record s) s)
+      { write_outs = outs_after s.write_outs (next_answer s.write_outs) }
       → (d : List ℕ) → FlushMade s d p answer new (worked d (work_asked s))
-  made answer new is done d = record { allowed = allowed; some = some; answered = sym is; done = done; disk_done = refl }
+  made answer new is done d =
+      record { allowed = allowed; some = some; answered = sym is; done = done; disk_done = refl }
 
-  own : (answer : Flushed) (new : State) → ((d : List ℕ) → FlushMade s d p answer new (worked d (work_asked s))) → disk' ≡ worked disk (work_asked s) → FlushMade s disk p answer new disk'
+  own : (answer : Flushed) (new : State) → ((d : List ℕ) → FlushMade s d p answer new (worked d (work_asked s)))
+      → disk' ≡ worked disk (work_asked s) → FlushMade s disk p answer new disk'
   own answer new all is = subst (FlushMade s disk p answer new) (sym is) (all disk)
 
   -- by the journal's answer, which isn't that it was broken before
-  pub flushes_by : (answer : Flushed) → (answer ≡ next_answer s.write_outs) ⊎ (answer ≡ flushed.Device) → answer ≢ flushed.Broken
-      → (honest → MatchBool (has_done answer) (disk' ≡ worked disk (work_asked s)) (TornByWork (work_asked s) disk disk'))
-      → AnswersBy honest (λ d d'. Acts s d p acts.Flush (reply_by (reply_of_flush answer)) (stepped s answer) d') disk disk'
+  pub flushes_by : (answer : Flushed) → (answer ≡ next_answer s.write_outs) ⊎ (answer ≡ flushed.Device)
+      → answer ≢ flushed.Broken
+      → (honest → MatchBool (has_done answer) (disk' ≡ worked disk (work_asked s))
+      (TornByWork (work_asked s) disk disk'))
+      → AnswersBy honest
+      (λ d d'. Acts s d p acts.Flush (reply_by (reply_of_flush answer)) (stepped s answer) d') disk disk'
   flushes_by flushed.Going answered whole seen =
       let is : flushed.Going ≡ next_answer s.write_outs = ⊎_elim (λ e. e) (λ e. absurd (cc)) answered in
-      let all = made flushed.Going (stepped s flushed.Going) is (with_record s (is_page_next s) _ _ (ap (outs_after s.write_outs) is)) in
-      record { some_disk = ([], worked [] (work_asked s), all []); own_disk = λ h. own flushed.Going (stepped s flushed.Going) all (seen h) }
+      let all = made flushed.Going (stepped s flushed.Going) is
+      (with_record s (is_page_next s) _ _ (ap (outs_after s.write_outs) is)) in
+      record {
+        some_disk = ([], worked [] (work_asked s), all []);
+        own_disk = λ h. own flushed.Going (stepped s flushed.Going) all (seen h);
+      }
   flushes_by (flushed.Committed mark) answered whole seen =
       let is : flushed.Committed mark ≡ next_answer s.write_outs = ⊎_elim (λ e. e) (λ e. absurd (cc)) answered in
       let new = stepped s (flushed.Committed mark) in
-      let all = made (flushed.Committed mark) new is (with_record s (is_page_next s) _ _ (ap (outs_after s.write_outs) is)) in
-      record { some_disk = ([], worked [] (work_asked s), all []); own_disk = λ h. own (flushed.Committed mark) new all (seen h) }
+      let all = made (flushed.Committed mark) new is
+      (with_record s (is_page_next s) _ _ (ap (outs_after s.write_outs) is)) in
+      record {
+        some_disk = ([], worked [] (work_asked s), all []);
+        own_disk = λ h. own (flushed.Committed mark) new all (seen h);
+      }
   flushes_by (flushed.Done mark) answered whole seen =
       let is : flushed.Done mark ≡ next_answer s.write_outs = ⊎_elim (λ e. e) (λ e. absurd (cc)) answered in
       let new = stepped s (flushed.Done mark) in
-      let all = made (flushed.Done mark) new is (with_record s (is_page_next s) _ _ (ap (outs_after s.write_outs) is)) in
-      record { some_disk = ([], worked [] (work_asked s), all []); own_disk = λ h. own (flushed.Done mark) new all (seen h) }
+      let all = made (flushed.Done mark) new is
+      (with_record s (is_page_next s) _ _ (ap (outs_after s.write_outs) is)) in
+      record {
+        some_disk = ([], worked [] (work_asked s), all []);
+        own_disk = λ h. own (flushed.Done mark) new all (seen h);
+      }
   flushes_by flushed.Device answered whole seen = record {
-    some_disk = ([], [], record { allowed = allowed; some = some; done = refl; disk_torn = nothing_torn (work_asked s) });
+    some_disk =
+        ([], [], record { allowed = allowed; some = some; done = refl; disk_torn = nothing_torn (work_asked s) });
     own_disk = λ h. record { allowed = allowed; some = some; done = refl; disk_torn = seen h };
   }
   flushes_by flushed.Broken answered whole seen = absurd (whole refl)
 
 -- what a step asks of the device and whether a call of it failed, by its reply
-pub answer_work : (s : State) (answer : Flushed) → answer ≢ flushed.Broken → step_work s acts.Flush (reply_by (reply_of_flush answer)) ≡ work_asked s
+pub answer_work : (s : State) (answer : Flushed) → answer ≢ flushed.Broken
+    → step_work s acts.Flush (reply_by (reply_of_flush answer)) ≡ work_asked s
 answer_work s flushed.Going whole = refl
 answer_work s (flushed.Committed mark) whole = refl
 answer_work s (flushed.Done mark) whole = refl
@@ -90,12 +115,15 @@ abbrev pub IsCalm : Refusal → Type 0
 IsCalm refusals.Device = ⊥
 IsCalm why = Unit {0}
 
-pub flushes_refused : (s : State) (p : ℕ) (why : Refusal) (d : List ℕ) → IsCalm why → reason_against s p acts.Flush ≡ Some why → Acts s d p acts.Flush (replies.Refused why) s d
+pub flushes_refused : (s : State) (p : ℕ) (why : Refusal) (d : List ℕ) → IsCalm why
+    → reason_against s p acts.Flush ≡ Some why → Acts s d p acts.Flush (replies.Refused why) s d
 flushes_refused s p refusals.Device d calm is = absurd calm
 flushes_refused s p why d calm is = ((is, refl), refl)
 
 -- nothing is asked of the device then
-pub flush_untouched : {D : Type 0} (disk : Ghosts D) (since_now : (device : D) (c : List ℕ) → disk.left_since device (disk.moment device) c → disk.may_leave device c) (s : State) (why : Refusal) (device : D) → IsCalm why
+pub flush_untouched : {D : Type 0} (disk : Ghosts D)
+    (since_now : (device : D) (c : List ℕ) → disk.left_since device (disk.moment device) c → disk.may_leave device c)
+    (s : State) (why : Refusal) (device : D) → IsCalm why
     → Did disk device (step_work s acts.Flush (replies.Refused why)) (not (has_failed (replies.Refused why))) device
 flush_untouched disk since_now s refusals.Device device calm = absurd calm
 flush_untouched disk since_now s why device calm = did_nothing disk device (since_now device)
@@ -106,7 +134,8 @@ calm-not_running s p why is = by (is_there s p) (is_running (state_of s p)) is
     calm_as : (known : Refusal) → IsCalm known → ◌≡◌ {A = Option Refusal} (Some known) (Some why) → IsCalm why
     calm_as known calm e = let same : known ≡ why = cc in subst IsCalm same calm
 
-    by : (there running : Bool) → cond (not there) (Some refusals.Einval) (cond running None (Some refusals.Stalled)) ≡ Some why → IsCalm why
+    by : (there running : Bool)
+        → cond (not there) (Some refusals.Einval) (cond running None (Some refusals.Stalled)) ≡ Some why → IsCalm why
     by false running e = calm_as refusals.Einval tt e
     by true false e = calm_as refusals.Stalled tt e
     by true true e = absurd (cc)

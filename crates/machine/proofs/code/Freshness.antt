@@ -14,7 +14,8 @@ use Rattle.std.specs.FinMap as maps
 
 -- a map that answers nothing is empty
 empty_map : {X : Type 0} (m : maps.FinMap nat_cmp X) → ((key : ℕ) → maps.get m key ≡ None) → m ≡ maps.empty
-empty_map m none = maps.same_map nat_cmp_total maps.nat_cmp-IsAntisymmetric m maps.empty (λ key. none key ∙ sym (maps.get-empty nat_cmp key))
+empty_map m none = maps.same_map nat_cmp_total maps.nat_cmp-IsAntisymmetric m maps.empty
+    (λ key. none key ∙ sym (maps.get-empty nat_cmp key))
 
 -- an entry stands only where a page is mapped, so that a space that maps nothing has none
 no_entry : (m : Spaces) → AreSpaces m → (page : ℕ) → maps.get (space_at m 0).entries page ≡ None
@@ -47,7 +48,8 @@ first_alone m are only = same_spaces m first_spaces (λ q. get_first q ∙ sym (
   where
     other : (q : ℕ) → eqb q 0 ≡ false → (b : Bool) → has_space m q ≡ b → b ≡ false
     other q away false is = refl
-    other q away true is = absurd (let here : q ≡ 0 = All-contains (λ pcid. pcid ≡ 0) (maps.keys m) q only (Contains-pcids m q is) in let same : eqb q 0 ≡ true = grind (arith, nat_tests) in false≢true (sym away ∙ same))
+    other q away true is = absurd (let here : q ≡ 0 = All-contains (λ pcid. pcid ≡ 0) (maps.keys m) q only
+        (Contains-pcids m q is) in let same : eqb q 0 ≡ true = grind (arith, nat_tests) in false≢true (sym away ∙ same))
 
     by : (q : ℕ) (b : Bool) → eqb q 0 ≡ b → maps.get m q ≡ cond b (Some empty_space) (maps.get nothing q)
     by q true is =
@@ -60,8 +62,10 @@ first_alone m are only = same_spaces m first_spaces (λ q. get_first q ∙ sym (
 
 pub alone_first : (m : Spaces) → m ≡ first_spaces → All (λ pcid. pcid ≡ 0) (maps.keys m)
 alone_first m is = λ k d within.
-    let there : has_space m (get_or (maps.keys m) k d) ≡ true = in_pcids m (get_or (maps.keys m) k d) (Contains-get_or (maps.keys m) k d within) in
-    let zero : eqb (get_or (maps.keys m) k d) 0 ≡ true = sym (ap (λ (x : Spaces). has_space x (get_or (maps.keys m) k d)) is ∙ has_space-first_spaces (get_or (maps.keys m) k d)) ∙ there in
+    let there : has_space m (get_or (maps.keys m) k d) ≡ true =
+    in_pcids m (get_or (maps.keys m) k d) (Contains-get_or (maps.keys m) k d within) in
+    let zero : eqb (get_or (maps.keys m) k d) 0 ≡ true = sym (ap (λ (x : Spaces).
+    has_space x (get_or (maps.keys m) k d)) is ∙ has_space-first_spaces (get_or (maps.keys m) k d)) ∙ there in
     grind (arith, nat_tests)
 
 -- ---- a machine is as it was made exactly where a look at its layers says so, since space 0 never maps anything
@@ -94,7 +98,11 @@ fresh_by_look s sound fits look =
       as_booted = λ i. record {
         table = s.table;
         lengths = s.lengths;
-        hardware = record { shootdown = look.shootdown i; spaces = spaces i; memory = record { frames = frames i; copies = copies i } };
+        hardware = record {
+          shootdown = look.shootdown i;
+          spaces = spaces i;
+          memory = record { frames = frames i; copies = copies i };
+        };
         checkpoint = checkpoint i;
         write_outs = write_outs i;
         marks = look.marks i;
@@ -103,7 +111,8 @@ fresh_by_look s sound fits look =
     }
 
 -- the shape of a machine that was just made
-shape_fresh : (table : SuperValue) (lengths : List ℕ) (shape : Shape) → 0 < shape.cpus → shape_of (fresh table lengths shape) ≡ shape
+shape_fresh : (table : SuperValue) (lengths : List ℕ) (shape : Shape) → 0 < shape.cpus
+    → shape_of (fresh table lengths shape) ≡ shape
 shape_fresh table lengths shape some =
     let sized : (n : ℕ) → length {A = Option Frame} (replicate n None) ≡ n = λ n. length-replicate n None in
     let first = get_or-replicate shape.cpus 0 (fresh_processor shape.tlb) (fresh_processor 1) some in λ i. record {
@@ -113,10 +122,12 @@ shape_fresh table lengths shape some =
       copies = sized shape.copies i;
     }
 
-look_fresh : (table : SuperValue) (lengths : List ℕ) (shape : Shape) → 0 < shape.cpus → LooksFresh (fresh table lengths shape)
+look_fresh : (table : SuperValue) (lengths : List ℕ) (shape : Shape) → 0 < shape.cpus
+    → LooksFresh (fresh table lengths shape)
 look_fresh table lengths shape some =
     let same = shape_fresh table lengths shape some in record {
-      shootdown = λ i. record { processors = replicate ((sym same i).cpus) (fresh_processor ((sym same i).tlb)); lock = None };
+      shootdown =
+          λ i. record { processors = replicate ((sym same i).cpus) (fresh_processor ((sym same i).tlb)); lock = None };
       spaces = alone_first first_spaces refl;
       memory = λ i. not (unused_replicate Frame shape.frames i) && not (unused_replicate Frame shape.copies i);
       checkpoint = ap fresh_checkpoint (sym (length-replicate shape.frames false));
@@ -128,15 +139,19 @@ look_fresh table lengths shape some =
 pub look_of_fresh : (s : State) → IsFresh s → IsShape s.table (shape_of s) × LooksFresh s
 look_of_fresh s is =
     subst (λ (t : State). IsShape t.table (shape_of t) × LooksFresh t) (sym is.as_booted) (
-      subst (λ shape. IsShape s.table shape) (sym (shape_fresh s.table s.lengths is.shape is.fits.some_processors)) is.fits,
+      subst (λ shape. IsShape s.table shape)
+          (sym (shape_fresh s.table s.lengths is.shape is.fits.some_processors)) is.fits,
       look_fresh s.table s.lengths is.shape is.fits.some_processors,
     )
 
 -- the same of a state that equals the layers', and of their shape
-pub to_fresh : (s t : State) (shape : Shape) → s ≡ t → shape ≡ shape_of s → IsSound s → IsShape s.table shape → LooksFresh s → IsFresh t
-to_fresh s t shape same is sound fits look = subst (λ (t : State). IsFresh t) same (fresh_by_look s sound (subst (λ shape. IsShape s.table shape) is fits) look)
+pub to_fresh : (s t : State) (shape : Shape) → s ≡ t → shape ≡ shape_of s → IsSound s → IsShape s.table shape
+    → LooksFresh s → IsFresh t
+to_fresh s t shape same is sound fits look =
+    subst (λ (t : State). IsFresh t) same (fresh_by_look s sound (subst (λ shape. IsShape s.table shape) is fits) look)
 
-pub from_fresh : (s t : State) (shape : Shape) → s ≡ t → shape ≡ shape_of s → IsFresh t → IsShape s.table shape × LooksFresh s
+pub from_fresh : (s t : State) (shape : Shape) → s ≡ t → shape ≡ shape_of s → IsFresh t
+    → IsShape s.table shape × LooksFresh s
 from_fresh s t shape same is fresh =
     let look = look_of_fresh s (subst (λ (t : State). IsFresh t) (sym same) fresh) in
     (subst (λ shape. IsShape s.table shape) (sym is) look.0, look.1)

@@ -10,7 +10,8 @@ drop-set_after (suc k) m n h [] is = refl
 drop-set_after (suc k) zero n h (x ∷ xs) is = absurd (omega (arith, is))
 drop-set_after (suc k) (suc m) n h (x ∷ xs) is = drop-set_after k m n h xs (omega (arith, is))
 
-pub next_home : (home_of : FilePage → ℕ) (others place home : ℕ) (homes : List ℕ) (pages : List FilePage) (other : FilePage)
+pub next_home : (home_of : FilePage → ℕ) (others place home : ℕ) (homes : List ℕ)
+    (pages : List FilePage) (other : FilePage)
     → others + length pages ≤ length homes → place < length pages → home ≡ home_of (get_or pages place other)
     → take place (drop others homes) ≡ map home_of (take place pages)
     → take (place + 1) (drop others (set homes (others + place) home)) ≡ map home_of (take (place + 1) pages)

@@ -11,29 +11,36 @@ use Rattle.std.specs.Option.{is_some}
 
 -- ---- the holder of the lock, once its change is handed out
 
-pub may_change : (s : State) (p : ℕ) (change : Change) → HandsOut s.hardware.shootdown p (Ok (Some change)) → MayChange s p change
+pub may_change : (s : State) (p : ℕ) (change : Change) → HandsOut s.hardware.shootdown p (Ok (Some change))
+    → MayChange s p change
 may_change s p change hands = record { allowed = hands.0; lock = hands.1 }
 
 -- ---- whether a page is in memory, by the search for its frame
 
-pub in_memory-found : (memory : FramesState) (owner : FilePage) (found : Option ℕ) → IfSome found (λ frame. page_of (frame_at memory frame) ≡ Some owner) → IfNone found (HasNoFrame memory owner) → is_in_memory memory owner ≡ is_some found
+pub in_memory-found : (memory : FramesState) (owner : FilePage) (found : Option ℕ)
+    → IfSome found (λ frame. page_of (frame_at memory frame) ≡ Some owner) → IfNone found (HasNoFrame memory owner)
+    → is_in_memory memory owner ≡ is_some found
 in_memory-found memory owner found some none = sym (list_any-found memory.frames owner found some none)
 
 -- ---- what the table says of a file, by its number
 
-pub pages-in_file : (files : List TableFile) (file : ℕ) → file < length files → pages_of (slice_index (map (λ (f : TableFile). f.capacity) files) file) ≡ pages_in_file files file
+pub pages-in_file : (files : List TableFile) (file : ℕ) → file < length files
+    → pages_of (slice_index (map (λ (f : TableFile). f.capacity) files) file) ≡ pages_in_file files file
 pages-in_file [] file below = absurd (omega (arith, below))
 pages-in_file (f ∷ files) zero below = refl
 pages-in_file (f ∷ files) (suc file) below =
     let before : file ≡ suc file - 1 = omega arith in
     let other : false ≡ (suc file == 0) = grind (arith, nat_tests) in
-    pages-in_file files file (omega (arith, below)) ∙ ap (pages_in_file files) before ∙ ap (λ b. cond b (pages_of f.capacity) (pages_in_file files (suc file - 1))) other
+    pages-in_file files file (omega (arith, below)) ∙ ap (pages_in_file files) before
+    ∙ ap (λ b. cond b (pages_of f.capacity) (pages_in_file files (suc file - 1))) other
 
 -- ---- one length more of a list
 
-pub taken_more : (lengths : List ℕ) (i n : ℕ) → slice_get lengths i ≡ Some n → take (i + 1) lengths ≡ take i lengths ++ n ∷ []
+pub taken_more : (lengths : List ℕ) (i n : ℕ) → slice_get lengths i ≡ Some n
+    → take (i + 1) lengths ≡ take i lengths ++ n ∷ []
 taken_more lengths i n at =
-    take_more lengths i 0 (slice_get_within lengths i n at) ∙ ap (λ k. take i lengths ++ k ∷ []) (get_or_from_slice_get lengths i n 0 at)
+    take_more lengths i 0 (slice_get_within lengths i n at)
+    ∙ ap (λ k. take i lengths ++ k ∷ []) (get_or_from_slice_get lengths i n 0 at)
 
 -- ---- what is reserved for a change that is under way stays reserved
 
@@ -41,42 +48,56 @@ same_lock : {a b : Lock} → Some a ≡ Some b → a ≡ b
 same_lock e = cc
 
 -- the lock and what is prepared are as before
-pub reserved_same : (old new : Option Lock) (was now : Option (ℕ × PageRange × Option Rights)) → new ≡ old → now ≡ was → AreReserved old was → AreReserved new now
-reserved_same old new was now lock prepared are = λ held is. subst (IsReserved held.change) (sym prepared) (are held (sym lock ∙ is))
+pub reserved_same : (old new : Option Lock) (was now : Option (ℕ × PageRange × Option Rights)) → new ≡ old → now ≡ was
+    → AreReserved old was → AreReserved new now
+reserved_same old new was now lock prepared are =
+    λ held is. subst (IsReserved held.change) (sym prepared) (are held (sym lock ∙ is))
 
 -- nothing is under way
-pub reserved_free : (lock : Option Lock) (now : Option (ℕ × PageRange × Option Rights)) → lock ≡ None → AreReserved lock now
+pub reserved_free : (lock : Option Lock) (now : Option (ℕ × PageRange × Option Rights)) → lock ≡ None
+    → AreReserved lock now
 reserved_free lock now free = λ held is. absurd (cc)
 
 -- a change began
-pub reserved_begun : (lock : Option Lock) (held : Lock) (now : Option (ℕ × PageRange × Option Rights)) → lock ≡ Some held → IsReserved held.change now → AreReserved lock now
-reserved_begun lock held now is reserved = λ other was. subst (λ (x : Lock). IsReserved x.change now) (same_lock (sym is ∙ was)) reserved
+pub reserved_begun : (lock : Option Lock) (held : Lock) (now : Option (ℕ × PageRange × Option Rights))
+    → lock ≡ Some held → IsReserved held.change now → AreReserved lock now
+reserved_begun lock held now is reserved =
+    λ other was. subst (λ (x : Lock). IsReserved x.change now) (same_lock (sym is ∙ was)) reserved
 
 -- ---- acts that leave the device and the table
 
 module _ {D Z : Type 0} {old new : Layers D Z} (device : new.device ≡ old.device) (table : new.table ≡ old.table) where
   pub quiet_same : new.shootdown.lock ≡ old.shootdown.lock → new.spaces.prepared ≡ old.spaces.prepared → IsQuiet old new
-  quiet_same lock prepared = record { same_device = device; same_table = table; still_reserved = reserved_same _ _ _ _ lock prepared }
+  quiet_same lock prepared =
+      record { same_device = device; same_table = table; still_reserved = reserved_same _ _ _ _ lock prepared }
 
-  pub quiet_begun : {held : Lock} → new.shootdown.lock ≡ Some held → IsReserved held.change new.spaces.prepared → IsQuiet old new
-  quiet_begun lock reserved = record { same_device = device; same_table = table; still_reserved = λ _. reserved_begun _ _ _ lock reserved }
+  pub quiet_begun : {held : Lock} → new.shootdown.lock ≡ Some held → IsReserved held.change new.spaces.prepared
+      → IsQuiet old new
+  quiet_begun lock reserved =
+      record { same_device = device; same_table = table; still_reserved = λ _. reserved_begun _ _ _ lock reserved }
 
 -- ---- loads, stores, fills and evictions leave the lock as it is
 
-lock-filled_by : (h : Hardware) (p page : ℕ) (entry : Option Mapped) → (filled_by h p page entry).1.shootdown.lock ≡ h.shootdown.lock
+lock-filled_by : (h : Hardware) (p page : ℕ) (entry : Option Mapped)
+    → (filled_by h p page entry).1.shootdown.lock ≡ h.shootdown.lock
 lock-filled_by h p page None = refl
 lock-filled_by h p page (Some entry) = refl
 
-pub lock-fills : (h : Hardware) (p page : ℕ) (answer : Result Bool Refusal) (new : Hardware) → Fills h p page answer new → new.shootdown.lock ≡ h.shootdown.lock
+pub lock-fills : (h : Hardware) (p page : ℕ) (answer : Result Bool Refusal) (new : Hardware) → Fills h p page answer new
+    → new.shootdown.lock ≡ h.shootdown.lock
 lock-fills h p page (Ok there) new fills =
-    ap (λ (x : Bool × Hardware). x.1.shootdown.lock) fills.1 ∙ lock-filled_by h p page (entry_at h.spaces (current h.shootdown p) page)
+    ap (λ (x : Bool × Hardware). x.1.shootdown.lock) fills.1
+    ∙ lock-filled_by h p page (entry_at h.spaces (current h.shootdown p) page)
 lock-fills h p page (Err why) new fills = ap (λ (x : Hardware). x.shootdown.lock) fills.2
 
-pub lock-evicts : (h : Hardware) (p slot : ℕ) (answer : Result Bool Refusal) (new : Hardware) → Evicts h p slot answer new → new.shootdown.lock ≡ h.shootdown.lock
+pub lock-evicts : (h : Hardware) (p slot : ℕ) (answer : Result Bool Refusal) (new : Hardware)
+    → Evicts h p slot answer new → new.shootdown.lock ≡ h.shootdown.lock
 lock-evicts h p slot (Ok there) new evicts = ap (λ (x : Hardware). x.shootdown.lock) evicts.2
 lock-evicts h p slot (Err why) new evicts = ap (λ (x : Hardware). x.shootdown.lock) evicts.2
 
 -- the answer that was given, by what it was found to be
-pub answered_so : (Answers : Bool → Hardware → Type 0) (s : State) (found answer : Bool) (new : Hardware) → found ≡ answer
-    → Answers found new → (hardware : Hardware) × Answers answer hardware × (with_hardware s new ≡ with_hardware s hardware)
+pub answered_so : (Answers : Bool → Hardware → Type 0) (s : State) (found answer : Bool) (new : Hardware)
+    → found ≡ answer
+    → Answers found new
+    → (hardware : Hardware) × Answers answer hardware × (with_hardware s new ≡ with_hardware s hardware)
 answered_so Answers s found answer new is made = (new, subst (λ b. Answers b new) is made, refl)

@@ -25,14 +25,18 @@ is_next_page s sound page =
     record { some = is.some; there = is.there; file = sound.memory.in_files held.0 (next_page s) held.1 }
 
 -- the record of a page, and any other
-pub page_record : (s : State) → is_page_next s ≡ true → next_record s ≡ cut_at_end s (next_page s) (bytes_at_mark s.hardware.memory (next_page s))
-page_record s page = cond-true (is_page_next s) (cut_at_end s (next_page s) (bytes_at_mark s.hardware.memory (next_page s))) (lengths_text s.lengths) page
+pub page_record : (s : State) → is_page_next s ≡ true
+    → next_record s ≡ cut_at_end s (next_page s) (bytes_at_mark s.hardware.memory (next_page s))
+page_record s page = cond-true (is_page_next s)
+    (cut_at_end s (next_page s) (bytes_at_mark s.hardware.memory (next_page s))) (lengths_text s.lengths) page
 
 pub other_record : (s : State) → is_page_next s ≡ false → next_record s ≡ lengths_text s.lengths
-other_record s other = cond-false (is_page_next s) (cut_at_end s (next_page s) (bytes_at_mark s.hardware.memory (next_page s))) (lengths_text s.lengths) other
+other_record s other = cond-false (is_page_next s)
+    (cut_at_end s (next_page s) (bytes_at_mark s.hardware.memory (next_page s))) (lengths_text s.lengths) other
 
 -- a page that ends before its file does is its own record
-pub whole_record : (s : State) → IsSound s → is_page_next s ≡ true → is_in_memory s.hardware.memory (next_page s) ≡ true → 4096 ≤ length_of s (next_page s).file - 4096 * (next_page s).page
+pub whole_record : (s : State) → IsSound s → is_page_next s ≡ true → is_in_memory s.hardware.memory (next_page s) ≡ true
+    → 4096 ≤ length_of s (next_page s).file - 4096 * (next_page s).page
     → bytes_at_mark s.hardware.memory (next_page s) ≡ next_record s
 whole_record s sound page there covered =
     let bytes : List ℕ = bytes_at_mark s.hardware.memory (next_page s) in
@@ -40,7 +44,8 @@ whole_record s sound page there covered =
     let size : length bytes ≡ 4096 = size_at_mark s.hardware.memory (next_page s) sound.memory.memory there in
     let all : take left bytes ≡ bytes = take_all left bytes (omega (arith, size, covered)) in
     let none : 4096 - length bytes ≡ 0 = omega (arith, size) in
-    sym (ap (padded 4096) all ∙ ap (λ k. bytes ++ zeros k) none ∙ ap (λ (z : List ℕ). bytes ++ z) zeros-nil ∙ append-nil bytes)
+    sym (ap (padded 4096) all ∙ ap (λ k. bytes ++ zeros k) none
+    ∙ ap (λ (z : List ℕ). bytes ++ z) zeros-nil ∙ append-nil bytes)
     ∙ sym (page_record s page)
 
 -- ---- marks have 32 bits
@@ -50,22 +55,28 @@ small-answer_at mark Committing small = small
 small-answer_at mark Finishing small = small
 small-answer_at mark stage small = tt
 
-small-answer_of : (w : WriteOut) (stage : Option Stage) → w.batch.mark < 2 ^ 32 → HasSmallMark (option_map_or (answer_at w.batch.mark) stage Broken)
+small-answer_of : (w : WriteOut) (stage : Option Stage) → w.batch.mark < 2 ^ 32
+    → HasSmallMark (option_map_or (answer_at w.batch.mark) stage Broken)
 small-answer_of w None small = tt
 small-answer_of w (Some stage) small = small-answer_at w.batch.mark stage small
 
-small-current : (batches : List WriteOut) → All (λ w. w.batch.mark < 2 ^ 32) batches → HasSmallMark (option_map_or answer_of (current batches) Broken)
+small-current : (batches : List WriteOut) → All (λ w. w.batch.mark < 2 ^ 32) batches
+    → HasSmallMark (option_map_or answer_of (current batches) Broken)
 small-current [] all = tt
-small-current (w ∷ newer) all = by (has_uncommitted newer) (small-current newer (λ k d within. all (suc k) d (omega (arith, within))))
+small-current (w ∷ newer) all =
+    by (has_uncommitted newer) (small-current newer (λ k d within. all (suc k) d (omega (arith, within))))
   where
-    by : (b : Bool) → HasSmallMark (option_map_or answer_of (current newer) Broken) → HasSmallMark (option_map_or answer_of (cond b (current newer) (Some w)) Broken)
+    by : (b : Bool) → HasSmallMark (option_map_or answer_of (current newer) Broken)
+        → HasSmallMark (option_map_or answer_of (cond b (current newer) (Some w)) Broken)
     by true later = later
     by false later = small-answer_of w (next_stage w) (all 0 w (omega arith))
 
 pub small-next_answer : (s : State) → IsSound s → HasSmallMark (next_answer s.write_outs)
 small-next_answer s sound =
-    by s.write_outs.broken (small-current s.write_outs.batches (λ k d within. omega (arith, (sound.write_outs.marked k d within).1, sound.write_outs.few_marks)))
+    by s.write_outs.broken (small-current s.write_outs.batches
+    (λ k d within. omega (arith, (sound.write_outs.marked k d within).1, sound.write_outs.few_marks)))
   where
-    by : (b : Bool) → HasSmallMark (option_map_or answer_of (current s.write_outs.batches) Broken) → HasSmallMark (cond b Broken (option_map_or answer_of (current s.write_outs.batches) Broken))
+    by : (b : Bool) → HasSmallMark (option_map_or answer_of (current s.write_outs.batches) Broken)
+        → HasSmallMark (cond b Broken (option_map_or answer_of (current s.write_outs.batches) Broken))
     by true small = tt
     by false small = small

@@ -6,7 +6,8 @@ use Rattle.machine.proofs.Names.{and_from, and_parts, or_left, or_right, or_part
 use Rattle.machine.proofs.Names.{length-append, length-take, take_all, take_at, length-padded, length-zeros, take-past}
 use Rattle.machine.proofs.Names.{padded, pages_of, Event, Memory, after, lengths_after, since_mark, is_touched}
 use Rattle.machine.proofs.Names.{has_resized, is_resize, is_change_of, with_event, with_length, cut_file, fold-append}
-use Rattle.machine.proofs.Names.{list_any, list_any-append, Contains, ◌⊎◌, false≢true, lt-ltb, ltb-true, le-leb, leb-true}
+use Rattle.machine.proofs.Names.{list_any, list_any-append, Contains, ◌⊎◌}
+use Rattle.machine.proofs.Names.{false≢true, lt-ltb, ltb-true, le-leb, leb-true}
 use Rattle.machine.specs.History.{SetLength, Mark, Acknowledge}
 use Rattle.std.proofs.Common.{ltb}
 use Rattle.volume_codec.specs.Text.{zeros}
@@ -36,7 +37,8 @@ length-cut n bytes few = length-padded 4096 (take n bytes) (omega (arith, few, l
 
 -- a page that ends before the cut stays
 pub cut-whole : (n : ℕ) (bytes : List ℕ) → length bytes ≡ 4096 → 4096 ≤ n → cut n bytes ≡ bytes
-cut-whole n bytes size past = ap (padded 4096) (take_all n bytes (omega (arith, size, past))) ∙ nothing_padded 4096 bytes size
+cut-whole n bytes size past =
+    ap (padded 4096) (take_all n bytes (omega (arith, size, past))) ∙ nothing_padded 4096 bytes size
 
 -- of one that begins after it nothing is left
 pub cut-none : (n : ℕ) (bytes : List ℕ) → n ≡ 0 → cut n bytes ≡ zeros 4096
@@ -60,21 +62,28 @@ cut-later a b bytes size le = elim (cases_lt b 4096) [
       let first : take b (cut a bytes) ≡ front ++ zeros (b - a) =
       sym (ap (λ k. take k (cut a bytes)) split) ∙ take-past front (zeros (4096 - length front)) a (b - a) is
       ∙ ap (λ (z : List ℕ). front ++ z) (fewer_zeros (b - a) (4096 - length front) (omega (arith, is, lt))) in
-      let size_now : length (front ++ zeros (b - a)) ≡ b = omega (arith, length-append front (zeros (b - a)), length-zeros (b - a), is, le) in
-      let rest : (b - a) + (4096 - length (front ++ zeros (b - a))) ≡ 4096 - length front = omega (arith, size_now, is, lt, le) in
+      let size_now : length (front ++ zeros (b - a)) ≡ b =
+      omega (arith, length-append front (zeros (b - a)), length-zeros (b - a), is, le) in
+      let rest : (b - a) + (4096 - length (front ++ zeros (b - a))) ≡ 4096 - length front =
+      omega (arith, size_now, is, lt, le) in
       ap (padded 4096) first ∙ append_assoc front (zeros (b - a)) (zeros (4096 - length (front ++ zeros (b - a))))
       ∙ ap (λ (z : List ℕ). front ++ z) (zeros_more (b - a) (4096 - length (front ++ zeros (b - a))) ∙ ap zeros rest)
 ]
 
 -- ---- a file that is cut
 
-pub cut_file-there : (memory : Memory) (file end f page : ℕ) → f ≡ file → cut_file memory file end f page ≡ cut (end - 4096 * page) (memory f page)
-cut_file-there memory file end f page same = cond-true (eqb f file) (cut (end - 4096 * page) (memory f page)) (memory f page) (eq-eqb f file same)
+pub cut_file-there : (memory : Memory) (file end f page : ℕ) → f ≡ file
+    → cut_file memory file end f page ≡ cut (end - 4096 * page) (memory f page)
+cut_file-there memory file end f page same =
+    cond-true (eqb f file) (cut (end - 4096 * page) (memory f page)) (memory f page) (eq-eqb f file same)
 
-pub cut_file-other : (memory : Memory) (file end f page : ℕ) → f ≢ file → cut_file memory file end f page ≡ memory f page
-cut_file-other memory file end f page other = cond-false (eqb f file) (cut (end - 4096 * page) (memory f page)) (memory f page) (ne_eqb f file other)
+pub cut_file-other : (memory : Memory) (file end f page : ℕ) → f ≢ file
+    → cut_file memory file end f page ≡ memory f page
+cut_file-other memory file end f page other =
+    cond-false (eqb f file) (cut (end - 4096 * page) (memory f page)) (memory f page) (ne_eqb f file other)
 
-pub length-cut_file : (memory : Memory) (file end f page : ℕ) → length (memory f page) ≡ 4096 → length (cut_file memory file end f page) ≡ 4096
+pub length-cut_file : (memory : Memory) (file end f page : ℕ) → length (memory f page) ≡ 4096
+    → length (cut_file memory file end f page) ≡ 4096
 length-cut_file memory file end f page size =
     cond_both (eqb f file) (cut (end - 4096 * page) (memory f page)) (memory f page) (λ (l : List ℕ). length l ≡ 4096)
     (λ e. length-cut (end - 4096 * page) (memory f page) (omega (arith, size))) (λ e. size)
@@ -88,12 +97,15 @@ module _ (history : List Event) (file from to : ℕ) where
   pub after_set_length : (memory : Memory) → after memory longer ≡ cut_file (after memory history) file (min from to)
   after_set_length memory = after-append memory history (SetLength file from to ∷ [])
 
-  pub lengths_set_length : (lengths : List ℕ) → lengths_after lengths longer ≡ set (lengths_after lengths history) file to
+  pub lengths_set_length : (lengths : List ℕ)
+      → lengths_after lengths longer ≡ set (lengths_after lengths history) file to
   lengths_set_length lengths = fold-append with_length lengths history (SetLength file from to ∷ [])
 
   -- a test of events since the last mark passes where it did, or at this one
-  any_now : (test : Event → Bool) → list_any test (since_mark longer) ≡ (list_any test (since_mark history) || (test (SetLength file from to) || false))
-  any_now test = ap (list_any test) (fold-append with_event [] history (SetLength file from to ∷ [])) ∙ list_any-append test (since_mark history) (SetLength file from to ∷ [])
+  any_now : (test : Event → Bool) → list_any test (since_mark longer)
+      ≡ (list_any test (since_mark history) || (test (SetLength file from to) || false))
+  any_now test = ap (list_any test) (fold-append with_event [] history (SetLength file from to ∷ []))
+      ∙ list_any-append test (since_mark history) (SetLength file from to ∷ [])
 
   pub resized_set_length : has_resized longer ≡ true
   resized_set_length = any_now is_resize ∙ or_right (has_resized history) true refl
@@ -109,13 +121,15 @@ module _ (history : List Event) (file from to : ℕ) where
   pub touched_still : (f page : ℕ) → is_touched history f page ≡ true → is_touched longer f page ≡ true
   touched_still f page was = touched_now f page ∙ or_left (is_touched history f page) (grows_in f page || false) was
 
-  pub touched_grown : (page : ℕ) → from < to → from / 4096 ≤ page → page < pages_of to → is_touched longer file page ≡ true
+  pub touched_grown : (page : ℕ) → from < to → from / 4096 ≤ page → page < pages_of to
+      → is_touched longer file page ≡ true
   touched_grown page grows low high =
       touched_now file page
       ∙ or_right (is_touched history file page) (grows_in file page || false)
       (or_left (grows_in file page) false
       (and_from (eqb file file && ltb from to && leb (from / 4096) page) (ltb page (pages_of to))
-      (and_from (eqb file file && ltb from to) (leb (from / 4096) page) (and_from (eqb file file) (ltb from to) (eq-eqb file file refl) (lt-ltb from to grows)) (le-leb (from / 4096) page low))
+      (and_from (eqb file file && ltb from to) (leb (from / 4096) page) (and_from (eqb file file) (ltb from to)
+      (eq-eqb file file refl) (lt-ltb from to grows)) (le-leb (from / 4096) page low))
       (lt-ltb page (pages_of to) high)))
 
   -- a page that isn't touched wasn't, and isn't of the growth
@@ -126,7 +140,8 @@ module _ (history : List Event) (file from to : ℕ) where
   pub untouched_before : (f page : ℕ) → is_touched longer f page ≡ false → WasUntouched f page
   untouched_before f page none = record {
     before = (or_parts (is_touched history f page) (grows_in f page || false) (sym (touched_now f page) ∙ none)).0;
-    apart = λ same grows low high. false≢true (sym none ∙ ap (λ k. is_touched longer k page) same ∙ touched_grown page grows low high);
+    apart = λ same grows low high.
+        false≢true (sym none ∙ ap (λ k. is_touched longer k page) same ∙ touched_grown page grows low high);
   }
 
   -- a page that is touched was, or is of the growth
@@ -136,7 +151,8 @@ module _ (history : List Event) (file from to : ℕ) where
     pub low : from / 4096 ≤ page
     pub high : page < pages_of to
 
-  pub touched_cases : (f page : ℕ) → is_touched longer f page ≡ true → (is_touched history f page ≡ true) ⊎ IsGrown f page
+  pub touched_cases : (f page : ℕ) → is_touched longer f page ≡ true
+      → (is_touched history f page ≡ true) ⊎ IsGrown f page
   touched_cases f page is = elim (cases_Bool (is_touched history f page)) [
     | inl was ↦ inl was
     | inr new ↦ elim (cases_Bool (grows_in f page)) [
@@ -144,8 +160,14 @@ module _ (history : List Event) (file from to : ℕ) where
           (let a = and_parts (eqb file f && ltb from to && leb (from / 4096) page) (ltb page (pages_of to)) here in
           let b = and_parts (eqb file f && ltb from to) (leb (from / 4096) page) a.0 in
           let c = and_parts (eqb file f) (ltb from to) b.0 in
-          inr (record { file_is = sym (eqb-true file f c.0); grows = ltb-true from to c.1; low = leb-true (from / 4096) page b.1; high = ltb-true page (pages_of to) a.1 }))
-      | inr other ↦ absurd (false≢true (sym (or_from (is_touched history f page) (grows_in f page || false) new (or_from (grows_in f page) false other refl)) ∙ sym (touched_now f page) ∙ is))
+          inr (record {
+            file_is = sym (eqb-true file f c.0);
+            grows = ltb-true from to c.1;
+            low = leb-true (from / 4096) page b.1;
+            high = ltb-true page (pages_of to) a.1;
+          }))
+      | inr other ↦ absurd (false≢true (sym (or_from (is_touched history f page) (grows_in f page || false) new
+          (or_from (grows_in f page) false other refl)) ∙ sym (touched_now f page) ∙ is))
     ]
   ]
 

@@ -29,10 +29,12 @@ contains_head x xs = (0, omega arith, refl)
 pub contains_cons : {X : Type 0} (y : X) (xs : List X) (x : X) → Contains xs x → Contains (y ∷ xs) x
 contains_cons y xs x has = (suc has.0, omega (arith, has.1), has.2)
 
-pub contains_unmapped : {X Y : Type 0} (f : X → Y) (xs : List X) (y : Y) → Contains (map f xs) y → (x : X) × Contains xs x × (f x ≡ y)
+pub contains_unmapped : {X Y : Type 0} (f : X → Y) (xs : List X) (y : Y) → Contains (map f xs) y
+    → (x : X) × Contains xs x × (f x ≡ y)
 contains_unmapped f [] y has = absurd (omega (arith, has.1))
 contains_unmapped f (x ∷ xs) y (zero, lt, is) = (x, contains_head x xs, is)
-contains_unmapped f (x ∷ xs) y (suc k, lt, is) = let r = contains_unmapped f xs y (k, omega arith, is) in (r.0, contains_cons x xs r.0 r.1, r.2)
+contains_unmapped f (x ∷ xs) y (suc k, lt, is) = let r = contains_unmapped f xs y (k, omega arith, is) in
+    (r.0, contains_cons x xs r.0 r.1, r.2)
 
 pub contains_drop : {X : Type 0} (n : ℕ) (xs : List X) (x : X) → Contains (drop n xs) x → Contains xs x
 contains_drop zero xs x has = has
@@ -45,6 +47,8 @@ pub nothing_mapped : {X Y : Type 0} (f : X → Y) (xs : List X) → map f xs ≡
 nothing_mapped f [] e = refl
 nothing_mapped f (x ∷ xs) e = cc
 
-pub flat_map-append : {X Y : Type 0} (f : X → List Y) (xs ys : List X) → flat_map f (xs ++ ys) ≡ flat_map f xs ++ flat_map f ys
+pub flat_map-append : {X Y : Type 0} (f : X → List Y) (xs ys : List X)
+    → flat_map f (xs ++ ys) ≡ flat_map f xs ++ flat_map f ys
 flat_map-append f [] ys = refl
-flat_map-append f (x ∷ xs) ys = ap (λ rest. f x ++ rest) (flat_map-append f xs ys) ∙ sym (append_assoc (f x) (flat_map f xs) (flat_map f ys))
+flat_map-append f (x ∷ xs) ys =
+    ap (λ rest. f x ++ rest) (flat_map-append f xs ys) ∙ sym (append_assoc (f x) (flat_map f xs) (flat_map f ys))

@@ -19,7 +19,8 @@ use Rattle.machine.proofs.durable.Lists.{some_same}
 -- ---- what a crash may leave reads back
 
 -- what may be left within a step recovers to Old or to New
-pub left_either : (v : SuperValue) (old new : ℕ → List ℕ) (o : Option Stage) (c : List ℕ) → LeftWithin v old new o c → Recovers v old c ⊎ Recovers v new c
+pub left_either : (v : SuperValue) (old new : ℕ → List ℕ) (o : Option Stage) (c : List ℕ) → LeftWithin v old new o c
+    → Recovers v old c ⊎ Recovers v new c
 left_either v old new (Some (Recording i)) c left = inl left
 left_either v old new (Some Describing) c left = inl left
 left_either v old new (Some SyncingRecords) c left = inl left
@@ -28,35 +29,60 @@ left_either v old new (Some Committing) c left = left
 left_either v old new o c left = inr left
 
 -- bytes that recover to the contents after a durable prefix read back so
-pub reads_contents : (files : List File) (history : List Event) (s : State) → IsSound s → HasFiles files history s → (contents : ℕ → List ℕ) (prefix : List Event) → AreContentsOf files history s.table contents prefix → HasAcknowledged prefix history
+pub reads_contents : (files : List File) (history : List Event) (s : State) → IsSound s → HasFiles files history s
+    → (contents : ℕ → List ℕ) (prefix : List Event) → AreContentsOf files history s.table contents prefix
+    → HasAcknowledged prefix history
     → (c : List ℕ) → Recovers s.table contents c → ReadsBack files history c
 reads_contents files history s sound has contents prefix are acknowledged c recovers = record {
   prefix = prefix;
   durable = record { rest = are.rest; begins = are.begins; marked = are.marked; acknowledged = acknowledged };
-  recovers = record { table = s.table; contents = contents; recovers = recovers; lengths = are.fits; files_are = prefix_has files s.table has.named history contents prefix are };
+  recovers = record {
+    table = s.table;
+    contents = contents;
+    recovers = recovers;
+    lengths = are.fits;
+    files_are = prefix_has files s.table has.named history contents prefix are;
+  };
 }
 
-pub reads_within : (files : List File) (told : Told) (s : State) → IsSound s → HasFiles files told.history s → (old new : ℕ → List ℕ) → IsWritten files told s old new → (c : List ℕ) → LeftWithin s.table old new (current_stage s.write_outs) c → ReadsBack files told.history c
-reads_within files told s sound has old new w c left = elim (left_either s.table old new (current_stage s.write_outs) c left) [
-  | inl is ↦ reads_contents files told.history s sound has old w.before w.old_are w.acknowledged c is
-  | inr is ↦ reads_contents files told.history s sound has new w.marked w.new_are w.grown c is
-]
+pub reads_within : (files : List File) (told : Told) (s : State) → IsSound s → HasFiles files told.history s
+    → (old new : ℕ → List ℕ) → IsWritten files told s old new → (c : List ℕ)
+    → LeftWithin s.table old new (current_stage s.write_outs) c → ReadsBack files told.history c
+reads_within files told s sound has old new w c left =
+    elim (left_either s.table old new (current_stage s.write_outs) c left) [
+      | inl is ↦ reads_contents files told.history s sound has old w.before w.old_are w.acknowledged c is
+      | inr is ↦ reads_contents files told.history s sound has new w.marked w.new_are w.grown c is
+    ]
 
 -- what a crash may leave now
-pub reads_now : (files : List File) (told : Told) (s : State) (seen : List ℕ) (may : List ℕ → Type 0) → IsSound s → HasFiles files told.history s → IsDurable files told s seen may → (c : List ℕ) → may c → ReadsBack files told.history c
-reads_now files told s seen may sound has is c left = reads_within files told s sound has is.old is.new is.written c (stands_left s.table is.old is.new s.write_outs seen may is.stands c left)
+pub reads_now : (files : List File) (told : Told) (s : State) (seen : List ℕ) (may : List ℕ → Type 0) → IsSound s
+    → HasFiles files told.history s → IsDurable files told s seen may → (c : List ℕ) → may c
+    → ReadsBack files told.history c
+reads_now files told s seen may sound has is c left = reads_within files told s sound has is.old is.new is.written c
+    (stands_left s.table is.old is.new s.write_outs seen may is.stands c left)
 
 -- ---- what a crash leaves by the write-out whose step comes next
 
-module _ (files : List File) (told : Told) (s : State) (sound : IsSound s) (has : HasFiles files told.history s) (old new : ℕ → List ℕ) (w : IsWritten files told s old new) (ordered : AreInOrder s.write_outs.batches) (c : List ℕ) where
-  recovers_to : (contents : ℕ → List ℕ) (prefix : List Event) → AreContentsOf files told.history s.table contents prefix → Recovers s.table contents c → RecoversTo c (files_after files prefix)
-  recovers_to contents prefix are recovers = record { table = s.table; contents = contents; recovers = recovers; lengths = are.fits; files_are = prefix_has files s.table has.named told.history contents prefix are }
+module _ (files : List File) (told : Told) (s : State) (sound : IsSound s) (has : HasFiles files told.history s)
+    (old new : ℕ → List ℕ) (w : IsWritten files told s old new)
+    (ordered : AreInOrder s.write_outs.batches) (c : List ℕ) where
+  recovers_to : (contents : ℕ → List ℕ) (prefix : List Event) → AreContentsOf files told.history s.table contents prefix
+      → Recovers s.table contents c → RecoversTo c (files_after files prefix)
+  recovers_to contents prefix are recovers = record {
+    table = s.table;
+    contents = contents;
+    recovers = recovers;
+    lengths = are.fits;
+    files_are = prefix_has files s.table has.named told.history contents prefix are;
+  }
 
   -- where no batch waits, New is the files at the last acknowledged mark
-  settled : ((n : ℕ) → IsWaiting s.write_outs.batches n → ⊥) → Recovers s.table new c → IsAcknowledged files told.history c
+  settled : ((n : ℕ) → IsWaiting s.write_outs.batches n → ⊥) → Recovers s.table new c
+      → IsAcknowledged files told.history c
   settled none recovers = record {
     prefix = w.marked;
-    durable = record { rest = w.new_are.rest; begins = w.new_are.begins; marked = w.new_are.marked; acknowledged = w.grown };
+    durable =
+        record { rest = w.new_are.rest; begins = w.new_are.begins; marked = w.new_are.marked; acknowledged = w.grown };
     only = λ n has. elim (w.only.in_marked n has) [ inl acked ↦ acked | inr wait ↦ absurd (none n wait) ];
     recovers = recovers_to new w.marked w.new_are recovers;
   }
@@ -69,7 +95,12 @@ module _ (files : List File) (told : Told) (s : State) (sound : IsSound s) (has 
     is_old early recovers = record {
       settled = record {
         prefix = w.before;
-        durable = record { rest = w.old_are.rest; begins = w.old_are.begins; marked = w.old_are.marked; acknowledged = w.acknowledged };
+        durable = record {
+          rest = w.old_are.rest;
+          begins = w.old_are.begins;
+          marked = w.old_are.marked;
+          acknowledged = w.acknowledged;
+        };
         only = w.only.in_before;
         recovers = recovers_to old w.before w.old_are recovers;
       };
@@ -79,11 +110,17 @@ module _ (files : List File) (told : Told) (s : State) (sound : IsSound s) (has 
     is_new : Recovers s.table new c → IsNew files told.history y.batch.mark c
     is_new recovers = record {
       prefix = w.marked;
-      durable = record { rest = w.new_are.rest; begins = w.new_are.begins; marked = w.new_are.marked; acknowledged = w.grown };
+      durable = record {
+        rest = w.new_are.rest;
+        begins = w.new_are.begins;
+        marked = w.new_are.marked;
+        acknowledged = w.grown;
+      };
       has = All-contains (λ (x : WriteOut). Contains w.marked (Mark x.batch.mark)) s.write_outs.batches y w.marks there;
       only = λ n has. elim (w.only.in_marked n has) [
         | inl acked ↦ inl acked
-        | inr wait ↦ inr (sym wait.mark ∙ ap (λ (x : WriteOut). x.batch.mark) (waiting_is_current s.write_outs.batches ordered y is wait.w wait.there wait.early))
+        | inr wait ↦ inr (sym wait.mark ∙ ap (λ (x : WriteOut). x.batch.mark)
+            (waiting_is_current s.write_outs.batches ordered y is wait.w wait.there wait.early))
       ];
       recovers = recovers_to new w.marked w.new_are recovers;
     }
@@ -91,9 +128,12 @@ module _ (files : List File) (told : Told) (s : State) (sound : IsSound s) (has 
     -- one that is done waits no more, and nor does another
     none_waits : next_stage y ≡ None → (n : ℕ) → IsWaiting s.write_outs.batches n → ⊥
     none_waits at n wait =
-        both_ways (has_committed y) (ap has_committed (sym (waiting_is_current s.write_outs.batches ordered y is wait.w wait.there wait.early)) ∙ wait.early) (ap (λ (o : Option Stage). option_map_or is_committed o true) at)
+        both_ways (has_committed y)
+        (ap has_committed (sym (waiting_is_current s.write_outs.batches ordered y is wait.w wait.there wait.early))
+        ∙ wait.early) (ap (λ (o : Option Stage). option_map_or is_committed o true) at)
 
-    before_at : (o : Option Stage) → next_stage y ≡ o → LeftBefore s.table old new o c → StopsBefore files told.history y.batch.mark o c
+    before_at : (o : Option Stage) → next_stage y ≡ o → LeftBefore s.table old new o c
+        → StopsBefore files told.history y.batch.mark o c
     before_at (Some (Recording i)) at left = is_old (committed-at y (Recording i) at) left
     before_at (Some Describing) at left = is_old (committed-at y Describing at) left
     before_at (Some SyncingRecords) at left = is_old (committed-at y SyncingRecords at) left
@@ -103,7 +143,8 @@ module _ (files : List File) (told : Told) (s : State) (sound : IsSound s) (has 
     before_at (Some stage) at left = is_new left
     before_at None at left = settled (none_waits at) left
 
-    within_at : (o : Option Stage) → next_stage y ≡ o → LeftWithin s.table old new o c → StopsWithin files told.history y.batch.mark o c
+    within_at : (o : Option Stage) → next_stage y ≡ o → LeftWithin s.table old new o c
+        → StopsWithin files told.history y.batch.mark o c
     within_at (Some (Recording i)) at left = is_old (committed-at y (Recording i) at) left
     within_at (Some Describing) at left = is_old (committed-at y Describing at) left
     within_at (Some SyncingRecords) at left = is_old (committed-at y SyncingRecords at) left
@@ -114,49 +155,64 @@ module _ (files : List File) (told : Told) (s : State) (sound : IsSound s) (has 
     within_at (Some stage) at left = is_new left
     within_at None at left = settled (none_waits at) left
 
-  before_by : (o : Option WriteOut) → current s.write_outs.batches ≡ o → LeftBefore s.table old new (option_and_then next_stage o) c
-      → StopsBefore files told.history (option_map_or (λ (x : WriteOut). x.batch.mark) o 0) (option_and_then next_stage o) c
+  before_by : (o : Option WriteOut) → current s.write_outs.batches ≡ o
+      → LeftBefore s.table old new (option_and_then next_stage o) c
+      → StopsBefore files told.history (option_map_or (λ (x : WriteOut). x.batch.mark) o 0)
+      (option_and_then next_stage o) c
   before_by None is left = settled (λ n wait. none_current s.write_outs.batches is wait.w wait.there) left
   before_by (Some y) is left = before_at y is (next_stage y) refl left
 
-  within_by : (o : Option WriteOut) → current s.write_outs.batches ≡ o → LeftWithin s.table old new (option_and_then next_stage o) c
-      → StopsWithin files told.history (option_map_or (λ (x : WriteOut). x.batch.mark) o 0) (option_and_then next_stage o) c
+  within_by : (o : Option WriteOut) → current s.write_outs.batches ≡ o
+      → LeftWithin s.table old new (option_and_then next_stage o) c
+      → StopsWithin files told.history (option_map_or (λ (x : WriteOut). x.batch.mark) o 0)
+      (option_and_then next_stage o) c
   within_by None is left = settled (λ n wait. none_current s.write_outs.batches is wait.w wait.there) left
   within_by (Some y) is left = within_at y is (next_stage y) refl left
 
-  pub stops_within : LeftWithin s.table old new (current_stage s.write_outs) c → StopsInStep files told.history s.write_outs c
+  pub stops_within : LeftWithin s.table old new (current_stage s.write_outs) c
+      → StopsInStep files told.history s.write_outs c
   stops_within left = within_by (current s.write_outs.batches) refl left
 
-  pub stops_now : MatchBool s.write_outs.broken (LeftWithin s.table old new (current_stage s.write_outs) c) (LeftBefore s.table old new (current_stage s.write_outs) c) → Stops files told.history s.write_outs c
+  pub stops_now : MatchBool s.write_outs.broken (LeftWithin s.table old new (current_stage s.write_outs) c)
+      (LeftBefore s.table old new (current_stage s.write_outs) c) → Stops files told.history s.write_outs c
   stops_now left = by s.write_outs.broken left
     where
-      by : (b : Bool) → MatchBool b (LeftWithin s.table old new (current_stage s.write_outs) c) (LeftBefore s.table old new (current_stage s.write_outs) c)
-          → MatchBool b (StopsInStep files told.history s.write_outs c) (StopsBefore files told.history (option_map_or (λ (x : WriteOut). x.batch.mark) (current s.write_outs.batches) 0) (current_stage s.write_outs) c)
+      by : (b : Bool) → MatchBool b (LeftWithin s.table old new (current_stage s.write_outs) c)
+          (LeftBefore s.table old new (current_stage s.write_outs) c)
+          → MatchBool b (StopsInStep files told.history s.write_outs c) (StopsBefore files told.history (option_map_or
+          (λ (x : WriteOut). x.batch.mark) (current s.write_outs.batches) 0) (current_stage s.write_outs) c)
       by true left = stops_within left
       by false left = before_by (current s.write_outs.batches) refl left
 
 -- what a crash now leaves of a tracked machine
-pub tracked_stops : (files : List File) (told : Told) (s : State) (seen : List ℕ) (may : List ℕ → Type 0) → IsTracked files told s seen may → (c : List ℕ) → may c → Stops files told.history s.write_outs c
-tracked_stops files told s seen may t c left = stops_now files told s t.sound t.files_are t.old t.new t.written t.stands.sound.ordered c (t.stands.left c left)
+pub tracked_stops : (files : List File) (told : Told) (s : State) (seen : List ℕ) (may : List ℕ → Type 0)
+    → IsTracked files told s seen may → (c : List ℕ) → may c → Stops files told.history s.write_outs c
+tracked_stops files told s seen may t c left =
+    stops_now files told s t.sound t.files_are t.old t.new t.written t.stands.sound.ordered c (t.stands.left c left)
 
 -- ---- frozen pages
 
-module _ (s : State) (sound : IsSound s) (owner : FilePage) (held : is_held s.hardware.memory s.checkpoint owner ≡ true) where
+module _ (s : State) (sound : IsSound s) (owner : FilePage)
+    (held : is_held s.hardware.memory s.checkpoint owner ≡ true) where
   -- no entry of a held page is writable
-  pub held_entry : (pcid page : ℕ) (entry : Mapped) → entry_at s.hardware.spaces pcid page ≡ Some entry → Holds s.hardware.memory entry.frame owner → entry.writable ≡ false
+  pub held_entry : (pcid page : ℕ) (entry : Mapped) → entry_at s.hardware.spaces pcid page ≡ Some entry
+      → Holds s.hardware.memory entry.frame owner → entry.writable ≡ false
   held_entry pcid page entry present holds =
       let is = sound.memory.backed pcid page entry present in
       let same : page_at is.place ≡ owner = some_same (page_at is.place) owner (sym is.held ∙ holds) in
       false_from_ne_true entry.writable (λ writable.
-      both_ways (is_held s.hardware.memory s.checkpoint owner) (subst (λ (o : FilePage). is_held s.hardware.memory s.checkpoint o ≡ false) same (is.thawed writable)) held)
+      both_ways (is_held s.hardware.memory s.checkpoint owner)
+      (subst (λ (o : FilePage). is_held s.hardware.memory s.checkpoint o ≡ false) same (is.thawed writable)) held)
 
   -- nor is one that a processor has cached and may still use, be it because its queue keeps it
   pub held_cached : (p : ℕ) → p < length s.hardware.shootdown.processors
-      → All (λ e. IsUsable (processor_at s.hardware.shootdown p) e → Holds s.hardware.memory e.frame owner → e.writable ≡ false) (processor_at s.hardware.shootdown p).tlb.entries
+      → All (λ e. IsUsable (processor_at s.hardware.shootdown p) e → Holds s.hardware.memory e.frame owner
+      → e.writable ≡ false) (processor_at s.hardware.shootdown p).tlb.entries
   held_cached p there k d lt usable holds =
       let agrees = sound.spaces.coheres.covered p there k d lt usable in
       let entry = agrees.0 in
-      let protected = held_entry _ _ entry agrees.1 (subst (λ frame. Holds s.hardware.memory frame owner) agrees.2.same_frame holds) in
+      let protected = held_entry _ _ entry agrees.1
+      (subst (λ frame. Holds s.hardware.memory frame owner) agrees.2.same_frame holds) in
       false_from_ne_true _ (λ writable. both_ways entry.writable protected (agrees.2.writable writable))
 
 pub frozen_protected : (s : State) → IsSound s → AreFrozenProtected s
@@ -168,7 +224,8 @@ frozen_protected s sound = record {
 -- ---- kept pages
 
 -- where each batch is committed, what may be left recovers to New
-left_new : (v : SuperValue) (old new : ℕ → List ℕ) (o : Option Stage) (c : List ℕ) → option_map_or is_committed o true ≡ true → LeftWithin v old new o c → Recovers v new c
+left_new : (v : SuperValue) (old new : ℕ → List ℕ) (o : Option Stage) (c : List ℕ)
+    → option_map_or is_committed o true ≡ true → LeftWithin v old new o c → Recovers v new c
 left_new v old new None c late left = left
 left_new v old new (Some (Recording i)) c late left = absurd (both_ways false refl late)
 left_new v old new (Some Describing) c late left = absurd (both_ways false refl late)
@@ -177,15 +234,21 @@ left_new v old new (Some Opening) c late left = absurd (both_ways false refl lat
 left_new v old new (Some Committing) c late left = absurd (both_ways false refl late)
 left_new v old new (Some stage) c late left = left
 
-module _ (files : List File) (told : Told) (s : State) (seen : List ℕ) (may : List ℕ → Type 0) (t : IsTracked files told s seen may) (p number : ℕ) (new : State) (is : MarkMade s p number new) where
+module _ (files : List File) (told : Told) (s : State) (seen : List ℕ) (may : List ℕ → Type 0)
+    (t : IsTracked files told s seen may) (p number : ℕ) (new : State) (is : MarkMade s p number new) where
   -- a page that isn't gathered at a mark has the bytes that each list that a crash may leave recovers to
-  pub kept_page : (owner : FilePage) → IsInFile s owner → (Contains is.pages owner → ⊥) → (c : List ℕ) → may c → HasPart s owner (after (memory_of files) told.history owner.file owner.page) c
+  pub kept_page : (owner : FilePage) → IsInFile s owner → (Contains is.pages owner → ⊥) → (c : List ℕ) → may c
+      → HasPart s owner (after (memory_of files) told.history owner.file owner.page) c
   kept_page owner in_file other c left =
-      let none = committed files told s p number seen may t.old t.new t.sound t.files_are t.latest t.touched t.stands t.written is.next is.may.lock in
+      let none = committed files told s p number seen may t.old t.new t.sound t.files_are t.latest t.touched t.stands
+      t.written is.next is.may.lock in
       let untouched : is_touched told.history owner.file owner.page ≡ false =
-      false_from_ne_true (is_touched told.history owner.file owner.page) (λ stored. other ((is.gathered.gathered.dirty owner).1 ((t.touched.each owner).0 (in_file, stored)))) in
+      false_from_ne_true (is_touched told.history owner.file owner.page)
+      (λ stored. other ((is.gathered.gathered.dirty owner).1 ((t.touched.each owner).0 (in_file, stored)))) in
       record {
         contents = t.new;
-        recovers = left_new s.table t.old t.new (current_stage s.write_outs) c (stage_committed s.write_outs.batches none) (stands_left s.table t.old t.new s.write_outs seen may t.stands c left);
-        same = clean files told s p number seen may t.old t.new t.sound t.files_are t.latest t.touched t.stands t.written is.next is.may.lock owner in_file untouched;
+        recovers = left_new s.table t.old t.new (current_stage s.write_outs) c (stage_committed s.write_outs.batches
+            none) (stands_left s.table t.old t.new s.write_outs seen may t.stands c left);
+        same = clean files told s p number seen may t.old t.new t.sound t.files_are t.latest t.touched t.stands
+            t.written is.next is.may.lock owner in_file untouched;
       }

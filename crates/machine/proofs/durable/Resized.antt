@@ -3,7 +3,8 @@ use Rattle.machine.proofs.Names.{◌≡◌, ◌≢◌, ℕ, ◌-◌, ◌*◌, �
 use Rattle.machine.proofs.Names.{sym, ap, ◌∙◌, subst, inl, inr, arith, min, cases_eq, cases_lt}
 use Rattle.machine.proofs.Names.{both_ways, false≢true, length-take, take_all, take-take, Contains}
 use Rattle.machine.proofs.Names.{Contains-append_cases, FilePage, File, block_at}
-use Rattle.machine.proofs.Names.{Event, Memory, Mark, Acknowledge, memory_of, after, is_touched, cut_file, State, length_of}
+use Rattle.machine.proofs.Names.{Event, Memory, Mark, Acknowledge, memory_of}
+use Rattle.machine.proofs.Names.{after, is_touched, cut_file, State, length_of}
 use Rattle.machine.proofs.Names.{home_of, ResizeMade, IsInFile, within_file, Told, IsSound, IsLost, AreContentsOf}
 use Rattle.machine.proofs.Names.{HasAcknowledged, IsWritten, WriteOut}
 use Rattle.machine.specs.History.{SetLength}
@@ -20,7 +21,8 @@ use Rattle.machine.proofs.track.Pages.{HasPages}
 take_fewer : (m n : ℕ) (xs ys : List ℕ) → m ≤ n → take n xs ≡ take n ys → take m xs ≡ take m ys
 take_fewer m n xs ys le same = sym (take-take m n xs le) ∙ ap (take m) same ∙ take-take m n ys le
 
-module _ (files : List File) (told : Told) (s : State) (p : ℕ) (disk : List ℕ) (may : List ℕ → Type 0) (new : State) (made : ResizeMade s p new)
+module _ (files : List File) (told : Told) (s : State) (p : ℕ) (disk : List ℕ) (may : List ℕ → Type 0) (new : State)
+    (made : ResizeMade s p new)
     (sound : IsSound s) (has : HasPages files told s) (d : IsDurable files told s disk may) where
   abbrev from : ℕ
   from = length_of s made.file
@@ -55,7 +57,8 @@ module _ (files : List File) (told : Told) (s : State) (p : ℕ) (disk : List �
 
   -- ---- prefixes
 
-  contents_longer : (contents : ℕ → List ℕ) (prefix : List Event) → AreContentsOf files told.history s.table contents prefix → AreContentsOf files longer s.table contents prefix
+  contents_longer : (contents : ℕ → List ℕ) (prefix : List Event)
+      → AreContentsOf files told.history s.table contents prefix → AreContentsOf files longer s.table contents prefix
   contents_longer contents prefix are = record {
     rest = are.rest ++ events;
     begins = begins_more prefix are.rest told.history events are.begins;
@@ -67,7 +70,8 @@ module _ (files : List File) (told : Told) (s : State) (p : ℕ) (disk : List �
   }
 
   acknowledged_longer : (prefix : List Event) → HasAcknowledged prefix told.history → HasAcknowledged prefix longer
-  acknowledged_longer prefix acks = acknowledged_more prefix told.history events (λ n there. absurd (no_acknowledgement n there)) acks
+  acknowledged_longer prefix acks =
+      acknowledged_more prefix told.history events (λ n there. absurd (no_acknowledgement n there)) acks
 
   -- ---- pages that aren't touched
 
@@ -75,36 +79,45 @@ module _ (files : List File) (told : Told) (s : State) (p : ℕ) (disk : List �
   short_home : (owner : FilePage) → IsInFile s owner → length (d.new (home_of s.table owner)) ≤ 4096
   short_home owner is =
       let home = home_of s.table owner in
-      let read : block_at disk home ≡ d.new home = d.stands.reads (resizable s p new made sound).whole home (home_is s sound owner is) (λ block.
-      contains_none block.0 (subst (λ (l : List WriteOut). Contains l block.0) (resizable s p new made sound).done block.1)) in
+      let read : block_at disk home ≡ d.new home =
+      d.stands.reads (resizable s p new made sound).whole home (home_is s sound owner is) (λ block.
+      contains_none block.0
+      (subst (λ (l : List WriteOut). Contains l block.0) (resizable s p new made sound).done block.1)) in
       omega (arith, ap length (sym read), length-take 4096 (drop (4096 * home) disk))
 
   -- it has the page's part, where the page was in its file and wasn't touched
-  clean_then : (owner : FilePage) → IsInFile s owner → is_touched told.history owner.file owner.page ≡ false → within_file s owner (d.new (home_of s.table owner)) ≡ within_file s owner (before owner.file owner.page)
-  clean_then owner is untouched = elim w.clean [ inl lost ↦ absurd (none_lost lost) | inr clean ↦ clean owner is untouched ]
+  clean_then : (owner : FilePage) → IsInFile s owner → is_touched told.history owner.file owner.page ≡ false
+      → within_file s owner (d.new (home_of s.table owner)) ≡ within_file s owner (before owner.file owner.page)
+  clean_then owner is untouched =
+      elim w.clean [ inl lost ↦ absurd (none_lost lost) | inr clean ↦ clean owner is untouched ]
 
   abbrev bytes_after : FilePage → List ℕ
   bytes_after owner = after (memory_of files) longer owner.file owner.page
 
   bytes_are : (owner : FilePage) → bytes_after owner ≡ cut_file before made.file low owner.file owner.page
-  bytes_are owner = ap (λ (m : Memory). m owner.file owner.page) (cuts.after_set_length told.history made.file from made.to (memory_of files))
+  bytes_are owner = ap (λ (m : Memory). m owner.file owner.page)
+      (cuts.after_set_length told.history made.file from made.to (memory_of files))
 
   -- a part of these bytes and those, for so many
   abbrev Agree : FilePage → ℕ → List ℕ → Type 0
   Agree owner n bytes = take n (d.new (home_of s.table owner)) ≡ take n bytes
 
   -- a page of another file
-  clean_elsewhere : (owner : FilePage) → owner.file ≢ made.file → IsInFile x owner → is_touched told.history owner.file owner.page ≡ false
+  clean_elsewhere : (owner : FilePage) → owner.file ≢ made.file → IsInFile x owner
+      → is_touched told.history owner.file owner.page ≡ false
       → within_file x owner (d.new (home_of s.table owner)) ≡ within_file x owner (bytes_after owner)
   clean_elsewhere owner other is untouched =
       let long = length_elsewhere s p new made sound owner.file other in
       let inside : IsInFile s owner = record { there = is.there; inside = omega (arith, is.inside, long) } in
-      let same : bytes_after owner ≡ before owner.file owner.page = bytes_are owner ∙ cut_file-other before made.file low owner.file owner.page other in
+      let same : bytes_after owner ≡ before owner.file owner.page =
+      bytes_are owner ∙ cut_file-other before made.file low owner.file owner.page other in
       subst (Agree owner (length_of x owner.file - 4096 * owner.page)) (sym same)
-      (subst (λ n. Agree owner (n - 4096 * owner.page) (before owner.file owner.page)) (sym long) (clean_then owner inside untouched))
+      (subst (λ n. Agree owner (n - 4096 * owner.page) (before owner.file owner.page)) (sym long)
+      (clean_then owner inside untouched))
 
   -- a page of this file: it was inside, and a growth doesn't have it
-  module _ (owner : FilePage) (same : owner.file ≡ made.file) (is : IsInFile x owner) (u : cuts.WasUntouched told.history made.file from made.to owner.file owner.page) where
+  module _ (owner : FilePage) (same : owner.file ≡ made.file) (is : IsInFile x owner)
+      (u : cuts.WasUntouched told.history made.file from made.to owner.file owner.page) where
     abbrev page : ℕ
     page = owner.page
 
@@ -130,7 +143,8 @@ module _ (files : List File) (told : Told) (s : State) (p : ℕ) (disk : List �
     ]
 
     agree_then : Agree owner (from - 4096 * page) bytes
-    agree_then = subst (λ n. Agree owner (n - 4096 * page) bytes) long_then (clean_then owner (record { there = is.there; inside = omega (arith, inside_then, long_then) }) u.before)
+    agree_then = subst (λ n. Agree owner (n - 4096 * page) bytes) long_then
+        (clean_then owner (record { there = is.there; inside = omega (arith, inside_then, long_then) }) u.before)
 
     cut_is : bytes_after owner ≡ cut (low - 4096 * page) bytes
     cut_is = bytes_are owner ∙ cut_file-there before made.file low owner.file owner.page same
@@ -139,17 +153,21 @@ module _ (files : List File) (told : Told) (s : State) (p : ℕ) (disk : List �
     shorter : made.to ≤ from → Agree owner (made.to - 4096 * page) (bytes_after owner)
     shorter le =
         let end : low - 4096 * page ≡ made.to - 4096 * page = omega (arith, le) in
-        take_fewer (made.to - 4096 * page) (from - 4096 * page) (d.new (home_of s.table owner)) bytes (omega (arith, le)) agree_then
-        ∙ sym (ap (take (made.to - 4096 * page)) (cut_is ∙ ap (λ n. cut n bytes) end) ∙ take-cut (made.to - 4096 * page) bytes size)
+        take_fewer (made.to - 4096 * page) (from - 4096 * page) (d.new (home_of s.table owner)) bytes
+        (omega (arith, le)) agree_then
+        ∙ sym (ap (take (made.to - 4096 * page)) (cut_is ∙ ap (λ n. cut n bytes) end)
+        ∙ take-cut (made.to - 4096 * page) bytes size)
 
     -- it becomes longer: the page was whole
     longer_than : from < made.to → Agree owner (made.to - 4096 * page) (bytes_after owner)
     longer_than lt =
-        let earlier : page < from / 4096 = elim (cases_lt page (from / 4096)) [ inl low ↦ low | inr le ↦ absurd (u.apart same lt le (omega (arith, inside_now))) ] in
+        let earlier : page < from / 4096 = elim (cases_lt page (from / 4096))
+        [ inl low ↦ low | inr le ↦ absurd (u.apart same lt le (omega (arith, inside_now))) ] in
         let past : 4096 ≤ from - 4096 * page = omega (arith, earlier) in
         let few = short_home owner (record { there = is.there; inside = omega (arith, inside_then, long_then) }) in
         let equal : d.new (home_of s.table owner) ≡ bytes =
-        sym (take_all (from - 4096 * page) (d.new (home_of s.table owner)) (omega (arith, few, past))) ∙ agree_then ∙ take_all (from - 4096 * page) bytes (omega (arith, size, past)) in
+        sym (take_all (from - 4096 * page) (d.new (home_of s.table owner)) (omega (arith, few, past))) ∙ agree_then
+        ∙ take_all (from - 4096 * page) bytes (omega (arith, size, past)) in
         let end : 4096 ≤ low - 4096 * page = omega (arith, past, lt) in
         ap (take (made.to - 4096 * page)) (equal ∙ sym (cut_is ∙ cut-whole (low - 4096 * page) bytes size end))
 
@@ -157,7 +175,8 @@ module _ (files : List File) (told : Told) (s : State) (p : ℕ) (disk : List �
     clean_here = subst (λ n. Agree owner (n - 4096 * page) (bytes_after owner)) (sym long_now)
         (elim (cases_lt from made.to) [ inl lt ↦ longer_than lt | inr le ↦ shorter le ])
 
-  clean_now : (owner : FilePage) → IsInFile x owner → is_touched longer owner.file owner.page ≡ false → within_file x owner (d.new (home_of s.table owner)) ≡ within_file x owner (bytes_after owner)
+  clean_now : (owner : FilePage) → IsInFile x owner → is_touched longer owner.file owner.page ≡ false
+      → within_file x owner (d.new (home_of s.table owner)) ≡ within_file x owner (bytes_after owner)
   clean_now owner is untouched =
       let u = cuts.untouched_before told.history made.file from made.to owner.file owner.page untouched in
       elim (cases_eq owner.file made.file) [
@@ -177,12 +196,15 @@ module _ (files : List File) (told : Told) (s : State) (p : ℕ) (disk : List �
     grown = acknowledged_longer w.marked w.grown;
     marks = w.marks;
     fresh = w.fresh;
-    only = marks_more w.before w.marked told.history events s x no_mark (λ n wait. inr wait) (λ lost. absurd (none_lost lost)) w.only;
-    numbered = λ n there. elim (Contains-append_cases told.history events (Mark n) there) [ inl was ↦ w.numbered n was | inr this ↦ absurd (no_mark n this) ];
+    only = marks_more w.before w.marked told.history events s x no_mark (λ n wait. inr wait)
+        (λ lost. absurd (none_lost lost)) w.only;
+    numbered = λ n there. elim (Contains-append_cases told.history events (Mark n) there)
+        [ inl was ↦ w.numbered n was | inr this ↦ absurd (no_mark n this) ];
     ready = λ broken held. absurd (both_ways s.write_outs.broken (resizable s p new made sound).whole broken);
     clean = inr clean_now;
     same_lengths = λ none. absurd (false≢true (sym none));
-    frozen = λ k e within. absurd (omega (arith, within, ap length (made.pages.frozen ∙ none_frozen_then s p new made sound)));
+    frozen = λ k e within. absurd
+        (omega (arith, within, ap length (made.pages.frozen ∙ none_frozen_then s p new made sound)));
   }
 
   durable_longer : (now : Told) → now.history ≡ longer → IsDurable files now x disk may
@@ -193,7 +215,10 @@ module _ (files : List File) (told : Told) (s : State) (p : ℕ) (disk : List �
     written = written_as files (record told { history = longer }) now x d.old d.new history written_longer;
   }
 
-pub resized_durable : (files : List File) (told now : Told) (s : State) (p : ℕ) (disk : List ℕ) (may : List ℕ → Type 0) (new : State) → (made : ResizeMade s p new)
-    → now.history ≡ told.history ++ SetLength made.file (length_of s made.file) made.to ∷ [] → IsSound s → HasPages files told s → IsDurable files told s disk may → IsDurable files now new disk may
+pub resized_durable : (files : List File) (told now : Told) (s : State) (p : ℕ) (disk : List ℕ) (may : List ℕ → Type 0)
+    (new : State) → (made : ResizeMade s p new)
+    → now.history ≡ told.history ++ SetLength made.file (length_of s made.file) made.to ∷ [] → IsSound s
+    → HasPages files told s → IsDurable files told s disk may → IsDurable files now new disk may
 resized_durable files told now s p disk may new made history sound has d =
-    subst (λ (y : State). IsDurable files now y disk may) (sym made.done) (durable_longer files told s p disk may new made sound has d now history)
+    subst (λ (y : State). IsDurable files now y disk may) (sym made.done)
+    (durable_longer files told s p disk may new made sound has d now history)

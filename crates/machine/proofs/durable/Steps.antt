@@ -6,10 +6,12 @@ use Rattle.machine.proofs.Names.{SuperValue, geometry_of, AreHomes, without_note
 use Rattle.machine.proofs.Names.{TornFromWork, WriteOut, begun_of, WriteOutsValue, current_stage, next_answer}
 use Rattle.machine.proofs.Names.{next_batch, begun, outs_record, outs_after, LeftWithin, IsStanding, IsTied}
 use Rattle.machine.proofs.Names.{stands_left, Act, Reply, Step, Event, Memory, Acknowledge, memory_of, has_unmarked}
-use Rattle.machine.proofs.Names.{State, Whole, home_of, end_change, FlushMade, HasStepped, FlushFailed, MarkMade, with_batch}
+use Rattle.machine.proofs.Names.{State, Whole, home_of, end_change, FlushMade}
+use Rattle.machine.proofs.Names.{HasStepped, FlushFailed, MarkMade, with_batch}
 use Rattle.machine.proofs.Names.{work_asked, reply_to, after_record, after_failure, Told, tell, ended_by, ReadsBack}
 use Rattle.machine.proofs.Names.{StepIsSafe, StopsInStep, step_work, StepMade, StepTaken, IsSound, IsArranged}
-use Rattle.machine.proofs.Names.{lengths_of, mark_homes, is_page_next, IsTracked, said_all, IsMoved, Performed, Moved, Marked, Failed}
+use Rattle.machine.proofs.Names.{lengths_of, mark_homes, is_page_next, IsTracked}
+use Rattle.machine.proofs.Names.{said_all, IsMoved, Performed, Moved, Marked, Failed}
 use Rattle.page_entry.specs.declared.refusal.Refusal.TheVariants as refusals
 use Rattle.journal.specs.declared.flushed.Flushed.TheVariants as flushed
 use Rattle.machine.specs.declared.act.Act.TheVariants as acts
@@ -19,7 +21,8 @@ use Rattle.machine.specs.History.{SetLength}
 use Rattle.machine.proofs.Names.{get_or, length_of, changed, pending_in, change_in, ResizeMade, resized_at}
 use Rattle.machine.proofs.sound.Kept.{performed_sound}
 use Rattle.machine.proofs.acts.All.{performed}
-use Rattle.machine.proofs.durable.Histories.{written_as, marked_by, after_marked, lengths_marked, resized_mark, AreQuiet, quiet_nothing, quiet_acknowledge, touched_mark, SameFiles}
+use Rattle.machine.proofs.durable.Histories.{written_as, marked_by, after_marked, lengths_marked, resized_mark}
+use Rattle.machine.proofs.durable.Histories.{AreQuiet, quiet_nothing, quiet_acknowledge, touched_mark, SameFiles}
 use Rattle.machine.proofs.durable.Marks.{IsDurable, marked_durable}
 use Rattle.machine.proofs.durable.Flushes.{flush_within, flush_failed, flush_goes_on, flush_commits}
 use Rattle.machine.proofs.durable.ReadsBack.{reads_within, reads_now, stops_within}
@@ -33,18 +36,22 @@ use Rattle.machine.proofs.track.Moved.{moves_tracked}
 
 -- ---- what a crash may leave is among what it might
 
-pub stands_less : (v : SuperValue) (outs : WriteOutsValue) (old new : ℕ → List ℕ) (seen : List ℕ) (may may' : List ℕ → Type 0) → ((c : List ℕ) → may' c → may c) → IsStanding v outs old new seen may → IsStanding v outs old new seen may'
+pub stands_less : (v : SuperValue) (outs : WriteOutsValue) (old new : ℕ → List ℕ) (seen : List ℕ)
+    (may may' : List ℕ → Type 0) → ((c : List ℕ) → may' c → may c) → IsStanding v outs old new seen may
+    → IsStanding v outs old new seen may'
 stands_less v outs old new seen may may' fewer s = record {
   geometry = s.geometry;
   left = λ c left. s.left c (fewer c left);
   reads = s.reads;
   rests = λ whole none. ((s.rests whole none).0, λ c left. (s.rests whole none).1 c (fewer c left));
   sound = s.sound;
-  tied = λ whole. (let tied = s.tied whole in let r : IsTied v outs.batches old new seen may' = record { seen_is = tied.seen_is; left_are = λ c left. tied.left_are c (fewer c left) } in r);
+  tied = λ whole. (let tied = s.tied whole in let r : IsTied v outs.batches old new seen may' =
+      record { seen_is = tied.seen_is; left_are = λ c left. tied.left_are c (fewer c left) } in r);
 }
 
 -- the history that is told counts, and what a read gives
-pub durable_as : (files : List File) (told told' : Told) (s : State) (seen seen' : List ℕ) (may : List ℕ → Type 0) → told'.history ≡ told.history → seen' ≡ seen → IsDurable files told s seen may → IsDurable files told' s seen' may
+pub durable_as : (files : List File) (told told' : Told) (s : State) (seen seen' : List ℕ) (may : List ℕ → Type 0)
+    → told'.history ≡ told.history → seen' ≡ seen → IsDurable files told s seen may → IsDurable files told' s seen' may
 durable_as files told told' s seen seen' may same same_seen is = record {
   old = is.old;
   new = is.new;
@@ -65,7 +72,8 @@ abbrev acknowledged_by : Flushed → List Event
 acknowledged_by (flushed.Committed number) = Acknowledge number ∷ []
 acknowledged_by answer = []
 
-step_told : (told : Told) (p : ℕ) (a : Flushed) → tell told (record { p = p; act = acts.Flush }) (reply_to a) ≡ record told { history = told.history ++ acknowledged_by a }
+step_told : (told : Told) (p : ℕ) (a : Flushed) → tell told (record { p = p; act = acts.Flush }) (reply_to a)
+    ≡ record told { history = told.history ++ acknowledged_by a }
 step_told told p (flushed.Committed number) = refl
 step_told told p answer = refl
 
@@ -79,15 +87,18 @@ step_quiet history (flushed.Committed number) = quiet_acknowledge history number
 step_quiet history answer = quiet_nothing history
 
 -- a step whose reply is no refusal goes on
-pub step_goes : (a : Flushed) (reply : Reply) → reply ≡ reply_to a → ((why : Refusal) → reply ≢ replies.Refused why) → GoesOn a
+pub step_goes : (a : Flushed) (reply : Reply) → reply ≡ reply_to a → ((why : Refusal) → reply ≢ replies.Refused why)
+    → GoesOn a
 step_goes flushed.Device reply is fine = absurd (fine refusals.Device is)
 step_goes flushed.Broken reply is fine = absurd (fine refusals.Broken is)
 step_goes answer reply is fine = tt
 
 -- ---- one step
 
-module _ (files : List File) (told : Told) (s : State) (disk : List ℕ) (may : List ℕ → Type 0) (t : IsTracked files told s disk may) (p : ℕ) (act : Act) (reply : Reply) (new : State) (disk' : List ℕ)
-    (sound' : IsSound new) (may' : List ℕ → Type 0) (left : (c : List ℕ) → may' c → TornFromWork (step_work s act reply) may c)
+module _ (files : List File) (told : Told) (s : State) (disk : List ℕ) (may : List ℕ → Type 0)
+    (t : IsTracked files told s disk may) (p : ℕ) (act : Act) (reply : Reply) (new : State) (disk' : List ℕ)
+    (sound' : IsSound new) (may' : List ℕ → Type 0)
+    (left : (c : List ℕ) → may' c → TornFromWork (step_work s act reply) may c)
     (sure : reply ≢ replies.Refused refusals.Device → step_work s act reply ≡ Sync → Only may' disk) where
   -- what a crash within the step leaves, where it asks for this work
   abbrev IsWithin : Work → Type 0
@@ -98,11 +109,14 @@ module _ (files : List File) (told : Told) (s : State) (disk : List ℕ) (may : 
   IsTold now = tell told (record { p = p; act = act }) reply ≡ now
 
   abbrev Outcome : Type 0
-  Outcome = IsTracked files (tell told (record { p = p; act = act }) reply) new disk' may' × IsWithin (step_work s act reply)
+  Outcome = IsTracked files (tell told (record { p = p; act = act }) reply) new disk' may'
+      × IsWithin (step_work s act reply)
 
   -- where this is told, and this work asked for
-  outcome_as : (now : Told) (work : Work) → IsTold now → step_work s act reply ≡ work → IsTracked files now new disk' may' → IsWithin work → Outcome
-  outcome_as now work told_is work_is tracked within = (subst (λ x. IsTracked files x new disk' may') (sym told_is) tracked, subst IsWithin (sym work_is) within)
+  outcome_as : (now : Told) (work : Work) → IsTold now → step_work s act reply ≡ work
+      → IsTracked files now new disk' may' → IsWithin work → Outcome
+  outcome_as now work told_is work_is tracked within =
+      (subst (λ x. IsTracked files x new disk' may') (sym told_is) tracked, subst IsWithin (sym work_is) within)
 
   left_by : (work : Work) → step_work s act reply ≡ work → (c : List ℕ) → may' c → TornFromWork work may c
   left_by work is c left_c = subst (λ (w : Work). TornFromWork w may c) is (left c left_c)
@@ -113,7 +127,8 @@ module _ (files : List File) (told : Told) (s : State) (disk : List ℕ) (may : 
   has : HasPages files told s
   has = record { files_are = t.files_are; latest = t.latest; touched = t.touched; plain = t.plain }
 
-  tracked_of : (now : Told) → IsArranged now new → HasPages files now new → IsDurable files now new disk' may' → IsTracked files now new disk' may'
+  tracked_of : (now : Told) → IsArranged now new → HasPages files now new → IsDurable files now new disk' may'
+      → IsTracked files now new disk' may'
   tracked_of now arranged pages durable = record {
     sound = sound';
     files_are = pages.files_are;
@@ -149,19 +164,25 @@ module _ (files : List File) (told : Told) (s : State) (disk : List ℕ) (may : 
   -- ---- a mark
 
   -- the home blocks of what was gathered fit a batch
-  fits : (number : ℕ) (is : MarkMade s p number new) → s.write_outs.broken ≡ false → 0 < length (mark_homes s is.pages) → AreHomes (geometry_of s.table) (mark_homes s is.pages)
+  fits : (number : ℕ) (is : MarkMade s p number new) → s.write_outs.broken ≡ false → 0 < length (mark_homes s is.pages)
+      → AreHomes (geometry_of s.table) (mark_homes s is.pages)
   fits number is whole some = by (mark_homes s is.pages) some is.done
     where
-      by : (homes : List ℕ) → 0 < length homes → new ≡ record (end_change s p is.spaces s.hardware.memory (without_notes is.noted)) { write_outs = with_batch s number homes; marks = number; resized = false } → AreHomes (geometry_of s.table) homes
+      by : (homes : List ℕ) → 0 < length homes → new ≡ record (end_change s p is.spaces s.hardware.memory
+          (without_notes is.noted)) { write_outs = with_batch s number homes; marks = number; resized = false }
+          → AreHomes (geometry_of s.table) homes
       by [] some done = absurd (omega arith)
       by (home ∷ others) some done =
           let homes : List ℕ = home ∷ others in
-          let outs : new.write_outs ≡ begun s.write_outs number homes = ap (λ (x : State). x.write_outs) done ∙ cond-false s.write_outs.broken s.write_outs (begun s.write_outs number homes) whole in
+          let outs : new.write_outs ≡ begun s.write_outs number homes = ap (λ (x : State). x.write_outs) done
+          ∙ cond-false s.write_outs.broken s.write_outs (begun s.write_outs number homes) whole in
           let table : new.table ≡ s.table = ap (λ (x : State). x.table) done in
           let there : Contains new.write_outs.batches (begun_of (next_batch s.write_outs number homes)) =
-          subst (λ (o : WriteOutsValue). Contains o.batches (begun_of (next_batch s.write_outs number homes))) (sym outs) (Contains-push s.write_outs.batches (begun_of (next_batch s.write_outs number homes))) in
+          subst (λ (o : WriteOutsValue). Contains o.batches (begun_of (next_batch s.write_outs number homes)))
+          (sym outs) (Contains-push s.write_outs.batches (begun_of (next_batch s.write_outs number homes))) in
           subst (λ (v : SuperValue). AreHomes (geometry_of v) homes) table
-          (All-contains (λ (w : WriteOut). AreHomes (geometry_of new.table) w.batch.homes) new.write_outs.batches (begun_of (next_batch s.write_outs number homes)) sound'.write_outs.homes there)
+          (All-contains (λ (w : WriteOut). AreHomes (geometry_of new.table) w.batch.homes) new.write_outs.batches
+          (begun_of (next_batch s.write_outs number homes)) sound'.write_outs.homes there)
 
   module _ (number : ℕ) (made : MarkMade s p number new) where
     abbrev marked : Told
@@ -170,35 +191,47 @@ module _ (files : List File) (told : Told) (s : State) (disk : List ℕ) (may : 
     marked_arranged : IsArranged marked new
     marked_arranged =
         let m = s.hardware.spaces in
-        let spaces = spaces_still told.spaces m made.spaces made.protected.same_spaces made.protected.same_places (spaces_of t.arranged) in
-        let ended = arranged_end told s t.arranged p told.spaces made.spaces s.hardware.memory (without_notes made.noted) made.may.allowed spaces in
-        subst (IsArranged marked) (sym made.done) (arranged_beside marked (end_change s p made.spaces s.hardware.memory (without_notes made.noted)) _ (with_history marked.history ended) refl refl refl)
+        let spaces = spaces_still told.spaces m made.spaces made.protected.same_spaces made.protected.same_places
+        (spaces_of t.arranged) in
+        let ended = arranged_end told s t.arranged p told.spaces made.spaces s.hardware.memory
+        (without_notes made.noted) made.may.allowed spaces in
+        subst (IsArranged marked) (sym made.done) (arranged_beside marked (end_change s p made.spaces s.hardware.memory
+        (without_notes made.noted)) _ (with_history marked.history ended) refl refl refl)
 
     marked_pages : HasPages files marked new
     marked_pages =
         let memory = after_marked (memory_of files) told.history number in
         subst (HasPages files marked) (sym made.done) (record {
-          files_are = files_kept files told.history marked.history s _ (record { table = refl; lengths = refl }) (lengths_marked (lengths_of files) told.history number)
+          files_are = files_kept files told.history marked.history s _ (record { table = refl; lengths = refl })
+              (lengths_marked (lengths_of files) told.history number)
               (resized_mark told.history number (has_unmarked told.history)) has.files_are;
           latest = record {
             whole = λ file page. ap (λ (m : Memory). length (m file page)) memory ∙ has.latest.whole file page;
-            latest = λ frame owner holds. has.latest.latest frame owner holds ∙ ap (λ (m : Memory). m owner.file owner.page) (sym memory);
+            latest = λ frame owner holds. has.latest.latest frame owner holds
+                ∙ ap (λ (m : Memory). m owner.file owner.page) (sym memory);
           };
           touched = record {
             each = λ owner. (
-              λ is. absurd (false≢true (sym (touched_mark told.history number (has_unmarked told.history) owner.file owner.page) ∙ is.1)),
-              λ d. absurd (clean_after_mark s.hardware.spaces made.spaces s.hardware.memory s.checkpoint made.noted (not s.write_outs.broken) made.pages d.0 made.gathered made.protected d.2),
+              λ is. absurd (false≢true
+                  (sym (touched_mark told.history number (has_unmarked told.history) owner.file owner.page) ∙ is.1)),
+              λ d. absurd (clean_after_mark s.hardware.spaces made.spaces s.hardware.memory s.checkpoint made.noted
+                  (not s.write_outs.broken) made.pages d.0 made.gathered made.protected d.2),
             );
-            inside = λ unset owner is. absurd (false≢true (sym (touched_mark told.history number (has_unmarked told.history) owner.file owner.page) ∙ is));
+            inside = λ unset owner is. absurd (false≢true
+                (sym (touched_mark told.history number (has_unmarked told.history) owner.file owner.page) ∙ is));
           };
-          plain = plain_still files told marked s _ (record { table = refl; lengths = refl }) (λ owner is gone. (ap (λ (m : Memory). m owner.file owner.page) memory, has.plain owner is gone));
+          plain = plain_still files told marked s _ (record { table = refl; lengths = refl })
+              (λ owner is gone. (ap (λ (m : Memory). m owner.file owner.page) memory, has.plain owner is gone));
         })
 
     marking : IsTold marked → step_work s act reply ≡ Nothing → disk' ≡ disk → Outcome
     marking told_is work same_disk =
         outcome_as marked Nothing told_is work (tracked_of marked marked_arranged marked_pages
-        (durable_as files (record told { history = told.history ++ marked_by told.history number }) marked new disk disk' may' refl same_disk
-        (marked_durable files told s p number disk may' t.old t.new t.sound t.files_are t.latest t.touched (stands_less s.table s.write_outs t.old t.new disk may may' (left_by Nothing work) t.stands) t.written made.next made.may.lock new made (fits number made)))) left_now
+        (durable_as files (record told { history = told.history ++ marked_by told.history number }) marked new disk
+        disk' may' refl same_disk
+        (marked_durable files told s p number disk may' t.old t.new t.sound t.files_are t.latest t.touched
+        (stands_less s.table s.write_outs t.old t.new disk may may' (left_by Nothing work) t.stands) t.written
+        made.next made.may.lock new made (fits number made)))) left_now
 
   -- ---- a change of a file's length
 
@@ -222,7 +255,8 @@ module _ (files : List File) (told : Told) (s : State) (disk : List ℕ) (may : 
         (with_history resized.history (arranged_resized told s t.arranged p new made))
         (pages_resized files told resized s p new made history_is t.sound has)
         (durable_as files resized resized new disk disk' may' refl same_disk
-        (resized_durable files told resized s p disk may' new made history_is t.sound has (record { old = t.old; new = t.new; stands = standing; written = t.written })))) left_now
+        (resized_durable files told resized s p disk may' new made history_is t.sound has
+        (record { old = t.old; new = t.new; stands = standing; written = t.written })))) left_now
 
   -- ---- a step of the write-outs
 
@@ -234,44 +268,61 @@ module _ (files : List File) (told : Told) (s : State) (disk : List ℕ) (may : 
     abbrev IsAsTold : State → Type 0
     IsAsTold x = IsArranged (with_events events) x × HasPages files (with_events events) x
 
-    beside : (x : State) → x.hardware.shootdown ≡ s.hardware.shootdown → x.hardware.spaces ≡ s.hardware.spaces → SameFiles s x → x.resized ≡ s.resized → SamePages s x → IsAsTold x
+    beside : (x : State) → x.hardware.shootdown ≡ s.hardware.shootdown → x.hardware.spaces ≡ s.hardware.spaces
+        → SameFiles s x → x.resized ≡ s.resized → SamePages s x → IsAsTold x
     beside x shootdown spaces same set pages = (
-      arranged_beside (with_events events) s x (with_history (told.history ++ events) t.arranged) shootdown spaces same.lengths,
+      arranged_beside (with_events events) s x
+          (with_history (told.history ++ events) t.arranged) shootdown spaces same.lengths,
       pages_quiet files told (with_events events) s x events refl quiet same set has pages,
     )
 
     stepped : FlushMade s disk p (next_answer s.write_outs) new disk' → IsAsTold new
     stepped made =
         subst IsAsTold (sym made.done)
-        (elim (is_page_next s) as (λ b. IsAsTold (record (cond b (after_record s) s) { write_outs = outs_after s.write_outs (next_answer s.write_outs) })) [
-          | true ↦ beside _ refl refl (record { table = refl; lengths = refl }) refl (record { frames = refl; dirty = λ frame. (λ d. d, λ d. d) })
-          | false ↦ beside _ refl refl (record { table = refl; lengths = refl }) refl (record { frames = refl; dirty = λ frame. (λ d. d, λ d. d) })
+        (elim (is_page_next s) as (λ b. IsAsTold
+        (record (cond b (after_record s) s) { write_outs = outs_after s.write_outs (next_answer s.write_outs) })) [
+          | true ↦ beside _ refl refl (record { table = refl; lengths = refl }) refl
+              (record { frames = refl; dirty = λ frame. (λ d. d, λ d. d) })
+          | false ↦ beside _ refl refl (record { table = refl; lengths = refl }) refl
+              (record { frames = refl; dirty = λ frame. (λ d. d, λ d. d) })
         ])
 
-  module _ (made : FlushMade s disk p (next_answer s.write_outs) new disk') (work : step_work s act reply ≡ work_asked s) (sure_now : work_asked s ≡ Sync → Only may' disk) where
+  module _ (made : FlushMade s disk p (next_answer s.write_outs) new disk')
+      (work : step_work s act reply ≡ work_asked s) (sure_now : work_asked s ≡ Sync → Only may' disk) where
     abbrev after_it : State
-    after_it = record (cond (is_page_next s) (after_record s) s) { write_outs = outs_after s.write_outs (next_answer s.write_outs) }
+    after_it = record (cond (is_page_next s) (after_record s) s)
+        { write_outs = outs_after s.write_outs (next_answer s.write_outs) }
 
-    landed : (events : List Event) → IsDurable files (with_events events) after_it (worked disk (work_asked s)) may' → IsDurable files (with_events events) new disk' may'
+    landed : (events : List Event) → IsDurable files (with_events events) after_it (worked disk (work_asked s)) may'
+        → IsDurable files (with_events events) new disk' may'
     landed events is =
         subst (λ (x : State). IsDurable files (with_events events) x disk' may') (sym made.done)
-        (durable_as files (with_events events) (with_events events) after_it (worked disk (work_asked s)) disk' may' refl made.disk_done is)
+        (durable_as files (with_events events) (with_events events) after_it
+        (worked disk (work_asked s)) disk' may' refl made.disk_done is)
 
-    goes_on : (next_answer s.write_outs ≡ flushed.Device → ⊥) → ((n : ℕ) → next_answer s.write_outs ≡ flushed.Committed n → ⊥) → IsDurable files (with_events []) new disk' may'
+    goes_on : (next_answer s.write_outs ≡ flushed.Device → ⊥)
+        → ((n : ℕ) → next_answer s.write_outs ≡ flushed.Committed n → ⊥)
+        → IsDurable files (with_events []) new disk' may'
     goes_on other uncommitting =
-        landed [] (flush_goes_on files told s disk may t.old t.new t.sound t.stands t.written p made.allowed made.some (is_page_next s) may' (left_by (work_asked s) work) sure_now other uncommitting)
+        landed [] (flush_goes_on files told s disk may t.old t.new t.sound t.stands t.written p made.allowed made.some
+        (is_page_next s) may' (left_by (work_asked s) work) sure_now other uncommitting)
 
-    step_durable : (a : Flushed) → next_answer s.write_outs ≡ a → GoesOn a → IsDurable files (with_events (acknowledged_by a)) new disk' may'
-    step_durable flushed.Going is goes = goes_on (λ d. let never : flushed.Going ≡ flushed.Device = sym is ∙ d in cc) (λ n c. let never : flushed.Going ≡ flushed.Committed n = sym is ∙ c in cc)
+    step_durable : (a : Flushed) → next_answer s.write_outs ≡ a → GoesOn a
+        → IsDurable files (with_events (acknowledged_by a)) new disk' may'
+    step_durable flushed.Going is goes = goes_on (λ d. let never : flushed.Going ≡ flushed.Device = sym is ∙ d in cc)
+        (λ n c. let never : flushed.Going ≡ flushed.Committed n = sym is ∙ c in cc)
     step_durable (flushed.Committed number) is goes =
         landed (Acknowledge number ∷ [])
-        (flush_commits files told s disk may t.old t.new t.sound t.stands t.written p made.allowed made.some (is_page_next s) may' (left_by (work_asked s) work) sure_now number is)
+        (flush_commits files told s disk may t.old t.new t.sound t.stands t.written p made.allowed made.some
+        (is_page_next s) may' (left_by (work_asked s) work) sure_now number is)
     step_durable (flushed.Done number) is goes =
-        goes_on (λ d. let never : flushed.Done number ≡ flushed.Device = sym is ∙ d in cc) (λ n c. let never : flushed.Done number ≡ flushed.Committed n = sym is ∙ c in cc)
+        goes_on (λ d. let never : flushed.Done number ≡ flushed.Device = sym is ∙ d in cc)
+        (λ n c. let never : flushed.Done number ≡ flushed.Committed n = sym is ∙ c in cc)
     step_durable flushed.Device is goes = absurd goes
     step_durable flushed.Broken is goes = absurd goes
 
-  stepping : act ≡ acts.Flush → HasStepped s disk p reply new disk' → ((why : Refusal) → reply ≢ replies.Refused why) → Outcome
+  stepping : act ≡ acts.Flush → HasStepped s disk p reply new disk' → ((why : Refusal) → reply ≢ replies.Refused why)
+      → Outcome
   stepping act_is by fine =
       let a = next_answer s.write_outs in
       let goes = step_goes a reply by.answered fine in
@@ -279,16 +330,20 @@ module _ (files : List File) (told : Told) (s : State) (disk : List ℕ) (may : 
       let work = (λ i. step_work s (act_is i) (by.answered i)) ∙ step_asks s a goes in
       let as_told = stepped (acknowledged_by a) (step_quiet told.history a) by.made in
       outcome_as (with_events (acknowledged_by a)) (work_asked s) told_is work
-      (tracked_of (with_events (acknowledged_by a)) as_told.0 as_told.1 (step_durable by.made work (λ sync. sure (fine refusals.Device) (work ∙ sync)) a refl goes))
+      (tracked_of (with_events (acknowledged_by a)) as_told.0 as_told.1
+      (step_durable by.made work (λ sync. sure (fine refusals.Device) (work ∙ sync)) a refl goes))
       (flush_within files told s disk may t.old t.new t.sound t.stands t.written p by.made.allowed by.made.some)
 
   failing : act ≡ acts.Flush → reply ≡ replies.Refused refusals.Device → FlushFailed s disk p new disk' → Outcome
   failing act_is reply_is made =
       let work : step_work s act reply ≡ work_asked s = λ i. step_work s (act_is i) (reply_is i) in
       let as_told : IsAsTold [] (quiet_nothing told.history) new =
-      subst (IsAsTold [] (quiet_nothing told.history)) (sym made.done) (beside [] (quiet_nothing told.history) (after_failure s) refl refl (record { table = refl; lengths = refl }) refl (record { frames = refl; dirty = λ frame. (λ d. d, λ d. d) })) in
+      subst (IsAsTold [] (quiet_nothing told.history)) (sym made.done)
+      (beside [] (quiet_nothing told.history) (after_failure s) refl refl (record { table = refl; lengths = refl })
+      refl (record { frames = refl; dirty = λ frame. (λ d. d, λ d. d) })) in
       outcome_as (with_events []) (work_asked s) (λ i. tell told (record { p = p; act = act_is i }) (reply_is i)) work
-      (tracked_of (with_events []) as_told.0 as_told.1 (flush_failed files told s disk may t.old t.new t.sound t.stands t.written p made.allowed made.some new disk' may' made.done (left_by (work_asked s) work)))
+      (tracked_of (with_events []) as_told.0 as_told.1 (flush_failed files told s disk may t.old t.new t.sound t.stands
+      t.written p made.allowed made.some new disk' may' made.done (left_by (work_asked s) work)))
       (flush_within files told s disk may t.old t.new t.sound t.stands t.written p made.allowed made.some)
 
   -- ---- any act
@@ -296,15 +351,18 @@ module _ (files : List File) (told : Told) (s : State) (disk : List ℕ) (may : 
   pub performing : Performed s disk p act reply new disk' → Outcome
   performing (Moved by) = moving by
   performing (Marked number act_is reply_is made same_disk) =
-      marking number made (λ i. tell told (record { p = p; act = act_is i }) (reply_is i)) (λ i. step_work s (act_is i) (reply_is i)) same_disk
+      marking number made (λ i. tell told (record { p = p; act = act_is i }) (reply_is i))
+      (λ i. step_work s (act_is i) (reply_is i)) same_disk
   performing (Resized act_is reply_is made same_disk) =
-      resizing made (λ i. tell told (record { p = p; act = act_is i }) (reply_is i)) (λ i. step_work s (act_is i) (reply_is i)) same_disk
+      resizing made (λ i. tell told (record { p = p; act = act_is i }) (reply_is i))
+      (λ i. step_work s (act_is i) (reply_is i)) same_disk
   performing (Stepped act_is made fine) = stepping act_is made fine
   performing (Failed act_is reply_is made) = failing act_is reply_is made
 
 -- ---- steps over a device
 
-leaves_more : {D : Type 0} (moment : D → ℕ) (left_since : D → ℕ → List ℕ → Type 0) (old new : D) (P Q : List ℕ → Type 0) → ((c : List ℕ) → P c → Q c) → LeavesOnly moment left_since old new P → LeavesOnly moment left_since old new Q
+leaves_more : {D : Type 0} (moment : D → ℕ) (left_since : D → ℕ → List ℕ → Type 0) (old new : D) (P Q : List ℕ → Type 0)
+    → ((c : List ℕ) → P c → Q c) → LeavesOnly moment left_since old new P → LeavesOnly moment left_since old new Q
 leaves_more moment left_since old new P Q more is = record {
   later = is.later;
   each = λ c left. more c (is.each c left);
@@ -312,7 +370,8 @@ leaves_more moment left_since old new P Q more is = record {
   keeps = is.keeps;
 }
 
-module _ {D : Type 0} (disk : Ghosts D) (files : List File) (told : Told) (old : Whole D) (step : Step) (reply : Reply) (new : Whole D) (t : IsTracked files told old.state (disk.seen old.device) (disk.may_leave old.device))
+module _ {D : Type 0} (disk : Ghosts D) (files : List File) (told : Told) (old : Whole D) (step : Step) (reply : Reply)
+    (new : Whole D) (t : IsTracked files told old.state (disk.seen old.device) (disk.may_leave old.device))
     (taken : StepTaken disk old step reply new) (honest : disk.is_honest old.device) where
   made : StepMade disk old step reply new
   made = taken.made honest
@@ -320,18 +379,25 @@ module _ {D : Type 0} (disk : Ghosts D) (files : List File) (told : Told) (old :
   abbrev asked : List ℕ → Type 0
   asked c = TornFromWork (step_work old.state step.act reply) (disk.may_leave old.device) c
 
-  outcome : IsTracked files (tell told step reply) new.state (disk.seen new.device) (disk.may_leave new.device) × ((c : List ℕ) → asked c → LeftWithin old.state.table t.old t.new (current_stage old.state.write_outs) c)
+  outcome : IsTracked files (tell told step reply) new.state (disk.seen new.device) (disk.may_leave new.device)
+      × ((c : List ℕ) → asked c → LeftWithin old.state.table t.old t.new (current_stage old.state.write_outs) c)
   outcome =
-      let by = performed old.state (disk.seen old.device) step reply new.state (disk.seen new.device) t.sound made.answered in
-      performing files told old.state (disk.seen old.device) (disk.may_leave old.device) t step.p step.act reply new.state (disk.seen new.device) (performed_sound t.sound by) (disk.may_leave new.device) made.left made.sure by
+      let by = performed old.state (disk.seen old.device) step reply new.state
+      (disk.seen new.device) t.sound made.answered in
+      performing files told old.state (disk.seen old.device)
+      (disk.may_leave old.device) t step.p step.act reply new.state (disk.seen new.device)
+      (performed_sound t.sound by) (disk.may_leave new.device) made.left made.sure by
 
   pub tracked_kept : IsTracked files (tell told step reply) new.state (disk.seen new.device) (disk.may_leave new.device)
   tracked_kept = outcome.0
 
   -- a crash within it leaves old files or new ones, by the stage of the write-out
-  pub step_stopped : LeavesOnly disk.moment disk.left_since old.device new.device (StopsInStep files told.history old.state.write_outs)
-  step_stopped = leaves_more disk.moment disk.left_since old.device new.device asked (StopsInStep files told.history old.state.write_outs)
-      (λ c torn. stops_within files told old.state t.sound t.files_are t.old t.new t.written t.stands.sound.ordered c (outcome.1 c torn)) made.within
+  pub step_stopped : LeavesOnly disk.moment disk.left_since old.device new.device
+      (StopsInStep files told.history old.state.write_outs)
+  step_stopped = leaves_more disk.moment disk.left_since old.device new.device asked
+      (StopsInStep files told.history old.state.write_outs)
+      (λ c torn. stops_within files told old.state t.sound t.files_are t.old t.new t.written t.stands.sound.ordered c
+      (outcome.1 c torn)) made.within
 
   -- and a crash at any moment reads back
   pub step_safe : StepIsSafe disk files told old step reply new
@@ -339,7 +405,9 @@ module _ {D : Type 0} (disk : Ghosts D) (files : List File) (told : Told) (old :
     taken = taken;
     honest = honest;
     within = leaves_more disk.moment disk.left_since old.device new.device asked (ReadsBack files told.history)
-        (λ c torn. reads_within files told old.state t.sound t.files_are t.old t.new t.written c (outcome.1 c torn)) made.within;
-    after = λ c left. let now = tracked_kept in reads_now files (tell told step reply) new.state (disk.seen new.device) (disk.may_leave new.device) now.sound now.files_are
+        (λ c torn. reads_within files told old.state t.sound t.files_are t.old t.new t.written c (outcome.1 c torn))
+        made.within;
+    after = λ c left. let now = tracked_kept in reads_now files (tell told step reply) new.state (disk.seen new.device)
+        (disk.may_leave new.device) now.sound now.files_are
         (record { old = now.old; new = now.new; stands = now.stands; written = now.written }) c left;
   }

@@ -13,7 +13,8 @@ use Rattle.machine.proofs.Names.{ReplacesSpaces, Replace, Remap}
 use Rattle.machine.proofs.sound.Lists.{same_some}
 use Rattle.machine.proofs.moves.Silent.{SilentMoves}
 use Rattle.machine.proofs.track.DirtyFrames.{dirty_alike}
-use Rattle.machine.proofs.sound.Groups.{still_sound, unchanged_sound, shootdown_sound, prepared_moved, memory_beside, write_outs_moved}
+use Rattle.machine.proofs.sound.Groups.{still_sound, unchanged_sound, shootdown_sound}
+use Rattle.machine.proofs.sound.Groups.{prepared_moved, memory_beside, write_outs_moved}
 
 -- ---- a machine stays sound
 
@@ -22,7 +23,8 @@ processor_sound s says new is sound =
     let shootdown = with_processor s.hardware.shootdown is.p is.x in
     unchanged_sound _ new is.done
     (shootdown_sound s shootdown is.is_shootdown is.coheres
-    (at-with_processor (λ q y. has_space s.hardware.spaces y.space ≡ true) s.hardware.shootdown is.p is.x is.there is.space
+    (at-with_processor (λ q y. has_space s.hardware.spaces y.space ≡ true) s.hardware.shootdown
+    is.p is.x is.there is.space
     (λ q within other. sound.spaces.current q within))
     sound.spaces.prepared sound)
 
@@ -44,8 +46,10 @@ spaces_sound s spaces says new is sound = unchanged_sound _ new is.done (still_s
       in_table = is.in_table;
       prepared = is.prepared;
     })
-    (memory_beside s s.hardware.shootdown spaces s.checkpoint s.write_outs s.marks refl refl sound.memory.noted is.backed sound.memory)
-    (write_outs_moved s (record s.hardware { spaces = spaces }) s.checkpoint refl (λ owner there. there) sound.write_outs))
+    (memory_beside s s.hardware.shootdown spaces s.checkpoint s.write_outs s.marks refl refl
+    sound.memory.noted is.backed sound.memory)
+    (write_outs_moved s (record s.hardware { spaces = spaces }) s.checkpoint refl
+    (λ owner there. there) sound.write_outs))
 
 -- ---- another TLB
 
@@ -74,20 +78,25 @@ pub entry_replaced : (s : State) (pcid page : ℕ) (place : Place) (entry : Mapp
     → ((was : Mapped) → entry_at s.hardware.spaces pcid page ≡ Some was → Keeps was entry)
     → ((lock : Lock) → s.hardware.shootdown.lock ≡ Some lock → IsSome (entry_at s.hardware.spaces pcid page))
     → IsSound s
-    → ReplacesSpaces s (with_entry s.hardware.spaces pcid page (Some entry)) Silent (with_spaces s (with_entry s.hardware.spaces pcid page (Some entry)))
+    → ReplacesSpaces s (with_entry s.hardware.spaces pcid page (Some entry)) Silent
+    (with_spaces s (with_entry s.hardware.spaces pcid page (Some entry)))
 entry_replaced s pcid page place entry mapped may keeps had sound =
     let old = s.hardware.spaces in
     let new = with_entry old pcid page (Some entry) in
     let some : IsSome (place_at old pcid page) = is_some_from _ place mapped in
-    let there : (q : ℕ) → has_space new q ≡ has_space old q = has_space-with_entry old pcid page (Some entry) (has_space-place_at old pcid page some) in
-    let places : (q : ℕ) → (space_at new q).places ≡ (space_at old q).places = places-with_entry old pcid page (Some entry) in
+    let there : (q : ℕ) → has_space new q ≡ has_space old q =
+    has_space-with_entry old pcid page (Some entry) (has_space-place_at old pcid page some) in
+    let places : (q : ℕ) → (space_at new q).places ≡ (space_at old q).places =
+    places-with_entry old pcid page (Some entry) in
     record {
       are_spaces = AreSpaces-with_entry old pcid page (Some entry) sound.spaces.spaces some;
       coheres = Coheres-grown old new s.hardware.shootdown (Grows-with_entry old pcid page entry keeps)
           (λ lock held. IsNoWider-same_places lock.change old new places (λ q at is.
-          stays (had lock held) q at (eqb q pcid && eqb at page) refl (sym (ap is_some (entry_at-with_entry old pcid page (Some entry) q at)) ∙ is)))
+          stays (had lock held) q at (eqb q pcid && eqb at page) refl
+          (sym (ap is_some (entry_at-with_entry old pcid page (Some entry) q at)) ∙ is)))
           sound.spaces.coheres;
-      in_table = λ q at other is. sound.spaces.in_table q at other (sym (place_at-with_entry old pcid page (Some entry) q at) ∙ is);
+      in_table = λ q at other is.
+          sound.spaces.in_table q at other (sym (place_at-with_entry old pcid page (Some entry) q at) ∙ is);
       prepared = λ lock held. prepared_moved s (with_spaces s new) lock.change (record {
         users = λ q user. ap (λ is. Rattle.std.specs.Prelude.nat_lt 0 q && is) (there q) ∙ user;
         places = places;
@@ -99,7 +108,8 @@ entry_replaced s pcid page place entry mapped may keeps had sound =
         marks = refl;
         free = λ free. free;
       }) (sound.spaces.prepared lock held);
-      backed = AreBacked-with_entry s.hardware.memory s.checkpoint old pcid page place entry mapped may sound.memory.backed;
+      backed =
+          AreBacked-with_entry s.hardware.memory s.checkpoint old pcid page place entry mapped may sound.memory.backed;
       told = record { there = there; places = places };
       done = refl;
     }
@@ -125,10 +135,13 @@ given_entry : (m : Spaces) (pcid page : ℕ) (entry : Mapped)
     → entry_at (with_entry m pcid page (Some entry)) pcid page ≡ Some entry
 given_entry m pcid page entry =
     entry_at-with_entry m pcid page (Some entry) pcid page
-    ∙ cond-true (eqb pcid pcid && eqb page page) (Some entry) (entry_at m pcid page) (and_from (eqb pcid pcid) (eqb page page) (eq-eqb pcid pcid refl) (eq-eqb page page refl))
+    ∙ cond-true (eqb pcid pcid && eqb page page) (Some entry) (entry_at m pcid page)
+    (and_from (eqb pcid pcid) (eqb page page) (eq-eqb pcid pcid refl) (eq-eqb page page refl))
 
-module _ (s : State) (p page : ℕ) (was now : Mapped) (sound : IsSound s) (there : p < length s.hardware.shootdown.processors)
-    (present : entry_at s.hardware.spaces (current s.hardware.shootdown p) page ≡ Some was) (noted : IsNoted was now) where
+module _ (s : State) (p page : ℕ) (was now : Mapped) (sound : IsSound s)
+    (there : p < length s.hardware.shootdown.processors)
+    (present : entry_at s.hardware.spaces (current s.hardware.shootdown p) page ≡ Some was)
+    (noted : IsNoted was now) where
   abbrev pcid : ℕ
   pcid = current s.hardware.shootdown p
 
@@ -143,13 +156,18 @@ module _ (s : State) (p page : ℕ) (was now : Mapped) (sound : IsSound s) (ther
   walk_noted =
       let backed = sound.memory.backed pcid page was present in
       let may : MayBe s.hardware.memory s.checkpoint backed.place now = record {
-        held = subst (λ (frame : ℕ). Holds s.hardware.memory frame (page_at backed.place)) (sym noted.same_frame) backed.held;
+        held = subst (λ (frame : ℕ). Holds s.hardware.memory frame (page_at backed.place))
+            (sym noted.same_frame) backed.held;
         allowed = λ writable. backed.allowed (sym noted.same_right ∙ writable);
         thawed = λ writable. backed.thawed (sym noted.same_right ∙ writable);
       } in
       entry_replaced s pcid page backed.place now backed.mapped may
       (λ old at. subst (λ (m : Mapped). Keeps m now) (same_some (sym present ∙ at))
-      (record { same_frame = noted.same_frame; still_writable = λ writable. noted.same_right ∙ writable; still_dirty = noted.still_dirty }))
+      (record {
+        same_frame = noted.same_frame;
+        still_writable = λ writable. noted.same_right ∙ writable;
+        still_dirty = noted.still_dirty;
+      }))
       (λ lock held. is_some_from _ was present) sound
 
   -- and cached
@@ -157,7 +175,11 @@ module _ (s : State) (p page : ℕ) (was now : Mapped) (sound : IsSound s) (ther
   walk_cached =
       let half = spaces_sound s spaces Silent mid walk_noted sound in
       let cached_now = cached_of pcid page now in
-      let agrees : Agrees mid.hardware.spaces cached_now = (now, given_entry s.hardware.spaces pcid page now, record { same_frame = refl; writable = λ e. e; dirty = λ e. e }) in
+      let agrees : Agrees mid.hardware.spaces cached_now = (
+        now,
+        given_entry s.hardware.spaces pcid page now,
+        record { same_frame = refl; writable = λ e. e; dirty = λ e. e },
+      ) in
       tlb_replaced mid p (filled (processor_at s.hardware.shootdown p).tlb cached_now) _ half there
       (IsShootdown-filled s.hardware.shootdown p cached_now sound.spaces.shootdown there refl)
       (Coheres-filled mid.hardware.spaces s.hardware.shootdown p cached_now there agrees half.spaces.coheres) refl
@@ -171,5 +193,10 @@ module _ (s : State) (p page : ℕ) (was now : Mapped) (sound : IsSound s) (ther
   walk_moves disk new same is = record {
     says = Silent ∷ Silent ∷ [];
     silent = tt;
-    moves = (mid, Remap spaces walk_noted (λ frame. dirty_alike s.hardware.spaces pcid page now s.checkpoint frame was present noted.same_frame same), (_, Replace walk_cached, is));
+    moves = (
+      mid,
+      Remap spaces walk_noted
+          (λ frame. dirty_alike s.hardware.spaces pcid page now s.checkpoint frame was present noted.same_frame same),
+      (_, Replace walk_cached, is),
+    );
   }

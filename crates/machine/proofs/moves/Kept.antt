@@ -18,7 +18,8 @@ use Rattle.machine.proofs.sound.Lists.{kept_some}
 use Rattle.machine.proofs.sound.Admitted.{first_none, free_below, running_below, unlocked}
 use Rattle.machine.proofs.sound.Groups.{still_sound, unchanged_sound, shootdown_sound, memory_beside, write_outs_moved}
 use Rattle.machine.proofs.sound.Ended.{ended_spaces}
-use Rattle.machine.proofs.sound.Frames.{notes_in_use, bytes_sound, length-page_from, page_sound, copy_sound, dropped_sound}
+use Rattle.machine.proofs.sound.Frames.{notes_in_use, bytes_sound, length-page_from}
+use Rattle.machine.proofs.sound.Frames.{page_sound, copy_sound, dropped_sound}
 use Rattle.machine.proofs.track.Translations.{is_translated}
 use Rattle.machine.proofs.moves.Entries.{processor_sound, spaces_sound, walk_sound}
 
@@ -29,11 +30,13 @@ begun_sound s says new is sound =
     let sd = s.hardware.shootdown in
     let free = free_below sd is.p is.free in
     unchanged_sound _ new is.done
-    (shootdown_sound s (begun sd is.p s.hardware.spaces is.change) (IsShootdown-begun sd is.p s.hardware.spaces is.change sound.spaces.shootdown free.0 free.1)
+    (shootdown_sound s (begun sd is.p s.hardware.spaces is.change)
+    (IsShootdown-begun sd is.p s.hardware.spaces is.change sound.spaces.shootdown free.0 free.1)
     (Coheres-begun s.hardware.spaces sd is.p is.change sound.spaces.coheres)
     (λ q within.
     let below : q < length sd.processors = omega (arith, within, length-begun sd is.p s.hardware.spaces is.change) in
-    ap (has_space s.hardware.spaces) (current-begun sd is.p s.hardware.spaces is.change q below) ∙ sound.spaces.current q below)
+    ap (has_space s.hardware.spaces) (current-begun sd is.p s.hardware.spaces is.change q below)
+    ∙ sound.spaces.current q below)
     (λ lock held. subst (IsPrepared s) (its_change lock held) is.prepared) sound)
   where
     its_change : (lock : Lock) → Some (record { holder = is.p; change = is.change }) ≡ Some lock
@@ -44,9 +47,12 @@ ended_sound : (s : State) (says : Saying) (new : State) → EndsChange s says ne
 ended_sound s says new is sound =
     let memory = s.hardware.memory in
     unchanged_sound _ new is.done (still_sound sound refl refl
-    (ended_spaces s is.p is.change is.spaces memory is.checkpoint s.write_outs s.marks s.resized is.may is.only is.wider is.are_spaces is.same_spaces is.in_table sound)
-    (memory_beside s (finished s.hardware.shootdown is.p) is.spaces is.checkpoint s.write_outs s.marks is.same_frozen is.same_notes is.noted is.backed sound.memory)
-    (write_outs_moved s (record { shootdown = finished s.hardware.shootdown is.p; spaces = is.spaces; memory = memory }) is.checkpoint is.same_frozen
+    (ended_spaces s is.p is.change is.spaces memory is.checkpoint s.write_outs s.marks s.resized is.may is.only is.wider
+    is.are_spaces is.same_spaces is.in_table sound)
+    (memory_beside s (finished s.hardware.shootdown is.p) is.spaces is.checkpoint s.write_outs s.marks is.same_frozen
+    is.same_notes is.noted is.backed sound.memory)
+    (write_outs_moved s (record { shootdown = finished s.hardware.shootdown is.p; spaces = is.spaces; memory = memory })
+    is.checkpoint is.same_frozen
     (λ owner there. there) sound.write_outs))
 
 -- ---- a space is destroyed
@@ -60,7 +66,8 @@ pub destroy_admitted : (s : State) (p pcid : ℕ) → reason_against s p (acts.D
 destroy_admitted s p pcid none =
     let space = destroy_refusal s.hardware.shootdown s.hardware.spaces pcid in
     let parts = first_none (not_free s.hardware.shootdown p) (space ∷ []) none in
-    let two = by (is_user_space s.hardware.spaces pcid) (is_current s.hardware.shootdown pcid) (first_none space [] parts.1).0 in
+    let two = by (is_user_space s.hardware.spaces pcid) (is_current s.hardware.shootdown pcid)
+    (first_none space [] parts.1).0 in
     record { free = parts.0; user = two.0; unused = two.1 }
   where
     by : (user current : Bool) → cond (not user) (Some refusals.Einval) (cond current (Some refusals.Busy) None) ≡ None
@@ -78,23 +85,31 @@ destroyed_sound s p pcid new allowed rule sound =
     let may = destroy_admitted s p pcid allowed in
     let free = (free_below sd p may.free).1 in
     let user = user_space old pcid may.user in
-    let apart : (q : ℕ) → q < length sd.processors → current sd q ≢ pcid = λ q within. elsewhere sd.processors pcid may.unused q _ within in
+    let apart : (q : ℕ) → q < length sd.processors → current sd q ≢ pcid =
+    λ q within. elsewhere sd.processors pcid may.unused q _ within in
     unchanged_sound _ new rule.done (still_sound sound refl refl
     (record {
       spaces = AreSpaces-remove old pcid sound.spaces.spaces (λ zero. absurd (omega (arith, user.0, zero)));
       shootdown = IsShootdown-destroyed sd pcid sound.spaces.shootdown;
-      coheres = Coheres-destroyed old remaining sd pcid sound.spaces.shootdown apart (λ q page other. entry_at-remove_other old pcid q page other) (λ lock held. IsNoWider-remove lock.change old pcid) sound.spaces.coheres;
+      coheres = Coheres-destroyed old remaining sd pcid sound.spaces.shootdown apart
+          (λ q page other. entry_at-remove_other old pcid q page other)
+          (λ lock held. IsNoWider-remove lock.change old pcid) sound.spaces.coheres;
       current = λ q within.
           let below : q < length sd.processors = omega (arith, within, length-destroyed sd pcid) in
           let same = current-destroyed sd pcid q below in
           ap (has_space remaining) same ∙ has_space-remove old pcid (current sd q)
-          ∙ and_from (not (eqb (current sd q) pcid)) (has_space old (current sd q)) (not_from_false _ (ne_eqb (current sd q) pcid (apart q below))) (sound.spaces.current q below);
-      in_table = λ q page place is. sound.spaces.in_table q page place (kept_some (eqb q pcid) (place_at old q page) place (sym (place_at-remove old pcid q page) ∙ is));
+          ∙ and_from (not (eqb (current sd q) pcid)) (has_space old (current sd q))
+          (not_from_false _ (ne_eqb (current sd q) pcid (apart q below))) (sound.spaces.current q below);
+      in_table = λ q page place is. sound.spaces.in_table q page place
+          (kept_some (eqb q pcid) (place_at old q page) place (sym (place_at-remove old pcid q page) ∙ is));
       prepared = λ held is. unlocked sd.lock held free is;
     })
-    (memory_beside s (destroyed sd pcid) remaining rule.checkpoint s.write_outs s.marks rule.noted.frozen rule.noted.same_length (notes_in_use s rule.checkpoint (IsInSpace pcid) rule.noted sound.memory)
-    (AreBacked-frozen s.hardware.memory s.checkpoint rule.checkpoint remaining rule.noted.frozen (AreBacked-remove s.hardware.memory s.checkpoint old pcid sound.memory.backed)) sound.memory)
-    (write_outs_moved s (record s.hardware { shootdown = destroyed sd pcid; spaces = remaining }) rule.checkpoint rule.noted.frozen (λ owner there. there) sound.write_outs))
+    (memory_beside s (destroyed sd pcid) remaining rule.checkpoint s.write_outs s.marks rule.noted.frozen
+    rule.noted.same_length (notes_in_use s rule.checkpoint (IsInSpace pcid) rule.noted sound.memory)
+    (AreBacked-frozen s.hardware.memory s.checkpoint rule.checkpoint remaining rule.noted.frozen
+    (AreBacked-remove s.hardware.memory s.checkpoint old pcid sound.memory.backed)) sound.memory)
+    (write_outs_moved s (record s.hardware { shootdown = destroyed sd pcid; spaces = remaining }) rule.checkpoint
+    rule.noted.frozen (λ owner there. there) sound.write_outs))
 
 -- ---- bytes are stored
 
@@ -102,12 +117,14 @@ stored_sound : (s : State) (says : Saying) (new : State) → StoresBytes s says 
 stored_sound s says new is sound =
     let made = is.made in
     let page = is.va / 4096 in
-    let t = is_translated s.hardware is.p page true made.frame made.mid sound.spaces.coheres made.running made.translation in
+    let t = is_translated s.hardware is.p page true made.frame made.mid sound.spaces.coheres
+    made.running made.translation in
     let there = (running_below s.hardware.shootdown is.p made.running).0 in
     let half : IsSound (with_hardware s made.mid) = elim t.reached [
       | inl kept ↦ subst (λ (h : Hardware). IsSound (with_hardware s h)) (sym kept.0) sound
       | inr noted ↦ subst (λ (h : Hardware). IsSound (with_hardware s h)) (sym noted)
-          (walk_sound s is.p page t.entry (record t.entry { accessed = true; dirty = t.entry.dirty || true }) sound there t.present
+          (walk_sound s is.p page t.entry
+          (record t.entry { accessed = true; dirty = t.entry.dirty || true }) sound there t.present
           (record { same_frame = refl; same_right = refl; still_dirty = λ dirty. or_left t.entry.dirty true dirty }))
     ] in
     unchanged_sound _ new (is.done ∙ ap (with_hardware s) made.written)
@@ -124,9 +141,12 @@ move_sound disk s says new (Begin is) sound = begun_sound s says new is sound
 move_sound disk s says new (End is) sound = ended_sound s says new is sound
 move_sound disk s says new (Store is) sound = stored_sound s says new is sound
 move_sound disk s says new (Bring is) sound =
-    unchanged_sound _ new is.done (page_sound s is.frame is.owner (page_from s disk is.owner) is.in_file (length-page_from s disk is.owner) is.absent is.free is.unlocked sound)
-move_sound disk s says new (Copy is) sound = unchanged_sound _ new is.done (copy_sound s is.frame is.owner is.copy is.holds is.held is.free sound)
-move_sound disk s says new (Drop is) sound = unchanged_sound _ new is.done (dropped_sound s is.owner is.frame is.leaves is.unmapped is.free sound)
+    unchanged_sound _ new is.done (page_sound s is.frame is.owner (page_from s disk is.owner) is.in_file
+    (length-page_from s disk is.owner) is.absent is.free is.unlocked sound)
+move_sound disk s says new (Copy is) sound =
+    unchanged_sound _ new is.done (copy_sound s is.frame is.owner is.copy is.holds is.held is.free sound)
+move_sound disk s says new (Drop is) sound =
+    unchanged_sound _ new is.done (dropped_sound s is.owner is.frame is.leaves is.unmapped is.free sound)
 
 pub moves_sound : (disk : List ℕ) (s : State) (says : List Saying) (new : State) → Moves disk s says new → IsSound s
     → IsSound new

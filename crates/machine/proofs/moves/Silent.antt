@@ -24,7 +24,8 @@ one_move {new = new} move = record { says = Silent ∷ []; silent = tt; moves = 
 pub joined : (disk : List ℕ) (s mid new : State) (says more : List Saying) → Moves disk s says mid
     → Moves disk mid more new → Moves disk s (says ++ more) new
 joined disk s mid new [] more same rest = subst (λ x. Moves disk x more new) same rest
-joined disk s mid new (first ∷ says) more moves rest = (moves.0, moves.1, joined disk moves.0 mid new says more moves.2 rest)
+joined disk s mid new (first ∷ says) more moves rest =
+    (moves.0, moves.1, joined disk moves.0 mid new says more moves.2 rest)
 
 silent_both : (says more : List Saying) → AreSilent says → AreSilent more → AreSilent (says ++ more)
 silent_both [] more silent rest = rest
@@ -51,9 +52,11 @@ same_history : (told : Told) (history : List Event) → told.history ≡ history
 same_history told history same = λ i. record told { history = (append-nil history ∙ sym same) i }
 
 -- an act of moves by which nothing is stored or marked
-pub moved_all : {s : State} {disk : List ℕ} {p : ℕ} {act : Act} {reply : Reply} {new : State} {disk' : List ℕ} (says : List Saying)
+pub moved_all : {s : State} {disk : List ℕ} {p : ℕ} {act : Act} {reply : Reply} {new : State}
+    {disk' : List ℕ} (says : List Saying)
     → Moves disk s says new
-    → ((told : Told) → tell told (record { p = p; act = act }) reply ≡ record (said_all told says) { history = told.history ++ [] })
+    → ((told : Told) → tell told (record { p = p; act = act }) reply
+    ≡ record (said_all told says) { history = told.history ++ [] })
     → ((told : Told) → (said_all told says).history ≡ told.history) → step_work s act reply ≡ Nothing → disk' ≡ disk
     → Performed s disk p act reply new disk'
 moved_all says moves tells still work same = Moved (record {
@@ -65,12 +68,15 @@ moved_all says moves tells still work same = Moved (record {
 })
 
 -- of one move
-pub moved : {s : State} {disk : List ℕ} {p : ℕ} {act : Act} {reply : Reply} {new : State} {disk' : List ℕ} {says : Saying}
+pub moved : {s : State} {disk : List ℕ} {p : ℕ} {act : Act} {reply : Reply} {new : State}
+    {disk' : List ℕ} {says : Saying}
     → Move disk s says new
-    → ((told : Told) → tell told (record { p = p; act = act }) reply ≡ record (said told says) { history = told.history ++ [] })
+    → ((told : Told) → tell told (record { p = p; act = act }) reply
+    ≡ record (said told says) { history = told.history ++ [] })
     → ((told : Told) → (said told says).history ≡ told.history) → step_work s act reply ≡ Nothing → disk' ≡ disk
     → Performed s disk p act reply new disk'
-moved {new = new} {says = says} move tells still work same = moved_all (says ∷ []) (new, move, refl) tells still work same
+moved {new = new} {says = says} move tells still work same =
+    moved_all (says ∷ []) (new, move, refl) tells still work same
 
 -- of moves that tell nothing
 pub silently : {s : State} {disk : List ℕ} {p : ℕ} {act : Act} {reply : Reply} {new : State} {disk' : List ℕ}

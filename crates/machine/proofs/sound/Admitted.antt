@@ -15,7 +15,8 @@ pub both_none : (a b : Option Refusal) → option_or a b ≡ None → (a ≡ Non
 both_none None b e = (refl, e)
 both_none (Some why) b e = absurd (cc)
 
-pub first_none : (reason : Option Refusal) (reasons : List (Option Refusal)) → first_of (reason ∷ reasons) ≡ None → (reason ≡ None) × (first_of reasons ≡ None)
+pub first_none : (reason : Option Refusal) (reasons : List (Option Refusal)) → first_of (reason ∷ reasons) ≡ None
+    → (reason ≡ None) × (first_of reasons ≡ None)
 first_none reason reasons e = both_none reason (first_of reasons) e
 
 pub refuse_none : (b : Bool) (why : Refusal) → refuse_if b why ≡ None → b ≡ false
@@ -31,8 +32,10 @@ where_none true why e = absurd (cc)
 where_none false why e = refl
 
 -- the second of some reasons
-pub second_not_refused : (a : Option Refusal) (b : Bool) (why : Refusal) (reasons : List (Option Refusal)) → first_of (a ∷ refuse_if b why ∷ reasons) ≡ None → b ≡ false
-second_not_refused a b why reasons e = refuse_none b why (first_none (refuse_if b why) reasons (first_none a (refuse_if b why ∷ reasons) e).1).0
+pub second_not_refused : (a : Option Refusal) (b : Bool) (why : Refusal) (reasons : List (Option Refusal))
+    → first_of (a ∷ refuse_if b why ∷ reasons) ≡ None → b ≡ false
+second_not_refused a b why reasons e =
+    refuse_none b why (first_none (refuse_if b why) reasons (first_none a (refuse_if b why ∷ reasons) e).1).0
 
 -- ---- processors and the lock
 
@@ -44,7 +47,8 @@ unlocked lock held free is = absurd (cc)
 pub free_below : (s : ShootdownState) (p : ℕ) → not_free s p ≡ None → (p < length s.processors) × (s.lock ≡ None)
 free_below s p free = let parts = admitted s p free in (is_there_below s p parts.0, parts.1)
 
-pub running_below : (s : ShootdownState) (p : ℕ) → not_running s p ≡ None → (p < length s.processors) × (is_running (state_of s p) ≡ true)
+pub running_below : (s : ShootdownState) (p : ℕ) → not_running s p ≡ None
+    → (p < length s.processors) × (is_running (state_of s p) ≡ true)
 running_below s p free = let parts = running s p free in (is_there_below s p parts.0, parts.1)
 
 pub is_there_by : (s : ShootdownState) (p : ℕ) → not_there s p ≡ None → is_there s p ≡ true
@@ -56,20 +60,26 @@ there_below s p none = is_there_below s p (is_there_by s p none)
 pub there_at_change : (s : ShootdownState) (p : ℕ) → change_refusal s p ≡ None → is_there s p ≡ true
 there_at_change s p none = is_there_by s p (both_none (not_there s p) (lock_refusal p (interrupted s) s.lock) none).0
 
-pub switch_admitted : (s : ShootdownState) (spaces : Spaces) (p pcid : ℕ) → switch_refusal s spaces p pcid ≡ None → (not_free s p ≡ None) × (has_space spaces pcid ≡ true)
+pub switch_admitted : (s : ShootdownState) (spaces : Spaces) (p pcid : ℕ) → switch_refusal s spaces p pcid ≡ None
+    → (not_free s p ≡ None) × (has_space spaces pcid ≡ true)
 switch_admitted s spaces p pcid none =
     let parts = both_none (not_free s p) (cond (has_space spaces pcid) None (Some refusals.Einval)) none in
     (parts.0, unless_none (has_space spaces pcid) refusals.Einval parts.1)
 
 -- one that waits goes on only while the lock is free
-pub there_at_wait : (waits : ProcState → Bool) (s : ShootdownState) (p : ℕ) → wait_refusal waits s p ≡ None → is_there s p ≡ true
-there_at_wait waits s p none = is_there_by s p (both_none (not_there s p) (cond (waits (state_of s p) && is_some s.lock) (Some refusals.Locked) None) none).0
+pub there_at_wait : (waits : ProcState → Bool) (s : ShootdownState) (p : ℕ) → wait_refusal waits s p ≡ None
+    → is_there s p ≡ true
+there_at_wait waits s p none = is_there_by s p
+    (both_none (not_there s p) (cond (waits (state_of s p) && is_some s.lock) (Some refusals.Locked) None) none).0
 
-pub wait_admitted : (waits : ProcState → Bool) (s : ShootdownState) (p : ℕ) → wait_refusal waits s p ≡ None → waits (state_of s p) ≡ true → (p < length s.processors) × (s.lock ≡ None)
+pub wait_admitted : (waits : ProcState → Bool) (s : ShootdownState) (p : ℕ) → wait_refusal waits s p ≡ None
+    → waits (state_of s p) ≡ true → (p < length s.processors) × (s.lock ≡ None)
 wait_admitted waits s p none is =
-    let held = (both_none (not_there s p) (cond (waits (state_of s p) && is_some s.lock) (Some refusals.Locked) None) none).1 in (
+    let held = (both_none (not_there s p)
+    (cond (waits (state_of s p) && is_some s.lock) (Some refusals.Locked) None) none).1 in (
       is_there_below s p (there_at_wait waits s p none),
-      none_unless_some s.lock (unlocked (waits (state_of s p)) is (is_some s.lock) (where_none (waits (state_of s p) && is_some s.lock) refusals.Locked held)),
+      none_unless_some s.lock (unlocked (waits (state_of s p)) is (is_some s.lock)
+          (where_none (waits (state_of s p) && is_some s.lock) refusals.Locked held)),
     )
   where
     unlocked : (a : Bool) → a ≡ true → (b : Bool) → (a && b) ≡ false → b ≡ false
@@ -83,7 +93,8 @@ active_from Stalled runs not = absurd (cc)
 active_from Initiating runs not = absurd (cc)
 active_from Idle runs not = absurd (cc)
 
-pub idle_admitted : (s : ShootdownState) (p : ℕ) → idle_refusal s p ≡ None → (p < length s.processors) × (state_of s p ≡ Active)
+pub idle_admitted : (s : ShootdownState) (p : ℕ) → idle_refusal s p ≡ None
+    → (p < length s.processors) × (state_of s p ≡ Active)
 idle_admitted s p none =
     let parts = both_none (not_running s p) (cond (is_interrupted (state_of s p)) (Some refusals.Locked) None) none in
     let runs = running_below s p parts.0 in
@@ -94,13 +105,17 @@ idle_admitted s p none =
 abbrev pub IsFree : State → ℕ → Type 0
 IsFree s p = not_free s.hardware.shootdown p ≡ None
 
-pub free_of : (s : State) (p : ℕ) (later : Option Refusal) → option_or (not_free s.hardware.shootdown p) later ≡ None → IsFree s p
+pub free_of : (s : State) (p : ℕ) (later : Option Refusal) → option_or (not_free s.hardware.shootdown p) later ≡ None
+    → IsFree s p
 free_of s p later none = (both_none (not_free s.hardware.shootdown p) later none).0
 
 -- nothing is against the service of a fault that leads to a place
-pub served_at_fix : (s : State) (p va : ℕ) (write : Bool) (place : Place) → reason_against s p (acts.Fix va write) ≡ None → place_of_fault s.hardware.spaces (current s.hardware.shootdown p) va write ≡ Ok place
+pub served_at_fix : (s : State) (p va : ℕ) (write : Bool) (place : Place)
+    → reason_against s p (acts.Fix va write) ≡ None
+    → place_of_fault s.hardware.spaces (current s.hardware.shootdown p) va write ≡ Ok place
     → fault_refusal s.hardware.memory s.checkpoint s.write_outs.broken place (length_of s place.file) write ≡ None
 served_at_fix s p va write place none leads =
     (both_none (served_refusal s write (Ok place)) None
     (subst (λ r. option_or (served_refusal s write r) None ≡ None) leads
-    (first_none (not_free s.hardware.shootdown p) (served_refusal s write (place_of_fault s.hardware.spaces (current s.hardware.shootdown p) va write) ∷ []) none).1)).0
+    (first_none (not_free s.hardware.shootdown p) (served_refusal s write
+    (place_of_fault s.hardware.spaces (current s.hardware.shootdown p) va write) ∷ []) none).1)).0

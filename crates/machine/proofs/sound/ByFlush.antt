@@ -17,23 +17,29 @@ use Rattle.machine.proofs.Names.{inl, inr, leb, cases_Bool, cond-true, file_home
 use Rattle.machine.proofs.sound.Admitted.{first_none, refuse_none}
 use Rattle.machine.proofs.sound.Records.{coming, page_next, no_page_next}
 use Rattle.machine.proofs.sound.Groups.{still_sound, unchanged_sound, memory_same}
-use Rattle.machine.proofs.sound.Waiting.{waits_of, waiting, waiting-none, length-advanced, older-rest, older-advanced, recorded, unrecorded}
-use Rattle.machine.proofs.sound.Steps.{none_after, stepped_write_outs, stepped_spaces, done_none, none_recorded, free-advanced, free-done, IsMemory-without_copy_of, IsMemory-without_copies, none_left}
+use Rattle.machine.proofs.sound.Waiting.{waits_of, waiting, waiting-none, length-advanced}
+use Rattle.machine.proofs.sound.Waiting.{older-rest, older-advanced, recorded, unrecorded}
+use Rattle.machine.proofs.sound.Steps.{none_after, stepped_write_outs, stepped_spaces, done_none}
+use Rattle.machine.proofs.sound.Steps.{none_recorded, free-advanced, free-done}
+use Rattle.machine.proofs.sound.Steps.{IsMemory-without_copy_of, IsMemory-without_copies, none_left}
 
 -- ---- steps
 
 module _ (s : State) (sound : IsSound s) (whole : s.write_outs.broken ≡ false) where
   -- what is frozen waits for its record
   frozen_waits : map (home_of s.table) s.checkpoint.frozen ≡ file_homes s.table (waiting s.write_outs.batches)
-  frozen_waits = sound.write_outs.frozen ∙ cond-false s.write_outs.broken [] (file_homes s.table (waiting s.write_outs.batches)) whole
+  frozen_waits = sound.write_outs.frozen
+      ∙ cond-false s.write_outs.broken [] (file_homes s.table (waiting s.write_outs.batches)) whole
 
   unset : s.resized ≡ true → s.write_outs.broken ≡ false
   unset set = (sound.write_outs.settled set).1
 
   -- the first frozen page's record was written
-  pub record_sound : (answer : Flushed) (home : ℕ) (rest : List ℕ) → waiting s.write_outs.batches ≡ home ∷ rest → waiting (advanced s.write_outs.batches) ≡ rest → leb (first_file_home s.table.layout s.table.slots) home ≡ true
+  pub record_sound : (answer : Flushed) (home : ℕ) (rest : List ℕ) → waiting s.write_outs.batches ≡ home ∷ rest
+      → waiting (advanced s.write_outs.batches) ≡ rest → leb (first_file_home s.table.layout s.table.slots) home ≡ true
       → batches_after answer s.write_outs.batches ≡ advanced s.write_outs.batches
-      → IsSound (record (after_record s) { write_outs = record s.write_outs { batches = batches_after answer s.write_outs.batches } })
+      → IsSound (record (after_record s)
+      { write_outs = record s.write_outs { batches = batches_after answer s.write_outs.batches } })
   record_sound answer home rest waits after_it page same =
       let batches = s.write_outs.batches in
       let older = sound.write_outs.older in
@@ -41,32 +47,48 @@ module _ (s : State) (sound : IsSound s) (whole : s.write_outs.broken ≡ false)
       let memory = without_copy_of s.hardware.memory first in
       let outs = record s.write_outs { batches = batches_after answer batches } in
       let waited : map (home_of s.table) s.checkpoint.frozen ≡ home ∷ file_homes s.table rest =
-      frozen_waits ∙ ap (file_homes s.table) waits ∙ cond-true (leb (first_file_home s.table.layout s.table.slots) home) (home ∷ file_homes s.table rest) (file_homes s.table rest) page in
-      let some : 0 < length s.checkpoint.frozen = omega (arith, length-map s.checkpoint.frozen (home_of s.table), ap length waited) in
-      let others : map (home_of s.table) (drop 1 s.checkpoint.frozen) ≡ file_homes s.table (waiting (batches_after answer batches)) =
-      sym (drop-map (home_of s.table) 1 s.checkpoint.frozen) ∙ ap (drop 1) waited ∙ ap (file_homes s.table) (sym after_it ∙ ap waiting (sym same)) in
+      frozen_waits ∙ ap (file_homes s.table) waits ∙ cond-true (leb (first_file_home s.table.layout s.table.slots) home)
+      (home ∷ file_homes s.table rest) (file_homes s.table rest) page in
+      let some : 0 < length s.checkpoint.frozen =
+      omega (arith, length-map s.checkpoint.frozen (home_of s.table), ap length waited) in
+      let others : map (home_of s.table) (drop 1 s.checkpoint.frozen)
+      ≡ file_homes s.table (waiting (batches_after answer batches)) =
+      sym (drop-map (home_of s.table) 1 s.checkpoint.frozen) ∙ ap (drop 1) waited
+      ∙ ap (file_homes s.table) (sym after_it ∙ ap waiting (sym same)) in
       still_sound sound refl refl
-      (stepped_spaces s sound memory (released s.checkpoint) outs refl (λ free broken. ap (λ (l : List WriteOut). is_busy (record s.write_outs { batches = l })) same ∙ free-advanced s.write_outs (free whole))
+      (stepped_spaces s sound memory (released s.checkpoint) outs refl (λ free broken. ap (λ (l : List WriteOut).
+      is_busy (record s.write_outs { batches = l })) same ∙ free-advanced s.write_outs (free whole))
       (λ fine none. (fine, ap (batches_after answer) none ∙ none_after answer)))
       (record {
         memory = IsMemory-without_copy_of s.hardware.memory first sound.memory.memory;
         few_frames = sound.memory.few_frames;
-        in_files = λ frame owner holds. let file = sound.memory.in_files frame owner holds in record { there = file.there; inside = file.inside };
-        backed = AreBacked-released s.hardware.memory s.checkpoint s.hardware.spaces (record { file = 0; page = 0 }) some sound.memory.rising sound.memory.backed;
+        in_files = λ frame owner holds. let file = sound.memory.in_files frame owner holds in
+            record { there = file.there; inside = file.inside };
+        backed = AreBacked-released s.hardware.memory s.checkpoint s.hardware.spaces
+            (record { file = 0; page = 0 }) some sound.memory.rising sound.memory.backed;
         notes = sound.memory.notes;
         noted = sound.memory.noted;
-        frozen = All-drop (λ owner. is_in_memory s.hardware.memory owner ≡ true) 1 s.checkpoint.frozen sound.memory.frozen;
+        frozen =
+            All-drop (λ owner. is_in_memory s.hardware.memory owner ≡ true) 1 s.checkpoint.frozen sound.memory.frozen;
         rising = AreRising-drop 1 s.checkpoint.frozen sound.memory.rising;
-        copied = AreCopiesOfFrozen-release s.hardware.memory memory s.checkpoint (released s.checkpoint) first some (get_or_default s.checkpoint.frozen 0 (record { file = 0; page = 0 }) first some) refl refl sound.memory.copied;
+        copied = AreCopiesOfFrozen-release s.hardware.memory memory s.checkpoint (released s.checkpoint) first some
+            (get_or_default s.checkpoint.frozen 0 (record { file = 0; page = 0 }) first some) refl
+            refl sound.memory.copied;
       })
-      (stepped_write_outs s sound answer s.write_outs.broken (record s.hardware { memory = memory }) (released s.checkpoint) refl
-      (subst AreOlderCommitted (sym same) (older-advanced batches older)) (omega (arith, ap (λ (l : List WriteOut). length l) same, length-advanced batches)) unset
-      (others ∙ sym (cond-false s.write_outs.broken [] (file_homes s.table (waiting (batches_after answer batches))) whole)))
+      (stepped_write_outs s sound answer s.write_outs.broken (record s.hardware { memory = memory })
+      (released s.checkpoint) refl
+      (subst AreOlderCommitted (sym same) (older-advanced batches older))
+      (omega (arith, ap (λ (l : List WriteOut). length l) same, length-advanced batches)) unset
+      (others ∙ sym
+      (cond-false s.write_outs.broken [] (file_homes s.table (waiting (batches_after answer batches))) whole)))
 
   -- a step that writes no page's record
-  step_sound : (answer : Flushed) → AreOlderCommitted (batches_after answer s.write_outs.batches) → length (batches_after answer s.write_outs.batches) ≤ length s.write_outs.batches
-      → file_homes s.table (waiting (batches_after answer s.write_outs.batches)) ≡ file_homes s.table (waiting s.write_outs.batches)
-      → (is_busy s.write_outs ≡ false → is_busy (record s.write_outs { batches = batches_after answer s.write_outs.batches }) ≡ false)
+  step_sound : (answer : Flushed) → AreOlderCommitted (batches_after answer s.write_outs.batches)
+      → length (batches_after answer s.write_outs.batches) ≤ length s.write_outs.batches
+      → file_homes s.table (waiting (batches_after answer s.write_outs.batches))
+      ≡ file_homes s.table (waiting s.write_outs.batches)
+      → (is_busy s.write_outs ≡ false
+      → is_busy (record s.write_outs { batches = batches_after answer s.write_outs.batches }) ≡ false)
       → IsSound (record s { write_outs = record s.write_outs { batches = batches_after answer s.write_outs.batches } })
   step_sound answer older few waits free =
       let outs = record s.write_outs { batches = batches_after answer s.write_outs.batches } in
@@ -75,31 +97,44 @@ module _ (s : State) (sound : IsSound s) (whole : s.write_outs.broken ≡ false)
       (λ fine none. (fine, ap (batches_after answer) none ∙ none_after answer)))
       (memory_same s s.hardware.shootdown outs s.marks sound.memory)
       (stepped_write_outs s sound answer s.write_outs.broken s.hardware s.checkpoint refl older few unset
-      (frozen_waits ∙ sym waits ∙ sym (cond-false s.write_outs.broken [] (file_homes s.table (waiting (batches_after answer s.write_outs.batches))) whole)))
+      (frozen_waits ∙ sym waits ∙ sym (cond-false s.write_outs.broken []
+      (file_homes s.table (waiting (batches_after answer s.write_outs.batches))) whole)))
 
   -- a write-out goes on
-  pub going_sound : (answer : Flushed) → file_homes s.table (waiting (advanced s.write_outs.batches)) ≡ file_homes s.table (waiting s.write_outs.batches) → batches_after answer s.write_outs.batches ≡ advanced s.write_outs.batches
+  pub going_sound : (answer : Flushed)
+      → file_homes s.table (waiting (advanced s.write_outs.batches)) ≡ file_homes s.table (waiting s.write_outs.batches)
+      → batches_after answer s.write_outs.batches ≡ advanced s.write_outs.batches
       → IsSound (record s { write_outs = record s.write_outs { batches = batches_after answer s.write_outs.batches } })
   going_sound answer waits same =
       let batches = s.write_outs.batches in
       let older = sound.write_outs.older in
-      step_sound answer (subst AreOlderCommitted (sym same) (older-advanced batches older)) (omega (arith, ap (λ (l : List WriteOut). length l) same, length-advanced batches))
-      (ap (λ (l : List WriteOut). file_homes s.table (waiting l)) same ∙ waits) (λ free. ap (λ (l : List WriteOut). is_busy (record s.write_outs { batches = l })) same ∙ free-advanced s.write_outs free)
+      step_sound answer (subst AreOlderCommitted (sym same) (older-advanced batches older))
+      (omega (arith, ap (λ (l : List WriteOut). length l) same, length-advanced batches))
+      (ap (λ (l : List WriteOut). file_homes s.table (waiting l)) same ∙ waits) (λ free. ap
+      (λ (l : List WriteOut). is_busy (record s.write_outs { batches = l })) same ∙ free-advanced s.write_outs free)
 
   -- a write-out is done
-  pub done_sound : (mark : ℕ) → has_uncommitted s.write_outs.batches ≡ false → IsSound (record s { write_outs = record s.write_outs { batches = drop 1 s.write_outs.batches } })
+  pub done_sound : (mark : ℕ) → has_uncommitted s.write_outs.batches ≡ false
+      → IsSound (record s { write_outs = record s.write_outs { batches = drop 1 s.write_outs.batches } })
   done_sound mark none =
       let batches = s.write_outs.batches in
-      let few : length batches ≤ journals_of s.write_outs.geometry.layout = omega (arith, sound.write_outs.few_batches, ap (λ (g : GeometryValue). journals_of g.layout) sound.write_outs.geometry) in
-      step_sound (flushed.Done mark) (rest batches sound.write_outs.older) (omega (arith, length-drop 1 batches)) (ap (file_homes s.table) (none_waits batches none)) (free-done s.write_outs few)
+      let few : length batches ≤ journals_of s.write_outs.geometry.layout = omega (
+        arith,
+        sound.write_outs.few_batches,
+        ap (λ (g : GeometryValue). journals_of g.layout) sound.write_outs.geometry,
+      ) in
+      step_sound (flushed.Done mark) (rest batches sound.write_outs.older) (omega (arith, length-drop 1 batches))
+      (ap (file_homes s.table) (none_waits batches none)) (free-done s.write_outs few)
     where
       rest : (batches : List WriteOut) → AreOlderCommitted batches → AreOlderCommitted (drop 1 batches)
       rest [] older = tt
       rest (w ∷ newer) older = older-rest w newer older
 
-      none_waits : (batches : List WriteOut) → has_uncommitted batches ≡ false → waiting (drop 1 batches) ≡ waiting batches
+      none_waits : (batches : List WriteOut) → has_uncommitted batches ≡ false
+          → waiting (drop 1 batches) ≡ waiting batches
       none_waits [] none = refl
-      none_waits (w ∷ newer) none = waiting-none newer (committed_parts w newer none).1 ∙ sym (waiting-none (w ∷ newer) none)
+      none_waits (w ∷ newer) none =
+          waiting-none newer (committed_parts w newer none).1 ∙ sym (waiting-none (w ∷ newer) none)
 
 -- ---- a device call failed
 
@@ -107,11 +142,13 @@ pub failed_sound : (s : State) → IsSound s → (s.write_outs.batches ≡ [] �
 failed_sound s sound some =
     let memory = without_copies s.hardware.memory in
     still_sound sound refl refl
-    (stepped_spaces s sound memory (thawed s.checkpoint) (outs_after s.write_outs flushed.Device) refl (λ free whole. absurd (false≢true (sym whole))) (λ fine none. absurd (some none)))
+    (stepped_spaces s sound memory (thawed s.checkpoint) (outs_after s.write_outs flushed.Device) refl
+    (λ free whole. absurd (false≢true (sym whole))) (λ fine none. absurd (some none)))
     (record {
       memory = IsMemory-without_copies s.hardware.memory sound.memory.memory;
       few_frames = sound.memory.few_frames;
-      in_files = λ frame owner holds. let file = sound.memory.in_files frame owner holds in record { there = file.there; inside = file.inside };
+      in_files = λ frame owner holds. let file = sound.memory.in_files frame owner holds in
+          record { there = file.there; inside = file.inside };
       backed = AreBacked-thawed s.hardware.memory memory s.checkpoint s.hardware.spaces refl sound.memory.backed;
       notes = sound.memory.notes;
       noted = sound.memory.noted;
@@ -119,11 +156,13 @@ failed_sound s sound some =
       rising = tt;
       copied = λ copy kept there. absurd (let none = none_left s.hardware.memory.copies copy in cc);
     })
-    (stepped_write_outs s sound flushed.Device true (record s.hardware { memory = memory }) (thawed s.checkpoint) refl sound.write_outs.older (omega arith) (λ set. absurd (some (sound.write_outs.settled set).0)) refl)
+    (stepped_write_outs s sound flushed.Device true (record s.hardware { memory = memory }) (thawed s.checkpoint) refl
+    sound.write_outs.older (omega arith) (λ set. absurd (some (sound.write_outs.settled set).0)) refl)
 
 -- ---- the act
 
-pub flush_admitted : (s : State) (p : ℕ) → reason_against s p acts.Flush ≡ None → (not_running s.hardware.shootdown p ≡ None) × (s.write_outs.broken ≡ false)
+pub flush_admitted : (s : State) (p : ℕ) → reason_against s p acts.Flush ≡ None
+    → (not_running s.hardware.shootdown p ≡ None) × (s.write_outs.broken ≡ false)
 flush_admitted s p none =
     let broken = refuse_if s.write_outs.broken refusals.Broken in
     let parts = first_none (not_running s.hardware.shootdown p) (broken ∷ []) none in
@@ -132,9 +171,11 @@ flush_admitted s p none =
 module _ (s : State) (sound : IsSound s) where
   -- the machine after a step that is answered so
   abbrev after_answer : Flushed → State
-  after_answer answer = record (cond (is_page_next s) (after_record s) s) { write_outs = outs_after s.write_outs answer }
+  after_answer answer =
+      record (cond (is_page_next s) (after_record s) s) { write_outs = outs_after s.write_outs answer }
 
-  advanced_sound : (answer : Flushed) → s.write_outs.broken ≡ false → outs_after s.write_outs answer ≡ record s.write_outs { batches = batches_after answer s.write_outs.batches }
+  advanced_sound : (answer : Flushed) → s.write_outs.broken ≡ false
+      → outs_after s.write_outs answer ≡ record s.write_outs { batches = batches_after answer s.write_outs.batches }
       → batches_after answer s.write_outs.batches ≡ advanced s.write_outs.batches → IsSound (after_answer answer)
   advanced_sound answer whole same advances = by (option_and_then next_record (current s.write_outs.batches)) refl
     where
@@ -142,33 +183,47 @@ module _ (s : State) (sound : IsSound s) where
       batches = s.write_outs.batches
 
       -- no page's record is written
-      others : is_page_next s ≡ false → file_homes s.table (waiting (advanced batches)) ≡ file_homes s.table (waiting batches) → IsSound (after_answer answer)
-      others none waits = subst IsSound (λ i. record (cond (sym none i) (after_record s) s) { write_outs = sym same i }) (going_sound s sound whole answer waits advances)
+      others : is_page_next s ≡ false
+          → file_homes s.table (waiting (advanced batches)) ≡ file_homes s.table (waiting batches)
+          → IsSound (after_answer answer)
+      others none waits = subst IsSound (λ i. record (cond (sym none i) (after_record s) s) { write_outs = sym same i })
+          (going_sound s sound whole answer waits advances)
 
       by : (o : Option ℕ) → option_and_then next_record (current batches) ≡ o → IsSound (after_answer answer)
-      by None none = others (no_page_next s whole none) (ap (file_homes s.table) (unrecorded batches sound.write_outs.older none))
+      by None none = others (no_page_next s whole none)
+          (ap (file_homes s.table) (unrecorded batches sound.write_outs.older none))
       by (Some n) some =
           let c = coming s sound whole n some in
           elim (cases_Bool (leb (first_file_home s.table.layout s.table.slots) c.home)) [
-            | inl page ↦ subst IsSound (λ i. record (cond (sym (page_next s c.home c.is ∙ page) i) (after_record s) s) { write_outs = sym same i }) (record_sound s sound whole answer c.home c.rest c.waits c.after page advances)
-            | inr lengths ↦ others (page_next s c.home c.is ∙ lengths) (ap (file_homes s.table) c.after ∙ sym (cond-false (leb (first_file_home s.table.layout s.table.slots) c.home) (c.home ∷ file_homes s.table c.rest) (file_homes s.table c.rest) lengths) ∙ ap (file_homes s.table) (sym c.waits))
+            | inl page ↦ subst IsSound (λ i.
+                record (cond (sym (page_next s c.home c.is ∙ page) i) (after_record s) s) { write_outs = sym same i })
+                (record_sound s sound whole answer c.home c.rest c.waits c.after page advances)
+            | inr lengths ↦ others (page_next s c.home c.is ∙ lengths) (ap (file_homes s.table) c.after
+                ∙ sym (cond-false (leb (first_file_home s.table.layout s.table.slots) c.home) (c.home ∷ file_homes
+                s.table c.rest) (file_homes s.table c.rest) lengths) ∙ ap (file_homes s.table) (sym c.waits))
           ]
 
-  ended_sound : (mark : ℕ) → s.write_outs.broken ≡ false → has_uncommitted s.write_outs.batches ≡ false → IsSound (after_answer (flushed.Done mark))
+  ended_sound : (mark : ℕ) → s.write_outs.broken ≡ false → has_uncommitted s.write_outs.batches ≡ false
+      → IsSound (after_answer (flushed.Done mark))
   ended_sound mark whole none =
       let nothing : is_page_next s ≡ false = no_page_next s whole (none_recorded s.write_outs.batches none) in
-      subst IsSound (λ i. record (cond (sym nothing i) (after_record s) s) { write_outs = outs_after s.write_outs (flushed.Done mark) }) (done_sound s sound whole mark none)
+      subst IsSound (λ i. record (cond (sym nothing i) (after_record s) s)
+      { write_outs = outs_after s.write_outs (flushed.Done mark) }) (done_sound s sound whole mark none)
 
   -- a step whose device calls succeed is answered so
-  pub made_sound : (answer : Flushed) → s.write_outs.broken ≡ false → next_answer s.write_outs ≡ answer → ((why : Refusal) → reply_to answer ≢ replies.Refused why) → IsSound (after_answer answer)
+  pub made_sound : (answer : Flushed) → s.write_outs.broken ≡ false → next_answer s.write_outs ≡ answer
+      → ((why : Refusal) → reply_to answer ≢ replies.Refused why) → IsSound (after_answer answer)
   made_sound flushed.Going whole is fine = advanced_sound flushed.Going whole refl refl
   made_sound (flushed.Committed mark) whole is fine = advanced_sound (flushed.Committed mark) whole refl refl
   made_sound (flushed.Done mark) whole is fine =
-      ended_sound mark whole (done_none s.write_outs.batches mark (sym (cond-false s.write_outs.broken flushed.Broken (option_map_or answer_of (current s.write_outs.batches) flushed.Broken) whole) ∙ is))
+      ended_sound mark whole (done_none s.write_outs.batches mark (sym (cond-false s.write_outs.broken flushed.Broken
+      (option_map_or answer_of (current s.write_outs.batches) flushed.Broken) whole) ∙ is))
   made_sound flushed.Device whole is fine = absurd (fine refusals.Device refl)
   made_sound flushed.Broken whole is fine = absurd (fine refusals.Broken refl)
 
-  pub flushed_sound : (disk : List ℕ) (p : ℕ) (reply : Reply) (new : State) (disk' : List ℕ) → HasStepped s disk p reply new disk' → ((why : Refusal) → reply ≢ replies.Refused why) → IsSound new
+  pub flushed_sound : (disk : List ℕ) (p : ℕ) (reply : Reply) (new : State) (disk' : List ℕ)
+      → HasStepped s disk p reply new disk' → ((why : Refusal) → reply ≢ replies.Refused why) → IsSound new
   flushed_sound disk p reply new disk' rule fine =
       unchanged_sound (after_answer (next_answer s.write_outs)) new rule.made.done
-      (made_sound (next_answer s.write_outs) (flush_admitted s p rule.made.allowed).1 refl (λ why is. fine why (rule.answered ∙ is)))
+      (made_sound (next_answer s.write_outs) (flush_admitted s p rule.made.allowed).1 refl
+      (λ why is. fine why (rule.answered ∙ is)))

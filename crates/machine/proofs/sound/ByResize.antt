@@ -23,36 +23,45 @@ module _ (s : State) (p : ℕ) (new : State) (made : ResizeMade s p new) (sound 
   -- nothing is frozen
   pub none_frozen_then : s.checkpoint.frozen ≡ []
   none_frozen_then = nothing_mapped (home_of s.table) s.checkpoint.frozen
-      (sound.write_outs.frozen ∙ (λ i. cond (resizable.whole i) [] (file_homes s.table (flat_map (λ (w : WriteOut). drop w.steps w.batch.homes) (resizable.done i)))))
+      (sound.write_outs.frozen ∙ (λ i. cond (resizable.whole i) []
+      (file_homes s.table (flat_map (λ (w : WriteOut). drop w.steps w.batch.homes) (resizable.done i)))))
 
   -- ---- lengths
 
   pub length_there : get_or (set s.lengths made.file made.to) made.file 0 ≡ made.to
   length_there = get_or-set_same s.lengths made.file made.to 0 (omega (arith, sound.lengths, resizable.there))
 
-  pub length_elsewhere : (file : ℕ) → file ≢ made.file → get_or (set s.lengths made.file made.to) file 0 ≡ length_of s file
+  pub length_elsewhere : (file : ℕ) → file ≢ made.file
+      → get_or (set s.lengths made.file made.to) file 0 ≡ length_of s file
   length_elsewhere file other = get_or-set_other s.lengths made.file file made.to 0 other
 
   -- ---- the state after it
 
   abbrev pub after_it : State
-  after_it = record (end_change s p made.spaces made.memory made.checkpoint) { lengths = set s.lengths made.file made.to; resized = true }
+  after_it = record (end_change s p made.spaces made.memory made.checkpoint)
+      { lengths = set s.lengths made.file made.to; resized = true }
 
   within_now : (file : ℕ) → length_of after_it file ≤ capacity_of s file
   within_now file = elim (cases_eq file made.file) [
-    | inl same ↦ subst (λ k. length_of after_it k ≤ capacity_of s k) (sym same) (omega (arith, length_there, resizable.within))
+    | inl same ↦ subst (λ k. length_of after_it k ≤ capacity_of s k) (sym same)
+        (omega (arith, length_there, resizable.within))
     | inr other ↦ omega (arith, length_elsewhere file other, sound.within file)
   ]
 
   spaces_sound_now : AreSpacesSound after_it
   spaces_sound_now =
       let edits = made.pages.cleared in
-      let only : ChangesOnlyAffected (changes.SetLength made.file made.to) s.hardware.spaces made.spaces = λ q at apart. absurd (false≢true (sym apart)) in
-      let wider : IsNoWider (changes.SetLength made.file made.to) s.hardware.spaces made.spaces = record { affected = λ q at now. refl; touched = λ q now. refl } in
-      let are = AreSpaces-EditsEntries (without_past made.file made.to s.hardware.spaces) s.hardware.spaces made.spaces sound.spaces.spaces edits
+      let only : ChangesOnlyAffected (changes.SetLength made.file made.to) s.hardware.spaces made.spaces =
+      λ q at apart. absurd (false≢true (sym apart)) in
+      let wider : IsNoWider (changes.SetLength made.file made.to) s.hardware.spaces made.spaces =
+      record { affected = λ q at now. refl; touched = λ q now. refl } in
+      let are = AreSpaces-EditsEntries
+      (without_past made.file made.to s.hardware.spaces) s.hardware.spaces made.spaces sound.spaces.spaces edits
       (λ q at. none_stays (is_place_past made.file made.to (place_at s.hardware.spaces q at))) in
-      let is = ended_spaces s p (changes.SetLength made.file made.to) made.spaces made.memory made.checkpoint s.write_outs s.marks s.resized made.may only wider are edits.same_spaces
-      (λ q at place there. sound.spaces.in_table q at place (sym (place_at-EditsEntries (without_past made.file made.to s.hardware.spaces) s.hardware.spaces made.spaces edits q at) ∙ there)) sound in
+      let is = ended_spaces s p (changes.SetLength made.file made.to) made.spaces made.memory made.checkpoint
+      s.write_outs s.marks s.resized made.may only wider are edits.same_spaces
+      (λ q at place there. sound.spaces.in_table q at place (sym (place_at-EditsEntries (without_past made.file made.to
+      s.hardware.spaces) s.hardware.spaces made.spaces edits q at) ∙ there)) sound in
       record {
         spaces = is.spaces;
         shootdown = is.shootdown;
@@ -76,7 +85,8 @@ module _ (s : State) (p : ℕ) (new : State) (made : ResizeMade s p new) (sound 
               (let before = before_stays made.file made.to owner still.stays same in
               let long : length_of after_it owner.file ≡ made.to = ap (length_of after_it) same ∙ length_there in
               record { there = was.there; inside = omega (arith, before, long) })
-          | inr other ↦ record { there = was.there; inside = omega (arith, was.inside, length_elsewhere owner.file other) }
+          | inr other ↦
+              record { there = was.there; inside = omega (arith, was.inside, length_elsewhere owner.file other) }
         ])
     | inr now ↦
         (let long : length_of after_it owner.file ≡ made.to = ap (length_of after_it) now.file_is ∙ length_there in

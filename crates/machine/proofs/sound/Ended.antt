@@ -25,14 +25,17 @@ pub holder : (s : State) (p : ℕ) (change : Change) → MayChange s p change �
 holder s p change may =
     let sd = s.hardware.shootdown in
     let parts = both_none (not_there sd p) (lock_refusal p (interrupted sd) sd.lock) may.allowed in
-    let fine : lock_refusal p (interrupted sd) (Some (record { holder = p; change = change })) ≡ None = ap (lock_refusal p (interrupted sd)) (sym may.lock) ∙ parts.1 in
+    let fine : lock_refusal p (interrupted sd) (Some (record { holder = p; change = change })) ≡ None =
+    ap (lock_refusal p (interrupted sd)) (sym may.lock) ∙ parts.1 in
     record {
       there = there_below sd p parts.0;
       held = may.lock;
-      quiet = eqb-true (interrupted sd) 0 (quiet (eqb p p) (eq-eqb p p refl) (eqb (interrupted sd) 0) (interrupted sd) fine);
+      quiet = eqb-true (interrupted sd) 0
+          (quiet (eqb p p) (eq-eqb p p refl) (eqb (interrupted sd) 0) (interrupted sd) fine);
     }
   where
-    quiet : (own : Bool) → own ≡ true → (none : Bool) (waiting : ℕ) → cond own (cond none None (Some (refusals.NotYet waiting))) (Some refusals.Locked) ≡ None → none ≡ true
+    quiet : (own : Bool) → own ≡ true → (none : Bool) (waiting : ℕ)
+        → cond own (cond none None (Some (refusals.NotYet waiting))) (Some refusals.Locked) ≡ None → none ≡ true
     quiet true is true waiting e = refl
     quiet true is false waiting e = absurd (cc)
     quiet false is none waiting e = absurd (cc)
@@ -41,26 +44,34 @@ holder s p change may =
 pub prepared_change : (s : State) (p : ℕ) (change : Change) → IsSound s → MayChange s p change → IsPrepared s change
 prepared_change s p change sound may = sound.spaces.prepared (record { holder = p; change = change }) may.lock
 
-pub unused_change : (s : State) (p : ℕ) (change : Change) → IsSound s → MayChange s p change → IsUnused s.hardware.spaces change s.hardware.shootdown
+pub unused_change : (s : State) (p : ℕ) (change : Change) → IsSound s → MayChange s p change
+    → IsUnused s.hardware.spaces change s.hardware.shootdown
 unused_change s p change sound may =
     let is = holder s p change may in
-    IsUnused-from_Coheres s.hardware.spaces change s.hardware.shootdown (record { holder = p; change = change }) sound.spaces.shootdown sound.spaces.coheres is.held refl is.quiet
+    IsUnused-from_Coheres s.hardware.spaces change s.hardware.shootdown
+    (record { holder = p; change = change }) sound.spaces.shootdown sound.spaces.coheres is.held refl is.quiet
 
 -- ---- processors and page tables after the change
 
-pub ended_spaces : (s : State) (p : ℕ) (change : Change) (spaces : Spaces) (memory : FramesState) (checkpoint : CheckpointState) (outs : WriteOutsValue) (marks : ℕ) (resized : Bool) → MayChange s p change
-    → ChangesOnlyAffected change s.hardware.spaces spaces → IsNoWider change s.hardware.spaces spaces → AreSpaces spaces → ((q : ℕ) → has_space spaces q ≡ has_space s.hardware.spaces q)
+pub ended_spaces : (s : State) (p : ℕ) (change : Change) (spaces : Spaces) (memory : FramesState)
+    (checkpoint : CheckpointState) (outs : WriteOutsValue) (marks : ℕ) (resized : Bool) → MayChange s p change
+    → ChangesOnlyAffected change s.hardware.spaces spaces → IsNoWider change s.hardware.spaces spaces → AreSpaces spaces
+    → ((q : ℕ) → has_space spaces q ≡ has_space s.hardware.spaces q)
     → ((pcid page : ℕ) (place : Place) → place_at spaces pcid page ≡ Some place → place.file < length s.table.files)
-    → IsSound s → AreSpacesSound (record (end_change s p spaces memory checkpoint) { write_outs = outs; marks = marks; resized = resized })
+    → IsSound s → AreSpacesSound
+    (record (end_change s p spaces memory checkpoint) { write_outs = outs; marks = marks; resized = resized })
 ended_spaces s p change spaces memory checkpoint outs marks resized may only wider are same in_table sound =
     let sd = s.hardware.shootdown in
     let is = holder s p change may in
-    let its_change : (lock : Lock) → sd.lock ≡ Some lock → change ≡ lock.change = λ lock held. one lock (sym is.held ∙ held) in
+    let its_change : (lock : Lock) → sd.lock ≡ Some lock → change ≡ lock.change =
+    λ lock held. one lock (sym is.held ∙ held) in
     let now = Coheres-changed change s.hardware.spaces spaces sd only (unused_change s p change sound may)
-    (λ lock held. subst (λ (c : Change). IsNoWider c s.hardware.spaces spaces) (its_change lock held) wider) sound.spaces.coheres in
+    (λ lock held. subst (λ (c : Change). IsNoWider c s.hardware.spaces spaces) (its_change lock held) wider)
+    sound.spaces.coheres in
     record {
       spaces = are;
-      shootdown = IsShootdown-finished sd p (record { holder = p; change = change }) sound.spaces.shootdown is.held refl is.quiet;
+      shootdown = IsShootdown-finished sd p
+          (record { holder = p; change = change }) sound.spaces.shootdown is.held refl is.quiet;
       coheres = Coheres-finished sd p is.there spaces now;
       current = at-with_processor (λ q y. has_space spaces y.space ≡ true) sd p (woken (processor_at sd p)) is.there
           (same _ ∙ sound.spaces.current p is.there) (λ q within other. same _ ∙ sound.spaces.current q within);
@@ -80,9 +91,13 @@ waiting_has_block outs home there =
     (found.0, found.1, contains_drop found.0.steps found.0.batch.homes home found.2)
 
 -- the home block of a frozen page is one of a batch
-pub frozen_has_block : (s : State) (owner : FilePage) → AreWriteOutsSound s → s.write_outs.broken ≡ false → Contains s.checkpoint.frozen owner → HasBlock s.write_outs (home_of s.table owner)
+pub frozen_has_block : (s : State) (owner : FilePage) → AreWriteOutsSound s → s.write_outs.broken ≡ false
+    → Contains s.checkpoint.frozen owner → HasBlock s.write_outs (home_of s.table owner)
 frozen_has_block s owner is whole there =
-    let homes : map (home_of s.table) s.checkpoint.frozen ≡ file_homes s.table (waiting_homes s.write_outs) = is.frozen ∙ ap (λ b. cond b [] (file_homes s.table (waiting_homes s.write_outs))) whole in
+    let homes : map (home_of s.table) s.checkpoint.frozen ≡ file_homes s.table (waiting_homes s.write_outs) =
+    is.frozen ∙ ap (λ b. cond b [] (file_homes s.table (waiting_homes s.write_outs))) whole in
     waiting_has_block s.write_outs (home_of s.table owner)
-    (filter_contains (leb (first_file_home s.table.layout s.table.slots)) (waiting_homes s.write_outs) (home_of s.table owner)
-    (subst (λ (l : List ℕ). Contains l (home_of s.table owner)) homes (Contains-map (home_of s.table) s.checkpoint.frozen owner there)))
+    (filter_contains (leb (first_file_home s.table.layout s.table.slots))
+    (waiting_homes s.write_outs) (home_of s.table owner)
+    (subst (λ (l : List ℕ). Contains l (home_of s.table owner)) homes
+    (Contains-map (home_of s.table) s.checkpoint.frozen owner there)))

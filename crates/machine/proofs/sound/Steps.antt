@@ -14,7 +14,8 @@ use Rattle.machine.proofs.sound.Lists.{once_frames, once_copies, memory_from, Ar
 use Rattle.machine.proofs.sound.Groups.{prepared_moved}
 use Rattle.machine.proofs.sound.Sources.{source_stays}
 use Rattle.machine.proofs.Names.{IsSource, file_homes, count_by, is_none}
-use Rattle.machine.proofs.sound.Waiting.{waiting, length-advanced, committed-advanced, current_uncommitted, all_after, committed_no_record}
+use Rattle.machine.proofs.sound.Waiting.{waiting, length-advanced, committed-advanced}
+use Rattle.machine.proofs.sound.Waiting.{current_uncommitted, all_after, committed_no_record}
 
 -- ---- what a step leaves of processors and write-outs
 
@@ -26,18 +27,26 @@ none_after answer = refl
 
 module _ (s : State) (sound : IsSound s) where
   -- the write-outs, where frames keep their pages
-  pub stepped_write_outs : (answer : Flushed) (broken : Bool) (hardware : Hardware) (checkpoint : CheckpointState) → hardware.memory.frames ≡ s.hardware.memory.frames
-      → AreOlderCommitted (batches_after answer s.write_outs.batches) → length (batches_after answer s.write_outs.batches) ≤ length s.write_outs.batches
+  pub stepped_write_outs : (answer : Flushed) (broken : Bool) (hardware : Hardware) (checkpoint : CheckpointState)
+      → hardware.memory.frames ≡ s.hardware.memory.frames
+      → AreOlderCommitted (batches_after answer s.write_outs.batches)
+      → length (batches_after answer s.write_outs.batches) ≤ length s.write_outs.batches
       → (s.resized ≡ true → broken ≡ false)
-      → map (home_of s.table) checkpoint.frozen ≡ cond broken [] (file_homes s.table (waiting (batches_after answer s.write_outs.batches)))
-      → AreWriteOutsSound (record s { hardware = hardware; checkpoint = checkpoint; write_outs = record s.write_outs { batches = batches_after answer s.write_outs.batches; broken = broken } })
+      → map (home_of s.table) checkpoint.frozen ≡ cond broken
+      [] (file_homes s.table (waiting (batches_after answer s.write_outs.batches)))
+      → AreWriteOutsSound (record s {
+        hardware = hardware;
+        checkpoint = checkpoint;
+        write_outs = record s.write_outs { batches = batches_after answer s.write_outs.batches; broken = broken };
+      })
   stepped_write_outs answer broken hardware checkpoint same older few unset frozen =
       let is = sound.write_outs in
       let batches = s.write_outs.batches in
       let source : ℕ → Type 0 = IsSource s.table hardware.memory in
       let still : All (λ (w : WriteOut). All source w.batch.homes) batches = λ k d within i e below.
       source_stays s.table s.hardware.memory hardware.memory (get_or (get_or batches k d).batch.homes i e)
-      (λ owner at there. ap (λ (frames : List (Option Frame)). list_any (is_of_page owner) frames) same ∙ there) (is.sources k d within i e below) in
+      (λ owner at there. ap (λ (frames : List (Option Frame)). list_any (is_of_page owner) frames) same ∙ there)
+      (is.sources k d within i e below) in
       record {
         geometry = is.geometry;
         few_batches = omega (arith, few, is.few_batches);
@@ -46,15 +55,18 @@ module _ (s : State) (sound : IsSound s) where
         sources = all_after (λ (b : Batch). All source b.homes) answer batches still;
         marked = all_after (λ (b : Batch). (0 < b.mark) × (b.mark ≤ s.marks)) answer batches is.marked;
         few_marks = is.few_marks;
-        settled = λ set. (ap (batches_after answer) (is.settled set).0 ∙ none_after answer, unset set, (is.settled set).2);
+        settled =
+            λ set. (ap (batches_after answer) (is.settled set).0 ∙ none_after answer, unset set, (is.settled set).2);
         frozen = frozen;
       }
 
   -- the processors and the page tables
-  pub stepped_spaces : (memory : FramesState) (checkpoint : CheckpointState) (outs : WriteOutsValue) → memory.frames ≡ s.hardware.memory.frames
+  pub stepped_spaces : (memory : FramesState) (checkpoint : CheckpointState) (outs : WriteOutsValue)
+      → memory.frames ≡ s.hardware.memory.frames
       → ((s.write_outs.broken ≡ false → is_busy s.write_outs ≡ false) → outs.broken ≡ false → is_busy outs ≡ false)
       → (s.write_outs.broken ≡ false → s.write_outs.batches ≡ [] → (outs.broken ≡ false) × (outs.batches ≡ []))
-      → AreSpacesSound (record s { hardware = record s.hardware { memory = memory }; checkpoint = checkpoint; write_outs = outs })
+      → AreSpacesSound
+      (record s { hardware = record s.hardware { memory = memory }; checkpoint = checkpoint; write_outs = outs })
   stepped_spaces memory checkpoint outs same free settled =
       let is = sound.spaces in
       record {
@@ -63,11 +75,16 @@ module _ (s : State) (sound : IsSound s) where
         coheres = is.coheres;
         current = is.current;
         in_table = is.in_table;
-        prepared = λ lock held. prepared_moved s (record s { hardware = record s.hardware { memory = memory }; checkpoint = checkpoint; write_outs = outs }) lock.change (record {
+        prepared = λ lock held. prepared_moved s (record s {
+          hardware = record s.hardware { memory = memory };
+          checkpoint = checkpoint;
+          write_outs = outs;
+        }) lock.change (record {
           users = λ q user. user;
           places = λ q. refl;
           table = refl;
-          in_memory = λ owner there. ap (λ (frames : List (Option Frame)). list_any (is_of_page owner) frames) same ∙ there;
+          in_memory = λ owner there.
+              ap (λ (frames : List (Option Frame)). list_any (is_of_page owner) frames) same ∙ there;
           lengths = refl;
           settled = settled;
           room = ap (λ (frames : List (Option Frame)). count_by is_none frames) same;
@@ -79,33 +96,45 @@ module _ (s : State) (sound : IsSound s) where
 -- ---- whose step it is
 
 -- a step that ends a write-out is one where each batch is committed
-pub done_none : (batches : List WriteOut) (mark : ℕ) → option_map_or answer_of (current batches) flushed.Broken ≡ flushed.Done mark → has_uncommitted batches ≡ false
+pub done_none : (batches : List WriteOut) (mark : ℕ)
+    → option_map_or answer_of (current batches) flushed.Broken ≡ flushed.Done mark → has_uncommitted batches ≡ false
 done_none batches mark e = by (current batches) refl e
   where
-    by : (o : Option WriteOut) → current batches ≡ o → option_map_or answer_of o flushed.Broken ≡ flushed.Done mark → has_uncommitted batches ≡ false
+    by : (o : Option WriteOut) → current batches ≡ o → option_map_or answer_of o flushed.Broken ≡ flushed.Done mark
+        → has_uncommitted batches ≡ false
     by None is e = absurd (cc)
-    by (Some w) is e = false_from_ne_true (has_uncommitted batches) (λ has. both_ways (has_committed w) (current_uncommitted batches w has is) (done_committed w mark e))
+    by (Some w) is e = false_from_ne_true (has_uncommitted batches)
+        (λ has. both_ways (has_committed w) (current_uncommitted batches w has is) (done_committed w mark e))
 
 -- then no record is written
-pub none_recorded : (batches : List WriteOut) → has_uncommitted batches ≡ false → option_and_then next_record (current batches) ≡ None
+pub none_recorded : (batches : List WriteOut) → has_uncommitted batches ≡ false
+    → option_and_then next_record (current batches) ≡ None
 none_recorded [] none = refl
 none_recorded (w ∷ newer) none =
     let parts = committed_parts w newer none in
-    ap (λ (o : Option WriteOut). option_and_then next_record o) (cond-false (has_uncommitted newer) (current newer) (Some w) parts.1) ∙ committed_no_record w parts.0
+    ap (λ (o : Option WriteOut). option_and_then next_record o)
+    (cond-false (has_uncommitted newer) (current newer) (Some w) parts.1) ∙ committed_no_record w parts.0
 
 -- write-outs that may take a batch may still after a step
-pub free-advanced : (outs : WriteOutsValue) → is_busy outs ≡ false → is_busy (record outs { batches = advanced outs.batches }) ≡ false
+pub free-advanced : (outs : WriteOutsValue) → is_busy outs ≡ false
+    → is_busy (record outs { batches = advanced outs.batches }) ≡ false
 free-advanced outs free =
-    let parts = or_parts (has_uncommitted outs.batches) (eqb (length outs.batches) (journals_of outs.geometry.layout)) free in
-    or_from (has_uncommitted (advanced outs.batches)) (eqb (length (advanced outs.batches)) (journals_of outs.geometry.layout)) (committed-advanced outs.batches parts.0)
+    let parts = or_parts (has_uncommitted outs.batches)
+    (eqb (length outs.batches) (journals_of outs.geometry.layout)) free in
+    or_from (has_uncommitted (advanced outs.batches)) (eqb (length (advanced outs.batches))
+    (journals_of outs.geometry.layout)) (committed-advanced outs.batches parts.0)
     (ap (λ n. eqb n (journals_of outs.geometry.layout)) (length-advanced outs.batches) ∙ parts.1)
 
-pub free-done : (outs : WriteOutsValue) → length outs.batches ≤ journals_of outs.geometry.layout → is_busy outs ≡ false → is_busy (record outs { batches = drop 1 outs.batches }) ≡ false
+pub free-done : (outs : WriteOutsValue) → length outs.batches ≤ journals_of outs.geometry.layout → is_busy outs ≡ false
+    → is_busy (record outs { batches = drop 1 outs.batches }) ≡ false
 free-done outs few free =
-    let parts = or_parts (has_uncommitted outs.batches) (eqb (length outs.batches) (journals_of outs.geometry.layout)) free in
+    let parts = or_parts (has_uncommitted outs.batches)
+    (eqb (length outs.batches) (journals_of outs.geometry.layout)) free in
     let other = eqb-false (length outs.batches) (journals_of outs.geometry.layout) parts.1 in
-    or_from (has_uncommitted (drop 1 outs.batches)) (eqb (length (drop 1 outs.batches)) (journals_of outs.geometry.layout)) (rest outs.batches parts.0)
-    (ne_eqb (length (drop 1 outs.batches)) (journals_of outs.geometry.layout) (smaller (length outs.batches) (journals_of outs.geometry.layout) (length (drop 1 outs.batches)) (length-drop 1 outs.batches) few other))
+    or_from (has_uncommitted (drop 1 outs.batches))
+    (eqb (length (drop 1 outs.batches)) (journals_of outs.geometry.layout)) (rest outs.batches parts.0)
+    (ne_eqb (length (drop 1 outs.batches)) (journals_of outs.geometry.layout) (smaller (length outs.batches)
+    (journals_of outs.geometry.layout) (length (drop 1 outs.batches)) (length-drop 1 outs.batches) few other))
   where
     rest : (batches : List WriteOut) → has_uncommitted batches ≡ false → has_uncommitted (drop 1 batches) ≡ false
     rest [] none = refl
@@ -116,7 +145,8 @@ free-done outs few free =
 
 -- ---- copies that become free
 
-freed_before : (page : FilePage) (copies : List (Option Frame)) (k : ℕ) (f : Frame) → get_or (map (freed_copy page) copies) k None ≡ Some f → get_or copies k None ≡ Some f
+freed_before : (page : FilePage) (copies : List (Option Frame)) (k : ℕ) (f : Frame)
+    → get_or (map (freed_copy page) copies) k None ≡ Some f → get_or copies k None ≡ Some f
 freed_before page [] k f e = absurd (cc)
 freed_before page (copy ∷ copies) zero f e = by (is_of_page page copy) e
   where
@@ -125,14 +155,18 @@ freed_before page (copy ∷ copies) zero f e = by (is_of_page page copy) e
     by false e = e
 freed_before page (copy ∷ copies) (suc k) f e = freed_before page copies k f e
 
-pub IsMemory-without_copy_of : (memory : FramesState) (page : FilePage) → IsMemory memory → IsMemory (without_copy_of memory page)
+pub IsMemory-without_copy_of : (memory : FramesState) (page : FilePage) → IsMemory memory
+    → IsMemory (without_copy_of memory page)
 IsMemory-without_copy_of memory page is =
-    memory_from (without_copy_of memory page) (once_frames memory is) (AreOnce-fewer memory.copies (map (freed_copy page) memory.copies) (λ k f e. freed_before page memory.copies k f e) (once_copies memory is))
+    memory_from (without_copy_of memory page) (once_frames memory is) (AreOnce-fewer memory.copies
+    (map (freed_copy page) memory.copies) (λ k f e. freed_before page memory.copies k f e) (once_copies memory is))
 
-pub none_left : (copies : List (Option Frame)) (k : ℕ) → ◌≡◌ {A = Option Frame} (get_or (map (λ copy. None) copies) k None) None
+pub none_left : (copies : List (Option Frame)) (k : ℕ)
+    → ◌≡◌ {A = Option Frame} (get_or (map (λ copy. None) copies) k None) None
 none_left [] k = refl
 none_left (copy ∷ copies) zero = refl
 none_left (copy ∷ copies) (suc k) = none_left copies k
 
 pub IsMemory-without_copies : (memory : FramesState) → IsMemory memory → IsMemory (without_copies memory)
-IsMemory-without_copies memory is = memory_from (without_copies memory) (once_frames memory is) (AreOnce-none (map (λ copy. None) memory.copies) (none_left memory.copies))
+IsMemory-without_copies memory is = memory_from (without_copies memory) (once_frames memory is)
+    (AreOnce-none (map (λ copy. None) memory.copies) (none_left memory.copies))

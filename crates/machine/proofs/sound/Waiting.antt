@@ -19,7 +19,8 @@ blocks w = length w.batch.homes
 pub committed_steps : (w : WriteOut) → has_committed w ≡ true → blocks w + 4 ≤ w.steps
 committed_steps w committed = by (next_stage w) (stage_is (blocks w) w.steps) committed
   where
-    by : (o : Option Stage) → IsAt (blocks w) w.steps o → option_map_or is_committed o true ≡ true → blocks w + 4 ≤ w.steps
+    by : (o : Option Stage) → IsAt (blocks w) w.steps o → option_map_or is_committed o true ≡ true
+        → blocks w + 4 ≤ w.steps
     by None at e = omega (arith, at)
     by (Some (Recording i)) at e = absurd (cc)
     by (Some Describing) at e = absurd (cc)
@@ -54,7 +55,8 @@ committed_still w committed = steps_committed (advanced_of w) (omega (arith, com
 pub record_steps : (w : WriteOut) (i : ℕ) → next_record w ≡ Some i → (w.steps ≡ i) × (i < blocks w)
 record_steps w i is = by (next_stage w) (stage_is (blocks w) w.steps) is
   where
-    by : (o : Option Stage) → IsAt (blocks w) w.steps o → option_and_then record_at o ≡ Some i → (w.steps ≡ i) × (i < blocks w)
+    by : (o : Option Stage) → IsAt (blocks w) w.steps o → option_and_then record_at o ≡ Some i
+        → (w.steps ≡ i) × (i < blocks w)
     by None at e = absurd (cc)
     by (Some (Recording k)) at e = let same : k ≡ i = cc in (at.0 ∙ same, subst (λ n. n < blocks w) same at.1)
     by (Some Describing) at e = absurd (cc)
@@ -114,11 +116,13 @@ pub length-advanced : (batches : List WriteOut) → length (advanced batches) �
 length-advanced [] = refl
 length-advanced (w ∷ newer) = by (has_uncommitted newer) (length-advanced newer)
   where
-    by : (b : Bool) → length (advanced newer) ≡ length newer → length (cond b (w ∷ advanced newer) (advanced_of w ∷ newer)) ≡ length (w ∷ newer)
+    by : (b : Bool) → length (advanced newer) ≡ length newer
+        → length (cond b (w ∷ advanced newer) (advanced_of w ∷ newer)) ≡ length (w ∷ newer)
     by true same = omega (arith, same)
     by false same = refl
 
-pub older-cons : (w : WriteOut) (batches : List WriteOut) → has_committed w ≡ true → AreOlderCommitted batches → AreOlderCommitted (w ∷ batches)
+pub older-cons : (w : WriteOut) (batches : List WriteOut) → has_committed w ≡ true → AreOlderCommitted batches
+    → AreOlderCommitted (w ∷ batches)
 older-cons w [] committed older = tt
 older-cons w (x ∷ batches) committed older = (committed, older)
 
@@ -126,43 +130,54 @@ pub older-rest : (w : WriteOut) (newer : List WriteOut) → AreOlderCommitted (w
 older-rest w [] older = tt
 older-rest w (x ∷ newer) older = older.1
 
-pub older-push : (batches : List WriteOut) (w : WriteOut) → has_uncommitted batches ≡ false → AreOlderCommitted (batches ++ w ∷ [])
+pub older-push : (batches : List WriteOut) (w : WriteOut) → has_uncommitted batches ≡ false
+    → AreOlderCommitted (batches ++ w ∷ [])
 older-push [] w none = tt
-older-push (x ∷ batches) w none = let parts = committed_parts x batches none in older-cons x (batches ++ w ∷ []) parts.0 (older-push batches w parts.1)
+older-push (x ∷ batches) w none = let parts = committed_parts x batches none in
+    older-cons x (batches ++ w ∷ []) parts.0 (older-push batches w parts.1)
 
 pub older-advanced : (batches : List WriteOut) → AreOlderCommitted batches → AreOlderCommitted (advanced batches)
 older-advanced [] older = tt
 older-advanced (w ∷ []) older = tt
 older-advanced (w ∷ x ∷ newer) older = by (has_uncommitted (x ∷ newer)) (older-advanced (x ∷ newer) older.1)
   where
-    by : (b : Bool) → AreOlderCommitted (advanced (x ∷ newer)) → AreOlderCommitted (cond b (w ∷ advanced (x ∷ newer)) (advanced_of w ∷ x ∷ newer))
+    by : (b : Bool) → AreOlderCommitted (advanced (x ∷ newer))
+        → AreOlderCommitted (cond b (w ∷ advanced (x ∷ newer)) (advanced_of w ∷ x ∷ newer))
     by true rest = older-cons w (advanced (x ∷ newer)) older.0 rest
     by false rest = (committed_still w older.0, older.1)
 
-pub committed-advanced : (batches : List WriteOut) → has_uncommitted batches ≡ false → has_uncommitted (advanced batches) ≡ false
+pub committed-advanced : (batches : List WriteOut) → has_uncommitted batches ≡ false
+    → has_uncommitted (advanced batches) ≡ false
 committed-advanced [] none = refl
 committed-advanced (w ∷ newer) none =
     let parts = committed_parts w newer none in
     ap has_uncommitted (cond-false (has_uncommitted newer) (w ∷ advanced newer) (advanced_of w ∷ newer) parts.1)
-    ∙ or_from (not (has_committed (advanced_of w))) (has_uncommitted newer) (not_from_true (has_committed (advanced_of w)) (committed_still w parts.0)) parts.1
+    ∙ or_from (not (has_committed (advanced_of w))) (has_uncommitted newer)
+    (not_from_true (has_committed (advanced_of w)) (committed_still w parts.0)) parts.1
 
 -- where one isn't committed, the next step is of one that isn't
-pub current_uncommitted : (batches : List WriteOut) (w : WriteOut) → has_uncommitted batches ≡ true → current batches ≡ Some w → has_committed w ≡ false
+pub current_uncommitted : (batches : List WriteOut) (w : WriteOut) → has_uncommitted batches ≡ true
+    → current batches ≡ Some w → has_committed w ≡ false
 current_uncommitted [] w has is = absurd (cc)
-current_uncommitted (x ∷ newer) w has is = by (has_uncommitted newer) refl (λ later rest. current_uncommitted newer w later rest) is
+current_uncommitted (x ∷ newer) w has is =
+    by (has_uncommitted newer) refl (λ later rest. current_uncommitted newer w later rest) is
   where
-    by : (b : Bool) → has_uncommitted newer ≡ b → (has_uncommitted newer ≡ true → current newer ≡ Some w → has_committed w ≡ false) → cond b (current newer) (Some x) ≡ Some w → has_committed w ≡ false
+    by : (b : Bool) → has_uncommitted newer ≡ b
+        → (has_uncommitted newer ≡ true → current newer ≡ Some w → has_committed w ≡ false)
+        → cond b (current newer) (Some x) ≡ Some w → has_committed w ≡ false
     by true later within is = within later is
     by false none within is =
         let same : x ≡ w = cc in
-        subst (λ (y : WriteOut). has_committed y ≡ false) same (first (has_committed x) (ap (λ b. not (has_committed x) || b) (sym none) ∙ has))
+        subst (λ (y : WriteOut). has_committed y ≡ false) same
+        (first (has_committed x) (ap (λ b. not (has_committed x) || b) (sym none) ∙ has))
       where
         first : (b : Bool) → (not b || false) ≡ true → b ≡ false
         first true e = absurd (cc)
         first false e = refl
 
 -- what each batch has, it still has
-pub all_after : (P : Batch → Type 0) (answer : Flushed) (batches : List WriteOut) → All (λ w. P w.batch) batches → All (λ w. P w.batch) (batches_after answer batches)
+pub all_after : (P : Batch → Type 0) (answer : Flushed) (batches : List WriteOut) → All (λ w. P w.batch) batches
+    → All (λ w. P w.batch) (batches_after answer batches)
 all_after P answer batches all = λ k d within.
     let before = batch_before answer batches _ (Contains-get_or (batches_after answer batches) k d within) in
     subst P before.2 (All-contains (λ w. P w.batch) batches before.0 all before.1)
@@ -184,14 +199,24 @@ only_waits w = Rattle.std.proofs.lemmas.List.append-nil (waits_of w)
 waits-advanced : (w : WriteOut) → waits_of (advanced_of w) ≡ drop 1 (waits_of w)
 waits-advanced w = sym (drop-drop 1 w.steps w.batch.homes)
 
-pub recorded : (batches : List WriteOut) (i : ℕ) → AreOlderCommitted batches → option_and_then next_record (current batches) ≡ Some i → Recorded batches i
+pub recorded : (batches : List WriteOut) (i : ℕ) → AreOlderCommitted batches
+    → option_and_then next_record (current batches) ≡ Some i → Recorded batches i
 recorded [] i older is = absurd (cc)
 recorded (w ∷ []) i older is =
     let at = record_steps w i is in
-    record { w = w; is = refl; steps = at.0; within = at.1; before = only_waits w; after = only_waits (advanced_of w) ∙ waits-advanced w }
-recorded (w ∷ x ∷ newer) i older is = by (has_uncommitted (x ∷ newer)) refl (λ rest. recorded (x ∷ newer) i older.1 rest) is
+    record {
+      w = w;
+      is = refl;
+      steps = at.0;
+      within = at.1;
+      before = only_waits w;
+      after = only_waits (advanced_of w) ∙ waits-advanced w;
+    }
+recorded (w ∷ x ∷ newer) i older is =
+    by (has_uncommitted (x ∷ newer)) refl (λ rest. recorded (x ∷ newer) i older.1 rest) is
   where
-    by : (b : Bool) → has_uncommitted (x ∷ newer) ≡ b → (option_and_then next_record (current (x ∷ newer)) ≡ Some i → Recorded (x ∷ newer) i)
+    by : (b : Bool) → has_uncommitted (x ∷ newer) ≡ b
+        → (option_and_then next_record (current (x ∷ newer)) ≡ Some i → Recorded (x ∷ newer) i)
         → option_and_then next_record (cond b (current (x ∷ newer)) (Some w)) ≡ Some i → Recorded (w ∷ x ∷ newer) i
     by true later within is =
         let rest = within is in
@@ -202,19 +227,25 @@ recorded (w ∷ x ∷ newer) i older is = by (has_uncommitted (x ∷ newer)) ref
           steps = rest.steps;
           within = rest.within;
           before = ap (λ (l : List ℕ). l ++ waiting (x ∷ newer)) front ∙ rest.before;
-          after = ap waiting (cond-true (has_uncommitted (x ∷ newer)) (w ∷ advanced (x ∷ newer)) (advanced_of w ∷ x ∷ newer) later)
+          after = ap waiting
+              (cond-true (has_uncommitted (x ∷ newer)) (w ∷ advanced (x ∷ newer)) (advanced_of w ∷ x ∷ newer) later)
               ∙ ap (λ (l : List ℕ). l ++ waiting (advanced (x ∷ newer))) front ∙ rest.after;
         }
     by false none within is = absurd (let no_record = committed_no_record w older.0 in cc)
 
 -- any other step leaves what waits
-pub unrecorded : (batches : List WriteOut) → AreOlderCommitted batches → option_and_then next_record (current batches) ≡ None → waiting (advanced batches) ≡ waiting batches
+pub unrecorded : (batches : List WriteOut) → AreOlderCommitted batches
+    → option_and_then next_record (current batches) ≡ None → waiting (advanced batches) ≡ waiting batches
 unrecorded [] older is = refl
 unrecorded (w ∷ []) older is =
     let many = no_record_steps w is in
-    only_waits (advanced_of w) ∙ none_waits (advanced_of w) (omega (arith, many)) ∙ sym (none_waits w many) ∙ sym (only_waits w)
+    only_waits (advanced_of w) ∙ none_waits (advanced_of w) (omega (arith, many))
+    ∙ sym (none_waits w many) ∙ sym (only_waits w)
 unrecorded (w ∷ x ∷ newer) older is = by (has_uncommitted (x ∷ newer)) (λ rest. unrecorded (x ∷ newer) older.1 rest) is
   where
-    by : (b : Bool) → (option_and_then next_record (current (x ∷ newer)) ≡ None → waiting (advanced (x ∷ newer)) ≡ waiting (x ∷ newer)) → option_and_then next_record (cond b (current (x ∷ newer)) (Some w)) ≡ None → waiting (cond b (w ∷ advanced (x ∷ newer)) (advanced_of w ∷ x ∷ newer)) ≡ waiting (w ∷ x ∷ newer)
+    by : (b : Bool) → (option_and_then next_record (current (x ∷ newer)) ≡ None → waiting (advanced (x ∷ newer))
+        ≡ waiting (x ∷ newer)) → option_and_then next_record (cond b (current (x ∷ newer)) (Some w)) ≡ None
+        → waiting (cond b (w ∷ advanced (x ∷ newer)) (advanced_of w ∷ x ∷ newer)) ≡ waiting (w ∷ x ∷ newer)
     by true within is = ap (λ (l : List ℕ). waits_of w ++ l) (within is)
-    by false within is = ap (λ (l : List ℕ). l ++ waiting (x ∷ newer)) (committed_waits (advanced_of w) (committed_still w older.0) ∙ sym (committed_waits w older.0))
+    by false within is = ap (λ (l : List ℕ). l ++ waiting (x ∷ newer))
+        (committed_waits (advanced_of w) (committed_still w older.0) ∙ sym (committed_waits w older.0))

@@ -16,7 +16,15 @@ use Rattle.machine.proofs.sound.Lists.{kept_some}
 pub dirty_at : (spaces : Spaces) (c : CheckpointState) (pcid page frame : ℕ) (entry : Mapped)
     → entry_at spaces pcid page ≡ Some entry → entry.frame ≡ frame → entry.dirty ≡ true → IsDirty spaces c frame
 dirty_at spaces c pcid page frame entry present same dirty =
-    inr (record { pcid = pcid; page = page; there = tt; entry = entry; present = present; same_frame = same; dirty = dirty })
+    inr (record {
+      pcid = pcid;
+      page = page;
+      there = tt;
+      entry = entry;
+      present = present;
+      same_frame = same;
+      dirty = dirty;
+    })
 
 -- what is dirty stays so where its note and each dirty entry of its frame leave it so
 pub dirty_from : (old new : Spaces) (c d : CheckpointState) (frame : ℕ)
@@ -74,15 +82,18 @@ pub record Takes (taken : ℕ → ℕ → Type 0) (old new : Spaces) : Type 0 wh
   pub entries : (q at : ℕ) → entry_at new q at ≡ cond (test q at) None (entry_at old q at)
   pub passes : (q at : ℕ) → test q at ≡ true → taken q at
 
-pub takes_range : (spaces : Spaces) (pcid : ℕ) (range : PageRange) → Takes (IsInRange pcid range) spaces (without_mapping spaces pcid range)
+pub takes_range : (spaces : Spaces) (pcid : ℕ) (range : PageRange)
+    → Takes (IsInRange pcid range) spaces (without_mapping spaces pcid range)
 takes_range spaces pcid range = record {
   test = λ q at. eqb q pcid && is_among range.first range.count at;
   entries = entry_at-without_mapping spaces pcid range;
-  passes = λ q at h. let parts = and_parts (eqb q pcid) (is_among range.first range.count at) h in (eqb-true q pcid parts.0, parts.1);
+  passes = λ q at h. let parts = and_parts (eqb q pcid) (is_among range.first range.count at) h in
+      (eqb-true q pcid parts.0, parts.1);
 }
 
 pub takes_space : (spaces : Spaces) (pcid : ℕ) → Takes (IsInSpace pcid) spaces (maps.remove spaces pcid)
-takes_space spaces pcid = record { test = λ q at. eqb q pcid; entries = entry_at-remove spaces pcid; passes = λ q at h. eqb-true q pcid h }
+takes_space spaces pcid =
+    record { test = λ q at. eqb q pcid; entries = entry_at-remove spaces pcid; passes = λ q at h. eqb-true q pcid h }
 
 pub dirty_taken : (taken : ℕ → ℕ → Type 0) (old new : Spaces) (c d : CheckpointState) (frame : ℕ) → Takes taken old new
     → NotesTaken old taken c d → IsDirty old c frame ↔ IsDirty new d frame
@@ -91,7 +102,15 @@ dirty_taken taken old new c d frame takes notes = (
       elim (cases_Bool (takes.test q at)) [
         | inl gone ↦
             (let there = takes.passes q at gone in
-            inl ((notes.noted frame).1 (inr (record { pcid = q; page = at; there = there; entry = e; present = is; same_frame = same; dirty = dirty }))))
+            inl ((notes.noted frame).1 (inr (record {
+              pcid = q;
+              page = at;
+              there = there;
+              entry = e;
+              present = is;
+              same_frame = same;
+              dirty = dirty;
+            }))))
         | inr stays ↦
             dirty_at new d q at frame e
             (takes.entries q at ∙ cond-false (takes.test q at) None (entry_at old q at) stays ∙ is) same dirty
@@ -101,7 +120,8 @@ dirty_taken taken old new c d frame takes notes = (
         | inl was ↦ inl was
         | inr x ↦ dirty_at old c x.pcid x.page frame x.entry x.present x.same_frame x.dirty
       ])
-      (λ q at e is. dirty_at old c q at frame e (kept_some (takes.test q at) (entry_at old q at) e (sym (takes.entries q at) ∙ is))),
+      (λ q at e is. dirty_at old c q at frame e
+      (kept_some (takes.test q at) (entry_at old q at) e (sym (takes.entries q at) ∙ is))),
 )
 
 -- ---- one page gets an entry
@@ -119,7 +139,10 @@ module _ (spaces : Spaces) (pcid page : ℕ) (now : Mapped) (c : CheckpointState
       elim (cases_Bool here) [
         | inl same ↦
             (let parts = and_parts (eqb q pcid) (eqb at page) same in
-            inl ((λ i. entry_at spaces (eqb-true q pcid parts.0 i) (eqb-true at page parts.1 i)), is ∙ cond-true here (Some now) (entry_at spaces q at) same))
+            inl (
+              (λ i. entry_at spaces (eqb-true q pcid parts.0 i) (eqb-true at page parts.1 i)),
+              is ∙ cond-true here (Some now) (entry_at spaces q at) same,
+            ))
         | inr other ↦ inr (is ∙ cond-false here (Some now) (entry_at spaces q at) other)
       ]
 
@@ -129,7 +152,8 @@ module _ (spaces : Spaces) (pcid page : ℕ) (now : Mapped) (c : CheckpointState
   dirty_kept frame keeps = dirty_from spaces after_it c c frame (λ noted. inl noted) (λ q at e is same dirty.
       elim (entry_cases q at) [
         | inl here ↦
-            (let still = keeps e (sym here.0 ∙ is) dirty in dirty_at after_it c q at frame now here.1 (still.0 ∙ same) still.1)
+            (let still = keeps e (sym here.0 ∙ is) dirty in
+            dirty_at after_it c q at frame now here.1 (still.0 ∙ same) still.1)
         | inr other ↦ dirty_at after_it c q at frame e (other ∙ is) same dirty
       ])
 
@@ -149,7 +173,8 @@ module _ (spaces : Spaces) (pcid page : ℕ) (now : Mapped) (c : CheckpointState
   dirty_there is =
       let here = and_from (eqb pcid pcid) (eqb page page) (eq-eqb pcid pcid refl) (eq-eqb page page refl) in
       dirty_at after_it c pcid page now.frame now
-      (entry_at-with_entry spaces pcid page (Some now) pcid page ∙ cond-true (eqb pcid pcid && eqb page page) (Some now) (entry_at spaces pcid page) here) refl is
+      (entry_at-with_entry spaces pcid page (Some now) pcid page
+      ∙ cond-true (eqb pcid pcid && eqb page page) (Some now) (entry_at spaces pcid page) here) refl is
 
   -- the same frames are dirty where the former entry is of the same frame, and as dirty
   pub dirty_alike : (frame : ℕ) (old : Mapped) → entry_at spaces pcid page ≡ Some old → now.frame ≡ old.frame
@@ -158,7 +183,8 @@ module _ (spaces : Spaces) (pcid page : ℕ) (now : Mapped) (c : CheckpointState
     dirty_kept frame (λ was is dirty.
         let this : old ≡ was = some_same old was (sym present ∙ is) in
         (same_frame ∙ ap (λ (m : Mapped). m.frame) this, same_dirty ∙ ap (λ (m : Mapped). m.dirty) this ∙ dirty)),
-    dirty_back frame (λ dirty here. dirty_at spaces c pcid page frame old present (sym same_frame ∙ here) (sym same_dirty ∙ dirty)),
+    dirty_back frame
+        (λ dirty here. dirty_at spaces c pcid page frame old present (sym same_frame ∙ here) (sym same_dirty ∙ dirty)),
   )
 
 -- a fault is served: the new entry is as dirty as the former one
@@ -172,8 +198,10 @@ dirty_fixed spaces pcid page frame can write None none c f =
     )
 dirty_fixed spaces pcid page frame can write (Some entry) present c f =
     let other = record entry { writable = can } in
-    let alike : ((fixed_entry (Some entry) frame can write).frame ≡ entry.frame) × ((fixed_entry (Some entry) frame can write).dirty ≡ entry.dirty) =
-    elim (not write || entry.writable) as (λ b. ((cond b entry other).frame ≡ entry.frame) × ((cond b entry other).dirty ≡ entry.dirty)) [ true ↦ (refl, refl) | false ↦ (refl, refl) ] in
+    let alike : ((fixed_entry (Some entry) frame can write).frame ≡ entry.frame)
+    × ((fixed_entry (Some entry) frame can write).dirty ≡ entry.dirty) =
+    elim (not write || entry.writable) as (λ b. ((cond b entry other).frame ≡ entry.frame)
+    × ((cond b entry other).dirty ≡ entry.dirty)) [ true ↦ (refl, refl) | false ↦ (refl, refl) ] in
     dirty_alike spaces pcid page (fixed_entry (Some entry) frame can write) c f entry present alike.0 alike.1
 
 -- ---- a mark: no frame is dirty any more
@@ -181,7 +209,8 @@ dirty_fixed spaces pcid page frame can write (Some entry) present c f =
 pub clean_after_mark : (old new : Spaces) (memory : FramesState) (c d : CheckpointState) (freezes : Bool)
     (pages : List FilePage) (frame : ℕ) → Gathers old memory c d freezes pages → ProtectsNoted d old new
     → IsDirty new (without_notes d) frame → ⊥
-clean_after_mark old new memory c d freezes pages frame gathers protects (inl noted) = false≢true (sym (get_or-replicate-same (length d.notes) frame false) ∙ noted)
+clean_after_mark old new memory c d freezes pages frame gathers protects (inl noted) =
+    false≢true (sym (get_or-replicate-same (length d.notes) frame false) ∙ noted)
 clean_after_mark old new memory c d freezes pages frame gathers protects (inr x) =
     go (entry_at old x.pcid x.page) refl (sym (protects.entries x.pcid x.page) ∙ x.present)
   where
@@ -191,11 +220,14 @@ clean_after_mark old new memory c d freezes pages frame gathers protects (inr x)
         elim (cases_Bool (is_noted d was.frame)) [
           | inl noted ↦
               let is : record was { writable = false; dirty = false } ≡ x.entry =
-              some_same _ x.entry (sym (cond-true (is_noted d was.frame) (protected_of (Some was)) (Some was) noted) ∙ e) in
+              some_same _ x.entry
+              (sym (cond-true (is_noted d was.frame) (protected_of (Some was)) (Some was) noted) ∙ e) in
               false≢true (ap (λ (m : Mapped). m.dirty) is ∙ x.dirty)
           | inr unnoted ↦
-              let is : was ≡ x.entry = some_same was x.entry (sym (cond-false (is_noted d was.frame) (protected_of (Some was)) (Some was) unnoted) ∙ e) in
-              let dirty = dirty_at old c x.pcid x.page was.frame was present refl (ap (λ (m : Mapped). m.dirty) is ∙ x.dirty) in
+              let is : was ≡ x.entry = some_same was x.entry
+              (sym (cond-false (is_noted d was.frame) (protected_of (Some was)) (Some was) unnoted) ∙ e) in
+              let dirty = dirty_at old c x.pcid x.page was.frame was present refl
+              (ap (λ (m : Mapped). m.dirty) is ∙ x.dirty) in
               false≢true (sym unnoted ∙ (gathers.noted was.frame).1 dirty)
         ]
 
@@ -208,7 +240,9 @@ in_use_not_free (Some f) used free = cc
 pub clean_where_free : (memory : FramesState) (c : CheckpointState) (spaces : Spaces) (frame : ℕ)
     → AreBacked memory c spaces → ((f : ℕ) → is_noted c f ≡ true → IsSome (frame_at memory f))
     → frame_at memory frame ≡ None → IsDirty spaces c frame → ⊥
-clean_where_free memory c spaces frame backed in_use free (inl noted) = in_use_not_free (frame_at memory frame) (in_use frame noted) free
+clean_where_free memory c spaces frame backed in_use free (inl noted) =
+    in_use_not_free (frame_at memory frame) (in_use frame noted) free
 clean_where_free memory c spaces frame backed in_use free (inr d) =
     let is = backed d.pcid d.page d.entry d.present in
-    none_some (page_at is.place) (sym (ap page_of free) ∙ subst (λ f. Holds memory f (page_at is.place)) d.same_frame is.held)
+    none_some (page_at is.place)
+    (sym (ap page_of free) ∙ subst (λ f. Holds memory f (page_at is.place)) d.same_frame is.held)

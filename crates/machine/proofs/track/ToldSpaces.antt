@@ -24,8 +24,10 @@ pub record AreProcessorsTold (spaces : List ℕ) (runs : List Bool) (s : Shootdo
   pub same_running : (p : ℕ) → p < length runs → get_or runs p false ≡ is_running (state_of s p)
 
 -- the same of processors that are in the same spaces, and go on where these did
-pub told_same : (spaces : List ℕ) (runs : List Bool) (s new : ShootdownState) → length new.processors ≡ length s.processors → ((q : ℕ) → q < length s.processors → current new q ≡ current s q)
-    → ((q : ℕ) → q < length s.processors → is_running (state_of new q) ≡ is_running (state_of s q)) → AreProcessorsTold spaces runs s → AreProcessorsTold spaces runs new
+pub told_same : (spaces : List ℕ) (runs : List Bool) (s new : ShootdownState)
+    → length new.processors ≡ length s.processors → ((q : ℕ) → q < length s.processors → current new q ≡ current s q)
+    → ((q : ℕ) → q < length s.processors → is_running (state_of new q) ≡ is_running (state_of s q))
+    → AreProcessorsTold spaces runs s → AreProcessorsTold spaces runs new
 told_same spaces runs s new as_many same_current same_running t = record {
   processors = t.processors ∙ sym as_many;
   same_current = λ q within. t.same_current q within ∙ sym (same_current q (omega (arith, t.processors)));
@@ -34,10 +36,13 @@ told_same spaces runs s new as_many same_current same_running t = record {
 }
 
 -- one processor is another, in a space and going on or not
-module _ (spaces : List ℕ) (runs : List Bool) (s : ShootdownState) (p : ℕ) (x : Processor) (there : p < length s.processors) (t : AreProcessorsTold spaces runs s) where
+module _ (spaces : List ℕ) (runs : List Bool) (s : ShootdownState) (p : ℕ) (x : Processor)
+    (there : p < length s.processors) (t : AreProcessorsTold spaces runs s) where
   -- of each processor, that it is as was told, or is the other one
-  each : {X : Type 0} (part : Processor → X) (values : List X) (d y : X) → length values ≡ length s.processors → ((q : ℕ) → q < length values → get_or values q d ≡ part (processor_at s q)) → part x ≡ y
-      → (q : ℕ) → q < length (set values p y) → get_or (set values p y) q d ≡ part (processor_at (with_processor s p x) q)
+  each : {X : Type 0} (part : Processor → X) (values : List X) (d y : X) → length values ≡ length s.processors
+      → ((q : ℕ) → q < length values → get_or values q d ≡ part (processor_at s q)) → part x ≡ y
+      → (q : ℕ) → q < length (set values p y)
+      → get_or (set values p y) q d ≡ part (processor_at (with_processor s p x) q)
   each part values d y as_many same is q within =
       let size = length-set values p y in
       elim (cases_eq q p) [
@@ -50,7 +55,8 @@ module _ (spaces : List ℕ) (runs : List Bool) (s : ShootdownState) (p : ℕ) (
       ]
 
   -- it is in this space, and goes on or doesn't
-  told_replaced : (space : ℕ) (b : Bool) → x.space ≡ space → is_running x.state ≡ b → AreProcessorsTold (set spaces p space) (set runs p b) (with_processor s p x)
+  told_replaced : (space : ℕ) (b : Bool) → x.space ≡ space → is_running x.state ≡ b
+      → AreProcessorsTold (set spaces p space) (set runs p b) (with_processor s p x)
   told_replaced space b in_it goes = record {
     processors = length-set spaces p space ∙ t.processors ∙ sym (length-with_processor s p x);
     same_current = each (λ (y : Processor). y.space) spaces 0 space t.processors t.same_current in_it;
@@ -66,54 +72,71 @@ module _ (spaces : List ℕ) (runs : List Bool) (s : ShootdownState) (p : ℕ) (
   same_run = ap (set runs p) (sym (t.same_running p (omega (arith, t.as_many)))) ∙ set-get_or runs p false
 
   -- it goes on from now on, or doesn't
-  pub told_running : (b : Bool) → x.space ≡ current s p → is_running x.state ≡ b → AreProcessorsTold spaces (set runs p b) (with_processor s p x)
-  told_running b space state = subst (λ l. AreProcessorsTold l (set runs p b) (with_processor s p x)) same_space (told_replaced (current s p) b space state)
+  pub told_running : (b : Bool) → x.space ≡ current s p → is_running x.state ≡ b
+      → AreProcessorsTold spaces (set runs p b) (with_processor s p x)
+  told_running b space state = subst (λ l. AreProcessorsTold l (set runs p b) (with_processor s p x)) same_space
+      (told_replaced (current s p) b space state)
 
   -- it is in another space
-  pub told_switched : (pcid : ℕ) → x.space ≡ pcid → is_running x.state ≡ is_running (state_of s p) → AreProcessorsTold (set spaces p pcid) runs (with_processor s p x)
-  told_switched pcid space state = subst (λ l. AreProcessorsTold (set spaces p pcid) l (with_processor s p x)) same_run (told_replaced pcid (is_running (state_of s p)) space state)
+  pub told_switched : (pcid : ℕ) → x.space ≡ pcid → is_running x.state ≡ is_running (state_of s p)
+      → AreProcessorsTold (set spaces p pcid) runs (with_processor s p x)
+  told_switched pcid space state = subst (λ l. AreProcessorsTold (set spaces p pcid) l (with_processor s p x)) same_run
+      (told_replaced pcid (is_running (state_of s p)) space state)
 
   -- only what isn't told of it changes
-  pub told_still : x.space ≡ current s p → is_running x.state ≡ is_running (state_of s p) → AreProcessorsTold spaces runs (with_processor s p x)
-  told_still space state = subst (λ l. AreProcessorsTold spaces l (with_processor s p x)) same_run (told_running (is_running (state_of s p)) space state)
+  pub told_still : x.space ≡ current s p → is_running x.state ≡ is_running (state_of s p)
+      → AreProcessorsTold spaces runs (with_processor s p x)
+  told_still space state = subst (λ l. AreProcessorsTold spaces l (with_processor s p x)) same_run
+      (told_running (is_running (state_of s p)) space state)
 
 -- who goes on still does when a change begins: an interrupted one until it stalls
-running_when_begun : (touched : Bool) (state : ProcState) → is_running (state_when_begun touched state) ≡ is_running state
+running_when_begun : (touched : Bool) (state : ProcState)
+    → is_running (state_when_begun touched state) ≡ is_running state
 running_when_begun true Active = refl
 running_when_begun true state = refl
 running_when_begun false state = refl
 
 -- a change begins: its initiator stops
-pub told_begun : (spaces : List ℕ) (runs : List Bool) (s : ShootdownState) (p : ℕ) (m : Spaces) (change : Change) → p < length s.processors → AreProcessorsTold spaces runs s → AreProcessorsTold spaces (set runs p false) (begun s p m change)
+pub told_begun : (spaces : List ℕ) (runs : List Bool) (s : ShootdownState) (p : ℕ) (m : Spaces) (change : Change)
+    → p < length s.processors → AreProcessorsTold spaces runs s
+    → AreProcessorsTold spaces (set runs p false) (begun s p m change)
 told_begun spaces runs s p m change there t =
-    let state : (q : ℕ) → q < length s.processors → state_of (begun s p m change) q ≡ cond (eqb q p) Initiating (state_when_begun (touches m change (current s q)) (state_of s q)) = λ q within.
-    ap (λ (y : Processor). y.state) (processor_at-begun s p m change q within) ∙ state-begun_one p m change q (processor_at s q) in
+    let state : (q : ℕ) → q < length s.processors → state_of (begun s p m change) q
+    ≡ cond (eqb q p) Initiating (state_when_begun (touches m change (current s q)) (state_of s q)) = λ q within.
+    ap (λ (y : Processor). y.state) (processor_at-begun s p m change q within)
+    ∙ state-begun_one p m change q (processor_at s q) in
     record {
       processors = t.processors ∙ sym (length-begun s p m change);
-      same_current = λ q within. t.same_current q within ∙ sym (current-begun s p m change q (omega (arith, t.processors)));
+      same_current = λ q within. t.same_current q within
+          ∙ sym (current-begun s p m change q (omega (arith, t.processors)));
       as_many = length-set runs p false ∙ t.as_many ∙ sym (length-begun s p m change);
       same_running = λ q within.
           let size = length-set runs p false in
           let below : q < length s.processors = omega (arith, t.as_many, size) in
           elim (cases_eq q p) [
             | inl here ↦
-                ap (λ n. get_or (set runs p false) n false) here ∙ get_or-set_same runs p false false (omega (arith, t.as_many))
+                ap (λ n. get_or (set runs p false) n false) here
+                ∙ get_or-set_same runs p false false (omega (arith, t.as_many))
                 ∙ sym (ap is_running (state q below ∙ cond-true (eqb q p) Initiating _ (eq-eqb q p here)))
             | inr other ↦
                 get_or-set_other runs p q false false other ∙ t.same_running q (omega (arith, size))
-                ∙ sym (ap is_running (state q below ∙ cond-false (eqb q p) Initiating _ (ne_eqb q p other)) ∙ running_when_begun (touches m change (current s q)) (state_of s q))
+                ∙ sym (ap is_running (state q below ∙ cond-false (eqb q p) Initiating _ (ne_eqb q p other))
+                ∙ running_when_begun (touches m change (current s q)) (state_of s q))
           ];
     }
 
 -- who is told of an invalidation goes on as before
 state-told : (x : Processor) (a : Invpcid) → (told x a).state ≡ x.state
-state-told x a = elim (is_concerned x a) as (λ b. (cond b (record x { queue = queued x.queue a }) x).state ≡ x.state) [ true ↦ refl | false ↦ refl ]
+state-told x a = elim (is_concerned x a) as (λ b. (cond b (record x { queue = queued x.queue a }) x).state ≡ x.state)
+    [ true ↦ refl | false ↦ refl ]
 
 -- a space is destroyed
-pub told_destroyed : (spaces : List ℕ) (runs : List Bool) (s : ShootdownState) (pcid : ℕ) → AreProcessorsTold spaces runs s → AreProcessorsTold spaces runs (destroyed s pcid)
+pub told_destroyed : (spaces : List ℕ) (runs : List Bool) (s : ShootdownState) (pcid : ℕ)
+    → AreProcessorsTold spaces runs s → AreProcessorsTold spaces runs (destroyed s pcid)
 told_destroyed spaces runs s pcid =
     told_same spaces runs s (destroyed s pcid) (length-destroyed s pcid) (λ q within. current-destroyed s pcid q within)
-    (λ q within. ap (λ (y : Processor). is_running y.state) (processor_at-destroyed s pcid q within) ∙ ap is_running (state-told (processor_at s q) (SingleContext pcid)))
+    (λ q within. ap (λ (y : Processor). is_running y.state) (processor_at-destroyed s pcid q within)
+    ∙ ap is_running (state-told (processor_at s q) (SingleContext pcid)))
 
 -- ---- the spaces as they are told: which there are, and what each maps
 
@@ -126,31 +149,39 @@ pub record AreSpacesTold (told : ToldSpaces) (m : Spaces) : Type 0 where
   pub same_places : (pcid : ℕ) → unwrap_or (maps.get told pcid) maps.empty ≡ (space_at m pcid).places
 
 -- the same of spaces that map the same
-pub spaces_still : (told : ToldSpaces) (m new : Spaces) → ((q : ℕ) → has_space new q ≡ has_space m q) → ((q : ℕ) → (space_at new q).places ≡ (space_at m q).places) → AreSpacesTold told m → AreSpacesTold told new
+pub spaces_still : (told : ToldSpaces) (m new : Spaces) → ((q : ℕ) → has_space new q ≡ has_space m q)
+    → ((q : ℕ) → (space_at new q).places ≡ (space_at m q).places) → AreSpacesTold told m → AreSpacesTold told new
 spaces_still told m new spaces places t = record {
   same_spaces = λ q. t.same_spaces q ∙ sym (spaces q);
   same_places = λ q. t.same_places q ∙ sym (places q);
 }
 
 module _ (told : ToldSpaces) (n : ℕ) where
-  get-told_insert : (places : Places) (q : ℕ) → maps.get (maps.insert told n places) q ≡ cond (eqb q n) (Some places) (maps.get told q)
-  get-told_insert places q = maps.get-insert nat_cmp_total told n places q ∙ ap (λ b. cond b (Some places) (maps.get told q)) (unsigned_tied q n)
+  get-told_insert : (places : Places) (q : ℕ)
+      → maps.get (maps.insert told n places) q ≡ cond (eqb q n) (Some places) (maps.get told q)
+  get-told_insert places q = maps.get-insert nat_cmp_total told n places q
+      ∙ ap (λ b. cond b (Some places) (maps.get told q)) (unsigned_tied q n)
 
   get-told_remove : (q : ℕ) → maps.get (maps.remove told n) q ≡ cond (eqb q n) None (maps.get told q)
-  get-told_remove q = maps.get-remove nat_cmp_total told n q ∙ ap (λ b. cond b None (maps.get told q)) (unsigned_tied q n)
+  get-told_remove q = maps.get-remove nat_cmp_total told n q
+      ∙ ap (λ b. cond b None (maps.get told q)) (unsigned_tied q n)
 
   -- one space maps other places
-  pub spaces_with : (m new : Spaces) (places : Places) → ((q : ℕ) → has_space new q ≡ (eqb q n || has_space m q)) → (space_at new n).places ≡ places → ((q : ℕ) → q ≢ n → (space_at new q).places ≡ (space_at m q).places)
+  pub spaces_with : (m new : Spaces) (places : Places) → ((q : ℕ) → has_space new q ≡ (eqb q n || has_space m q))
+      → (space_at new n).places ≡ places → ((q : ℕ) → q ≢ n → (space_at new q).places ≡ (space_at m q).places)
       → AreSpacesTold told m → AreSpacesTold (maps.insert told n places) new
   spaces_with m new places spaces here others t = record {
     same_spaces = λ q.
-        ap is_some (get-told_insert places q) ∙ either (eqb q n) (maps.get told q) ∙ ap (λ b. eqb q n || b) (t.same_spaces q) ∙ sym (spaces q);
+        ap is_some (get-told_insert places q) ∙ either (eqb q n) (maps.get told q)
+        ∙ ap (λ b. eqb q n || b) (t.same_spaces q) ∙ sym (spaces q);
     same_places = λ q. elim (cases_eq q n) [
       | inl same ↦
-          ap (λ o. unwrap_or o maps.empty) (get-told_insert places q ∙ ap (λ b. cond b (Some places) (maps.get told q)) (eq-eqb q n same))
+          ap (λ o. unwrap_or o maps.empty)
+          (get-told_insert places q ∙ ap (λ b. cond b (Some places) (maps.get told q)) (eq-eqb q n same))
           ∙ sym here ∙ sym (ap (λ k. (space_at new k).places) same)
       | inr other ↦
-          ap (λ o. unwrap_or o maps.empty) (get-told_insert places q ∙ ap (λ b. cond b (Some places) (maps.get told q)) (ne_eqb q n other))
+          ap (λ o. unwrap_or o maps.empty)
+          (get-told_insert places q ∙ ap (λ b. cond b (Some places) (maps.get told q)) (ne_eqb q n other))
           ∙ t.same_places q ∙ sym (others q other)
     ];
   }
@@ -163,7 +194,8 @@ module _ (told : ToldSpaces) (n : ℕ) where
   pub spaces_without : (m : Spaces) → AreSpacesTold told m → AreSpacesTold (maps.remove told n) (maps.remove m n)
   spaces_without m t = record {
     same_spaces = λ q.
-        ap is_some (get-told_remove q) ∙ either (eqb q n) (maps.get told q) ∙ ap (λ b. not (eqb q n) && b) (t.same_spaces q) ∙ sym (has_space-remove m n q);
+        ap is_some (get-told_remove q) ∙ either (eqb q n) (maps.get told q)
+        ∙ ap (λ b. not (eqb q n) && b) (t.same_spaces q) ∙ sym (has_space-remove m n q);
     same_places = λ q.
         ap (λ o. unwrap_or o maps.empty) (get-told_remove q)
         ∙ by_test (eqb q n) q ∙ sym (ap (λ (x : AddressSpace). x.places) (space_at-remove m n q));
@@ -173,12 +205,15 @@ module _ (told : ToldSpaces) (n : ℕ) where
       either true o = refl
       either false o = refl
 
-      by_test : (b : Bool) (q : ℕ) → unwrap_or (cond b None (maps.get told q)) maps.empty ≡ (cond b empty_space (space_at m q)).places
+      by_test : (b : Bool) (q : ℕ)
+          → unwrap_or (cond b None (maps.get told q)) maps.empty ≡ (cond b empty_space (space_at m q)).places
       by_test true q = refl
       by_test false q = t.same_places q
 
   -- one is made, or replaced
-  pub spaces_made : (m : Spaces) (space : AddressSpace) → AreSpacesTold told m → AreSpacesTold (maps.insert told n space.places) (with_space m n space)
+  pub spaces_made : (m : Spaces) (space : AddressSpace) → AreSpacesTold told m
+      → AreSpacesTold (maps.insert told n space.places) (with_space m n space)
   spaces_made m space =
-      spaces_with m (with_space m n space) space.places (has_space-with_space m n space) (ap (λ (x : AddressSpace). x.places) (space_at-with_space_same m n space))
+      spaces_with m (with_space m n space) space.places (has_space-with_space m n space)
+      (ap (λ (x : AddressSpace). x.places) (space_at-with_space_same m n space))
       (λ q other. ap (λ (x : AddressSpace). x.places) (space_at-with_space_other m n space q other))

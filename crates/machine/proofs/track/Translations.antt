@@ -21,26 +21,33 @@ pub record IsTranslated (h : Hardware) (p page : ℕ) (write : Bool) (frame : �
   pub present : entry_at h.spaces (current h.shootdown p) page ≡ Some entry
   pub same_frame : frame ≡ entry.frame
   pub allowed : write ≡ true → entry.writable ≡ true
-  pub reached : ((new ≡ h) × (write ≡ true → entry.dirty ≡ true)) ⊎ (new ≡ walked h p page (record entry { accessed = true; dirty = entry.dirty || write }))
+  pub reached : ((new ≡ h) × (write ≡ true → entry.dirty ≡ true))
+      ⊎ (new ≡ walked h p page (record entry { accessed = true; dirty = entry.dirty || write }))
 
 same_ok : {X E : Type 0} (x y : X) → ◌≡◌ {A = Result X E} (Ok x) (Ok y) → x ≡ y
 same_ok x y e = cc
 
-same_pair : {X Y : Type 0} {E : Type 0} (a c : X) (b d : Y) → ◌≡◌ {A = Result (X × Y) E} (Ok (a, b)) (Ok (c, d)) → (a ≡ c) × (b ≡ d)
-same_pair a c b d e = let pairs : (a, b) ≡ (c, d) = same_ok (a, b) (c, d) e in (ap (λ x. x.0) pairs, ap (λ x. x.1) pairs)
+same_pair : {X Y : Type 0} {E : Type 0} (a c : X) (b d : Y) → ◌≡◌ {A = Result (X × Y) E} (Ok (a, b)) (Ok (c, d))
+    → (a ≡ c) × (b ≡ d)
+same_pair a c b d e = let pairs : (a, b) ≡ (c, d) = same_ok (a, b) (c, d) e in
+    (ap (λ x. x.0) pairs, ap (λ x. x.1) pairs)
 
 module _ (h : Hardware) (p page : ℕ) (write : Bool) (frame : ℕ) (new : Hardware) where
-  by_walk : (o : Option Mapped) → entry_at h.spaces (current h.shootdown p) page ≡ o → walked_to h p page (walk o write) ≡ Ok (frame, new) → IsTranslated h p page write frame new
+  by_walk : (o : Option Mapped) → entry_at h.spaces (current h.shootdown p) page ≡ o
+      → walked_to h p page (walk o write) ≡ Ok (frame, new) → IsTranslated h p page write frame new
   by_walk None present made = absurd (cc)
   by_walk (Some entry) present made = go (write && not entry.writable) refl made
     where
       noted : Mapped
       noted = record entry { accessed = true; dirty = entry.dirty || write }
 
-      go : (b : Bool) → (write && not entry.writable) ≡ b → walked_to h p page (cond b (Err 7) (Ok (record entry { accessed = true; dirty = entry.dirty || write }))) ≡ Ok (frame, new) → IsTranslated h p page write frame new
+      go : (b : Bool) → (write && not entry.writable) ≡ b → walked_to h p page
+          (cond b (Err 7) (Ok (record entry { accessed = true; dirty = entry.dirty || write }))) ≡ Ok (frame, new)
+          → IsTranslated h p page write frame new
       go true refused made = absurd (cc)
       go false allowed made =
-          let both = same_pair entry.frame frame (walked h p page (record entry { accessed = true; dirty = entry.dirty || write })) new made in
+          let both = same_pair entry.frame frame
+          (walked h p page (record entry { accessed = true; dirty = entry.dirty || write })) new made in
           record {
             entry = entry;
             present = present;
@@ -49,20 +56,25 @@ module _ (h : Hardware) (p page : ℕ) (write : Bool) (frame : ℕ) (new : Hardw
             reached = inr (sym both.1);
           }
 
-  by_cached : Coheres h.spaces h.shootdown → not_running h.shootdown p ≡ None → (o : Option CachedEntry) → cached (processor_at h.shootdown p).tlb (current h.shootdown p) page ≡ o
+  by_cached : Coheres h.spaces h.shootdown → not_running h.shootdown p ≡ None → (o : Option CachedEntry)
+      → cached (processor_at h.shootdown p).tlb (current h.shootdown p) page ≡ o
       → translated_by h p page write o ≡ Ok (frame, new) → IsTranslated h p page write frame new
   by_cached coheres runs None found made = by_walk (entry_at h.spaces (current h.shootdown p) page) refl made
   by_cached coheres runs (Some e) found made = go (serves write e) refl made
     where
-      go : (b : Bool) → serves write e ≡ b → cond b (Ok (e.frame, h)) (walked_to h p page (walk (entry_at h.spaces (current h.shootdown p) page) write)) ≡ Ok (frame, new) → IsTranslated h p page write frame new
+      go : (b : Bool) → serves write e ≡ b → cond b (Ok (e.frame, h))
+          (walked_to h p page (walk (entry_at h.spaces (current h.shootdown p) page) write)) ≡ Ok (frame, new)
+          → IsTranslated h p page write frame new
       go false unserved made = by_walk (entry_at h.spaces (current h.shootdown p) page) refl made
       go true served made =
           let is_running = running h.shootdown p runs in
           let covered = coheres.covered p (is_there_below h.shootdown p is_running.0) in
-          let here = cached-All (λ x. IsUsable (processor_at h.shootdown p) x → Agrees h.spaces x) (processor_at h.shootdown p).tlb (current h.shootdown p) page e covered found in
+          let here = cached-All (λ x. IsUsable (processor_at h.shootdown p) x → Agrees h.spaces x)
+          (processor_at h.shootdown p).tlb (current h.shootdown p) page e covered found in
           let agrees = here.2 (inr (is_running.1, here.0)) in
           let both = same_pair e.frame frame h new made in
-          let writes : write ≡ true → (e.writable && e.dirty) ≡ true = λ is. subst (λ b. (not b || (e.writable && e.dirty)) ≡ true) is served in
+          let writes : write ≡ true → (e.writable && e.dirty) ≡ true =
+          λ is. subst (λ b. (not b || (e.writable && e.dirty)) ≡ true) is served in
           record {
             entry = agrees.0;
             present = (λ i. entry_at h.spaces (sym here.0 i) (sym here.1 i)) ∙ agrees.1;
@@ -72,8 +84,10 @@ module _ (h : Hardware) (p page : ℕ) (write : Bool) (frame : ℕ) (new : Hardw
           }
 
   -- each translation that is made on a coherent machine is one
-  pub is_translated : Coheres h.spaces h.shootdown → not_running h.shootdown p ≡ None → translated h p page write ≡ Ok (frame, new) → IsTranslated h p page write frame new
-  is_translated coheres runs made = by_cached coheres runs (cached (processor_at h.shootdown p).tlb (current h.shootdown p) page) refl made
+  pub is_translated : Coheres h.spaces h.shootdown → not_running h.shootdown p ≡ None
+      → translated h p page write ≡ Ok (frame, new) → IsTranslated h p page write frame new
+  is_translated coheres runs made =
+      by_cached coheres runs (cached (processor_at h.shootdown p).tlb (current h.shootdown p) page) refl made
 
   -- frames stay
   pub memory-translated : IsTranslated h p page write frame new → new.memory ≡ h.memory
@@ -83,8 +97,10 @@ module _ (h : Hardware) (p page : ℕ) (write : Bool) (frame : ℕ) (new : Hardw
   ]
 
 -- a fill caches an entry that is there
-pub filled_cases : (h : Hardware) (p page : ℕ) (there : Bool) (new : Hardware) (o : Option Mapped) → entry_at h.spaces (current h.shootdown p) page ≡ o → (there, new) ≡ filled_by h p page o
-    → (new ≡ h) ⊎ ((entry : Mapped) × (entry_at h.spaces (current h.shootdown p) page ≡ Some entry) × (new ≡ walked h p page (record entry { accessed = true })))
+pub filled_cases : (h : Hardware) (p page : ℕ) (there : Bool) (new : Hardware) (o : Option Mapped)
+    → entry_at h.spaces (current h.shootdown p) page ≡ o → (there, new) ≡ filled_by h p page o
+    → (new ≡ h) ⊎ ((entry : Mapped) × (entry_at h.spaces (current h.shootdown p) page ≡ Some entry)
+    × (new ≡ walked h p page (record entry { accessed = true })))
 filled_cases h p page there new None present made = inl (ap (λ (x : Bool × Hardware). x.1) made)
 filled_cases h p page there new (Some entry) present made = inr (entry, present, ap (λ (x : Bool × Hardware). x.1) made)
 
@@ -98,25 +114,36 @@ pub record HasLoaded (h : Hardware) (p va count : ℕ) (bytes : List ℕ) : Type
   pub holds : Holds h.memory frame (page_at place)
   pub read : bytes ≡ take count (drop (va % 4096) (bytes_of (frame_at h.memory frame)))
 
-pub has_loaded : (h : Hardware) (c : CheckpointState) (p va count : ℕ) (bytes : List ℕ) (new : Hardware) → Coheres h.spaces h.shootdown → AreBacked h.memory c h.spaces → LoadMade h p va count bytes new → HasLoaded h p va count bytes
+pub has_loaded : (h : Hardware) (c : CheckpointState) (p va count : ℕ) (bytes : List ℕ) (new : Hardware)
+    → Coheres h.spaces h.shootdown → AreBacked h.memory c h.spaces → LoadMade h p va count bytes new
+    → HasLoaded h p va count bytes
 has_loaded h c p va count bytes new coheres backed made =
     let t = is_translated h p (va / 4096) false made.frame new coheres made.running made.translation in
     let was = backed (current h.shootdown p) (va / 4096) t.entry t.present in
-    record { place = was.place; leads = was.mapped; frame = t.entry.frame; holds = was.held; read = made.read ∙ ap (λ f. take count (drop (va % 4096) (bytes_of (frame_at h.memory f)))) t.same_frame }
+    record {
+      place = was.place;
+      leads = was.mapped;
+      frame = t.entry.frame;
+      holds = was.held;
+      read = made.read ∙ ap (λ f. take count (drop (va % 4096) (bytes_of (frame_at h.memory f)))) t.same_frame;
+    }
 
 -- the hardware is as told after it where it was before
 pub record KeepsTold (h new : Hardware) : Type 0 where
   pub lock : new.shootdown.lock ≡ h.shootdown.lock
-  pub processors : (spaces : List ℕ) (runs : List Bool) → AreProcessorsTold spaces runs h.shootdown → AreProcessorsTold spaces runs new.shootdown
+  pub processors : (spaces : List ℕ) (runs : List Bool) → AreProcessorsTold spaces runs h.shootdown
+      → AreProcessorsTold spaces runs new.shootdown
   pub spaces : (told : ToldSpaces) → AreSpacesTold told h.spaces → AreSpacesTold told new.spaces
 
 -- so it is after a walk
-told_walked : (h : Hardware) (p page : ℕ) (old now : Mapped) → is_there h.shootdown p ≡ true → entry_at h.spaces (current h.shootdown p) page ≡ Some old → KeepsTold h (walked h p page now)
+told_walked : (h : Hardware) (p page : ℕ) (old now : Mapped) → is_there h.shootdown p ≡ true
+    → entry_at h.spaces (current h.shootdown p) page ≡ Some old → KeepsTold h (walked h p page now)
 told_walked h p page old now there present = record {
   lock = refl;
   processors = λ spaces runs t. told_still spaces runs h.shootdown p _ (is_there_below h.shootdown p there) t refl refl;
   spaces = λ told t. spaces_still told h.spaces (with_entry h.spaces (current h.shootdown p) page (Some now))
-      (has_space-with_entry h.spaces (current h.shootdown p) page (Some now) (has_space-entry h.spaces (current h.shootdown p) page old present))
+      (has_space-with_entry h.spaces (current h.shootdown p) page (Some now)
+      (has_space-entry h.spaces (current h.shootdown p) page old present))
       (places-with_entry h.spaces (current h.shootdown p) page (Some now)) t;
 }
 
@@ -136,7 +163,9 @@ pub record HasStored (h : Hardware) (c : CheckpointState) (p va : ℕ) (bytes : 
   pub dirty_still : (f : ℕ) → IsDirty h.spaces c f → IsDirty new.spaces c f
   pub dirty_before : (f : ℕ) → f ≢ frame → IsDirty new.spaces c f → IsDirty h.spaces c f
 
-pub has_stored : (h : Hardware) (c : CheckpointState) (p va : ℕ) (bytes : List ℕ) (new : Hardware) → Coheres h.spaces h.shootdown → AreBacked h.memory c h.spaces → StoreMade h p va bytes new → HasStored h c p va bytes new
+pub has_stored : (h : Hardware) (c : CheckpointState) (p va : ℕ) (bytes : List ℕ) (new : Hardware)
+    → Coheres h.spaces h.shootdown → AreBacked h.memory c h.spaces → StoreMade h p va bytes new
+    → HasStored h c p va bytes new
 has_stored h c p va bytes new coheres backed made =
     let t = is_translated h p (va / 4096) true made.frame made.mid coheres made.running made.translation in
     let pcid = current h.shootdown p in
@@ -144,8 +173,10 @@ has_stored h c p va bytes new coheres backed made =
     let was = backed pcid page t.entry t.present in
     let now : Mapped = record t.entry { accessed = true; dirty = t.entry.dirty || true } in
     let told : KeepsTold h made.mid = elim t.reached [
-      | inl kept ↦ subst (KeepsTold h) (sym kept.0) (record { lock = refl; processors = λ spaces runs t. t; spaces = λ told t. t })
-      | inr noted ↦ subst (KeepsTold h) (sym noted) (told_walked h p page t.entry now (running h.shootdown p made.running).0 t.present)
+      | inl kept ↦ subst (KeepsTold h) (sym kept.0)
+          (record { lock = refl; processors = λ spaces runs t. t; spaces = λ told t. t })
+      | inr noted ↦ subst (KeepsTold h) (sym noted)
+          (told_walked h p page t.entry now (running h.shootdown p made.running).0 t.present)
     ] in
     subst (HasStored h c p va bytes) (sym made.written) (record {
       place = was.place;
@@ -154,19 +185,26 @@ has_stored h c p va bytes new coheres backed made =
       frame = t.entry.frame;
       holds = was.held;
       thawed = was.thawed (t.allowed refl);
-      memory = ap (λ (m : FramesState). with_bytes m made.frame (va % 4096) bytes) (memory-translated h p page true made.frame made.mid t) ∙ ap (λ f. with_bytes h.memory f (va % 4096) bytes) t.same_frame;
+      memory = ap (λ (m : FramesState). with_bytes m made.frame (va % 4096) bytes) (memory-translated h p page true
+          made.frame made.mid t) ∙ ap (λ f. with_bytes h.memory f (va % 4096) bytes) t.same_frame;
       told = record { lock = told.lock; processors = told.processors; spaces = told.spaces };
       dirty_now = elim t.reached [
-        | inl kept ↦ dirty_at made.mid.spaces c pcid page t.entry.frame t.entry (ap (λ (x : Hardware). entry_at x.spaces pcid page) kept.0 ∙ t.present) refl (kept.1 refl)
-        | inr noted ↦ subst (λ (x : Hardware). IsDirty x.spaces c t.entry.frame) (sym noted) (dirty_there h.spaces pcid page now c (or_right t.entry.dirty true refl))
+        | inl kept ↦ dirty_at made.mid.spaces c pcid page t.entry.frame t.entry
+            (ap (λ (x : Hardware). entry_at x.spaces pcid page) kept.0 ∙ t.present) refl (kept.1 refl)
+        | inr noted ↦ subst (λ (x : Hardware). IsDirty x.spaces c t.entry.frame) (sym noted)
+            (dirty_there h.spaces pcid page now c (or_right t.entry.dirty true refl))
       ];
       dirty_still = λ f is. elim t.reached [
         | inl kept ↦ subst (λ (x : Hardware). IsDirty x.spaces c f) (sym kept.0) is
         | inr noted ↦ subst (λ (x : Hardware). IsDirty x.spaces c f) (sym noted) (dirty_kept h.spaces pcid page now c f
-            (λ old at _. (ap (λ (m : Mapped). m.frame) (some_same t.entry old (sym t.present ∙ at)), or_right t.entry.dirty true refl)) is)
+            (λ old at _. (
+              ap (λ (m : Mapped). m.frame) (some_same t.entry old (sym t.present ∙ at)),
+              or_right t.entry.dirty true refl,
+            )) is)
       ];
       dirty_before = λ f other is. elim t.reached [
         | inl kept ↦ subst (λ (x : Hardware). IsDirty x.spaces c f) kept.0 is
-        | inr noted ↦ dirty_back h.spaces pcid page now c f (λ _ here. absurd (other (sym here))) (subst (λ (x : Hardware). IsDirty x.spaces c f) noted is)
+        | inr noted ↦ dirty_back h.spaces pcid page now c f (λ _ here. absurd (other (sym here)))
+            (subst (λ (x : Hardware). IsDirty x.spaces c f) noted is)
       ];
     })

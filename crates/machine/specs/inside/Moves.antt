@@ -1,5 +1,6 @@
 -- What acts do to a machine, taken apart into moves: what each changes, and what it tells of a run.
-use Rattle.std.specs.Prelude.{ℕ, ◌≡◌, ◌≢◌, ◌<◌, ◌↔◌, ◌==◌, ◌||◌, Bool, true, false, List, [], ◌∷◌, ◌++◌, length, Option, Some, None, IsSome, slice_set, slice_get}
+use Rattle.std.specs.Prelude.{ℕ, ◌≡◌, ◌≢◌, ◌<◌, ◌↔◌, ◌==◌, ◌||◌, Bool, true, false, List, [], ◌∷◌}
+use Rattle.std.specs.Prelude.{◌++◌, length, Option, Some, None, IsSome, slice_set, slice_get}
 use Rattle.std.specs.FinMap as maps
 use Rattle.page_entry.specs.Entry.{Mapped}
 use Rattle.page_entry.specs.declared.numbers.FilePage.{FilePage}
@@ -30,10 +31,12 @@ use Rattle.machine.specs.declared.act.Reply.{Reply}
 use Rattle.machine.specs.declared.act.Reply.TheVariants as replies
 use Rattle.machine.specs.State.{State, page_from}
 use Rattle.machine.specs.Refusals.{reason_against}
-use Rattle.machine.specs.Rules.{with_hardware, with_shootdown, with_spaces, begin_change, end_change, MayChange, MayLeave, SpaceDestroyed, MarkMade, ResizeMade, FlushMade, FlushFailed}
+use Rattle.machine.specs.Rules.{with_hardware, with_shootdown, with_spaces, begin_change, end_change, MayChange}
+use Rattle.machine.specs.Rules.{MayLeave, SpaceDestroyed, MarkMade, ResizeMade, FlushMade, FlushFailed}
 use Rattle.machine.specs.Durability.{IsInFile}
 use Rattle.machine.specs.Steps.{step_work}
-use Rattle.machine.specs.Told.{Told, Pending, with_running, with_places, begun_by, ended_by, changed, store_at, place_told, places_in, tell}
+use Rattle.machine.specs.Told.{Told, Pending, with_running, with_places, begun_by}
+use Rattle.machine.specs.Told.{ended_by, changed, store_at, place_told, places_in, tell}
 use Rattle.machine.specs.inside.Sound.{IsPrepared}
 use Rattle.machine.specs.inside.Tracking.{pending_in}
 

@@ -1,5 +1,6 @@
 -- How a machine's state and its device go with what its run tells.
-use Rattle.std.specs.Prelude.{ℕ, ◌≡◌, ◌≢◌, ◌<◌, ◌≤◌, ◌↔◌, ◌⊎◌, ◌*◌, Bool, true, false, List, ◌++◌, length, map, Option, Some, None, is_some, Contains, slice_index_or}
+use Rattle.std.specs.Prelude.{ℕ, ◌≡◌, ◌≢◌, ◌<◌, ◌≤◌, ◌↔◌, ◌⊎◌, ◌*◌, Bool, true, false, List, ◌++◌}
+use Rattle.std.specs.Prelude.{length, map, Option, Some, None, is_some, Contains, slice_index_or}
 use Rattle.std.specs.List.{All, list_any}
 use Rattle.std.specs.FinMap as maps
 use Rattle.page_entry.specs.declared.numbers.FilePage.{FilePage}
@@ -18,7 +19,8 @@ use Rattle.shootdown.specs.Processors.{is_running}
 use Rattle.shootdown.specs.Shootdown.{state_of, current}
 use Rattle.checkpoint.specs.Checkpoint.{Holds, IsDirty}
 use Rattle.fault.specs.Fault.{is_in_memory}
-use Rattle.machine.specs.History.{Event, SetLength, Memory, memory_of, after, lengths_of, lengths_after, since_mark, is_touched, Mark, Acknowledge, IsMarked}
+use Rattle.machine.specs.History.{Event, SetLength, Memory, memory_of, after, lengths_of}
+use Rattle.machine.specs.History.{lengths_after, since_mark, is_touched, Mark, Acknowledge, IsMarked}
 use Rattle.machine.specs.State.{State, home_of, part, cut_at_end}
 use Rattle.machine.specs.Rules.{bytes_at_mark}
 use Rattle.machine.specs.Durability.{IsInFile, within_file}

@@ -6,4 +6,5 @@ use Rattle.device.proofs.deferred.keep_write.Goals as goal
 
 pub returns-in-Ok-clause-log : goal.returns-in-Ok-clause-log
 returns-in-Ok-clause-log g c =
-    ap changes_of c.in_ok-keep.ensures.ok ∙ changes_of-push c.args.log.now.items _ ∙ ap (λ (l : List ℕ). write c.args.at l ∷ changes_of c.args.log.now.items) c.in_ok-from_slice.ensures.items
+    ap changes_of c.in_ok-keep.ensures.ok ∙ changes_of-push c.args.log.now.items _
+    ∙ ap (λ (l : List ℕ). write c.args.at l ∷ changes_of c.args.log.now.items) c.in_ok-from_slice.ensures.items

@@ -9,28 +9,36 @@ use Rattle.device.proofs.deferred.waits_for.Goals as goal
 
 pub one_writes_to-newer_one-requires : goal.one_writes_to-newer_one-requires
 one_writes_to-newer_one-requires g c =
-    let both = changes_of_both c.as_slices.result.0.now c.as_slices.result.1.now c.args.log.now.items c.as_slices.ensures.items in
-    within_front (2 ^ 64 - 1) (changes_of c.as_slices.result.1.now) (changes_of c.as_slices.result.0.now) (subst (λ (l : List DiskChange). AreWithin (2 ^ 64 - 1) l) both c.requires)
+    let both = changes_of_both c.as_slices.result.0.now c.as_slices.result.1.now c.args.log.now.items
+    c.as_slices.ensures.items in
+    within_front (2 ^ 64 - 1) (changes_of c.as_slices.result.1.now) (changes_of c.as_slices.result.0.now)
+    (subst (λ (l : List DiskChange). AreWithin (2 ^ 64 - 1) l) both c.requires)
 
 pub one_writes_to-older_one-requires : goal.one_writes_to-older_one-requires
 one_writes_to-older_one-requires g c =
-    let both = changes_of_both c.as_slices.result.0.now c.as_slices.result.1.now c.args.log.now.items c.as_slices.ensures.items in
-    within_older (2 ^ 64 - 1) (changes_of c.as_slices.result.1.now) (changes_of c.as_slices.result.0.now) (subst (λ (l : List DiskChange). AreWithin (2 ^ 64 - 1) l) both c.requires)
+    let both = changes_of_both c.as_slices.result.0.now c.as_slices.result.1.now c.args.log.now.items
+    c.as_slices.ensures.items in
+    within_older (2 ^ 64 - 1) (changes_of c.as_slices.result.1.now) (changes_of c.as_slices.result.0.now)
+    (subst (λ (l : List DiskChange). AreWithin (2 ^ 64 - 1) l) both c.requires)
 
 pub returns-then-newer_one : goal.returns-then-newer_one
 returns-then-newer_one g c =
     let older = changes_of c.as_slices.result.0.now in
     let newer = changes_of c.as_slices.result.1.now in
     let block = c.args.block in
-    let both = changes_of_both c.as_slices.result.0.now c.as_slices.result.1.now c.args.log.now.items c.as_slices.ensures.items in
+    let both = changes_of_both c.as_slices.result.0.now c.as_slices.result.1.now c.args.log.now.items
+    c.as_slices.ensures.items in
     c.if-newer_one.true
-    ∙ sym (ap (λ (l : List DiskChange). one_reaches l block) both ∙ one_of_two newer older block ∙ ap (λ b. b || one_reaches older block) (sym c.one_writes_to-newer_one.ensures ∙ c.if-newer_one.true))
+    ∙ sym (ap (λ (l : List DiskChange). one_reaches l block) both ∙ one_of_two newer older block
+    ∙ ap (λ b. b || one_reaches older block) (sym c.one_writes_to-newer_one.ensures ∙ c.if-newer_one.true))
 
 pub returns-else-newer_one : goal.returns-else-newer_one
 returns-else-newer_one g c =
     let older = changes_of c.as_slices.result.0.now in
     let newer = changes_of c.as_slices.result.1.now in
     let block = c.args.block in
-    let both = changes_of_both c.as_slices.result.0.now c.as_slices.result.1.now c.args.log.now.items c.as_slices.ensures.items in
+    let both = changes_of_both c.as_slices.result.0.now c.as_slices.result.1.now c.args.log.now.items
+    c.as_slices.ensures.items in
     c.one_writes_to-older_one.ensures
-    ∙ sym (ap (λ (l : List DiskChange). one_reaches l block) both ∙ one_of_two newer older block ∙ ap (λ b. b || one_reaches older block) (sym c.one_writes_to-newer_one.ensures ∙ c.if-newer_one.false))
+    ∙ sym (ap (λ (l : List DiskChange). one_reaches l block) both ∙ one_of_two newer older block
+    ∙ ap (λ b. b || one_reaches older block) (sym c.one_writes_to-newer_one.ensures ∙ c.if-newer_one.false))

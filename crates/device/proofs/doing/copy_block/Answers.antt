@@ -14,7 +14,10 @@ pub returns-in-Ok-write : goal.returns-in-Ok-write
 returns-in-Ok-write g c =
     let disk = g.D.Device.seen c.args.device.now in
     let size : length c.args.buffer.now ≡ 4096 = omega (arith, c.fits-buffer) in
-    let seen : g.D.Device.is_honest c.args.device.now → g.D.Device.seen c.write.new.self ≡ written disk (4096 * c.args.to) (take 4096 (drop (4096 * c.args.from) disk)) = λ honest.
+    let seen : g.D.Device.is_honest c.args.device.now → g.D.Device.seen c.write.new.self
+    ≡ written disk (4096 * c.args.to) (take 4096 (drop (4096 * c.args.from) disk)) = λ honest.
     c.in-Ok-write.ensures.written (c.in-Ok.ensures.honest.1 honest)
-    ∙ copied (g.D.Device.seen c.read.new.self) disk c.read.new.buffer c.from.result c.args.from c.from-2.result c.args.to (length c.args.buffer.now) c.in-Ok.ensures.same c.from.ensures c.from-2.ensures size (c.in-Ok.ensures.bytes honest) in
+    ∙ copied (g.D.Device.seen c.read.new.self) disk c.read.new.buffer c.from.result c.args.from c.from-2.result
+    c.args.to (length c.args.buffer.now) c.in-Ok.ensures.same c.from.ensures c.from-2.ensures size
+    (c.in-Ok.ensures.bytes honest) in
     search rules

@@ -6,4 +6,5 @@ use Rattle.device.proofs.log.log_write.Goals as goal
 
 pub returns-clause-ok : goal.returns-clause-ok
 returns-clause-ok g c =
-    ap changes_of c.in_ok-push.ensures.items ∙ changes_of-push c.args.log.now.items _ ∙ ap (λ (l : List ℕ). write c.args.at l ∷ changes_of c.args.log.now.items) c.in_ok-from_slice.ensures.items
+    ap changes_of c.in_ok-push.ensures.items ∙ changes_of-push c.args.log.now.items _
+    ∙ ap (λ (l : List ℕ). write c.args.at l ∷ changes_of c.args.log.now.items) c.in_ok-from_slice.ensures.items

@@ -11,11 +11,14 @@ rest n log = between_to_end log n (length log) (omega arith)
 
 pub put_all-requires-clause-within : goal.put_all-requires-clause-within
 put_all-requires-clause-within g c =
-    subst (λ (l : List (Logged g.row.A.Denot)). AreWithin (length c.args.content.now) (changes_of l)) (sym (rest c.args.synced c.args.log.now))
+    subst (λ (l : List (Logged g.row.A.Denot)). AreWithin (length c.args.content.now) (changes_of l))
+    (sym (rest c.args.synced c.args.log.now))
     (AreWithin-drop c.args.log.now c.args.synced (length c.args.content.now) c.requires.within)
 
 pub returns : goal.returns
 returns g c =
     c.put_all.ensures
-    ∙ ap (λ (l : List (Logged g.row.A.Denot)). with_choice (changes_of l) c.args.choice.now c.args.content.now) (rest c.args.synced c.args.log.now)
-    ∙ with_choice-chosen c.args.log.now c.args.synced c.args.choice.now c.args.content.now c.requires.choice c.requires.since c.requires.within
+    ∙ ap (λ (l : List (Logged g.row.A.Denot)). with_choice (changes_of l) c.args.choice.now c.args.content.now)
+    (rest c.args.synced c.args.log.now)
+    ∙ with_choice-chosen c.args.log.now c.args.synced c.args.choice.now c.args.content.now c.requires.choice
+    c.requires.since c.requires.within

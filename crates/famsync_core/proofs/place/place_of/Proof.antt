@@ -34,7 +34,8 @@ place_of_spec 𝓤 𝓛 𝓜 𝓡 wired =
     let b = a.0.ref_ptr.0 in
     let o = a.0.ref_ptr.1 in
     let y : (walk_of 𝓛 f.ended stayed c).Ghost = ((κs, qs, bounds, a, (shr_slice_vals a.0, tt)), tt) in
-    qed 𝓛 (((‵ (flft κs.0 qs.0) ⊛ ‵ ftrue) ⊛ ‵ ((ShrSlice (named 0) κs.0 u8).own_val a.0 (shr_slice_vals a.0)) ⊛ ‵ ftrue)
+    qed 𝓛
+    (((‵ (flft κs.0 qs.0) ⊛ ‵ ftrue) ⊛ ‵ ((ShrSlice (named 0) κs.0 u8).own_val a.0 (shr_slice_vals a.0)) ⊛ ‵ ftrue)
     ∷ ‵ ftrue ∷ []) ∵
     split ! $ split ! $ keep ! (0 ∷ []) $
     -- [the token of the slice's lifetime]

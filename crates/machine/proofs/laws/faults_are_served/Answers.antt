@@ -1,4 +1,5 @@
-use Rattle.machine.proofs.Names.{ℕ, List, [], ◌∷◌, subst, Ghosts, Step, Act, Reply, State, Whole, Acts, ServesNext, FaultsAreServed}
+use Rattle.machine.proofs.Names.{ℕ, List, [], ◌∷◌, subst, Ghosts, Step, Act, Reply}
+use Rattle.machine.proofs.Names.{State, Whole, Acts, ServesNext, FaultsAreServed}
 use Rattle.machine.specs.declared.act.Act.TheVariants as acts
 use Rattle.machine.specs.declared.act.Reply.TheVariants as replies
 use Rattle.machine.specs.Runs.{StepTaken, StepsTaken}
@@ -6,7 +7,8 @@ use Rattle.machine.proofs.track.Lawful.{access_answers}
 use Rattle.machine.proofs.laws.faults_are_served.Goals as goal
 
 module _ {D : Type 0} (disk : Ghosts D) where
-  serves_next : (s : State) (d d' : List ℕ) (p : ℕ) (act : Act) (reply : Reply) (mid new : Whole D) (steps : List Step) (rest : List Reply)
+  serves_next : (s : State) (d d' : List ℕ) (p : ℕ) (act : Act) (reply : Reply) (mid new : Whole D)
+      (steps : List Step) (rest : List Reply)
       → Acts s d p act reply mid.state d' → StepsTaken disk mid steps rest new → ServesNext p act reply steps rest
   serves_next s d d' p (acts.Fix va write) replies.Fixed mid new (next ∷ steps) (reply ∷ rest) rule run =
       λ same access.
@@ -15,7 +17,8 @@ module _ {D : Type 0} (disk : Ghosts D) where
       (subst (λ q. Acts mid.state here.0 q next.act reply run.0.state here.1) same here.2)
   serves_next s d d' p act reply mid new steps rest rule run = tt
 
-  each_served : (old new : Whole D) (steps : List Step) (rest : List Reply) → StepsTaken disk old steps rest new → FaultsAreServed steps rest
+  each_served : (old new : Whole D) (steps : List Step) (rest : List Reply) → StepsTaken disk old steps rest new
+      → FaultsAreServed steps rest
   each_served old new [] rest run = tt
   each_served old new (step ∷ steps) [] run = tt
   each_served old new (step ∷ steps) (reply ∷ rest) run =

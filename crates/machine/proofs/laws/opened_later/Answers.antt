@@ -3,8 +3,12 @@ use Rattle.machine.proofs.durable.Later.{found_settled, found_durable}
 
 pub returns-clause-settled : goal.returns-clause-settled
 returns-clause-settled g c = λ files n first later honest only recovers is.
-    found_settled g.D.Device g.met.D.Device.seen_is_left c.opened_again.ensures.honest c.opened_again.ensures.left c.opened_as_recovered.ensures.files c.kinds_of_bytes.ensures.volume c.one_reading.ensures.files files n first later honest only recovers is
+    found_settled g.D.Device g.met.D.Device.seen_is_left c.opened_again.ensures.honest c.opened_again.ensures.left
+    c.opened_as_recovered.ensures.files c.kinds_of_bytes.ensures.volume c.one_reading.ensures.files files n first
+    later honest only recovers is
 
 pub returns-clause-durable : goal.returns-clause-durable
 returns-clause-durable g c = λ files history n first later honest back is.
-    found_durable g.D.Device g.met.D.Device.seen_is_left c.opened_again.ensures.honest c.opened_again.ensures.left c.opened_as_recovered.ensures.files c.kinds_of_bytes.ensures.volume c.one_reading.ensures.files files history n first later honest back is
+    found_durable g.D.Device g.met.D.Device.seen_is_left c.opened_again.ensures.honest c.opened_again.ensures.left
+    c.opened_as_recovered.ensures.files c.kinds_of_bytes.ensures.volume c.one_reading.ensures.files files history n
+    first later honest back is

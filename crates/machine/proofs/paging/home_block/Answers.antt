@@ -7,10 +7,25 @@ pub overflow_add-result : goal.overflow_add-result
 overflow_add-result g c =
     let table = c.args.table.now in
     let file = c.args.page.file in
-    omega (arith, c.first_home.ensures, first_home_of-next table file c.requires.file, first_home_of-le table (file + 1), pages-in_file table.files file c.requires.file, c.requires.page, c.block_count-blocks.ensures.fits.few_blocks)
+    omega (
+      arith,
+      c.first_home.ensures,
+      first_home_of-next table file c.requires.file,
+      first_home_of-le table (file + 1),
+      pages-in_file table.files file c.requires.file,
+      c.requires.page,
+      c.block_count-blocks.ensures.fits.few_blocks,
+    )
 
 pub returns-clause-within : goal.returns-clause-within
 returns-clause-within g c =
     let table = c.args.table.now in
     let file = c.args.page.file in
-    omega (arith, c.first_home.ensures, first_home_of-next table file c.requires.file, first_home_of-le table (file + 1), pages-in_file table.files file c.requires.file, c.requires.page)
+    omega (
+      arith,
+      c.first_home.ensures,
+      first_home_of-next table file c.requires.file,
+      first_home_of-le table (file + 1),
+      pages-in_file table.files file c.requires.file,
+      c.requires.page,
+    )

@@ -10,5 +10,7 @@ loop-i-preserved g c =
     let below : c.loop-i.i < length c.args.values.now = search rules in
     let this : Some c.in_ok-program.program.items ≡ program_of (view c.index-values-i.result) = search rules in
     let pushed : c.push.new.self.items ≡ c.loop-i.programs.items ++ c.in_ok-program.program ∷ [] = search rules in
-    all_of_next view program_of c.args.values.now c.loop-i.i c.index-values-i.result (map (λ p. p.items) c.loop-i.programs.items) c.in_ok-program.program.items below (sym c.index-values-i.is) c.loop-i.invariant this
-    ∙ ap Some (sym (map-append (λ p. p.items) c.loop-i.programs.items (c.in_ok-program.program ∷ [])) ∙ ap (map (λ p. p.items)) (sym pushed))
+    all_of_next view program_of c.args.values.now c.loop-i.i c.index-values-i.result (map (λ p. p.items)
+    c.loop-i.programs.items) c.in_ok-program.program.items below (sym c.index-values-i.is) c.loop-i.invariant this
+    ∙ ap Some (sym (map-append (λ p. p.items) c.loop-i.programs.items (c.in_ok-program.program ∷ []))
+    ∙ ap (map (λ p. p.items)) (sym pushed))

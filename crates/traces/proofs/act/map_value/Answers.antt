@@ -20,7 +20,8 @@ returns c =
     let offset : a.offset < 2 ^ 64 = search rules in
     IfOk-weaker c.map_list.result (λ value. view value ≡ map_data a.p a.space a.va a.len a.file a.offset first second) _
     (λ value is. (
-      ap step_of is ∙ map_reads a.p a.space a.va a.len a.file a.offset first second a.prot a.access small space va len file offset c.rights_word-prot.ensures.prot c.rights_word-access.ensures.access,
+      ap step_of is ∙ map_reads a.p a.space a.va a.len a.file a.offset first second a.prot a.access small space va len
+          file offset c.rights_word-prot.ensures.prot c.rights_word-access.ensures.access,
       subst (λ d. depth d ≤ 2) (sym is) (omega arith),
     ))
     c.map_list.ensures

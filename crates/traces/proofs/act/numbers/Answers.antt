@@ -7,7 +7,9 @@ use Rattle.traces.specs.inside.Written.{num}
 use Rattle.traces.proofs.act.numbers.Goals as goal
 
 pub returns-clause-written : goal.returns-clause-written
-returns-clause-written c = map_from_collect _ c.collect.ensures.ran (YieldsList-from_map_by _ view num (YieldsList-from_slice c.args.bytes.now cc) c.map.ensures.closure (λ x r q k. search (rules, tests)))
+returns-clause-written c = map_from_collect _ c.collect.ensures.ran (YieldsList-from_map_by _ view num
+    (YieldsList-from_slice c.args.bytes.now cc) c.map.ensures.closure (λ x r q k. search (rules, tests)))
 
 pub returns-clause-reads : goal.returns-clause-reads
-returns-clause-reads c = map_from_collect _ c.collect.ensures.ran (YieldsList-from_map_by _ (λ v. byte_of (view v)) Some (YieldsList-from_slice c.args.bytes.now cc) c.map.ensures.closure (λ x r q k. search (rules, tests)))
+returns-clause-reads c = map_from_collect _ c.collect.ensures.ran (YieldsList-from_map_by _ (λ v. byte_of (view v)) Some
+    (YieldsList-from_slice c.args.bytes.now cc) c.map.ensures.closure (λ x r q k. search (rules, tests)))

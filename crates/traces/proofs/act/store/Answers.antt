@@ -17,10 +17,13 @@ returns c =
     let written : view c.in_ok-bytes.bytes ≡ bytes_data bytes = c.in_ok-bytes.ensures.written in
     let few : few_bytes_of (bytes_data bytes) ≡ Some bytes = c.in_ok-bytes.ensures.reads c.as_slice.ensures.few in
     let same : bytes ≡ a.bytes.now = c.as_slice.ensures.same in
-    IfOk-weaker c.store_list.result (λ value. view value ≡ list (num a.p ∷ string (codes "store") ∷ num a.va ∷ view c.in_ok-bytes.bytes ∷ [])) _
+    IfOk-weaker c.store_list.result
+    (λ value. view value ≡ list (num a.p ∷ string (codes "store") ∷ num a.va ∷ view c.in_ok-bytes.bytes ∷ [])) _
     (λ value is.
-    let all : view value ≡ store_data a.p a.va a.bytes.now = is ∙ ap (λ b. list (num a.p ∷ string (codes "store") ∷ num a.va ∷ b ∷ [])) (written ∙ ap bytes_data same) in (
-      ap step_of all ∙ store_reads a.p a.va a.bytes.now small va (subst (λ bytes. few_bytes_of (bytes_data bytes) ≡ Some bytes) same few),
+    let all : view value ≡ store_data a.p a.va a.bytes.now =
+    is ∙ ap (λ b. list (num a.p ∷ string (codes "store") ∷ num a.va ∷ b ∷ [])) (written ∙ ap bytes_data same) in (
+      ap step_of all ∙ store_reads a.p a.va a.bytes.now small va
+          (subst (λ bytes. few_bytes_of (bytes_data bytes) ≡ Some bytes) same few),
       subst (λ d. depth d ≤ 2) (sym all) (store_flat a.p a.va a.bytes.now),
     ))
     c.store_list.ensures

@@ -9,7 +9,8 @@ pub loop-i-preserved : goal.loop-i-preserved
 loop-i-preserved g c =
     let below : c.loop-i.i < length c.args.lines.now = search rules in
     let pushed : c.push.new.self.items ≡ c.loop-i.entries.items ++ c.in-Ok.entry ∷ [] = search rules in
-    entry_next c.args.lines.now c.loop-i.i _ (map entry_in c.loop-i.entries.items) (entry_in c.in-Ok.entry) below c.loop-i.invariant c.in-Ok.ensures.ok
+    entry_next c.args.lines.now c.loop-i.i _ (map entry_in c.loop-i.entries.items)
+    (entry_in c.in-Ok.entry) below c.loop-i.invariant c.in-Ok.ensures.ok
     ∙ ap Some (sym (map-append entry_in c.loop-i.entries.items (c.in-Ok.entry ∷ [])) ∙ ap (map entry_in) (sym pushed))
 
 pub returns-in-Err-clause-err : goal.returns-in-Err-clause-err

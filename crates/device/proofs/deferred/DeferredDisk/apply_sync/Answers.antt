@@ -9,5 +9,6 @@ pub returns-clause-ok : goal.returns-clause-ok
 returns-clause-ok g c =
     let past = c.with_sync-self-inside.ensures in
     let more = on_ok c.keep_sync.result (sym c.is_err.ensures.value ∙ c.if-is_err.false) c.keep_sync.ensures.ok in
-    same_deferred past.0 past.1 (one_more c.self.inside.log.items c.keep_sync.new.log.items sync more) refl past.2 refl c.raise.ensures refl
+    same_deferred past.0 past.1
+    (one_more c.self.inside.log.items c.keep_sync.new.log.items sync more) refl past.2 refl c.raise.ensures refl
     ∙ ap after_sync c.self.view_is

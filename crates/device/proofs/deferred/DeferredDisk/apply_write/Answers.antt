@@ -13,36 +13,61 @@ use Rattle.device.proofs.deferred.DeferredDisk.apply_write.Goals as goal
 pub overflow_add-from : goal.overflow_add-from
 overflow_add-from g c =
     let disk = c.self.inside in
-    let room = subst (λ (d : Deferred). c.args.at + length c.args.bytes.now ≤ length (seen_of (as_recorded d))) (sym c.self.view_is) c.requires in
-    record { fits = omega (arith, room, length-content_after disk.past.first disk.past.changes c.self.invariant.0.within, c.self.invariant.0.len_is, c.self.ranges) }
+    let room = subst (λ (d : Deferred). c.args.at + length c.args.bytes.now ≤ length (seen_of (as_recorded d)))
+    (sym c.self.view_is) c.requires in
+    record {
+      fits = omega (
+        arith,
+        room,
+        length-content_after disk.past.first disk.past.changes c.self.invariant.0.within,
+        c.self.invariant.0.len_is,
+        c.self.ranges,
+      );
+    }
 
 pub keep_write-requires : goal.keep_write-requires
 keep_write-requires g c =
     let disk = c.self.inside in
-    let room = subst (λ (d : Deferred). c.args.at + length c.args.bytes.now ≤ length (seen_of (as_recorded d))) (sym c.self.view_is) c.requires in
-    omega (arith, room, length-content_after disk.past.first disk.past.changes c.self.invariant.0.within, c.self.invariant.0.first_length, c.self.invariant.0.bytes_length)
+    let room = subst (λ (d : Deferred). c.args.at + length c.args.bytes.now ≤ length (seen_of (as_recorded d)))
+    (sym c.self.view_is) c.requires in
+    omega (
+      arith,
+      room,
+      length-content_after disk.past.first disk.past.changes c.self.invariant.0.within,
+      c.self.invariant.0.first_length,
+      c.self.invariant.0.bytes_length,
+    )
 
 pub invariant_of-self-2 : goal.invariant_of-self-2
 invariant_of-self-2 g c =
     let disk = c.self.inside in
     let at = c.args.at in
     let bytes = c.args.bytes.now in
-    let room = subst (λ (d : Deferred). at + length bytes ≤ length (seen_of (as_recorded d))) (sym c.self.view_is) c.requires in
-    let fits : at + length bytes ≤ length disk.past.first = omega (arith, room, length-content_after disk.past.first disk.past.changes c.self.invariant.0.within) in
+    let room = subst (λ (d : Deferred). at + length bytes ≤ length (seen_of (as_recorded d)))
+    (sym c.self.view_is) c.requires in
+    let fits : at + length bytes ≤ length disk.past.first =
+    omega (arith, room, length-content_after disk.past.first disk.past.changes c.self.invariant.0.within) in
     let past = c.with_write-self-inside.ensures in
     let none = sym c.is_err.ensures.value ∙ c.if-is_err.false in
     let long : at + length bytes - at ≡ length bytes = omega arith in
-    let lacked : lacked_by_write disk.blocks.flags at (length bytes) ≡ None = ap (lacked_by_write disk.blocks.flags at) (sym long) ∙ sym c.lacked_by_write-self-inside.ensures ∙ none_of c.lacked_by_write-self-inside.result (sym c.is_some.ensures ∙ c.if-is_some.false) in (
-      kept_as past.0 past.1 past.2 (on_ok c.keep_write.result none c.keep_write.ensures.bytes) (on_ok c.keep_write.result none c.keep_write.ensures.flags) (on_ok c.keep_write.result none c.keep_write.ensures.log)
-          (kept_with_write disk.past.first disk.past.changes disk.past.supplied disk.blocks.bytes disk.blocks.flags (changes_of disk.log.items) disk.len at bytes c.self.invariant.0 fits lacked),
+    let lacked : lacked_by_write disk.blocks.flags at (length bytes) ≡ None =
+    ap (lacked_by_write disk.blocks.flags at) (sym long) ∙ sym c.lacked_by_write-self-inside.ensures
+    ∙ none_of c.lacked_by_write-self-inside.result (sym c.is_some.ensures ∙ c.if-is_some.false) in (
+      kept_as past.0 past.1 past.2 (on_ok c.keep_write.result none c.keep_write.ensures.bytes) (on_ok
+          c.keep_write.result none c.keep_write.ensures.flags) (on_ok c.keep_write.result none c.keep_write.ensures.log)
+          (kept_with_write disk.past.first disk.past.changes disk.past.supplied disk.blocks.bytes disk.blocks.flags
+          (changes_of disk.log.items) disk.len at bytes c.self.invariant.0 fits lacked),
       subst (AreCounted c.saturating_add-self-inside.result) (sym past.1)
-          (counted_more disk.recorded c.saturating_add-self-inside.result disk.past.changes (write at bytes) c.self.invariant.1 c.saturating_add-self-inside.ensures),
+          (counted_more disk.recorded c.saturating_add-self-inside.result disk.past.changes
+          (write at bytes) c.self.invariant.1 c.saturating_add-self-inside.ensures),
     )
 
 pub returns-clause-ok : goal.returns-clause-ok
 returns-clause-ok g c =
     let past = c.with_write-self-inside.ensures in
     let none = sym c.is_err.ensures.value ∙ c.if-is_err.false in
-    same_deferred past.0 past.1 (one_more c.self.inside.log.items c.keep_write.new.log.items (write c.args.at c.args.bytes.now) (on_ok c.keep_write.result none c.keep_write.ensures.log))
-    (on_ok c.keep_write.result none c.keep_write.ensures.flags) past.2 (none_of c.lacked_by_write-self-inside.result (sym c.is_some.ensures ∙ c.if-is_some.false)) c.raise.ensures refl
+    same_deferred past.0 past.1 (one_more c.self.inside.log.items c.keep_write.new.log.items
+    (write c.args.at c.args.bytes.now) (on_ok c.keep_write.result none c.keep_write.ensures.log))
+    (on_ok c.keep_write.result none c.keep_write.ensures.flags) past.2
+    (none_of c.lacked_by_write-self-inside.result (sym c.is_some.ensures ∙ c.if-is_some.false)) c.raise.ensures refl
     ∙ ap (λ (d : Deferred). after_write d c.args.at c.args.bytes.now) c.self.view_is

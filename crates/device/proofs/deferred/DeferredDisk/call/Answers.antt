@@ -5,5 +5,6 @@ use Rattle.device.proofs.deferred.DeferredDisk.call.Goals as goal
 
 pub returns : goal.returns
 returns g c =
-    c.lend_at.ensures ∙ sym (waits_at c.self.inside.log.items c.self.inside.past.changes c.args.others c.self.invariant.0.waits)
+    c.lend_at.ensures
+    ∙ sym (waits_at c.self.inside.log.items c.self.inside.past.changes c.args.others c.self.invariant.0.waits)
     ∙ ap (waits_behind c.args.others) c.self.view_is

@@ -9,7 +9,8 @@ pub loop-left-init : goal.loop-left-init
 loop-left-init g c = record {
   count = c.left_to_carry-left.ensures.count;
   taken = refl;
-  carried = carried_none g.D.Device c.args.device.now c.args.self.now c.left_to_carry-left.ensures.few c.left_to_carry-left.ensures.within (g.met.D.Device.since_now c.args.device.now);
+  carried = carried_none g.D.Device c.args.device.now c.args.self.now c.left_to_carry-left.ensures.few
+      c.left_to_carry-left.ensures.within (g.met.D.Device.since_now c.args.device.now);
 }
 
 pub carry_one-requires-clause-some : goal.carry_one-requires-clause-some
@@ -17,7 +18,8 @@ carry_one-requires-clause-some g c = omega (arith, c.loop-left.invariant.count, 
 
 pub carry_one-requires-clause-size : goal.carry_one-requires-clause-size
 carry_one-requires-clause-size g c =
-    c.loop-left.invariant.carried.same_length ∙ c.requires ∙ ap (λ (d : Deferred). length (seen_of (as_recorded d))) (sym c.loop-left.invariant.taken)
+    c.loop-left.invariant.carried.same_length ∙ c.requires
+    ∙ ap (λ (d : Deferred). length (seen_of (as_recorded d))) (sym c.loop-left.invariant.taken)
 
 pub loop-left-preserved : goal.loop-left-preserved
 loop-left-preserved g c =
@@ -29,9 +31,12 @@ loop-left-preserved g c =
     let waits : c.carry_one.new.self.waiting ≡ now.waiting - 1 = ap (λ (d : Deferred). d.waiting) one.ok in
     record {
       count = omega (arith, so_far.count, waits, some);
-      taken = one.ok ∙ ap (λ (d : Deferred). with_waiting d (now.waiting - 1)) so_far.taken ∙ ap (with_waiting disk) (sym waits);
+      taken = one.ok ∙ ap (λ (d : Deferred). with_waiting d (now.waiting - 1)) so_far.taken
+          ∙ ap (with_waiting disk) (sym waits);
       carried = subst (CarriedOut g.D.Device c.args.device.now disk true c.carry_one.new.device) (sym waits)
-          (carried_step g.D.Device c.args.device.now disk c.left_to_carry-left.ensures.few c.left_to_carry-left.ensures.within c.loop-left.device now c.carry_one.new.device so_far.taken some so_far.carried one.did);
+          (carried_step g.D.Device c.args.device.now disk c.left_to_carry-left.ensures.few
+          c.left_to_carry-left.ensures.within c.loop-left.device now c.carry_one.new.device so_far.taken some
+          so_far.carried one.did);
     }
 
 pub returns-in-Err : goal.returns-in-Err
@@ -47,7 +52,9 @@ returns-in-Err g c =
       ok = tt;
       err = omega (arith, waits, some);
       carried = subst (CarriedOut g.D.Device c.args.device.now disk false c.carry_one.new.device) (sym waits)
-          (carried_stop g.D.Device c.args.device.now disk c.left_to_carry-left.ensures.few c.left_to_carry-left.ensures.within c.loop-left.device now c.carry_one.new.device so_far.taken some so_far.carried one.did);
+          (carried_stop g.D.Device c.args.device.now disk c.left_to_carry-left.ensures.few
+          c.left_to_carry-left.ensures.within c.loop-left.device now c.carry_one.new.device so_far.taken some
+          so_far.carried one.did);
     }
 
 pub returns : goal.returns

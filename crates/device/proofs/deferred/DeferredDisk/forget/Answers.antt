@@ -11,16 +11,25 @@ pub waits_for-requires : goal.waits_for-requires
 waits_for-requires g c =
     let disk = c.self.inside in
     let whole = length-content_after disk.past.first disk.past.changes c.self.invariant.0.within in
-    within_wider (length disk.past.first) (2 ^ 64 - 1) (changes_of disk.log.items) (omega (arith, c.self.invariant.0.len_is, c.self.ranges))
-    (within_log disk.past.first disk.past.changes (changes_of disk.log.items) (length disk.past.first) (sym whole) c.self.invariant.0.within c.self.invariant.0.waits)
+    within_wider (length disk.past.first) (2 ^ 64 - 1) (changes_of disk.log.items)
+    (omega (arith, c.self.invariant.0.len_is, c.self.ranges))
+    (within_log disk.past.first disk.past.changes (changes_of disk.log.items) (length disk.past.first)
+    (sym whole) c.self.invariant.0.within c.self.invariant.0.waits)
 
 pub invariant_of-self : goal.invariant_of-self
 invariant_of-self g c =
     let disk = c.self.inside in
-    let room = subst (λ (d : Deferred). 4096 * c.args.block + 4096 ≤ length (seen_of (as_recorded d))) (sym c.self.view_is) c.requires in
+    let room = subst (λ (d : Deferred). 4096 * c.args.block + 4096 ≤ length (seen_of (as_recorded d)))
+    (sym c.self.view_is) c.requires in
     let whole = length-content_after disk.past.first disk.past.changes c.self.invariant.0.within in (
       kept_as refl refl refl c.forget.ensures.bytes c.forget.ensures.flags refl
-          (kept_without_block disk.past.first disk.past.changes disk.past.supplied disk.blocks.bytes disk.blocks.flags (changes_of disk.log.items) disk.len c.args.block c.self.invariant.0 (omega (arith, room, whole, c.self.invariant.0.first_length)) (sym c.waits_for.ensures ∙ c.if-waits_for.false)),
+          (kept_without_block disk.past.first disk.past.changes disk.past.supplied disk.blocks.bytes disk.blocks.flags
+          (changes_of disk.log.items) disk.len c.args.block c.self.invariant.0 (omega (
+            arith,
+            room,
+            whole,
+            c.self.invariant.0.first_length,
+          )) (sym c.waits_for.ensures ∙ c.if-waits_for.false)),
       c.self.invariant.1,
     )
 
@@ -30,7 +39,8 @@ returns-then-waits_for-clause-result g c =
     let changes = c.self.inside.past.changes in
     let block = c.args.block in
     let same = ap (λ (d : Deferred). one_reaches (take d.waiting d.changes) block) (sym c.self.view_is)
-    ∙ ap (λ n. one_reaches (take n changes) block) (sym (length-changes_of log)) ∙ ap (λ (l : List DiskChange). one_reaches l block) (sym c.self.invariant.0.waits) in
+    ∙ ap (λ n. one_reaches (take n changes) block) (sym (length-changes_of log))
+    ∙ ap (λ (l : List DiskChange). one_reaches l block) (sym c.self.invariant.0.waits) in
     sym (ap not (same ∙ sym c.waits_for.ensures ∙ c.if-waits_for.true))
 
 pub returns-clause-result : goal.returns-clause-result
@@ -39,11 +49,18 @@ returns-clause-result g c =
     let changes = c.self.inside.past.changes in
     let block = c.args.block in
     let same = ap (λ (d : Deferred). one_reaches (take d.waiting d.changes) block) (sym c.self.view_is)
-    ∙ ap (λ n. one_reaches (take n changes) block) (sym (length-changes_of log)) ∙ ap (λ (l : List DiskChange). one_reaches l block) (sym c.self.invariant.0.waits) in
+    ∙ ap (λ n. one_reaches (take n changes) block) (sym (length-changes_of log))
+    ∙ ap (λ (l : List DiskChange). one_reaches l block) (sym c.self.invariant.0.waits) in
     sym (ap not (same ∙ sym c.waits_for.ensures ∙ c.if-waits_for.false))
 
 pub forget-requires : goal.forget-requires
 forget-requires g c =
     let disk = c.self.inside in
-    let room = subst (λ (d : Deferred). 4096 * c.args.block + 4096 ≤ length (seen_of (as_recorded d))) (sym c.self.view_is) c.requires in
-    omega (arith, room, length-content_after disk.past.first disk.past.changes c.self.invariant.0.within, c.self.invariant.0.first_length)
+    let room = subst (λ (d : Deferred). 4096 * c.args.block + 4096 ≤ length (seen_of (as_recorded d)))
+    (sym c.self.view_is) c.requires in
+    omega (
+      arith,
+      room,
+      length-content_after disk.past.first disk.past.changes c.self.invariant.0.within,
+      c.self.invariant.0.first_length,
+    )

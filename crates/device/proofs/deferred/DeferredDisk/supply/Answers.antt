@@ -12,14 +12,18 @@ invariant_of-self-2 g c =
     let disk = c.self.inside in
     let block = c.args.block in
     let past = c.with_block-self-inside.ensures in
-    let room = subst (λ (d : Deferred). 4096 * block + 4096 ≤ length (seen_of (as_recorded d))) (sym c.self.view_is) c.requires in
-    let fits : 4096 * block + 4096 ≤ length disk.past.first = omega (arith, room, length-content_after disk.past.first disk.past.changes c.self.invariant.0.within) in
+    let room = subst (λ (d : Deferred). 4096 * block + 4096 ≤ length (seen_of (as_recorded d)))
+    (sym c.self.view_is) c.requires in
+    let fits : 4096 * block + 4096 ≤ length disk.past.first =
+    omega (arith, room, length-content_after disk.past.first disk.past.changes c.self.invariant.0.within) in
     let size : length c.args.bytes.now ≡ 4096 = omega (arith, c.fits-bytes) in
     let from : first_block (4096 * block) ≡ block = omega arith in
     let to : end_block (4096 * block) (length c.args.bytes.now) ≡ block + 1 = omega (arith, size) in
-    let flags = c.in_ok-put.ensures.flags ∙ ap (λ n. with_known disk.blocks.flags n (end_block (4096 * block) (length c.args.bytes.now))) from ∙ ap (with_known disk.blocks.flags block) to in (
+    let flags = c.in_ok-put.ensures.flags ∙ ap (λ n. with_known disk.blocks.flags n
+    (end_block (4096 * block) (length c.args.bytes.now))) from ∙ ap (with_known disk.blocks.flags block) to in (
       kept_as past.0 past.1 past.2 c.in_ok-put.ensures.bytes flags refl
-          (kept_with_block disk.past.first disk.past.changes disk.past.supplied disk.blocks.bytes disk.blocks.flags (changes_of disk.log.items) disk.len block c.args.bytes.now c.self.invariant.0 size fits),
+          (kept_with_block disk.past.first disk.past.changes disk.past.supplied disk.blocks.bytes disk.blocks.flags
+          (changes_of disk.log.items) disk.len block c.args.bytes.now c.self.invariant.0 size fits),
       subst (AreCounted disk.recorded) (sym past.1) c.self.invariant.1,
     )
 
@@ -27,5 +31,13 @@ pub put-requires : goal.put-requires
 put-requires g c =
     let disk = c.self.inside in
     let block = c.args.block in
-    let room = subst (λ (d : Deferred). 4096 * block + 4096 ≤ length (seen_of (as_recorded d))) (sym c.self.view_is) c.requires in
-    omega (arith, room, length-content_after disk.past.first disk.past.changes c.self.invariant.0.within, c.self.invariant.0.first_length, c.self.invariant.0.bytes_length, c.fits-bytes)
+    let room = subst (λ (d : Deferred). 4096 * block + 4096 ≤ length (seen_of (as_recorded d)))
+    (sym c.self.view_is) c.requires in
+    omega (
+      arith,
+      room,
+      length-content_after disk.past.first disk.past.changes c.self.invariant.0.within,
+      c.self.invariant.0.first_length,
+      c.self.invariant.0.bytes_length,
+      c.fits-bytes,
+    )

@@ -16,7 +16,8 @@ write-tells g c =
       torn = search rules;
       keeps = λ honest. write_keeps c.result old new c.args.at c.args.bytes.now c.requires done refused;
       left = write_left c.result old new c.args.at c.args.bytes.now c.requires done refused;
-      time = deferred_time c.args.self.now c.new.self.now _ (write_time c.result old new c.args.at c.args.bytes.now c.requires done refused);
+      time = deferred_time c.args.self.now c.new.self.now _
+          (write_time c.result old new c.args.at c.args.bytes.now c.requires done refused);
       honest = search rules;
       len = length_after_write c.result old new c.args.at c.args.bytes.now c.requires done refused;
       calls = search rules;

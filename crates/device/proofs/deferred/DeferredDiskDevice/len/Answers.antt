@@ -7,4 +7,5 @@ use Rattle.device.proofs.deferred.DeferredDiskDevice.len.Goals as goal
 pub returns : goal.returns
 returns g c =
     let past = c.self.inside.past in
-    c.self.invariant.0.len_is ∙ sym (length-content_after past.first past.changes c.self.invariant.0.within) ∙ ap (λ (d : Deferred). length (seen_of (as_recorded d))) c.self.view_is
+    c.self.invariant.0.len_is ∙ sym (length-content_after past.first past.changes c.self.invariant.0.within)
+    ∙ ap (λ (d : Deferred). length (seen_of (as_recorded d))) c.self.view_is

@@ -14,11 +14,17 @@ invariant_of-self-2 g c =
     let fields = c.self.inside in
     let was = fields.content.items in
     let more = on_ok c.log_write.result (sym c.is_err.ensures.value ∙ c.if-is_err.false) c.log_write.ensures.ok in
-    let seen : length (seen_of c.args.self.now) ≡ length was = ap (λ (d : Recorded). length (seen_of d)) (sym c.self.view_is) ∙ ap length (sym c.self.invariant.replayed) in
+    let seen : length (seen_of c.args.self.now) ≡ length was =
+    ap (λ (d : Recorded). length (seen_of d)) (sym c.self.view_is) ∙ ap length (sym c.self.invariant.replayed) in
     let fits : c.args.at + length c.args.bytes.now ≤ length was = omega (arith, c.requires, seen) in
-    let put_is : c.put.new.content ≡ written was c.args.at c.args.bytes.now = ◌∙◌ {A = List ℕ} c.put.ensures (ap (λ (l : List ℕ). written l c.args.at c.args.bytes.now) c.deref_mut.ensures.value) in
+    let put_is : c.put.new.content ≡ written was c.args.at c.args.bytes.now = ◌∙◌ {A = List ℕ} c.put.ensures
+    (ap (λ (l : List ℕ). written l c.args.at c.args.bytes.now) c.deref_mut.ensures.value) in
     let long = length-written was c.args.at c.args.bytes.now fits in
-    let items = ◌∙◌ {A = List ℕ} {b = c.put.new.content} (with_items_is fields.content c.put.new.content (omega (arith, ap length put_is, long, fields.content.ok.0))) put_is in
-    subst (λ (l : List ℕ). IsReplay fields.first.items (changes_of c.log_write.new.log.items) l fields.synced) (sym items)
-    (subst (λ (l : List DiskChange). IsReplay fields.first.items l (written was c.args.at c.args.bytes.now) fields.synced) (sym more)
-    (replay_write fields.first.items was (changes_of fields.log.items) fields.synced c.args.at c.args.bytes.now fits c.self.invariant))
+    let items = ◌∙◌ {A = List ℕ} {b = c.put.new.content} (with_items_is fields.content c.put.new.content
+    (omega (arith, ap length put_is, long, fields.content.ok.0))) put_is in
+    subst (λ (l : List ℕ). IsReplay fields.first.items (changes_of c.log_write.new.log.items) l fields.synced)
+    (sym items)
+    (subst (λ (l : List DiskChange).
+    IsReplay fields.first.items l (written was c.args.at c.args.bytes.now) fields.synced) (sym more)
+    (replay_write fields.first.items was
+    (changes_of fields.log.items) fields.synced c.args.at c.args.bytes.now fits c.self.invariant))

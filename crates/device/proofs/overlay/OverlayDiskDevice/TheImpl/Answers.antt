@@ -9,14 +9,16 @@ pub write-tells : goal.write-tells
 write-tells g c =
     let old = as_recorded g.D.Device.seen c.args.self.now in
     let new = as_recorded g.D.Device.seen c.new.self.now in
-    let done = as_changed g.D.Device.seen c.result c.args.self.now c.new.self.now (write c.args.at c.args.bytes.now) c.ensures.recorded in
+    let done = as_changed g.D.Device.seen c.result c.args.self.now c.new.self.now
+    (write c.args.at c.args.bytes.now) c.ensures.recorded in
     let refused = as_refused g.D.Device.seen c.result c.args.self.now c.new.self.now c.ensures.refused in
     record {
       written = search rules;
       torn = search rules;
       keeps = λ honest. write_keeps c.result old new c.args.at c.args.bytes.now c.requires done refused;
       left = write_left c.result old new c.args.at c.args.bytes.now c.requires done refused;
-      time = overlay_time g.D.Device.seen c.args.self.now c.new.self.now _ (write_time c.result old new c.args.at c.args.bytes.now c.requires done refused);
+      time = overlay_time g.D.Device.seen c.args.self.now c.new.self.now _
+          (write_time c.result old new c.args.at c.args.bytes.now c.requires done refused);
       honest = search rules;
       len = length_after_write c.result old new c.args.at c.args.bytes.now c.requires done refused;
       calls = search rules;

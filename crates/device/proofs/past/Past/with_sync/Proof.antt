@@ -37,7 +37,8 @@ use Rattle.device.specs.contracts.past.Past as past
 abbrev stayed : Stays (called.ended).signature.params (called.ended).kept
 stayed = (stay_none_ref (0 ∷ []) tt (plain (λ _. past.the_row)) yes, tt)
 
-module _ {M : Type 1} {𝓤 : Ura M} (𝓛 : Logic 𝓤) (mem : Memory → SProp 𝓤) (run : Routine → Fun 𝓤) (C : Calls 𝓤 𝓛.H) (Λ : Loops 𝓤 𝓛.H) where
+module _ {M : Type 1} {𝓤 : Ura M} (𝓛 : Logic 𝓤) (mem : Memory → SProp 𝓤) (run : Routine → Fun 𝓤)
+    (C : Calls 𝓤 𝓛.H) (Λ : Loops 𝓤 𝓛.H) where
   open 𝓛 use {H}
 
   module _ (κs : Lfts 1) (qs : Shares 1) (a : Args called.signature κs) where
@@ -54,13 +55,16 @@ module _ {M : Type 1} {𝓤 : Ura M} (𝓛 : Logic 𝓤) (mem : Memory → SProp
     made = record { first = a.0.now.first; changes = sync ∷ a.0.now.changes; supplied = a.0.now.supplied }
 
     walk : ent 𝓤 (on_entry 𝓛 called.signature κs qs a (before ∷ [], tt))
-        (WpFn 𝓤 H C Λ code.function (before ∷ []) ((walk_of 𝓛 called.ended stayed (called.clauses 𝓛 mem run)).post bound))
+        (WpFn 𝓤 H C Λ code.function (before ∷ [])
+        ((walk_of 𝓛 called.ended stayed (called.clauses 𝓛 mem run)).post bound))
     walk =
         qed 𝓛 (raw (alive 𝓛 called.signature κs qs) ∷ ‵ passed ∷ []) ∵ enter ! C Λ code.function (before ∷ []) _ $
         alloc_all ! (λ l. pass_all ! refl ((tt, tt), tt) $ sets ! (agg ! (no_more !)) refl (tt, tt) $
         returns ! (look_at ! 0 refl) $ free_all ! refl $
-        suffices ! _ (ends_at 𝓛 called.ended stayed (called.clauses 𝓛 mem run) bound (vstruct vnil) made (tt, tt) (tt, tt)) $
-        says ! (refl, refl, refl) $ pure_i ! (past.the_row.own_val made (vstruct vnil ∷ [])) ((λ vss. (tt, tt)), tt) ((tt, (refl, tt)), tt) $
+        suffices ! _
+        (ends_at 𝓛 called.ended stayed (called.clauses 𝓛 mem run) bound (vstruct vnil) made (tt, tt) (tt, tt)) $
+        says ! (refl, refl, refl) $ pure_i ! (past.the_row.own_val made (vstruct vnil ∷ [])) ((λ vss. (tt, tt)), tt)
+        ((tt, (refl, tt)), tt) $
         move ! (1 ∷ 2 ∷ 0 ∷ []) $ done !)
 
   walks : Walks 𝓛 called.ended stayed (WpFn 𝓤 H C Λ code.function) (called.clauses 𝓛 mem run)
@@ -72,7 +76,8 @@ module _ {M : Type 1} {𝓤 : Ura M} (𝓛 : Logic 𝓤) (mem : Memory → SProp
 meets : {M : Type 1} {𝓤 : Ura M} (𝓛 : Logic 𝓤) (mem : Memory → SProp 𝓤) (run : Routine → Fun 𝓤) (𝓣 : Tables 𝓤 𝓛.H)
     → Meets 𝓛 called.signature (WpFn 𝓤 𝓛.H 𝓣.C 𝓣.Λ code.function) (called.spec 𝓛 mem run)
 meets {𝓤 = 𝓤} 𝓛 mem run 𝓣 =
-    walk_Meets 𝓛 called.ended stayed (Goes-none_ref 𝓛 1 (0 ∷ []) tt (plain (λ _. past.the_row)) yes, tt) (called.clauses 𝓛 mem run) (WpFn 𝓤 𝓛.H 𝓣.C 𝓣.Λ code.function)
+    walk_Meets 𝓛 called.ended stayed (Goes-none_ref 𝓛 1 (0 ∷ []) tt (plain (λ _. past.the_row)) yes, tt)
+    (called.clauses 𝓛 mem run) (WpFn 𝓤 𝓛.H 𝓣.C 𝓣.Λ code.function)
     (WpFn-mono 𝓤 𝓛.H 𝓛.laws 𝓣 code.function) (walks 𝓛 mem run 𝓣.C 𝓣.Λ)
 
 pub with_sync_spec : {M : Type 1} → stated.statement M

@@ -12,10 +12,16 @@ invariant_of-self g c =
     let new = c.tend.new.self in
     let old = inside.requests in
     let same = same_recorded old.machine new.machine c.tend.ensures.state (ap as_recorded c.tend.ensures.tended) in
-    let well : IsSuppliedWell new.machine.device → IsSuppliedWell old.machine.device = subst IsSuppliedWell c.tend.ensures.tended in
+    let well : IsSuppliedWell new.machine.device → IsSuppliedWell old.machine.device =
+    subst IsSuppliedWell c.tend.ensures.tended in
     let counted = c.saturating_add.result in
-    let waits = c.waiting-waiting.ensures ∙ ap (λ (d : Deferred). d.waiting) (c.device.ensures ∙ ap (λ (m : Whole Deferred). m.device) c.machine.ensures) in
+    let waits = c.waiting-waiting.ensures ∙ ap (λ (d : Deferred). d.waiting)
+    (c.device.ensures ∙ ap (λ (m : Whole Deferred). m.device) c.machine.ensures) in
     let counts = c.device-2.ensures ∙ ap (λ (m : Whole Deferred). m.device) c.machine-2.ensures in
-    serves_settled inside.needed inside.made counted new.machine new.notes (one_more_made inside.made counted c.saturating_add.ensures) inside.committed inside.acknowledged c.settled-acknowledged.result c.made_now-made.result c.is_made-is_sure.result
-    (c.made_now-made.ensures ∙ ap (λ (d : Deferred). made_of d counted) counts) (c.is_made-is_sure.ensures ∙ ap (λ n. are_made n inside.needed c.made_now-made.result) waits) c.settled-acknowledged.ensures
-    (serves_tended inside.committed inside.needed inside.made inside.acknowledged old.machine new.machine old.notes new.notes same c.tend.ensures.notes well c.self.invariant)
+    serves_settled inside.needed inside.made counted new.machine new.notes
+    (one_more_made inside.made counted c.saturating_add.ensures) inside.committed inside.acknowledged
+    c.settled-acknowledged.result c.made_now-made.result c.is_made-is_sure.result
+    (c.made_now-made.ensures ∙ ap (λ (d : Deferred). made_of d counted) counts) (c.is_made-is_sure.ensures
+    ∙ ap (λ n. are_made n inside.needed c.made_now-made.result) waits) c.settled-acknowledged.ensures
+    (serves_tended inside.committed inside.needed inside.made inside.acknowledged old.machine new.machine old.notes
+    new.notes same c.tend.ensures.notes well c.self.invariant)

@@ -13,11 +13,15 @@ invariant_of-self g c = serves_more _ _ _ _ _ _ _ _ _ c.self.invariant c.load-re
 pub returns-clause-reached : goal.returns-clause-reached
 returns-clause-reached g c =
     let made = c.load-reached in
-    let P : EmbeddedState g.row.A.Denot → Type 0 = λ s. MakesStepsThat deferred_disk s.machine s.notes (LoadsReached c.args.p c.args.va c.args.count made.new.bytes.items made.result) made.new.self.machine made.new.self.notes in
-    let Q : Reached → Type 0 = λ r. MakesStepsThat deferred_disk c.args.self.now.machine c.args.self.now.notes (LoadsReached c.args.p c.args.va c.args.count made.new.bytes.items r) made.new.self.machine made.new.self.notes in
+    let P : EmbeddedState g.row.A.Denot → Type 0 = λ s. MakesStepsThat deferred_disk s.machine s.notes (LoadsReached
+    c.args.p c.args.va c.args.count made.new.bytes.items made.result) made.new.self.machine made.new.self.notes in
+    let Q : Reached → Type 0 =
+    λ r. MakesStepsThat deferred_disk c.args.self.now.machine c.args.self.now.notes (LoadsReached c.args.p c.args.va
+    c.args.count made.new.bytes.items r) made.new.self.machine made.new.self.notes in
     subst Q (sym c.of.ensures.reached) (subst P c.self.view_is made.ensures.reached)
 
 pub returns-clause-phases : goal.returns-clause-phases
 returns-clause-phases g c =
-    let P : EmbeddedState g.row.A.Denot → Type 0 = λ s. KeepsPhases s.machine.state c.load-reached.new.self.machine.state in
+    let P : EmbeddedState g.row.A.Denot → Type 0 =
+    λ s. KeepsPhases s.machine.state c.load-reached.new.self.machine.state in
     subst P c.self.view_is c.load-reached.ensures.phases

@@ -12,10 +12,13 @@ invariant_of-self g c = serves_more _ _ _ _ _ _ _ _ _ c.self.invariant c.set_len
 
 pub returns-clause-answers : goal.returns-clause-answers
 returns-clause-answers g c =
-    let P : EmbeddedState g.row.A.Denot → Type 0 = λ s. MakesStepsThat deferred_disk s.machine s.notes (AnswersLength c.args.p c.args.file c.args.length c.set_length.result) c.set_length.new.self.machine c.set_length.new.self.notes in
+    let P : EmbeddedState g.row.A.Denot → Type 0 =
+    λ s. MakesStepsThat deferred_disk s.machine s.notes (AnswersLength c.args.p c.args.file c.args.length
+    c.set_length.result) c.set_length.new.self.machine c.set_length.new.self.notes in
     subst P c.self.view_is c.set_length.ensures.answers
 
 pub returns-clause-phases : goal.returns-clause-phases
 returns-clause-phases g c =
-    let P : EmbeddedState g.row.A.Denot → Type 0 = λ s. KeepsPhases s.machine.state c.set_length.new.self.machine.state in
+    let P : EmbeddedState g.row.A.Denot → Type 0 =
+    λ s. KeepsPhases s.machine.state c.set_length.new.self.machine.state in
     subst P c.self.view_is c.set_length.ensures.phases

@@ -5,4 +5,5 @@ use Rattle.machine.proofs.act.NumbersDisplay.fmt.Given as goal
 
 abbrev pub invariant-loop-number : goal.invariant-loop-number
 invariant-loop-number g l =
-    IsPlainFormatter l.fn.f → HasWritten g.W.Write.write_str_gives l.fn.f (numbers_text (take l.number-index l.number-items)) l.f
+    IsPlainFormatter l.fn.f → HasWritten g.W.Write.write_str_gives l.fn.f
+    (numbers_text (take l.number-index l.number-items)) l.f

@@ -9,5 +9,6 @@ returns-in_err-change-clause-rules g c =
 pub returns-in_default-clause-rules : goal.returns-in_default-clause-rules
 returns-in_default-clause-rules g c =
     let shootdown = c.args.self.now.shootdown in
-    let hands : HandsOut shootdown c.args.p (Ok None) = subst (λ (x : Option Change). HandsOut shootdown c.args.p (Ok x)) c.in_default.is c.in_ok-change.ensures.handed_out in
+    let hands : HandsOut shootdown c.args.p (Ok None) = subst
+    (λ (x : Option Change). HandsOut shootdown c.args.p (Ok x)) c.in_default.is c.in_ok-change.ensures.handed_out in
     λ disk. (hands.0, (hands.1, refl))

@@ -11,7 +11,8 @@ returns-clause-rules g c =
     let s = state_in c.args.self.now in
     let memory = c.requires.sound.memory in
     let leaves = c.in-Some.ensures.leaves in
-    let same = c.clear.ensures.clean c.args.self.now.frames c.in-Some.frame memory.backed memory.memory.one_frame leaves.held leaves.clean in
+    let same = c.clear.ensures.clean c.args.self.now.frames c.in-Some.frame memory.backed memory.memory.one_frame
+    leaves.held leaves.clean in
     λ disk. (
       c.requires.held.0,
       record {
@@ -22,7 +23,11 @@ returns-clause-rules g c =
         spaces = c.clear.new.spaces.map;
         cleared = c.clear.ensures.cleared;
         done = λ i. record s {
-          hardware = record { shootdown = c.finish-2.ensures.finished i; spaces = c.clear.new.spaces.map; memory = c.give.ensures i };
+          hardware = record {
+            shootdown = c.finish-2.ensures.finished i;
+            spaces = c.clear.new.spaces.map;
+            memory = c.give.ensures i;
+          };
           checkpoint = same i;
         };
       },

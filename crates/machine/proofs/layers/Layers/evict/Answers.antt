@@ -5,24 +5,35 @@ use Rattle.machine.proofs.layers.Layers.evict.Goals as goal
 pub returns-in_err-evict-clause-rules : goal.returns-in_err-evict-clause-rules
 returns-in_err-evict-clause-rules g c =
     let p = err_from_is_err_and c.from_residual.result c.from_residual.ensures.1 in
-    rw (p.1, p.2) (hardware c.evict.new.shootdown c.args.self.now.spaces.map c.args.self.now.frames, c.in_err-evict.ensures.evicted c.args.self.now.spaces.map c.args.self.now.frames, refl)
+    rw (p.1, p.2) (
+      hardware c.evict.new.shootdown c.args.self.now.spaces.map c.args.self.now.frames,
+      c.in_err-evict.ensures.evicted c.args.self.now.spaces.map c.args.self.now.frames,
+      refl,
+    )
 
 pub returns-in_err-evict-clause-quiet : goal.returns-in_err-evict-clause-quiet
 returns-in_err-evict-clause-quiet g c =
-    quiet_same refl refl (lock-evicts _ _ _ _ _ (c.evict.ensures.evicted c.args.self.now.spaces.map c.args.self.now.frames)) refl
+    quiet_same refl refl
+    (lock-evicts _ _ _ _ _ (c.evict.ensures.evicted c.args.self.now.spaces.map c.args.self.now.frames)) refl
 
 pub returns-in-true-clause-rules : goal.returns-in-true-clause-rules
 returns-in-true-clause-rules g c =
-    answered_so (λ there. Evicts (state_in c.args.self.now).hardware c.args.p c.args.slot (Ok there)) (state_in c.args.self.now) _ true _ c.in-true.is (c.in_ok-evict.ensures.evicted c.args.self.now.spaces.map c.args.self.now.frames)
+    answered_so (λ there. Evicts (state_in c.args.self.now).hardware c.args.p c.args.slot (Ok there))
+    (state_in c.args.self.now) _ true _ c.in-true.is
+    (c.in_ok-evict.ensures.evicted c.args.self.now.spaces.map c.args.self.now.frames)
 
 pub returns-in-true-clause-quiet : goal.returns-in-true-clause-quiet
 returns-in-true-clause-quiet g c =
-    quiet_same refl refl (lock-evicts _ _ _ _ _ (c.evict.ensures.evicted c.args.self.now.spaces.map c.args.self.now.frames)) refl
+    quiet_same refl refl
+    (lock-evicts _ _ _ _ _ (c.evict.ensures.evicted c.args.self.now.spaces.map c.args.self.now.frames)) refl
 
 pub returns-in-false-clause-rules : goal.returns-in-false-clause-rules
 returns-in-false-clause-rules g c =
-    answered_so (λ there. Evicts (state_in c.args.self.now).hardware c.args.p c.args.slot (Ok there)) (state_in c.args.self.now) _ false _ c.in-false.is (c.in_ok-evict.ensures.evicted c.args.self.now.spaces.map c.args.self.now.frames)
+    answered_so (λ there. Evicts (state_in c.args.self.now).hardware c.args.p c.args.slot (Ok there))
+    (state_in c.args.self.now) _ false _ c.in-false.is
+    (c.in_ok-evict.ensures.evicted c.args.self.now.spaces.map c.args.self.now.frames)
 
 pub returns-in-false-clause-quiet : goal.returns-in-false-clause-quiet
 returns-in-false-clause-quiet g c =
-    quiet_same refl refl (lock-evicts _ _ _ _ _ (c.evict.ensures.evicted c.args.self.now.spaces.map c.args.self.now.frames)) refl
+    quiet_same refl refl
+    (lock-evicts _ _ _ _ _ (c.evict.ensures.evicted c.args.self.now.spaces.map c.args.self.now.frames)) refl

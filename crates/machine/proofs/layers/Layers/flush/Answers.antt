@@ -9,9 +9,13 @@ returns-in_err-admit-clause-rules g c =
     let s = state_in c.args.self.now in
     let why = c.in_err-admit.ensures.err in
     let calm = calm-not_running s.hardware.shootdown c.args.p _ why in
-    let first = found (not_running s.hardware.shootdown c.args.p) (refuse_if s.write_outs.broken refusals.Broken ∷ []) _ why in
+    let first = found (not_running s.hardware.shootdown c.args.p)
+    (refuse_if s.write_outs.broken refusals.Broken ∷ []) _ why in
     let p = err_from_is_err_and c.from_residual.result c.from_residual.ensures.1 in
-    rw (p.1, p.2) (record { some_disk = ([], [], flushes_refused s c.args.p _ [] calm first); own_disk = λ h. flushes_refused s c.args.p _ _ calm first })
+    rw (p.1, p.2) (record {
+      some_disk = ([], [], flushes_refused s c.args.p _ [] calm first);
+      own_disk = λ h. flushes_refused s c.args.p _ _ calm first;
+    })
 
 pub returns-in_err-admit-clause-did : goal.returns-in_err-admit-clause-did
 returns-in_err-admit-clause-did g c =

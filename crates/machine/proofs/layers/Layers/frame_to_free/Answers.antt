@@ -5,6 +5,8 @@ pub returns-else-is_at_home-clause-stays : goal.returns-else-is_at_home-clause-s
 returns-else-is_at_home-clause-stays g c = λ frame leaves.
     let s = state_in c.args.self.now in
     let found = c.in_ok-frame.frame in
-    let same : frame ≡ found = c.find.ensures.are.one_frame frame found c.args.page leaves.held c.in_ok-frame.ensures.found in
-    let home : IsAtHome s c.args.page frame = record { clean = leaves.clean; written = leaves.written; plain = leaves.plain } in
+    let same : frame ≡ found =
+    c.find.ensures.are.one_frame frame found c.args.page leaves.held c.in_ok-frame.ensures.found in
+    let home : IsAtHome s c.args.page frame =
+    record { clean = leaves.clean; written = leaves.written; plain = leaves.plain } in
     absurd (false≢true (c.if-is_at_home.ensures.1 (subst (IsAtHome s c.args.page) same home)))

@@ -9,34 +9,45 @@ pub write_out-requires-clause-few : goal.write_out-requires-clause-few
 write_out-requires-clause-few g c =
     let s = state_in c.args.self.now in
     let pages = c.gather.ensures.gathered.0 in
-    let gathers = subst (λ b. Gathers s.hardware.spaces s.hardware.memory s.checkpoint c.gather.new.self (not b) pages) c.is_broken-freezes.ensures c.gather.ensures.gathered.2 in
-    subst (λ (owners : List FilePage). length (mark_homes s owners) ≤ 1020) (ap (λ (x : CheckpointState). x.frozen) (sym c.protect_all.ensures.notes)) (few_frozen s c.requires.sound c.gather.new.self pages gathers)
+    let gathers = subst (λ b. Gathers s.hardware.spaces s.hardware.memory s.checkpoint c.gather.new.self (not b) pages)
+    c.is_broken-freezes.ensures c.gather.ensures.gathered.2 in
+    subst (λ (owners : List FilePage). length (mark_homes s owners) ≤ 1020) (ap (λ (x : CheckpointState). x.frozen)
+    (sym c.protect_all.ensures.notes)) (few_frozen s c.requires.sound c.gather.new.self pages gathers)
 
 pub write_out-requires-clause-pages : goal.write_out-requires-clause-pages
 write_out-requires-clause-pages g c =
     let s = state_in c.args.self.now in
     let pages = c.gather.ensures.gathered.0 in
-    let gathers = subst (λ b. Gathers s.hardware.spaces s.hardware.memory s.checkpoint c.gather.new.self (not b) pages) c.is_broken-freezes.ensures c.gather.ensures.gathered.2 in
-    subst (All (IsPageOf s.table)) (ap (λ (x : CheckpointState). x.frozen) (sym c.protect_all.ensures.notes)) (frozen_there s c.requires.sound c.gather.new.self pages gathers)
+    let gathers = subst (λ b. Gathers s.hardware.spaces s.hardware.memory s.checkpoint c.gather.new.self (not b) pages)
+    c.is_broken-freezes.ensures c.gather.ensures.gathered.2 in
+    subst (All (IsPageOf s.table)) (ap (λ (x : CheckpointState). x.frozen) (sym c.protect_all.ensures.notes))
+    (frozen_there s c.requires.sound c.gather.new.self pages gathers)
 
 pub write_out-requires-clause-batch : goal.write_out-requires-clause-batch
 write_out-requires-clause-batch g c =
     let s = state_in c.args.self.now in
     let pages = c.gather.ensures.gathered.0 in
-    let gathers = subst (λ b. Gathers s.hardware.spaces s.hardware.memory s.checkpoint c.gather.new.self (not b) pages) c.is_broken-freezes.ensures c.gather.ensures.gathered.2 in
-    subst (λ (owners : List FilePage). 0 < length (mark_homes s owners) → MayBegin s.write_outs (s.marks + 1) (mark_homes s owners)) (ap (λ (x : CheckpointState). x.frozen) (sym c.protect_all.ensures.notes))
-    (may_begin s c.requires.sound c.gather.new.self pages gathers (c.requires.sound.spaces.prepared (record { holder = c.args.p; change = Checkpoint }) c.requires.held.1).1)
+    let gathers = subst (λ b. Gathers s.hardware.spaces s.hardware.memory s.checkpoint c.gather.new.self (not b) pages)
+    c.is_broken-freezes.ensures c.gather.ensures.gathered.2 in
+    subst (λ (owners : List FilePage). 0 < length (mark_homes s owners) → MayBegin s.write_outs (s.marks + 1)
+    (mark_homes s owners)) (ap (λ (x : CheckpointState). x.frozen) (sym c.protect_all.ensures.notes))
+    (may_begin s c.requires.sound c.gather.new.self pages gathers
+    (c.requires.sound.spaces.prepared (record { holder = c.args.p; change = Checkpoint }) c.requires.held.1).1)
 
 pub returns-clause-rules : goal.returns-clause-rules
 returns-clause-rules g c = λ disk.
     let s = state_in c.args.self.now in
     let number = s.marks + 1 in
     let pages = c.gather.ensures.gathered.0 in
-    let gathers = subst (λ b. Gathers s.hardware.spaces s.hardware.memory s.checkpoint c.gather.new.self (not b) pages) c.is_broken-freezes.ensures c.gather.ensures.gathered.2 in
+    let gathers = subst (λ b. Gathers s.hardware.spaces s.hardware.memory s.checkpoint c.gather.new.self (not b) pages)
+    c.is_broken-freezes.ensures c.gather.ensures.gathered.2 in
     let frozen = ap (λ (x : CheckpointState). x.frozen) c.protect_all.ensures.notes in
-    let outs = ap (λ (owners : List FilePage). Rattle.machine.specs.inside.Layers.with_homes s.write_outs number (mark_homes s owners)) frozen ∙ with_homes-batch s c.requires.sound c.gather.new.self pages gathers number in
-    let shootdown = c.finish.ensures.finished ∙ ap (λ (w : Layers g.row.D.Denot g.row.A.Denot). finished w.shootdown c.args.p) c.write_out.ensures in
-    let made = subst (λ (w : Layers g.row.D.Denot g.row.A.Denot). MarkMade s c.args.p w.marks (state_in (record w { shootdown = c.finish.new.self; resized = false }))) (sym c.write_out.ensures)
+    let outs = ap (λ (owners : List FilePage). Rattle.machine.specs.inside.Layers.with_homes s.write_outs number
+    (mark_homes s owners)) frozen ∙ with_homes-batch s c.requires.sound c.gather.new.self pages gathers number in
+    let shootdown = c.finish.ensures.finished
+    ∙ ap (λ (w : Layers g.row.D.Denot g.row.A.Denot). finished w.shootdown c.args.p) c.write_out.ensures in
+    let made = subst (λ (w : Layers g.row.D.Denot g.row.A.Denot). MarkMade s c.args.p w.marks
+    (state_in (record w { shootdown = c.finish.new.self; resized = false }))) (sym c.write_out.ensures)
     (record {
       may = may_change s c.args.p Checkpoint c.requires.held;
       next = refl;
@@ -46,7 +57,8 @@ returns-clause-rules g c = λ disk.
       spaces = c.protect_all.new.spaces.map;
       protected = c.protect_all.ensures.protected;
       done = λ i. record s {
-        hardware = record { shootdown = shootdown i; spaces = c.protect_all.new.spaces.map; memory = s.hardware.memory };
+        hardware =
+            record { shootdown = shootdown i; spaces = c.protect_all.new.spaces.map; memory = s.hardware.memory };
         checkpoint = c.protect_all.ensures.notes i;
         write_outs = outs i;
         marks = number;

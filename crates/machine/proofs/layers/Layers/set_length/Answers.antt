@@ -1,20 +1,24 @@
-use Rattle.machine.proofs.Names.{refl, sym, ap, ◌∙◌, err_from_is_err_and, None, Some, ShootdownState, with_shootdown, state_in}
+use Rattle.machine.proofs.Names.{refl, sym, ap, ◌∙◌, err_from_is_err_and, None}
+use Rattle.machine.proofs.Names.{Some, ShootdownState, with_shootdown, state_in}
 use Rattle.machine.proofs.code.Parts.{quiet_begun}
 use Rattle.machine.proofs.code.Resizes.{same_length_reason, other_length_reason}
 use Rattle.machine.proofs.layers.Layers.set_length.Goals as goal
 
 pub returns-in_err-admit_resize-clause-rules : goal.returns-in_err-admit_resize-clause-rules
 returns-in_err-admit_resize-clause-rules g c =
-    let p = err_from_is_err_and c.from_residual-in_err-admit_resize.result c.from_residual-in_err-admit_resize.ensures.1 in
+    let p =
+    err_from_is_err_and c.from_residual-in_err-admit_resize.result c.from_residual-in_err-admit_resize.ensures.1 in
     rw (p.1, p.2) (λ disk. (
-      other_length_reason (state_in c.args.self.now) c.args.p c.args.file c.args.length (Some c.in_err-admit_resize.field-0.0) c.in_ok-admit_free.ensures.ok c.in_ok-admit_length.ensures.ok
+      other_length_reason (state_in c.args.self.now) c.args.p c.args.file c.args.length
+          (Some c.in_err-admit_resize.field-0.0) c.in_ok-admit_free.ensures.ok c.in_ok-admit_length.ensures.ok
           (λ e. c.if-length-file_length.false (e ∙ sym c.file_length.ensures)) c.in_err-admit_resize.ensures.err,
       refl,
     ))
 
 pub returns-clause-rules : goal.returns-clause-rules
 returns-clause-rules g c = λ disk. (
-  other_length_reason (state_in c.args.self.now) c.args.p c.args.file c.args.length None c.in_ok-admit_free.ensures.ok c.in_ok-admit_length.ensures.ok
+  other_length_reason (state_in c.args.self.now) c.args.p c.args.file c.args.length None c.in_ok-admit_free.ensures.ok
+      c.in_ok-admit_length.ensures.ok
       (λ e. c.if-length-file_length.false (e ∙ sym c.file_length.ensures)) c.in_ok-admit_resize.ensures.ok,
   (
     λ e. c.if-length-file_length.false (e ∙ sym c.file_length.ensures),

@@ -5,11 +5,14 @@ use Rattle.machine.proofs.layers.Layers.step_record.Goals as goal
 
 pub bounds-frozen-0 : goal.bounds-frozen-0
 bounds-frozen-0 g c =
-    subst (λ (pages : List FilePage). 0 < length pages) (sym c.frozen.ensures.frozen) (is_next_page (state_in c.args.self.now) c.requires.sound c.requires.record).some
+    subst (λ (pages : List FilePage). 0 < length pages) (sym c.frozen.ensures.frozen)
+    (is_next_page (state_in c.args.self.now) c.requires.sound c.requires.record).some
 
 pub file_length-requires-clause-there : goal.file_length-requires-clause-there
 file_length-requires-clause-there g c =
-    subst (λ (pages : List FilePage). (get_or pages 0 (record { file = 0; page = 0 })).file < length c.args.self.now.table.files) (sym c.frozen.ensures.frozen) (is_next_page (state_in c.args.self.now) c.requires.sound c.requires.record).file.there
+    subst (λ (pages : List FilePage). (get_or pages 0 (record { file = 0; page = 0 })).file
+    < length c.args.self.now.table.files) (sym c.frozen.ensures.frozen)
+    (is_next_page (state_in c.args.self.now) c.requires.sound c.requires.record).file.there
 
 pub overflow_mul-from : goal.overflow_mul-from
 overflow_mul-from g c =
@@ -24,11 +27,15 @@ overflow_mul-from g c =
 
 pub bytes_at_mark-requires-clause-there : goal.bytes_at_mark-requires-clause-there
 bytes_at_mark-requires-clause-there g c =
-    subst (λ (pages : List FilePage). is_in_memory c.args.self.now.frames (get_or pages 0 (record { file = 0; page = 0 })) ≡ true) (sym c.frozen.ensures.frozen) (is_next_page (state_in c.args.self.now) c.requires.sound c.requires.record).there
+    subst (λ (pages : List FilePage).
+    is_in_memory c.args.self.now.frames (get_or pages 0 (record { file = 0; page = 0 })) ≡ true)
+    (sym c.frozen.ensures.frozen) (is_next_page (state_in c.args.self.now) c.requires.sound c.requires.record).there
 
 pub step_with-requires-clause-there : goal.step_with-requires-clause-there
 step_with-requires-clause-there g c =
-    subst (λ (pages : List FilePage). is_in_memory c.args.self.now.frames (get_or pages 0 (record { file = 0; page = 0 })) ≡ true) (sym c.frozen.ensures.frozen) (is_next_page (state_in c.args.self.now) c.requires.sound c.requires.record).there
+    subst (λ (pages : List FilePage).
+    is_in_memory c.args.self.now.frames (get_or pages 0 (record { file = 0; page = 0 })) ≡ true)
+    (sym c.frozen.ensures.frozen) (is_next_page (state_in c.args.self.now) c.requires.sound c.requires.record).there
 
 pub step_with-requires-clause-bytes : goal.step_with-requires-clause-bytes
 step_with-requires-clause-bytes g c =
@@ -39,6 +46,8 @@ step_with-requires-clause-bytes g c =
     let page = ap (λ (x : List FilePage). (first x).page) pages in
     let length_is = c.file_length.ensures in
     let same = ap (λ n. get_or c.args.self.now.lengths.items n 0) file in
-    let covered : 4096 ≤ length_of s (next_page s).file - 4096 * (next_page s).page = omega (arith, c.from.ensures, page, length_is, same, c.saturating_sub-left.ensures, c.if-left-ge-PAGE.true) in
+    let covered : 4096 ≤ length_of s (next_page s).file - 4096 * (next_page s).page =
+    omega (arith, c.from.ensures, page, length_is, same, c.saturating_sub-left.ensures, c.if-left-ge-PAGE.true) in
     ap (λ (x : List FilePage). next_work s.write_outs (bytes_at_mark s.hardware.memory (first x))) pages
-    ∙ ap (next_work s.write_outs) (whole_record s c.requires.sound c.requires.record (is_next_page s c.requires.sound c.requires.record).there covered)
+    ∙ ap (next_work s.write_outs) (whole_record s c.requires.sound c.requires.record
+    (is_next_page s c.requires.sound c.requires.record).there covered)

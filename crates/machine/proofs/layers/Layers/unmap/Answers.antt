@@ -4,4 +4,5 @@ use Rattle.machine.proofs.layers.Layers.unmap.Goals as goal
 
 pub returns-clause-quiet : goal.returns-clause-quiet
 returns-clause-quiet g c =
-    quiet_begun refl refl (ap (λ (s : ShootdownState). s.lock) c.begin.ensures.begun) (ap (λ (s : SpacesState). s.prepared) c.in_ok-prepare.ensures.prepared)
+    quiet_begun refl refl (ap (λ (s : ShootdownState). s.lock) c.begin.ensures.begun)
+    (ap (λ (s : SpacesState). s.prepared) c.in_ok-prepare.ensures.prepared)

@@ -7,17 +7,27 @@ use Rattle.machine.proofs.code.Runs.{steps_more}
 module _ (g : _) (c : goal.After-step g) where
   -- the step was taken
   taken : StepTaken g.D.Device c.args.self.now c.args.step.now c.step.result c.step.new.self
-  taken = record { answered = c.step.ensures.rules; made = c.step.ensures.made; device = c.step.ensures.device; calls = c.step.ensures.calls; honest = c.step.ensures.honest; len = c.step.ensures.len }
+  taken = record {
+    answered = c.step.ensures.rules;
+    made = c.step.ensures.made;
+    device = c.step.ensures.device;
+    calls = c.step.ensures.calls;
+    honest = c.step.ensures.honest;
+    len = c.step.ensures.len;
+  }
 
 pub returns-clause-longer : goal.returns-clause-longer
-returns-clause-longer g c = λ start steps replies before. steps_more g.D.Device start steps replies c.args.self.now c.args.step.now c.step.result c.step.new.self before (taken g c)
+returns-clause-longer g c = λ start steps replies before. steps_more g.D.Device start steps replies c.args.self.now
+    c.args.step.now c.step.result c.step.new.self before (taken g c)
 
 pub returns-clause-safe : goal.returns-clause-safe
 returns-clause-safe g c = λ files start steps replies on.
     let f = follows g.D.Device files start steps replies c.args.self.now on in
-    step_safe g.D.Device files (tell_all (told_first files start.state) steps replies) c.args.self.now c.args.step.now c.step.result c.step.new.self f.tracked (taken g c) f.honest
+    step_safe g.D.Device files (tell_all (told_first files start.state) steps replies) c.args.self.now c.args.step.now
+    c.step.result c.step.new.self f.tracked (taken g c) f.honest
 
 pub returns-clause-stops : goal.returns-clause-stops
 returns-clause-stops g c = λ files start steps replies on.
     let f = follows g.D.Device files start steps replies c.args.self.now on in
-    step_stopped g.D.Device files (tell_all (told_first files start.state) steps replies) c.args.self.now c.args.step.now c.step.result c.step.new.self f.tracked (taken g c) f.honest
+    step_stopped g.D.Device files (tell_all (told_first files start.state) steps replies) c.args.self.now
+    c.args.step.now c.step.result c.step.new.self f.tracked (taken g c) f.honest

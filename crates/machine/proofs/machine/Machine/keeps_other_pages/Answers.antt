@@ -7,7 +7,8 @@ pub returns-clause-kept : goal.returns-clause-kept
 returns-clause-kept g c = λ files start steps replies p number new mark owner left on in_file other may.
     let now = c.args.self.now in
     let tracked = (follows g.D.Device files start steps replies now on).tracked in
-    kept_page files (tell_all (told_first files start.state) steps replies) now.state (g.D.Device.seen now.device) (g.D.Device.may_leave now.device) tracked p number new mark owner in_file other left may
+    kept_page files (tell_all (told_first files start.state) steps replies) now.state (g.D.Device.seen now.device)
+    (g.D.Device.may_leave now.device) tracked p number new mark owner in_file other left may
 
 pub returns-clause-framed : goal.returns-clause-framed
 returns-clause-framed g c = λ files start steps replies frame owner on holds.

@@ -5,16 +5,20 @@ use Rattle.machine.proofs.durable.ReadsBack.{reads_now}
 use Rattle.machine.proofs.track.Lawful.{served_throughout}
 
 pub returns-clause-headline : goal.returns-clause-headline
-returns-clause-headline g c = λ files start steps replies on. (follows g.D.Device files start steps replies c.args.self.now on).through
+returns-clause-headline g c =
+    λ files start steps replies on. (follows g.D.Device files start steps replies c.args.self.now on).through
 
 pub returns-clause-lawful : goal.returns-clause-lawful
-returns-clause-lawful g c = λ files start steps replies on. (follows g.D.Device files start steps replies c.args.self.now on).lawful
+returns-clause-lawful g c =
+    λ files start steps replies on. (follows g.D.Device files start steps replies c.args.self.now on).lawful
 
 pub returns-clause-left : goal.returns-clause-left
 returns-clause-left g c = λ files start steps replies list on.
     let now = c.args.self.now in
     let t = (follows g.D.Device files start steps replies now on).tracked in
-    reads_now files (tell_all (told_first files start.state) steps replies) now.state (g.D.Device.seen now.device) (g.D.Device.may_leave now.device) t.sound t.files_are (record { old = t.old; new = t.new; stands = t.stands; written = t.written }) list
+    reads_now files (tell_all (told_first files start.state) steps replies) now.state (g.D.Device.seen now.device)
+    (g.D.Device.may_leave now.device) t.sound t.files_are
+    (record { old = t.old; new = t.new; stands = t.stands; written = t.written }) list
 
 pub returns-clause-served : goal.returns-clause-served
 returns-clause-served g c = λ files start steps replies on.

@@ -10,12 +10,22 @@ pub loop-i-preserved : goal.loop-i-preserved
 loop-i-preserved g c =
     let i = c.loop-i.i in
     let within : i < length c.args.steps.now = c.loop-i-test.true in
-    let steps : take (i + 1) c.args.steps.now ≡ take i c.args.steps.now ++ c.index-steps-i.result ∷ [] = grind (arith, common_steps) in
+    let steps : take (i + 1) c.args.steps.now ≡ take i c.args.steps.now ++ c.index-steps-i.result ∷ [] =
+    grind (arith, common_steps) in
     let room : i < length c.loop-i.replies = omega arith in
-    let replies : take (i + 1) (set c.loop-i.replies i c.step.result) ≡ take i c.loop-i.replies ++ c.step.result ∷ [] = grind (arith, common_steps) in
+    let replies : take (i + 1) (set c.loop-i.replies i c.step.result) ≡ take i c.loop-i.replies ++ c.step.result ∷ [] =
+    grind (arith, common_steps) in
     record {
-      taken = rw (steps, replies) (steps_more g.D.Device c.args.self.now _ _ c.loop-i.self _ c.step.result c.step.new.self c.loop-i.invariant.taken
-          (record { answered = c.step.ensures.rules; made = c.step.ensures.made; device = c.step.ensures.device; calls = c.step.ensures.calls; honest = c.step.ensures.honest; len = c.step.ensures.len }));
+      taken = rw (steps, replies) (steps_more g.D.Device c.args.self.now _ _ c.loop-i.self _ c.step.result
+          c.step.new.self c.loop-i.invariant.taken
+          (record {
+            answered = c.step.ensures.rules;
+            made = c.step.ensures.made;
+            device = c.step.ensures.device;
+            calls = c.step.ensures.calls;
+            honest = c.step.ensures.honest;
+            len = c.step.ensures.len;
+          }));
       within = omega arith;
     }
 
@@ -23,16 +33,21 @@ module _ (g : _) (c : goal.After-loop-i g) where
   -- all steps were made
   all : StepsTaken g.D.Device c.args.self.now c.args.steps.now c.loop-i.replies c.loop-i.self
   all =
-      let steps : take c.loop-i.i c.args.steps.now ≡ c.args.steps.now = take_all c.loop-i.i c.args.steps.now (omega arith) in
-      let replies : take c.loop-i.i c.loop-i.replies ≡ c.loop-i.replies = take_all c.loop-i.i c.loop-i.replies (omega arith) in
-      subst (λ (answers : List Reply). StepsTaken g.D.Device c.args.self.now c.args.steps.now answers c.loop-i.self) replies
-      (subst (λ (made : List Step). StepsTaken g.D.Device c.args.self.now made (take c.loop-i.i c.loop-i.replies) c.loop-i.self) steps c.loop-i.invariant.taken)
+      let steps : take c.loop-i.i c.args.steps.now ≡ c.args.steps.now =
+      take_all c.loop-i.i c.args.steps.now (omega arith) in
+      let replies : take c.loop-i.i c.loop-i.replies ≡ c.loop-i.replies =
+      take_all c.loop-i.i c.loop-i.replies (omega arith) in
+      subst (λ (answers : List Reply). StepsTaken g.D.Device c.args.self.now c.args.steps.now answers c.loop-i.self)
+      replies
+      (subst (λ (made : List Step). StepsTaken g.D.Device c.args.self.now made
+      (take c.loop-i.i c.loop-i.replies) c.loop-i.self) steps c.loop-i.invariant.taken)
 
 pub returns-clause-steps : goal.returns-clause-steps
 returns-clause-steps g c = all g c
 
 pub returns-clause-honest : goal.returns-clause-honest
-returns-clause-honest g c = honest_taken g.D.Device c.args.self.now c.args.steps.now c.loop-i.replies c.loop-i.self (all g c)
+returns-clause-honest g c =
+    honest_taken g.D.Device c.args.self.now c.args.steps.now c.loop-i.replies c.loop-i.self (all g c)
 
 pub returns-clause-len : goal.returns-clause-len
 returns-clause-len g c = len_taken g.D.Device c.args.self.now c.args.steps.now c.loop-i.replies c.loop-i.self (all g c)

@@ -3,4 +3,5 @@ use Rattle.machine.proofs.Tracks.{follows}
 use Rattle.machine.proofs.durable.ReadsBack.{frozen_protected}
 
 pub returns : goal.returns
-returns g c = λ files start steps replies on. frozen_protected c.args.self.now.state (follows g.D.Device files start steps replies c.args.self.now on).tracked.sound
+returns g c = λ files start steps replies on. frozen_protected c.args.self.now.state
+    (follows g.D.Device files start steps replies c.args.self.now on).tracked.sound

@@ -3,8 +3,10 @@ use Rattle.machine.proofs.machine.Machine.state.Goals as goal
 
 pub returns-clause-ok : goal.returns-clause-ok
 returns-clause-ok g c =
-    subst (λ (w : Whole g.row.D.Denot). IfOk c.state.result (λ state. IsTrue (is_there w.state.hardware.shootdown c.args.p) × (state ≡ state_of w.state.hardware.shootdown c.args.p))) c.self.view_is c.state.ensures.ok
+    subst (λ (w : Whole g.row.D.Denot). IfOk c.state.result (λ state. IsTrue (is_there w.state.hardware.shootdown
+    c.args.p) × (state ≡ state_of w.state.hardware.shootdown c.args.p))) c.self.view_is c.state.ensures.ok
 
 pub returns-clause-err : goal.returns-clause-err
 returns-clause-err g c =
-    subst (λ (w : Whole g.row.D.Denot). IfErr c.state.result (λ why. (is_there w.state.hardware.shootdown c.args.p ≡ false) × (why ≡ Einval))) c.self.view_is c.state.ensures.err
+    subst (λ (w : Whole g.row.D.Denot). IfErr c.state.result (λ why.
+    (is_there w.state.hardware.shootdown c.args.p ≡ false) × (why ≡ Einval))) c.self.view_is c.state.ensures.err
