@@ -183,7 +183,7 @@ fn write_reached<W: io::Write>(reached: &Reached, out: &mut W) -> io::Result<()>
 {
     match reached {
         Reached::Refused { count, reply } => write!(out, "{reply} after {count}"),
-        _ => out.write_all(b"loaded"),
+        Reached::All | Reached::NoMemory => out.write_all(b"loaded"),
     }
 }
 
@@ -204,7 +204,7 @@ fn write_stored<W: io::Write>(reached: &Reached, count: usize, out: &mut W) -> i
 {
     match reached {
         Reached::Refused { count, reply } => writeln!(out, "{reply} after {count}"),
-        _ => writeln!(out, "stored {count}"),
+        Reached::All | Reached::NoMemory => writeln!(out, "stored {count}"),
     }
 }
 
