@@ -55,7 +55,30 @@ pub fn begin_page<W: io::Write>(out: &mut W) -> io::Result<()> {
 pub fn reply_on_page<W: io::Write>(reply: &Reply, out: &mut W) -> io::Result<()> {
     let class = match reply {
         Reply::Committed(_) | Reply::Marked(_) => "told sure",
-        _ => "told",
+        Reply::Bytes(_)
+        | Reply::Stored
+        | Reply::Filled
+        | Reply::Evicted
+        | Reply::Switched
+        | Reply::Idled
+        | Reply::Woken
+        | Reply::Fixed
+        | Reply::Space(_)
+        | Reply::Destroyed
+        | Reply::Mapped
+        | Reply::Begun
+        | Reply::Fine
+        | Reply::Unmapped
+        | Reply::Protected
+        | Reply::Resized
+        | Reply::Reclaimed
+        | Reply::Kept
+        | Reply::Acked
+        | Reply::Resumed
+        | Reply::Going
+        | Reply::Done(_)
+        | Reply::Nothing
+        | Reply::Refused(_) => "told",
     };
     writeln!(
         out,

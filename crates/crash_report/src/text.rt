@@ -49,7 +49,7 @@ impl<A: Allocator + Copy> fmt::Display for Touched<'_, A> {
 pub fn part<A: Allocator + Copy>(places: &Places<A>, call: &Call<A>) -> Option<Part> {
     match call.kind {
         CallKind::Sync => None,
-        _ => Some(places.part_of(call.at)),
+        CallKind::Read | CallKind::Write => Some(places.part_of(call.at)),
     }
 }
 

@@ -1,5 +1,5 @@
 -- What an embedded machine has served, seen over the disk in memory that made the calls.
-use Rattle.std.proofs.Common.{◌≡◌, ℕ, List, [], ◌++◌, Option, Some, None, IfSome, Result, Ok, Err, IfOk, IfErr}
+use Rattle.std.proofs.Common.{◌≡◌, ℕ, List, [], ◌++◌, Option, Some, None, IfSome, Result, Ok, Err}
 use Rattle.device.specs.Deferred.{Deferred, as_recorded, IsSuppliedWell, recorded_calls}
 use Rattle.device.specs.Memory.{Recorded}
 use Rattle.machine.specs.declared.act.Reply.{Reply}
@@ -9,7 +9,7 @@ use Rattle.machine.specs.Runs.{StepTaken}
 use Rattle.machine.specs.State.{Whole}
 use Rattle.engine.specs.Engine.{HasStarted}
 use Rattle.session.specs.declared.notes.Notes.{Notes}
-use Rattle.session.specs.Commits.{CommitsMark, StopsCommit}
+use Rattle.session.specs.Commits.{CommitsMark, AnswersCommit}
 use Rattle.session.specs.Ranges.{MakesStepsThat}
 use Rattle.session.specs.Sessions.{IsServing, no_notes}
 use Rattle.session.specs.Steps.{Makes}
@@ -170,11 +170,10 @@ serves_commit committed needed made acknowledged p mark old new before after ser
 pub serves_commits : (committed : Option ℕ) (needed made : ℕ) (acknowledged : Option ℕ) (p : ℕ)
     (result : Result ℕ Reply) (old new : Whole Deferred) (before after : Notes)
     → ServesWell old before committed needed made acknowledged
-    → IfOk result (λ mark. MakesStepsThat deferred_disk old before (CommitsMark p before mark) new after)
-    → IfErr result (λ reply. MakesStepsThat deferred_disk old before (StopsCommit p before reply) new after)
+    → MakesStepsThat deferred_disk old before (AnswersCommit p before result) new after
     → ServesWell new after (last_committed result committed)
     (last_needed result (recorded_calls new.device) needed) made acknowledged
-serves_commits committed needed made acknowledged p (Ok mark) old new before after served ok err =
-    serves_commit committed needed made acknowledged p mark old new before after served ok
-serves_commits committed needed made acknowledged p (Err reply) old new before after served ok err =
-    serves_more committed needed made acknowledged old new before after (StopsCommit p before reply) served err
+serves_commits committed needed made acknowledged p (Ok mark) old new before after served it =
+    serves_commit committed needed made acknowledged p mark old new before after served it
+serves_commits committed needed made acknowledged p (Err reply) old new before after served it =
+    serves_more committed needed made acknowledged old new before after (AnswersCommit p before (Err reply)) served it

@@ -1,12 +1,8 @@
 // A volume whose device calls a host makes.
-ghost use Rattle.std.specs.Prelude.{◌≡◌, ◌-◌, List, None, IfOk, IfErr};
-ghost use Rattle.device.specs.Deferred.{as_recorded, IsSuppliedWell, recorded_calls};
-ghost use Rattle.device.specs.Memory.{seen_of};
-ghost use Rattle.volume_codec.specs.Files.{File};
-ghost use Rattle.volume_codec.specs.Recovery.{RecoversTo};
-ghost use Rattle.engine.specs.Engine.{HasStarted, HasNotStarted};
-ghost use Rattle.session.specs.Files.{AreFiles, AreListed};
-ghost use Rattle.session.specs.Sessions.{no_notes};
+ghost use Rattle.std.specs.Prelude.{◌≡◌, ◌-◌, None, IfOk, IfErr};
+ghost use Rattle.device.specs.Deferred.{recorded_calls};
+ghost use Rattle.engine.specs.Engine.{HasNotStarted};
+ghost use Rattle.session.specs.Sessions.{IsStarted};
 ghost use Rattle.embedded.specs.Recorded.{deferred_disk};
 ghost use Rattle.embedded.specs.Embedded.{ServesWell};
 
@@ -60,7 +56,7 @@ impl<A: Allocator + Copy> Model for Embedded<A> {
 }
 
 /// Opens the volume of a disk, and boots a machine of this shape over it. It lists the files of the volume with their
-/// lengths, as they were opened: those that the disk's bytes recover to (`listed`). A refusal hands the disk back.
+/// lengths, as they were opened: those that the disk's bytes recover to (`IsStarted`). A refusal hands the disk back.
 ///
 /// `Device` where a block was lacking, which the disk says (`wanted`): the host supplies it, and opens again. So it is
 /// best to supply all blocks below the first file's home before. `NotAVolume`, `Damaged` as `recovery::open`,
@@ -70,12 +66,8 @@ pub fn open<A: Allocator + Copy>(
     disk: DeferredDisk<A>,
     shape: Shape,
 ) -> Result<Embedded<A>, (Refusal, DeferredDisk<A>)>
-    ensures started { IfOk result (λ embedded. HasStarted deferred_disk disk shape embedded.machine) }
-    ensures files { IfOk result (λ embedded. AreFiles embedded.machine.state.table embedded.machine.state.lengths
+    ensures started { IfOk result (λ embedded. IsStarted deferred_disk disk shape embedded.machine embedded.notes
         embedded.files.lines.items) }
-    ensures listed { IfOk result (λ embedded. IsSuppliedWell disk → (files : List File)
-        × RecoversTo (seen_of (as_recorded disk)) files × AreListed files embedded.files.lines.items) }
-    ensures nothing { IfOk result (λ embedded. embedded.notes ≡ no_notes) }
     ensures committed { IfOk result (λ embedded. embedded.committed ≡ None) }
     ensures made { IfOk result (λ embedded. embedded.made
         ≡ recorded_calls embedded.machine.device - embedded.machine.device.waiting) }

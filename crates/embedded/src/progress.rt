@@ -46,7 +46,7 @@ fn stopped(count: usize, reply: &Reply, wanted: Option<u32>) -> Progress
 {
     match wanted {
         Some(block) if has_failed(reply) => Progress::Wanted { block, count },
-        _ => Progress::Refused {
+        Some(_) | None => Progress::Refused {
             count,
             reply: *reply,
         },

@@ -1,10 +1,10 @@
 // What is asked of an embedded volume.
-ghost use Rattle.std.specs.Prelude.{◌≡◌, [], ◌∷◌, true, if◌then◌else◌, IfOk, IfErr};
+ghost use Rattle.std.specs.Prelude.{◌≡◌, [], ◌∷◌, if◌then◌else◌};
 ghost use Rattle.device.specs.Deferred.{recorded_calls};
-ghost use Rattle.session.specs.Commits.{CommitsMark, StopsCommit, tells_unmade};
+ghost use Rattle.session.specs.CarriedOut.{CarriesOut};
+ghost use Rattle.session.specs.Commits.{AnswersCommit};
 ghost use Rattle.session.specs.Lengths.{AnswersLength};
-ghost use Rattle.session.specs.Locks.{KeepsPhases};
-ghost use Rattle.session.specs.Ranges.{MakesStepsThat, LoadsReached, StoresReached};
+ghost use Rattle.session.specs.Ranges.{LoadsReached, StoresReached};
 ghost use Rattle.session.specs.Steps.{Makes};
 ghost use Rattle.embedded.specs.Embedded.{are_made, last_committed, last_needed, made_of};
 ghost use Rattle.embedded.specs.Recorded.{deferred_disk};
@@ -39,10 +39,9 @@ impl<A: Allocator + Copy> Embedded<A> {
         bytes: &mut Vec<u8, A>,
     ) -> Progress
         requires { bytes.old.items ≡ [] }
-        ensures reached { MakesStepsThat deferred_disk self.old.machine self.old.notes
+        ensures reached { CarriesOut deferred_disk self.old.machine self.old.notes
             (LoadsReached p va count bytes.new.items (reached_by result)) self.new.machine self.new.notes }
         ensures wanted { TellsWanted self.new.machine.device.wanted result }
-        ensures phases { KeepsPhases self.old.machine.state self.new.machine.state }
         ensures committed { self.new.committed ≡ self.old.committed }
         ensures needed { self.new.needed ≡ self.old.needed }
         ensures made { self.new.made ≡ self.old.made }
@@ -57,10 +56,9 @@ impl<A: Allocator + Copy> Embedded<A> {
 
     /// Stores bytes from an address on. Where a block is wanted, so many of them were stored.
     pub fn store(&mut self, p: ProcessorNumber, va: u64, bytes: &[u8]) -> Progress
-        ensures reached { MakesStepsThat deferred_disk self.old.machine self.old.notes
+        ensures reached { CarriesOut deferred_disk self.old.machine self.old.notes
             (StoresReached p va bytes.now (reached_by result)) self.new.machine self.new.notes }
         ensures wanted { TellsWanted self.new.machine.device.wanted result }
-        ensures phases { KeepsPhases self.old.machine.state self.new.machine.state }
         ensures committed { self.new.committed ≡ self.old.committed }
         ensures needed { self.new.needed ≡ self.old.needed }
         ensures made { self.new.made ≡ self.old.made }
@@ -75,9 +73,8 @@ impl<A: Allocator + Copy> Embedded<A> {
 
     /// Sets the length of a file. It answers as a session does; where a block is wanted, a device call failed.
     pub fn set_length(&mut self, p: ProcessorNumber, file: u16, length: u64) -> Reply
-        ensures answers { MakesStepsThat deferred_disk self.old.machine self.old.notes
+        ensures answers { CarriesOut deferred_disk self.old.machine self.old.notes
             (AnswersLength p file length result) self.new.machine self.new.notes }
-        ensures phases { KeepsPhases self.old.machine.state self.new.machine.state }
         ensures committed { self.new.committed ≡ self.old.committed }
         ensures needed { self.new.needed ≡ self.old.needed }
         ensures made { self.new.made ≡ self.old.made }
@@ -89,12 +86,8 @@ impl<A: Allocator + Copy> Embedded<A> {
     /// Commits all stores. Answers the number of the mark, which is durable once the calls that wait then were made,
     /// and then `acknowledged` says so. Or it answers what the step was answered that stopped the commit.
     pub fn commit(&mut self, p: ProcessorNumber) -> Result<u32, Reply>
-        ensures ok { IfOk result (λ mark. MakesStepsThat deferred_disk self.old.machine self.old.notes
-            (CommitsMark p self.old.notes mark) self.new.machine self.new.notes) }
-        ensures err { IfErr result (λ reply. MakesStepsThat deferred_disk self.old.machine self.old.notes
-            (StopsCommit p self.old.notes reply) self.new.machine self.new.notes) }
-        ensures unmade { IfErr result (λ reply. tells_unmade reply ≡ true) }
-        ensures phases { KeepsPhases self.old.machine.state self.new.machine.state }
+        ensures answers { CarriesOut deferred_disk self.old.machine self.old.notes
+            (AnswersCommit p self.old.notes result) self.new.machine self.new.notes }
         ensures committed { self.new.committed ≡ last_committed result self.old.committed }
         ensures needed { self.new.needed
             ≡ last_needed result (recorded_calls self.new.machine.device) self.old.needed }

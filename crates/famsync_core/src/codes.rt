@@ -54,6 +54,30 @@ pub(crate) fn code_of_reply(reply: &Reply) -> i32
 {
     match reply {
         Reply::Refused(refusal) => code_of_refusal(refusal),
-        _ => OTHER,
+        Reply::Bytes(_)
+        | Reply::Stored
+        | Reply::Filled
+        | Reply::Evicted
+        | Reply::Switched
+        | Reply::Idled
+        | Reply::Woken
+        | Reply::Fixed
+        | Reply::Space(_)
+        | Reply::Destroyed
+        | Reply::Mapped
+        | Reply::Begun
+        | Reply::Fine
+        | Reply::Unmapped
+        | Reply::Protected
+        | Reply::Resized
+        | Reply::Reclaimed
+        | Reply::Kept
+        | Reply::Marked(_)
+        | Reply::Acked
+        | Reply::Resumed
+        | Reply::Going
+        | Reply::Committed(_)
+        | Reply::Done(_)
+        | Reply::Nothing => OTHER,
     }
 }

@@ -536,11 +536,11 @@ fn code_of_lack(refusal: &Refusal, lacked: Option<u32>, wanted: &mut u32) -> i32
     ensures code { result ≡ lack_code refusal.now lacked }
     ensures wanted { wanted.new ≡ lacked_block refusal.now lacked wanted.old }
 {
-    match (refusal, lacked) {
-        (Refusal::Device, Some(block)) => {
+    match lacked {
+        Some(block) if matches!(refusal, Refusal::Device) => {
             *wanted = block;
             WANTED
         }
-        _ => code_of_refusal(refusal),
+        Some(_) | None => code_of_refusal(refusal),
     }
 }

@@ -9,6 +9,7 @@ pub mod Commits
 pub mod Ranges
 pub mod Lines
 pub mod Answers
+pub mod CarriedOut
 pub mod Serving
 pub mod Files
 pub mod Sessions

@@ -2,15 +2,9 @@
 use Rattle.std.specs.Prelude.{Bool, true, false, List, [], ◌∷◌}
 use Rattle.page_entry.specs.declared.refusal.Refusal.TheVariants.{Device}
 use Rattle.machine.specs.declared.act.Reply.{Reply}
-use Rattle.machine.specs.declared.act.Reply.TheVariants.{Stored, Resized, Marked, Refused}
+use Rattle.machine.specs.declared.act.Reply.TheVariants.{Refused}
+use Rattle.machine.specs.Unmarked.{unmarked_by}
 use Rattle.session.specs.declared.notes.Notes.{Notes}
-
--- whether a store was made, or a length set, that no mark has yet, after one reply more
-abbrev pub unmarked_by : Bool → Reply → Bool
-unmarked_by before Stored = true
-unmarked_by before Resized = true
-unmarked_by before (Marked mark) = false
-unmarked_by before _ = before
 
 -- whether a step was answered that the device failed, after one reply more
 abbrev pub failed_by : Bool → Reply → Bool

@@ -1,11 +1,10 @@
 // The line that answers a request.
 ghost use Rattle.std.specs.Prelude.{List, ℕ, [], ◌∷◌, ◌++◌, OnOk};
 ghost use Rattle.std.specs.Io.KnownBytes.{Appends};
-ghost use Rattle.session.specs.Answers.{WritesAnswer, TellsLoaded};
+ghost use Rattle.session.specs.Answers.{TellsLoaded};
 ghost use Rattle.session.specs.Answers.{reply_after, reached_text, text_after_space, stored_text, committed_text};
-ghost use Rattle.session.specs.Asked.{asked, AreFirst, IsDoneFor};
-ghost use Rattle.session.specs.Locks.{KeepsPhases, KeepsPhasesFor};
-ghost use Rattle.session.specs.Ranges.{MakesStepsThat};
+ghost use Rattle.session.specs.Asked.{asked};
+ghost use Rattle.session.specs.CarriedOut.{CarriesOutFor};
 ghost use Rattle.session.specs.Requests.{asks_steps, asks_load, asks_store, asks_commit, asks_length};
 
 use crate::ranges::Reached;
@@ -26,12 +25,8 @@ impl<D: Device, A: Allocator + Copy> Requests<D, A> {
         request: &Request<A>,
         out: &mut W,
     ) -> Result<(), SessionFault>
-        ensures does { MakesStepsThat D.Device self.old.machine self.old.notes (IsDoneFor (asked request.now))
-            self.new.machine self.new.notes }
-        ensures answers { OnOk result (MakesStepsThat D.Device self.old.machine self.old.notes
-            (WritesAnswer self.old.notes (asked request.now) (W.contents out.old) (W.contents out.new))
-            self.new.machine self.new.notes) }
-        ensures phases { KeepsPhasesFor (asked request.now) self.old.machine.state self.new.machine.state }
+        ensures { CarriesOutFor D.Device self.old.machine self.old.notes (asked request.now) result
+            (W.contents out.old) (W.contents out.new) self.new.machine self.new.notes }
     {
         match request {
             Request::Steps(steps) => self.answer_steps(steps, out),
@@ -48,11 +43,8 @@ impl<D: Device, A: Allocator + Copy> Requests<D, A> {
         steps: &[Step],
         out: &mut W,
     ) -> Result<(), SessionFault>
-        ensures does { MakesStepsThat D.Device self.old.machine self.old.notes (AreFirst steps.now)
-            self.new.machine self.new.notes }
-        ensures answers { OnOk result (MakesStepsThat D.Device self.old.machine self.old.notes
-            (WritesAnswer self.old.notes (asks_steps steps.now) (W.contents out.old) (W.contents out.new))
-            self.new.machine self.new.notes) }
+        ensures { CarriesOutFor D.Device self.old.machine self.old.notes (asks_steps steps.now) result
+            (W.contents out.old) (W.contents out.new) self.new.machine self.new.notes }
     {
         for (i, step) in steps.iter().enumerate() {
             let reply = self.make(step);
@@ -71,12 +63,8 @@ impl<D: Device, A: Allocator + Copy> Requests<D, A> {
         count: u64,
         out: &mut W,
     ) -> Result<(), SessionFault>
-        ensures does { MakesStepsThat D.Device self.old.machine self.old.notes (IsDoneFor (asks_load p va count))
-            self.new.machine self.new.notes }
-        ensures answers { OnOk result (MakesStepsThat D.Device self.old.machine self.old.notes
-            (WritesAnswer self.old.notes (asks_load p va count) (W.contents out.old) (W.contents out.new))
-            self.new.machine self.new.notes) }
-        ensures phases { KeepsPhases self.old.machine.state self.new.machine.state }
+        ensures { CarriesOutFor D.Device self.old.machine self.old.notes (asks_load p va count) result
+            (W.contents out.old) (W.contents out.new) self.new.machine self.new.notes }
     {
         let count = count as usize;
         let Ok(mut bytes) = Vec::with_capacity(alloc, count) else {
@@ -93,12 +81,8 @@ impl<D: Device, A: Allocator + Copy> Requests<D, A> {
         bytes: &[u8],
         out: &mut W,
     ) -> Result<(), SessionFault>
-        ensures does { MakesStepsThat D.Device self.old.machine self.old.notes (IsDoneFor (asks_store p va bytes.now))
-            self.new.machine self.new.notes }
-        ensures answers { OnOk result (MakesStepsThat D.Device self.old.machine self.old.notes
-            (WritesAnswer self.old.notes (asks_store p va bytes.now) (W.contents out.old) (W.contents out.new))
-            self.new.machine self.new.notes) }
-        ensures phases { KeepsPhases self.old.machine.state self.new.machine.state }
+        ensures { CarriesOutFor D.Device self.old.machine self.old.notes (asks_store p va bytes.now) result
+            (W.contents out.old) (W.contents out.new) self.new.machine self.new.notes }
     {
         let reached = self.store(p, va, bytes);
         write_stored(&reached, bytes.len(), out).map_err(SessionFault::Output)
@@ -109,12 +93,8 @@ impl<D: Device, A: Allocator + Copy> Requests<D, A> {
         p: ProcessorNumber,
         out: &mut W,
     ) -> Result<(), SessionFault>
-        ensures does { MakesStepsThat D.Device self.old.machine self.old.notes (IsDoneFor (asks_commit p))
-            self.new.machine self.new.notes }
-        ensures answers { OnOk result (MakesStepsThat D.Device self.old.machine self.old.notes
-            (WritesAnswer self.old.notes (asks_commit p) (W.contents out.old) (W.contents out.new))
-            self.new.machine self.new.notes) }
-        ensures phases { KeepsPhases self.old.machine.state self.new.machine.state }
+        ensures { CarriesOutFor D.Device self.old.machine self.old.notes (asks_commit p) result
+            (W.contents out.old) (W.contents out.new) self.new.machine self.new.notes }
     {
         let committed = self.commit(p);
         write_committed(&committed, out).map_err(SessionFault::Output)
@@ -127,12 +107,8 @@ impl<D: Device, A: Allocator + Copy> Requests<D, A> {
         length: u64,
         out: &mut W,
     ) -> Result<(), SessionFault>
-        ensures does { MakesStepsThat D.Device self.old.machine self.old.notes (IsDoneFor (asks_length p file length))
-            self.new.machine self.new.notes }
-        ensures answers { OnOk result (MakesStepsThat D.Device self.old.machine self.old.notes
-            (WritesAnswer self.old.notes (asks_length p file length) (W.contents out.old) (W.contents out.new))
-            self.new.machine self.new.notes) }
-        ensures phases { KeepsPhases self.old.machine.state self.new.machine.state }
+        ensures { CarriesOutFor D.Device self.old.machine self.old.notes (asks_length p file length) result
+            (W.contents out.old) (W.contents out.new) self.new.machine self.new.notes }
     {
         let reply = self.set_length(p, file, length);
         writeln!(out, "{reply}").map_err(SessionFault::Output)
@@ -183,7 +159,7 @@ fn write_reached<W: io::Write>(reached: &Reached, out: &mut W) -> io::Result<()>
 {
     match reached {
         Reached::Refused { count, reply } => write!(out, "{reply} after {count}"),
-        _ => out.write_all(b"loaded"),
+        Reached::All | Reached::NoMemory => out.write_all(b"loaded"),
     }
 }
 
@@ -204,7 +180,7 @@ fn write_stored<W: io::Write>(reached: &Reached, count: usize, out: &mut W) -> i
 {
     match reached {
         Reached::Refused { count, reply } => writeln!(out, "{reply} after {count}"),
-        _ => writeln!(out, "stored {count}"),
+        Reached::All | Reached::NoMemory => writeln!(out, "stored {count}"),
     }
 }
 

@@ -1,9 +1,10 @@
 // A commit: from the beginning of its mark to the acknowledgement.
-ghost use Rattle.std.specs.Prelude.{ℕ, ◌≡◌, ◌≢◌, ◌↔◌, true, false, IfOk, IfErr, IfSome, IfNone, IsTrue};
+ghost use Rattle.std.specs.Prelude.{ℕ, ◌≡◌, ◌≢◌, ◌↔◌, true, false, IfSome, IfNone, IsTrue};
 ghost use Rattle.page_entry.specs.declared.refusal.Refusal.{Refusal};
 ghost use Rattle.spaces.specs.declared.change.Change.TheVariants.{Checkpoint};
 ghost use Rattle.machine.specs.declared.act.Reply.TheVariants as told;
-ghost use Rattle.session.specs.Commits.{BeginsMark, RefusesMark, WritesUntil, CommitsMark, StopsCommit, tells_unmade};
+ghost use Rattle.session.specs.CarriedOut.{CarriesOut};
+ghost use Rattle.session.specs.Commits.{BeginsMark, RefusesMark, WritesUntil, AnswersCommit, tells_unmade};
 ghost use Rattle.session.specs.Lengths.{tells_begun};
 ghost use Rattle.session.specs.Locks.{KeepsPhases};
 ghost use Rattle.session.specs.Ranges.{MakesStepsThat};
@@ -20,12 +21,8 @@ impl<D: Device, A: Allocator + Copy> Requests<D, A> {
     /// Commits all stores. Answers the number of the mark, which is durable; or what the step was answered that stopped
     /// the commit: a refusal, or that there was nothing to do.
     pub fn commit(&mut self, p: ProcessorNumber) -> Result<u32, Reply>
-        ensures ok { IfOk result (λ mark. MakesStepsThat D.Device self.old.machine self.old.notes
-            (CommitsMark p self.old.notes mark) self.new.machine self.new.notes) }
-        ensures err { IfErr result (λ reply. MakesStepsThat D.Device self.old.machine self.old.notes
-            (StopsCommit p self.old.notes reply) self.new.machine self.new.notes) }
-        ensures unmade { IfErr result (λ reply. tells_unmade reply ≡ true) }
-        ensures phases { KeepsPhases self.old.machine.state self.new.machine.state }
+        ensures { CarriesOut D.Device self.old.machine self.old.notes (AnswersCommit p self.old.notes result)
+            self.new.machine self.new.notes }
     {
         let begun = self.begin_mark(p);
         if !is_begun(&begun) {

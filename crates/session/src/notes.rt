@@ -1,7 +1,7 @@
 // What a session notes of the steps that were made.
 ghost use Rattle.std.specs.Prelude.{ℕ, ◌≡◌, false, List, length};
 ghost use Rattle.machine.specs.AtOnce.{store_replies};
-ghost use Rattle.session.specs.Notes.{noted_after, noted_all, unmarked_by, failed_by};
+ghost use Rattle.session.specs.Notes.{noted_after, noted_all, failed_by};
 
 use machine::Reply;
 use page_entry::Refusal;
@@ -31,7 +31,7 @@ impl Notes {
         ensures { result ≡ noted_after self reply.now }
     {
         Notes {
-            has_unmarked: unmarked_by(self.has_unmarked, reply),
+            has_unmarked: reply.leaves_unmarked(self.has_unmarked),
             has_failed: failed_by(self.has_failed, reply),
         }
     }
@@ -50,23 +50,36 @@ impl Notes {
     }
 }
 
-// Whether a store was made, or a length set, that no mark has yet, after one reply more.
-fn unmarked_by(before: bool, reply: &Reply) -> bool
-    ensures { result ≡ unmarked_by before reply.now }
-{
-    match reply {
-        Reply::Stored | Reply::Resized => true,
-        Reply::Marked(_) => false,
-        _ => before,
-    }
-}
-
 // Whether a step was answered that the device failed, after one reply more.
 fn failed_by(before: bool, reply: &Reply) -> bool
     ensures { result ≡ failed_by before reply.now }
 {
     match reply {
-        Reply::Refused(Refusal::Device) => true,
-        _ => before,
+        Reply::Refused(refusal) => before || matches!(refusal, Refusal::Device),
+        Reply::Bytes(_)
+        | Reply::Stored
+        | Reply::Filled
+        | Reply::Evicted
+        | Reply::Switched
+        | Reply::Idled
+        | Reply::Woken
+        | Reply::Fixed
+        | Reply::Space(_)
+        | Reply::Destroyed
+        | Reply::Mapped
+        | Reply::Begun
+        | Reply::Fine
+        | Reply::Unmapped
+        | Reply::Protected
+        | Reply::Resized
+        | Reply::Reclaimed
+        | Reply::Kept
+        | Reply::Marked(_)
+        | Reply::Acked
+        | Reply::Resumed
+        | Reply::Going
+        | Reply::Committed(_)
+        | Reply::Done(_)
+        | Reply::Nothing => before,
     }
 }

@@ -2,11 +2,12 @@
 // then the rest at once, as far as that serves it.
 ghost use Rattle.std.specs.Prelude.{◌≡◌, ◌<◌, ◌≤◌, length, [], true, false, IfOk, IfErr, IfSome, IfNone, IsTrue};
 ghost use Rattle.machine.specs.declared.act.Reply.TheVariants as told;
+ghost use Rattle.session.specs.CarriedOut.{CarriesOut};
 ghost use Rattle.session.specs.Ends.{tells_fault};
 ghost use Rattle.session.specs.Locks.{KeepsPhases};
 ghost use Rattle.session.specs.Steps.{tells_bytes, tells_stored, tells_fixed};
 ghost use Rattle.session.specs.inside.Aside.{StopsAt, AnswersAfter, IsAccessFor, LoadsOn};
-ghost use Rattle.session.specs.Ranges.{MakesStepsThat, LoadsReached, StoresReached};
+ghost use Rattle.session.specs.Ranges.{LoadsReached, StoresReached};
 
 use crate::requests::Requests;
 use device::Device;
@@ -35,9 +36,8 @@ impl<D: Device, A: Allocator + Copy> Requests<D, A> {
         bytes: &mut Vec<u8, A>,
     ) -> Reached
         requires { bytes.old.items ≡ [] }
-        ensures reached { MakesStepsThat D.Device self.old.machine self.old.notes
+        ensures { CarriesOut D.Device self.old.machine self.old.notes
             (LoadsReached p va count bytes.new.items result) self.new.machine self.new.notes }
-        ensures phases { KeepsPhases self.old.machine.state self.new.machine.state }
     {
         let mut done = 0;
         while done < count {
@@ -74,9 +74,8 @@ impl<D: Device, A: Allocator + Copy> Requests<D, A> {
 
     /// Stores bytes from an address on.
     pub fn store(&mut self, p: ProcessorNumber, va: u64, bytes: &[u8]) -> Reached
-        ensures reached { MakesStepsThat D.Device self.old.machine self.old.notes (StoresReached p va bytes.now result)
+        ensures { CarriesOut D.Device self.old.machine self.old.notes (StoresReached p va bytes.now result)
             self.new.machine self.new.notes }
-        ensures phases { KeepsPhases self.old.machine.state self.new.machine.state }
     {
         let mut done = 0;
         while done < bytes.len() {

@@ -1,12 +1,10 @@
 // A machine on which requests are carried out, and what has to be known of the steps that were made on it.
-ghost use Rattle.std.specs.Prelude.{◌≡◌, ◌+◌, ◌^◌, ◌≤◌, List, [], ◌∷◌, length, take, IfOk, IfErr};
-ghost use Rattle.volume_codec.specs.Files.{File};
-ghost use Rattle.volume_codec.specs.Recovery.{RecoversTo};
+ghost use Rattle.std.specs.Prelude.{◌≡◌, ◌+◌, ◌^◌, ◌≤◌, [], ◌∷◌, length, take, IfOk, IfErr};
 ghost use Rattle.shootdown.specs.Shootdown.{IsShootdown};
 ghost use Rattle.machine.specs.AtOnce.{load_steps, load_replies, store_steps, store_replies};
 ghost use Rattle.engine.specs.Engine.{HasStarted, HasNotStarted};
-ghost use Rattle.session.specs.Files.{AreFiles, AreListed};
-ghost use Rattle.session.specs.Sessions.{no_notes};
+ghost use Rattle.session.specs.Files.{AreFiles};
+ghost use Rattle.session.specs.Sessions.{IsStarted, no_notes};
 ghost use Rattle.session.specs.Steps.{Makes};
 
 use crate::files::Files;
@@ -74,18 +72,14 @@ fn open_and_boot<D: Device, A: Allocator + Copy>(
 
 impl<D: Device, A: Allocator + Copy> Requests<D, A> {
     /// Opens the volume of a device, and boots a machine of this shape over it. It lists the files of the volume with
-    /// their lengths, as they were opened: those that the device's bytes recover to (`listed`). A refusal hands the
+    /// their lengths, as they were opened: those that the device's bytes recover to (`IsStarted`). A refusal hands the
     /// device back.
     ///
     /// `NotAVolume`, `Damaged` and `Device` as `recovery::open`, `BadShape` as `Machine::boot`, and `OutOfMemory` where
     /// memory was refused.
     pub fn start(alloc: A, device: D, shape: Shape) -> Result<Self, (Refusal, D)>
-        ensures started { IfOk result (λ requests. HasStarted D.Device device shape requests.machine) }
-        ensures files { IfOk result (λ requests. AreFiles requests.machine.state.table requests.machine.state.lengths
+        ensures started { IfOk result (λ requests. IsStarted D.Device device shape requests.machine requests.notes
             requests.files.lines.items) }
-        ensures listed { IfOk result (λ requests. D.is_honest device → (files : List File)
-            × RecoversTo (D.seen device) files × AreListed files requests.files.lines.items) }
-        ensures nothing { IfOk result (λ requests. requests.notes ≡ no_notes) }
         ensures refused { IfErr result (λ refused. HasNotStarted D.Device device shape refused.1 refused.0) }
     {
         match open_and_boot(alloc, device, shape) {

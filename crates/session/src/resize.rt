@@ -3,6 +3,7 @@ ghost use Rattle.std.specs.Prelude.{◌≡◌, ◌≢◌, true, false};
 ghost use Rattle.page_entry.specs.declared.refusal.Refusal.{Refusal};
 ghost use Rattle.spaces.specs.declared.change.Change.TheVariants.{SetLength};
 ghost use Rattle.machine.specs.declared.act.Reply.TheVariants as told;
+ghost use Rattle.session.specs.CarriedOut.{CarriesOut};
 ghost use Rattle.session.specs.Lengths.{tells_begun, AnswersLength, RefusesLength};
 ghost use Rattle.session.specs.Locks.{KeepsPhases};
 ghost use Rattle.session.specs.Ranges.{MakesStepsThat};
@@ -23,9 +24,8 @@ impl<D: Device, A: Allocator + Copy> Requests<D, A> {
     /// that step was busy, and the step of the write-outs that would be made for it was refused, it answers that
     /// refusal. A new length isn't committed by that.
     pub fn set_length(&mut self, p: ProcessorNumber, file: u16, length: u64) -> Reply
-        ensures answers { MakesStepsThat D.Device self.old.machine self.old.notes (AnswersLength p file length result)
+        ensures { CarriesOut D.Device self.old.machine self.old.notes (AnswersLength p file length result)
             self.new.machine self.new.notes }
-        ensures phases { KeepsPhases self.old.machine.state self.new.machine.state }
     {
         let begun = self.begin_length(p, file, length);
         if !is_begun(&begun) {

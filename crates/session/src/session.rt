@@ -1,16 +1,12 @@
 // A session: a machine on which requests are carried out, reached by steps from its start.
-ghost use Rattle.std.specs.Prelude.{◌≡◌, true, List, [], ◌∷◌, IfOk, IfErr, OnOk};
-ghost use Rattle.volume_codec.specs.Files.{File};
-ghost use Rattle.volume_codec.specs.Recovery.{RecoversTo};
-ghost use Rattle.engine.specs.Engine.{HasStarted, HasNotStarted};
-ghost use Rattle.session.specs.Answers.{WritesAnswer};
-ghost use Rattle.session.specs.Asked.{asked, IsDoneFor};
-ghost use Rattle.session.specs.Commits.{CommitsMark, StopsCommit, tells_unmade};
-ghost use Rattle.session.specs.Files.{AreFiles, AreListed};
+ghost use Rattle.std.specs.Prelude.{◌≡◌, [], ◌∷◌, IfOk, IfErr};
+ghost use Rattle.engine.specs.Engine.{HasNotStarted};
+ghost use Rattle.session.specs.Asked.{asked};
+ghost use Rattle.session.specs.CarriedOut.{CarriesOut, CarriesOutFor};
+ghost use Rattle.session.specs.Commits.{AnswersCommit};
 ghost use Rattle.session.specs.Lengths.{AnswersLength};
-ghost use Rattle.session.specs.Locks.{KeepsPhases, KeepsPhasesFor};
-ghost use Rattle.session.specs.Ranges.{MakesStepsThat, LoadsReached, StoresReached};
-ghost use Rattle.session.specs.Sessions.{IsServing, no_notes};
+ghost use Rattle.session.specs.Ranges.{LoadsReached, StoresReached};
+ghost use Rattle.session.specs.Sessions.{IsServing, IsStarted};
 ghost use Rattle.session.specs.Steps.{Makes};
 
 use crate::files::Files;
@@ -49,7 +45,7 @@ impl<D: Device, A: Allocator + Copy> Model for Session<D, A> {
 }
 
 /// Opens the volume of a device, and boots a machine of this shape over it. The session lists the files of the volume
-/// with their lengths, as they were opened: those that the device's bytes recover to (`listed`). A refusal hands the
+/// with their lengths, as they were opened: those that the device's bytes recover to (`IsStarted`). A refusal hands the
 /// device back.
 ///
 /// `NotAVolume`, `Damaged` and `Device` as `recovery::open`, `BadShape` as `Machine::boot`, and `OutOfMemory` where
@@ -59,12 +55,8 @@ pub fn start<D: Device, A: Allocator + Copy>(
     device: D,
     shape: Shape,
 ) -> Result<Session<D, A>, (Refusal, D)>
-    ensures started { IfOk result (λ session. HasStarted D.Device device shape session.machine) }
-    ensures files { IfOk result (λ session. AreFiles session.machine.state.table session.machine.state.lengths
+    ensures started { IfOk result (λ session. IsStarted D.Device device shape session.machine session.notes
         session.files.lines.items) }
-    ensures listed { IfOk result (λ session. D.is_honest device → (files : List File)
-        × RecoversTo (D.seen device) files × AreListed files session.files.lines.items) }
-    ensures nothing { IfOk result (λ session. session.notes ≡ no_notes) }
     ensures refused { IfErr result (λ refused. HasNotStarted D.Device device shape refused.1 refused.0) }
 {
     match Requests::start(alloc, device, shape) {
@@ -91,18 +83,16 @@ impl<D: Device, A: Allocator + Copy> Session<D, A> {
         bytes: &mut Vec<u8, A>,
     ) -> Reached
         requires { bytes.old.items ≡ [] }
-        ensures reached { MakesStepsThat D.Device self.old.machine self.old.notes
+        ensures { CarriesOut D.Device self.old.machine self.old.notes
             (LoadsReached p va count bytes.new.items result) self.new.machine self.new.notes }
-        ensures phases { KeepsPhases self.old.machine.state self.new.machine.state }
     {
         self.requests.load(p, va, count, bytes)
     }
 
     /// Stores bytes from an address on.
     pub fn store(&mut self, p: ProcessorNumber, va: u64, bytes: &[u8]) -> Reached
-        ensures reached { MakesStepsThat D.Device self.old.machine self.old.notes (StoresReached p va bytes.now result)
+        ensures { CarriesOut D.Device self.old.machine self.old.notes (StoresReached p va bytes.now result)
             self.new.machine self.new.notes }
-        ensures phases { KeepsPhases self.old.machine.state self.new.machine.state }
     {
         self.requests.store(p, va, bytes)
     }
@@ -110,12 +100,8 @@ impl<D: Device, A: Allocator + Copy> Session<D, A> {
     /// Commits all stores. Answers the number of the mark, which is durable; or what the step was answered that stopped
     /// the commit: a refusal, or that there was nothing to do.
     pub fn commit(&mut self, p: ProcessorNumber) -> Result<u32, Reply>
-        ensures ok { IfOk result (λ mark. MakesStepsThat D.Device self.old.machine self.old.notes
-            (CommitsMark p self.old.notes mark) self.new.machine self.new.notes) }
-        ensures err { IfErr result (λ reply. MakesStepsThat D.Device self.old.machine self.old.notes
-            (StopsCommit p self.old.notes reply) self.new.machine self.new.notes) }
-        ensures unmade { IfErr result (λ reply. tells_unmade reply ≡ true) }
-        ensures phases { KeepsPhases self.old.machine.state self.new.machine.state }
+        ensures { CarriesOut D.Device self.old.machine self.old.notes (AnswersCommit p self.old.notes result)
+            self.new.machine self.new.notes }
     {
         self.requests.commit(p)
     }
@@ -125,9 +111,8 @@ impl<D: Device, A: Allocator + Copy> Session<D, A> {
     /// that step was busy, and the step of the write-outs that would be made for it was refused, it answers that
     /// refusal. A new length isn't committed by that.
     pub fn set_length(&mut self, p: ProcessorNumber, file: u16, length: u64) -> Reply
-        ensures answers { MakesStepsThat D.Device self.old.machine self.old.notes (AnswersLength p file length result)
+        ensures { CarriesOut D.Device self.old.machine self.old.notes (AnswersLength p file length result)
             self.new.machine self.new.notes }
-        ensures phases { KeepsPhases self.old.machine.state self.new.machine.state }
     {
         self.requests.set_length(p, file, length)
     }
@@ -139,12 +124,8 @@ impl<D: Device, A: Allocator + Copy> Session<D, A> {
         request: &Request<A>,
         out: &mut W,
     ) -> Result<(), SessionFault>
-        ensures does { MakesStepsThat D.Device self.old.machine self.old.notes (IsDoneFor (asked request.now))
-            self.new.machine self.new.notes }
-        ensures answers { OnOk result (MakesStepsThat D.Device self.old.machine self.old.notes
-            (WritesAnswer self.old.notes (asked request.now) (W.contents out.old) (W.contents out.new))
-            self.new.machine self.new.notes) }
-        ensures phases { KeepsPhasesFor (asked request.now) self.old.machine.state self.new.machine.state }
+        ensures { CarriesOutFor D.Device self.old.machine self.old.notes (asked request.now) result
+            (W.contents out.old) (W.contents out.new) self.new.machine self.new.notes }
     {
         self.requests.answer(alloc, request, out)
     }

@@ -7,5 +7,5 @@ use Rattle.embedded.proofs.embedded.open.Goals as goal
 pub invariant_of-result : goal.invariant_of-result
 invariant_of-result g c =
     let P : Notes → Type 0 = λ n. ServesWell c.in-Ok.requests.machine n None 0 c.made_before-made.result None in
-    subst P (sym c.in-Ok.ensures.nothing) (serves_none c.args.disk c.args.shape c.in-Ok.requests.machine 0
-    c.made_before-made.result c.in-Ok.ensures.started)
+    subst P (sym c.in-Ok.ensures.started.nothing) (serves_none c.args.disk c.args.shape c.in-Ok.requests.machine 0
+    c.made_before-made.result c.in-Ok.ensures.started.started)

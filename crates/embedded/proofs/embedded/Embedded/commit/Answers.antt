@@ -1,9 +1,8 @@
-use Rattle.std.proofs.Common.{ℕ, ◌≤◌, Option, IfErr, IfOk, sym, ◌∙◌, ap, subst, arith}
+use Rattle.std.proofs.Common.{ℕ, ◌≤◌, Option, sym, ◌∙◌, ap, subst, arith}
 use Rattle.device.specs.Deferred.{Deferred, recorded_calls}
 use Rattle.machine.specs.State.{Whole}
-use Rattle.session.specs.Commits.{CommitsMark, StopsCommit}
-use Rattle.session.specs.Locks.{KeepsPhases}
-use Rattle.session.specs.Ranges.{MakesStepsThat}
+use Rattle.session.specs.CarriedOut.{CarriesOut}
+use Rattle.session.specs.Commits.{AnswersCommit}
 use Rattle.embedded.specs.Embedded.{EmbeddedState, ServesWell, are_made, last_committed, last_needed, made_of}
 use Rattle.embedded.specs.Recorded.{deferred_disk}
 use Rattle.embedded.proofs.Serving.{serves_commits}
@@ -16,8 +15,7 @@ invariant_of-self g c =
     let inside = c.self.inside in
     let new = done.new.self in
     let served = serves_commits inside.committed inside.needed inside.made inside.acknowledged c.args.p done.result
-    inside.requests.machine new.machine inside.requests.notes new.notes c.self.invariant
-    done.ensures.ok done.ensures.err in
+    inside.requests.machine new.machine inside.requests.notes new.notes c.self.invariant done.ensures.makes in
     let waits = c.waiting-waiting.ensures ∙ ap (λ (d : Deferred). d.waiting)
     (c.device.ensures ∙ ap (λ (m : Whole Deferred). m.device) c.machine.ensures) in
     let needs = c.needed_by-needed.ensures ∙ ap (λ (d : Deferred). last_needed done.result (recorded_calls d)
@@ -34,22 +32,10 @@ invariant_of-self g c =
     ∙ ap (λ n. are_made n c.needed_by-needed.result c.made_now-made.result) waits) c.settled-acknowledged.ensures
     (subst P (sym c.committed_by-committed.ensures) (subst Q (sym needs) served))
 
-pub returns-clause-ok : goal.returns-clause-ok
-returns-clause-ok g c =
+pub returns-clause-answers : goal.returns-clause-answers
+returns-clause-answers g c =
     let done = c.commit-answer in
-    let P : EmbeddedState g.row.A.Denot → Type 0 = λ s. IfOk done.result (λ mark. MakesStepsThat deferred_disk s.machine
-    s.notes (CommitsMark c.args.p s.notes mark) done.new.self.machine done.new.self.notes) in
-    subst P c.self.view_is done.ensures.ok
-
-pub returns-clause-err : goal.returns-clause-err
-returns-clause-err g c =
-    let done = c.commit-answer in
-    let P : EmbeddedState g.row.A.Denot → Type 0 = λ s. IfErr done.result (λ reply. MakesStepsThat deferred_disk
-    s.machine s.notes (StopsCommit c.args.p s.notes reply) done.new.self.machine done.new.self.notes) in
-    subst P c.self.view_is done.ensures.err
-
-pub returns-clause-phases : goal.returns-clause-phases
-returns-clause-phases g c =
     let P : EmbeddedState g.row.A.Denot → Type 0 =
-    λ s. KeepsPhases s.machine.state c.commit-answer.new.self.machine.state in
-    subst P c.self.view_is c.commit-answer.ensures.phases
+    λ s. CarriesOut deferred_disk s.machine s.notes (AnswersCommit c.args.p s.notes done.result)
+    done.new.self.machine done.new.self.notes in
+    subst P c.self.view_is done.ensures

@@ -4,24 +4,37 @@ use Rattle.std.specs.Io.KnownBytes.{Appends}
 use Rattle.session.specs.declared.ranges.Reached.TheVariants.{NoMemory}
 use Rattle.session.specs.Answers.{TellsLoaded}
 use Rattle.session.proofs.Phases.{keeps_none}
+use Rattle.session.proofs.Pieces.{does_more}
 use Rattle.session.proofs.Stretches.{makes_none}
 use Rattle.session.proofs.Writing.{load_answered}
 use Rattle.session.proofs.requests.Requests.answer_load.Goals as goal
 
-pub returns-in_default-clause-does : goal.returns-in_default-clause-does
-returns-in_default-clause-does g c = record { steps = []; replies = []; makes = makes_none g.D.Device _ _; holds = ([], NoMemory, (0, [], omega arith, (refl, refl))) }
+pub returns-in_default : goal.returns-in_default
+returns-in_default g c =
+    record {
+      does = record {
+        steps = [];
+        replies = [];
+        makes = makes_none g.D.Device _ _;
+        holds = ([], NoMemory, (0, [], omega arith, (refl, refl)));
+      };
+      answers = tt;
+      phases = keeps_none _;
+    }
 
-pub returns-clause-answers : goal.returns-clause-answers
-returns-clause-answers g c =
+pub returns : goal.returns
+returns g c =
     let old = g.W.Write.contents c.args.out.now in
     let new = g.W.Write.contents c.write_loaded.new.out in
-    let P : List ℕ → Type 0 = λ bytes. OnOk c.write_loaded.result ((answer : List ℕ) × TellsLoaded c.load-reached.result bytes answer × Appends old new (answer ++ 10 ∷ [])) in
-    on_ok_weaker c.write_loaded.result
-    (load_answered g.D.Device _ _ _ _ _ _ _ c.load-reached.new.bytes.items c.load-reached.result old new c.load-reached.ensures.reached)
-    (subst P c.deref.ensures.value c.write_loaded.ensures)
-
-pub returns-clause-phases : goal.returns-clause-phases
-returns-clause-phases g c = c.load-reached.ensures.phases
-
-pub returns-in_default-clause-phases : goal.returns-in_default-clause-phases
-returns-in_default-clause-phases g c = keeps_none _
+    let bytes = c.load-reached.new.bytes.items in
+    let reached = c.load-reached.result in
+    let done = c.load-reached.ensures in
+    let P : List ℕ → Type 0 = λ bytes. OnOk c.write_loaded.result
+    ((answer : List ℕ) × TellsLoaded reached bytes answer × Appends old new (answer ++ 10 ∷ [])) in
+    record {
+      does = does_more g.D.Device _ _ _ _ _ _ (λ steps replies holds. (bytes, reached, holds)) done.makes;
+      answers = on_ok_weaker c.write_loaded.result
+          (load_answered g.D.Device _ _ _ _ _ _ _ bytes reached old new done.makes)
+          (subst P c.deref.ensures.value c.write_loaded.ensures);
+      phases = done.phases;
+    }

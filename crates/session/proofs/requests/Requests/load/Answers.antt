@@ -15,35 +15,44 @@ use Rattle.session.proofs.requests.Requests.load.Goals as goal
 pub loop-done-init : goal.loop-done-init
 loop-done-init g c = (omega arith, record { steps = []; replies = []; makes = makes_none g.D.Device _ _; holds = (refl, c.requires) }, keeps_none _)
 
-pub returns-in-Err-clause-reached : goal.returns-in-Err-clause-reached
-returns-in-Err-clause-reached g c =
+pub returns-in-Err : goal.returns-in-Err
+returns-in-Err g c =
     let P : ℕ → Type 0 = λ at. StopsAt g.D.Device c.loop-done.self.machine c.loop-done.self.notes c.args.p at c.in-Err.reply c.access.new.self.machine c.access.new.self.notes in
-    loads_refused g.D.Device _ _ _ _ _ _ c.args.p c.args.va c.args.count c.loop-done.done c.loop-done.bytes.items c.in-Err.reply (omega (arith, c.loop-done-test.true)) c.loop-done.invariant.1 (subst P c.saturating_add-from.ensures c.in-Err.ensures.err)
+    record {
+      makes = loads_refused g.D.Device _ _ _ _ _ _ c.args.p c.args.va c.args.count c.loop-done.done c.loop-done.bytes.items c.in-Err.reply (omega (arith, c.loop-done-test.true)) c.loop-done.invariant.1 (subst P c.saturating_add-from.ensures c.in-Err.ensures.err);
+      phases = keeps_then _ _ _ c.loop-done.invariant.2 c.access.ensures.phases;
+    }
 
-pub returns-in_default-clause-reached : goal.returns-in_default-clause-reached
-returns-in_default-clause-reached g c =
+pub returns-in_default : goal.returns-in_default
+returns-in_default g c =
     let P : ℕ → Type 0 = λ at. StopsAt g.D.Device c.loop-done.self.machine c.loop-done.self.notes c.args.p at c.in-Ok.answer c.access.new.self.machine c.access.new.self.notes in
-    loads_refused g.D.Device _ _ _ _ _ _ c.args.p c.args.va c.args.count c.loop-done.done c.loop-done.bytes.items c.in-Ok.answer (omega (arith, c.loop-done-test.true)) c.loop-done.invariant.1 (subst P c.saturating_add-from.ensures
-    (stops_answered g.D.Device _ _ _ _ (record { p = c.args.p; act = Load c.saturating_add-from.result c.piece-few.result }) c.saturating_add-from.result _ (ap not c.in_default.ensures.none, refl) (same c.saturating_add-from.result) c.in-Ok.ensures.no_fault c.in-Ok.ensures.ok))
+    record {
+      makes = loads_refused g.D.Device _ _ _ _ _ _ c.args.p c.args.va c.args.count c.loop-done.done c.loop-done.bytes.items c.in-Ok.answer (omega (arith, c.loop-done-test.true)) c.loop-done.invariant.1 (subst P c.saturating_add-from.ensures
+          (stops_answered g.D.Device _ _ _ _ (record { p = c.args.p; act = Load c.saturating_add-from.result c.piece-few.result }) c.saturating_add-from.result _ (ap not c.in_default.ensures.none, refl) (same c.saturating_add-from.result) c.in-Ok.ensures.no_fault c.in-Ok.ensures.ok));
+      phases = keeps_then _ _ _ c.loop-done.invariant.2 c.access.ensures.phases;
+    }
 
-pub returns-then-is_err-clause-reached : goal.returns-then-is_err-clause-reached
-returns-then-is_err-clause-reached g c =
+pub returns-then-is_err : goal.returns-then-is_err
+returns-then-is_err g c =
     let P : ℕ → Type 0 = λ at. AnswersAfter g.D.Device c.loop-done.self.machine c.loop-done.self.notes (record { p = c.args.p; act = Load at c.piece-few.result }) c.in-Ok.answer c.access.new.self.machine c.access.new.self.notes in
     let Q : Reply → Type 0 = λ r. AnswersAfter g.D.Device c.loop-done.self.machine c.loop-done.self.notes (record { p = c.args.p; act = Load (behind c.args.va c.loop-done.done) c.piece-few.result }) r c.access.new.self.machine c.access.new.self.notes in
     let answer = subst Q c.in-Some.ensures.some (subst P c.saturating_add-from.ensures c.in-Ok.ensures.ok) in
-    loads_cut g.D.Device _ _ _ _ c.args.p c.args.va c.args.count (c.loop-done.done + c.piece-few.result) (c.loop-done.bytes.items ++ c.in-Some.read.now) c.extend_from_slice.new.self.items (omega (arith, c.piece-few.ensures.left, c.loop-done.invariant.0, c.loop-done-test.true))
-    (loads_more g.D.Device _ _ _ _ _ _ c.args.p c.args.va c.loop-done.done c.piece-few.result c.loop-done.bytes.items c.in-Some.read.now c.loop-done.invariant.1 answer)
+    record {
+      makes = loads_cut g.D.Device _ _ _ _ c.args.p c.args.va c.args.count (c.loop-done.done + c.piece-few.result) (c.loop-done.bytes.items ++ c.in-Some.read.now) c.extend_from_slice.new.self.items (omega (arith, c.piece-few.ensures.left, c.loop-done.invariant.0, c.loop-done-test.true))
+          (loads_more g.D.Device _ _ _ _ _ _ c.args.p c.args.va c.loop-done.done c.piece-few.result c.loop-done.bytes.items c.in-Some.read.now c.loop-done.invariant.1 answer);
+      phases = keeps_then _ _ _ c.loop-done.invariant.2 c.access.ensures.phases;
+    }
 
-pub returns-in-Err-load_on-clause-reached : goal.returns-in-Err-load_on-clause-reached
-returns-in-Err-load_on-clause-reached g c =
+pub returns-in-Err-load_on : goal.returns-in-Err-load_on
+returns-in-Err-load_on g c =
     let P : ℕ → Type 0 = λ at. AnswersAfter g.D.Device c.loop-done.self.machine c.loop-done.self.notes (record { p = c.args.p; act = Load at c.piece-few.result }) c.in-Ok.answer c.access.new.self.machine c.access.new.self.notes in
     let Q : Reply → Type 0 = λ r. AnswersAfter g.D.Device c.loop-done.self.machine c.loop-done.self.notes (record { p = c.args.p; act = Load (behind c.args.va c.loop-done.done) c.piece-few.result }) r c.access.new.self.machine c.access.new.self.notes in
     let answer = subst Q c.in-Some.ensures.some (subst P c.saturating_add-from.ensures c.in-Ok.ensures.ok) in
-    loads_cut g.D.Device _ _ _ _ c.args.p c.args.va c.args.count (c.loop-done.done + c.piece-few.result) (c.loop-done.bytes.items ++ c.in-Some.read.now) c.load_on.new.bytes.items (omega (arith, c.piece-few.ensures.left, c.loop-done.invariant.0, c.loop-done-test.true))
-    (loads_more g.D.Device _ _ _ _ _ _ c.args.p c.args.va c.loop-done.done c.piece-few.result c.loop-done.bytes.items c.in-Some.read.now c.loop-done.invariant.1 answer)
-
-pub returns-in-Err-load_on-clause-phases : goal.returns-in-Err-load_on-clause-phases
-returns-in-Err-load_on-clause-phases g c = keeps_then _ _ _ c.loop-done.invariant.2 c.access.ensures.phases
+    record {
+      makes = loads_cut g.D.Device _ _ _ _ c.args.p c.args.va c.args.count (c.loop-done.done + c.piece-few.result) (c.loop-done.bytes.items ++ c.in-Some.read.now) c.load_on.new.bytes.items (omega (arith, c.piece-few.ensures.left, c.loop-done.invariant.0, c.loop-done-test.true))
+          (loads_more g.D.Device _ _ _ _ _ _ c.args.p c.args.va c.loop-done.done c.piece-few.result c.loop-done.bytes.items c.in-Some.read.now c.loop-done.invariant.1 answer);
+      phases = keeps_then _ _ _ c.loop-done.invariant.2 c.access.ensures.phases;
+    }
 
 pub loop-done-preserved : goal.loop-done-preserved
 loop-done-preserved g c =
@@ -60,17 +69,9 @@ loop-done-preserved g c =
       keeps_then _ _ _ c.loop-done.invariant.2 c.access.ensures.phases,
     )
 
-pub returns-clause-reached : goal.returns-clause-reached
-returns-clause-reached g c = loads_all g.D.Device _ _ _ _ c.args.p c.args.va c.args.count c.loop-done.done c.loop-done.bytes.items (omega (arith, c.loop-done.invariant.0, c.loop-done-test.false)) c.loop-done.invariant.1
-
-pub returns-in-Err-clause-phases : goal.returns-in-Err-clause-phases
-returns-in-Err-clause-phases g c = keeps_then _ _ _ c.loop-done.invariant.2 c.access.ensures.phases
-
-pub returns-in_default-clause-phases : goal.returns-in_default-clause-phases
-returns-in_default-clause-phases g c = keeps_then _ _ _ c.loop-done.invariant.2 c.access.ensures.phases
-
-pub returns-then-is_err-clause-phases : goal.returns-then-is_err-clause-phases
-returns-then-is_err-clause-phases g c = keeps_then _ _ _ c.loop-done.invariant.2 c.access.ensures.phases
-
-pub returns-clause-phases : goal.returns-clause-phases
-returns-clause-phases g c = c.loop-done.invariant.2
+pub returns : goal.returns
+returns g c =
+    record {
+      makes = loads_all g.D.Device _ _ _ _ c.args.p c.args.va c.args.count c.loop-done.done c.loop-done.bytes.items (omega (arith, c.loop-done.invariant.0, c.loop-done-test.false)) c.loop-done.invariant.1;
+      phases = c.loop-done.invariant.2;
+    }

@@ -16,16 +16,22 @@ use Rattle.session.proofs.requests.Requests.store.Goals as goal
 pub loop-done-init : goal.loop-done-init
 loop-done-init g c = (omega arith, record { steps = []; replies = []; makes = makes_none g.D.Device _ _; holds = refl }, keeps_none _)
 
-pub returns-in-Err-clause-reached : goal.returns-in-Err-clause-reached
-returns-in-Err-clause-reached g c =
+pub returns-in-Err : goal.returns-in-Err
+returns-in-Err g c =
     let P : ℕ → Type 0 = λ at. StopsAt g.D.Device c.loop-done.self.machine c.loop-done.self.notes c.args.p at c.in-Err.reply c.access.new.self.machine c.access.new.self.notes in
-    stores_refused g.D.Device _ _ _ _ _ _ c.args.p c.args.va c.loop-done.done c.args.bytes.now c.in-Err.reply (omega (arith, c.loop-done-test.true)) c.loop-done.invariant.1 (subst P c.saturating_add-from.ensures c.in-Err.ensures.err)
+    record {
+      makes = stores_refused g.D.Device _ _ _ _ _ _ c.args.p c.args.va c.loop-done.done c.args.bytes.now c.in-Err.reply (omega (arith, c.loop-done-test.true)) c.loop-done.invariant.1 (subst P c.saturating_add-from.ensures c.in-Err.ensures.err);
+      phases = keeps_then _ _ _ c.loop-done.invariant.2 c.access.ensures.phases;
+    }
 
-pub returns-then-not-is_stored-clause-reached : goal.returns-then-not-is_stored-clause-reached
-returns-then-not-is_stored-clause-reached g c =
+pub returns-then-not-is_stored : goal.returns-then-not-is_stored
+returns-then-not-is_stored g c =
     let P : ℕ → Type 0 = λ at. StopsAt g.D.Device c.loop-done.self.machine c.loop-done.self.notes c.args.p at c.in-Ok.answer c.access.new.self.machine c.access.new.self.notes in
-    stores_refused g.D.Device _ _ _ _ _ _ c.args.p c.args.va c.loop-done.done c.args.bytes.now c.in-Ok.answer (omega (arith, c.loop-done-test.true)) c.loop-done.invariant.1 (subst P c.saturating_add-from.ensures
-    (stops_answered g.D.Device _ _ _ _ (record { p = c.args.p; act = Store c.saturating_add-from.result c.part.result }) c.saturating_add-from.result _ (ap not (sym c.if-not-is_stored.ensures.value), refl) (same c.saturating_add-from.result) c.in-Ok.ensures.no_fault c.in-Ok.ensures.ok))
+    record {
+      makes = stores_refused g.D.Device _ _ _ _ _ _ c.args.p c.args.va c.loop-done.done c.args.bytes.now c.in-Ok.answer (omega (arith, c.loop-done-test.true)) c.loop-done.invariant.1 (subst P c.saturating_add-from.ensures
+          (stops_answered g.D.Device _ _ _ _ (record { p = c.args.p; act = Store c.saturating_add-from.result c.part.result }) c.saturating_add-from.result _ (ap not (sym c.if-not-is_stored.ensures.value), refl) (same c.saturating_add-from.result) c.in-Ok.ensures.no_fault c.in-Ok.ensures.ok));
+      phases = keeps_then _ _ _ c.loop-done.invariant.2 c.access.ensures.phases;
+    }
 
 pub loop-done-preserved : goal.loop-done-preserved
 loop-done-preserved g c =
@@ -53,14 +59,9 @@ loop-done-preserved g c =
       keeps_then _ _ _ (keeps_then _ _ _ c.loop-done.invariant.2 c.access.ensures.phases) (stores_run_keep g.D.Device _ _ _ _ c.args.p c.saturating_add-next.result run makes),
     )
 
-pub returns-clause-reached : goal.returns-clause-reached
-returns-clause-reached g c = stores_all g.D.Device _ _ _ _ c.args.p c.args.va (take c.loop-done.done c.args.bytes.now) c.args.bytes.now (take_all c.loop-done.done c.args.bytes.now c.loop-done-test.false) c.loop-done.invariant.1
-
-pub returns-in-Err-clause-phases : goal.returns-in-Err-clause-phases
-returns-in-Err-clause-phases g c = keeps_then _ _ _ c.loop-done.invariant.2 c.access.ensures.phases
-
-pub returns-then-not-is_stored-clause-phases : goal.returns-then-not-is_stored-clause-phases
-returns-then-not-is_stored-clause-phases g c = keeps_then _ _ _ c.loop-done.invariant.2 c.access.ensures.phases
-
-pub returns-clause-phases : goal.returns-clause-phases
-returns-clause-phases g c = c.loop-done.invariant.2
+pub returns : goal.returns
+returns g c =
+    record {
+      makes = stores_all g.D.Device _ _ _ _ c.args.p c.args.va (take c.loop-done.done c.args.bytes.now) c.args.bytes.now (take_all c.loop-done.done c.args.bytes.now c.loop-done-test.false) c.loop-done.invariant.1;
+      phases = c.loop-done.invariant.2;
+    }

@@ -1,19 +1,16 @@
 use Rattle.std.proofs.Common.{subst}
-use Rattle.session.specs.Locks.{KeepsPhases}
-use Rattle.session.specs.Ranges.{MakesStepsThat, LoadsReached}
+use Rattle.session.specs.CarriedOut.{CarriesOut}
+use Rattle.session.specs.Ranges.{LoadsReached}
 use Rattle.session.specs.Sessions.{SessionState}
 use Rattle.session.proofs.Serves.{served_does}
 use Rattle.session.proofs.session.Session.load.Goals as goal
 
 pub invariant_of-self : goal.invariant_of-self
-invariant_of-self g c = served_does g.D.Device _ _ _ _ _ c.self.invariant c.load.ensures.reached
+invariant_of-self g c = served_does g.D.Device _ _ _ _ _ c.self.invariant c.load.ensures.makes
 
-pub returns-clause-reached : goal.returns-clause-reached
-returns-clause-reached g c =
-    let P : SessionState g.row.D.Denot g.row.A.Denot → Type 0 = λ s. MakesStepsThat g.D.Device s.machine s.notes (LoadsReached c.args.p c.args.va c.args.count c.load.new.bytes.items c.load.result) c.load.new.self.machine c.load.new.self.notes in
-    subst P c.self.view_is c.load.ensures.reached
-
-pub returns-clause-phases : goal.returns-clause-phases
-returns-clause-phases g c =
-    let P : SessionState g.row.D.Denot g.row.A.Denot → Type 0 = λ s. KeepsPhases s.machine.state c.load.new.self.machine.state in
-    subst P c.self.view_is c.load.ensures.phases
+pub returns : goal.returns
+returns g c =
+    let P : SessionState g.row.D.Denot g.row.A.Denot → Type 0 =
+    λ s. CarriesOut g.D.Device s.machine s.notes (LoadsReached c.args.p c.args.va c.args.count c.load.new.bytes.items c.load.result)
+    c.load.new.self.machine c.load.new.self.notes in
+    subst P c.self.view_is c.load.ensures
