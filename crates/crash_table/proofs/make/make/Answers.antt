@@ -21,7 +21,8 @@ loop-step-preserved g c =
     let more = c.in_ok-push.ensures.items in
     let P : List Reply → Type 0 = λ l. StepsTaken g.D.Device old (take (index + 1) steps) l c.enter-reply.new.self in (
       ap (λ (l : List Reply). length l) more ∙ length_more earlier reply index c.loop-step.invariant.0,
-      subst P (sym more) (taken_next g.D.Device old c.loop-step.machine c.enter-reply.new.self steps index c.step-item.result earlier reply below c.step-item.is c.loop-step.invariant.1 c.enter-reply.ensures.taken),
+      subst P (sym more) (taken_next g.D.Device old c.loop-step.machine c.enter-reply.new.self steps index
+          c.step-item.result earlier reply below c.step-item.is c.loop-step.invariant.1 c.enter-reply.ensures.taken),
     )
 
 pub returns-then-is_failure : goal.returns-then-is_failure
@@ -35,11 +36,15 @@ returns-then-is_failure g c =
     let more = c.in_ok-push.ensures.items in
     let P : List Reply → Type 0 = λ l. StepsTaken g.D.Device old (take (index + 1) steps) l c.enter-reply.new.self in
     let Q : ℕ → Type 0 = λ n. StepsTaken g.D.Device old (take n steps) c.push.new.self.items c.enter-reply.new.self in
-    let count : length c.push.new.self.items ≡ index + 1 = ap (λ (l : List Reply). length l) more ∙ length_more earlier reply index c.loop-step.invariant.0 in
-    subst Q (sym count) (subst P (sym more) (taken_next g.D.Device old c.loop-step.machine c.enter-reply.new.self steps index c.step-item.result earlier reply below c.step-item.is c.loop-step.invariant.1 c.enter-reply.ensures.taken))
+    let count : length c.push.new.self.items ≡ index + 1 =
+    ap (λ (l : List Reply). length l) more ∙ length_more earlier reply index c.loop-step.invariant.0 in
+    subst Q (sym count)
+    (subst P (sym more) (taken_next g.D.Device old c.loop-step.machine c.enter-reply.new.self steps index
+    c.step-item.result earlier reply below c.step-item.is c.loop-step.invariant.1 c.enter-reply.ensures.taken))
 
 pub returns : goal.returns
 returns g c =
     let steps = c.args.steps.now in
-    let Q : ℕ → Type 0 = λ n. StepsTaken g.D.Device c.args.machine.now (take n steps) c.loop-step.replies.items c.loop-step.machine in
+    let Q : ℕ → Type 0 = λ n.
+    StepsTaken g.D.Device c.args.machine.now (take n steps) c.loop-step.replies.items c.loop-step.machine in
     subst Q (sym c.loop-step.invariant.0) c.loop-step.invariant.1

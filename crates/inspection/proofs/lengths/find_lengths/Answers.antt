@@ -8,7 +8,8 @@ use Rattle.inspection.proofs.Looked.{found_fixed, found_said, refuses_stored}
 use Rattle.inspection.proofs.lengths.find_lengths.Goals as goal
 
 pub standing_first-requires : goal.standing_first-requires
-standing_first-requires g c = c.requires.count ∙ sym (ap (λ (h : GeometryValue). journals_of h.layout) c.geometry-geometry.ensures.value)
+standing_first-requires g c =
+    c.requires.count ∙ sym (ap (λ (h : GeometryValue). journals_of h.layout) c.geometry-geometry.ensures.value)
 
 pub read_lengths_at-requires : goal.read_lengths_at-requires
 read_lengths_at-requires g c =
@@ -21,23 +22,38 @@ returns-in_err-lengths-clause-refused g c = λ honest volume.
     let seen = g.D.Device.seen c.args.device.now in
     let journals = c.args.journals.now in
     let block = ap (λ (h : GeometryValue). lengths_blocks h.layout) c.geometry-geometry.ensures.value in
-    let some : 0 < lengths_blocks c.args.table.now.layout = omega (arith, block, ap lengths_blocks c.layout.ensures.value, c.lengths_blocks.ensures.value) in
-    let say = subst (λ (h : GeometryValue). AreJournals h seen journals) (sym c.geometry-geometry.ensures.value) (c.requires.say honest) in
-    let at = c.standing_first.ensures.value seen say ∙ ap (λ (h : GeometryValue). standing_block h.slots (batches_of journals) (first_home h.layout h.slots)) c.geometry-geometry.ensures.value in
-    rw (p.1, p.2) (refuses_stored c.one_reading.ensures.contents c.args.table.now (batches_of journals) _ _ _ (omega (arith, c.requires.long)) some at volume (c.in_err-lengths.ensures.refused honest))
+    let some : 0 < lengths_blocks c.args.table.now.layout =
+    omega (arith, block, ap lengths_blocks c.layout.ensures.value, c.lengths_blocks.ensures.value) in
+    let say = subst (λ (h : GeometryValue). AreJournals h seen journals) (sym c.geometry-geometry.ensures.value)
+    (c.requires.say honest) in
+    let at = c.standing_first.ensures.value seen say ∙ ap (λ (h : GeometryValue).
+    standing_block h.slots (batches_of journals) (first_home h.layout h.slots)) c.geometry-geometry.ensures.value in
+    rw (p.1, p.2) (refuses_stored c.one_reading.ensures.contents c.args.table.now (batches_of journals) _ _ _
+    (omega (arith, c.requires.long)) some at volume (c.in_err-lengths.ensures.refused honest))
 
 pub returns-clause-lengths : goal.returns-clause-lengths
 returns-clause-lengths g c = λ honest.
     let seen = g.D.Device.seen c.args.device.now in
     let journals = c.args.journals.now in
     let block = ap (λ (h : GeometryValue). lengths_blocks h.layout) c.geometry-geometry.ensures.value in
-    let some : 0 < lengths_blocks c.args.table.now.layout = omega (arith, block, ap lengths_blocks c.layout.ensures.value, c.lengths_blocks.ensures.value) in
-    let say = subst (λ (h : GeometryValue). AreJournals h seen journals) (sym c.geometry-geometry.ensures.value) (c.requires.say honest) in
-    let at = c.standing_first.ensures.value seen say ∙ ap (λ (h : GeometryValue). standing_block h.slots (batches_of journals) (first_home h.layout h.slots)) c.geometry-geometry.ensures.value in
-    found_said c.args.table.now (batches_of journals) _ _ _ c.geometry-geometry.ensures.fits some at (c.in_ok-lengths.ensures.said honest)
+    let some : 0 < lengths_blocks c.args.table.now.layout =
+    omega (arith, block, ap lengths_blocks c.layout.ensures.value, c.lengths_blocks.ensures.value) in
+    let say = subst (λ (h : GeometryValue). AreJournals h seen journals) (sym c.geometry-geometry.ensures.value)
+    (c.requires.say honest) in
+    let at = c.standing_first.ensures.value seen say ∙ ap (λ (h : GeometryValue).
+    standing_block h.slots (batches_of journals) (first_home h.layout h.slots)) c.geometry-geometry.ensures.value in
+    found_said c.args.table.now (batches_of journals) _ _ _ c.geometry-geometry.ensures.fits some at
+    (c.in_ok-lengths.ensures.said honest)
 
 pub returns-then-lengths_blocks-eq0-clause-lengths : goal.returns-then-lengths_blocks-eq0-clause-lengths
 returns-then-lengths_blocks-eq0-clause-lengths g c = λ honest.
     let block = ap (λ (h : GeometryValue). lengths_blocks h.layout) c.geometry-geometry.ensures.value in
-    let none : lengths_blocks c.args.table.now.layout ≡ 0 = omega (arith, block, ap lengths_blocks c.layout.ensures.value, c.lengths_blocks.ensures.value, c.if-lengths_blocks-eq0.true) in
-    found_fixed c.args.table.now (batches_of c.args.journals.now) (g.D.Device.seen c.args.device.now) _ none c.in-Ok.ensures
+    let none : lengths_blocks c.args.table.now.layout ≡ 0 = omega (
+      arith,
+      block,
+      ap lengths_blocks c.layout.ensures.value,
+      c.lengths_blocks.ensures.value,
+      c.if-lengths_blocks-eq0.true,
+    ) in
+    found_fixed c.args.table.now (batches_of c.args.journals.now)
+    (g.D.Device.seen c.args.device.now) _ none c.in-Ok.ensures

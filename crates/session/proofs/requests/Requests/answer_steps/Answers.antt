@@ -9,12 +9,14 @@ loop-i-init g c = does_nothing g.D.Device _ _ _ (refl, refl, appends_none (g.W.W
 pub returns-in-Err-clause-does : goal.returns-in-Err-clause-does
 returns-in-Err-clause-does g c =
     let below : c.loop-i.i < length c.args.steps.now = search rules in
-    reply_lost g.D.Device _ _ _ _ _ _ c.args.steps.now c.loop-i.i c.index-steps-i.result _ _ _ below c.index-steps-i.is c.loop-i.invariant c.make-reply.ensures
+    reply_lost g.D.Device _ _ _ _ _ _ c.args.steps.now c.loop-i.i c.index-steps-i.result _ _ _ below c.index-steps-i.is
+    c.loop-i.invariant c.make-reply.ensures
 
 pub loop-i-preserved : goal.loop-i-preserved
 loop-i-preserved g c =
     let below : c.loop-i.i < length c.args.steps.now = search rules in
-    reply_more g.D.Device _ _ _ _ _ _ c.args.steps.now c.loop-i.i c.index-steps-i.result _ _ _ _ below c.index-steps-i.is c.loop-i.invariant c.make-reply.ensures c.in_default.ensures
+    reply_more g.D.Device _ _ _ _ _ _ c.args.steps.now c.loop-i.i c.index-steps-i.result _ _ _ _ below
+    c.index-steps-i.is c.loop-i.invariant c.make-reply.ensures c.in_default.ensures
 
 pub returns-clause-does : goal.returns-clause-does
 returns-clause-does g c = replies_are_first g.D.Device _ _ _ _ _ _ _ _ c.loop-i.invariant
@@ -24,5 +26,6 @@ returns-clause-answers g c =
     let contents = g.W.Write.contents in
     let past : length c.args.steps.now ≤ c.loop-i.i = search rules in
     ok_after c.write_all.result c.map_err.result c.map_err.ensures.variant
-    (steps_answered g.D.Device _ _ _ _ c.args.steps.now c.loop-i.i (contents c.args.out.now) (contents c.loop-i.out) (contents c.write_all.new.self) past c.loop-i.invariant)
+    (steps_answered g.D.Device _ _ _ _ c.args.steps.now c.loop-i.i (contents c.args.out.now) (contents c.loop-i.out)
+    (contents c.write_all.new.self) past c.loop-i.invariant)
     c.write_all.ensures.bytes

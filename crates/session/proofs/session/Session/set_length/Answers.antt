@@ -11,10 +11,13 @@ invariant_of-self g c = served_does g.D.Device _ _ _ _ _ c.self.invariant c.set_
 
 pub returns-clause-answers : goal.returns-clause-answers
 returns-clause-answers g c =
-    let P : SessionState g.row.D.Denot g.row.A.Denot → Type 0 = λ s. MakesStepsThat g.D.Device s.machine s.notes (AnswersLength c.args.p c.args.file c.args.length c.set_length.result) c.set_length.new.self.machine c.set_length.new.self.notes in
+    let P : SessionState g.row.D.Denot g.row.A.Denot → Type 0 =
+    λ s. MakesStepsThat g.D.Device s.machine s.notes (AnswersLength c.args.p c.args.file c.args.length
+    c.set_length.result) c.set_length.new.self.machine c.set_length.new.self.notes in
     subst P c.self.view_is c.set_length.ensures.answers
 
 pub returns-clause-phases : goal.returns-clause-phases
 returns-clause-phases g c =
-    let P : SessionState g.row.D.Denot g.row.A.Denot → Type 0 = λ s. KeepsPhases s.machine.state c.set_length.new.self.machine.state in
+    let P : SessionState g.row.D.Denot g.row.A.Denot → Type 0 =
+    λ s. KeepsPhases s.machine.state c.set_length.new.self.machine.state in
     subst P c.self.view_is c.set_length.ensures.phases
