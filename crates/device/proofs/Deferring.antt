@@ -429,6 +429,18 @@ within_front n [] older within = tt
 within_front n (write at bytes ∷ newer) older within = (within.0, within_front n newer older within.1)
 within_front n (sync ∷ newer) older within = within_front n newer older within
 
+-- What lies within the content lies within the bytes of the device, within those that are kept, and within the length.
+pub within_kept : {inside now : Deferred} {supplied : List (List ℕ × List ℕ)} {bytes : List ℕ} {flags : List Bool}
+    {waiting : List DiskChange} {len : ℕ} (n : ℕ)
+    → inside ≡ now → IsKept inside.first inside.changes supplied bytes flags waiting len
+    → n ≤ length (memory.seen_of (as_recorded now))
+    → (n ≤ length inside.first) × ((n ≤ length bytes) × (n ≤ len))
+within_kept {inside} n same kept within =
+    let room = subst (λ (d : Deferred). n ≤ length (memory.seen_of (as_recorded d))) (sym same) within in
+    let whole = length-content_after inside.first inside.changes kept.within in
+    let low : n ≤ length inside.first = omega (arith, room, whole) in
+    (low, (omega (arith, low, kept.first_length, kept.bytes_length), omega (arith, low, whole, kept.len_is)))
+
 -- The waiting calls are within a device that is as long as the disk.
 pub within_log : (first : List ℕ) (changes log : List DiskChange) (n : ℕ) → n ≡ length (content_after first changes)
     → AreWithin (length first) changes → log ≡ take (length log) changes → AreWithin n log
@@ -501,8 +513,7 @@ pub same_deferred : {first first' : List ℕ} {changes changes' : List DiskChang
       changes = changes';
       waiting = waiting';
       known = known';
-      supplied =
-          supplied';
+      supplied = supplied';
       wanted = wanted';
       calls = calls';
       faults = faults';
