@@ -243,16 +243,10 @@ kept_with_write first changes supplied bytes flags waiting len at new kept fits 
     let to : end_block at (length new) ≤ length flags = omega (arith, kept.first_length, fits) in
     let from : first_block at ≤ end_block at (length new) = omega arith in
     let wide = length-with_known flags (first_block at) (end_block at (length new)) from to in
+    let same = length-written bytes at new (omega (arith, kept.bytes_length, kept.first_length, fits)) in
     record {
       first_length = omega (arith, wide, kept.first_length);
-      bytes_length = omega (
-        arith,
-        wide,
-        kept.bytes_length,
-        kept.first_length,
-        fits,
-        length-written bytes at new (omega (arith, kept.bytes_length, kept.first_length, fits)),
-      );
+      bytes_length = omega (arith, wide, kept.bytes_length, same);
       len_is = kept.len_is;
       within = (fits, kept.within);
       waits = ap (λ (l : List DiskChange). write at new ∷ l) kept.waits;
@@ -292,17 +286,11 @@ kept_with_block first changes supplied bytes flags waiting len block new kept si
     let to : block + 1 ≤ length flags = omega (arith, kept.first_length, fits) in
     let from : block ≤ block + 1 = omega arith in
     let wide = length-with_known flags block (block + 1) from to in
+    let same = length-written bytes (4096 * block) new
+    (omega (arith, kept.bytes_length, kept.first_length, fits, size)) in
     record {
       first_length = omega (arith, wide, kept.first_length);
-      bytes_length = omega (
-        arith,
-        wide,
-        kept.bytes_length,
-        kept.first_length,
-        fits,
-        size,
-        length-written bytes (4096 * block) new (omega (arith, kept.bytes_length, kept.first_length, fits, size)),
-      );
+      bytes_length = omega (arith, wide, kept.bytes_length, same);
       len_is = kept.len_is;
       within = kept.within;
       waits = kept.waits;

@@ -1,26 +1,29 @@
-use Rattle.std.proofs.Common.{◌≡◌, ◌-◌, ◌^◌, Bool, true, false, ◌||◌, List, sym, ◌∙◌, ap, subst}
+use Rattle.std.proofs.Common.{◌≡◌, ◌-◌, ◌^◌, Bool, true, false, ◌||◌, List, ◌++◌, sym, ◌∙◌, ap, subst}
 use Rattle.device.specs.Deferred.{one_reaches}
 use Rattle.device.specs.Memory.{DiskChange}
 use Rattle.device.specs.inside.Logged.{changes_of}
 use Rattle.device.specs.inside.Replay.{AreWithin}
 use Rattle.device.proofs.Deferring.{changes_of_both, one_of_two, within_front}
 use Rattle.device.proofs.Replay.{within_older}
-use Rattle.device.proofs.deferred.waits_for.Goals.{After-one_writes_to-newer_one}
+use Rattle.device.proofs.deferred.waits_for.Goals.{After-as_slices, After-one_writes_to-newer_one}
 use Rattle.device.proofs.deferred.waits_for.Goals as goal
+
+-- the calls of both parts are within what an offset can say
+within_parts : (g : _) (c : After-as_slices g) → AreWithin (2 ^ 64 - 1)
+    (changes_of c.as_slices.result.1.now ++ changes_of c.as_slices.result.0.now)
+within_parts g c =
+    subst (λ (l : List DiskChange). AreWithin (2 ^ 64 - 1) l) (changes_of_both c.as_slices.result.0.now
+    c.as_slices.result.1.now c.args.log.now.items c.as_slices.ensures.items) c.requires
 
 pub one_writes_to-newer_one-requires : goal.one_writes_to-newer_one-requires
 one_writes_to-newer_one-requires g c =
-    let both = changes_of_both c.as_slices.result.0.now c.as_slices.result.1.now c.args.log.now.items
-    c.as_slices.ensures.items in
     within_front (2 ^ 64 - 1) (changes_of c.as_slices.result.1.now) (changes_of c.as_slices.result.0.now)
-    (subst (λ (l : List DiskChange). AreWithin (2 ^ 64 - 1) l) both c.requires)
+    (within_parts g (goal.at.one_writes_to-newer_one-requires g c).After-as_slices)
 
 pub one_writes_to-older_one-requires : goal.one_writes_to-older_one-requires
 one_writes_to-older_one-requires g c =
-    let both = changes_of_both c.as_slices.result.0.now c.as_slices.result.1.now c.args.log.now.items
-    c.as_slices.ensures.items in
     within_older (2 ^ 64 - 1) (changes_of c.as_slices.result.1.now) (changes_of c.as_slices.result.0.now)
-    (subst (λ (l : List DiskChange). AreWithin (2 ^ 64 - 1) l) both c.requires)
+    (within_parts g (goal.at.one_writes_to-older_one-requires g c).After-as_slices)
 
 -- whether a call reaches the block, where it is known of the newer ones
 by_newer : (g : _) (c : After-one_writes_to-newer_one g) (b : Bool) → c.one_writes_to-newer_one.result ≡ b
