@@ -1,5 +1,6 @@
 -- What a run, and a crash after it, leave on its device.
-use Rattle.std.proofs.Common.{◌≡◌, ◌⊎◌, inl, inr, ℕ, ◌≤◌, ◌<◌, List, [], length, take, Result, IfOk, refl, sym, ap, subst, arith}
+use Rattle.std.proofs.Common.{◌≡◌, ◌⊎◌, inl, inr, ℕ, ◌≤◌, ◌<◌, List, [], length}
+use Rattle.std.proofs.Common.{take, Result, IfOk, refl, sym, ap, subst, arith}
 use Rattle.std.proofs.lemmas.List.{length-take}
 use Rattle.std.proofs.lemmas.Result.{IfOk-weaker}
 use Rattle.device.specs.declared.device.Device.{Ghosts}
@@ -26,7 +27,8 @@ use Rattle.crash_table.proofs.Marks.{IsOneReading, OpensAsRecovered, ReadsBackLa
 use Rattle.crash_table.proofs.Newest.{at_mark}
 
 -- as many steps were made as there are replies
-pub few_replies : {D : Type 0} (disk : Ghosts D) (before : D) (shape : Shape) (steps : List Step) (replies : List Reply) (after : D) → HasEnded disk before shape steps replies after → length replies ≤ length steps
+pub few_replies : {D : Type 0} (disk : Ghosts D) (before : D) (shape : Shape) (steps : List Step) (replies : List Reply)
+    (after : D) → HasEnded disk before shape steps replies after → length replies ≤ length steps
 few_replies disk before shape steps replies after (inl run) =
     let same = taken_length disk run.start (take (length replies) steps) replies run.last run.made in
     omega (arith, same, length-take (length replies) steps)
@@ -34,17 +36,24 @@ few_replies disk before shape steps replies after (inr refused) =
     let none : length replies ≡ 0 = ap (λ (l : List Reply). length l) refused.0 in
     omega (arith, none)
 
-module _ {D : Type 0} (disk : Ghosts D) (one : IsOneReading) (opened : OpensAsRecovered disk) (before : D) (shape : Shape) (honest : disk.is_honest before) (files : List File) (recovered : RecoversTo (disk.seen before) files) where
+module _ {D : Type 0} (disk : Ghosts D) (one : IsOneReading) (opened : OpensAsRecovered disk) (before : D)
+    (shape : Shape) (honest : disk.is_honest before) (files : List File)
+    (recovered : RecoversTo (disk.seen before) files) where
   -- after a run, by the law of a machine on the track of one
-  pub back_after_run : (start : Whole D) → HasStarted disk before shape start → (steps : List Step) (replies : List Reply) (now : Whole D) → StepsTaken disk start steps replies now
-      → ReadsBackLater disk now → (c : List ℕ) → disk.may_leave now.device c → ReadsBack files (history_of files shape steps replies) c
+  pub back_after_run : (start : Whole D) → HasStarted disk before shape start
+      → (steps : List Step) (replies : List Reply) (now : Whole D) → StepsTaken disk start steps replies now
+      → ReadsBackLater disk now → (c : List ℕ) → disk.may_leave now.device c
+      → ReadsBack files (history_of files shape steps replies) c
   back_after_run start started steps replies now taken left c may =
-      subst (λ (t : Told). ReadsBack files (tell_all t steps replies).history c) (told_is disk before shape start started files)
-      (left files start steps replies c (on_track disk one opened before shape start started honest files recovered steps replies now taken) may)
+      subst (λ (t : Told). ReadsBack files (tell_all t steps replies).history c)
+      (told_is disk before shape start started files)
+      (left files start steps replies c
+      (on_track disk one opened before shape start started honest files recovered steps replies now taken) may)
 
   -- after a refusal nothing was stored
   pub back_after_refusal : ((files : List File) → files_after files [] ≡ files)
-      → ((device : D) (t : ℕ) (c : List ℕ) → t ≤ disk.moment device → disk.may_leave device c → disk.left_since device t c)
+      → ((device : D) (t : ℕ) (c : List ℕ) → t ≤ disk.moment device → disk.may_leave device c
+      → disk.left_since device t c)
       → (after : D) → LeavesOnly disk.moment disk.left_since before after (λ c. RecoversTo c files)
       → (c : List ℕ) → disk.may_leave after c → ReadsBack files [] c
   back_after_refusal unchanged now_is_since after leaves c may = record {
@@ -55,7 +64,8 @@ module _ {D : Type 0} (disk : Ghosts D) (one : IsOneReading) (opened : OpensAsRe
       marked = inl refl;
       acknowledged = λ n has. absurd (omega (arith, has.1));
     };
-    recovers = subst (λ (l : List File). RecoversTo c l) (sym (unchanged files)) (leaves.each c (now_is_since after (disk.moment before) c leaves.later may));
+    recovers = subst (λ (l : List File). RecoversTo c l) (sym (unchanged files))
+        (leaves.each c (now_is_since after (disk.moment before) c leaves.later may));
   }
 
 -- only the bytes that a disk in memory has may be left of a new one
@@ -63,14 +73,19 @@ pub only_first : (image : List ℕ) → Only (may_leave_of (new_disk image)) ima
 only_first image c left = ext_get_or 0 c image left.same_length (λ i lt. left.synced i refl)
 
 -- a trial: what was left of it by a stop, and what was found
-pub leaves_mark : {A : Type 0} → IsOneReading → (image : List ℕ) (shape : Shape) (steps : List Step) (first : List Reply) (marks : List (MarkFiles A)) (kept : HasKept image shape steps first marks)
-    → (calls fails : ℕ) (choice : List ℕ) (replies : List Reply) (after : Failing Recorded) → HasEnded failing_memory (failing (new_disk image) fails) shape steps replies after
-    → ((files : List File) → RecoversTo image files → (c : List ℕ) → may_leave_of after.inner c → ReadsBack files (history_of files shape (take (length replies) steps) replies) c)
+pub leaves_mark : {A : Type 0} → IsOneReading → (image : List ℕ) (shape : Shape) (steps : List Step)
+    (first : List Reply) (marks : List (MarkFiles A)) (kept : HasKept image shape steps first marks)
+    → (calls fails : ℕ) (choice : List ℕ) (replies : List Reply) (after : Failing Recorded)
+    → HasEnded failing_memory (failing (new_disk image) fails) shape steps replies after
+    → ((files : List File) → RecoversTo image files → (c : List ℕ) → may_leave_of after.inner c
+    → ReadsBack files (history_of files shape (take (length replies) steps) replies) c)
     → after.inner.faults ≡ 0 → IsUpTo calls fails steps replies after
     → (stopped : Recorded) → stopped ≡ after_stop after.inner choice → may_leave_of after.inner (seen_of stopped)
     → (read : List (List ℕ)) → (found : List File) × RecoversTo (seen_of stopped) found × (read ≡ contents_of found)
-    → (number : ℕ) → IsNewest kept.files shape steps replies read number → LeavesMark image shape steps calls fails choice number
-leaves_mark one image shape steps first marks kept calls fails choice replies after ended back sound up stopped is left read opened number newest =
+    → (number : ℕ) → IsNewest kept.files shape steps replies read number
+    → LeavesMark image shape steps calls fails choice number
+leaves_mark one image shape steps first marks kept calls fails choice replies after ended back sound up stopped is left
+    read opened number newest =
     let long = few_replies failing_memory (failing (new_disk image) fails) shape steps replies after ended in
     let P : Recorded → Type 0 = λ s. may_leave_of after.inner (seen_of s) in
     let Q : Recorded → Type 0 = λ s. RecoversTo (seen_of s) opened.0 in
@@ -86,25 +101,33 @@ leaves_mark one image shape steps first marks kept calls fails choice replies af
       before = kept.before;
       found = opened.0;
       recovers = subst Q is opened.1;
-      at_mark = at_mark one kept.files shape steps replies long (seen_of stopped) (back kept.files kept.before (seen_of stopped) left) opened.0 opened.1 number (subst N opened.2 newest);
+      at_mark = at_mark one kept.files shape steps replies long (seen_of stopped)
+          (back kept.files kept.before (seen_of stopped) left) opened.0 opened.1 number (subst N opened.2 newest);
     }
 
 -- so it is of the newest mark that was looked for among the marks that were kept
-pub leaves_newest : {A E : Type 0} → IsOneReading → (image : List ℕ) (shape : Shape) (steps : List Step) (first : List Reply) (marks : List (MarkFiles A)) (kept : HasKept image shape steps first marks)
-    → (calls fails : ℕ) (choice : List ℕ) (replies : List Reply) (after : Failing Recorded) → HasEnded failing_memory (failing (new_disk image) fails) shape steps replies after
-    → ((files : List File) → RecoversTo image files → (c : List ℕ) → may_leave_of after.inner c → ReadsBack files (history_of files shape (take (length replies) steps) replies) c)
+pub leaves_newest : {A E : Type 0} → IsOneReading → (image : List ℕ) (shape : Shape) (steps : List Step)
+    (first : List Reply) (marks : List (MarkFiles A)) (kept : HasKept image shape steps first marks)
+    → (calls fails : ℕ) (choice : List ℕ) (replies : List Reply) (after : Failing Recorded)
+    → HasEnded failing_memory (failing (new_disk image) fails) shape steps replies after
+    → ((files : List File) → RecoversTo image files → (c : List ℕ) → may_leave_of after.inner c
+    → ReadsBack files (history_of files shape (take (length replies) steps) replies) c)
     → after.inner.faults ≡ 0 → IsUpTo calls fails steps replies after
     → (stopped : Recorded) → stopped ≡ after_stop after.inner choice → may_leave_of after.inner (seen_of stopped)
     → (read : List (List ℕ)) → (found : List File) × RecoversTo (seen_of stopped) found × (read ≡ contents_of found)
-    → (result : Result ℕ E) (kept_marks : List (MarkFiles A)) (told again : List Reply) (bytes : List (List ℕ)) → kept_marks ≡ marks → told ≡ first → again ≡ replies → bytes ≡ read
-    → ((files : List File) (shape : Shape) (steps : List Step) → AreKept files shape steps told kept_marks → IfOk result (IsNewest files shape steps again bytes))
+    → (result : Result ℕ E) (kept_marks : List (MarkFiles A)) (told again : List Reply) (bytes : List (List ℕ))
+    → kept_marks ≡ marks → told ≡ first → again ≡ replies → bytes ≡ read
+    → ((files : List File) (shape : Shape) (steps : List Step) → AreKept files shape steps told kept_marks
+    → IfOk result (IsNewest files shape steps again bytes))
     → IfOk result (LeavesMark image shape steps calls fails choice)
-leaves_newest {A} {E} one image shape steps first marks kept calls fails choice replies after ended back sound up stopped is left read opened result kept_marks told again bytes marks_are told_are again_are bytes_are newest =
+leaves_newest {A} {E} one image shape steps first marks kept calls fails choice replies after ended back sound up
+    stopped is left read opened result kept_marks told again bytes marks_are told_are again_are bytes_are newest =
     let M : List (MarkFiles A) → Type 0 = λ l. AreKept kept.files shape steps told l in
     let T : List Reply → Type 0 = λ l. AreKept kept.files shape steps l marks in
     IfOk-weaker result _ _
     (λ number has.
     let R : List Reply → Type 0 = λ l. IsNewest kept.files shape steps l bytes number in
     let B : List (List ℕ) → Type 0 = λ l. IsNewest kept.files shape steps replies l number in
-    leaves_mark one image shape steps first marks kept calls fails choice replies after ended back sound up stopped is left read opened number (subst B bytes_are (subst R again_are has)))
+    leaves_mark one image shape steps first marks kept calls fails choice replies after ended back sound up stopped is
+    left read opened number (subst B bytes_are (subst R again_are has)))
     (newest kept.files shape steps (subst M (sym marks_are) (subst T (sym told_are) kept.kept)))

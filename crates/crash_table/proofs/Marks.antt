@@ -1,5 +1,7 @@
 -- Which files are found at a mark that is acknowledged, and which after a crash.
-use Rattle.std.proofs.Common.{◌≡◌, ◌⊎◌, inl, inr, ℕ, zero, suc, ◌+◌, ◌-◌, ◌<◌, ◌≤◌, false, if◌then◌else◌, List, [], ◌∷◌, ◌++◌, length, take, map, Some, Result, Ok, Err, IfOk, refl, sym, ◌∙◌, ap, subst, arith, append_assoc, append-nil, length-append}
+use Rattle.std.proofs.Common.{◌≡◌, ◌⊎◌, inl, inr, ℕ, zero, suc, ◌+◌, ◌-◌, ◌<◌, ◌≤◌, false, if◌then◌else◌}
+use Rattle.std.proofs.Common.{List, [], ◌∷◌, ◌++◌, length, take, map, Some, Result, Ok, Err, IfOk, refl}
+use Rattle.std.proofs.Common.{sym, ◌∙◌, ap, subst, arith, append_assoc, append-nil, length-append}
 use Rattle.std.specs.Prelude.{slice_get, slice_index_or, Contains}
 use Rattle.std.proofs.lemmas.Result.{IfOk-weaker}
 use Rattle.std.proofs.lemmas.Bool.{cases_order}
@@ -28,7 +30,8 @@ use Rattle.machine.specs.Told.{Told, tell, tell_all, events_of}
 use Rattle.engine.specs.Engine.{HasStarted}
 use Rattle.engine.proofs.Runs.{taken_kept}
 use Rattle.crash_table.specs.inside.Kept.{up_to_mark, bytes_at, unmarked_after, IsAcknowledged}
-use Rattle.crash_table.proofs.Histories.{mark_at, up_to_begins, events_of_mark, events_of_commit, tell_then, unmarked_told, nothing_in}
+use Rattle.crash_table.proofs.Histories.{mark_at, up_to_begins, events_of_mark}
+use Rattle.crash_table.proofs.Histories.{events_of_commit, tell_then, unmarked_told, nothing_in}
 
 -- ---- results
 
@@ -42,21 +45,31 @@ abbrev up_to : Told → List Step → List Reply → ℕ → ℕ → List Event
 up_to told steps answers at n = (tell_all told (take at steps) (take at answers)).history ++ Mark n ∷ []
 
 -- those up to an earlier mark begin those up to a later one
-pub no_later : (told : Told) (steps : List Step) (answers : List Reply) (early m late n : ℕ) → early ≤ late → late < length steps → slice_get answers early ≡ Some (replies.Marked m) → slice_get answers late ≡ Some (replies.Marked n)
+pub no_later : (told : Told) (steps : List Step) (answers : List Reply) (early m late n : ℕ) → early ≤ late
+    → late < length steps → slice_get answers early ≡ Some (replies.Marked m)
+    → slice_get answers late ≡ Some (replies.Marked n)
     → (rest : List Event) × (up_to told steps answers early m ++ rest ≡ up_to told steps answers late n)
 no_later told steps answers early m late n order below here there =
     elim (cases_order early late) [
       | inl same ↦ (
-          let both : m ≡ n = (let at_late : slice_get answers late ≡ Some (replies.Marked m) = ap (slice_get answers) (sym same) ∙ here in cc) in
-          ([], append-nil (up_to told steps answers early m) ∙ ap (λ i. up_to told steps answers i m) same ∙ ap (λ k. up_to told steps answers late k) both))
+          let both : m ≡ n = (let at_late : slice_get answers late
+          ≡ Some (replies.Marked m) = ap (slice_get answers) (sym same) ∙ here in cc) in (
+            [],
+            append-nil (up_to told steps answers early m) ∙ ap (λ i. up_to told steps answers i m) same
+                ∙ ap (λ k. up_to told steps answers late k) both,
+          ))
       | inr other ↦ elim other [
         | inl less ↦ (
             let cut : length (take late steps) ≡ late = length-take-le late steps (omega (arith, below)) in
-            let found = up_to_begins told (take late steps) (take late answers) early m (omega (arith, less, cut)) (slice_get_take answers early late less ∙ here) in (
+            let found = up_to_begins told (take late steps) (take late answers) early m (omega (arith, less, cut))
+            (slice_get_take answers early late less ∙ here) in (
               found.0 ++ Mark n ∷ [],
               sym (append_assoc (up_to told steps answers early m) found.0 (Mark n ∷ []))
-                  ∙ ap (λ (l : List Event). l ++ Mark n ∷ []) (ap (λ (l : List Step). ((tell_all told l (take early answers)).history ++ Mark m ∷ []) ++ found.0) (sym (take-take early late steps (omega (arith, less))))
-                  ∙ ap (λ (l : List Reply). ((tell_all told (take early (take late steps)) l).history ++ Mark m ∷ []) ++ found.0) (sym (take-take early late answers (omega (arith, less))))
+                  ∙ ap (λ (l : List Event). l ++ Mark n ∷ []) (ap
+                  (λ (l : List Step). ((tell_all told l (take early answers)).history ++ Mark m ∷ []) ++ found.0)
+                  (sym (take-take early late steps (omega (arith, less))))
+                  ∙ ap (λ (l : List Reply). ((tell_all told (take early (take late steps)) l).history ++ Mark m ∷ [])
+                  ++ found.0) (sym (take-take early late answers (omega (arith, less))))
                   ∙ found.1),
             ))
         | inr more ↦ absurd (omega (arith, order, more))
@@ -76,10 +89,13 @@ pub record StandsAt (told : Told) (steps : List Step) (answers : List Reply) (pr
   pub here : slice_get answers at ≡ Some (replies.Marked n)
   pub is : prefix ≡ up_to told steps answers at n
 
-pub stands : (told : Told) (steps : List Step) (answers : List Reply) (prefix rest : List Event) → told.history ≡ [] → prefix ++ rest ≡ (tell_all told steps answers).history → IsMarked prefix → (prefix ≡ []) ⊎ StandsAt told steps answers prefix
+pub stands : (told : Told) (steps : List Step) (answers : List Reply) (prefix rest : List Event) → told.history ≡ []
+    → prefix ++ rest ≡ (tell_all told steps answers).history → IsMarked prefix
+    → (prefix ≡ []) ⊎ StandsAt told steps answers prefix
 stands told steps answers prefix rest none whole (inl empty) = inl empty
 stands told steps answers prefix rest none whole (inr (front, n, is)) =
-    elim (mark_at told steps answers front rest n (sym (append_assoc front (Mark n ∷ []) rest) ∙ ap (λ l. l ++ rest) (sym is) ∙ whole)) [
+    elim (mark_at told steps answers front rest n
+    (sym (append_assoc front (Mark n ∷ []) rest) ∙ ap (λ l. l ++ rest) (sym is) ∙ whole)) [
       | inl (more, within) ↦ absurd (nothing_in front more (Mark n) (sym none ∙ sym within))
       | inr up ↦ inr (record { at = up.at; n = n; here = up.here; is = is ∙ ap (λ l. l ++ Mark n ∷ []) up.front_is })
     ]
@@ -88,33 +104,44 @@ stands told steps answers prefix rest none whole (inr (front, n, is)) =
 
 -- bytes recover to one list of files (`volume_codec::one_reading`)
 abbrev pub IsOneReading : Type 0
-IsOneReading = (bytes : List ℕ) (files others : List File) → RecoversTo bytes files → RecoversTo bytes others → files ≡ others
+IsOneReading = (bytes : List ℕ) (files others : List File) → RecoversTo bytes files
+    → RecoversTo bytes others → files ≡ others
 
--- the files of a volume that was opened are those to which the device's bytes recovered (`recovery::opened_as_recovered`)
+-- the files of a volume that was opened are those to which the device's bytes recovered
+-- (`recovery::opened_as_recovered`)
 abbrev pub OpensAsRecovered : {D : Type 0} → Ghosts D → Type 0
-OpensAsRecovered {D} disk = (before after : D) (table : SuperValue) → HasOpened disk before table after → RecoversTo (disk.seen before) (files_of table (disk.seen after))
+OpensAsRecovered {D} disk = (before after : D) (table : SuperValue) → HasOpened disk before table after
+    → RecoversTo (disk.seen before) (files_of table (disk.seen after))
 
 -- what a crash may leave of a machine on the track of a run reads back by its history (`Machine::keeps_the_laws`)
 abbrev pub ReadsBackLater : {D : Type 0} → Ghosts D → Whole D → Type 0
-ReadsBackLater {D} disk now = (files : List File) (start : Whole D) (steps : List Step) (replies : List Reply) (c : List ℕ) → IsOnTrack disk files start steps replies now → disk.may_leave now.device c
+ReadsBackLater {D} disk now = (files : List File) (start : Whole D) (steps : List Step) (replies : List Reply)
+    (c : List ℕ) → IsOnTrack disk files start steps replies now → disk.may_leave now.device c
     → ReadsBack files (tell_all (told_first files start.state) steps replies).history c
 
 -- ---- a machine that was started over files
 
 module _ {D : Type 0} (disk : Ghosts D) where
-  pub taken_then : (old mid new : Whole D) (steps : List Step) (replies : List Reply) (later : List Step) (told : List Reply) → StepsTaken disk old steps replies mid → StepsTaken disk mid later told new
+  pub taken_then : (old mid new : Whole D) (steps : List Step) (replies : List Reply) (later : List Step)
+      (told : List Reply) → StepsTaken disk old steps replies mid → StepsTaken disk mid later told new
       → StepsTaken disk old (steps ++ later) (replies ++ told) new
-  taken_then old mid new [] [] later told first rest = let P : Whole D → Type 0 = λ m. StepsTaken disk m later told new in subst P first rest
-  taken_then old mid new (step ∷ steps) (reply ∷ replies) later told (next, here, first) rest = (next, here, taken_then next mid new steps replies later told first rest)
+  taken_then old mid new [] [] later told first rest =
+      let P : Whole D → Type 0 = λ m. StepsTaken disk m later told new in subst P first rest
+  taken_then old mid new (step ∷ steps) (reply ∷ replies) later told (next, here, first) rest =
+      (next, here, taken_then next mid new steps replies later told first rest)
   taken_then old mid new [] (r ∷ replies) later told first rest = absurd first
   taken_then old mid new (x ∷ steps) [] later told first rest = absurd first
 
-  pub told_is : (before : D) (shape : Shape) (start : Whole D) → HasStarted disk before shape start → (files : List File) → told_first files start.state ≡ told_at_start files shape.cpus
+  pub told_is : (before : D) (shape : Shape) (start : Whole D) → HasStarted disk before shape start
+      → (files : List File) → told_first files start.state ≡ told_at_start files shape.cpus
   told_is before shape start started files =
-      ap (λ (w : Whole D). told_first files w.state) started.booted ∙ ap (told_at_start files) (length-replicate shape.cpus _)
+      ap (λ (w : Whole D). told_first files w.state) started.booted
+      ∙ ap (told_at_start files) (length-replicate shape.cpus _)
 
-  booted_begins : (volume : VolumeState D) (shape : Shape) → IsShape volume.table shape → IsAtRest disk volume → disk.is_honest volume.device
-      → Begins disk (files_of volume.table (disk.seen volume.device)) (record { state = fresh volume.table volume.lengths shape; device = volume.device })
+  booted_begins : (volume : VolumeState D) (shape : Shape) → IsShape volume.table shape → IsAtRest disk volume
+      → disk.is_honest volume.device
+      → Begins disk (files_of volume.table (disk.seen volume.device))
+      (record { state = fresh volume.table volume.lengths shape; device = volume.device })
   booted_begins volume shape shaped rest honest = record {
     fresh = record { shape = shape; fits = shaped; as_booted = refl };
     volume = rest.holds;
@@ -125,46 +152,66 @@ module _ {D : Type 0} (disk : Ghosts D) where
     synced = rest.synced;
   }
 
-  pub begun : OpensAsRecovered disk → (before : D) (shape : Shape) (start : Whole D) → HasStarted disk before shape start → disk.is_honest before
+  pub begun : OpensAsRecovered disk → (before : D) (shape : Shape) (start : Whole D)
+      → HasStarted disk before shape start → disk.is_honest before
       → (files : List File) × RecoversTo (disk.seen before) files × Begins disk files start
   begun opened before shape start started honest =
       let volume = started.volume in
       let here = started.opened.kept.honest.1 honest in
       let files = files_of volume.table (disk.seen volume.device) in
-      let P : Whole D → Type 0 = λ w. Begins disk files w in
-      (files, opened before volume.device volume.table (started.opened.ended honest), subst P (sym started.booted) (booted_begins volume shape started.shaped (started.settled.at_rest here) here))
+      let P : Whole D → Type 0 = λ w. Begins disk files w in (
+        files,
+        opened before volume.device volume.table (started.opened.ended honest),
+        subst P (sym started.booted) (booted_begins volume shape started.shaped (started.settled.at_rest here) here),
+      )
 
-  pub on_track : IsOneReading → OpensAsRecovered disk → (before : D) (shape : Shape) (start : Whole D) → HasStarted disk before shape start → disk.is_honest before → (files : List File) → RecoversTo (disk.seen before) files
-      → (steps : List Step) (answers : List Reply) (now : Whole D) → StepsTaken disk start steps answers now → IsOnTrack disk files start steps answers now
+  pub on_track : IsOneReading → OpensAsRecovered disk → (before : D) (shape : Shape) (start : Whole D)
+      → HasStarted disk before shape start → disk.is_honest before → (files : List File)
+      → RecoversTo (disk.seen before) files
+      → (steps : List Step) (answers : List Reply) (now : Whole D) → StepsTaken disk start steps answers now
+      → IsOnTrack disk files start steps answers now
   on_track one opened before shape start started honest files recovered steps answers now taken =
       let found = begun opened before shape start started honest in
-      record { begins = subst (λ fs. Begins disk fs start) (one (disk.seen before) found.0 files found.1 recovered) found.2; taken = taken }
+      record {
+        begins = subst (λ fs. Begins disk fs start) (one (disk.seen before) found.0 files found.1 recovered) found.2;
+        taken = taken;
+      }
 
   -- the device stays honest while steps are made and a mark is written out
-  pub honest_after : OpensAsRecovered disk → (before : D) (shape : Shape) (start : Whole D) → HasStarted disk before shape start → disk.is_honest before
-      → (steps : List Step) (answers : List Reply) (marked : Whole D) → StepsTaken disk start steps answers marked → (earlier : List Reply) (n : ℕ) (now : Whole D) → IsAcknowledged disk marked earlier n now → disk.is_honest now.device
-  honest_after opened before shape start started honest steps answers marked made earlier n now acknowledged = by acknowledged
+  pub honest_after : OpensAsRecovered disk → (before : D) (shape : Shape) (start : Whole D)
+      → HasStarted disk before shape start → disk.is_honest before
+      → (steps : List Step) (answers : List Reply) (marked : Whole D) → StepsTaken disk start steps answers marked
+      → (earlier : List Reply) (n : ℕ) (now : Whole D) → IsAcknowledged disk marked earlier n now
+      → disk.is_honest now.device
+  honest_after opened before shape start started honest steps answers marked made earlier n now acknowledged =
+      by acknowledged
     where
       first : disk.is_honest marked.device
-      first = (taken_kept disk start steps answers marked made).0.1 (begun opened before shape start started honest).2.honest
+      first = (taken_kept disk start steps answers marked made).0.1
+          (begun opened before shape start started honest).2.honest
 
       by : IsAcknowledged disk marked earlier n now → disk.is_honest now.device
-      by (inl c) = (taken_kept disk marked (c.earlier ++ c.last ∷ []) (c.going ++ replies.Committed n ∷ []) now c.taken).0.1 first
+      by (inl c) = (taken_kept disk marked (c.earlier ++ c.last ∷ [])
+          (c.going ++ replies.Committed n ∷ []) now c.taken).0.1 first
       by (inr (down, stays)) = (let P : Whole D → Type 0 = λ w. disk.is_honest w.device in subst P (sym stays) first)
 
 -- ---- the files at a mark that is acknowledged
 
-split_from : {X : Type 0} (xs : List X) (x : X) (i : ℕ) → i < length xs → slice_index_or xs i x ≡ x → (front : List X) × (back : List X) × (xs ≡ front ++ x ∷ back)
+split_from : {X : Type 0} (xs : List X) (x : X) (i : ℕ) → i < length xs → slice_index_or xs i x ≡ x
+    → (front : List X) × (back : List X) × (xs ≡ front ++ x ∷ back)
 split_from [] x i less at = absurd (omega (arith, less))
 split_from (y ∷ xs) x zero less at = let same : y ≡ x = at in ([], xs, ap (λ h. h ∷ xs) same)
-split_from (y ∷ xs) x (suc i) less at = let later = split_from xs x i (omega (arith, less)) at in (y ∷ later.0, later.1, ap (λ l. y ∷ l) later.2)
+split_from (y ∷ xs) x (suc i) less at = let later = split_from xs x i (omega (arith, less)) at in
+    (y ∷ later.0, later.1, ap (λ l. y ∷ l) later.2)
 
 -- A machine was started, made the steps up to a mark whose number none before it had, and wrote it out until it was
 -- acknowledged: what its device recovers to then are the files at the mark.
 module _ (one : IsOneReading) (files : List File) (shape : Shape)
-    (steps : List Step) (answers : List Reply) (at n : ℕ) (below : at < length steps) (here : slice_get answers at ≡ Some (replies.Marked n))
+    (steps : List Step) (answers : List Reply) (at n : ℕ) (below : at < length steps)
+    (here : slice_get answers at ≡ Some (replies.Marked n))
     (is_new : (i : ℕ) → slice_get (take at answers) i ≡ Some (replies.Marked n) → ⊥)
-    (flushes : List Step) (more : List Reply) (unmarked : (i k : ℕ) → slice_get more i ≡ Some (replies.Marked k) → ⊥) where
+    (flushes : List Step) (more : List Reply)
+    (unmarked : (i k : ℕ) → slice_get more i ≡ Some (replies.Marked k) → ⊥) where
   abbrev told : Told
   told = told_at_start files shape.cpus
 
@@ -187,10 +234,12 @@ module _ (one : IsOneReading) (files : List File) (shape : Shape)
   answers_long = length-take-le (suc at) answers (omega (arith, within))
 
   first_steps : (i : ℕ) → i ≤ at → take i all_steps ≡ take i steps
-  first_steps i few = take-append-le i (take (suc at) steps) flushes (omega (arith, few, steps_long)) ∙ take-take i (suc at) steps (omega (arith, few))
+  first_steps i few = take-append-le i (take (suc at) steps) flushes (omega (arith, few, steps_long))
+      ∙ take-take i (suc at) steps (omega (arith, few))
 
   first_answers : (i : ℕ) → i ≤ at → take i all_answers ≡ take i answers
-  first_answers i few = take-append-le i (take (suc at) answers) more (omega (arith, few, answers_long)) ∙ take-take i (suc at) answers (omega (arith, few))
+  first_answers i few = take-append-le i (take (suc at) answers) more (omega (arith, few, answers_long))
+      ∙ take-take i (suc at) answers (omega (arith, few))
 
   same_up_to : (i k : ℕ) → i ≤ at → up_to told all_steps all_answers i k ≡ up_to told steps answers i k
   same_up_to i k few =
@@ -206,25 +255,34 @@ module _ (one : IsOneReading) (files : List File) (shape : Shape)
         | inr up ↦ is_new up.at up.here
       ]
 
-  pub at_the_mark : Contains whole (Acknowledge n) → (seen : List ℕ) (read : ReadsBack files whole seen) (found : List File) → RecoversTo seen found → found ≡ files_after files (up_to_mark files shape steps answers at n)
+  pub at_the_mark : Contains whole (Acknowledge n)
+      → (seen : List ℕ) (read : ReadsBack files whole seen) (found : List File) → RecoversTo seen found
+      → found ≡ files_after files (up_to_mark files shape steps answers at n)
   at_the_mark acked seen read found recovers =
       one seen found (files_after files read.prefix) recovers read.recovers
-      ∙ ap (files_after files) (by (stands told all_steps all_answers read.prefix read.durable.rest refl read.durable.begins read.durable.marked))
+      ∙ ap (files_after files) (by (stands told all_steps all_answers read.prefix read.durable.rest refl
+      read.durable.begins read.durable.marked))
     where
       has : Contains read.prefix (Mark n)
       has = read.durable.acknowledged n acked
 
-      by : (read.prefix ≡ []) ⊎ StandsAt told all_steps all_answers read.prefix → read.prefix ≡ up_to told steps answers at n
-      by (inl empty) = absurd (let none : Contains [] (Mark n) = subst (λ l. Contains l (Mark n)) empty has in omega (arith, none.1))
+      by : (read.prefix ≡ []) ⊎ StandsAt told all_steps all_answers read.prefix
+          → read.prefix ≡ up_to told steps answers at n
+      by (inl empty) =
+          absurd (let none : Contains [] (Mark n) = subst (λ l. Contains l (Mark n)) empty has in omega (arith, none.1))
       by (inr s) =
           elim (cases_order s.at at) [
             | inl same ↦ (
-                let k_is : s.n ≡ n = (let there : slice_get all_answers at ≡ Some (replies.Marked s.n) = ap (slice_get all_answers) (sym same) ∙ s.here in
-                let given : slice_get all_answers at ≡ Some (replies.Marked n) = get_left (take (suc at) answers) more at (omega (arith, answers_long)) ∙ get_take answers at (suc at) (omega arith) ∙ here in cc) in
-                s.is ∙ ap (λ i. up_to told all_steps all_answers i s.n) same ∙ same_up_to at s.n (omega arith) ∙ ap (up_to told steps answers at) k_is)
+                let k_is : s.n ≡ n = (let there : slice_get all_answers at
+                ≡ Some (replies.Marked s.n) = ap (slice_get all_answers) (sym same) ∙ s.here in
+                let given : slice_get all_answers at ≡ Some (replies.Marked n) = get_left (take (suc at) answers) more
+                at (omega (arith, answers_long)) ∙ get_take answers at (suc at) (omega arith) ∙ here in cc) in
+                s.is ∙ ap (λ i. up_to told all_steps all_answers i s.n) same ∙ same_up_to at s.n (omega arith)
+                ∙ ap (up_to told steps answers at) k_is)
             | inr other ↦ elim other [
               | inl less ↦ absurd (earlier less)
-              | inr later ↦ absurd (unmarked (s.at - suc at) s.n (get_right (take (suc at) answers) more s.at (suc at) answers_long (omega (arith, later)) ∙ s.here))
+              | inr later ↦ absurd (unmarked (s.at - suc at) s.n
+                  (get_right (take (suc at) answers) more s.at (suc at) answers_long (omega (arith, later)) ∙ s.here))
             ]
           ]
         where
@@ -239,7 +297,8 @@ module _ (one : IsOneReading) (files : List File) (shape : Shape)
           get_take (x ∷ xs) (suc i) (suc m) less = get_take xs i m (omega (arith, less))
           get_take xs i zero less = absurd (omega (arith, less))
 
-          get_right : {X : Type 0} (xs ys : List X) (i m : ℕ) → length xs ≡ m → m ≤ i → slice_get ys (i - m) ≡ slice_get (xs ++ ys) i
+          get_right : {X : Type 0} (xs ys : List X) (i m : ℕ) → length xs ≡ m → m ≤ i
+              → slice_get ys (i - m) ≡ slice_get (xs ++ ys) i
           get_right [] ys i m long few = ap (slice_get ys) (let e : i - m ≡ i = omega (arith, long) in e)
           get_right (x ∷ xs) ys i zero long few = absurd (let c : suc (length xs) ≡ 0 = long in omega (arith, c))
           get_right (x ∷ xs) ys zero (suc m) long few = absurd (omega (arith, few))
@@ -252,23 +311,32 @@ module _ (one : IsOneReading) (files : List File) (shape : Shape)
               let cut : length (take at steps) ≡ at = length-take-le at steps (omega (arith, below)) in
               let few : s.at ≤ at = omega (arith, less) in
               let there : slice_get (take at answers) s.at ≡ Some (replies.Marked s.n) =
-              get_take answers s.at at less ∙ sym (get_take answers s.at (suc at) (omega (arith, less))) ∙ sym (get_left (take (suc at) answers) more s.at (omega (arith, less, answers_long))) ∙ s.here in
-              let part = up_to_begins told (take at steps) (take at answers) s.at s.n (omega (arith, less, cut)) there in
-              let again : (tell_all told (take s.at (take at steps)) (take s.at (take at answers))).history ++ Mark s.n ∷ [] ≡ read.prefix =
-              ap (λ (l : List Step). (tell_all told l (take s.at (take at answers))).history ++ Mark s.n ∷ []) (take-take s.at at steps few)
-              ∙ ap (λ (l : List Reply). (tell_all told (take s.at steps) l).history ++ Mark s.n ∷ []) (take-take s.at at answers few)
+              get_take answers s.at at less ∙ sym (get_take answers s.at (suc at) (omega (arith, less)))
+              ∙ sym (get_left (take (suc at) answers) more s.at (omega (arith, less, answers_long))) ∙ s.here in
+              let part = up_to_begins told (take at steps) (take at answers) s.at s.n
+              (omega (arith, less, cut)) there in
+              let again : (tell_all told (take s.at (take at steps)) (take s.at (take at answers))).history
+              ++ Mark s.n ∷ [] ≡ read.prefix =
+              ap (λ (l : List Step). (tell_all told l (take s.at (take at answers))).history ++ Mark s.n ∷ [])
+              (take-take s.at at steps few)
+              ∙ ap (λ (l : List Reply). (tell_all told (take s.at steps) l).history ++ Mark s.n ∷ [])
+              (take-take s.at at answers few)
               ∙ sym (same_up_to s.at s.n few) ∙ sym s.is in
-              mark_is_new (subst (λ l. Contains l (Mark n)) part.1 (Contains-append_left _ part.0 (Mark n) (subst (λ l. Contains l (Mark n)) (sym again) has)))
+              mark_is_new (subst (λ l. Contains l (Mark n)) part.1
+              (Contains-append_left _ part.0 (Mark n) (subst (λ l. Contains l (Mark n)) (sym again) has)))
 
   -- ---- how the mark is acknowledged
 
   -- the history with the mark
   marked_history : (tell_all told (take (suc at) steps) (take (suc at) answers)).history
-      ≡ (tell_all told (take at steps) (take at answers)).history ++ Mark n ∷ (if has_unmarked (tell_all told (take at steps) (take at answers)).history then [] else Acknowledge n ∷ [])
+      ≡ (tell_all told (take at steps) (take at answers)).history ++ Mark n
+      ∷ (if has_unmarked (tell_all told (take at steps) (take at answers)).history then [] else Acknowledge n ∷ [])
   marked_history = last_of told steps answers at below here
     where
-      last_of : (t : Told) (ss : List Step) (rs : List Reply) (i : ℕ) → i < length ss → slice_get rs i ≡ Some (replies.Marked n)
-          → (tell_all t (take (suc i) ss) (take (suc i) rs)).history ≡ (tell_all t (take i ss) (take i rs)).history ++ Mark n ∷ (if has_unmarked (tell_all t (take i ss) (take i rs)).history then [] else Acknowledge n ∷ [])
+      last_of : (t : Told) (ss : List Step) (rs : List Reply) (i : ℕ) → i < length ss
+          → slice_get rs i ≡ Some (replies.Marked n)
+          → (tell_all t (take (suc i) ss) (take (suc i) rs)).history ≡ (tell_all t (take i ss) (take i rs)).history
+          ++ Mark n ∷ (if has_unmarked (tell_all t (take i ss) (take i rs)).history then [] else Acknowledge n ∷ [])
       last_of t [] rs i less is = absurd (omega (arith, less))
       last_of t (s ∷ ss) [] i less is = cc
       last_of t (s ∷ ss) (r ∷ rs) zero less is =
@@ -277,61 +345,82 @@ module _ (one : IsOneReading) (files : List File) (shape : Shape)
       last_of t (s ∷ ss) (r ∷ rs) (suc i) less is = last_of (tell t s r) ss rs i (omega (arith, less)) is
 
   -- at once, where no store was answered since the mark before it
-  pub acked_at_once : flushes ≡ [] → more ≡ [] → unmarked_after false (take at answers) ≡ false → Contains whole (Acknowledge n)
+  pub acked_at_once : flushes ≡ [] → more ≡ [] → unmarked_after false (take at answers) ≡ false
+      → Contains whole (Acknowledge n)
   acked_at_once none_made none_told down =
       let history = (tell_all told (take at steps) (take at answers)).history in
-      let same_length : length (take at answers) ≡ length (take at steps) = length-take-le at answers (omega (arith, within)) ∙ sym (length-take-le at steps (omega (arith, below))) in
-      let quiet : has_unmarked history ≡ false = unmarked_told told (take at steps) (take at answers) false (λ e. e) same_length down in
-      let made : (tell_all told (take (suc at) steps) (take (suc at) answers)).history ≡ history ++ Mark n ∷ Acknowledge n ∷ [] =
+      let same_length : length (take at answers) ≡ length (take at steps) =
+      length-take-le at answers (omega (arith, within)) ∙ sym (length-take-le at steps (omega (arith, below))) in
+      let quiet : has_unmarked history ≡ false =
+      unmarked_told told (take at steps) (take at answers) false (λ e. e) same_length down in
+      let made : (tell_all told (take (suc at) steps) (take (suc at) answers)).history
+      ≡ history ++ Mark n ∷ Acknowledge n ∷ [] =
       marked_history ∙ ap (λ b. history ++ Mark n ∷ (if b then [] else Acknowledge n ∷ [])) quiet in
       let all : whole ≡ history ++ Mark n ∷ Acknowledge n ∷ [] =
       ap (λ (l : List Step). (tell_all told (take (suc at) steps ++ l) all_answers).history) none_made
-      ∙ ap (λ (l : List Reply). (tell_all told (take (suc at) steps ++ []) (take (suc at) answers ++ l)).history) none_told
-      ∙ ap (λ (l : List Step). (tell_all told l (take (suc at) answers ++ [])).history) (append-nil (take (suc at) steps))
+      ∙ ap (λ (l : List Reply). (tell_all told (take (suc at) steps ++ []) (take (suc at) answers ++ l)).history)
+      none_told
+      ∙ ap (λ (l : List Step). (tell_all told l (take (suc at) answers ++ [])).history)
+      (append-nil (take (suc at) steps))
       ∙ ap (λ (l : List Reply). (tell_all told (take (suc at) steps) l).history) (append-nil (take (suc at) answers))
       ∙ made in
-      subst (λ l. Contains l (Acknowledge n)) (sym all) (Contains-append_right history (Mark n ∷ Acknowledge n ∷ []) (Acknowledge n) (1, omega arith, refl))
+      subst (λ l. Contains l (Acknowledge n)) (sym all)
+      (Contains-append_right history (Mark n ∷ Acknowledge n ∷ []) (Acknowledge n) (1, omega arith, refl))
 
   -- or by the step that commits it
-  pub acked_by_commit : (step : Step) (earlier : List Step) (going : List Reply) → flushes ≡ earlier ++ step ∷ [] → more ≡ going ++ replies.Committed n ∷ [] → length going ≡ length earlier → Contains whole (Acknowledge n)
+  pub acked_by_commit : (step : Step) (earlier : List Step) (going : List Reply) → flushes ≡ earlier ++ step ∷ []
+      → more ≡ going ++ replies.Committed n ∷ [] → length going ≡ length earlier → Contains whole (Acknowledge n)
   acked_by_commit step earlier going made told_so same =
       let front_steps = take (suc at) steps ++ earlier in
       let front_answers = take (suc at) answers ++ going in
       let before_it = tell_all told front_steps front_answers in
       let long : length front_answers ≡ length front_steps =
-      length-append (take (suc at) answers) going ∙ omega (arith, steps_long, answers_long, same, length-append (take (suc at) steps) earlier) in
-      let split_steps : all_steps ≡ front_steps ++ step ∷ [] = ap (λ l. take (suc at) steps ++ l) made ∙ sym (append_assoc (take (suc at) steps) earlier (step ∷ [])) in
-      let split_answers : all_answers ≡ front_answers ++ replies.Committed n ∷ [] = ap (λ l. take (suc at) answers ++ l) told_so ∙ sym (append_assoc (take (suc at) answers) going (replies.Committed n ∷ [])) in
+      length-append (take (suc at) answers) going
+      ∙ omega (arith, steps_long, answers_long, same, length-append (take (suc at) steps) earlier) in
+      let split_steps : all_steps ≡ front_steps ++ step ∷ [] =
+      ap (λ l. take (suc at) steps ++ l) made ∙ sym (append_assoc (take (suc at) steps) earlier (step ∷ [])) in
+      let split_answers : all_answers ≡ front_answers ++ replies.Committed n ∷ [] = ap (λ l. take (suc at) answers ++ l)
+      told_so ∙ sym (append_assoc (take (suc at) answers) going (replies.Committed n ∷ [])) in
       let all : whole ≡ before_it.history ++ events_of before_it step.p step.act (replies.Committed n) =
       ap (λ (l : List Step). (tell_all told l all_answers).history) split_steps
       ∙ ap (λ (l : List Reply). (tell_all told (front_steps ++ step ∷ []) l).history) split_answers
-      ∙ ap (λ (t : Told). t.history) (tell_then told front_steps front_answers (step ∷ []) (replies.Committed n ∷ []) long) in
-      subst (λ l. Contains l (Acknowledge n)) (sym (all ∙ ap (λ l. before_it.history ++ l) (events_of_commit before_it step.p step.act n)))
+      ∙ ap (λ (t : Told). t.history)
+      (tell_then told front_steps front_answers (step ∷ []) (replies.Committed n ∷ []) long) in
+      subst (λ l. Contains l (Acknowledge n))
+      (sym (all ∙ ap (λ l. before_it.history ++ l) (events_of_commit before_it step.p step.act n)))
       (Contains-push before_it.history (Acknowledge n))
 
 -- ---- the files that are kept of a mark
 
-pub taken_length : {D : Type 0} (disk : Ghosts D) (old : Whole D) (steps : List Step) (answers : List Reply) (new : Whole D) → StepsTaken disk old steps answers new → length answers ≡ length steps
+pub taken_length : {D : Type 0} (disk : Ghosts D) (old : Whole D) (steps : List Step) (answers : List Reply)
+    (new : Whole D) → StepsTaken disk old steps answers new → length answers ≡ length steps
 taken_length disk old [] [] new taken = refl
-taken_length disk old (step ∷ steps) (reply ∷ answers) new (mid, first, taken) = ap suc (taken_length disk mid steps answers new taken)
+taken_length disk old (step ∷ steps) (reply ∷ answers) new (mid, first, taken) =
+    ap suc (taken_length disk mid steps answers new taken)
 taken_length disk old [] (r ∷ answers) new taken = absurd taken
 taken_length disk old (x ∷ steps) [] new taken = absurd taken
 
 -- the reply that commits is no mark either
-no_mark_more : (going : List Reply) (n : ℕ) → ((i k : ℕ) → slice_get going i ≡ Some (replies.Marked k) → ⊥) → (i k : ℕ) → slice_get (going ++ replies.Committed n ∷ []) i ≡ Some (replies.Marked k) → ⊥
+no_mark_more : (going : List Reply) (n : ℕ) → ((i k : ℕ) → slice_get going i ≡ Some (replies.Marked k) → ⊥) → (i k : ℕ)
+    → slice_get (going ++ replies.Committed n ∷ []) i ≡ Some (replies.Marked k) → ⊥
 no_mark_more [] n none zero k is = cc
 no_mark_more [] n none (suc i) k is = cc
 no_mark_more (r ∷ going) n none zero k is = none 0 k is
 no_mark_more (r ∷ going) n none (suc i) k is = no_mark_more going n (λ j m at. none (suc j) m at) i k is
 
-module _ {D : Type 0} (disk : Ghosts D) (seen_is_left : (device : D) → disk.is_honest device → disk.may_leave device (disk.seen device)) (one : IsOneReading) (opened : OpensAsRecovered disk)
-    (before : D) (shape : Shape) (start : Whole D) (started : HasStarted disk before shape start) (honest : disk.is_honest before) (files : List File) (recovered : RecoversTo (disk.seen before) files)
-    (steps : List Step) (answers : List Reply) (at n : ℕ) (below : at < length steps) (here : slice_get answers at ≡ Some (replies.Marked n))
+module _ {D : Type 0} (disk : Ghosts D) (seen_is_left : (device : D) → disk.is_honest device
+    → disk.may_leave device (disk.seen device)) (one : IsOneReading) (opened : OpensAsRecovered disk)
+    (before : D) (shape : Shape) (start : Whole D) (started : HasStarted disk before shape start)
+    (honest : disk.is_honest before) (files : List File) (recovered : RecoversTo (disk.seen before) files)
+    (steps : List Step) (answers : List Reply) (at n : ℕ) (below : at < length steps)
+    (here : slice_get answers at ≡ Some (replies.Marked n))
     (is_new : (i : ℕ) → slice_get (take at answers) i ≡ Some (replies.Marked n) → ⊥)
-    (told : List Reply) (marked now : Whole D) (made : StepsTaken disk start (take (length told) (take (at + 1) steps)) told marked) (same : told ≡ take (at + 1) answers)
+    (told : List Reply) (marked now : Whole D) (made : StepsTaken disk start
+    (take (length told) (take (at + 1) steps)) told marked) (same : told ≡ take (at + 1) answers)
     (acknowledged : IsAcknowledged disk marked (take at answers) n now) (left : ReadsBackLater disk now) where
   long : length (take (suc at) answers) ≡ suc at
-  long = length-take-le (suc at) answers (let within = slice_get_within answers at (replies.Marked n) here in omega (arith, within))
+  long = length-take-le (suc at) answers
+      (let within = slice_get_within answers at (replies.Marked n) here in omega (arith, within))
 
   next : at + 1 ≡ suc at
   next = omega arith
@@ -342,43 +431,64 @@ module _ {D : Type 0} (disk : Ghosts D) (seen_is_left : (device : D) → disk.is
   first : StepsTaken disk start (take (suc at) steps) (take (suc at) answers) marked
   first =
       subst (λ (l : List Step). StepsTaken disk start l (take (suc at) answers) marked)
-      (ap (λ (i : ℕ). take i (take (at + 1) steps)) count ∙ ap (λ (i : ℕ). take (suc at) (take i steps)) next ∙ take-take (suc at) (suc at) steps (omega arith))
-      (subst (λ (l : List Reply). StepsTaken disk start (take (length told) (take (at + 1) steps)) l marked) (same ∙ ap (λ (i : ℕ). take i answers) next) made)
+      (ap (λ (i : ℕ). take i (take (at + 1) steps)) count ∙ ap (λ (i : ℕ). take (suc at) (take i steps)) next
+      ∙ take-take (suc at) (suc at) steps (omega arith))
+      (subst (λ (l : List Reply). StepsTaken disk start (take (length told) (take (at + 1) steps)) l marked)
+      (same ∙ ap (λ (i : ℕ). take i answers) next) made)
 
   honest_now : disk.is_honest now.device
-  honest_now = honest_after disk opened before shape start started honest (take (suc at) steps) (take (suc at) answers) marked first (take at answers) n now acknowledged
+  honest_now = honest_after disk opened before shape start started honest (take (suc at) steps)
+      (take (suc at) answers) marked first (take at answers) n now acknowledged
 
-  back : (all_steps : List Step) (all_answers : List Reply) → StepsTaken disk start all_steps all_answers now → ReadsBack files (tell_all (told_at_start files shape.cpus) all_steps all_answers).history (disk.seen now.device)
+  back : (all_steps : List Step) (all_answers : List Reply) → StepsTaken disk start all_steps all_answers now
+      → ReadsBack files (tell_all (told_at_start files shape.cpus) all_steps all_answers).history (disk.seen now.device)
   back all_steps all_answers taken =
-      let on = on_track disk one opened before shape start started honest files recovered all_steps all_answers now taken in
-      subst (λ (t : Told). ReadsBack files (tell_all t all_steps all_answers).history (disk.seen now.device)) (told_is disk before shape start started files)
+      let on =
+      on_track disk one opened before shape start started honest files recovered all_steps all_answers now taken in
+      subst (λ (t : Told). ReadsBack files (tell_all t all_steps all_answers).history (disk.seen now.device))
+      (told_is disk before shape start started files)
       (left files start all_steps all_answers (disk.seen now.device) on (seen_is_left now.device honest_now))
 
-  files_at_mark : (found : List File) → RecoversTo (disk.seen now.device) found → found ≡ files_after files (up_to_mark files shape steps answers at n)
+  files_at_mark : (found : List File) → RecoversTo (disk.seen now.device) found
+      → found ≡ files_after files (up_to_mark files shape steps answers at n)
   files_at_mark found recovers = by acknowledged
     where
-      by : IsAcknowledged disk marked (take at answers) n now → found ≡ files_after files (up_to_mark files shape steps answers at n)
+      by : IsAcknowledged disk marked (take at answers) n now
+          → found ≡ files_after files (up_to_mark files shape steps answers at n)
       by (inl c) =
           let flushes = c.earlier ++ c.last ∷ [] in
           let more = c.going ++ replies.Committed n ∷ [] in
-          let taken = taken_then disk start marked now (take (suc at) steps) (take (suc at) answers) flushes more first c.taken in
-          let counts : length c.going ≡ length c.earlier = (let l = taken_length disk marked flushes more now c.taken in omega (arith, l, length-append c.going (replies.Committed n ∷ []), length-append c.earlier (c.last ∷ []))) in
+          let taken = taken_then disk start marked now (take (suc at) steps)
+          (take (suc at) answers) flushes more first c.taken in
+          let counts : length c.going ≡ length c.earlier =
+          (let l = taken_length disk marked flushes more now c.taken in omega (
+            arith,
+            l,
+            length-append c.going (replies.Committed n ∷ []),
+            length-append c.earlier (c.last ∷ []),
+          )) in
           let none = no_mark_more c.going n c.unmarked in
           at_the_mark one files shape steps answers at n below here is_new flushes more none
-          (acked_by_commit one files shape steps answers at n below here is_new flushes more none c.last c.earlier c.going refl refl counts)
-          (disk.seen now.device) (back (take (suc at) steps ++ flushes) (take (suc at) answers ++ more) taken) found recovers
+          (acked_by_commit one files shape steps answers at n below here is_new flushes more none c.last c.earlier
+          c.going refl refl counts)
+          (disk.seen now.device)
+          (back (take (suc at) steps ++ flushes) (take (suc at) answers ++ more) taken) found recovers
       by (inr (down, stays)) =
           let none : (i k : ℕ) → slice_get [] i ≡ Some (replies.Marked k) → ⊥ = λ i k is. cc in
-          let taken = taken_then disk start marked now (take (suc at) steps) (take (suc at) answers) [] [] first stays in
+          let taken = taken_then disk start marked now (take (suc at) steps)
+          (take (suc at) answers) [] [] first stays in
           at_the_mark one files shape steps answers at n below here is_new [] [] none
           (acked_at_once one files shape steps answers at n below here is_new [] [] none refl refl down)
           (disk.seen now.device) (back (take (suc at) steps ++ []) (take (suc at) answers ++ []) taken) found recovers
 
   -- what an opening of the machine's device reads are the files at the mark
-  pub kept_at_mark : {X E : Type 0} (contents : X → List (List ℕ)) (device : D) → device ≡ now.device → (result : Result X E)
-      → (disk.is_honest device → IfOk result (λ read. (found : List File) × RecoversTo (disk.seen device) found × (contents read ≡ map (λ (f : File). f.bytes) found)))
+  pub kept_at_mark : {X E : Type 0} (contents : X → List (List ℕ)) (device : D) → device ≡ now.device
+      → (result : Result X E)
+      → (disk.is_honest device → IfOk result (λ read. (found : List File) × RecoversTo (disk.seen device) found
+      × (contents read ≡ map (λ (f : File). f.bytes) found)))
       → IfOk result (λ read. contents read ≡ bytes_at files shape steps answers at n)
   kept_at_mark contents device is result opens =
       IfOk-weaker result _ _
-      (λ read has. has.2 ∙ ap (map (λ (f : File). f.bytes)) (files_at_mark has.0 (let P : D → Type 0 = λ d. RecoversTo (disk.seen d) has.0 in subst P is has.1)))
+      (λ read has. has.2 ∙ ap (map (λ (f : File). f.bytes))
+      (files_at_mark has.0 (let P : D → Type 0 = λ d. RecoversTo (disk.seen d) has.0 in subst P is has.1)))
       (opens (let Q : D → Type 0 = disk.is_honest in subst Q (sym is) honest_now))

@@ -1,5 +1,6 @@
 -- The rows of the table.
-use Rattle.std.specs.Prelude.{ℕ, ◌≡◌, ◌+◌, ◌<◌, ◌≤◌, List, [], ◌∷◌, length, max, slice_get, Option, Some, None, Contains}
+use Rattle.std.specs.Prelude.{ℕ, ◌≡◌, ◌+◌, ◌<◌, ◌≤◌, List, [], ◌∷◌, length}
+use Rattle.std.specs.Prelude.{max, slice_get, Option, Some, None, Contains}
 use Rattle.crash_table.specs.declared.call.CallKind.TheVariants.{Write}
 use Rattle.crash_table.specs.declared.choice.Choice.{Choice}
 use Rattle.crash_table.specs.declared.choice.Choice.TheVariants.{Old, New}

@@ -243,16 +243,10 @@ kept_with_write first changes supplied bytes flags waiting len at new kept fits 
     let to : end_block at (length new) ≤ length flags = omega (arith, kept.first_length, fits) in
     let from : first_block at ≤ end_block at (length new) = omega arith in
     let wide = length-with_known flags (first_block at) (end_block at (length new)) from to in
+    let same = length-written bytes at new (omega (arith, kept.bytes_length, kept.first_length, fits)) in
     record {
       first_length = omega (arith, wide, kept.first_length);
-      bytes_length = omega (
-        arith,
-        wide,
-        kept.bytes_length,
-        kept.first_length,
-        fits,
-        length-written bytes at new (omega (arith, kept.bytes_length, kept.first_length, fits)),
-      );
+      bytes_length = omega (arith, wide, kept.bytes_length, same);
       len_is = kept.len_is;
       within = (fits, kept.within);
       waits = ap (λ (l : List DiskChange). write at new ∷ l) kept.waits;
@@ -292,17 +286,11 @@ kept_with_block first changes supplied bytes flags waiting len block new kept si
     let to : block + 1 ≤ length flags = omega (arith, kept.first_length, fits) in
     let from : block ≤ block + 1 = omega arith in
     let wide = length-with_known flags block (block + 1) from to in
+    let same = length-written bytes (4096 * block) new
+    (omega (arith, kept.bytes_length, kept.first_length, fits, size)) in
     record {
       first_length = omega (arith, wide, kept.first_length);
-      bytes_length = omega (
-        arith,
-        wide,
-        kept.bytes_length,
-        kept.first_length,
-        fits,
-        size,
-        length-written bytes (4096 * block) new (omega (arith, kept.bytes_length, kept.first_length, fits, size)),
-      );
+      bytes_length = omega (arith, wide, kept.bytes_length, same);
       len_is = kept.len_is;
       within = kept.within;
       waits = kept.waits;
@@ -429,6 +417,18 @@ within_front n [] older within = tt
 within_front n (write at bytes ∷ newer) older within = (within.0, within_front n newer older within.1)
 within_front n (sync ∷ newer) older within = within_front n newer older within
 
+-- What lies within the content lies within the bytes of the device, within those that are kept, and within the length.
+pub within_kept : {inside now : Deferred} {supplied : List (List ℕ × List ℕ)} {bytes : List ℕ} {flags : List Bool}
+    {waiting : List DiskChange} {len : ℕ} (n : ℕ)
+    → inside ≡ now → IsKept inside.first inside.changes supplied bytes flags waiting len
+    → n ≤ length (memory.seen_of (as_recorded now))
+    → (n ≤ length inside.first) × ((n ≤ length bytes) × (n ≤ len))
+within_kept {inside} n same kept within =
+    let room = subst (λ (d : Deferred). n ≤ length (memory.seen_of (as_recorded d))) (sym same) within in
+    let whole = length-content_after inside.first inside.changes kept.within in
+    let low : n ≤ length inside.first = omega (arith, room, whole) in
+    (low, (omega (arith, low, kept.first_length, kept.bytes_length), omega (arith, low, whole, kept.len_is)))
+
 -- The waiting calls are within a device that is as long as the disk.
 pub within_log : (first : List ℕ) (changes log : List DiskChange) (n : ℕ) → n ≡ length (content_after first changes)
     → AreWithin (length first) changes → log ≡ take (length log) changes → AreWithin n log
@@ -501,8 +501,7 @@ pub same_deferred : {first first' : List ℕ} {changes changes' : List DiskChang
       changes = changes';
       waiting = waiting';
       known = known';
-      supplied =
-          supplied';
+      supplied = supplied';
       wanted = wanted';
       calls = calls';
       faults = faults';

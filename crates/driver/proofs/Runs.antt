@@ -32,7 +32,8 @@ runs_from {D} disk origin first machine steps replies device law same is_first l
     λ before shape started.
     let Led : Whole D → Type 0 = λ from. StepsTaken disk from steps replies machine in
     let Ran : D → Type 0 = λ after. HasRun disk before shape steps replies after in
-    let led : StepsTaken disk start steps replies machine = subst Led (one_value origin first start is_first is_start) legal in
+    let led : StepsTaken disk start steps replies machine =
+    subst Led (one_value origin first start is_first is_start) legal in
     subst Ran (sym same) (law before shape start steps replies started led)
 
 -- what holds of each value of an option holds of the one that it has

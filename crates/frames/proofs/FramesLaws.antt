@@ -64,24 +64,26 @@ page_of-overwrite_frame : (f : Option Frame) (at : ℕ) (bytes : List ℕ)
 page_of-overwrite_frame None at bytes = refl
 page_of-overwrite_frame (Some f) at bytes = refl
 
+-- what a write leaves as it is of a frame, it leaves so of each number
+same-with_bytes : {X : Type 0} (of : Option Frame → X)
+    → ((f : Option Frame) (at : ℕ) (bytes : List ℕ) → of (overwrite_frame f at bytes) ≡ of f)
+    → (s : FramesState) (frame at : ℕ) (bytes : List ℕ) (other : ℕ)
+    → of (frame_at (with_bytes s frame at bytes) other) ≡ of (frame_at s other)
+same-with_bytes of stays s frame at bytes other =
+    ⊎_elim
+    (λ same. subst (λ n. of (frame_at (with_bytes s frame at bytes) n) ≡ of (frame_at s n)) (sym same)
+    (ap of (frame_at-with_bytes_same s frame at bytes) ∙ stays (frame_at s frame) at bytes))
+    (λ differs. ap of (frame_at-with_bytes_other s frame at bytes other differs))
+    (cases_eq other frame)
+
 -- a write leaves the same numbers in use, for the same pages
 pub in_use-with_bytes : (s : FramesState) (frame at : ℕ) (bytes : List ℕ) (other : ℕ)
     → is_some (frame_at (with_bytes s frame at bytes) other) ≡ is_some (frame_at s other)
-in_use-with_bytes s frame at bytes other =
-    ⊎_elim
-    (λ same. subst (λ n. is_some (frame_at (with_bytes s frame at bytes) n) ≡ is_some (frame_at s n)) (sym same)
-    (ap is_some (frame_at-with_bytes_same s frame at bytes) ∙ is_some-overwrite_frame (frame_at s frame) at bytes))
-    (λ differs. ap is_some (frame_at-with_bytes_other s frame at bytes other differs))
-    (cases_eq other frame)
+in_use-with_bytes = same-with_bytes is_some is_some-overwrite_frame
 
 pub page_of-with_bytes : (s : FramesState) (frame at : ℕ) (bytes : List ℕ) (other : ℕ)
     → page_of (frame_at (with_bytes s frame at bytes) other) ≡ page_of (frame_at s other)
-page_of-with_bytes s frame at bytes other =
-    ⊎_elim
-    (λ same. subst (λ n. page_of (frame_at (with_bytes s frame at bytes) n) ≡ page_of (frame_at s n)) (sym same)
-    (ap page_of (frame_at-with_bytes_same s frame at bytes) ∙ page_of-overwrite_frame (frame_at s frame) at bytes))
-    (λ differs. ap page_of (frame_at-with_bytes_other s frame at bytes other differs))
-    (cases_eq other frame)
+page_of-with_bytes = same-with_bytes page_of page_of-overwrite_frame
 
 -- a write inside a page leaves its length
 pub length-overwrite : (page : List ℕ) (at : ℕ) (bytes : List ℕ) → at + length bytes ≤ length page

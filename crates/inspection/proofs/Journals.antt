@@ -1,5 +1,6 @@
 -- What is read of journals.
-use Rattle.std.proofs.Common.{◌≡◌, ℕ, suc, ◌+◌, ◌<◌, List, [], ◌∷◌, ◌++◌, inl, inr, ⊎_elim, length, subst, refl, ◌∙◌, arith}
+use Rattle.std.proofs.Common.{◌≡◌, ℕ, suc, ◌+◌, ◌<◌, List, [], ◌∷◌, ◌++◌, inl}
+use Rattle.std.proofs.Common.{inr, ⊎_elim, length, subst, refl, ◌∙◌, arith}
 use Rattle.device.specs.Device.{LeavesOnly}
 use Rattle.device.specs.declared.device.Device.{Ghosts}
 use Rattle.page_entry.specs.declared.refusal.Refusal.{Refusal}
@@ -14,39 +15,50 @@ use Rattle.inspection.specs.Found.{IsJournal, AreFrom}
 use Rattle.inspection.specs.Reading.{IsOnlyRead}
 
 -- one journal more
-pub from_push : {Z : Type 0} (g : GeometryValue) (bytes : List ℕ) (j n : ℕ) (journals : List (Journal Z)) (journal : Journal Z) → AreFrom g bytes j journals → j + length journals ≡ n → IsJournal g bytes n journal → AreFrom g bytes j (journals ++ journal ∷ [])
+pub from_push : {Z : Type 0} (g : GeometryValue) (bytes : List ℕ) (j n : ℕ) (journals : List (Journal Z))
+    (journal : Journal Z) → AreFrom g bytes j journals → j + length journals ≡ n → IsJournal g bytes n journal
+    → AreFrom g bytes j (journals ++ journal ∷ [])
 from_push {Z} g bytes j n [] journal are at is =
     let P : ℕ → Type 0 = λ k. IsJournal {Z = Z} g bytes k journal in
     let same : n ≡ j = omega (arith, at) in
     (subst P same is, tt)
-from_push g bytes j n (first ∷ journals) journal are at is = (are.0, from_push g bytes (suc j) n journals journal are.1 (omega (arith, at)) is)
+from_push g bytes j n (first ∷ journals) journal are at is =
+    (are.0, from_push g bytes (suc j) n journals journal are.1 (omega (arith, at)) is)
 
 -- the descriptor of an open journal is refused
-pub refuses_descriptor : (g : GeometryValue) (bytes : List ℕ) (j : ℕ) (e : Refusal) → j < journals_of g.layout → IsOpen bytes g.slots j → RefusesDescriptor g (block_at bytes (descriptor_block g.slots j)) e → RefusesJournals g bytes e
+pub refuses_descriptor : (g : GeometryValue) (bytes : List ℕ) (j : ℕ) (e : Refusal) → j < journals_of g.layout
+    → IsOpen bytes g.slots j → RefusesDescriptor g (block_at bytes (descriptor_block g.slots j)) e
+    → RefusesJournals g bytes e
 refuses_descriptor g bytes j Damaged there gate refuses = refuses_read g bytes j Damaged there gate refuses
 refuses_descriptor g bytes j OutOfMemory there gate refuses = tt
 refuses_descriptor g bytes j _ there gate refuses = absurd refuses
 
-leaves_then : {D : Type 0} (moment : D → ℕ) (since : D → ℕ → List ℕ → Type 0) (P Q : List ℕ → Type 0) (old mid new : D) → LeavesOnly moment since old mid P → LeavesOnly moment since mid new Q → ((c : List ℕ) → Q c → P c) → LeavesOnly moment since old new P
+leaves_then : {D : Type 0} (moment : D → ℕ) (since : D → ℕ → List ℕ → Type 0) (P Q : List ℕ → Type 0) (old mid new : D)
+    → LeavesOnly moment since old mid P → LeavesOnly moment since mid new Q → ((c : List ℕ) → Q c → P c)
+    → LeavesOnly moment since old new P
 leaves_then moment since P Q old mid new first second more = record {
   later = omega (arith, first.later, second.later);
   each = λ c left. ⊎_elim (λ was. first.each c was) (λ now. more c now) (second.before (moment old) c first.later left);
-  before = λ t c le left. ⊎_elim (λ was. first.before t c le was) (λ now. inr (more c now)) (second.before t c (omega (arith, le, first.later)) left);
+  before = λ t c le left. ⊎_elim (λ was. first.before t c le was) (λ now. inr (more c now))
+      (second.before t c (omega (arith, le, first.later)) left);
   keeps = λ t c le left. second.keeps t c (omega (arith, le, first.later)) (first.keeps t c le left);
 }
 
 -- a device that was read twice
-pub read_then : {D : Type 0} {disk : Ghosts D} {old mid new : D} → IsOnlyRead disk old mid → IsOnlyRead disk mid new → IsOnlyRead disk old new
+pub read_then : {D : Type 0} {disk : Ghosts D} {old mid new : D} → IsOnlyRead disk old mid → IsOnlyRead disk mid new
+    → IsOnlyRead disk old new
 read_then {D} {disk} {old} {mid} {new} first second = record {
   same = second.same ∙ first.same;
   left = λ c may. first.left c (second.left c may);
   keeps = λ honest c may. second.keeps (first.honest.1 honest) c (first.keeps honest c may);
-  time = leaves_then disk.moment disk.left_since (disk.may_leave old) (disk.may_leave mid) old mid new first.time second.time first.left;
+  time = leaves_then disk.moment disk.left_since (disk.may_leave old)
+      (disk.may_leave mid) old mid new first.time second.time first.left;
   honest = (λ h. first.honest.0 (second.honest.0 h), λ h. second.honest.1 (first.honest.1 h));
 }
 
 -- a device that wasn't read
-pub unread : {D : Type 0} (disk : Ghosts D) (old : D) → ((c : List ℕ) → disk.left_since old (disk.moment old) c → disk.may_leave old c) → IsOnlyRead disk old old
+pub unread : {D : Type 0} (disk : Ghosts D) (old : D)
+    → ((c : List ℕ) → disk.left_since old (disk.moment old) c → disk.may_leave old c) → IsOnlyRead disk old old
 unread disk old now = record {
   same = refl;
   left = λ c may. may;

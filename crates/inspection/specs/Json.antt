@@ -1,5 +1,6 @@
 -- What is found of a volume, as JSON. The members of an object are in the order of their names.
-use Rattle.std.specs.Prelude.{ℕ, zero, suc, ◌*◌, true, false, codes, List, [], ◌∷◌, ◌++◌, map, length, slice_index, Option, Some, None}
+use Rattle.std.specs.Prelude.{ℕ, zero, suc, ◌*◌, true, false, codes, List, [], ◌∷◌}
+use Rattle.std.specs.Prelude.{◌++◌, map, length, slice_index, Option, Some, None}
 use Rattle.serde_json.specs.Data.{Data, object, number, unsigned, boolean, string, array, member, no_members}
 use Rattle.serde_json.specs.View.{items_of}
 use Rattle.volume_codec.specs.Layout.{number_of}

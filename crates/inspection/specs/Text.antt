@@ -1,5 +1,6 @@
 -- The lines that are printed of a volume.
-use Rattle.std.specs.Prelude.{ℕ, zero, suc, ◌*◌, ◌/◌, ◌%◌, ◌==◌, if◌then◌else◌, false, codes, List, [], ◌∷◌, ◌++◌, length, slice_index, slice_index_or, Option, Some, None}
+use Rattle.std.specs.Prelude.{ℕ, zero, suc, ◌*◌, ◌/◌, ◌%◌, ◌==◌, if◌then◌else◌, false, codes, List}
+use Rattle.std.specs.Prelude.{[], ◌∷◌, ◌++◌, length, slice_index, slice_index_or, Option, Some, None}
 use Rattle.std.specs.List.{flat_map}
 use Rattle.std.specs.Fmt.{decimal, digit_glyph}
 use Rattle.volume_codec.specs.Layout.{number_of}

@@ -5,8 +5,11 @@ use Rattle.std.proofs.Common.{get_or, replicate, Option, Some, None, refl, sym, 
 use Rattle.std.specs.Ordering.{nat_cmp}
 use Rattle.std.specs.FinMap as maps
 use Rattle.std.specs.Borrow.{Bor}
+use Rattle.std.specs.Prelude.{Vec}
+use Rattle.std.specs.Vec.{with_items}
 use Rattle.std.proofs.lemmas.Bool.{cases_lt, cases_eq}
 use Rattle.std.proofs.lemmas.Bool.Decides.{nat_tests}
+use Rattle.std.proofs.lemmas.List.{with_items_is}
 use Rattle.std.proofs.Math.ListN.{get_or-append}
 use Rattle.std.proofs.Math.Seq.{get_or-append_right}
 use Rattle.page_entry.specs.Entry.{Mapped, entry_of, bits_of, protected_of, IsEntry}
@@ -18,6 +21,7 @@ use Rattle.page_table.specs.declared.change.Change.TheVariants.{Clear, MakeReadO
 use Rattle.page_table.specs.inside.Changes.{changed_by, changed_bits}
 use Rattle.page_table.specs.inside.Nodes.{word, read_by_walk, lookup, has_leaf, table_of, IsTree}
 use Rattle.page_table.specs.inside.Nodes.{IsTable, EditsPages, GrowsPages, needed, missing}
+use Rattle.page_table.specs.inside.Marks.{HasMarks, IsMarkedTable}
 use Rattle.page_table.proofs.Entries.{same_table, same_entries, get-put_entry, get-outside_range, get-range_read_only}
 use Rattle.page_table.proofs.Entries.{get-frames_protected, maps_marked, get-empty_table, is_grown-empty_table}
 use Rattle.page_table.proofs.Trees.{walk-zero, walk-suc, walk-none, walk-alike, word_of_node, word_of_none}
@@ -124,6 +128,28 @@ table_of-set page e bits old new is edits =
   where
     here : (q : ℕ) → eqb q page ≡ in_range page (page + 1) q
     here q = grind (arith, nat_tests)
+
+-- a vector whose elements were written over by as many
+pub written_over : {X Z : Type 0} (v : Vec X Z) (old new : List X) → length new ≡ length old → old ≡ v.items
+    → (with_items v new).items ≡ new
+written_over v old new size is = with_items_is v new (omega (arith, size, ap length is, v.ok.0))
+
+-- the table after a change that wrote its words over
+pub table_of-written : {Z : Type 0} (words : Vec ℕ Z) (old new : List ℕ) (was : TableState)
+    (change : TableState → TableState)
+    → length new ≡ length old → old ≡ words.items → table_of words.items ≡ was → table_of new ≡ change (table_of old)
+    → table_of (with_items words new).items ≡ change was
+table_of-written words old new was change size is view made =
+    ap table_of (written_over words old new size is) ∙ made ∙ ap change (ap table_of is ∙ view)
+
+-- and its marks, where these were written over with it
+pub marked_written : {Z : Type 0} (words present in_use : Vec ℕ Z) (ws ps us ws' ps' us' : List ℕ)
+    → (ws ≡ words.items) × (length ws' ≡ length ws) → (ps ≡ present.items) × (length ps' ≡ length ps)
+    → (us ≡ in_use.items) × (length us' ≡ length us) → IsTable ws' → HasMarks ws' ps' us'
+    → IsMarkedTable (with_items words ws').items (with_items present ps').items (with_items in_use us').items
+marked_written words present in_use ws ps us ws' ps' us' w p u table marks =
+    rw (written_over words ws ws' w.1 w.0, written_over present ps ps' p.1 p.0, written_over in_use us us' u.1 u.0)
+    (record { table = table; marks = marks })
 
 -- what has grown in the table
 grown_is : (ws : List ℕ) (q : ℕ) → is_grown (table_of ws) q ≡ true → 0 < read_by_walk ws 3 (q / 512)

@@ -10,12 +10,14 @@ use Rattle.service.specs.declared.raising.Raise.TheVariants as raises
 use Rattle.horizon.specs.Seen.{SeenState, IsRaisedTo}
 use Rattle.service.specs.declared.raising.Raise.{Raise}
 use Rattle.machine.specs.Unmarked.{unmarked_by}
-use Rattle.service.specs.Marks.{has_unmarked, HasReached, acknowledged_with, marks_of, last_acknowledged, Words, LeavesCommitted, RaisesCommitted, HasRaised}
+use Rattle.service.specs.Marks.{has_unmarked, HasReached, acknowledged_with, marks_of}
+use Rattle.service.specs.Marks.{last_acknowledged, Words, LeavesCommitted, RaisesCommitted, HasRaised}
 use Rattle.service.specs.inside.Raising.{raise_by, Reaches, RaisesSo}
 use Rattle.service.specs.inside.Rising.{seen_words}
 
 -- what a raise reaches
-pub reached : (unmarked : Bool) (reply : Reply) (stalled committed : ℕ) → Reaches (raise_by unmarked reply) stalled committed
+pub reached : (unmarked : Bool) (reply : Reply) (stalled committed : ℕ)
+    → Reaches (raise_by unmarked reply) stalled committed
     → HasReached unmarked reply stalled committed
 reached true (replies.Marked number) stalled committed so = (so, λ none. absurd (false≢true (sym none)))
 reached false (replies.Marked number) stalled committed so = (so.0, λ none. so.1)
@@ -24,12 +26,15 @@ reached unmarked reply stalled committed so = tt
 
 -- of what is unmarked, the marks of a trace say the same as it says itself
 same_unmarked : (trace : List Entry) (number : ℕ) (unmarked : Bool)
-    → (fold (λ (marks : ℕ × Bool) (e : Entry). (acknowledged_with marks.0 marks.1 e.reply, unmarked_by marks.1 e.reply)) (number, unmarked) trace).1
+    → (fold (λ (marks : ℕ × Bool) (e : Entry). (acknowledged_with marks.0 marks.1 e.reply, unmarked_by marks.1 e.reply))
+    (number, unmarked) trace).1
     ≡ fold (λ (was : Bool) (e : Entry). unmarked_by was e.reply) unmarked trace
 same_unmarked [] number unmarked = refl
-same_unmarked (e ∷ trace) number unmarked = same_unmarked trace (acknowledged_with number unmarked e.reply) (unmarked_by unmarked e.reply)
+same_unmarked (e ∷ trace) number unmarked =
+    same_unmarked trace (acknowledged_with number unmarked e.reply) (unmarked_by unmarked e.reply)
 
-acknowledges : (number : ℕ) (unmarked : Bool) (reply : Reply) (mark : ℕ) → raise_by unmarked reply ≡ raises.Committed mark
+acknowledges : (number : ℕ) (unmarked : Bool) (reply : Reply) (mark : ℕ)
+    → raise_by unmarked reply ≡ raises.Committed mark
     → acknowledged_with number unmarked reply ≡ mark
 acknowledges number true (replies.Marked new) mark is = cc
 acknowledges number false (replies.Marked new) mark is = cc
@@ -40,12 +45,14 @@ acknowledges number unmarked reply mark is = cc
 pub is_acknowledged : (trace before : List Entry) (last : Entry) (mark : ℕ) → trace ≡ before ++ last ∷ []
     → raise_by (has_unmarked before) last.reply ≡ raises.Committed mark → last_acknowledged trace ≡ mark
 is_acknowledged trace before last mark is raised =
-    let step : ℕ × Bool → Entry → ℕ × Bool = λ marks e. (acknowledged_with marks.0 marks.1 e.reply, unmarked_by marks.1 e.reply) in
+    let step : ℕ × Bool → Entry → ℕ × Bool =
+    λ marks e. (acknowledged_with marks.0 marks.1 e.reply, unmarked_by marks.1 e.reply) in
     let marks : ℕ × Bool = marks_of before in
     let same : has_unmarked before ≡ marks.1 = sym (same_unmarked before 0 false) in
     ap (λ (t : List Entry). last_acknowledged t) is
     ∙ ap (λ (m : ℕ × Bool). m.0) (fold_push step (0, false) before last)
-    ∙ acknowledges marks.0 marks.1 last.reply mark (subst (λ (b : Bool). raise_by b last.reply ≡ raises.Committed mark) same raised)
+    ∙ acknowledges marks.0 marks.1 last.reply mark
+    (subst (λ (b : Bool). raise_by b last.reply ≡ raises.Committed mark) same raised)
 
 -- what a raise does to the two words
 pub raised : (unmarked : Bool) (reply : Reply) (old new : SeenState) → RaisesSo (raise_by unmarked reply) old new

@@ -1,5 +1,6 @@
 -- One more entry of a trace.
-use Rattle.std.proofs.Common.{◌≡◌, ℕ, ◌+◌, ◌==◌, ◌<◌, ◌≤◌, Bool, false, List, [], ◌∷◌, ◌++◌, length, length-append, refl, sym, ap, ◌∙◌, subst, arith}
+use Rattle.std.proofs.Common.{◌≡◌, ℕ, ◌+◌, ◌==◌, ◌<◌, ◌≤◌, Bool, false, List, [], ◌∷◌, ◌++◌}
+use Rattle.std.proofs.Common.{length, length-append, refl, sym, ap, ◌∙◌, subst, arith}
 use Rattle.std.proofs.lemmas.Bool.Decides.{nat_tests}
 use Rattle.std.proofs.lemmas.List.{map-append}
 use Rattle.std.proofs.lemmas.List.Sums.{count_by-le-length, sum_by-append}
@@ -16,48 +17,66 @@ use Rattle.service.specs.declared.entry.Entry.{Entry}
 use Rattle.service.specs.Trace.{is_progress, steps_of, replies_of}
 use Rattle.service.specs.Serving.{SharedState, IsServing, HasEntered, told_by, max_entries}
 
-count_one_more : {X : Type 0} (p : X → Bool) (xs : List X) (x : X) → count_by p (xs ++ x ∷ []) ≡ count_by p xs + (if p x then 1 else 0)
+count_one_more : {X : Type 0} (p : X → Bool) (xs : List X) (x : X)
+    → count_by p (xs ++ x ∷ []) ≡ count_by p xs + (if p x then 1 else 0)
 count_one_more {X} p xs x = omega (arith, sum_by-append (λ (y : X). if p y then 1 else 0) xs (x ∷ []))
 
 pub not_full : (entries capacity : ℕ) → entries ≤ capacity → (entries == capacity) ≡ false → entries < capacity
 not_full entries capacity few other = grind (arith, nat_tests)
 
 -- the entries that are progress are fewer than a trace may have that isn't full
-pub few_progress : {D : Type 0} (disk : Ghosts D) (start : Whole D) (s : SharedState D) → IsServing disk start s → s.capacity ≤ max_entries → length s.trace < s.capacity → s.progress < 1000000
-few_progress disk start s is most room = omega (arith, is.counted, count_by-le-length (λ (e : Entry). is_progress e.step.act e.reply) s.trace, most, room)
+pub few_progress : {D : Type 0} (disk : Ghosts D) (start : Whole D) (s : SharedState D) → IsServing disk start s
+    → s.capacity ≤ max_entries → length s.trace < s.capacity → s.progress < 1000000
+few_progress disk start s is most room =
+    omega (arith, is.counted, count_by-le-length (λ (e : Entry). is_progress e.step.act e.reply) s.trace, most, room)
 
 -- with one more entry the trace is a legal run to the machine after its step
-pub one_more : {D : Type 0} (disk : Ghosts D) (start : Whole D) (old : SharedState D) (entry : Entry) (machine : Whole D) (progress : ℕ) → length old.trace < old.capacity
+pub one_more : {D : Type 0} (disk : Ghosts D) (start : Whole D) (old : SharedState D) (entry : Entry)
+    (machine : Whole D) (progress : ℕ) → length old.trace < old.capacity
     → progress ≡ old.progress + (if is_progress entry.step.act entry.reply then 1 else 0)
-    → (StepsTaken disk start (steps_of old.trace) (replies_of old.trace) old.machine → StepsTaken disk start (steps_of old.trace ++ entry.step ∷ []) (replies_of old.trace ++ entry.reply ∷ []) machine)
-    → IsServing disk start old → IsServing disk start (record { machine = machine; trace = old.trace ++ entry ∷ []; capacity = old.capacity; progress = progress })
+    → (StepsTaken disk start (steps_of old.trace) (replies_of old.trace) old.machine → StepsTaken disk start
+    (steps_of old.trace ++ entry.step ∷ []) (replies_of old.trace ++ entry.reply ∷ []) machine)
+    → IsServing disk start old → IsServing disk start
+    (record { machine = machine; trace = old.trace ++ entry ∷ []; capacity = old.capacity; progress = progress })
 one_more {D} disk start old entry machine progress room counted longer is =
-    let P : List Step → Type 0 = λ steps. StepsTaken disk start steps (replies_of old.trace ++ entry.reply ∷ []) machine in
-    let Q : List Reply → Type 0 = λ replies. StepsTaken disk start (steps_of (old.trace ++ entry ∷ [])) replies machine in
-    let steps : steps_of old.trace ++ entry.step ∷ [] ≡ steps_of (old.trace ++ entry ∷ []) = sym (map-append (λ (e : Entry). e.step) old.trace (entry ∷ [])) in
-    let replies : replies_of old.trace ++ entry.reply ∷ [] ≡ replies_of (old.trace ++ entry ∷ []) = sym (map-append (λ (e : Entry). e.reply) old.trace (entry ∷ [])) in record {
+    let P : List Step → Type 0 =
+    λ steps. StepsTaken disk start steps (replies_of old.trace ++ entry.reply ∷ []) machine in
+    let Q : List Reply → Type 0 =
+    λ replies. StepsTaken disk start (steps_of (old.trace ++ entry ∷ [])) replies machine in
+    let steps : steps_of old.trace ++ entry.step ∷ [] ≡ steps_of (old.trace ++ entry ∷ []) =
+    sym (map-append (λ (e : Entry). e.step) old.trace (entry ∷ [])) in
+    let replies : replies_of old.trace ++ entry.reply ∷ [] ≡ replies_of (old.trace ++ entry ∷ []) =
+    sym (map-append (λ (e : Entry). e.reply) old.trace (entry ∷ [])) in record {
       fresh = is.fresh;
       legal = subst Q replies (subst P steps (longer is.legal));
       few = omega (arith, length-append old.trace (entry ∷ []), room);
-      counted = counted ∙ ap (λ n. n + (if is_progress entry.step.act entry.reply then 1 else 0)) is.counted ∙ sym (count_one_more (λ (e : Entry). is_progress e.step.act e.reply) old.trace entry);
+      counted = counted ∙ ap (λ n. n + (if is_progress entry.step.act entry.reply then 1 else 0)) is.counted
+          ∙ sym (count_one_more (λ (e : Entry). is_progress e.step.act e.reply) old.trace entry);
     }
 
 -- so one step of the machine and its entry are entered
-pub has_entered : {D : Type 0} (disk : Ghosts D) (old : SharedState D) (entry : Entry) (machine : Whole D) (progress : ℕ) → length old.trace < old.capacity
+pub has_entered : {D : Type 0} (disk : Ghosts D) (old : SharedState D) (entry : Entry) (machine : Whole D)
+    (progress : ℕ) → length old.trace < old.capacity
     → progress ≡ old.progress + (if is_progress entry.step.act entry.reply then 1 else 0)
     → StepTaken disk old.machine entry.step entry.reply machine
-    → ((start : Whole D) (steps : List Step) (replies : List Reply) → StepsTaken disk start steps replies old.machine → StepsTaken disk start (steps ++ entry.step ∷ []) (replies ++ entry.reply ∷ []) machine)
-    → ((files : List File) (start : Whole D) → IsOnTrack disk files start (steps_of old.trace) (replies_of old.trace) old.machine → StepIsSafe disk files (told_by files start old.trace) old.machine entry.step entry.reply machine)
-    → HasEntered disk old entry.step entry.reply (record { machine = machine; trace = old.trace ++ entry ∷ []; capacity = old.capacity; progress = progress })
+    → ((start : Whole D) (steps : List Step) (replies : List Reply) → StepsTaken disk start steps replies old.machine
+    → StepsTaken disk start (steps ++ entry.step ∷ []) (replies ++ entry.reply ∷ []) machine)
+    → ((files : List File) (start : Whole D) → IsOnTrack disk files start (steps_of old.trace) (replies_of old.trace)
+    old.machine → StepIsSafe disk files (told_by files start old.trace) old.machine entry.step entry.reply machine)
+    → HasEntered disk old entry.step entry.reply
+    (record { machine = machine; trace = old.trace ++ entry ∷ []; capacity = old.capacity; progress = progress })
 has_entered disk old entry machine progress room counted taken longer safe = record {
   room = room;
   capacity = refl;
   entry = refl;
   taken = taken;
-  kept = λ start is. one_more disk start old entry machine progress room counted (longer start (steps_of old.trace) (replies_of old.trace)) is;
+  kept = λ start is. one_more disk start old entry machine progress room counted
+      (longer start (steps_of old.trace) (replies_of old.trace)) is;
   safe = λ files start is begins. safe files start (record { begins = begins; taken = is.legal });
 }
 
-pub one_longer : {D : Type 0} (disk : Ghosts D) (old : SharedState D) (step : Step) (reply : Reply) (new : SharedState D) → HasEntered disk old step reply new → length new.trace ≡ length old.trace + 1
+pub one_longer : {D : Type 0} (disk : Ghosts D) (old : SharedState D) (step : Step) (reply : Reply)
+    (new : SharedState D) → HasEntered disk old step reply new → length new.trace ≡ length old.trace + 1
 one_longer disk old step reply new entered =
-    ap (λ (t : List Entry). length t) entered.entry ∙ length-append old.trace (record { step = step; reply = reply } ∷ [])
+    ap (λ (t : List Entry). length t) entered.entry
+    ∙ length-append old.trace (record { step = step; reply = reply } ∷ [])

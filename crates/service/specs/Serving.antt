@@ -14,7 +14,8 @@ use Rattle.machine.specs.State.{Whole}
 use Rattle.machine.specs.Steps.{told_first}
 use Rattle.machine.specs.Told.{Told, tell_all}
 use Rattle.service.specs.declared.entry.Entry.{Entry}
-use Rattle.service.specs.Marks.{has_unmarked, last_acknowledged, HasReached, Words, LeavesCommitted, RaisesCommitted, HasRaised}
+use Rattle.service.specs.Marks.{has_unmarked, last_acknowledged, HasReached, Words}
+use Rattle.service.specs.Marks.{LeavesCommitted, RaisesCommitted, HasRaised}
 use Rattle.service.specs.Trace.{progress_of, steps_of, replies_of}
 
 -- what is locked: a machine, the trace of its steps, the most entries that the trace may have, and how many of its

@@ -1,5 +1,6 @@
 -- Bytes of a page that are loaded or stored at once, as the steps that they are equal to.
-use Rattle.std.proofs.Common.{◌≡◌, inr, ℕ, ◌+◌, ◌^◌, ◌<◌, ◌≤◌, arith, List, [], ◌∷◌, ◌++◌, length, Option, Some, None, refl, sym, ap, subst}
+use Rattle.std.proofs.Common.{◌≡◌, inr, ℕ, ◌+◌, ◌^◌, ◌<◌, ◌≤◌, arith, List, [], ◌∷◌}
+use Rattle.std.proofs.Common.{◌++◌, length, Option, Some, None, refl, sym, ap, subst}
 use Rattle.device.specs.declared.device.Device.{Ghosts}
 use Rattle.cpu.specs.AtOnce.{count_at_once}
 use Rattle.machine.specs.AtOnce.{load_steps, load_replies, store_steps, store_replies}
@@ -29,11 +30,13 @@ below_at_once (Some frame) va count n below is = omega (arith, is, below)
 
 -- ---- what is noted
 
-noted_more : (n : Notes) (bytes : List ℕ) → noted_all (noted_after n Stored) (store_replies bytes) ≡ noted_after n Stored
+noted_more : (n : Notes) (bytes : List ℕ)
+    → noted_all (noted_after n Stored) (store_replies bytes) ≡ noted_after n Stored
 noted_more n [] = refl
 noted_more n (byte ∷ bytes) = noted_more n bytes
 
-pub noted_stores : (n : Notes) (bytes : List ℕ) → 0 < length bytes → noted_after n Stored ≡ noted_all n (store_replies bytes)
+pub noted_stores : (n : Notes) (bytes : List ℕ) → 0 < length bytes
+    → noted_after n Stored ≡ noted_all n (store_replies bytes)
 noted_stores n [] some = absurd (omega (arith, some))
 noted_stores n (byte ∷ bytes) some = sym (noted_more n bytes)
 
@@ -47,38 +50,62 @@ noted_loads n (byte ∷ bytes) = noted_loads n bytes
 
 -- ---- which bytes
 
-pub loads_run : (p va from at : ℕ) (bytes : List ℕ) → at ≡ behind va from → at + length bytes ≤ 2 ^ 64 → AreLoads p va from (from + length bytes) (load_steps p at bytes) (load_replies bytes) bytes
+pub loads_run : (p va from at : ℕ) (bytes : List ℕ) → at ≡ behind va from → at + length bytes ≤ 2 ^ 64
+    → AreLoads p va from (from + length bytes) (load_steps p at bytes) (load_replies bytes) bytes
 loads_run p va from at [] is below = (omega arith, refl)
 loads_run p va from at (byte ∷ []) is below =
     inr (1, byte ∷ [], [], ap (λ n. record { p = p; act = Load n 1 }) is, refl, refl, (refl, refl))
 loads_run p va from at (byte ∷ next ∷ bytes) is below =
-    let P : ℕ → Type 0 = λ n. AreLoads p va (from + 1) n (load_steps p (at + 1) (next ∷ bytes)) (load_replies (next ∷ bytes)) (next ∷ bytes) in
+    let P : ℕ → Type 0 = λ n. AreLoads p va (from + 1) n (load_steps p (at + 1) (next ∷ bytes))
+    (load_replies (next ∷ bytes)) (next ∷ bytes) in
     let to : from + 1 + length (next ∷ bytes) ≡ from + length (byte ∷ next ∷ bytes) = omega arith in
-    inr (1, byte ∷ [], next ∷ bytes, ap (λ n. record { p = p; act = Load n 1 }) is, refl, refl, subst P to (loads_run p va (from + 1) (at + 1) (next ∷ bytes) (omega (arith, is, below)) (omega (arith, below))))
+    inr (
+      1,
+      byte ∷ [],
+      next ∷ bytes,
+      ap (λ n. record { p = p; act = Load n 1 }) is,
+      refl,
+      refl,
+      subst P to (loads_run p va (from + 1) (at + 1) (next ∷ bytes) (omega (arith, is, below)) (omega (arith, below))),
+    )
 
-pub stores_run : (p va from at : ℕ) (bytes : List ℕ) → at ≡ behind va from → at + length bytes ≤ 2 ^ 64 → AreStores p va from (store_steps p at bytes) (store_replies bytes) bytes
+pub stores_run : (p va from at : ℕ) (bytes : List ℕ) → at ≡ behind va from → at + length bytes ≤ 2 ^ 64
+    → AreStores p va from (store_steps p at bytes) (store_replies bytes) bytes
 stores_run p va from at [] is below = refl
 stores_run p va from at (byte ∷ []) is below =
     inr (byte ∷ [], [], ap (λ n. record { p = p; act = Store n (byte ∷ []) }) is, refl, refl, refl)
 stores_run p va from at (byte ∷ next ∷ bytes) is below =
-    inr (byte ∷ [], next ∷ bytes, ap (λ n. record { p = p; act = Store n (byte ∷ []) }) is, refl, refl, stores_run p va (from + 1) (at + 1) (next ∷ bytes) (omega (arith, is, below)) (omega (arith, below)))
+    inr (
+      byte ∷ [],
+      next ∷ bytes,
+      ap (λ n. record { p = p; act = Store n (byte ∷ []) }) is,
+      refl,
+      refl,
+      stores_run p va (from + 1) (at + 1) (next ∷ bytes) (omega (arith, is, below)) (omega (arith, below)),
+    )
 
 -- ---- what stays
 
 module _ {D : Type 0} (disk : Ghosts D) where
-  run_keeps : (p at : ℕ) (bytes : List ℕ) (old new : Whole D) → StepsTaken disk old (store_steps p at bytes) (store_replies bytes) new → KeepsPhases old.state new.state
-  run_keeps p at [] old new taken = subst (λ (m : Whole D). KeepsPhases old.state m.state) (sym taken) (keeps_none old.state)
+  run_keeps : (p at : ℕ) (bytes : List ℕ) (old new : Whole D)
+      → StepsTaken disk old (store_steps p at bytes) (store_replies bytes) new → KeepsPhases old.state new.state
+  run_keeps p at [] old new taken =
+      subst (λ (m : Whole D). KeepsPhases old.state m.state) (sym taken) (keeps_none old.state)
   run_keeps p at (byte ∷ bytes) old new (mid, here, rest) =
-      keeps_then old.state mid.state new.state (store_keeps old.state here.answered.0 p at (byte ∷ []) Stored mid.state here.answered.1 here.answered.2) (run_keeps p (at + 1) bytes mid new rest)
+      keeps_then old.state mid.state new.state (store_keeps old.state here.answered.0 p at
+      (byte ∷ []) Stored mid.state here.answered.1 here.answered.2) (run_keeps p (at + 1) bytes mid new rest)
 
   module _ (old new : Whole D) (before after : Notes) (p at : ℕ) (bytes : List ℕ) where
-    pub stores_run_keep : Makes disk old before (store_steps p at bytes) (store_replies bytes) new after → KeepsPhases old.state new.state
+    pub stores_run_keep : Makes disk old before (store_steps p at bytes) (store_replies bytes) new after
+        → KeepsPhases old.state new.state
     stores_run_keep makes = run_keeps p at bytes old new makes.taken
 
   -- ---- more of a range
 
-  pub loads_on : (machine : Whole D) (notes : Notes) (p va done at more : ℕ) (run old new : List ℕ) → at ≡ behind va done → at + length run ≤ 2 ^ 64 → more ≡ length run → new ≡ old ++ run
-      → Makes disk machine notes (load_steps p at run) (load_replies run) machine notes → LoadsOn disk machine notes p va done more old new
+  pub loads_on : (machine : Whole D) (notes : Notes) (p va done at more : ℕ) (run old new : List ℕ)
+      → at ≡ behind va done → at + length run ≤ 2 ^ 64 → more ≡ length run → new ≡ old ++ run
+      → Makes disk machine notes (load_steps p at run) (load_replies run) machine notes
+      → LoadsOn disk machine notes p va done more old new
   loads_on machine notes p va done at more run old new is below long grown makes =
       let P : ℕ → Type 0 = λ n. AreLoads p va done (done + n) (load_steps p at run) (load_replies run) run in
       record {
@@ -90,26 +117,38 @@ module _ {D : Type 0} (disk : Ghosts D) where
         new_is = grown;
       }
 
-  pub loads_on_more : (old mid : Whole D) (before between : Notes) (p va done more : ℕ) (bytes now : List ℕ) → MakesStepsThat disk old before (LoadsRange p va done bytes) mid between → LoadsOn disk mid between p va done more bytes now
+  pub loads_on_more : (old mid : Whole D) (before between : Notes) (p va done more : ℕ) (bytes now : List ℕ)
+      → MakesStepsThat disk old before (LoadsRange p va done bytes) mid between
+      → LoadsOn disk mid between p va done more bytes now
       → MakesStepsThat disk old before (LoadsRange p va (done + more) now) mid between
   loads_on_more old mid before between p va done more bytes now first on =
-      let P : List ℕ → Type 0 = λ b. AreLoads p va 0 (done + more) (first.steps ++ on.steps) (first.replies ++ on.replies) b in
+      let P : List ℕ → Type 0 =
+      λ b. AreLoads p va 0 (done + more) (first.steps ++ on.steps) (first.replies ++ on.replies) b in
       record {
         steps = first.steps ++ on.steps;
         replies = first.replies ++ on.replies;
-        makes = makes_then disk old mid mid before between between first.steps first.replies on.steps on.replies first.makes on.makes;
-        holds = subst P (sym on.new_is) (loads_then p va 0 done (done + more) first.steps first.replies bytes on.steps on.replies on.bytes first.holds on.loads);
+        makes = makes_then disk old mid mid before between between first.steps first.replies on.steps
+            on.replies first.makes on.makes;
+        holds = subst P (sym on.new_is) (loads_then p va 0 done
+            (done + more) first.steps first.replies bytes on.steps on.replies on.bytes first.holds on.loads);
       }
 
-  pub stores_run_more : (old mid new : Whole D) (before between after : Notes) (p va done at : ℕ) (bytes run now : List ℕ) → length bytes ≡ done → at ≡ behind va done → at + length run ≤ 2 ^ 64 → bytes ++ run ≡ now
-      → MakesStepsThat disk old before (StoresRange p va bytes) mid between → Makes disk mid between (store_steps p at run) (store_replies run) new after → MakesStepsThat disk old before (StoresRange p va now) new after
+  pub stores_run_more : (old mid new : Whole D) (before between after : Notes) (p va done at : ℕ)
+      (bytes run now : List ℕ) → length bytes ≡ done → at ≡ behind va done → at + length run ≤ 2 ^ 64
+      → bytes ++ run ≡ now
+      → MakesStepsThat disk old before (StoresRange p va bytes) mid between
+      → Makes disk mid between (store_steps p at run) (store_replies run) new after
+      → MakesStepsThat disk old before (StoresRange p va now) new after
   stores_run_more old mid new before between after p va done at bytes run now long is below all first makes =
       let P : ℕ → Type 0 = λ n. AreStores p va n (store_steps p at run) (store_replies run) run in
-      let Q : List ℕ → Type 0 = λ b. AreStores p va 0 (first.steps ++ store_steps p at run) (first.replies ++ store_replies run) b in
+      let Q : List ℕ → Type 0 =
+      λ b. AreStores p va 0 (first.steps ++ store_steps p at run) (first.replies ++ store_replies run) b in
       let here : done ≡ 0 + length bytes = omega (arith, long) in
       record {
         steps = first.steps ++ store_steps p at run;
         replies = first.replies ++ store_replies run;
-        makes = makes_then disk old mid new before between after first.steps first.replies (store_steps p at run) (store_replies run) first.makes makes;
-        holds = subst Q all (stores_then p va 0 first.steps first.replies bytes (store_steps p at run) (store_replies run) run first.holds (subst P here (stores_run p va done at run is below)));
+        makes = makes_then disk old mid new before between after first.steps first.replies (store_steps p at run)
+            (store_replies run) first.makes makes;
+        holds = subst Q all (stores_then p va 0 first.steps first.replies bytes (store_steps p at run)
+            (store_replies run) run first.holds (subst P here (stores_run p va done at run is below)));
       }

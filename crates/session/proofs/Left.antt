@@ -1,6 +1,7 @@
--- How many steps the write-outs have left at most: each step of theirs that is made leaves fewer, and no step beside them
--- adds one. So a request that makes them comes to an end.
-use Rattle.std.proofs.Common.{◌≡◌, ◌≢◌, inl, inr, ◌<◌, ◌≤◌, ℕ, suc, ◌+◌, ◌-◌, Bool, true, false, if◌then◌else◌, List, [], ◌∷◌, length, drop, Option, Some, None, refl, sym, ◌∙◌, ap, subst, arith}
+-- How many steps the write-outs have left at most: each step of theirs that is made leaves fewer, and no step beside
+-- them adds one. So a request that makes them comes to an end.
+use Rattle.std.proofs.Common.{◌≡◌, ◌≢◌, inl, inr, ◌<◌, ◌≤◌, ℕ, suc, ◌+◌, ◌-◌, Bool, true, false, if◌then◌else◌}
+use Rattle.std.proofs.Common.{List, [], ◌∷◌, length, drop, Option, Some, None, refl, sym, ◌∙◌, ap, subst, arith}
 use Rattle.std.proofs.lemmas.Bool.{false≢true}
 use Rattle.std.proofs.lemmas.Option.{slice_get_within}
 use Rattle.std.specs.Option.{option_map_or}
@@ -50,12 +51,14 @@ one_fewer w some = go (next_stage w) refl
     go None is = absurd (some (ap (λ o. option_map_or (answer_at w.batch.mark) o flushed.Broken) is))
     go (Some stage) is = omega (arith, staged (length w.batch.homes) w.steps stage is)
 
-advanced_fewer : (batches : List WriteOut) → option_map_or answer_of (current batches) flushed.Broken ≢ flushed.Broken → all_left (advanced batches) < all_left batches
+advanced_fewer : (batches : List WriteOut) → option_map_or answer_of (current batches) flushed.Broken ≢ flushed.Broken
+    → all_left (advanced batches) < all_left batches
 advanced_fewer [] some = absurd (some refl)
 advanced_fewer (w ∷ newer) some = go (has_uncommitted newer) some (advanced_fewer newer)
   where
     go : (b : Bool) → option_map_or answer_of (if b then current newer else Some w) flushed.Broken ≢ flushed.Broken
-        → (option_map_or answer_of (current newer) flushed.Broken ≢ flushed.Broken → all_left (advanced newer) < all_left newer)
+        → (option_map_or answer_of (current newer) flushed.Broken ≢ flushed.Broken
+        → all_left (advanced newer) < all_left newer)
         → all_left (if b then w ∷ advanced newer else advanced_of w ∷ newer) < all_left (w ∷ newer)
     go true some more = omega (arith, more some)
     go false some more = omega (arith, one_fewer w some)
@@ -65,22 +68,31 @@ dropped_fewer [] some = absurd (some refl)
 dropped_fewer (w ∷ newer) some = omega arith
 
 -- the current write-out answers, where the machine isn't broken
-answered_current : (outs : WriteOutsValue) (answer : Flushed) → next_answer outs ≡ answer → answer ≢ flushed.Broken → option_map_or answer_of (current outs.batches) flushed.Broken ≢ flushed.Broken
+answered_current : (outs : WriteOutsValue) (answer : Flushed) → next_answer outs ≡ answer → answer ≢ flushed.Broken
+    → option_map_or answer_of (current outs.batches) flushed.Broken ≢ flushed.Broken
 answered_current outs answer is some = go outs.broken is
   where
-    go : (b : Bool) → (if b then flushed.Broken else option_map_or answer_of (current outs.batches) flushed.Broken) ≡ answer → option_map_or answer_of (current outs.batches) flushed.Broken ≢ flushed.Broken
+    go : (b : Bool)
+        → (if b then flushed.Broken else option_map_or answer_of (current outs.batches) flushed.Broken) ≡ answer
+        → option_map_or answer_of (current outs.batches) flushed.Broken ≢ flushed.Broken
     go true is none = some (sym is)
     go false is none = some (sym is ∙ none)
 
 module _ (s : State) (d : List ℕ) (p : ℕ) (new : State) (d' : List ℕ) where
-  made_left : (answer : Flushed) → FlushMade s d p answer new d' → left_of new ≡ all_left (batches_after answer s.write_outs.batches)
+  made_left : (answer : Flushed) → FlushMade s d p answer new d'
+      → left_of new ≡ all_left (batches_after answer s.write_outs.batches)
   made_left answer made = ap left_of made.done ∙ ap (λ a. all_left (batches_after a s.write_outs.batches)) made.answered
 
   -- a step of the write-outs that was made
-  pub flush_fewer : (reply : Reply) → Acts s d p acts.Flush reply new d' → tells_flushed reply ≡ true → left_of new < left_of s
-  flush_fewer replies.Going made is = subst (λ n. n < left_of s) (sym (made_left flushed.Going made)) (advanced_fewer s.write_outs.batches (answered_current s.write_outs flushed.Going made.answered (λ e. cc)))
-  flush_fewer (replies.Committed number) made is = subst (λ n. n < left_of s) (sym (made_left (flushed.Committed number) made)) (advanced_fewer s.write_outs.batches (answered_current s.write_outs (flushed.Committed number) made.answered (λ e. cc)))
-  flush_fewer (replies.Done number) made is = subst (λ n. n < left_of s) (sym (made_left (flushed.Done number) made)) (dropped_fewer s.write_outs.batches made.some)
+  pub flush_fewer : (reply : Reply) → Acts s d p acts.Flush reply new d' → tells_flushed reply ≡ true
+      → left_of new < left_of s
+  flush_fewer replies.Going made is = subst (λ n. n < left_of s) (sym (made_left flushed.Going made))
+      (advanced_fewer s.write_outs.batches (answered_current s.write_outs flushed.Going made.answered (λ e. cc)))
+  flush_fewer (replies.Committed number) made is =
+      subst (λ n. n < left_of s) (sym (made_left (flushed.Committed number) made)) (advanced_fewer s.write_outs.batches
+      (answered_current s.write_outs (flushed.Committed number) made.answered (λ e. cc)))
+  flush_fewer (replies.Done number) made is = subst (λ n. n < left_of s) (sym (made_left (flushed.Done number) made))
+      (dropped_fewer s.write_outs.batches made.some)
   flush_fewer reply made is = absurd (false≢true is)
 
   same_left : new ≡ s → left_of new ≤ left_of s
@@ -108,23 +120,27 @@ module _ (s : State) (d : List ℕ) (p : ℕ) (new : State) (d' : List ℕ) wher
   resume_keeps (replies.Refused why) ((reason, done), same) = same_left done
   resume_keeps reply ((reason, it), same) = absurd it
 
-  fix_keeps : (va : ℕ) (write : Bool) (reply : Reply) → Acts s d p (acts.Fix va write) reply new d' → left_of new ≤ left_of s
+  fix_keeps : (va : ℕ) (write : Bool) (reply : Reply) → Acts s d p (acts.Fix va write) reply new d'
+      → left_of new ≤ left_of s
   fix_keeps va write replies.Fixed ((reason, made), same) = omega (arith, ap left_of made.done)
   fix_keeps va write (replies.Refused why) ((reason, done), same) = same_left done
   fix_keeps va write reply ((reason, it), same) = absurd it
 
-  reclaim_keeps : (file page : ℕ) (reply : Reply) → Acts s d p (acts.Reclaim file page) reply new d' → left_of new ≤ left_of s
+  reclaim_keeps : (file page : ℕ) (reply : Reply) → Acts s d p (acts.Reclaim file page) reply new d'
+      → left_of new ≤ left_of s
   reclaim_keeps file page replies.Begun ((reason, (there, done)), same) = omega (arith, ap left_of done)
   reclaim_keeps file page replies.Nothing ((reason, (gone, done)), same) = same_left done
   reclaim_keeps file page (replies.Refused why) ((reason, done), same) = same_left done
   reclaim_keeps file page reply ((reason, it), same) = absurd it
 
-  change_keeps : (reply : Reply) → tells_reclaim reply ≡ true → Acts s d p acts.Change reply new d' → left_of new ≤ left_of s
+  change_keeps : (reply : Reply) → tells_reclaim reply ≡ true → Acts s d p acts.Change reply new d'
+      → left_of new ≤ left_of s
   change_keeps replies.Reclaimed is ((reason, made), same) = omega (arith, ap left_of made.done)
   change_keeps replies.Kept is ((reason, made), same) = omega (arith, ap left_of made.done)
   change_keeps reply is rule = absurd (false≢true is)
 
-  aside_keeps : (act : Act) (reply : Reply) → is_aside act reply ≡ true → Acts s d p act reply new d' → left_of new ≤ left_of s
+  aside_keeps : (act : Act) (reply : Reply) → is_aside act reply ≡ true → Acts s d p act reply new d'
+      → left_of new ≤ left_of s
   aside_keeps (acts.Load va count) reply is rule = omega (arith, ap left_of rule.0.2)
   aside_keeps (acts.Store va bytes) reply is rule = omega (arith, ap left_of rule.0.2)
   aside_keeps (acts.Fix va write) reply is rule = fix_keeps va write reply rule
@@ -135,7 +151,8 @@ module _ (s : State) (d : List ℕ) (p : ℕ) (new : State) (d' : List ℕ) wher
   aside_keeps acts.Flush reply is rule = flush_keeps reply rule
   aside_keeps act reply is rule = absurd (false≢true is)
 
-  later_keeps : (file to : ℕ) (reply : Reply) → tells_later reply ≡ true → Acts s d p (acts.SetLength file to) reply new d' → left_of new ≤ left_of s
+  later_keeps : (file to : ℕ) (reply : Reply) → tells_later reply ≡ true
+      → Acts s d p (acts.SetLength file to) reply new d' → left_of new ≤ left_of s
   later_keeps file to (replies.Refused why) is ((reason, done), same) = same_left done
   later_keeps file to reply is rule = absurd (false≢true is)
 
@@ -145,42 +162,63 @@ module _ {D : Type 0} (disk : Ghosts D) where
   abbrev LeftAfter : Whole D → Whole D → Type 0
   LeftAfter old new = left_of new.state ≤ left_of old.state
 
-  pub flushed_fewer : (old new : Whole D) (before after : Notes) (p : ℕ) (reply : Reply) → Makes disk old before (flush_by p ∷ []) (reply ∷ []) new after → tells_flushed reply ≡ true → left_of new.state < left_of old.state
+  pub flushed_fewer : (old new : Whole D) (before after : Notes) (p : ℕ) (reply : Reply)
+      → Makes disk old before (flush_by p ∷ []) (reply ∷ []) new after → tells_flushed reply ≡ true
+      → left_of new.state < left_of old.state
   flushed_fewer old new before after p reply makes is =
       let (mid, here, ends) = makes.taken in
-      subst (λ (m : Whole D). left_of m.state < left_of old.state) (sym ends) (flush_fewer old.state here.answered.0 p mid.state here.answered.1 reply here.answered.2 is)
+      subst (λ (m : Whole D). left_of m.state < left_of old.state) (sym ends)
+      (flush_fewer old.state here.answered.0 p mid.state here.answered.1 reply here.answered.2 is)
 
   -- an attempt to begin a mark that is busy
-  pub busy_keeps : (old new : Whole D) (before after : Notes) (p : ℕ) → Makes disk old before (msync_by p ∷ []) (replies.Refused refusals.Busy ∷ []) new after → LeftAfter old new
+  pub busy_keeps : (old new : Whole D) (before after : Notes) (p : ℕ)
+      → Makes disk old before (msync_by p ∷ []) (replies.Refused refusals.Busy ∷ []) new after → LeftAfter old new
   busy_keeps old new before after p makes =
       let (mid, here, ends) = makes.taken in
       omega (arith, ap (λ (m : Whole D). left_of m.state) ends, ap left_of here.answered.2.0.1)
 
-  aside_taken : (old mid : Whole D) (step : Step) (reply : Reply) → is_aside step.act reply ≡ true → StepTaken disk old step reply mid → LeftAfter old mid
-  aside_taken old mid step reply is here = aside_keeps old.state here.answered.0 step.p mid.state here.answered.1 step.act reply is here.answered.2
+  aside_taken : (old mid : Whole D) (step : Step) (reply : Reply) → is_aside step.act reply ≡ true
+      → StepTaken disk old step reply mid → LeftAfter old mid
+  aside_taken old mid step reply is here =
+      aside_keeps old.state here.answered.0 step.p mid.state here.answered.1 step.act reply is here.answered.2
 
-  later_taken : (old mid : Whole D) (p file to : ℕ) (step : Step) (reply : Reply) → step ≡ set_length_by p file to → tells_later reply ≡ true → StepTaken disk old step reply mid → LeftAfter old mid
+  later_taken : (old mid : Whole D) (p file to : ℕ) (step : Step) (reply : Reply) → step ≡ set_length_by p file to
+      → tells_later reply ≡ true → StepTaken disk old step reply mid → LeftAfter old mid
   later_taken old mid p file to step reply is later here =
       let P : Step → Type 0 = λ s. Acts old.state here.answered.0 s.p s.act reply mid.state here.answered.1 in
       later_keeps old.state here.answered.0 p mid.state here.answered.1 file to reply later (subst P is here.answered.2)
 
-  try_taken : (old mid : Whole D) (p file to : ℕ) (step : Step) (reply : Reply) → IsTry p file to step reply → StepTaken disk old step reply mid → LeftAfter old mid
+  try_taken : (old mid : Whole D) (p file to : ℕ) (step : Step) (reply : Reply) → IsTry p file to step reply
+      → StepTaken disk old step reply mid → LeftAfter old mid
   try_taken old mid p file to step reply (inl (is, later)) here = later_taken old mid p file to step reply is later here
   try_taken old mid p file to step reply (inr aside) here = aside_taken old mid step reply aside.0 here
 
   -- attempts to begin to set a length, the last of which is busy
-  attempts_keep : (old new : Whole D) (p file to : ℕ) (steps : List Step) (told : List Reply) → AttemptsLength p file to (replies.Refused refusals.Busy) steps told → StepsTaken disk old steps told new → LeftAfter old new
+  attempts_keep : (old new : Whole D) (p file to : ℕ) (steps : List Step) (told : List Reply)
+      → AttemptsLength p file to (replies.Refused refusals.Busy) steps told → StepsTaken disk old steps told new
+      → LeftAfter old new
   attempts_keep old new p file to (step ∷ steps) (reply ∷ told) (inl (try, more)) (mid, here, rest) =
-      omega (arith, try_taken old mid p file to step reply try here, attempts_keep mid new p file to steps told more rest)
+      omega (
+        arith,
+        try_taken old mid p file to step reply try here,
+        attempts_keep mid new p file to steps told more rest,
+      )
   attempts_keep old new p file to (step ∷ steps) (reply ∷ told) (inr (is, busy, inl (none, silent))) (mid, here, rest) =
       let S : List Step → Type 0 = λ l. StepsTaken disk mid l told new in
       let T : List Reply → Type 0 = λ l. StepsTaken disk mid [] l new in
       let ends : new ≡ mid = subst T silent (subst S none rest) in
-      omega (arith, ap (λ (m : Whole D). left_of m.state) ends, later_taken old mid p file to step reply is (ap tells_later busy) here)
+      omega (
+        arith,
+        ap (λ (m : Whole D). left_of m.state) ends,
+        later_taken old mid p file to step reply is (ap tells_later busy) here,
+      )
   attempts_keep old new p file to (step ∷ steps) (reply ∷ told) (inr (is, busy, inr (other, vain))) taken = absurd (cc)
   attempts_keep old new p file to [] [] it taken = absurd it
   attempts_keep old new p file to [] (reply ∷ told) it taken = absurd it
   attempts_keep old new p file to (step ∷ steps) [] it taken = absurd it
 
-  pub attempts_left : (old new : Whole D) (before after : Notes) (p file to : ℕ) → MakesStepsThat disk old before (AttemptsLength p file to (replies.Refused refusals.Busy)) new after → LeftAfter old new
-  attempts_left old new before after p file to it = attempts_keep old new p file to it.steps it.replies it.holds it.makes.taken
+  pub attempts_left : (old new : Whole D) (before after : Notes) (p file to : ℕ)
+      → MakesStepsThat disk old before (AttemptsLength p file to (replies.Refused refusals.Busy)) new after
+      → LeftAfter old new
+  attempts_left old new before after p file to it =
+      attempts_keep old new p file to it.steps it.replies it.holds it.makes.taken

@@ -6,7 +6,8 @@ use Rattle.machine.specs.declared.act.Reply.{Reply}
 use Rattle.machine.specs.declared.act.Reply.TheVariants.{Begun, Nothing, Refused}
 use Rattle.machine.specs.declared.act.Step.{Step}
 use Rattle.session.specs.Ends.{AreFruitless}
-use Rattle.session.specs.Lengths.{tells_begun, tells_later, tells_refused, flush_by, set_length_by, AnswersChange, IsTry, IsLeft, ChangesLength, RefusesLength}
+use Rattle.session.specs.Lengths.{tells_begun, tells_later, tells_refused, flush_by, set_length_by}
+use Rattle.session.specs.Lengths.{AnswersChange, IsTry, IsLeft, ChangesLength, RefusesLength}
 use Rattle.session.specs.Steps.{IsAside, AreAside}
 use Rattle.session.specs.inside.Made.{AreTries, BeginsLength, AttemptsLength}
 use Rattle.session.proofs.Phases.{begun_is}
@@ -26,15 +27,21 @@ module _ (p file to : ℕ) where
 
   -- ---- it is begun
 
-  pub begins_later : (steps : List Step) (replies : List Reply) (steps' : List Step) (replies' : List Reply) → AreTries p file to steps replies → BeginsLength p file to steps' replies' → BeginsLength p file to (steps ++ steps') (replies ++ replies')
+  pub begins_later : (steps : List Step) (replies : List Reply) (steps' : List Step) (replies' : List Reply)
+      → AreTries p file to steps replies → BeginsLength p file to steps' replies'
+      → BeginsLength p file to (steps ++ steps') (replies ++ replies')
   begins_later [] [] steps' replies' first later = later
-  begins_later (step ∷ steps) (reply ∷ replies) steps' replies' first later = inl (first.0, begins_later steps replies steps' replies' first.1 later)
+  begins_later (step ∷ steps) (reply ∷ replies) steps' replies' first later =
+      inl (first.0, begins_later steps replies steps' replies' first.1 later)
   begins_later [] (reply ∷ replies) steps' replies' first later = absurd first
   begins_later (step ∷ steps) [] steps' replies' first later = absurd first
 
   -- and changed
-  pub begins_then : (answer : Reply) (steps : List Step) (replies : List Reply) (steps' : List Step) (replies' : List Reply) → BeginsLength p file to steps replies → AnswersChange p answer steps' replies' → ChangesLength p file to answer (steps ++ steps') (replies ++ replies')
-  begins_then answer (step ∷ steps) (reply ∷ replies) steps' replies' (inl (try, more)) later = inl (try, begins_then answer steps replies steps' replies' more later)
+  pub begins_then : (answer : Reply) (steps : List Step) (replies : List Reply) (steps' : List Step)
+      (replies' : List Reply) → BeginsLength p file to steps replies → AnswersChange p answer steps' replies'
+      → ChangesLength p file to answer (steps ++ steps') (replies ++ replies')
+  begins_then answer (step ∷ steps) (reply ∷ replies) steps' replies' (inl (try, more)) later =
+      inl (try, begins_then answer steps replies steps' replies' more later)
   begins_then answer (step ∷ steps) (reply ∷ replies) steps' replies' (inr (is, told, none, silent)) later =
       let P : List Step → Type 0 = λ l. AnswersChange p answer (l ++ steps') (replies ++ replies') in
       let Q : List Reply → Type 0 = λ l. AnswersChange p answer steps' (l ++ replies') in
@@ -45,9 +52,12 @@ module _ (p file to : ℕ) where
 
   -- ---- attempts
 
-  pub attempts_later : (answer : Reply) (steps : List Step) (replies : List Reply) (steps' : List Step) (replies' : List Reply) → AreTries p file to steps replies → AttemptsLength p file to answer steps' replies' → AttemptsLength p file to answer (steps ++ steps') (replies ++ replies')
+  pub attempts_later : (answer : Reply) (steps : List Step) (replies : List Reply) (steps' : List Step)
+      (replies' : List Reply) → AreTries p file to steps replies → AttemptsLength p file to answer steps' replies'
+      → AttemptsLength p file to answer (steps ++ steps') (replies ++ replies')
   attempts_later answer [] [] steps' replies' first later = later
-  attempts_later answer (step ∷ steps) (reply ∷ replies) steps' replies' first later = inl (first.0, attempts_later answer steps replies steps' replies' first.1 later)
+  attempts_later answer (step ∷ steps) (reply ∷ replies) steps' replies' first later =
+      inl (first.0, attempts_later answer steps replies steps' replies' first.1 later)
   attempts_later answer [] (reply ∷ replies) steps' replies' first later = absurd first
   attempts_later answer (step ∷ steps) [] steps' replies' first later = absurd first
 
@@ -58,41 +68,55 @@ module _ (p file to : ℕ) where
   abbrev pub IsAttempt : Reply → List Step → List Reply → Type 0
   IsAttempt answer steps replies = (steps ≡ set_length_by p file to ∷ []) × (replies ≡ answer ∷ [])
 
-  pub attempts_first : (answer : Reply) → answer ≡ Refused NoFrame → (steps : List Step) (replies : List Reply) (steps' : List Step) (replies' : List Reply) → IsAttempt answer steps replies → AreFruitless p steps' replies' → AttemptsLength p file to answer (steps ++ steps') (replies ++ replies')
+  pub attempts_first : (answer : Reply) → answer ≡ Refused NoFrame
+      → (steps : List Step) (replies : List Reply) (steps' : List Step) (replies' : List Reply)
+      → IsAttempt answer steps replies → AreFruitless p steps' replies'
+      → AttemptsLength p file to answer (steps ++ steps') (replies ++ replies')
   attempts_first answer is steps replies steps' replies' first vain =
       let S : List Step → Type 0 = λ l. AttemptsLength p file to answer (l ++ steps') (replies ++ replies') in
-      let T : List Reply → Type 0 = λ l. AttemptsLength p file to answer (set_length_by p file to ∷ steps') (l ++ replies') in
+      let T : List Reply → Type 0 =
+      λ l. AttemptsLength p file to answer (set_length_by p file to ∷ steps') (l ++ replies') in
       subst S (sym first.0) (subst T (sym first.1) (inr (refl, refl, inr (is, vain))))
 
   -- an attempt that is refused for a while is made again
-  pub tries_one : (reply : Reply) → tells_later reply ≡ true → AreTries p file to (set_length_by p file to ∷ []) (reply ∷ [])
+  pub tries_one : (reply : Reply) → tells_later reply ≡ true
+      → AreTries p file to (set_length_by p file to ∷ []) (reply ∷ [])
   tries_one reply later = (inl (refl, later), tt)
 
   -- a step of the write-outs
   pub tries_flush : (reply : Reply) → AreTries p file to (flush_by p ∷ []) (reply ∷ [])
   tries_flush reply = (inr (refl, refl), tt)
 
-  tries_step : (step : Step) (reply : Reply) → step ≡ set_length_by p file to → tells_later reply ≡ true → IsTry p file to step reply
+  tries_step : (step : Step) (reply : Reply) → step ≡ set_length_by p file to → tells_later reply ≡ true
+      → IsTry p file to step reply
   tries_step step reply is later = inl (is, later)
 
-  pub tries_attempted : (answer : Reply) → tells_later answer ≡ true → (steps : List Step) (replies : List Reply) → AttemptsLength p file to answer steps replies → AreTries p file to steps replies
-  tries_attempted answer later (step ∷ steps) (reply ∷ replies) (inl (try, more)) = (try, tries_attempted answer later steps replies more)
+  pub tries_attempted : (answer : Reply) → tells_later answer ≡ true → (steps : List Step) (replies : List Reply)
+      → AttemptsLength p file to answer steps replies → AreTries p file to steps replies
+  tries_attempted answer later (step ∷ steps) (reply ∷ replies) (inl (try, more)) =
+      (try, tries_attempted answer later steps replies more)
   tries_attempted answer later (step ∷ steps) (reply ∷ replies) (inr (is, told, inl (none, silent))) =
       let S : List Step → Type 0 = λ l. AreTries p file to l replies in
       let T : List Reply → Type 0 = λ l. AreTries p file to [] l in
       (tries_step step reply is (ap tells_later told ∙ later), subst S (sym none) (subst T (sym silent) tt))
-  tries_attempted answer later (step ∷ steps) (reply ∷ replies) (inr (is, told, inr (no-frame, vain))) =
-      (tries_step step reply is (ap tells_later told ∙ later), tries_aside steps replies (vain_aside p steps replies vain))
+  tries_attempted answer later (step ∷ steps) (reply ∷ replies) (inr (is, told, inr (no-frame, vain))) = (
+    tries_step step reply is (ap tells_later told ∙ later),
+    tries_aside steps replies (vain_aside p steps replies vain),
+  )
   tries_attempted answer later [] [] it = absurd it
   tries_attempted answer later [] (reply ∷ replies) it = absurd it
   tries_attempted answer later (step ∷ steps) [] it = absurd it
 
   -- ---- the last one begins it
 
-  pub begins_attempted : (answer : Reply) → tells_begun answer ≡ true → (steps : List Step) (replies : List Reply) → AttemptsLength p file to answer steps replies → BeginsLength p file to steps replies
-  begins_attempted answer is (step ∷ steps) (reply ∷ replies) (inl (try, more)) = inl (try, begins_attempted answer is steps replies more)
-  begins_attempted answer is (step ∷ steps) (reply ∷ replies) (inr (attempt, told, inl (none, silent))) = inr (attempt, told ∙ begun_is answer is, none, silent)
-  begins_attempted answer is (step ∷ steps) (reply ∷ replies) (inr (attempt, told, inr (no-frame, vain))) = absurd (false≢true (ap tells_begun (sym no-frame) ∙ is))
+  pub begins_attempted : (answer : Reply) → tells_begun answer ≡ true → (steps : List Step) (replies : List Reply)
+      → AttemptsLength p file to answer steps replies → BeginsLength p file to steps replies
+  begins_attempted answer is (step ∷ steps) (reply ∷ replies) (inl (try, more)) =
+      inl (try, begins_attempted answer is steps replies more)
+  begins_attempted answer is (step ∷ steps) (reply ∷ replies) (inr (attempt, told, inl (none, silent))) =
+      inr (attempt, told ∙ begun_is answer is, none, silent)
+  begins_attempted answer is (step ∷ steps) (reply ∷ replies) (inr (attempt, told, inr (no-frame, vain))) =
+      absurd (false≢true (ap tells_begun (sym no-frame) ∙ is))
   begins_attempted answer is [] [] it = absurd it
   begins_attempted answer is [] (reply ∷ replies) it = absurd it
   begins_attempted answer is (step ∷ steps) [] it = absurd it
@@ -100,7 +124,8 @@ module _ (p file to : ℕ) where
   -- ---- or it isn't begun
 
   -- for good, or for want of frames
-  left_unbusy : (answer reply : Reply) → reply ≡ answer → tells_begun answer ≡ false → answer ≢ Refused Busy → (steps : List Step) (replies : List Reply) → steps ≡ [] → replies ≡ [] → IsLeft p answer reply steps replies
+  left_unbusy : (answer reply : Reply) → reply ≡ answer → tells_begun answer ≡ false → answer ≢ Refused Busy
+      → (steps : List Step) (replies : List Reply) → steps ≡ [] → replies ≡ [] → IsLeft p answer reply steps replies
   left_unbusy (Refused Busy) reply told vain other steps replies none silent = absurd (other refl)
   left_unbusy (Refused NoFrame) reply told vain other steps replies none silent =
       let S : List Step → Type 0 = λ l. AreFruitless p l replies in
@@ -110,36 +135,66 @@ module _ (p file to : ℕ) where
   left_unbusy Begun reply told vain other steps replies none silent = absurd (false≢true (sym vain))
   left_unbusy answer reply told vain other steps replies none silent = inl (told, refl, refl, none, silent)
 
-  pub refuses_attempted : (answer : Reply) → tells_begun answer ≡ false → answer ≢ Refused Busy → (steps : List Step) (replies : List Reply) → AttemptsLength p file to answer steps replies → RefusesLength p file to answer steps replies
-  refuses_attempted answer vain other (step ∷ steps) (reply ∷ replies) (inl (try, more)) = inl (try, refuses_attempted answer vain other steps replies more)
-  refuses_attempted answer vain other (step ∷ steps) (reply ∷ replies) (inr (is, told, inl (none, silent))) = inr (is, left_unbusy answer reply told vain other steps replies none silent)
-  refuses_attempted answer vain other (step ∷ steps) (reply ∷ replies) (inr (is, told, inr (no-frame, fruitless))) = inr (is, inr (inl (told ∙ no-frame, no-frame, fruitless)))
+  pub refuses_attempted : (answer : Reply) → tells_begun answer ≡ false → answer ≢ Refused Busy
+      → (steps : List Step) (replies : List Reply) → AttemptsLength p file to answer steps replies
+      → RefusesLength p file to answer steps replies
+  refuses_attempted answer vain other (step ∷ steps) (reply ∷ replies) (inl (try, more)) =
+      inl (try, refuses_attempted answer vain other steps replies more)
+  refuses_attempted answer vain other (step ∷ steps) (reply ∷ replies) (inr (is, told, inl (none, silent))) =
+      inr (is, left_unbusy answer reply told vain other steps replies none silent)
+  refuses_attempted answer vain other (step ∷ steps) (reply ∷ replies) (inr (is, told, inr (no-frame, fruitless))) =
+      inr (is, inr (inl (told ∙ no-frame, no-frame, fruitless)))
   refuses_attempted answer vain other [] [] it = absurd it
   refuses_attempted answer vain other [] (reply ∷ replies) it = absurd it
   refuses_attempted answer vain other (step ∷ steps) [] it = absurd it
 
   -- the write-outs have no step left, or the next one is refused
-  ends_busy : (answer reply : Reply) → ((reply ≡ Nothing) × (answer ≡ Refused Busy)) ⊎ ((reply ≡ answer) × (tells_refused answer ≡ true)) → (steps : List Step) (replies : List Reply) → AttemptsLength p file to (Refused Busy) steps replies
+  ends_busy : (answer reply : Reply)
+      → ((reply ≡ Nothing) × (answer ≡ Refused Busy)) ⊎ ((reply ≡ answer) × (tells_refused answer ≡ true))
+      → (steps : List Step) (replies : List Reply) → AttemptsLength p file to (Refused Busy) steps replies
       → RefusesLength p file to answer (steps ++ flush_by p ∷ []) (replies ++ reply ∷ [])
-  ends_busy answer reply why (step ∷ steps) (busy ∷ replies) (inl (try, more)) = inl (try, ends_busy answer reply why steps replies more)
+  ends_busy answer reply why (step ∷ steps) (busy ∷ replies) (inl (try, more)) =
+      inl (try, ends_busy answer reply why steps replies more)
   ends_busy answer reply (inl (nothing, is-busy)) (step ∷ steps) (busy ∷ replies) (inr (is, told, inl (none, silent))) =
-      inr (is, inr (inr (inl (told, is-busy, ap (λ l. l ++ flush_by p ∷ []) none, ap (λ l. l ++ reply ∷ []) silent ∙ ap (λ r. r ∷ []) nothing))))
+      inr (
+        is,
+        inr (inr (inl (
+          told,
+          is-busy,
+          ap (λ l. l ++ flush_by p ∷ []) none,
+          ap (λ l. l ++ reply ∷ []) silent ∙ ap (λ r. r ∷ []) nothing,
+        ))),
+      )
   ends_busy answer reply (inr (same, refused)) (step ∷ steps) (busy ∷ replies) (inr (is, told, inl (none, silent))) =
-      inr (is, inr (inr (inr (told, refused, ap (λ l. l ++ flush_by p ∷ []) none, ap (λ l. l ++ reply ∷ []) silent ∙ ap (λ r. r ∷ []) same))))
+      inr (
+        is,
+        inr (inr (inr (
+          told,
+          refused,
+          ap (λ l. l ++ flush_by p ∷ []) none,
+          ap (λ l. l ++ reply ∷ []) silent ∙ ap (λ r. r ∷ []) same,
+        ))),
+      )
   ends_busy answer reply why (step ∷ steps) (busy ∷ replies) (inr (is, told, inr (no-frame, vain))) = absurd (cc)
   ends_busy answer reply why [] [] it = absurd it
   ends_busy answer reply why [] (busy ∷ replies) it = absurd it
   ends_busy answer reply why (step ∷ steps) [] it = absurd it
 
-  pub refuses_busy : (answer reply : Reply) → ((reply ≡ Nothing) × (answer ≡ Refused Busy)) ⊎ ((reply ≡ answer) × (tells_refused answer ≡ true)) → (steps : List Step) (replies : List Reply) (steps' : List Step) (replies' : List Reply)
-      → AttemptsLength p file to (Refused Busy) steps replies → IsNext p reply steps' replies' → RefusesLength p file to answer (steps ++ steps') (replies ++ replies')
+  pub refuses_busy : (answer reply : Reply)
+      → ((reply ≡ Nothing) × (answer ≡ Refused Busy)) ⊎ ((reply ≡ answer) × (tells_refused answer ≡ true))
+      → (steps : List Step) (replies : List Reply) (steps' : List Step) (replies' : List Reply)
+      → AttemptsLength p file to (Refused Busy) steps replies → IsNext p reply steps' replies'
+      → RefusesLength p file to answer (steps ++ steps') (replies ++ replies')
   refuses_busy answer reply why steps replies steps' replies' busy next =
       let S : List Step → Type 0 = λ l. RefusesLength p file to answer (steps ++ l) (replies ++ replies') in
       let T : List Reply → Type 0 = λ l. RefusesLength p file to answer (steps ++ flush_by p ∷ []) (replies ++ l) in
       subst S (sym next.0) (subst T (sym next.1) (ends_busy answer reply why steps replies busy))
 
-  pub refuses_later : (answer : Reply) (steps : List Step) (replies : List Reply) (steps' : List Step) (replies' : List Reply) → AreTries p file to steps replies → RefusesLength p file to answer steps' replies' → RefusesLength p file to answer (steps ++ steps') (replies ++ replies')
+  pub refuses_later : (answer : Reply) (steps : List Step) (replies : List Reply) (steps' : List Step)
+      (replies' : List Reply) → AreTries p file to steps replies → RefusesLength p file to answer steps' replies'
+      → RefusesLength p file to answer (steps ++ steps') (replies ++ replies')
   refuses_later answer [] [] steps' replies' first later = later
-  refuses_later answer (step ∷ steps) (reply ∷ replies) steps' replies' first later = inl (first.0, refuses_later answer steps replies steps' replies' first.1 later)
+  refuses_later answer (step ∷ steps) (reply ∷ replies) steps' replies' first later =
+      inl (first.0, refuses_later answer steps replies steps' replies' first.1 later)
   refuses_later answer [] (reply ∷ replies) steps' replies' first later = absurd first
   refuses_later answer (step ∷ steps) [] steps' replies' first later = absurd first

@@ -1,5 +1,6 @@
 -- One file more is listed.
-use Rattle.std.proofs.Common.{◌≡◌, ℕ, zero, suc, ◌+◌, ◌<◌, arith, List, [], ◌∷◌, ◌++◌, length, map, take, Some, is_some, slice_get, slice_index, refl, sym, ◌∙◌, ap, true≢false}
+use Rattle.std.proofs.Common.{◌≡◌, ℕ, zero, suc, ◌+◌, ◌<◌, arith, List, [], ◌∷◌, ◌++◌, length, map, take}
+use Rattle.std.proofs.Common.{Some, is_some, slice_get, slice_index, refl, sym, ◌∙◌, ap, true≢false}
 use Rattle.std.proofs.lemmas.List.{map_push}
 
 some_is : {Y : Type 0} (x y : Y) → Some x ≡ Some y → x ≡ y
@@ -12,8 +13,10 @@ take_next (x ∷ ys) (suc i) y is =
     let on : suc i + 1 ≡ suc (i + 1) = omega arith in
     ap (λ n. take n (x ∷ ys)) on ∙ ap (λ l. x ∷ l) (take_next ys i y is)
 
-pub listed_more : {X Y : Type 0} (f : X → Y) (xs : List X) (x : X) (items : List X) (ys : List Y) (i : ℕ) → items ≡ xs ++ x ∷ [] → map f xs ≡ take i ys → slice_get ys i ≡ Some (f x) → map f items ≡ take (i + 1) ys
-listed_more f xs x items ys i is before next = ap (map f) is ∙ map_push f xs x ∙ ap (λ l. l ++ f x ∷ []) before ∙ sym (take_next ys i (f x) next)
+pub listed_more : {X Y : Type 0} (f : X → Y) (xs : List X) (x : X) (items : List X) (ys : List Y) (i : ℕ)
+    → items ≡ xs ++ x ∷ [] → map f xs ≡ take i ys → slice_get ys i ≡ Some (f x) → map f items ≡ take (i + 1) ys
+listed_more f xs x items ys i is before next =
+    ap (map f) is ∙ map_push f xs x ∙ ap (λ l. l ++ f x ∷ []) before ∙ sym (take_next ys i (f x) next)
 
 pub mapped_at : (f : ℕ → ℕ) (xs : List ℕ) (i : ℕ) → i < length xs → slice_get (map f xs) i ≡ Some (f (slice_index xs i))
 mapped_at f [] i within = absurd (omega (arith, within))

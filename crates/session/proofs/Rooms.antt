@@ -1,5 +1,6 @@
 -- Steps that may make a frame free, and how faults are served and ranges end.
-use Rattle.std.proofs.Common.{◌≡◌, inl, inr, ℕ, ◌/◌, ◌==◌, arith, Bool, true, false, not, List, [], ◌∷◌, ◌++◌, refl, sym, ◌∙◌, ap, subst, Contains}
+use Rattle.std.proofs.Common.{◌≡◌, inl, inr, ℕ, ◌/◌, ◌==◌, arith, Bool, true, false, not}
+use Rattle.std.proofs.Common.{List, [], ◌∷◌, ◌++◌, refl, sym, ◌∙◌, ap, subst, Contains}
 use Rattle.std.proofs.lemmas.Bool.{false≢true}
 use Rattle.std.proofs.lemmas.Bool.Decides.{nat_tests}
 use Rattle.std.proofs.lemmas.List.Elements.{Contains-append_left, Contains-append_right, Contains-push}
@@ -15,10 +16,12 @@ use Rattle.machine.specs.Rules.{Acts}
 use Rattle.machine.specs.Runs.{StepsTaken}
 use Rattle.machine.specs.State.{State, Whole}
 use Rattle.session.specs.declared.notes.Notes.{Notes}
-use Rattle.session.specs.Ends.{tells_fault, tells_kept, tells_reclaimed, is_access, is_access_at, is_served, is_for_room, AreForRoom, is_fruitless, AreFruitless, MakesRoom, IsUnserved, EndsRange}
+use Rattle.session.specs.Ends.{tells_fault, tells_kept, tells_reclaimed, is_access, is_access_at, is_served}
+use Rattle.session.specs.Ends.{is_for_room, AreForRoom, is_fruitless, AreFruitless, MakesRoom, IsUnserved, EndsRange}
 use Rattle.session.specs.Lengths.{AnswersChange, AreOthers, change_steps, change_replies, flush_by}
 use Rattle.session.specs.Ranges.{MakesStepsThat}
-use Rattle.session.specs.Steps.{Makes, is_aside, Passes, IsAside, IsMadeFor, AreAside, tells_bytes, tells_stored, tells_fixed, tells_reclaim}
+use Rattle.session.specs.Steps.{Makes, is_aside, Passes, IsAside, IsMadeFor, AreAside}
+use Rattle.session.specs.Steps.{tells_bytes, tells_stored, tells_fixed, tells_reclaim}
 use Rattle.session.specs.inside.Aside.{IsAccessFor, LoadsOrStores, Serves, IsUnservedAside, AnswersAfter, StopsAt}
 use Rattle.session.proofs.Each.{each_of_change, each_so, each_then}
 use Rattle.session.proofs.Stretches.{makes_then}
@@ -80,21 +83,31 @@ pub vain_aside : (p : ℕ) (steps : List Step) (told : List Reply) → AreFruitl
 vain_aside p steps told vain = are_aside p steps told (vain_room p steps told vain)
 
 -- no frame became free, and then one did or didn't
-pub makes_room_then : (p : ℕ) (made : Bool) (steps : List Step) (told : List Reply) (steps' : List Step) (told' : List Reply) → AreFruitless p steps told → MakesRoom p made steps' told' → MakesRoom p made (steps ++ steps') (told ++ told')
-makes_room_then p true steps told steps' told' first later = (each_then (Passes is_for_room p) steps told steps' told' (vain_room p steps told first) later.0, Contains-append_right told told' replies.Reclaimed later.1)
-makes_room_then p false steps told steps' told' first later = each_then (Passes is_fruitless p) steps told steps' told' first later
+pub makes_room_then : (p : ℕ) (made : Bool) (steps : List Step) (told : List Reply) (steps' : List Step)
+    (told' : List Reply) → AreFruitless p steps told → MakesRoom p made steps' told'
+    → MakesRoom p made (steps ++ steps') (told ++ told')
+makes_room_then p true steps told steps' told' first later = (
+  each_then (Passes is_for_room p) steps told steps' told' (vain_room p steps told first) later.0,
+  Contains-append_right told told' replies.Reclaimed later.1,
+)
+makes_room_then p false steps told steps' told' first later =
+    each_then (Passes is_fruitless p) steps told steps' told' first later
 
 pub flush_vain : (p : ℕ) (reply : Reply) → AreFruitless p (flush_by p ∷ []) (reply ∷ [])
 flush_vain p reply = ((refl, refl), tt)
 
-pub reclaim_vain : (p file page : ℕ) (reply : Reply) → AreFruitless p (record { p = p; act = acts.Reclaim file page } ∷ []) (reply ∷ [])
+pub reclaim_vain : (p file page : ℕ) (reply : Reply)
+    → AreFruitless p (record { p = p; act = acts.Reclaim file page } ∷ []) (reply ∷ [])
 reclaim_vain p file page reply = ((refl, refl), tt)
 
 -- ---- a page is taken out
 
 -- what holds of the steps and replies of a change
-pub change_has : (P : List Step → List Reply → Type 0) (p : ℕ) (answer : Reply) (steps : List Step) (replies : List Reply) → (it : AnswersChange p answer steps replies) → P (change_steps p it.others) (change_replies answer it.others) → P steps replies
-change_has P p answer steps replies it holds = subst (P steps) (sym it.replies_are) (subst (λ (l : List Step). P l (change_replies answer it.others)) (sym it.steps_are) holds)
+pub change_has : (P : List Step → List Reply → Type 0) (p : ℕ) (answer : Reply) (steps : List Step)
+    (replies : List Reply) → (it : AnswersChange p answer steps replies)
+    → P (change_steps p it.others) (change_replies answer it.others) → P steps replies
+change_has P p answer steps replies it holds = subst (P steps) (sym it.replies_are)
+    (subst (λ (l : List Step). P l (change_replies answer it.others)) (sym it.steps_are) holds)
 
 -- the change of a reclaim, which is answered so
 change_vain : (p : ℕ) (answer : Reply) (others : List ℕ) → AreOthers p others → tells_kept answer ≡ true
@@ -111,18 +124,31 @@ change_room p answer others differ is = each_of_change (Passes is_for_room p) p 
 change_told : (answer : Reply) (others : List ℕ) → Contains (change_replies answer others) answer
 change_told answer [] = Contains-push [] answer
 change_told answer (other ∷ others) =
-    Contains-append_right (replies.Acked ∷ []) (change_replies answer others ++ replies.Resumed ∷ []) answer (Contains-append_left (change_replies answer others) (replies.Resumed ∷ []) answer (change_told answer others))
+    Contains-append_right (replies.Acked ∷ []) (change_replies answer others ++ replies.Resumed ∷ []) answer
+    (Contains-append_left (change_replies answer others) (replies.Resumed ∷ []) answer (change_told answer others))
 
-pub reclaim_room : (p file page : ℕ) (begun answer : Reply) (steps : List Step) (told : List Reply) → tells_reclaim answer ≡ true → AnswersChange p answer steps told
+pub reclaim_room : (p file page : ℕ) (begun answer : Reply) (steps : List Step) (told : List Reply)
+    → tells_reclaim answer ≡ true → AnswersChange p answer steps told
     → MakesRoom p (tells_reclaimed answer) (record { p = p; act = acts.Reclaim file page } ∷ steps) (begun ∷ told)
 reclaim_room p file page begun answer steps told is change = go (tells_reclaimed answer) refl
   where
     has : Contains told answer
     has = change_has (λ steps told. Contains told answer) p answer steps told change (change_told answer change.others)
 
-    go : (b : Bool) → tells_reclaimed answer ≡ b → MakesRoom p b (record { p = p; act = acts.Reclaim file page } ∷ steps) (begun ∷ told)
-    go true made = (((refl, refl), change_has (AreForRoom p) p answer steps told change (change_room p answer change.others change.differ is)), Contains-append_right (begun ∷ []) told replies.Reclaimed (subst (Contains told) (reclaimed_is answer made) has))
-    go false kept = ((refl, refl), change_has (AreFruitless p) p answer steps told change (change_vain p answer change.others change.differ (reclaim_kept answer is kept)))
+    go : (b : Bool) → tells_reclaimed answer ≡ b
+        → MakesRoom p b (record { p = p; act = acts.Reclaim file page } ∷ steps) (begun ∷ told)
+    go true made = (
+      (
+        (refl, refl),
+        change_has (AreForRoom p) p answer steps told change (change_room p answer change.others change.differ is),
+      ),
+      Contains-append_right (begun ∷ []) told replies.Reclaimed (subst (Contains told) (reclaimed_is answer made) has),
+    )
+    go false kept = (
+      (refl, refl),
+      change_has (AreFruitless p) p answer steps told change
+          (change_vain p answer change.others change.differ (reclaim_kept answer is kept)),
+    )
 
 -- ---- a fault is served, or isn't
 
@@ -134,32 +160,58 @@ module _ (p at : ℕ) (write : Bool) where
   fix_by = record { p = p; act = acts.Fix at write }
 
   pub serves_one : (reply : Reply) → tells_fixed reply ≡ true → Serves p at write (fix_by ∷ []) (reply ∷ [])
-  serves_one reply is = record { front = []; told = []; aside = tt; steps_are = refl; replies_are = ap (λ r. r ∷ []) (fixed_is reply is) }
+  serves_one reply is = record {
+    front = [];
+    told = [];
+    aside = tt;
+    steps_are = refl;
+    replies_are = ap (λ r. r ∷ []) (fixed_is reply is);
+  }
 
-  pub serves_later : (reply : Reply) → tells_fixed reply ≡ true → (steps : List Step) (told : List Reply) → AreAside p steps told → Serves p at write (steps ++ fix_by ∷ []) (told ++ reply ∷ [])
-  serves_later reply is steps told aside = record { front = steps; told = told; aside = aside; steps_are = refl; replies_are = ap (λ r. told ++ r ∷ []) (fixed_is reply is) }
+  pub serves_later : (reply : Reply) → tells_fixed reply ≡ true → (steps : List Step) (told : List Reply)
+      → AreAside p steps told → Serves p at write (steps ++ fix_by ∷ []) (told ++ reply ∷ [])
+  serves_later reply is steps told aside = record {
+    front = steps;
+    told = told;
+    aside = aside;
+    steps_are = refl;
+    replies_are = ap (λ r. told ++ r ∷ []) (fixed_is reply is);
+  }
 
-  pub unserved_one : (answer : Reply) → tells_fixed answer ≡ false → (steps : List Step) (told : List Reply) → AreFruitless p steps told → IsUnservedAside p at answer (fix_by ∷ steps) (answer ∷ told)
-  unserved_one answer not steps told vain = (((refl, refl), vain_aside p steps told vain), inr (refl, same at, refl, not, vain))
+  pub unserved_one : (answer : Reply) → tells_fixed answer ≡ false → (steps : List Step) (told : List Reply)
+      → AreFruitless p steps told → IsUnservedAside p at answer (fix_by ∷ steps) (answer ∷ told)
+  unserved_one answer not steps told vain =
+      (((refl, refl), vain_aside p steps told vain), inr (refl, same at, refl, not, vain))
 
-  unserved_after : (answer : Reply) (steps : List Step) (told : List Reply) (steps' : List Step) (told' : List Reply) → AreForRoom p steps told → IsUnserved p at answer steps' told' → IsUnserved p at answer (steps ++ steps') (told ++ told')
+  unserved_after : (answer : Reply) (steps : List Step) (told : List Reply) (steps' : List Step) (told' : List Reply)
+      → AreForRoom p steps told → IsUnserved p at answer steps' told'
+      → IsUnserved p at answer (steps ++ steps') (told ++ told')
   unserved_after answer [] [] steps' told' room later = later
-  unserved_after answer (step ∷ steps) (reply ∷ told) steps' told' ((is, mine), more) later = inl (room_no_access step.act reply is, room_not_served step.act reply is, unserved_after answer steps told steps' told' more later)
+  unserved_after answer (step ∷ steps) (reply ∷ told) steps' told' ((is, mine), more) later = inl (
+    room_no_access step.act reply is,
+    room_not_served step.act reply is,
+    unserved_after answer steps told steps' told' more later,
+  )
   unserved_after answer [] (reply ∷ told) steps' told' room later = absurd room
   unserved_after answer (step ∷ steps) [] steps' told' room later = absurd room
 
   -- a second attempt, after a frame was made free
-  pub unserved_again : (first answer : Reply) → tells_fixed first ≡ false → tells_fixed answer ≡ false → (steps : List Step) (told : List Reply) → AreForRoom p steps told
+  pub unserved_again : (first answer : Reply) → tells_fixed first ≡ false → tells_fixed answer ≡ false
+      → (steps : List Step) (told : List Reply) → AreForRoom p steps told
       → IsUnservedAside p at answer (fix_by ∷ (steps ++ fix_by ∷ [])) (first ∷ (told ++ answer ∷ []))
   unserved_again first answer one not steps told room =
       let last = unserved_one answer not [] [] tt in (
-        ((refl, refl), each_then (IsAside p) steps told (fix_by ∷ []) (answer ∷ []) (are_aside p steps told room) last.0),
+        (
+          (refl, refl),
+          each_then (IsAside p) steps told (fix_by ∷ []) (answer ∷ []) (are_aside p steps told room) last.0,
+        ),
         inl (refl, one, unserved_after answer steps told (fix_by ∷ []) (answer ∷ []) room last.1),
       )
 
 -- ---- accesses
 
-pub access_aside : (at : ℕ) (write : Bool) (act : Act) (reply : Reply) → IsAccessFor at write act → tells_fault reply ≡ true → is_aside act reply ≡ true
+pub access_aside : (at : ℕ) (write : Bool) (act : Act) (reply : Reply) → IsAccessFor at write act
+    → tells_fault reply ≡ true → is_aside act reply ≡ true
 access_aside at write (acts.Load va count) reply is fault = ap not (not_fault reply fault).0
 access_aside at write (acts.Store va bytes) reply is fault = ap not (not_fault reply fault).1
 access_aside at write act reply is fault = absurd is
@@ -181,42 +233,54 @@ access_loads at write (acts.Store va bytes) is = tt
 access_loads at write act is = absurd is
 
 -- what ends a range comes after other steps
-pub ends_after : (p at : ℕ) (answer : Reply) (steps : List Step) (told : List Reply) (steps' : List Step) (told' : List Reply) → AreAside p steps told → EndsRange p at answer steps' told' → EndsRange p at answer (steps ++ steps') (told ++ told')
+pub ends_after : (p at : ℕ) (answer : Reply) (steps : List Step) (told : List Reply) (steps' : List Step)
+    (told' : List Reply) → AreAside p steps told → EndsRange p at answer steps' told'
+    → EndsRange p at answer (steps ++ steps') (told ++ told')
 ends_after p at answer [] [] steps' told' aside ended = ended
-ends_after p at answer (step ∷ steps) (reply ∷ told) steps' told' aside ended = inl (ends_after p at answer steps told steps' told' aside.1 ended)
+ends_after p at answer (step ∷ steps) (reply ∷ told) steps' told' aside ended =
+    inl (ends_after p at answer steps told steps' told' aside.1 ended)
 ends_after p at answer [] (reply ∷ told) steps' told' aside ended = absurd aside
 ends_after p at answer (step ∷ steps) [] steps' told' aside ended = absurd aside
 
 module _ {D : Type 0} (disk : Ghosts D) (old mid new : Whole D) (before between after : Notes) where
   -- an access that met a fault, which isn't served
-  pub stops_unserved : (step : Step) (at : ℕ) (fault answer : Reply) → IsAside step.p step fault → is_access_at at step.act ≡ true → tells_fault fault ≡ true → Makes disk old before (step ∷ []) (fault ∷ []) mid between
-      → MakesStepsThat disk mid between (IsUnservedAside step.p at answer) new after → StopsAt disk old before step.p at answer new after
+  pub stops_unserved : (step : Step) (at : ℕ) (fault answer : Reply) → IsAside step.p step fault
+      → is_access_at at step.act ≡ true → tells_fault fault ≡ true
+      → Makes disk old before (step ∷ []) (fault ∷ []) mid between
+      → MakesStepsThat disk mid between (IsUnservedAside step.p at answer) new after
+      → StopsAt disk old before step.p at answer new after
   stops_unserved step at fault answer (aside, mine) here met first later = record {
     steps = step ∷ later.steps;
     replies = fault ∷ later.replies;
-    makes = makes_then disk old mid new before between after (step ∷ []) (fault ∷ []) later.steps later.replies first later.makes;
+    makes = makes_then disk old mid new before between after (step ∷ [])
+        (fault ∷ []) later.steps later.replies first later.makes;
     aside = ((aside, mine), later.holds.0);
     ends = inr (inr (refl, here, met, later.holds.1));
   }
 
 -- an access that isn't made, and meets no fault
-pub stops_answered : {D : Type 0} (disk : Ghosts D) (old new : Whole D) (before after : Notes) (step : Step) (at : ℕ) (answer : Reply) → IsAside step.p step answer → is_access_at at step.act ≡ true → tells_fault answer ≡ false
+pub stops_answered : {D : Type 0} (disk : Ghosts D) (old new : Whole D) (before after : Notes) (step : Step) (at : ℕ)
+    (answer : Reply) → IsAside step.p step answer → is_access_at at step.act ≡ true → tells_fault answer ≡ false
     → AnswersAfter disk old before step answer new after → StopsAt disk old before step.p at answer new after
 stops_answered disk old new before after step at answer (aside, mine) here no-fault it = record {
   steps = it.steps ++ step ∷ [];
   replies = it.replies ++ answer ∷ [];
   makes = it.makes;
   aside = each_then (IsAside step.p) it.steps it.replies (step ∷ []) (answer ∷ []) it.aside ((aside, mine), tt);
-  ends = ends_after step.p at answer it.steps it.replies (step ∷ []) (answer ∷ []) it.aside (inr (inl (refl, here, aside, refl, no-fault, refl, refl)));
+  ends = ends_after step.p at answer it.steps it.replies (step ∷ []) (answer ∷ []) it.aside
+      (inr (inl (refl, here, aside, refl, no-fault, refl, refl)));
 }
 
 -- ---- a fault that was served doesn't come again
 
 -- a fault is met only by an access inside a page
-no_fault : (s : State) (d : List ℕ) (p at : ℕ) (write : Bool) (act : Act) (reply : Reply) (new : State) (d' : List ℕ) → IsAccessFor at write act → Acts s d p act reply new d'
+no_fault : (s : State) (d : List ℕ) (p at : ℕ) (write : Bool) (act : Act) (reply : Reply) (new : State) (d' : List ℕ)
+    → IsAccessFor at write act → Acts s d p act reply new d'
     → (IsAccessOf at write act → IsAnswered act reply) → tells_fault reply ≡ false
-no_fault s d p at write (acts.Load va count) (replies.Refused (refusals.Fault code)) new d' is rule answered = absurd (answered (rule.0.1.access, ap (λ n. n / 4096) is))
-no_fault s d p at write (acts.Store va bytes) (replies.Refused (refusals.Fault code)) new d' is rule answered = absurd (answered (rule.0.1.access, ap (λ n. n / 4096) is.0, is.1))
+no_fault s d p at write (acts.Load va count) (replies.Refused (refusals.Fault code)) new d' is rule answered =
+    absurd (answered (rule.0.1.access, ap (λ n. n / 4096) is))
+no_fault s d p at write (acts.Store va bytes) (replies.Refused (refusals.Fault code)) new d' is rule answered =
+    absurd (answered (rule.0.1.access, ap (λ n. n / 4096) is.0, is.1))
 no_fault s d p at write (acts.Load va count) (replies.Refused why) new d' is rule answered = refl
 no_fault s d p at write (acts.Store va bytes) (replies.Refused why) new d' is rule answered = refl
 no_fault s d p at write (acts.Load va count) reply new d' is rule answered = refl
@@ -225,38 +289,57 @@ no_fault s d p at write act reply new d' is rule answered = absurd is
 
 module _ {D : Type 0} (disk : Ghosts D) where
   -- the last of the steps
-  served_last : (p at : ℕ) (write : Bool) (step : Step) (reply : Reply) → step.p ≡ p → IsAccessFor at write step.act → (old new : Whole D) (front : List Step) (told : List Reply) → AreAside p front told
-      → StepsTaken disk old ((front ++ record { p = p; act = acts.Fix at write } ∷ []) ++ step ∷ []) ((told ++ replies.Fixed ∷ []) ++ reply ∷ []) new
-      → FaultsAreServed ((front ++ record { p = p; act = acts.Fix at write } ∷ []) ++ step ∷ []) ((told ++ replies.Fixed ∷ []) ++ reply ∷ []) → tells_fault reply ≡ false
+  served_last : (p at : ℕ) (write : Bool) (step : Step) (reply : Reply) → step.p ≡ p → IsAccessFor at write step.act
+      → (old new : Whole D) (front : List Step) (told : List Reply) → AreAside p front told
+      → StepsTaken disk old ((front ++ record { p = p; act = acts.Fix at write } ∷ []) ++ step ∷ [])
+      ((told ++ replies.Fixed ∷ []) ++ reply ∷ []) new
+      → FaultsAreServed ((front ++ record { p = p; act = acts.Fix at write } ∷ []) ++ step ∷ [])
+      ((told ++ replies.Fixed ∷ []) ++ reply ∷ []) → tells_fault reply ≡ false
   served_last p at write step reply mine is old new [] [] aside (mid, fixed, (last, here, ends)) served =
-      no_fault mid.state here.answered.0 step.p at write step.act reply last.state here.answered.1 is here.answered.2 (served.0 mine)
+      no_fault mid.state here.answered.0 step.p at write step.act reply last.state here.answered.1 is
+      here.answered.2 (served.0 mine)
   served_last p at write step reply mine is old new (first ∷ front) (other ∷ told) aside (mid, here, rest) served =
       served_last p at write step reply mine is mid new front told aside.1 rest served.1
   served_last p at write step reply mine is old new [] (other ∷ told) aside taken served = absurd aside
   served_last p at write step reply mine is old new (first ∷ front) [] aside taken served = absurd aside
 
-  pub answered_no_fault : (old mid new : Whole D) (before between after : Notes) (at : ℕ) (write : Bool) (step : Step) (reply : Reply) → IsAccessFor at write step.act
-      → ((from to : Whole D) (steps : List Step) (told : List Reply) → StepsTaken disk from steps told to → FaultsAreServed steps told)
-      → MakesStepsThat disk old before (Serves step.p at write) mid between → Makes disk mid between (step ∷ []) (reply ∷ []) new after → tells_fault reply ≡ false
+  pub answered_no_fault : (old mid new : Whole D) (before between after : Notes) (at : ℕ) (write : Bool) (step : Step)
+      (reply : Reply) → IsAccessFor at write step.act
+      → ((from to : Whole D) (steps : List Step) (told : List Reply) → StepsTaken disk from steps told to
+      → FaultsAreServed steps told)
+      → MakesStepsThat disk old before (Serves step.p at write) mid between
+      → Makes disk mid between (step ∷ []) (reply ∷ []) new after → tells_fault reply ≡ false
   answered_no_fault old mid new before between after at write step reply is law it made =
       let S : List Step → Type 0 = λ l. StepsTaken disk old (l ++ step ∷ []) (it.replies ++ reply ∷ []) new in
-      let T : List Reply → Type 0 = λ l. StepsTaken disk old ((it.holds.front ++ record { p = step.p; act = acts.Fix at write } ∷ []) ++ step ∷ []) (l ++ reply ∷ []) new in
-      let all = makes_then disk old mid new before between after it.steps it.replies (step ∷ []) (reply ∷ []) it.makes made in
+      let T : List Reply → Type 0 = λ l. StepsTaken disk old ((it.holds.front
+      ++ record { p = step.p; act = acts.Fix at write } ∷ []) ++ step ∷ []) (l ++ reply ∷ []) new in
+      let all = makes_then disk old mid new before between after it.steps it.replies (step ∷ [])
+      (reply ∷ []) it.makes made in
       let taken = subst T it.holds.replies_are (subst S it.holds.steps_are all.taken) in
-      served_last step.p at write step reply refl is old new it.holds.front it.holds.told it.holds.aside taken (law old new _ _ taken)
+      served_last step.p at write step reply refl is old new it.holds.front it.holds.told it.holds.aside
+      taken (law old new _ _ taken)
 
   -- an access after its fault was served
-  pub answers_served : (old mid last new : Whole D) (before between next after : Notes) (at : ℕ) (write : Bool) (step : Step) (fault reply : Reply) → IsAside step.p step fault
-      → Makes disk old before (step ∷ []) (fault ∷ []) mid between → MakesStepsThat disk mid between (Serves step.p at write) last next → Makes disk last next (step ∷ []) (reply ∷ []) new after → AnswersAfter disk old before step reply new after
+  pub answers_served : (old mid last new : Whole D) (before between next after : Notes) (at : ℕ) (write : Bool)
+      (step : Step) (fault reply : Reply) → IsAside step.p step fault
+      → Makes disk old before (step ∷ []) (fault ∷ []) mid between
+      → MakesStepsThat disk mid between (Serves step.p at write) last next
+      → Makes disk last next (step ∷ []) (reply ∷ []) new after → AnswersAfter disk old before step reply new after
   answers_served old mid last new before between next after at write step fault reply aside first it made =
       let S : List Step → Type 0 = λ l. AreAside step.p l it.replies in
-      let T : List Reply → Type 0 = λ l. AreAside step.p (it.holds.front ++ record { p = step.p; act = acts.Fix at write } ∷ []) l in
-      let front = each_then (IsAside step.p) it.holds.front it.holds.told (record { p = step.p; act = acts.Fix at write } ∷ []) (replies.Fixed ∷ []) it.holds.aside ((refl, refl), tt) in
+      let T : List Reply → Type 0 =
+      λ l. AreAside step.p (it.holds.front ++ record { p = step.p; act = acts.Fix at write } ∷ []) l in
+      let front = each_then (IsAside step.p) it.holds.front it.holds.told (record {
+        p = step.p;
+        act = acts.Fix at write;
+      } ∷ []) (replies.Fixed ∷ []) it.holds.aside ((refl, refl), tt) in
       record {
         steps = step ∷ it.steps;
         replies = fault ∷ it.replies;
-        makes = makes_then disk old last new before next after (step ∷ it.steps) (fault ∷ it.replies) (step ∷ []) (reply ∷ [])
-            (makes_then disk old mid last before between next (step ∷ []) (fault ∷ []) it.steps it.replies first it.makes) made;
+        makes = makes_then disk old last new before next after (step ∷ it.steps) (fault ∷ it.replies)
+            (step ∷ []) (reply ∷ [])
+            (makes_then disk old mid last before between next (step ∷ [])
+            (fault ∷ []) it.steps it.replies first it.makes) made;
         aside = (aside, subst S (sym it.holds.steps_are) (subst T (sym it.holds.replies_are) front));
       }
 
@@ -264,34 +347,50 @@ module _ {D : Type 0} (disk : Ghosts D) where
 
 module _ {D : Type 0} (disk : Ghosts D) where
   -- no frame could be made free for it
-  pub unserved_vain : (old mid new : Whole D) (before between after : Notes) (p at : ℕ) (write : Bool) (answer : Reply) → tells_fixed answer ≡ false → Makes disk old before (fix_by p at write ∷ []) (answer ∷ []) mid between
-      → MakesStepsThat disk mid between (MakesRoom p false) new after → MakesStepsThat disk old before (IsUnservedAside p at answer) new after
+  pub unserved_vain : (old mid new : Whole D) (before between after : Notes) (p at : ℕ) (write : Bool) (answer : Reply)
+      → tells_fixed answer ≡ false → Makes disk old before (fix_by p at write ∷ []) (answer ∷ []) mid between
+      → MakesStepsThat disk mid between (MakesRoom p false) new after
+      → MakesStepsThat disk old before (IsUnservedAside p at answer) new after
   unserved_vain old mid new before between after p at write answer not made room = record {
     steps = fix_by p at write ∷ room.steps;
     replies = answer ∷ room.replies;
-    makes = makes_then disk old mid new before between after (fix_by p at write ∷ []) (answer ∷ []) room.steps room.replies made room.makes;
+    makes = makes_then disk old mid new before between after (fix_by p at write ∷ [])
+        (answer ∷ []) room.steps room.replies made room.makes;
     holds = unserved_one p at write answer not room.steps room.replies room.holds;
   }
 
-  module _ (old mid last new : Whole D) (before between next after : Notes) (p at : ℕ) (write : Bool) (first answer : Reply) where
-    all_made : Makes disk old before (fix_by p at write ∷ []) (first ∷ []) mid between → (room : MakesStepsThat disk mid between (MakesRoom p true) last next) → Makes disk last next (fix_by p at write ∷ []) (answer ∷ []) new after
-        → Makes disk old before (fix_by p at write ∷ (room.steps ++ fix_by p at write ∷ [])) (first ∷ (room.replies ++ answer ∷ [])) new after
-    all_made made room again = makes_then disk old mid new before between after (fix_by p at write ∷ []) (first ∷ []) (room.steps ++ fix_by p at write ∷ []) (room.replies ++ answer ∷ []) made
-        (makes_then disk mid last new between next after room.steps room.replies (fix_by p at write ∷ []) (answer ∷ []) room.makes again)
+  module _ (old mid last new : Whole D) (before between next after : Notes) (p at : ℕ) (write : Bool)
+      (first answer : Reply) where
+    all_made : Makes disk old before (fix_by p at write ∷ []) (first ∷ []) mid between
+        → (room : MakesStepsThat disk mid between (MakesRoom p true) last next)
+        → Makes disk last next (fix_by p at write ∷ []) (answer ∷ []) new after
+        → Makes disk old before (fix_by p at write ∷ (room.steps ++ fix_by p at write ∷ []))
+        (first ∷ (room.replies ++ answer ∷ [])) new after
+    all_made made room again = makes_then disk old mid new before between after (fix_by p at write ∷ []) (first ∷ [])
+        (room.steps ++ fix_by p at write ∷ []) (room.replies ++ answer ∷ []) made
+        (makes_then disk mid last new between next after room.steps room.replies (fix_by p at write ∷ [])
+        (answer ∷ []) room.makes again)
 
     -- one was, and it was served
-    pub serves_again : tells_fixed answer ≡ true → Makes disk old before (fix_by p at write ∷ []) (first ∷ []) mid between → MakesStepsThat disk mid between (MakesRoom p true) last next → Makes disk last next (fix_by p at write ∷ []) (answer ∷ []) new after
+    pub serves_again : tells_fixed answer ≡ true
+        → Makes disk old before (fix_by p at write ∷ []) (first ∷ []) mid between
+        → MakesStepsThat disk mid between (MakesRoom p true) last next
+        → Makes disk last next (fix_by p at write ∷ []) (answer ∷ []) new after
         → MakesStepsThat disk old before (Serves p at write) new after
     serves_again is made room again = record {
       steps = fix_by p at write ∷ (room.steps ++ fix_by p at write ∷ []);
       replies = first ∷ (room.replies ++ answer ∷ []);
       makes = all_made made room again;
-      holds = serves_later p at write answer is (fix_by p at write ∷ room.steps) (first ∷ room.replies) ((refl, refl), are_aside p room.steps room.replies room.holds.0);
+      holds = serves_later p at write answer is (fix_by p at write ∷ room.steps) (first ∷ room.replies)
+          ((refl, refl), are_aside p room.steps room.replies room.holds.0);
     }
 
     -- and it wasn't
-    pub unserved_after_room : tells_fixed first ≡ false → tells_fixed answer ≡ false → Makes disk old before (fix_by p at write ∷ []) (first ∷ []) mid between → MakesStepsThat disk mid between (MakesRoom p true) last next
-        → Makes disk last next (fix_by p at write ∷ []) (answer ∷ []) new after → MakesStepsThat disk old before (IsUnservedAside p at answer) new after
+    pub unserved_after_room : tells_fixed first ≡ false → tells_fixed answer ≡ false
+        → Makes disk old before (fix_by p at write ∷ []) (first ∷ []) mid between
+        → MakesStepsThat disk mid between (MakesRoom p true) last next
+        → Makes disk last next (fix_by p at write ∷ []) (answer ∷ []) new after
+        → MakesStepsThat disk old before (IsUnservedAside p at answer) new after
     unserved_after_room one not made room again = record {
       steps = fix_by p at write ∷ (room.steps ++ fix_by p at write ∷ []);
       replies = first ∷ (room.replies ++ answer ∷ []);

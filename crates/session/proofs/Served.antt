@@ -18,26 +18,37 @@ use Rattle.session.proofs.Commits.{answers_of_commit}
 
 -- ---- what was answered was done
 
-answers_do : (before : Notes) (what : Asked) (answer : List ℕ) (steps : List Step) (replies : List Reply) → AnswersRequest before what answer steps replies → IsDoneFor what steps replies
-answers_do before (asks_steps wanted) answer steps replies it = (length wanted, it.0 ∙ sym (take_all (length wanted) wanted (omega arith)))
+answers_do : (before : Notes) (what : Asked) (answer : List ℕ) (steps : List Step) (replies : List Reply)
+    → AnswersRequest before what answer steps replies → IsDoneFor what steps replies
+answers_do before (asks_steps wanted) answer steps replies it =
+    (length wanted, it.0 ∙ sym (take_all (length wanted) wanted (omega arith)))
 answers_do before (asks_load p va count) answer steps replies (bytes, reached, it, told) = (bytes, reached, it)
 answers_do before (asks_store p va bytes) answer steps replies (reached, it, told) = (reached, it)
-answers_do before (asks_commit p) answer steps replies (committed, it, told) = answers_of_commit p before committed steps replies it
+answers_do before (asks_commit p) answer steps replies (committed, it, told) =
+    answers_of_commit p before committed steps replies it
 answers_do before (asks_length p file to) answer steps replies (reply, it, told) = (reply, it)
 
-answers_serve : (before : Notes) (line answer : List ℕ) (steps : List Step) (replies : List Reply) → AnswersLine before line answer steps replies → IsServedFor line steps replies
-answers_serve before line answer steps replies (inl (none, (cause, one-line, text, no-steps, no-replies))) = inl (no-steps, no-replies)
-answers_serve before line answer steps replies (inr (what, is, it)) = inr (what, is, answers_do before what answer steps replies it)
+answers_serve : (before : Notes) (line answer : List ℕ) (steps : List Step) (replies : List Reply)
+    → AnswersLine before line answer steps replies → IsServedFor line steps replies
+answers_serve before line answer steps replies (inl (none, (cause, one-line, text, no-steps, no-replies))) =
+    inl (no-steps, no-replies)
+answers_serve before line answer steps replies (inr (what, is, it)) =
+    inr (what, is, answers_do before what answer steps replies it)
 
 -- ---- one list of steps
 
-pub line_serves : {D T E : Type 0} (disk : Ghosts D) (old new : Whole D) (before after : Notes) (line : List ℕ) (result : Result T E) (a b : Option (List ℕ)) → MakesStepsThat disk old before (IsServedFor line) new after
-    → OnOk result (MakesStepsThat disk old before (WritesAnswerOf before line a b) new after) → MakesStepsThat disk old before (ServesLine before line result a b) new after
+pub line_serves : {D T E : Type 0} (disk : Ghosts D) (old new : Whole D) (before after : Notes) (line : List ℕ)
+    (result : Result T E) (a b : Option (List ℕ)) → MakesStepsThat disk old before (IsServedFor line) new after
+    → OnOk result (MakesStepsThat disk old before (WritesAnswerOf before line a b) new after)
+    → MakesStepsThat disk old before (ServesLine before line result a b) new after
 line_serves disk old new before after line (Ok done) a b served answered = record {
   steps = answered.steps;
   replies = answered.replies;
   makes = answered.makes;
-  holds = record { served = answers_serve before line answered.holds.0 answered.steps answered.replies answered.holds.1; answered = answered.holds };
+  holds = record {
+    served = answers_serve before line answered.holds.0 answered.steps answered.replies answered.holds.1;
+    answered = answered.holds;
+  };
 }
 line_serves disk old new before after line (Err why) a b served answered = record {
   steps = served.steps;
@@ -46,15 +57,21 @@ line_serves disk old new before after line (Err why) a b served answered = recor
   holds = record { served = served.holds; answered = tt };
 }
 
-pub line_answers : {D T E : Type 0} (disk : Ghosts D) (old new : Whole D) (before after : Notes) (line : List ℕ) (result : Result T E) (a b : Option (List ℕ)) → MakesStepsThat disk old before (ServesLine before line result a b) new after
+pub line_answers : {D T E : Type 0} (disk : Ghosts D) (old new : Whole D) (before after : Notes) (line : List ℕ)
+    (result : Result T E) (a b : Option (List ℕ))
+    → MakesStepsThat disk old before (ServesLine before line result a b) new after
     → OnOk result (MakesStepsThat disk old before (WritesAnswerOf before line a b) new after)
-line_answers disk old new before after line (Ok done) a b it = record { steps = it.steps; replies = it.replies; makes = it.makes; holds = it.holds.answered }
+line_answers disk old new before after line (Ok done) a b it =
+    record { steps = it.steps; replies = it.replies; makes = it.makes; holds = it.holds.answered }
 line_answers disk old new before after line (Err why) a b it = tt
 
 -- what holds of all steps that were made, and of those that were answered
-pub one_list : {D T E : Type 0} (disk : Ghosts D) (old new : Whole D) (before after : Notes) (result : Result T E) (ran answers : List Step → List Reply → Type 0)
-    → ((steps : List Step) (replies : List Reply) → Makes disk old before steps replies new after → ran steps replies) → HasMade disk old before new after
-    → OnOk result (MakesStepsThat disk old before answers new after) → MakesStepsThat disk old before (λ steps replies. ran steps replies × OnOk result (answers steps replies)) new after
+pub one_list : {D T E : Type 0} (disk : Ghosts D) (old new : Whole D) (before after : Notes) (result : Result T E)
+    (ran answers : List Step → List Reply → Type 0)
+    → ((steps : List Step) (replies : List Reply) → Makes disk old before steps replies new after → ran steps replies)
+    → HasMade disk old before new after
+    → OnOk result (MakesStepsThat disk old before answers new after) → MakesStepsThat disk old before
+    (λ steps replies. ran steps replies × OnOk result (answers steps replies)) new after
 one_list disk old new before after (Ok done) ran answers runs made it = record {
   steps = it.steps;
   replies = it.replies;
@@ -70,7 +87,8 @@ one_list disk old new before after (Err why) ran answers runs made it = record {
 
 -- ---- the lock and the phases
 
-pub line_keeps : (line : List ℕ) (what : Asked) (old new : State) → request_in line ≡ Some what → KeepsPhasesFor what old new → AsksSteps line ⊎ KeepsPhases old new
+pub line_keeps : (line : List ℕ) (what : Asked) (old new : State) → request_in line ≡ Some what
+    → KeepsPhasesFor what old new → AsksSteps line ⊎ KeepsPhases old new
 line_keeps line (asks_steps steps) old new is kept = inl (steps, is)
 line_keeps line (asks_load p va count) old new is kept = inr kept
 line_keeps line (asks_store p va bytes) old new is kept = inr kept

@@ -13,11 +13,19 @@ use Rattle.session.specs.Steps.{Makes}
 use Rattle.session.proofs.Stretches.{makes_none, makes_then}
 
 -- before the first step
-pub served_none : {D : Type 0} (disk : Ghosts D) (before : D) (shape : Shape) (start : Whole D) → HasStarted disk before shape start → IsServing disk start no_notes
-served_none disk before shape start started = (start, [], [], record { before = before; shape = shape; started = started; makes = makes_none disk start no_notes })
+pub served_none : {D : Type 0} (disk : Ghosts D) (before : D) (shape : Shape) (start : Whole D)
+    → HasStarted disk before shape start → IsServing disk start no_notes
+served_none disk before shape start started = (
+  start,
+  [],
+  [],
+  record { before = before; shape = shape; started = started; makes = makes_none disk start no_notes },
+)
 
 -- after one more
-pub served_more : {D : Type 0} (disk : Ghosts D) (old new : Whole D) (before after : Notes) (step : Step) (reply : Reply) → IsServing disk old before → Makes disk old before (step ∷ []) (reply ∷ []) new after → IsServing disk new after
+pub served_more : {D : Type 0} (disk : Ghosts D) (old new : Whole D) (before after : Notes) (step : Step)
+    (reply : Reply) → IsServing disk old before → Makes disk old before (step ∷ []) (reply ∷ []) new after
+    → IsServing disk new after
 served_more disk old new before after step reply (start, steps, replies, it) makes = (
   start,
   steps ++ step ∷ [],
@@ -31,7 +39,9 @@ served_more disk old new before after step reply (start, steps, replies, it) mak
 )
 
 -- after any more
-pub served_does : {D : Type 0} (disk : Ghosts D) (old new : Whole D) (before after : Notes) (what : List Step → List Reply → Type 0) → IsServing disk old before → MakesStepsThat disk old before what new after → IsServing disk new after
+pub served_does : {D : Type 0} (disk : Ghosts D) (old new : Whole D) (before after : Notes)
+    (what : List Step → List Reply → Type 0) → IsServing disk old before → MakesStepsThat disk old before what new after
+    → IsServing disk new after
 served_does disk old new before after what (start, steps, replies, it) more = (
   start,
   steps ++ more.steps,
@@ -40,6 +50,7 @@ served_does disk old new before after what (start, steps, replies, it) more = (
     before = it.before;
     shape = it.shape;
     started = it.started;
-    makes = makes_then disk start old new no_notes before after steps replies more.steps more.replies it.makes more.makes;
+    makes =
+        makes_then disk start old new no_notes before after steps replies more.steps more.replies it.makes more.makes;
   },
 )

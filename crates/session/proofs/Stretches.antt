@@ -12,23 +12,30 @@ use Rattle.session.specs.Steps.{Makes}
 use Rattle.session.specs.inside.Aside.{AnswersAfter}
 use Rattle.session.specs.inside.Made.{HasMade}
 
-noted_then : (before : Notes) (replies more : List Reply) → noted_all before (replies ++ more) ≡ noted_all (noted_all before replies) more
+noted_then : (before : Notes) (replies more : List Reply)
+    → noted_all before (replies ++ more) ≡ noted_all (noted_all before replies) more
 noted_then before [] more = refl
 noted_then before (reply ∷ replies) more = noted_then (noted_after before reply) replies more
 
-taken_then : {D : Type 0} (disk : Ghosts D) (old mid new : Whole D) (steps : List Step) (replies : List Reply) (later : List Step) (told : List Reply) → StepsTaken disk old steps replies mid → StepsTaken disk mid later told new
+taken_then : {D : Type 0} (disk : Ghosts D) (old mid new : Whole D) (steps : List Step) (replies : List Reply)
+    (later : List Step) (told : List Reply) → StepsTaken disk old steps replies mid → StepsTaken disk mid later told new
     → StepsTaken disk old (steps ++ later) (replies ++ told) new
-taken_then {D} disk old mid new [] [] later told first rest = let P : Whole D → Type 0 = λ m. StepsTaken disk m later told new in subst P first rest
-taken_then disk old mid new (step ∷ steps) (reply ∷ replies) later told (next, here, first) rest = (next, here, taken_then disk next mid new steps replies later told first rest)
+taken_then {D} disk old mid new [] [] later told first rest =
+    let P : Whole D → Type 0 = λ m. StepsTaken disk m later told new in subst P first rest
+taken_then disk old mid new (step ∷ steps) (reply ∷ replies) later told (next, here, first) rest =
+    (next, here, taken_then disk next mid new steps replies later told first rest)
 taken_then disk old mid new [] (reply ∷ replies) later told first rest = absurd first
 taken_then disk old mid new (step ∷ steps) [] later told first rest = absurd first
 
 -- no step
-pub makes_none : {D : Type 0} (disk : Ghosts D) (old : Whole D) (before : Notes) → Makes disk old before [] [] old before
+pub makes_none : {D : Type 0} (disk : Ghosts D) (old : Whole D) (before : Notes)
+    → Makes disk old before [] [] old before
 makes_none disk old before = record { taken = refl; notes = refl }
 
-pub makes_then : {D : Type 0} (disk : Ghosts D) (old mid new : Whole D) (before between after : Notes) (steps : List Step) (replies : List Reply) (steps' : List Step) (replies' : List Reply)
-    → Makes disk old before steps replies mid between → Makes disk mid between steps' replies' new after → Makes disk old before (steps ++ steps') (replies ++ replies') new after
+pub makes_then : {D : Type 0} (disk : Ghosts D) (old mid new : Whole D) (before between after : Notes)
+    (steps : List Step) (replies : List Reply) (steps' : List Step) (replies' : List Reply)
+    → Makes disk old before steps replies mid between → Makes disk mid between steps' replies' new after
+    → Makes disk old before (steps ++ steps') (replies ++ replies') new after
 makes_then disk old mid new before between after steps replies steps' replies' first later = record {
   taken = taken_then disk old mid new steps replies steps' replies' first.taken later.taken;
   notes = later.notes ∙ ap (λ n. noted_all n replies') first.notes ∙ sym (noted_then before replies replies');
@@ -36,36 +43,48 @@ makes_then disk old mid new before between after steps replies steps' replies' f
 
 -- ---- steps of which something holds
 
-pub does_one : {D : Type 0} (disk : Ghosts D) (old new : Whole D) (before after : Notes) (what : List Step → List Reply → Type 0) (step : Step) (reply : Reply) → what (step ∷ []) (reply ∷ []) → Makes disk old before (step ∷ []) (reply ∷ []) new after → MakesStepsThat disk old before what new after
-does_one disk old new before after what step reply holds made = record { steps = step ∷ []; replies = reply ∷ []; makes = made; holds = holds }
+pub does_one : {D : Type 0} (disk : Ghosts D) (old new : Whole D) (before after : Notes)
+    (what : List Step → List Reply → Type 0) (step : Step) (reply : Reply) → what (step ∷ []) (reply ∷ [])
+    → Makes disk old before (step ∷ []) (reply ∷ []) new after → MakesStepsThat disk old before what new after
+does_one disk old new before after what step reply holds made =
+    record { steps = step ∷ []; replies = reply ∷ []; makes = made; holds = holds }
 
 -- and then others, by what holds of both
-pub does_then : {D : Type 0} (disk : Ghosts D) (old mid new : Whole D) (before between after : Notes) (what then both : List Step → List Reply → Type 0)
-    → ((steps : List Step) (replies : List Reply) (steps' : List Step) (replies' : List Reply) → what steps replies → then steps' replies' → both (steps ++ steps') (replies ++ replies'))
-    → MakesStepsThat disk old before what mid between → MakesStepsThat disk mid between then new after → MakesStepsThat disk old before both new after
+pub does_then : {D : Type 0} (disk : Ghosts D) (old mid new : Whole D) (before between after : Notes)
+    (what then both : List Step → List Reply → Type 0)
+    → ((steps : List Step) (replies : List Reply) (steps' : List Step) (replies' : List Reply) → what steps replies
+    → then steps' replies' → both (steps ++ steps') (replies ++ replies'))
+    → MakesStepsThat disk old before what mid between → MakesStepsThat disk mid between then new after
+    → MakesStepsThat disk old before both new after
 does_then disk old mid new before between after what then both holds first later = record {
   steps = first.steps ++ later.steps;
   replies = first.replies ++ later.replies;
-  makes = makes_then disk old mid new before between after first.steps first.replies later.steps later.replies first.makes later.makes;
+  makes = makes_then disk old mid new before between after first.steps first.replies later.steps later.replies
+      first.makes later.makes;
   holds = holds first.steps first.replies later.steps later.replies first.holds later.holds;
 }
 
 -- one step, made first
-pub answers_one : {D : Type 0} (disk : Ghosts D) (old new : Whole D) (before after : Notes) (step : Step) (reply : Reply) → Makes disk old before (step ∷ []) (reply ∷ []) new after → AnswersAfter disk old before step reply new after
+pub answers_one : {D : Type 0} (disk : Ghosts D) (old new : Whole D) (before after : Notes) (step : Step)
+    (reply : Reply) → Makes disk old before (step ∷ []) (reply ∷ []) new after
+    → AnswersAfter disk old before step reply new after
 answers_one disk old new before after step reply made = record { steps = []; replies = []; makes = made; aside = tt }
 
 -- whatever was made
 pub made_none : {D : Type 0} (disk : Ghosts D) (old : Whole D) (before : Notes) → HasMade disk old before old before
 made_none disk old before = record { steps = []; replies = []; makes = makes_none disk old before }
 
-pub made_then : {D : Type 0} (disk : Ghosts D) (old mid new : Whole D) (before between after : Notes) → HasMade disk old before mid between → HasMade disk mid between new after → HasMade disk old before new after
+pub made_then : {D : Type 0} (disk : Ghosts D) (old mid new : Whole D) (before between after : Notes)
+    → HasMade disk old before mid between → HasMade disk mid between new after → HasMade disk old before new after
 made_then disk old mid new before between after first later = record {
   steps = first.steps ++ later.steps;
   replies = first.replies ++ later.replies;
-  makes = makes_then disk old mid new before between after first.steps first.replies later.steps later.replies first.makes later.makes;
+  makes = makes_then disk old mid new before between after first.steps first.replies later.steps later.replies
+      first.makes later.makes;
 }
 
-pub made_one : {D : Type 0} (disk : Ghosts D) (old new : Whole D) (before after : Notes) (step : Step) (reply : Reply) → Makes disk old before (step ∷ []) (reply ∷ []) new after → HasMade disk old before new after
+pub made_one : {D : Type 0} (disk : Ghosts D) (old new : Whole D) (before after : Notes) (step : Step) (reply : Reply)
+    → Makes disk old before (step ∷ []) (reply ∷ []) new after → HasMade disk old before new after
 made_one disk old new before after step reply makes = record { steps = step ∷ []; replies = reply ∷ []; makes = makes }
 
 pub not_true : (b : Bool) → not b ≡ true → b ≡ false

@@ -104,8 +104,8 @@ pub record StopsWriting (p : ℕ) (before : Notes) (answer : Reply) (steps : Lis
   pub steps_are : steps ≡ beginning ++ (marking ++ writing)
   pub replies_are : replies ≡ begun ++ (marked ++ written)
 
--- The answer is that of the step that stopped the commit: an attempt to begin its mark, or a step of the write-outs that
--- it waits for; or a step of the write-outs that was to write it. The change that makes the mark is never refused.
+-- The answer is that of the step that stopped the commit: an attempt to begin its mark, or a step of the write-outs
+-- that it waits for; or a step of the write-outs that was to write it. The change that makes the mark is never refused.
 abbrev pub StopsCommit : ℕ → Notes → Reply → List Step → List Reply → Type 0
 StopsCommit p before answer steps replies =
     RefusesMark p answer steps replies ⊎ StopsWriting p before answer steps replies

@@ -45,8 +45,8 @@ abbrev pub is_served : Act → Reply → Bool
 is_served (Fix va write) reply = tells_fixed reply
 is_served _ reply = false
 
--- a step that may make a frame free: a page is taken out of memory, where the others stall before it and go on after it,
--- or a step of the write-outs is made first
+-- a step that may make a frame free: a page is taken out of memory, where the others stall before it and go on after
+-- it, or a step of the write-outs is made first
 abbrev pub is_for_room : Act → Reply → Bool
 is_for_room (Reclaim file page) reply = true
 is_for_room Ack reply = tells_acked reply
@@ -71,8 +71,8 @@ abbrev pub MakesRoom : ℕ → Bool → List Step → List Reply → Type 0
 MakesRoom p true steps replies = AreForRoom p steps replies × Contains replies Reclaimed
 MakesRoom p false steps replies = AreFruitless p steps replies
 
--- A fault at this address isn't served: no fault is, the last attempt of processor p to serve one is at this address and
--- answered so, and after it no frame became free.
+-- A fault at this address isn't served: no fault is, the last attempt of processor p to serve one is at this address
+-- and answered so, and after it no frame became free.
 abbrev pub IsUnserved : ℕ → ℕ → Reply → List Step → List Reply → Type 0
 IsUnserved p at answer (step ∷ steps) (reply ∷ replies) =
     ((is_access step.act ≡ false) × (is_served step.act reply ≡ false) × IsUnserved p at answer steps replies)

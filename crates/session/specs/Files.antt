@@ -1,5 +1,6 @@
 -- The files that a session lists, and the order in which their pages are taken out of memory.
-use Rattle.std.specs.Prelude.{ℕ, ◌≡◌, ◌+◌, nat_lt, List, length, map, sum_by, string_bytes, Option, Some, None, slice_get, if◌then◌else◌}
+use Rattle.std.specs.Prelude.{ℕ, ◌≡◌, ◌+◌, nat_lt, List, length, map, sum_by}
+use Rattle.std.specs.Prelude.{string_bytes, Option, Some, None, slice_get, if◌then◌else◌}
 use Rattle.page_entry.specs.declared.numbers.FilePage.{FilePage}
 use Rattle.volume_codec.specs.Files.{File}
 use Rattle.volume_codec.specs.Super.{SuperValue, names_in, capacities_in, pages_of}

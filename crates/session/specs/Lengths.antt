@@ -3,7 +3,8 @@ use Rattle.std.specs.Prelude.{ℕ, ◌≡◌, ◌≢◌, ◌⊎◌, Bool, true, 
 use Rattle.page_entry.specs.declared.refusal.Refusal.TheVariants.{Busy, NoFrame}
 use Rattle.machine.specs.declared.act.Act.TheVariants.{SetLength, Ack, Change, Resume, Flush}
 use Rattle.machine.specs.declared.act.Reply.{Reply}
-use Rattle.machine.specs.declared.act.Reply.TheVariants.{Begun, Unmapped, Protected, Resized, Reclaimed, Kept, Marked, Acked, Resumed, Going, Committed, Done, Nothing, Refused}
+use Rattle.machine.specs.declared.act.Reply.TheVariants.{Begun, Unmapped, Protected, Resized, Reclaimed, Kept, Marked}
+use Rattle.machine.specs.declared.act.Reply.TheVariants.{Acked, Resumed, Going, Committed, Done, Nothing, Refused}
 use Rattle.machine.specs.declared.act.Step.{Step}
 use Rattle.session.specs.Ends.{AreFruitless}
 use Rattle.session.specs.Steps.{IsAside}
@@ -73,7 +74,8 @@ tells_later (Refused Busy) = true
 tells_later (Refused NoFrame) = true
 tells_later _ = false
 
--- a step before a length's change is begun: an attempt that is refused for a while, or one that reads and stores nothing
+-- a step before a length's change is begun: an attempt that is refused for a while, or one that reads and stores
+-- nothing
 abbrev pub IsTry : ℕ → ℕ → ℕ → Step → Reply → Type 0
 IsTry p file to step reply =
     ((step ≡ set_length_by p file to) × (tells_later reply ≡ true)) ⊎ IsAside p step reply

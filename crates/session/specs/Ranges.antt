@@ -28,8 +28,8 @@ LoadsReached p va count bytes NoMemory steps replies =
 abbrev pub StoresRange : ℕ → ℕ → List ℕ → List Step → List Reply → Type 0
 StoresRange p va bytes steps replies = AreStores p va 0 steps replies bytes
 
--- All bytes were stored from an address on; or fewer, and the last attempt at the next one was answered so (`EndsRange`).
--- It asks for no memory.
+-- All bytes were stored from an address on; or fewer, and the last attempt at the next one was answered so
+-- (`EndsRange`). It asks for no memory.
 abbrev pub StoresReached : ℕ → ℕ → List ℕ → Reached → List Step → List Reply → Type 0
 StoresReached p va bytes All steps replies = StoresRange p va bytes steps replies
 StoresReached p va bytes (Refused reached reply) steps replies =

@@ -1,5 +1,6 @@
 -- What steps a request makes, and what they are answered.
-use Rattle.std.specs.Prelude.{ℕ, ◌≡◌, ◌≢◌, ◌⊎◌, ◌+◌, ◌-◌, ◌^◌, min, Bool, true, false, not, ⊤, List, [], ◌∷◌, ◌++◌, length}
+use Rattle.std.specs.Prelude.{ℕ, ◌≡◌, ◌≢◌, ◌⊎◌, ◌+◌, ◌-◌, ◌^◌, min, Bool, true}
+use Rattle.std.specs.Prelude.{false, not, ⊤, List, [], ◌∷◌, ◌++◌, length}
 use Rattle.device.specs.declared.device.Device.{Ghosts}
 use Rattle.machine.specs.declared.act.Act.{Act}
 use Rattle.machine.specs.declared.act.Act.TheVariants.{Load, Store, Fix, Reclaim, Msync, Ack, Change, Resume, Flush}

@@ -7,4 +7,5 @@ pub appends_both : (a b c : Option (List ℕ)) (xs ys : List ℕ) → Appends a 
 appends_both None b c xs ys first second = tt
 appends_both (Some old) None c xs ys first second = absurd first
 appends_both (Some old) (Some mid) None xs ys first second = absurd second
-appends_both (Some old) (Some mid) (Some new) xs ys first second = second ∙ ap (λ front. front ++ ys) first ∙ append_assoc old xs ys
+appends_both (Some old) (Some mid) (Some new) xs ys first second =
+    second ∙ ap (λ front. front ++ ys) first ∙ append_assoc old xs ys

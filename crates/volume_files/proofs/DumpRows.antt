@@ -1,5 +1,6 @@
 -- The text of a row, byte by byte.
-use Rattle.std.proofs.Common.{◌≡◌, ℕ, ◌+◌, ◌-◌, ◌^◌, ◌<◌, List, [], ◌∷◌, ◌++◌, length, take, get_or, false, ap, sym, ◌∙◌}
+use Rattle.std.proofs.Common.{◌≡◌, ℕ, ◌+◌, ◌-◌, ◌^◌, ◌<◌, List, [], ◌∷◌, ◌++◌}
+use Rattle.std.proofs.Common.{length, take, get_or, false, ap, sym, ◌∙◌}
 use Rattle.std.proofs.lemmas.List.{take_more, flat_map_more}
 use Rattle.std.proofs.lemmas.Fmt.{hex_byte}
 use Rattle.std.specs.Fmt.{digits, padded_integral, format_spec}
@@ -15,6 +16,9 @@ written_byte-text byte small = ap (λ two. 32 ∷ two) (hex_byte false byte smal
 
 -- one more byte
 pub row_more : (start bytes : List ℕ) (i : ℕ) → i < length bytes → get_or bytes i 0 < 256
-    → (start ++ flat_map byte_text (take i bytes)) ++ written_byte (get_or bytes i 0) ≡ start ++ flat_map byte_text (take (i + 1) bytes)
-row_more start bytes i below small = ap (λ text. (start ++ flat_map byte_text (take i bytes)) ++ text) (written_byte-text (get_or bytes i 0) small)
-    ∙ flat_map_more byte_text start (take i bytes) (get_or bytes i 0) ∙ ap (λ front. start ++ flat_map byte_text front) (sym (take_more bytes i 0 below))
+    → (start ++ flat_map byte_text (take i bytes)) ++ written_byte (get_or bytes i 0)
+    ≡ start ++ flat_map byte_text (take (i + 1) bytes)
+row_more start bytes i below small =
+    ap (λ text. (start ++ flat_map byte_text (take i bytes)) ++ text) (written_byte-text (get_or bytes i 0) small)
+    ∙ flat_map_more byte_text start (take i bytes) (get_or bytes i 0)
+    ∙ ap (λ front. start ++ flat_map byte_text front) (sym (take_more bytes i 0 below))

@@ -1,5 +1,7 @@
 -- The rows of a file, a page at a time.
-use Rattle.std.proofs.Common.{◌≡◌, ◌<◌, ◌≤◌, ◌⊎◌, inl, inr, ⊎_elim, ℕ, zero, suc, add-one, ◌+◌, ◌-◌, ◌*◌, min, List, [], ◌++◌, length, take, drop, Option, sym, ◌∙◌, ap, subst, arith, length-drop, append-nil, append_assoc, slice_range}
+use Rattle.std.proofs.Common.{◌≡◌, ◌<◌, ◌≤◌, ◌⊎◌, inl, inr, ⊎_elim, ℕ, zero, suc, add-one, ◌+◌}
+use Rattle.std.proofs.Common.{◌-◌, ◌*◌, min, List, [], ◌++◌, length, take, drop, Option, sym, ◌∙◌}
+use Rattle.std.proofs.Common.{ap, subst, arith, length-drop, append-nil, append_assoc, slice_range}
 use Rattle.std.proofs.lemmas.Bool.{cases_lt}
 use Rattle.std.proofs.lemmas.List.{take_min, drop-drop, drop_all, take-take, drop-take}
 use Rattle.std.specs.Io.KnownBytes.{Appends}
@@ -20,7 +22,8 @@ row_of_page bytes p k lt =
     ∙ ap (λ n. take 16 (drop n bytes)) (omega arith)
 
 -- the rows before page p, and k rows of it
-pub rows_of_page : (bytes : List ℕ) (p k : ℕ) → k ≤ 256 → rows_before bytes (256 * p) ++ rows_at (4096 * p) (part_of bytes p) k ≡ rows_before bytes (256 * p + k)
+pub rows_of_page : (bytes : List ℕ) (p k : ℕ) → k ≤ 256
+    → rows_before bytes (256 * p) ++ rows_at (4096 * p) (part_of bytes p) k ≡ rows_before bytes (256 * p + k)
 rows_of_page bytes p zero le =
     let none : 256 * p ≡ 256 * p + zero = omega arith in
     append-nil (rows_before bytes (256 * p)) ∙ ap (rows_before bytes) none
@@ -29,8 +32,10 @@ rows_of_page bytes p (suc k) le =
     let page = part_of bytes p in
     let place : 4096 * p + 16 * k ≡ 16 * n = omega arith in
     let more : suc n ≡ 256 * p + suc k = omega arith in
-    sym (append_assoc (rows_before bytes (256 * p)) (rows_at (4096 * p) page k) (row_line (4096 * p + 16 * k) (row_of page k)))
-    ∙ ap (λ (l : List ℕ). l ++ row_line (4096 * p + 16 * k) (row_of page k)) (rows_of_page bytes p k (omega (arith, le)))
+    sym (append_assoc (rows_before bytes (256 * p)) (rows_at (4096 * p) page k)
+    (row_line (4096 * p + 16 * k) (row_of page k)))
+    ∙ ap (λ (l : List ℕ). l ++ row_line (4096 * p + 16 * k) (row_of page k))
+    (rows_of_page bytes p k (omega (arith, le)))
     ∙ ap (λ at. rows_before bytes n ++ row_line at (row_of page k)) place
     ∙ ap (λ (row : List ℕ). rows_before bytes n ++ row_line (16 * n) row) (row_of_page bytes p k (omega (arith, le)))
     ∙ ap (rows_before bytes) more
@@ -48,13 +53,16 @@ rows_past bytes m (suc j) le =
     ∙ rows_past bytes m j le
 
 -- the bytes that are read for a page
-pub page_read : (xs : List ℕ) (page n part : ℕ) → length xs ≡ n → 4096 * page < n → part ≡ min (n - 4096 * page) 4096 → slice_range xs (4096 * page) (4096 * page + part) ≡ part_of xs page
+pub page_read : (xs : List ℕ) (page n part : ℕ) → length xs ≡ n → 4096 * page < n → part ≡ min (n - 4096 * page) 4096
+    → slice_range xs (4096 * page) (4096 * page + part) ≡ part_of xs page
 page_read xs page n part long below is =
-    let few : 4096 * page + part - 4096 * page ≡ min 4096 (length (drop (4096 * page) xs)) = omega (arith, is, length-drop (4096 * page) xs, long) in
+    let few : 4096 * page + part - 4096 * page ≡ min 4096 (length (drop (4096 * page) xs)) =
+    omega (arith, is, length-drop (4096 * page) xs, long) in
     ap (λ k. take k (drop (4096 * page) xs)) few ∙ take_min 4096 (drop (4096 * page) xs)
 
 -- the rows up to the page after this one
-rows_to_next : (bytes : List ℕ) (p k : ℕ) → k ≤ 256 → (k ≡ 256) ⊎ (length bytes ≤ 16 * (256 * p + k)) → rows_before bytes (256 * p + k) ≡ rows_before bytes (256 * (p + 1))
+rows_to_next : (bytes : List ℕ) (p k : ℕ) → k ≤ 256 → (k ≡ 256) ⊎ (length bytes ≤ 16 * (256 * p + k))
+    → rows_before bytes (256 * p + k) ≡ rows_before bytes (256 * (p + 1))
 rows_to_next bytes p k le end = ⊎_elim
     (λ (full : k ≡ 256). let same : 256 * p + k ≡ 256 * (p + 1) = omega (arith, full) in ap (rows_before bytes) same)
     (λ (past : length bytes ≤ 16 * (256 * p + k)).
@@ -63,7 +71,10 @@ rows_to_next bytes p k le end = ⊎_elim
     end
 
 -- one page more
-pub page_more : (old mid new : Option (List ℕ)) (bytes : List ℕ) (p n : ℕ) (part : List ℕ) → length bytes ≡ n → 4096 * p < n → length part ≡ min (n - 4096 * p) 4096 → part ≡ part_of bytes p → Appends old mid (rows_before bytes (256 * p)) → Appends mid new (rows_at (4096 * p) part (row_count (length part))) → Appends old new (rows_before bytes (256 * (p + 1)))
+pub page_more : (old mid new : Option (List ℕ)) (bytes : List ℕ) (p n : ℕ) (part : List ℕ) → length bytes ≡ n → 4096 * p
+    < n → length part ≡ min (n - 4096 * p) 4096 → part ≡ part_of bytes p → Appends old mid (rows_before bytes (256 * p))
+    → Appends mid new (rows_at (4096 * p) part (row_count (length part)))
+    → Appends old new (rows_before bytes (256 * (p + 1)))
 page_more old mid new bytes p n part long below size is before this =
     let k = row_count (length part) in
     let some : k ≤ 256 = omega (arith, size) in
@@ -73,23 +84,30 @@ page_more old mid new bytes p n part long below size is before this =
     (λ (full : 4096 * p + 4096 < n). inl (omega (arith, full, size)))
     (λ (last : n ≤ 4096 * p + 4096). inr (omega (arith, last, size, below, long)))
     (cases_lt (4096 * p + 4096) n) in
-    subst Q (rows_of_page bytes p k some ∙ rows_to_next bytes p k some end) (appends_both old mid new (rows_before bytes (256 * p)) (rows_at (4096 * p) (part_of bytes p) k) before (subst P is this))
+    subst Q (rows_of_page bytes p k some ∙ rows_to_next bytes p k some end) (appends_both old mid new
+    (rows_before bytes (256 * p)) (rows_at (4096 * p) (part_of bytes p) k) before (subst P is this))
 
 -- a row of a page, as it is cut out of it
-pub row_cut : (bytes : List ℕ) (n to : ℕ) → 16 * n < length bytes → to ≡ min (length bytes) (16 * n + 16) → slice_range bytes (16 * n) to ≡ row_of bytes n
+pub row_cut : (bytes : List ℕ) (n to : ℕ) → 16 * n < length bytes → to ≡ min (length bytes) (16 * n + 16)
+    → slice_range bytes (16 * n) to ≡ row_of bytes n
 row_cut bytes n to below is =
-    let few : to - 16 * n ≡ min 16 (length (drop (16 * n) bytes)) = omega (arith, is, length-drop (16 * n) bytes, below) in
+    let few : to - 16 * n ≡ min 16 (length (drop (16 * n) bytes)) =
+    omega (arith, is, length-drop (16 * n) bytes, below) in
     ap (λ k. take k (drop (16 * n) bytes)) few ∙ take_min 16 (drop (16 * n) bytes)
 
 -- one row more
-pub row_more_at : (old mid new : Option (List ℕ)) (at : ℕ) (bytes row : List ℕ) (n : ℕ) → row ≡ row_of bytes n → Appends old mid (rows_at at bytes n) → Appends mid new (row_line (at + 16 * n) row) → Appends old new (rows_at at bytes (n + 1))
+pub row_more_at : (old mid new : Option (List ℕ)) (at : ℕ) (bytes row : List ℕ) (n : ℕ) → row ≡ row_of bytes n
+    → Appends old mid (rows_at at bytes n) → Appends mid new (row_line (at + 16 * n) row)
+    → Appends old new (rows_at at bytes (n + 1))
 row_more_at old mid new at bytes row n is before this =
     let P : List ℕ → Type 0 = λ (r : List ℕ). Appends mid new (row_line (at + 16 * n) r) in
     let Q : List ℕ → Type 0 = λ text. Appends old new text in
-    subst Q (ap (rows_at at bytes) (sym (add-one n))) (appends_both old mid new (rows_at at bytes n) (row_line (at + 16 * n) (row_of bytes n)) before (subst P is this))
+    subst Q (ap (rows_at at bytes) (sym (add-one n))) (appends_both old mid new (rows_at at bytes n)
+    (row_line (at + 16 * n) (row_of bytes n)) before (subst P is this))
 
 -- all rows
-pub rows_all : (bytes : List ℕ) (n pages : ℕ) → length bytes ≡ n → n ≤ 4096 * pages → rows_before bytes (256 * pages) ≡ rows_before bytes (row_count n)
+pub rows_all : (bytes : List ℕ) (n pages : ℕ) → length bytes ≡ n → n ≤ 4096 * pages
+    → rows_before bytes (256 * pages) ≡ rows_before bytes (row_count n)
 rows_all bytes n pages long past =
     let split : 256 * pages ≡ row_count n + (256 * pages - row_count n) = omega (arith, past) in
     ap (rows_before bytes) split ∙ rows_past bytes (row_count n) (256 * pages - row_count n) (omega (arith, long))

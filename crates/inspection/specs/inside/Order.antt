@@ -1,5 +1,6 @@
 -- The batches of the open journals that were read, the newest first.
-use Rattle.std.specs.Prelude.{ℕ, ◌+◌, ◌*◌, ◌==◌, nat_lt, if◌then◌else◌, Bool, false, List, [], ◌∷◌, ◌++◌, Option, Some, None, length, slice_get}
+use Rattle.std.specs.Prelude.{ℕ, ◌+◌, ◌*◌, ◌==◌, nat_lt, if◌then◌else◌, Bool, false}
+use Rattle.std.specs.Prelude.{List, [], ◌∷◌, ◌++◌, Option, Some, None, length, slice_get}
 use Rattle.volume_codec.specs.Descriptor.{DescriptorValue}
 use Rattle.volume_codec.specs.Recovery.{Batch}
 use Rattle.inspection.specs.declared.found.Journal.{Journal}

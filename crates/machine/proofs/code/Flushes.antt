@@ -53,6 +53,16 @@ module _ (honest : Type 0) (s : State) (disk disk' : List ℕ) (p : ℕ) (allowe
       → disk' ≡ worked disk (work_asked s) → FlushMade s disk p answer new disk'
   own answer new all is = subst (FlushMade s disk p answer new) (sym is) (all disk)
 
+  -- a step that is made
+  by_step : (answer : Flushed) (new : State) → answer ≡ next_answer s.write_outs
+      → new ≡ record (cond (is_page_next s) (after_record s) s)
+      { write_outs = outs_after s.write_outs (next_answer s.write_outs) }
+      → (honest → disk' ≡ worked disk (work_asked s))
+      → AnswersBy honest (λ d d'. FlushMade s d p answer new d') disk disk'
+  by_step answer new is done seen =
+      let all = made answer new is done in
+      record { some_disk = ([], worked [] (work_asked s), all []); own_disk = λ h. own answer new all (seen h) }
+
   -- by the journal's answer, which isn't that it was broken before
   pub flushes_by : (answer : Flushed) → (answer ≡ next_answer s.write_outs) ⊎ (answer ≡ flushed.Device)
       → answer ≢ flushed.Broken
@@ -62,30 +72,16 @@ module _ (honest : Type 0) (s : State) (disk disk' : List ℕ) (p : ℕ) (allowe
       (λ d d'. Acts s d p acts.Flush (reply_by (reply_of_flush answer)) (stepped s answer) d') disk disk'
   flushes_by flushed.Going answered whole seen =
       let is : flushed.Going ≡ next_answer s.write_outs = ⊎_elim (λ e. e) (λ e. absurd (cc)) answered in
-      let all = made flushed.Going (stepped s flushed.Going) is
-      (with_record s (is_page_next s) _ _ (ap (outs_after s.write_outs) is)) in
-      record {
-        some_disk = ([], worked [] (work_asked s), all []);
-        own_disk = λ h. own flushed.Going (stepped s flushed.Going) all (seen h);
-      }
+      by_step flushed.Going (stepped s flushed.Going) is
+      (with_record s (is_page_next s) _ _ (ap (outs_after s.write_outs) is)) seen
   flushes_by (flushed.Committed mark) answered whole seen =
       let is : flushed.Committed mark ≡ next_answer s.write_outs = ⊎_elim (λ e. e) (λ e. absurd (cc)) answered in
-      let new = stepped s (flushed.Committed mark) in
-      let all = made (flushed.Committed mark) new is
-      (with_record s (is_page_next s) _ _ (ap (outs_after s.write_outs) is)) in
-      record {
-        some_disk = ([], worked [] (work_asked s), all []);
-        own_disk = λ h. own (flushed.Committed mark) new all (seen h);
-      }
+      by_step (flushed.Committed mark) (stepped s (flushed.Committed mark)) is
+      (with_record s (is_page_next s) _ _ (ap (outs_after s.write_outs) is)) seen
   flushes_by (flushed.Done mark) answered whole seen =
       let is : flushed.Done mark ≡ next_answer s.write_outs = ⊎_elim (λ e. e) (λ e. absurd (cc)) answered in
-      let new = stepped s (flushed.Done mark) in
-      let all = made (flushed.Done mark) new is
-      (with_record s (is_page_next s) _ _ (ap (outs_after s.write_outs) is)) in
-      record {
-        some_disk = ([], worked [] (work_asked s), all []);
-        own_disk = λ h. own (flushed.Done mark) new all (seen h);
-      }
+      by_step (flushed.Done mark) (stepped s (flushed.Done mark)) is
+      (with_record s (is_page_next s) _ _ (ap (outs_after s.write_outs) is)) seen
   flushes_by flushed.Device answered whole seen = record {
     some_disk =
         ([], [], record { allowed = allowed; some = some; done = refl; disk_torn = nothing_torn (work_asked s) });

@@ -14,7 +14,7 @@ use Rattle.machine.proofs.Names.{AreBacked-without_frame, is_in_memory, State, l
 use Rattle.machine.proofs.Names.{page_from, with_hardware, MayLeave, IsInFile, IsMemory, IsMemorySound, IsSound}
 use Rattle.machine.proofs.sound.Lists.{held_frame, same_some, once_frames, once_copies, memory_from, AreOnce-set}
 use Rattle.machine.proofs.sound.Admitted.{unlocked}
-use Rattle.machine.proofs.sound.Groups.{still_sound, write_outs_moved, write_outs_kept, prepared_moved}
+use Rattle.machine.proofs.sound.Groups.{still_sound, write_outs_moved, write_outs_kept, prepared_moved, spaces_stay}
 use Rattle.machine.proofs.sound.Ended.{frozen_has_block}
 
 -- ---- pages in memory
@@ -65,27 +65,20 @@ pub frames_sound : (s : State) (memory : FramesState) → IsMemory memory
     → (s.hardware.shootdown.lock ≡ None) ⊎ (count_by is_none memory.frames ≡ count_by is_none s.hardware.memory.frames)
     → IsSound s → IsSound (with_memory s memory)
 frames_sound s memory is same stays in_files backed copied room sound = still_sound sound refl refl
+    (spaces_stay sound.spaces (λ lock held. ⊎_elim (λ free. unlocked s.hardware.shootdown.lock lock free held)
+    (λ as_many. prepared_moved s (with_memory s memory) lock.change
     (record {
-      spaces = sound.spaces.spaces;
-      shootdown = sound.spaces.shootdown;
-      coheres = sound.spaces.coheres;
-      current = sound.spaces.current;
-      in_table = sound.spaces.in_table;
-      prepared = λ lock held. ⊎_elim (λ free. unlocked s.hardware.shootdown.lock lock free held)
-          (λ as_many. prepared_moved s (with_memory s memory) lock.change
-          (record {
-            users = λ q user. user;
-            places = λ q. refl;
-            table = refl;
-            in_memory = in_memory_stays s.hardware.memory memory stays;
-            lengths = refl;
-            settled = λ whole none. (whole, none);
-            room = as_many;
-            marks = refl;
-            free = λ free. free;
-          })
-          (sound.spaces.prepared lock held)) room;
+      users = λ q user. user;
+      places = λ q. refl;
+      table = refl;
+      in_memory = in_memory_stays s.hardware.memory memory stays;
+      lengths = refl;
+      settled = λ whole none. (whole, none);
+      room = as_many;
+      marks = refl;
+      free = λ free. free;
     })
+    (sound.spaces.prepared lock held)) room))
     (record {
       memory = is;
       few_frames = omega (arith, same, sound.memory.few_frames);
@@ -278,14 +271,7 @@ dropped_sound s owner frame leaves unmapped free sound =
     let memory = s.hardware.memory in
     let is = sound.memory in
     still_sound sound refl refl
-    (record {
-      spaces = sound.spaces.spaces;
-      shootdown = sound.spaces.shootdown;
-      coheres = sound.spaces.coheres;
-      current = sound.spaces.current;
-      in_table = sound.spaces.in_table;
-      prepared = λ lock held. unlocked s.hardware.shootdown.lock lock free held;
-    })
+    (spaces_stay sound.spaces (λ lock held. unlocked s.hardware.shootdown.lock lock free held))
     (record {
       memory = IsMemory-without_frame memory frame is.memory;
       few_frames =

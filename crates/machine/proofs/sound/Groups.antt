@@ -9,7 +9,7 @@ use Rattle.spaces.specs.declared.change.Change.TheVariants.{SetLength}
 use Rattle.machine.proofs.Names.{is_user_space, Lock, ShootdownState, IsShootdown, current, Coheres, CheckpointState}
 use Rattle.machine.proofs.Names.{is_noted, same_page, AreRising, AreBacked, frame_at, is_in_memory, Hardware, State}
 use Rattle.machine.proofs.Names.{home_of, pages_in_file, with_shootdown, IsPrepared, IsMemorySound, AreWriteOutsSound}
-use Rattle.machine.proofs.Names.{IsSound}
+use Rattle.machine.proofs.Names.{IsSound, FramesState}
 use Rattle.machine.proofs.sound.Sources.{source_stays}
 use Rattle.std.proofs.Common.{Contains}
 
@@ -164,6 +164,23 @@ prepared_moved s new (SetLength file to) stays is =
           (ap (λ n. ltb n (pages_of to - pages_of (get_or s.lengths file 0))) stays.room ∙ is.room);
     }
 prepared_moved s new Checkpoint stays is = (subst (λ n. n + 1 < 2 ^ 32) (sym stays.marks) is.0, stays.free is.1)
+
+-- where only frames, notes and write-outs change, spaces are sound if what is under way is prepared still
+pub spaces_stay : {s : State} {memory : FramesState} {checkpoint : CheckpointState} {outs : WriteOutsValue}
+    → AreSpacesSound s
+    → ((lock : Lock) → s.hardware.shootdown.lock ≡ Some lock → IsPrepared
+    (record s { hardware = record s.hardware { memory = memory }; checkpoint = checkpoint; write_outs = outs })
+    lock.change)
+    → AreSpacesSound
+    (record s { hardware = record s.hardware { memory = memory }; checkpoint = checkpoint; write_outs = outs })
+spaces_stay is prepared = record {
+  spaces = is.spaces;
+  shootdown = is.shootdown;
+  coheres = is.coheres;
+  current = is.current;
+  in_table = is.in_table;
+  prepared = prepared;
+}
 
 -- ---- processors
 

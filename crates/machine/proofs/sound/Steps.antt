@@ -11,7 +11,7 @@ use Rattle.machine.proofs.Names.{AreOlderCommitted, AreSpacesSound, AreWriteOuts
 use Rattle.journal.specs.declared.flushed.Flushed.TheVariants as flushed
 use Rattle.journal.specs.WriteOuts.{current}
 use Rattle.machine.proofs.sound.Lists.{once_frames, once_copies, memory_from, AreOnce-fewer, AreOnce-none}
-use Rattle.machine.proofs.sound.Groups.{prepared_moved}
+use Rattle.machine.proofs.sound.Groups.{prepared_moved, spaces_stay}
 use Rattle.machine.proofs.sound.Sources.{source_stays}
 use Rattle.machine.proofs.Names.{IsSource, file_homes, count_by, is_none}
 use Rattle.machine.proofs.sound.Waiting.{waiting, length-advanced, committed-advanced}
@@ -68,30 +68,22 @@ module _ (s : State) (sound : IsSound s) where
       → AreSpacesSound
       (record s { hardware = record s.hardware { memory = memory }; checkpoint = checkpoint; write_outs = outs })
   stepped_spaces memory checkpoint outs same free settled =
-      let is = sound.spaces in
-      record {
-        spaces = is.spaces;
-        shootdown = is.shootdown;
-        coheres = is.coheres;
-        current = is.current;
-        in_table = is.in_table;
-        prepared = λ lock held. prepared_moved s (record s {
-          hardware = record s.hardware { memory = memory };
-          checkpoint = checkpoint;
-          write_outs = outs;
-        }) lock.change (record {
-          users = λ q user. user;
-          places = λ q. refl;
-          table = refl;
-          in_memory = λ owner there.
-              ap (λ (frames : List (Option Frame)). list_any (is_of_page owner) frames) same ∙ there;
-          lengths = refl;
-          settled = settled;
-          room = ap (λ (frames : List (Option Frame)). count_by is_none frames) same;
-          marks = refl;
-          free = free;
-        }) (is.prepared lock held);
-      }
+      spaces_stay sound.spaces (λ lock held. prepared_moved s (record s {
+        hardware = record s.hardware { memory = memory };
+        checkpoint = checkpoint;
+        write_outs = outs;
+      }) lock.change (record {
+        users = λ q user. user;
+        places = λ q. refl;
+        table = refl;
+        in_memory = λ owner there.
+            ap (λ (frames : List (Option Frame)). list_any (is_of_page owner) frames) same ∙ there;
+        lengths = refl;
+        settled = settled;
+        room = ap (λ (frames : List (Option Frame)). count_by is_none frames) same;
+        marks = refl;
+        free = free;
+      }) (sound.spaces.prepared lock held))
 
 -- ---- whose step it is
 

@@ -3,14 +3,16 @@ use Rattle.std.proofs.lemmas.List.{map-append}
 use Rattle.volume_codec.specs.Files.{File}
 use Rattle.recovery.specs.Volume.{files_of, bytes_of}
 use Rattle.crash_table.specs.inside.Kept.{contents_of}
-use Rattle.crash_table.proofs.Reading.{lengths_of_settled, lengths_after_reading, files_read, read_then, as_many_files, bytes_more, all_bytes}
+use Rattle.crash_table.proofs.Reading.{lengths_of_settled, lengths_after_reading, files_read}
+use Rattle.crash_table.proofs.Reading.{read_then, as_many_files, bytes_more, all_bytes}
 use Rattle.crash_table.proofs.files.read_files.Goals as goal
 
 pub read_file-requires-clause-files : goal.read_file-requires-clause-files
 read_file-requires-clause-files g c = λ honest.
     let before = c.loop-file.invariant in
     let first = before.0.honest.0 honest in
-    lengths_after_reading g.D.Device c.args.volume.now c.loop-file.volume before.0 first (lengths_of_settled g.D.Device c.args.volume.now c.requires first)
+    lengths_after_reading g.D.Device c.args.volume.now c.loop-file.volume before.0 first
+    (lengths_of_settled g.D.Device c.args.volume.now c.requires first)
 
 pub loop-file-preserved : goal.loop-file-preserved
 loop-file-preserved g c =
@@ -23,7 +25,9 @@ loop-file-preserved g c =
           let files = files_of old.table (g.D.Device.seen old.device) in
           let below : i < length old.table.files = search rules in
           let inside : i < length files = omega (arith, below, as_many_files g.D.Device old c.requires honest) in
-          let this : c.in_ok-read_file.field-0.items ≡ bytes_of files i = c.in_ok-read_file.ensures.bytes (before.0.honest.1 honest) ∙ ap (λ (fs : List File). bytes_of fs i) (files_read g.D.Device old mid before.0 honest) in
+          let this : c.in_ok-read_file.field-0.items ≡ bytes_of files i =
+          c.in_ok-read_file.ensures.bytes (before.0.honest.1 honest)
+          ∙ ap (λ (fs : List File). bytes_of fs i) (files_read g.D.Device old mid before.0 honest) in
           ap (map (λ v. v.items)) c.in_ok-push.ensures.items
           ∙ map-append (λ v. v.items) c.loop-file.files.items (c.in_ok-read_file.field-0 ∷ [])
           ∙ ap (λ (l : List (List ℕ)). l ++ c.in_ok-read_file.field-0.items ∷ []) (before.1 honest)
@@ -36,4 +40,5 @@ returns g c = λ honest.
     let old = c.args.volume.now in
     let files = files_of old.table (g.D.Device.seen old.device) in
     let past : length old.table.files ≤ c.loop-file.file = search rules in
-    c.loop-file.invariant.1 honest ∙ all_bytes files c.loop-file.file (omega (arith, past, as_many_files g.D.Device old c.requires honest))
+    c.loop-file.invariant.1 honest
+    ∙ all_bytes files c.loop-file.file (omega (arith, past, as_many_files g.D.Device old c.requires honest))

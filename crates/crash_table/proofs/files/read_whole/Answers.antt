@@ -12,5 +12,6 @@ returns-clause-bytes g c = λ honest.
     let long = length_of_file volume seen c.args.file c.args.bytes (c.requires.files honest) c.requires.long in
     let room : length c.args.buffer.now ≡ c.args.bytes = c.requires.room in
     on_ok_weaker c.read_file.result
-    (λ (is : c.read_file.new.buffer ≡ slice_range file 0 (0 + length c.args.buffer.now)). is ∙ whole_range file (length c.args.buffer.now) (cc))
+    (λ (is : c.read_file.new.buffer ≡ slice_range file 0 (0 + length c.args.buffer.now)). is
+    ∙ whole_range file (length c.args.buffer.now) (cc))
     (c.read_file.ensures.bytes honest)

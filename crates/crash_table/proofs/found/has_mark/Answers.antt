@@ -13,7 +13,8 @@ loop-reply-preserved c = λ i less here.
       | inl early ↦ c.loop-reply.invariant i early here
       | inr past ↦ (
           let this : i ≡ index = omega (arith, less, past) in
-          let found : slice_get replies index ≡ Some (Marked c.args.number) = ap (slice_get replies) (sym this) ∙ here in
+          let found : slice_get replies index ≡ Some (Marked c.args.number) =
+          ap (slice_get replies) (sym this) ∙ here in
           let is = c.reply-item.is ∙ get_or_from_slice_get replies index (Marked c.args.number) _ found in
           absurd (let no : false ≡ true = subst IsTrue c.if-is_mark.false (c.is_mark.ensures.1 is) in cc))
     ]

@@ -8,5 +8,7 @@ pub returns-in-Some : goal.returns-in-Some
 returns-in-Some g c = λ files shape steps kept.
     let yes : IsTrue c.are_same_replies.result = search rules in
     let this = c.in-Some.ensures in
-    kept_alike files shape steps c.args.first.now c.args.replies.now c.args.at c.in-Some.kept.now (c.are_same_replies.ensures.0 yes)
-    (subst (λ i. IsKept files shape steps c.args.first.now i c.in-Some.kept.now) this.1 (kept c.in-Some.kept.now this.0))
+    kept_alike files shape steps c.args.first.now c.args.replies.now c.args.at c.in-Some.kept.now
+    (c.are_same_replies.ensures.0 yes)
+    (subst (λ i. IsKept files shape steps c.args.first.now i c.in-Some.kept.now) this.1
+    (kept c.in-Some.kept.now this.0))

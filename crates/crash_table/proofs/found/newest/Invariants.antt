@@ -6,4 +6,5 @@ use Rattle.crash_table.specs.inside.Kept.{AreKept, NoneFrom}
 use Rattle.crash_table.proofs.found.newest.Given as goal
 
 abbrev pub invariant-loop-before : goal.invariant-loop-before
-invariant-loop-before g l = (files : List File) (shape : Shape) (steps : List Step) → AreKept files shape steps l.first l.marks → NoneFrom files shape steps l.replies (map (λ v. v.items) l.found) (length l.replies - l.before)
+invariant-loop-before g l = (files : List File) (shape : Shape) (steps : List Step) → AreKept files shape steps l.first
+    l.marks → NoneFrom files shape steps l.replies (map (λ v. v.items) l.found) (length l.replies - l.before)

@@ -2,6 +2,7 @@ use Rattle.std.proofs.Common.{rules, ◌≡◌, ℕ, ◌+◌, ◌<◌, List, [],
 use Rattle.machine.specs.declared.act.Reply.{Reply}
 use Rattle.machine.specs.Runs.{StepsTaken}
 use Rattle.engine.proofs.Runs.{taken_next, length_more}
+use Rattle.crash_table.proofs.make.make.Goals.{In_ok-push}
 use Rattle.crash_table.proofs.make.make.Goals as goal
 
 pub loop-step-init : goal.loop-step-init
@@ -10,8 +11,13 @@ loop-step-init g c =
     let P : List Reply → Type 0 = λ l. StepsTaken g.D.Device c.args.machine.now [] l c.args.machine.now in
     (ap (λ (l : List Reply). length l) none, subst P (sym none) refl)
 
-pub loop-step-preserved : goal.loop-step-preserved
-loop-step-preserved g c =
+-- one step more was made
+one_more : (g : _) (c : In_ok-push g)
+    → (length c.push.new.self.items ≡ c.loop-step.step-index + 1)
+    × StepsTaken g.D.Device c.args.machine.now
+    (take (c.loop-step.step-index + 1) c.args.steps.now) c.push.new.self.items
+    c.enter-reply.new.self
+one_more g c =
     let old = c.args.machine.now in
     let earlier = c.loop-step.replies.items in
     let reply = c.enter-reply.result in
@@ -21,25 +27,24 @@ loop-step-preserved g c =
     let more = c.in_ok-push.ensures.items in
     let P : List Reply → Type 0 = λ l. StepsTaken g.D.Device old (take (index + 1) steps) l c.enter-reply.new.self in (
       ap (λ (l : List Reply). length l) more ∙ length_more earlier reply index c.loop-step.invariant.0,
-      subst P (sym more) (taken_next g.D.Device old c.loop-step.machine c.enter-reply.new.self steps index c.step-item.result earlier reply below c.step-item.is c.loop-step.invariant.1 c.enter-reply.ensures.taken),
+      subst P (sym more) (taken_next g.D.Device old c.loop-step.machine c.enter-reply.new.self steps index
+          c.step-item.result earlier reply below c.step-item.is c.loop-step.invariant.1 c.enter-reply.ensures.taken),
     )
+
+pub loop-step-preserved : goal.loop-step-preserved
+loop-step-preserved g c = one_more g (goal.at.loop-step-preserved g c).In_ok-push
 
 pub returns-then-is_failure : goal.returns-then-is_failure
 returns-then-is_failure g c =
-    let old = c.args.machine.now in
-    let earlier = c.loop-step.replies.items in
-    let reply = c.enter-reply.result in
-    let index = c.loop-step.step-index in
     let steps = c.args.steps.now in
-    let below : index < length steps = search rules in
-    let more = c.in_ok-push.ensures.items in
-    let P : List Reply → Type 0 = λ l. StepsTaken g.D.Device old (take (index + 1) steps) l c.enter-reply.new.self in
-    let Q : ℕ → Type 0 = λ n. StepsTaken g.D.Device old (take n steps) c.push.new.self.items c.enter-reply.new.self in
-    let count : length c.push.new.self.items ≡ index + 1 = ap (λ (l : List Reply). length l) more ∙ length_more earlier reply index c.loop-step.invariant.0 in
-    subst Q (sym count) (subst P (sym more) (taken_next g.D.Device old c.loop-step.machine c.enter-reply.new.self steps index c.step-item.result earlier reply below c.step-item.is c.loop-step.invariant.1 c.enter-reply.ensures.taken))
+    let more = one_more g (goal.at.returns-then-is_failure g c).In_ok-push in
+    let Q : ℕ → Type 0 = λ n.
+    StepsTaken g.D.Device c.args.machine.now (take n steps) c.push.new.self.items c.enter-reply.new.self in
+    subst Q (sym more.0) more.1
 
 pub returns : goal.returns
 returns g c =
     let steps = c.args.steps.now in
-    let Q : ℕ → Type 0 = λ n. StepsTaken g.D.Device c.args.machine.now (take n steps) c.loop-step.replies.items c.loop-step.machine in
+    let Q : ℕ → Type 0 = λ n.
+    StepsTaken g.D.Device c.args.machine.now (take n steps) c.loop-step.replies.items c.loop-step.machine in
     subst Q (sym c.loop-step.invariant.0) c.loop-step.invariant.1

@@ -11,7 +11,8 @@ returns g c = λ within.
     let trial = c.args.trial.now in
     let count = ap (λ (k : Content). length k.unsynced) within in
     let states = c.in_ok-states.field-0.items in
-    let some = λ (more : 0 < length c.args.contents.now.unsynced.items). found_among (λ (f : Found). f.choice) states choices.New (c.in_ok-states.ensures.new more) in
+    let some = λ (more : 0 < length c.args.contents.now.unsynced.items).
+    found_among (λ (f : Found). f.choice) states choices.New (c.in_ok-states.ensures.new more) in
     record {
       number = search rules;
       unsynced = c.unsynced.ensures ∙ count;
@@ -21,5 +22,6 @@ returns g c = λ within.
       old = found_among (λ (f : Found). f.choice) states choices.Old c.in_ok-states.ensures.old;
       new = λ more. some (subst (λ (n : ℕ). 0 < n) c.unsynced.ensures more);
       torn = λ call is kind bytes.
-          some (subst (λ (n : ℕ). 0 < n) (sym count) (torn_some (content_before trial.image trial.calls c.args.index) _ call is kind bytes));
+          some (subst (λ (n : ℕ). 0 < n) (sym count)
+          (torn_some (content_before trial.image trial.calls c.args.index) _ call is kind bytes));
     }

@@ -21,9 +21,11 @@ loop-choice-preserved g c =
           let there = subst (λ (l : List Found). Contains l found) pushed has in
           elim (Contains-push_cases c.loop-choice.states.items _ found there) [
             | inl was ↦ c.loop-choice.invariant.each found was
-            | inr same ↦ (let P : Found → Type 0 = λ f. Leaves c.args.trial.now c.args.number (left_by f.choice (content_of c.args.contents.now)) f.mark in subst P same c.in_ok-state.ensures.leaves)
+            | inr same ↦ (let P : Found → Type 0 = λ f. Leaves c.args.trial.now c.args.number
+                (left_by f.choice (content_of c.args.contents.now)) f.mark in subst P same c.in_ok-state.ensures.leaves)
           ];
-      named = named_more (λ (f : Found). f.choice) c.loop-choice.states.items c.push.new.self.items state tried i _ c.loop-choice-test.true pushed c.in_ok-state.ensures.named c.loop-choice.invariant.named;
+      named = named_more (λ (f : Found). f.choice) c.loop-choice.states.items c.push.new.self.items state tried i _
+          c.loop-choice-test.true pushed c.in_ok-state.ensures.named c.loop-choice.invariant.named;
     }
 
 pub returns-clause-old : goal.returns-clause-old
@@ -31,11 +33,13 @@ returns-clause-old g c =
     let tried = c.deref-choice-items.result.now in
     let past : length tried ≤ c.loop-choice.choice-index = search rules in
     let P : List Choice → Type 0 = λ l. Contains l choices.Old in
-    subst P (sym (c.loop-choice.invariant.named ∙ take_all c.loop-choice.choice-index tried past)) (subst P (sym c.deref-choice-items.ensures.value) c.in_ok-tried.ensures.old)
+    subst P (sym (c.loop-choice.invariant.named ∙ take_all c.loop-choice.choice-index tried past))
+    (subst P (sym c.deref-choice-items.ensures.value) c.in_ok-tried.ensures.old)
 
 pub returns-clause-new : goal.returns-clause-new
 returns-clause-new g c = λ some.
     let tried = c.deref-choice-items.result.now in
     let past : length tried ≤ c.loop-choice.choice-index = search rules in
     let P : List Choice → Type 0 = λ l. Contains l choices.New in
-    subst P (sym (c.loop-choice.invariant.named ∙ take_all c.loop-choice.choice-index tried past)) (subst P (sym c.deref-choice-items.ensures.value) (c.in_ok-tried.ensures.new some))
+    subst P (sym (c.loop-choice.invariant.named ∙ take_all c.loop-choice.choice-index tried past))
+    (subst P (sym c.deref-choice-items.ensures.value) (c.in_ok-tried.ensures.new some))

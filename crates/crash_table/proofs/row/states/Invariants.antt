@@ -8,6 +8,7 @@ use Rattle.crash_table.proofs.row.states.Given as goal
 
 abbrev pub invariant-loop-choice : goal.invariant-loop-choice
 invariant-loop-choice g l = record {
-  each : (found : Found) → Contains l.states.items found → Leaves l.trial l.number (left_by found.choice (content_of l.contents)) found.mark;
+  each : (found : Found) → Contains l.states.items found
+      → Leaves l.trial l.number (left_by found.choice (content_of l.contents)) found.mark;
   named : map (λ (f : Found). f.choice) l.states.items ≡ take l.choice-index l.choice-items;
 }

@@ -12,7 +12,8 @@ returns-in_ok-push g c = λ files recovered before.
     let mark = c.in_ok-mark.mark in
     let P : List (MarkFiles _) → Type 0 = λ l. AreKept files shape steps replies l in
     subst P (sym c.in_ok-push.ensures.items) (kept_more files shape steps replies c.args.marks.now.items mark before
-    (subst (λ i. IsKept files shape steps replies i mark) (sym c.in_ok-mark.ensures.step) (c.in_ok-mark.ensures.kept files recovered)))
+    (subst (λ i. IsKept files shape steps replies i mark) (sym c.in_ok-mark.ensures.step)
+    (c.in_ok-mark.ensures.kept files recovered)))
 
 pub returns-in_default : goal.returns-in_default
 returns-in_default g c = λ files recovered before. before

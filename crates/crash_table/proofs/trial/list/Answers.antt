@@ -13,5 +13,6 @@ returns-in-Ok-clause-files g c =
 
 pub returns-in-Ok-clause-calls : goal.returns-in-Ok-clause-calls
 returns-in-Ok-clause-calls g c =
-    let P : ListedDisk Recorded → Type 0 = λ disk. IfOk c.list_steps.result (λ listed. AreMade disk c.args.plan.now.shape c.args.plan.now.steps.now (calls_of listed.calls.items)) in
+    let P : ListedDisk Recorded → Type 0 = λ disk. IfOk c.list_steps.result
+    (λ listed. AreMade disk c.args.plan.now.shape c.args.plan.now.steps.now (calls_of listed.calls.items)) in
     subst P (c.new-disk.ensures ∙ ap listing c.in_ok-copy.ensures) (c.list_steps.ensures _ _ c.in-Ok.ensures.started)

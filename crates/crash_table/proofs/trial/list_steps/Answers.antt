@@ -1,4 +1,5 @@
-use Rattle.std.proofs.Common.{rules, ◌≡◌, ◌+◌, ◌<◌, ◌≤◌, List, [], false, length, take, refl, sym, ap, subst, ◌∙◌, arith}
+use Rattle.std.proofs.Common.{rules, ◌≡◌, ◌+◌, ◌<◌, ◌≤◌, List, [], false}
+use Rattle.std.proofs.Common.{length, take, refl, sym, ap, subst, ◌∙◌, arith}
 use Rattle.std.proofs.lemmas.List.{take_all}
 use Rattle.device.specs.Memory.{Recorded}
 use Rattle.machine.specs.declared.act.Reply.{Reply}
@@ -18,8 +19,11 @@ loop-step-preserved g c =
     let index = c.loop-step.step-index in
     let steps = c.args.steps.now in
     let below : index < length steps = search rules in
-    let P : List Reply → Type 0 = λ l. StepsTaken listing_memory c.args.machine (take (index + 1) steps) l c.enter.new.self in
-    subst P (sym c.in_ok-push.ensures.items) (taken_next listing_memory c.args.machine c.loop-step.machine c.enter.new.self steps index c.step-item.result c.loop-step.replies.items c.enter.result below c.step-item.is c.loop-step.invariant c.enter.ensures.taken)
+    let P : List Reply → Type 0 =
+    λ l. StepsTaken listing_memory c.args.machine (take (index + 1) steps) l c.enter.new.self in
+    subst P (sym c.in_ok-push.ensures.items)
+    (taken_next listing_memory c.args.machine c.loop-step.machine c.enter.new.self steps index c.step-item.result
+    c.loop-step.replies.items c.enter.result below c.step-item.is c.loop-step.invariant c.enter.ensures.taken)
 
 pub returns : goal.returns
 returns g c = λ before shape started.
@@ -36,6 +40,7 @@ returns g c = λ before shape started.
       after = last.device;
       ran = c.ran_since_start.ensures before shape c.args.machine steps replies started taken;
       complete = subst Q device c.in_ok-calls.ensures.0;
-      sound = sym (ap (λ (d : ListedDisk Recorded). d.inner.faults) device) ∙ omega (arith, c.faults.ensures, c.if-faults-gt0.false);
+      sound = sym (ap (λ (d : ListedDisk Recorded). d.inner.faults) device)
+          ∙ omega (arith, c.faults.ensures, c.if-faults-gt0.false);
       listed = c.in_ok-calls.ensures.1 ∙ ap (λ (d : ListedDisk Recorded). d.calls) device;
     }

@@ -5,4 +5,5 @@ use Rattle.crash_table.specs.inside.Kept.{AreKept}
 use Rattle.crash_table.proofs.trial.marks_of.Given as goal
 
 abbrev pub invariant-loop-at : goal.invariant-loop-at
-invariant-loop-at g l = (files : List File) → RecoversTo l.plan.image.now files → AreKept files l.plan.shape l.plan.steps.now l.replies l.marks.items
+invariant-loop-at g l = (files : List File) → RecoversTo l.plan.image.now files
+    → AreKept files l.plan.shape l.plan.steps.now l.replies l.marks.items

@@ -7,7 +7,8 @@ pub returns-in-Ok-clause-ran : goal.returns-in-Ok-clause-ran
 returns-in-Ok-clause-ran g c =
     let found = c.in-Ok.ensures.gathered in
     let trace = c.in-Ok.trace.items in
-    runs_from g.D.Device g.L.Origin.start found.first c.in-Ok.machine (steps_of trace) (replies_of trace) c.into_device.result c.ran_since_start.ensures c.into_device.ensures found.start_is found.legal
+    runs_from g.D.Device g.L.Origin.start found.first c.in-Ok.machine (steps_of trace) (replies_of trace)
+    c.into_device.result c.ran_since_start.ensures c.into_device.ensures found.start_is found.legal
 
 pub returns-in-Ok-clause-set_up : goal.returns-in-Ok-clause-set_up
 returns-in-Ok-clause-set_up g c =

@@ -11,7 +11,8 @@ use Rattle.driver.proofs.running.serve.Goals as goal
 
 pub returns-in-Ok-clause-ran : goal.returns-in-Ok-clause-ran
 returns-in-Ok-clause-ran g c =
-    let P : Whole g.row.D.Denot → Ran g.row.D.Denot → Type 0 = λ start ran. RunsFrom g.D.Device start (steps_of ran.trace.items) (replies_of ran.trace.items) ran.device in
+    let P : Whole g.row.D.Denot → Ran g.row.D.Denot → Type 0 =
+    λ start ran. RunsFrom g.D.Device start (steps_of ran.trace.items) (replies_of ran.trace.items) ran.device in
     of_the_one c.gathered.result g.L.Origin.start P c.args.machine c.requires.origin.0 c.gathered.ensures.ran
 
 pub returns-in-Ok-clause-set_up : goal.returns-in-Ok-clause-set_up
@@ -28,6 +29,9 @@ gathered-requires-clause-ready g c =
     let old = c.in-Ok.cpus.items in
     let new = c.carried_out-ran_out.new.cpus in
     let rest = drop (length new) old in
-    let same : c.in-Ok.cpus.len ≡ length new = grind (arith, c.carried_out-ran_out.auto.cpus, c.deref_mut.ensures.len, c.deref_mut.ensures.value) in
-    let all : take c.in-Ok.cpus.len (new ++ rest) ≡ new = ap (λ (n : ℕ). take n (new ++ rest)) same ∙ take-append_seam new rest in
-    subst (λ (cpus : List CpuState). AreReady script.steps.items script.trace cpus) (sym all) c.carried_out-ran_out.ensures
+    let same : c.in-Ok.cpus.len ≡ length new =
+    grind (arith, c.carried_out-ran_out.auto.cpus, c.deref_mut.ensures.len, c.deref_mut.ensures.value) in
+    let all : take c.in-Ok.cpus.len (new ++ rest) ≡ new =
+    ap (λ (n : ℕ). take n (new ++ rest)) same ∙ take-append_seam new rest in
+    subst (λ (cpus : List CpuState). AreReady script.steps.items script.trace cpus)
+    (sym all) c.carried_out-ran_out.ensures

@@ -12,7 +12,9 @@ returns-in-Ok-clause-health g c = λ honest.
     subst P (sym c.health_of.ensures) (health_of_found bytes c.in-Ok.found (c.in-Ok.ensures.found honest))
 
 pub returns-in-Ok-clause-judged : goal.returns-in-Ok-clause-judged
-returns-in-Ok-clause-judged g c = λ honest. judged_ok _ c.inspect.result c.in-Ok.found _ c.in-Ok.is (c.inspect.ensures.judged honest)
+returns-in-Ok-clause-judged g c =
+    λ honest. judged_ok _ c.inspect.result c.in-Ok.found _ c.in-Ok.is (c.inspect.ensures.judged honest)
 
 pub returns-in-Err-clause-judged : goal.returns-in-Err-clause-judged
-returns-in-Err-clause-judged g c = λ honest. judged_err _ c.inspect.result c.in-Err.refusal c.in-Err.is (c.inspect.ensures.judged honest)
+returns-in-Err-clause-judged g c =
+    λ honest. judged_err _ c.inspect.result c.in-Err.refusal c.in-Err.is (c.inspect.ensures.judged honest)

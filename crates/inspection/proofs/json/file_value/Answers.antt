@@ -21,6 +21,7 @@ returns g c =
     ∙ ap (λ k. file_members (name_of v i) n k pages.result home.result) capacity.ensures
     ∙ ap (λ p. file_members (name_of v i) n cap p home.result) pages.ensures
     ∙ ap (file_members (name_of v i) n cap (pages_of cap)) home.ensures in
-    IfOk-weaker c.file_object.result (λ value. view value ≡ file_members name.result.now n capacity.result pages.result home.result) _
+    IfOk-weaker c.file_object.result
+    (λ value. view value ≡ file_members name.result.now n capacity.result pages.result home.result) _
     (λ value is. is ∙ members)
     c.file_object.ensures

@@ -12,4 +12,5 @@ loop-home-preserved g c =
     let below : i < length homes = search rules in
     let pushed : c.push.new.self.items ≡ c.loop-home.items.items ++ value ∷ [] = search rules in
     let is : view value ≡ home_data c.args.table.now (get_or homes i 0) = search rules in
-    value_more (home_data c.args.table.now) c.loop-home.items.items c.push.new.self.items homes i 0 value below pushed is c.loop-home.invariant
+    value_more (home_data c.args.table.now) c.loop-home.items.items c.push.new.self.items homes i 0 value below pushed
+    is c.loop-home.invariant

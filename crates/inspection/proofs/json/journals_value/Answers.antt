@@ -8,5 +8,6 @@ loop-journal-preserved g c =
     let value = c.in_ok-value.value in
     let item = c.journal-item.result in
     let pushed : c.push.new.self.items ≡ c.loop-journal.items.items ++ value ∷ [] = search rules in
-    value_more (journal_data c.args.table.now) c.loop-journal.items.items c.push.new.self.items c.args.journals.now c.loop-journal.journal-index item value c.loop-journal-test.true pushed
+    value_more (journal_data c.args.table.now) c.loop-journal.items.items c.push.new.self.items c.args.journals.now
+    c.loop-journal.journal-index item value c.loop-journal-test.true pushed
     (c.in_ok-value.ensures ∙ ap (journal_data c.args.table.now) c.journal-item.is) c.loop-journal.invariant

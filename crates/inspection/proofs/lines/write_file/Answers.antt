@@ -14,8 +14,10 @@ returns-clause-printed g c = λ honest f at.
     let are = c.requires.files honest in
     let named = name_of_file volume seen file f c.name-name.result.now are at c.name-name.ensures in
     let long = length_of_file volume seen file c.length-bytes.result are c.length-bytes.ensures in
-    let text = file_json_is f c.name-name.result.now (bytes_of (files_of volume.table seen) file) c.length-bytes.result named (file_at (files_of volume.table seen) file f at) long in
+    let text = file_json_is f c.name-name.result.now (bytes_of (files_of volume.table seen) file) c.length-bytes.result
+    named (file_at (files_of volume.table seen) file f at) long in
     let P : List ℕ → Type 0 = λ text. Appends (contents c.args.out.now) (contents c.write_pages.new.out) text in
     ok_map c.write_pages.result
-    (λ rows. subst P text (appends_both (contents c.args.out.now) (contents c.write_head.new.out) (contents c.write_pages.new.out) _ _ c.in_ok-write_head.ensures rows))
+    (λ rows. subst P text (appends_both (contents c.args.out.now) (contents c.write_head.new.out)
+    (contents c.write_pages.new.out) _ _ c.in_ok-write_head.ensures rows))
     (c.write_pages.ensures.printed honest)

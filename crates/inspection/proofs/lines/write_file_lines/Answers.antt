@@ -7,5 +7,9 @@ returns-in-Ok-clause-printed g c = λ honest.
     let volume = c.in-Ok.volume in
     let opens = c.in-Ok.ensures.opens in
     ok_map c.write_files.result
-    (λ appends. (files_of volume.table (g.D.Device.seen volume.device), c.opened_as_recovered.ensures.files c.args.device volume.device volume.table (opens.ended honest), appends))
+    (λ appends. (
+      files_of volume.table (g.D.Device.seen volume.device),
+      c.opened_as_recovered.ensures.files c.args.device volume.device volume.table (opens.ended honest),
+      appends,
+    ))
     (c.write_files.ensures (opens.kept.honest.1 honest))

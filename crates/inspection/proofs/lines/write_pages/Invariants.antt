@@ -8,4 +8,5 @@ use Rattle.inspection.proofs.lines.write_pages.Given as goal
 abbrev pub invariant-loop-page : goal.invariant-loop-page
 invariant-loop-page g l = IsReadVolume g.D.Device l.initial.volume l.volume
     × (g.D.Device.is_honest l.initial.volume.device
-    → Appends (g.W.Write.contents l.initial.out) (g.W.Write.contents l.out) (rows_json (bytes_of (files_of l.initial.volume.table (g.D.Device.seen l.initial.volume.device)) l.file) (256 * l.page)))
+    → Appends (g.W.Write.contents l.initial.out) (g.W.Write.contents l.out) (rows_json
+    (bytes_of (files_of l.initial.volume.table (g.D.Device.seen l.initial.volume.device)) l.file) (256 * l.page)))

@@ -9,4 +9,5 @@ loop-row-preserved g c =
     let row = c.loop-row.row in
     let below : 16 * row < length bytes = search rules in
     let end : c.min-to.result ≡ min (length bytes) (16 * row + 16) = search rules in
-    row_more_at (contents c.args.out.now) (contents c.loop-row.out) (contents c.write_row.new.out) c.args.at bytes _ row (row_cut bytes row c.min-to.result below end) c.loop-row.invariant c.in_ok-write_row.ensures
+    row_more_at (contents c.args.out.now) (contents c.loop-row.out) (contents c.write_row.new.out) c.args.at bytes _ row
+    (row_cut bytes row c.min-to.result below end) c.loop-row.invariant c.in_ok-write_row.ensures

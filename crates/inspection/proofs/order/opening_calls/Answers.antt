@@ -10,4 +10,16 @@ returns g c = λ small.
     let all = calls_of (descriptor_at 0 journals) (descriptor_at 1 journals) in
     let first = ap finishing c.descriptor_of.ensures.is in
     let second = ap finishing c.descriptor_of-2.ensures.is in
-    omega (arith, small, all, first, second, ap journals_of c.layout-layout.ensures.value, ap lengths_blocks c.layout-layout.ensures.value, c.journals.ensures, c.lengths_blocks.ensures.value, c.finishing_calls-first.ensures, c.finishing_calls-second.ensures)
+    omega (
+      arith,
+      small,
+      all,
+      first,
+      second,
+      ap journals_of c.layout-layout.ensures.value,
+      ap lengths_blocks c.layout-layout.ensures.value,
+      c.journals.ensures,
+      c.lengths_blocks.ensures.value,
+      c.finishing_calls-first.ensures,
+      c.finishing_calls-second.ensures,
+    )

@@ -13,6 +13,8 @@ returns-in-Err-clause-refused g c = λ honest.
     let opens : c.in_ok-gate.gate ≡ 0xA7 = search rules in
     let gate : IsOpen seen geometry.slots c.args.journal = sym (c.in_ok-gate.ensures.gate honest) ∙ opens in
     let block : c.in_ok-block.block ≡ block_at seen (descriptor_block geometry.slots c.args.journal) =
-    c.in_ok-block.ensures.bytes (read.honest.1 honest) ∙ ap (λ bytes. block_at bytes c.descriptor_block.result) read.same ∙ ap (block_at seen) c.descriptor_block.ensures.value in
+    c.in_ok-block.ensures.bytes (read.honest.1 honest) ∙ ap (λ bytes. block_at bytes c.descriptor_block.result)
+    read.same ∙ ap (block_at seen) c.descriptor_block.ensures.value in
     let P : List ℕ → Type 0 = λ block. RefusesDescriptor geometry block c.in-Err.refusal in
-    refuses_descriptor geometry seen c.args.journal c.in-Err.refusal c.requires.there gate (subst P block c.in-Err.ensures.refused)
+    refuses_descriptor geometry seen c.args.journal c.in-Err.refusal c.requires.there gate
+    (subst P block c.in-Err.ensures.refused)

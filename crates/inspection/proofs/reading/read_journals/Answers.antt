@@ -25,7 +25,8 @@ loop-journal-preserved g c =
       read = read;
       len = ap length read.same;
       count = ap length pushed ∙ length_more c.loop-journal.found.items says ∙ ap (λ n. n + 1) i.count;
-      say = λ honest. rw pushed (from_push c.args.geometry.now bytes 0 c.loop-journal.journal c.loop-journal.found.items says (i.say honest) (omega (arith, i.count)) (subst P i.read.same (e.says (i.read.honest.1 honest))));
+      say = λ honest. rw pushed (from_push c.args.geometry.now bytes 0 c.loop-journal.journal c.loop-journal.found.items
+          says (i.say honest) (omega (arith, i.count)) (subst P i.read.same (e.says (i.read.honest.1 honest))));
     }
 
 pub returns-then-is_err-clause-read : goal.returns-then-is_err-clause-read

@@ -20,5 +20,6 @@ returns g c =
     ap (λ s. file_text s n capacity.result home.result) name.ensures
     ∙ ap (λ k. file_text (name_of v i) n k home.result) capacity.ensures
     ∙ ap (file_text (name_of v i) n (slice_index (capacities_in v) i)) home.ensures in
-    let P : List ℕ → Type 0 = λ text. Appends (g.W.Write.contents c.args.out.now) (g.W.Write.contents c.write_file_text.new.out) text in
+    let P : List ℕ → Type 0 =
+    λ text. Appends (g.W.Write.contents c.args.out.now) (g.W.Write.contents c.write_file_text.new.out) text in
     ok_map c.write_file_text.result (subst P text) c.write_file_text.ensures

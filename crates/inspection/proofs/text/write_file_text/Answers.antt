@@ -19,5 +19,6 @@ returns g c =
     let P : ℕ → Type 0 = λ pages. Appends first second (file_size a.bytes pages a.home) in
     ok_map c.write_capacity.result
     (λ last. appends_both start second end (x ++ y) z
-    (appends_both start first second x y c.in_ok-write_file_name.ensures (subst P c.requires c.in_ok-write_file_size.ensures)) last)
+    (appends_both start first second x y c.in_ok-write_file_name.ensures
+    (subst P c.requires c.in_ok-write_file_size.ensures)) last)
     c.write_capacity.ensures

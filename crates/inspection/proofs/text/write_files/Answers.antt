@@ -5,4 +5,5 @@ use Rattle.inspection.proofs.text.write_files.Goals as goal
 pub loop-file-preserved : goal.loop-file-preserved
 loop-file-preserved g c =
     let contents = g.W.Write.contents in
-    file_more (contents c.args.out.now) (contents c.loop-file.out) (contents c.write_file.new.out) c.args.table.now c.args.lengths.now c.loop-file.file _ refl c.loop-file.invariant c.in_ok-write_file.ensures
+    file_more (contents c.args.out.now) (contents c.loop-file.out) (contents c.write_file.new.out) c.args.table.now
+    c.args.lengths.now c.loop-file.file _ refl c.loop-file.invariant c.in_ok-write_file.ensures

@@ -21,5 +21,6 @@ returns g c =
     let journals : Appends second third d = search rules in
     ok_map c.write_calls.result
     (λ last. appends_both start third end (a ++ b ++ d) e
-    (appends_both start second third (a ++ b) d (appends_both start first second a b c.in_ok-write_volume.ensures files) journals) last)
+    (appends_both start second third (a ++ b) d
+    (appends_both start first second a b c.in_ok-write_volume.ensures files) journals) last)
     c.write_calls.ensures

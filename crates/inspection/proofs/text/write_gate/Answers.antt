@@ -9,6 +9,8 @@ pub returns : goal.returns
 returns g c =
     let gate = c.args.gate in
     let small : gate < 256 = search rules in
-    let P : List ℕ → Type 0 = λ text. Appends (g.W.Write.contents c.args.out.now) (g.W.Write.contents c.write.new.self) text in
-    let wrote : OnOk c.write.result (Appends (g.W.Write.contents c.args.out.now) (g.W.Write.contents c.write.new.self) (padded_integral (format_spec 32 0 4 2 (2 ^ 64 - 1)) false [] (digits 16 false gate))) = search rules in
+    let P : List ℕ → Type 0 =
+    λ text. Appends (g.W.Write.contents c.args.out.now) (g.W.Write.contents c.write.new.self) text in
+    let wrote : OnOk c.write.result (Appends (g.W.Write.contents c.args.out.now) (g.W.Write.contents c.write.new.self)
+    (padded_integral (format_spec 32 0 4 2 (2 ^ 64 - 1)) false [] (digits 16 false gate))) = search rules in
     ok_map c.write.result (subst P (hex_byte false gate small)) wrote

@@ -10,5 +10,7 @@ loop-home-preserved g c =
     let homes = c.args.homes.now in
     let i = c.loop-home.home-index in
     let below : i < length homes = search rules in
-    let wrote : Appends (contents c.loop-home.out) (contents c.write_home.new.out) (home_text c.args.table.now (get_or homes i 0)) = search rules in
-    item_more (home_text c.args.table.now) _ (contents c.loop-home.out) (contents c.write_home.new.out) homes i 0 below c.loop-home.invariant wrote
+    let wrote : Appends (contents c.loop-home.out) (contents c.write_home.new.out)
+    (home_text c.args.table.now (get_or homes i 0)) = search rules in
+    item_more (home_text c.args.table.now) _ (contents c.loop-home.out)
+    (contents c.write_home.new.out) homes i 0 below c.loop-home.invariant wrote

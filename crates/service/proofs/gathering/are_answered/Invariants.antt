@@ -5,4 +5,5 @@ use Rattle.service.specs.Gathering.{CpuState}
 use Rattle.service.proofs.gathering.are_answered.Given as goal
 
 abbrev pub invariant-loop-cpu : goal.invariant-loop-cpu
-invariant-loop-cpu g l = (i : ℕ) → i < l.cpu-index → (cpu : CpuState) → slice_get l.cpus i ≡ Some cpu → of_processor cpu.number l.trace ≡ cpu.answered
+invariant-loop-cpu g l = (i : ℕ) → i < l.cpu-index → (cpu : CpuState) → slice_get l.cpus i ≡ Some cpu
+    → of_processor cpu.number l.trace ≡ cpu.answered

@@ -8,6 +8,10 @@ write_descriptor-requires g c = record {
   homes = record {
     some = omega arith;
     few = omega (arith, c.slots.ensures.value);
-    rising = (omega (arith, c.first_home.ensures.value), omega (arith, c.block_count.ensures.value), (omega arith, omega (arith, c.block_count.ensures.value), tt));
+    rising = (
+      omega (arith, c.first_home.ensures.value),
+      omega (arith, c.block_count.ensures.value),
+      (omega arith, omega (arith, c.block_count.ensures.value), tt),
+    );
   };
 }

@@ -16,7 +16,8 @@ returns g c = record {
       let f = some_at files i (omega (arith, c.requires.there, as_many_files old seen are)) in
       let bytes = file_at files i f.0 f.1 in
       let long = length_of_file old seen i c.length-bytes.result are c.length-bytes.ensures in
-      let P : List ℕ → Type 0 = λ text. Appends (g.W.Write.contents c.args.out.now) (g.W.Write.contents c.copy_pages.new.out) text in
+      let P : List ℕ → Type 0 =
+      λ text. Appends (g.W.Write.contents c.args.out.now) (g.W.Write.contents c.copy_pages.new.out) text in
       record {
         number = i;
         file = f.0;

@@ -19,9 +19,12 @@ loop-page-preserved g c =
       λ honest.
           let seen = g.D.Device.seen old.device in
           let bytes = bytes_of (files_of old.table seen) file in
-          let is = c.in_default.ensures.page (before.0.honest.1 honest) ∙ ap (λ files. part_of (bytes_of files file) page) (files_read g.D.Device old mid before.0 honest) in
-          let wrote : Appends (contents c.loop-page.out) (contents c.write_all.new.self) c.read_page.new.part = search rules in
-          copied_more (contents c.args.out.now) (contents c.loop-page.out) (contents c.write_all.new.self) bytes page c.read_page.new.part is (before.1 honest) wrote,
+          let is = c.in_default.ensures.page (before.0.honest.1 honest)
+          ∙ ap (λ files. part_of (bytes_of files file) page) (files_read g.D.Device old mid before.0 honest) in
+          let wrote : Appends (contents c.loop-page.out)
+          (contents c.write_all.new.self) c.read_page.new.part = search rules in
+          copied_more (contents c.args.out.now) (contents c.loop-page.out)
+          (contents c.write_all.new.self) bytes page c.read_page.new.part is (before.1 honest) wrote,
     )
 
 pub returns : goal.returns
@@ -34,6 +37,7 @@ returns g c =
           let long = length_of_file old seen c.args.file c.args.bytes (c.requires.files honest) c.requires.long in
           let past : c.args.bytes ≤ 4096 * c.loop-page.page = search rules in
           let P : List ℕ → Type 0 = λ text. Appends (contents c.args.out.now) (contents c.loop-page.out) text in
-          subst P (take_all (4096 * c.loop-page.page) bytes (omega (arith, long, past))) (c.loop-page.invariant.1 honest);
+          subst P (take_all (4096 * c.loop-page.page) bytes (omega (arith, long, past)))
+          (c.loop-page.invariant.1 honest);
       read = c.loop-page.invariant.0;
     }

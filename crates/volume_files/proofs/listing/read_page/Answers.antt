@@ -12,5 +12,7 @@ returns-clause-page g c = λ honest.
     let files = bytes_of (files_of volume.table seen) c.args.file in
     let long = length_of_file volume seen c.args.file c.args.bytes (c.requires.files honest) c.requires.long in
     on_ok_weaker c.read_file.result
-    (λ (is : c.read_file.new.buffer ≡ slice_range files (4096 * c.args.page) (4096 * c.args.page + length c.args.part.now)). is ∙ page_read files c.args.page c.args.bytes (length c.args.part.now) long c.requires.within c.requires.room)
+    (λ (is : c.read_file.new.buffer
+    ≡ slice_range files (4096 * c.args.page) (4096 * c.args.page + length c.args.part.now)).
+    is ∙ page_read files c.args.page c.args.bytes (length c.args.part.now) long c.requires.within c.requires.room)
     (c.read_file.ensures.bytes honest)

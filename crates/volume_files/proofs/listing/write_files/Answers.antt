@@ -5,14 +5,16 @@ use Rattle.volume_codec.specs.Files.{File}
 use Rattle.recovery.specs.Volume.{files_of}
 use Rattle.recovery.proofs.FileBytes.{some_at}
 use Rattle.volume_files.specs.Dump.{dump_text}
-use Rattle.volume_files.proofs.Dumped.{files_of_settled, files_after_reading, files_read, read_then, file_more, as_many_files}
+use Rattle.volume_files.proofs.Dumped.{files_of_settled, files_after_reading}
+use Rattle.volume_files.proofs.Dumped.{files_read, read_then, file_more, as_many_files}
 use Rattle.volume_files.proofs.listing.write_files.Goals as goal
 
 pub write_file-requires-clause-files : goal.write_file-requires-clause-files
 write_file-requires-clause-files g c = λ honest.
     let before = c.loop-file.invariant in
     let first = before.0.honest.0 honest in
-    files_after_reading g.D.Device c.args.volume.now c.loop-file.volume before.0 first (files_of_settled g.D.Device c.args.volume.now c.file_count-file-end.ensures.settled first)
+    files_after_reading g.D.Device c.args.volume.now c.loop-file.volume before.0 first
+    (files_of_settled g.D.Device c.args.volume.now c.file_count-file-end.ensures.settled first)
 
 pub loop-file-preserved : goal.loop-file-preserved
 loop-file-preserved g c =
@@ -28,7 +30,8 @@ loop-file-preserved g c =
           let below : i < length old.table.files = search rules in
           let f = some_at files i (omega (arith, below, as_many_files old (g.D.Device.seen old.device) are)) in
           let at = ap (λ fs. slice_get fs i) (files_read g.D.Device old mid before.0 honest) ∙ f.1 in
-          file_more (contents c.args.out.now) (contents c.loop-file.out) (contents c.write_file.new.out) files i f.0 f.1 (before.1 honest) (c.in_ok-write_file.ensures.printed (before.0.honest.1 honest) f.0 at),
+          file_more (contents c.args.out.now) (contents c.loop-file.out) (contents c.write_file.new.out) files i f.0 f.1
+          (before.1 honest) (c.in_ok-write_file.ensures.printed (before.0.honest.1 honest) f.0 at),
     )
 
 pub returns : goal.returns
@@ -37,6 +40,8 @@ returns g c = λ honest.
     let files = files_of old.table (g.D.Device.seen old.device) in
     let are = files_of_settled g.D.Device old c.file_count-file-end.ensures.settled honest in
     let past : length old.table.files ≤ c.loop-file.file = search rules in
-    let all : take c.loop-file.file files ≡ files = take_all c.loop-file.file files (omega (arith, past, as_many_files old (g.D.Device.seen old.device) are)) in
-    let P : List File → Type 0 = λ fs. Appends (g.W.Write.contents c.args.out.now) (g.W.Write.contents c.loop-file.out) (dump_text fs) in
+    let all : take c.loop-file.file files ≡ files =
+    take_all c.loop-file.file files (omega (arith, past, as_many_files old (g.D.Device.seen old.device) are)) in
+    let P : List File → Type 0 =
+    λ fs. Appends (g.W.Write.contents c.args.out.now) (g.W.Write.contents c.loop-file.out) (dump_text fs) in
     subst P all (c.loop-file.invariant.1 honest)

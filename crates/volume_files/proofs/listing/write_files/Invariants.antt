@@ -8,4 +8,5 @@ use Rattle.volume_files.proofs.listing.write_files.Given as goal
 abbrev pub invariant-loop-file : goal.invariant-loop-file
 invariant-loop-file g l = IsOnlyRead g.D.Device l.initial.volume l.volume
     × (g.D.Device.is_honest l.initial.volume.device
-    → Appends (g.W.Write.contents l.initial.out) (g.W.Write.contents l.out) (dump_text (take l.file (files_of l.initial.volume.table (g.D.Device.seen l.initial.volume.device)))))
+    → Appends (g.W.Write.contents l.initial.out) (g.W.Write.contents l.out)
+    (dump_text (take l.file (files_of l.initial.volume.table (g.D.Device.seen l.initial.volume.device)))))

@@ -21,8 +21,10 @@ loop-page-preserved g c =
           let long = length_of_file old seen file c.args.bytes (c.requires.files honest) c.requires.long in
           let below : 4096 * page < c.args.bytes = search rules in
           let size : length c.read_page.new.part ≡ min (c.args.bytes - 4096 * page) 4096 = search rules in
-          let is = c.in_default.ensures.page (before.0.honest.1 honest) ∙ ap (λ files. part_of (bytes_of files file) page) (files_read g.D.Device old mid before.0 honest) in
-          page_more (contents c.args.out.now) (contents c.loop-page.out) (contents c.write_page.new.out) bytes page c.args.bytes c.read_page.new.part long below size is (before.1 honest) c.in_ok-write_page.ensures,
+          let is = c.in_default.ensures.page (before.0.honest.1 honest)
+          ∙ ap (λ files. part_of (bytes_of files file) page) (files_read g.D.Device old mid before.0 honest) in
+          page_more (contents c.args.out.now) (contents c.loop-page.out) (contents c.write_page.new.out) bytes page
+          c.args.bytes c.read_page.new.part long below size is (before.1 honest) c.in_ok-write_page.ensures,
     )
 
 pub returns : goal.returns

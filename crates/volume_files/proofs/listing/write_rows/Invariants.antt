@@ -8,4 +8,5 @@ use Rattle.volume_files.proofs.listing.write_rows.Given as goal
 abbrev pub invariant-loop-page : goal.invariant-loop-page
 invariant-loop-page g l = IsOnlyRead g.D.Device l.initial.volume l.volume
     × (g.D.Device.is_honest l.initial.volume.device
-    → Appends (g.W.Write.contents l.initial.out) (g.W.Write.contents l.out) (rows_before (bytes_of (files_of l.initial.volume.table (g.D.Device.seen l.initial.volume.device)) l.file) (256 * l.page)))
+    → Appends (g.W.Write.contents l.initial.out) (g.W.Write.contents l.out) (rows_before
+    (bytes_of (files_of l.initial.volume.table (g.D.Device.seen l.initial.volume.device)) l.file) (256 * l.page)))

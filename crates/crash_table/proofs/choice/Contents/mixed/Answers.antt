@@ -15,10 +15,12 @@ loop-i-preserved g c =
     let len : length new ≡ length bytes = c.in_ok-mix_block.ensures.same_length ∙ ap length value in
     let sized : length bytes ≡ c.loop-i.bytes.len = omega (arith, c.loop-i.bytes.ok.0) in
     let all : length new ≡ c.loop-i.bytes.len = len ∙ sized in
-    let whole : take c.loop-i.bytes.len (new ++ drop (length new) bytes) ≡ new = written_whole c.loop-i.bytes.len new bytes sized all in
+    let whole : take c.loop-i.bytes.len (new ++ drop (length new) bytes) ≡ new =
+    written_whole c.loop-i.bytes.len new bytes sized all in
     record {
       left = whole ∙ c.in_ok-mix_block.ensures.mixed
-          ∙ ap (λ (l : List ℕ). with_copied l content.seen (4096 * slice_index content.unsynced i) (new_bytes c.args.choice i)) (value ∙ c.loop-i.invariant.left)
+          ∙ ap (λ (l : List ℕ). with_copied l content.seen (4096 * slice_index content.unsynced i)
+          (new_bytes c.args.choice i)) (value ∙ c.loop-i.invariant.left)
           ∙ ap (left_of_blocks c.args.choice content) (sym (add-one i));
       same_length = ap length whole ∙ len ∙ c.loop-i.invariant.same_length;
     }

@@ -10,4 +10,5 @@ loop-found-preserved g c =
     let i = c.loop-found.found-index in
     let d : Found = record { choice = choices.Old; mark = 0 } in
     let below : i < length items = c.loop-found-test.true in
-    c.max-newest.ensures ∙ ap (λ (n : ℕ). max n (get_or items i d).mark) c.loop-found.invariant ∙ sym (newest_more items i d below)
+    c.max-newest.ensures ∙ ap (λ (n : ℕ). max n (get_or items i d).mark) c.loop-found.invariant
+    ∙ sym (newest_more items i d below)

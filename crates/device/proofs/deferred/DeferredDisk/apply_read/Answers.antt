@@ -2,37 +2,18 @@ use Rattle.std.proofs.Common.{◌≤◌, ◌≡◌, ◌+◌, ◌-◌, ◌/◌, N
 use Rattle.std.specs.Prelude.{slice_range}
 use Rattle.device.specs.Deferred.{Deferred, AreAlike, as_recorded, first_unknown, lacked_by_read}
 use Rattle.device.specs.Memory.{seen_of, content_after}
-use Rattle.device.proofs.Deferring.{agrees_for_read, none_of}
+use Rattle.device.proofs.Deferring.{agrees_for_read, none_of, within_kept}
 use Rattle.device.proofs.Patches.{length-content_after}
 use Rattle.device.proofs.deferred.DeferredDisk.apply_read.Goals as goal
 
 pub overflow_add-end : goal.overflow_add-end
 overflow_add-end g c =
-    let disk = c.self.inside in
-    let room = subst (λ (d : Deferred). c.args.at + length c.args.buffer.now ≤ length (seen_of (as_recorded d)))
-    (sym c.self.view_is) c.requires in
-    record {
-      fits = omega (
-        arith,
-        room,
-        length-content_after disk.past.first disk.past.changes c.self.invariant.0.within,
-        c.self.invariant.0.len_is,
-        c.self.ranges,
-      );
-    }
+    let room = within_kept (c.args.at + length c.args.buffer.now) c.self.view_is c.self.invariant.0 c.requires in
+    record { fits = omega (arith, room.1.1, c.self.ranges) }
 
 pub read-requires : goal.read-requires
 read-requires g c =
-    let disk = c.self.inside in
-    let room = subst (λ (d : Deferred). c.args.at + length c.args.buffer.now ≤ length (seen_of (as_recorded d)))
-    (sym c.self.view_is) c.requires in
-    omega (
-      arith,
-      room,
-      length-content_after disk.past.first disk.past.changes c.self.invariant.0.within,
-      c.self.invariant.0.first_length,
-      c.self.invariant.0.bytes_length,
-    )
+    (within_kept (c.args.at + length c.args.buffer.now) c.self.view_is c.self.invariant.0 c.requires).1.0
 
 pub returns-clause-bytes : goal.returns-clause-bytes
 returns-clause-bytes g c = λ well.

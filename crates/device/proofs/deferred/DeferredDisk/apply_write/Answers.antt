@@ -1,52 +1,28 @@
-use Rattle.std.proofs.Common.{◌≤◌, ◌≡◌, ◌+◌, ◌-◌, None, refl, sym, ◌∙◌, ap, subst, length, arith}
-use Rattle.device.specs.Deferred.{Deferred, as_recorded, after_write, lacked_by_write}
-use Rattle.device.specs.Memory.{seen_of}
+use Rattle.std.proofs.Common.{◌≡◌, ◌+◌, ◌-◌, None, refl, sym, ◌∙◌, ap, subst, length, arith}
+use Rattle.device.specs.Deferred.{Deferred, after_write, lacked_by_write}
 use Rattle.device.specs.Memory.DiskChange.{write}
 use Rattle.device.specs.inside.Deferring.{AreCounted}
 use Rattle.device.specs.inside.Logged.{changes_of}
 use Rattle.device.proofs.Counting.{counted_more}
-use Rattle.device.proofs.Deferring.{kept_as, kept_with_write, none_of, same_deferred, one_more}
+use Rattle.device.proofs.Deferring.{kept_as, kept_with_write, none_of, same_deferred, one_more, within_kept}
 use Rattle.device.proofs.Outcomes.{on_ok}
-use Rattle.device.proofs.Patches.{length-content_after}
 use Rattle.device.proofs.deferred.DeferredDisk.apply_write.Goals as goal
 
 pub overflow_add-from : goal.overflow_add-from
 overflow_add-from g c =
-    let disk = c.self.inside in
-    let room = subst (λ (d : Deferred). c.args.at + length c.args.bytes.now ≤ length (seen_of (as_recorded d)))
-    (sym c.self.view_is) c.requires in
-    record {
-      fits = omega (
-        arith,
-        room,
-        length-content_after disk.past.first disk.past.changes c.self.invariant.0.within,
-        c.self.invariant.0.len_is,
-        c.self.ranges,
-      );
-    }
+    let room = within_kept (c.args.at + length c.args.bytes.now) c.self.view_is c.self.invariant.0 c.requires in
+    record { fits = omega (arith, room.1.1, c.self.ranges) }
 
 pub keep_write-requires : goal.keep_write-requires
 keep_write-requires g c =
-    let disk = c.self.inside in
-    let room = subst (λ (d : Deferred). c.args.at + length c.args.bytes.now ≤ length (seen_of (as_recorded d)))
-    (sym c.self.view_is) c.requires in
-    omega (
-      arith,
-      room,
-      length-content_after disk.past.first disk.past.changes c.self.invariant.0.within,
-      c.self.invariant.0.first_length,
-      c.self.invariant.0.bytes_length,
-    )
+    (within_kept (c.args.at + length c.args.bytes.now) c.self.view_is c.self.invariant.0 c.requires).1.0
 
 pub invariant_of-self-2 : goal.invariant_of-self-2
 invariant_of-self-2 g c =
     let disk = c.self.inside in
     let at = c.args.at in
     let bytes = c.args.bytes.now in
-    let room = subst (λ (d : Deferred). at + length bytes ≤ length (seen_of (as_recorded d)))
-    (sym c.self.view_is) c.requires in
-    let fits : at + length bytes ≤ length disk.past.first =
-    omega (arith, room, length-content_after disk.past.first disk.past.changes c.self.invariant.0.within) in
+    let fits = (within_kept (at + length bytes) c.self.view_is c.self.invariant.0 c.requires).0 in
     let past = c.with_write-self-inside.ensures in
     let none = sym c.is_err.ensures.value ∙ c.if-is_err.false in
     let long : at + length bytes - at ≡ length bytes = omega arith in

@@ -1,10 +1,8 @@
-use Rattle.std.proofs.Common.{◌≡◌, ◌+◌, ◌*◌, ◌≤◌, ap, subst, refl, sym, ◌∙◌, arith, length}
-use Rattle.device.specs.Deferred.{Deferred, as_recorded, with_known, first_block, end_block}
+use Rattle.std.proofs.Common.{◌≡◌, ◌+◌, ◌*◌, ap, subst, refl, sym, ◌∙◌, arith, length}
+use Rattle.device.specs.Deferred.{with_known, first_block, end_block}
 use Rattle.device.specs.inside.Deferring.{AreCounted}
 use Rattle.device.specs.inside.Logged.{changes_of}
-use Rattle.device.specs.Memory.{seen_of}
-use Rattle.device.proofs.Patches.{length-content_after}
-use Rattle.device.proofs.Deferring.{kept_as, kept_with_block}
+use Rattle.device.proofs.Deferring.{kept_as, kept_with_block, within_kept}
 use Rattle.device.proofs.deferred.DeferredDisk.supply.Goals as goal
 
 pub invariant_of-self-2 : goal.invariant_of-self-2
@@ -12,10 +10,7 @@ invariant_of-self-2 g c =
     let disk = c.self.inside in
     let block = c.args.block in
     let past = c.with_block-self-inside.ensures in
-    let room = subst (λ (d : Deferred). 4096 * block + 4096 ≤ length (seen_of (as_recorded d)))
-    (sym c.self.view_is) c.requires in
-    let fits : 4096 * block + 4096 ≤ length disk.past.first =
-    omega (arith, room, length-content_after disk.past.first disk.past.changes c.self.invariant.0.within) in
+    let fits = (within_kept (4096 * block + 4096) c.self.view_is c.self.invariant.0 c.requires).0 in
     let size : length c.args.bytes.now ≡ 4096 = omega (arith, c.fits-bytes) in
     let from : first_block (4096 * block) ≡ block = omega arith in
     let to : end_block (4096 * block) (length c.args.bytes.now) ≡ block + 1 = omega (arith, size) in
@@ -29,15 +24,5 @@ invariant_of-self-2 g c =
 
 pub put-requires : goal.put-requires
 put-requires g c =
-    let disk = c.self.inside in
-    let block = c.args.block in
-    let room = subst (λ (d : Deferred). 4096 * block + 4096 ≤ length (seen_of (as_recorded d)))
-    (sym c.self.view_is) c.requires in
-    omega (
-      arith,
-      room,
-      length-content_after disk.past.first disk.past.changes c.self.invariant.0.within,
-      c.self.invariant.0.first_length,
-      c.self.invariant.0.bytes_length,
-      c.fits-bytes,
-    )
+    let room = within_kept (4096 * c.args.block + 4096) c.self.view_is c.self.invariant.0 c.requires in
+    omega (arith, room.1.0, c.fits-bytes)

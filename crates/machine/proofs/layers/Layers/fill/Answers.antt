@@ -1,6 +1,10 @@
-use Rattle.machine.proofs.Names.{Ok, true, false, refl, err_from_is_err_and, hardware, Fills, state_in}
+use Rattle.machine.proofs.Names.{◌≡◌, Ok, true, false, refl, err_from_is_err_and, hardware, Fills, state_in}
 use Rattle.machine.proofs.code.Parts.{quiet_same, answered_so, lock-fills}
+use Rattle.machine.proofs.layers.Layers.fill.Goals.{After-fill}
 use Rattle.machine.proofs.layers.Layers.fill.Goals as goal
+
+same_lock : (g : _) (c : After-fill g) → c.fill.new.shootdown.lock ≡ c.args.self.now.shootdown.lock
+same_lock g c = lock-fills _ _ _ _ _ (c.fill.ensures.filled c.args.self.now.frames)
 
 pub returns-in_err-fill-clause-rules : goal.returns-in_err-fill-clause-rules
 returns-in_err-fill-clause-rules g c =
@@ -13,7 +17,7 @@ returns-in_err-fill-clause-rules g c =
 
 pub returns-in_err-fill-clause-quiet : goal.returns-in_err-fill-clause-quiet
 returns-in_err-fill-clause-quiet g c =
-    quiet_same refl refl (lock-fills _ _ _ _ _ (c.fill.ensures.filled c.args.self.now.frames))
+    quiet_same refl refl (same_lock g (goal.at.returns-in_err-fill-clause-quiet g c).After-fill)
     c.fill.ensures.uses.still_prepared
 
 pub returns-in-true-clause-rules : goal.returns-in-true-clause-rules
@@ -23,7 +27,7 @@ returns-in-true-clause-rules g c =
 
 pub returns-in-true-clause-quiet : goal.returns-in-true-clause-quiet
 returns-in-true-clause-quiet g c =
-    quiet_same refl refl (lock-fills _ _ _ _ _ (c.fill.ensures.filled c.args.self.now.frames))
+    quiet_same refl refl (same_lock g (goal.at.returns-in-true-clause-quiet g c).After-fill)
     c.fill.ensures.uses.still_prepared
 
 pub returns-in-false-clause-rules : goal.returns-in-false-clause-rules
@@ -33,5 +37,5 @@ returns-in-false-clause-rules g c =
 
 pub returns-in-false-clause-quiet : goal.returns-in-false-clause-quiet
 returns-in-false-clause-quiet g c =
-    quiet_same refl refl (lock-fills _ _ _ _ _ (c.fill.ensures.filled c.args.self.now.frames))
+    quiet_same refl refl (same_lock g (goal.at.returns-in-false-clause-quiet g c).After-fill)
     c.fill.ensures.uses.still_prepared

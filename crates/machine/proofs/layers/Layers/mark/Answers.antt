@@ -1,16 +1,26 @@
-use Rattle.machine.proofs.Names.{◌<◌, ◌≤◌, ◌+◌, false, not, List, length, map, refl, sym, ap, ◌∙◌, subst, All, FilePage}
-use Rattle.machine.proofs.Names.{Checkpoint, finished, CheckpointState, Gathers, Layers, home_of, MarkMade, state_in}
+use Rattle.machine.proofs.Names.{◌<◌, ◌≤◌, ◌+◌, false, not, List, length, refl, sym, ap, ◌∙◌, subst, All, FilePage}
+use Rattle.machine.proofs.Names.{Checkpoint, finished, CheckpointState, Gathers, Layers, MarkMade, state_in}
 use Rattle.machine.proofs.Names.{IsPageOf, MayBegin, mark_homes}
 use Rattle.machine.proofs.code.Parts.{may_change}
 use Rattle.machine.proofs.code.Marks.{few_frozen, frozen_there, may_begin, with_homes-batch}
+use Rattle.machine.proofs.layers.Layers.mark.Goals.{After-gather}
 use Rattle.machine.proofs.layers.Layers.mark.Goals as goal
+
+-- what was gathered
+gathered : (g : _) (c : After-gather g)
+    → Gathers (state_in c.args.self.now).hardware.spaces (state_in c.args.self.now).hardware.memory
+    (state_in c.args.self.now).checkpoint c.gather.new.self (not (state_in c.args.self.now).write_outs.broken)
+    c.gather.ensures.gathered.0
+gathered g c =
+    let s = state_in c.args.self.now in
+    subst (λ b. Gathers s.hardware.spaces s.hardware.memory s.checkpoint c.gather.new.self (not b)
+    c.gather.ensures.gathered.0) c.is_broken-freezes.ensures c.gather.ensures.gathered.2
 
 pub write_out-requires-clause-few : goal.write_out-requires-clause-few
 write_out-requires-clause-few g c =
     let s = state_in c.args.self.now in
     let pages = c.gather.ensures.gathered.0 in
-    let gathers = subst (λ b. Gathers s.hardware.spaces s.hardware.memory s.checkpoint c.gather.new.self (not b) pages)
-    c.is_broken-freezes.ensures c.gather.ensures.gathered.2 in
+    let gathers = gathered g (goal.at.write_out-requires-clause-few g c).After-gather in
     subst (λ (owners : List FilePage). length (mark_homes s owners) ≤ 1020) (ap (λ (x : CheckpointState). x.frozen)
     (sym c.protect_all.ensures.notes)) (few_frozen s c.requires.sound c.gather.new.self pages gathers)
 
@@ -18,8 +28,7 @@ pub write_out-requires-clause-pages : goal.write_out-requires-clause-pages
 write_out-requires-clause-pages g c =
     let s = state_in c.args.self.now in
     let pages = c.gather.ensures.gathered.0 in
-    let gathers = subst (λ b. Gathers s.hardware.spaces s.hardware.memory s.checkpoint c.gather.new.self (not b) pages)
-    c.is_broken-freezes.ensures c.gather.ensures.gathered.2 in
+    let gathers = gathered g (goal.at.write_out-requires-clause-pages g c).After-gather in
     subst (All (IsPageOf s.table)) (ap (λ (x : CheckpointState). x.frozen) (sym c.protect_all.ensures.notes))
     (frozen_there s c.requires.sound c.gather.new.self pages gathers)
 
@@ -27,8 +36,7 @@ pub write_out-requires-clause-batch : goal.write_out-requires-clause-batch
 write_out-requires-clause-batch g c =
     let s = state_in c.args.self.now in
     let pages = c.gather.ensures.gathered.0 in
-    let gathers = subst (λ b. Gathers s.hardware.spaces s.hardware.memory s.checkpoint c.gather.new.self (not b) pages)
-    c.is_broken-freezes.ensures c.gather.ensures.gathered.2 in
+    let gathers = gathered g (goal.at.write_out-requires-clause-batch g c).After-gather in
     subst (λ (owners : List FilePage). 0 < length (mark_homes s owners) → MayBegin s.write_outs (s.marks + 1)
     (mark_homes s owners)) (ap (λ (x : CheckpointState). x.frozen) (sym c.protect_all.ensures.notes))
     (may_begin s c.requires.sound c.gather.new.self pages gathers
@@ -39,8 +47,7 @@ returns-clause-rules g c = λ disk.
     let s = state_in c.args.self.now in
     let number = s.marks + 1 in
     let pages = c.gather.ensures.gathered.0 in
-    let gathers = subst (λ b. Gathers s.hardware.spaces s.hardware.memory s.checkpoint c.gather.new.self (not b) pages)
-    c.is_broken-freezes.ensures c.gather.ensures.gathered.2 in
+    let gathers = gathered g (goal.at.returns-clause-rules g c).After-gather in
     let frozen = ap (λ (x : CheckpointState). x.frozen) c.protect_all.ensures.notes in
     let outs = ap (λ (owners : List FilePage). Rattle.machine.specs.inside.Layers.with_homes s.write_outs number
     (mark_homes s owners)) frozen ∙ with_homes-batch s c.requires.sound c.gather.new.self pages gathers number in

@@ -6,6 +6,7 @@ use Rattle.page_table.proofs.Tables.{GrowsOver-none, GrowsOver-linked, HasGrown-
 use Rattle.page_table.proofs.Tables.{needed-none, needed-alike, IsTree-alike, alike_with_zeros}
 use Rattle.page_table.proofs.Marked.{HasMarks-extended, HasMarks-grown, Extends-none}
 use Rattle.page_table.proofs.table.Table.grow.Given as given
+use Rattle.page_table.proofs.table.Table.grow.Goals.{After-needed-count}
 use Rattle.page_table.proofs.table.Table.grow.Goals as goal
 
 -- nothing is needed
@@ -19,16 +20,19 @@ returns-then-count-eq0-clause-ok g c =
     GrowsOver-none range.start range.end c.args.self.now (subst (HasGrown range.start range.end) c.self.view_is
     (HasGrown-needed c.self.inside.words.items range.start range.end (omega arith) none))
 
--- something is needed, so not each page of the range has grown
-pub returns-in_default-clause-enough : goal.returns-in_default-clause-enough
-returns-in_default-clause-enough g c = λ all.
+-- where each page of the range has grown, none is needed
+none_needed : (g : given.Over) (c : After-needed-count g)
+    → HasGrown c.args.range.start c.args.range.end c.args.self.now → c.needed-count.result ≡ 0
+none_needed g c all =
     let range = c.args.range in
     let none = needed-none c.self.inside.words.items range.start range.end (omega arith)
     (subst (HasGrown range.start range.end) (sym c.self.view_is) all) in
-    let count : c.needed-count.result ≡ 0 =
-    c.needed-count.ensures.value
-    ∙ ap (λ (ws : List ℕ). needed ws range.start range.end) c.deref.ensures.value
-    ∙ none in
+    c.needed-count.ensures.value ∙ ap (λ (ws : List ℕ). needed ws range.start range.end) c.deref.ensures.value ∙ none
+
+-- something is needed, so not each page of the range has grown
+pub returns-in_default-clause-enough : goal.returns-in_default-clause-enough
+returns-in_default-clause-enough g c = λ all.
+    let none = none_needed g (goal.at.returns-in_default-clause-enough g c).After-needed-count all in
     absurd (let some = c.if-count-eq0.false in omega arith)
 
 -- the nodes that are made are blank
@@ -87,13 +91,7 @@ returns-clause-ok g c =
 
 pub returns-clause-enough : goal.returns-clause-enough
 returns-clause-enough g c = λ all.
-    let range = c.args.range in
-    let none = needed-none c.self.inside.words.items range.start range.end (omega arith)
-    (subst (HasGrown range.start range.end) (sym c.self.view_is) all) in
-    let count : c.needed-count.result ≡ 0 =
-    c.needed-count.ensures.value
-    ∙ ap (λ (ws : List ℕ). needed ws range.start range.end) c.deref.ensures.value
-    ∙ none in
+    let none = none_needed g (goal.at.returns-clause-enough g c).After-needed-count all in
     absurd (let some = c.if-count-eq0.false in omega arith)
 
 -- where room for marks is refused, there may be more of it than before
@@ -109,13 +107,7 @@ invariant_of-self-in_default-extend g c =
 
 pub returns-in_default-extend-clause-enough : goal.returns-in_default-extend-clause-enough
 returns-in_default-extend-clause-enough g c = λ all.
-    let range = c.args.range in
-    let none = needed-none c.self.inside.words.items range.start range.end (omega arith)
-    (subst (HasGrown range.start range.end) (sym c.self.view_is) all) in
-    let count : c.needed-count.result ≡ 0 =
-    c.needed-count.ensures.value
-    ∙ ap (λ (ws : List ℕ). needed ws range.start range.end) c.deref.ensures.value
-    ∙ none in
+    let none = none_needed g (goal.at.returns-in_default-extend-clause-enough g c).After-needed-count all in
     absurd (let some = c.if-count-eq0.false in omega arith)
 
 pub invariant_of-self-in_default-resize : goal.invariant_of-self-in_default-resize
@@ -129,13 +121,7 @@ invariant_of-self-in_default-resize g c =
 
 pub returns-in_default-resize-clause-enough : goal.returns-in_default-resize-clause-enough
 returns-in_default-resize-clause-enough g c = λ all.
-    let range = c.args.range in
-    let none = needed-none c.self.inside.words.items range.start range.end (omega arith)
-    (subst (HasGrown range.start range.end) (sym c.self.view_is) all) in
-    let count : c.needed-count.result ≡ 0 =
-    c.needed-count.ensures.value
-    ∙ ap (λ (ws : List ℕ). needed ws range.start range.end) c.deref.ensures.value
-    ∙ none in
+    let none = none_needed g (goal.at.returns-in_default-resize-clause-enough g c).After-needed-count all in
     absurd (let some = c.if-count-eq0.false in omega arith)
 
 -- the new nodes have no marks

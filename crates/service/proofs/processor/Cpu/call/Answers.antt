@@ -12,7 +12,8 @@ invariant_of-self g c =
     let called = c.call_locked-reply.ensures in
     let before = c.self.inside.answered.items in
     let counted = called.counted (λ is. absurd (false≢true (c.if-not-is_trace_full.ensures.1 is))) in
-    let longer = ap (λ (l : List (Act × Reply)). length l) c.push_reserved.ensures.items ∙ length-append before (c.answer_of.result ∷ []) in (
+    let longer = ap (λ (l : List (Act × Reply)). length l) c.push_reserved.ensures.items
+    ∙ length-append before (c.answer_of.result ∷ []) in (
       called.parts ∙ c.self.invariant.0,
       counted ∙ ap (λ n. n + 1) c.self.invariant.1 ∙ sym longer,
       called.risen.cell ∙ c.self.invariant.2,
@@ -28,5 +29,6 @@ returns-then-not-is_trace_full-clause-answered g c = λ _.
 pub returns-then-not-is_trace_full-clause-called : goal.returns-then-not-is_trace_full-clause-called
 returns-then-not-is_trace_full-clause-called g c = λ answered.
     let seen = c.call_locked-reply.new.seen in
-    let P : CpuState → Type 0 = λ s. HasCalled g.D.Device g.L.Origin.start g.L.Origin.all g.L.Origin.capacity (record { p = s.number; act = c.args.act }) c.call_locked-reply.result (words_of s) (seen_words seen) in
+    let P : CpuState → Type 0 = λ s. HasCalled g.D.Device g.L.Origin.start g.L.Origin.all g.L.Origin.capacity
+    (record { p = s.number; act = c.args.act }) c.call_locked-reply.result (words_of s) (seen_words seen) in
     subst P c.self.view_is (c.call_locked-reply.ensures.called answered)

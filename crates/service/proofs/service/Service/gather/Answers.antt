@@ -15,9 +15,11 @@ returns-in-Some-clause-gathered g c =
     let All : List CpuState → Type 0 = λ l. (p : ℕ) → p < length l → IsAmong l p in
     let processors = length serves.first.state.hardware.shootdown.processors in
     let as_many : length cpus ≡ processors =
-    ap (λ (l : List CpuState). length l) (sym c.as_slice.ensures.value) ∙ (all.count refl).0 ∙ c.args.self.all ∙ serves.all_are in
+    ap (λ (l : List CpuState). length l) (sym c.as_slice.ensures.value) ∙ (all.count refl).0
+    ∙ c.args.self.all ∙ serves.all_are in
     let Whole_ : ℕ → Type 0 = λ n. (p : ℕ) → p < n → IsAmong cpus p in
-    let gathered : HasGathered g.D.Device g.L.Origin.start g.L.Origin.capacity cpus locked.machine locked.trace = record {
+    let gathered : HasGathered g.D.Device g.L.Origin.start g.L.Origin.capacity cpus locked.machine locked.trace =
+    record {
       first = serves.first;
       start_is = serves.start_is;
       fresh = serves.serving.fresh;
@@ -28,6 +30,8 @@ returns-in-Some-clause-gathered g c =
       whole = subst Whole_ as_many (subst All c.as_slice.ensures.value (all.whole refl));
       counted = ended.counted ∙ c.merged.ensures.amount;
     } in
-    let P : List Entry → Type 0 = λ trace. HasGathered g.D.Device g.L.Origin.start g.L.Origin.capacity cpus locked.machine trace in
-    let Q : Whole g.row.D.Denot → Type 0 = λ machine. HasGathered g.D.Device g.L.Origin.start g.L.Origin.capacity cpus machine c.ended.result.1.items in
+    let P : List Entry → Type 0 =
+    λ trace. HasGathered g.D.Device g.L.Origin.start g.L.Origin.capacity cpus locked.machine trace in
+    let Q : Whole g.row.D.Denot → Type 0 =
+    λ machine. HasGathered g.D.Device g.L.Origin.start g.L.Origin.capacity cpus machine c.ended.result.1.items in
     subst Q (sym ended.machine) (subst P (sym ended.trace) gathered)

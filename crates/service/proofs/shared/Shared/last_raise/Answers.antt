@@ -6,4 +6,5 @@ use Rattle.service.proofs.shared.Shared.last_raise.Goals as goal
 
 pub returns : goal.returns
 returns g c = λ before last is.
-    c.raise_by.ensures ∙ ap (λ (l : List Entry). raise_by (has_unmarked l) c.args.reply.now) (c.before_last.ensures before last is)
+    c.raise_by.ensures ∙ ap (λ (l : List Entry). raise_by (has_unmarked l) c.args.reply.now)
+    (c.before_last.ensures before last is)

@@ -19,7 +19,8 @@ returns-in-Err g c =
 pub loop-i-preserved : goal.loop-i-preserved
 loop-i-preserved g c =
     let below : c.loop-i.i < length c.args.steps.now = search rules in
-    reply_more g.D.Device _ _ _ _ _ _ c.args.steps.now c.loop-i.i c.index-steps-i.result _ _ _ _ below c.index-steps-i.is c.loop-i.invariant c.make-reply.ensures c.in_default.ensures
+    reply_more g.D.Device _ _ _ _ _ _ c.args.steps.now c.loop-i.i c.index-steps-i.result _ _ _ _ below
+    c.index-steps-i.is c.loop-i.invariant c.make-reply.ensures c.in_default.ensures
 
 pub returns : goal.returns
 returns g c =

@@ -4,4 +4,5 @@ use Rattle.session.proofs.requests.Requests.answer_steps.Given as goal
 
 abbrev pub invariant-loop-i : goal.invariant-loop-i
 invariant-loop-i g l = MakesStepsThat g.D.Device l.initial.self.machine l.initial.self.notes
-    (WritesReplies l.steps l.i (g.W.Write.contents l.initial.out) (g.W.Write.contents l.out)) l.self.machine l.self.notes
+    (WritesReplies l.steps l.i (g.W.Write.contents l.initial.out) (g.W.Write.contents l.out))
+    l.self.machine l.self.notes

@@ -8,7 +8,8 @@ use Rattle.session.proofs.Changes.{flush_is_other}
 use Rattle.session.proofs.Phases.{begins_kept, flushes_keep, keeps_none, keeps_then}
 use Rattle.session.proofs.Commits.{refused_is, step_unmade}
 use Rattle.session.proofs.Left.{attempts_left, flushed_fewer}
-use Rattle.session.proofs.Lengths.{IsNext, begins_attempted, begins_later, refuses_attempted, refuses_busy, refuses_later, tries_attempted, tries_flush}
+use Rattle.session.proofs.Lengths.{IsNext, begins_attempted, begins_later, refuses_attempted}
+use Rattle.session.proofs.Lengths.{refuses_busy, refuses_later, tries_attempted, tries_flush}
 use Rattle.session.proofs.Pieces.{does_more, does_nothing}
 use Rattle.session.proofs.Each.{each_then}
 use Rattle.session.proofs.Stretches.{does_one, does_then}
@@ -22,7 +23,8 @@ returns-then-not-is_busy-clause-begins g c =
     let p = c.args.p in
     let file = c.args.file in
     let to = c.args.length in
-    λ is. does_then g.D.Device _ _ _ _ _ _ _ _ _ (begins_later p file to) c.loop-begun.invariant.0 (does_more g.D.Device _ _ _ _ _ _ (begins_attempted p file to _ is) c.begin_in_room-begun.ensures.attempts)
+    λ is. does_then g.D.Device _ _ _ _ _ _ _ _ _ (begins_later p file to) c.loop-begun.invariant.0
+    (does_more g.D.Device _ _ _ _ _ _ (begins_attempted p file to _ is) c.begin_in_room-begun.ensures.attempts)
 
 pub returns-then-not-is_busy-clause-refuses : goal.returns-then-not-is_busy-clause-refuses
 returns-then-not-is_busy-clause-refuses g c =
@@ -30,21 +32,25 @@ returns-then-not-is_busy-clause-refuses g c =
     let file = c.args.file in
     let to = c.args.length in
     λ vain. does_then g.D.Device _ _ _ _ _ _ _ _ _ (refuses_later p file to _) c.loop-begun.invariant.0
-    (does_more g.D.Device _ _ _ _ _ _ (refuses_attempted p file to _ vain (λ is. false≢true (c.if-not-is_busy.ensures.1 is))) c.begin_in_room-begun.ensures.attempts)
+    (does_more g.D.Device _ _ _ _ _ _ (refuses_attempted p file to _ vain
+    (λ is. false≢true (c.if-not-is_busy.ensures.1 is))) c.begin_in_room-begun.ensures.attempts)
 
 pub returns-then-is_nothing-clause-begins : goal.returns-then-is_nothing-clause-begins
-returns-then-is_nothing-clause-begins g c = λ is. absurd (false≢true (ap tells_begun (sym (c.if-not-is_busy.ensures.0 refl)) ∙ is))
+returns-then-is_nothing-clause-begins g c =
+    λ is. absurd (false≢true (ap tells_begun (sym (c.if-not-is_busy.ensures.0 refl)) ∙ is))
 
 pub returns-then-is_nothing-clause-refuses : goal.returns-then-is_nothing-clause-refuses
 returns-then-is_nothing-clause-refuses g c =
     let p = c.args.p in
     let file = c.args.file in
     let to = c.args.length in
-    let P : Reply → Type 0 = λ r. MakesStepsThat g.D.Device c.loop-begun.self.machine c.loop-begun.self.notes (AttemptsLength p file to r) c.begin_in_room-begun.new.self.machine c.begin_in_room-begun.new.self.notes in
+    let P : Reply → Type 0 = λ r. MakesStepsThat g.D.Device c.loop-begun.self.machine c.loop-begun.self.notes
+    (AttemptsLength p file to r) c.begin_in_room-begun.new.self.machine c.begin_in_room-begun.new.self.notes in
     let busy = subst P (c.if-not-is_busy.ensures.0 refl) c.begin_in_room-begun.ensures.attempts in
     let next = does_one g.D.Device _ _ _ _ (IsNext p c.flush-flushed.result) _ _ (refl, refl) c.flush-flushed.ensures in
     λ vain. does_then g.D.Device _ _ _ _ _ _ _ _ _ (refuses_later p file to _) c.loop-begun.invariant.0
-    (does_then g.D.Device _ _ _ _ _ _ _ _ _ (refuses_busy p file to _ _ (inl (c.if-is_nothing.ensures.0 refl, c.if-not-is_busy.ensures.0 refl))) busy next)
+    (does_then g.D.Device _ _ _ _ _ _ _ _ _
+    (refuses_busy p file to _ _ (inl (c.if-is_nothing.ensures.0 refl, c.if-not-is_busy.ensures.0 refl))) busy next)
 
 pub returns-then-not-is_flushed-clause-begins : goal.returns-then-not-is_flushed-clause-begins
 returns-then-not-is_flushed-clause-begins g c = λ is. flush_is_other g.D.Device _ _ _ _ _ _ c.flush-flushed.ensures is
@@ -54,7 +60,8 @@ returns-then-not-is_flushed-clause-refuses g c =
     let p = c.args.p in
     let file = c.args.file in
     let to = c.args.length in
-    let P : Reply → Type 0 = λ r. MakesStepsThat g.D.Device c.loop-begun.self.machine c.loop-begun.self.notes (AttemptsLength p file to r) c.begin_in_room-begun.new.self.machine c.begin_in_room-begun.new.self.notes in
+    let P : Reply → Type 0 = λ r. MakesStepsThat g.D.Device c.loop-begun.self.machine c.loop-begun.self.notes
+    (AttemptsLength p file to r) c.begin_in_room-begun.new.self.machine c.begin_in_room-begun.new.self.notes in
     let busy = subst P (c.if-not-is_busy.ensures.0 refl) c.begin_in_room-begun.ensures.attempts in
     let next = does_one g.D.Device _ _ _ _ (IsNext p c.flush-flushed.result) _ _ (refl, refl) c.flush-flushed.ensures in
     let unmade = step_unmade g.D.Device _ _ _ _ p _ c.flush-flushed.ensures (sym c.if-not-is_flushed.ensures) in
@@ -68,30 +75,48 @@ loop-begun-preserved g c =
     let file = c.args.file in
     let to = c.args.length in
     let tried = does_then g.D.Device _ _ _ _ _ _ _ _ _ (each_then (IsTry p file to)) c.loop-begun.invariant.0
-    (does_more g.D.Device _ _ _ _ _ _ (tries_attempted p file to _ (ap tells_later (c.if-not-is_busy.ensures.0 refl))) c.begin_in_room-begun.ensures.attempts) in
-    let kept = keeps_then _ _ _ (keeps_then _ _ _ c.loop-begun.invariant.1 (c.begin_in_room-begun.ensures.phases (ap tells_begun (c.if-not-is_busy.ensures.0 refl)))) (flushes_keep g.D.Device _ _ _ _ _ _ c.flush-flushed.ensures) in
-    (does_then g.D.Device _ _ _ _ _ _ _ _ _ (each_then (IsTry p file to)) tried (does_one g.D.Device _ _ _ _ _ _ _ (tries_flush p file to c.flush-flushed.result) c.flush-flushed.ensures), kept)
+    (does_more g.D.Device _ _ _ _ _ _ (tries_attempted p file to _ (ap tells_later (c.if-not-is_busy.ensures.0 refl)))
+    c.begin_in_room-begun.ensures.attempts) in
+    let kept = keeps_then _ _ _ (keeps_then _ _ _ c.loop-begun.invariant.1
+    (c.begin_in_room-begun.ensures.phases (ap tells_begun (c.if-not-is_busy.ensures.0 refl))))
+    (flushes_keep g.D.Device _ _ _ _ _ _ c.flush-flushed.ensures) in (
+      does_then g.D.Device _ _ _ _ _ _ _ _ _ (each_then (IsTry p file to)) tried
+          (does_one g.D.Device _ _ _ _ _ _ _ (tries_flush p file to c.flush-flushed.result) c.flush-flushed.ensures),
+      kept,
+    )
 
 pub loop-begun-smaller : goal.loop-begun-smaller
 loop-begun-smaller g c =
-    let P : Reply → Type 0 = λ r. MakesStepsThat g.D.Device c.loop-begun.self.machine c.loop-begun.self.notes (AttemptsLength c.args.p c.args.file c.args.length r) c.begin_in_room-begun.new.self.machine c.begin_in_room-begun.new.self.notes in
+    let P : Reply → Type 0 =
+    λ r. MakesStepsThat g.D.Device c.loop-begun.self.machine c.loop-begun.self.notes (AttemptsLength c.args.p
+    c.args.file c.args.length r) c.begin_in_room-begun.new.self.machine c.begin_in_room-begun.new.self.notes in
     let busy = subst P (c.if-not-is_busy.ensures.0 refl) c.begin_in_room-begun.ensures.attempts in
-    omega (arith, attempts_left g.D.Device _ _ _ _ c.args.p c.args.file c.args.length busy, flushed_fewer g.D.Device _ _ _ _ c.args.p _ c.flush-flushed.ensures (sym c.if-not-is_flushed.ensures))
+    omega (
+      arith,
+      attempts_left g.D.Device _ _ _ _ c.args.p c.args.file c.args.length busy,
+      flushed_fewer g.D.Device _ _ _ _ c.args.p _ c.flush-flushed.ensures (sym c.if-not-is_flushed.ensures),
+    )
 
 pub returns-then-not-is_busy-clause-held : goal.returns-then-not-is_busy-clause-held
-returns-then-not-is_busy-clause-held g c = λ is. begins_kept _ _ _ _ _ c.loop-begun.invariant.1 (c.begin_in_room-begun.ensures.held is)
+returns-then-not-is_busy-clause-held g c =
+    λ is. begins_kept _ _ _ _ _ c.loop-begun.invariant.1 (c.begin_in_room-begun.ensures.held is)
 
 pub returns-then-not-is_busy-clause-phases : goal.returns-then-not-is_busy-clause-phases
-returns-then-not-is_busy-clause-phases g c = λ not. keeps_then _ _ _ c.loop-begun.invariant.1 (c.begin_in_room-begun.ensures.phases not)
+returns-then-not-is_busy-clause-phases g c =
+    λ not. keeps_then _ _ _ c.loop-begun.invariant.1 (c.begin_in_room-begun.ensures.phases not)
 
 pub returns-then-is_nothing-clause-held : goal.returns-then-is_nothing-clause-held
-returns-then-is_nothing-clause-held g c = λ is. absurd (false≢true (ap tells_begun (sym (c.if-not-is_busy.ensures.0 refl)) ∙ is))
+returns-then-is_nothing-clause-held g c =
+    λ is. absurd (false≢true (ap tells_begun (sym (c.if-not-is_busy.ensures.0 refl)) ∙ is))
 
 pub returns-then-is_nothing-clause-phases : goal.returns-then-is_nothing-clause-phases
-returns-then-is_nothing-clause-phases g c = λ not. keeps_then _ _ _ (keeps_then _ _ _ c.loop-begun.invariant.1 (c.begin_in_room-begun.ensures.phases not)) (flushes_keep g.D.Device _ _ _ _ _ _ c.flush-flushed.ensures)
+returns-then-is_nothing-clause-phases g c = λ not. keeps_then _ _ _ (keeps_then _ _ _ c.loop-begun.invariant.1
+    (c.begin_in_room-begun.ensures.phases not)) (flushes_keep g.D.Device _ _ _ _ _ _ c.flush-flushed.ensures)
 
 pub returns-then-not-is_flushed-clause-held : goal.returns-then-not-is_flushed-clause-held
 returns-then-not-is_flushed-clause-held g c = λ is. flush_is_other g.D.Device _ _ _ _ _ _ c.flush-flushed.ensures is
 
 pub returns-then-not-is_flushed-clause-phases : goal.returns-then-not-is_flushed-clause-phases
-returns-then-not-is_flushed-clause-phases g c = λ not. keeps_then _ _ _ (keeps_then _ _ _ c.loop-begun.invariant.1 (c.begin_in_room-begun.ensures.phases (ap tells_begun (c.if-not-is_busy.ensures.0 refl)))) (flushes_keep g.D.Device _ _ _ _ _ _ c.flush-flushed.ensures)
+returns-then-not-is_flushed-clause-phases g c = λ not. keeps_then _ _ _ (keeps_then _ _ _ c.loop-begun.invariant.1
+    (c.begin_in_room-begun.ensures.phases (ap tells_begun (c.if-not-is_busy.ensures.0 refl))))
+    (flushes_keep g.D.Device _ _ _ _ _ _ c.flush-flushed.ensures)

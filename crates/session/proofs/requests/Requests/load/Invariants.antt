@@ -4,7 +4,9 @@ use Rattle.session.specs.Ranges.{MakesStepsThat, LoadsRange}
 use Rattle.session.proofs.requests.Requests.load.Given as goal
 
 abbrev pub invariant-loop-done : goal.invariant-loop-done
-invariant-loop-done g l = (l.done ≤ l.count) × MakesStepsThat g.D.Device l.initial.self.machine l.initial.self.notes (LoadsRange l.p l.va l.done l.bytes.items) l.self.machine l.self.notes × KeepsPhases l.initial.self.machine.state l.self.machine.state
+invariant-loop-done g l = (l.done ≤ l.count) × MakesStepsThat g.D.Device l.initial.self.machine l.initial.self.notes
+    (LoadsRange l.p l.va l.done l.bytes.items) l.self.machine l.self.notes
+    × KeepsPhases l.initial.self.machine.state l.self.machine.state
 
 abbrev pub decreases-loop-done : goal.decreases-loop-done
 decreases-loop-done g l = l.count - l.done

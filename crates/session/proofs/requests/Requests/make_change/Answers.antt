@@ -9,7 +9,9 @@ returns-clause-answers g c =
     does_one g.D.Device _ _ _ _ _ _ _ (answers_alone c.args.p _ is.0) c.make.ensures
 
 pub returns-clause-over : goal.returns-clause-over
-returns-clause-over g c = (change_is g.D.Device _ _ _ _ _ _ _ c.has_phases.ensures c.requires.held.1 c.requires.calm c.make.ensures).2
+returns-clause-over g c =
+    (change_is g.D.Device _ _ _ _ _ _ _ c.has_phases.ensures c.requires.held.1 c.requires.calm c.make.ensures).2
 
 pub returns-clause-made : goal.returns-clause-made
-returns-clause-made g c = λ change held. (change_is g.D.Device _ _ _ _ _ _ change c.has_phases.ensures held c.requires.calm c.make.ensures).1
+returns-clause-made g c =
+    λ change held. (change_is g.D.Device _ _ _ _ _ _ change c.has_phases.ensures held c.requires.calm c.make.ensures).1

@@ -8,7 +8,8 @@ use Rattle.session.proofs.requests.Requests.set_length.Goals as goal
 pub returns-then-not-is_begun : goal.returns-then-not-is_begun
 returns-then-not-is_begun g c =
     record {
-      makes = does_more g.D.Device _ _ _ _ _ _ (λ steps replies it. inr it) (c.begin_length-begun.ensures.refuses (sym c.if-not-is_begun.ensures));
+      makes = does_more g.D.Device _ _ _ _ _ _ (λ steps replies it. inr it)
+          (c.begin_length-begun.ensures.refuses (sym c.if-not-is_begun.ensures));
       phases = c.begin_length-begun.ensures.phases (sym c.if-not-is_begun.ensures);
     }
 
@@ -22,6 +23,8 @@ returns g c =
     let to = c.args.length in
     let begun = c.begin_length-begun.ensures.begins (sym c.if-not-is_begun.ensures) in
     record {
-      makes = does_then g.D.Device _ _ _ _ _ _ _ _ _ (λ steps replies steps' replies' first later. inl (begins_then p file to _ steps replies steps' replies' first later)) begun c.change.ensures.answers;
-      phases = begun_over _ _ _ _ _ (c.begin_length-begun.ensures.held (sym c.if-not-is_begun.ensures)) c.change.ensures.over;
+      makes = does_then g.D.Device _ _ _ _ _ _ _ _ _ (λ steps replies steps' replies' first later.
+          inl (begins_then p file to _ steps replies steps' replies' first later)) begun c.change.ensures.answers;
+      phases = begun_over _ _ _ _ _
+          (c.begin_length-begun.ensures.held (sym c.if-not-is_begun.ensures)) c.change.ensures.over;
     }

@@ -11,14 +11,18 @@ pub loop-init : goal.loop-init
 loop-init g c = (does_nothing g.D.Device _ _ _ tt, keeps_none _)
 
 pub returns-then-not-is_flushed-clause-fruitless : goal.returns-then-not-is_flushed-clause-fruitless
-returns-then-not-is_flushed-clause-fruitless g c = does_then g.D.Device _ _ _ _ _ _ _ _ _ (each_then (Passes is_fruitless c.args.p)) c.loop.invariant.0 (does_one g.D.Device _ _ _ _ _ _ _ (flush_vain c.args.p c.flush-flushed.result) c.flush-flushed.ensures)
+returns-then-not-is_flushed-clause-fruitless g c =
+    does_then g.D.Device _ _ _ _ _ _ _ _ _ (each_then (Passes is_fruitless c.args.p)) c.loop.invariant.0
+    (does_one g.D.Device _ _ _ _ _ _ _ (flush_vain c.args.p c.flush-flushed.result) c.flush-flushed.ensures)
 
 pub returns-then-not-is_flushed-clause-phases : goal.returns-then-not-is_flushed-clause-phases
-returns-then-not-is_flushed-clause-phases g c = keeps_then _ _ _ c.loop.invariant.1 (flushes_keep g.D.Device _ _ _ _ _ _ c.flush-flushed.ensures)
+returns-then-not-is_flushed-clause-phases g c =
+    keeps_then _ _ _ c.loop.invariant.1 (flushes_keep g.D.Device _ _ _ _ _ _ c.flush-flushed.ensures)
 
 pub loop-preserved : goal.loop-preserved
 loop-preserved g c = (
-  does_then g.D.Device _ _ _ _ _ _ _ _ _ (each_then (Passes is_fruitless c.args.p)) c.loop.invariant.0 (does_one g.D.Device _ _ _ _ _ _ _ (flush_vain c.args.p c.flush-flushed.result) c.flush-flushed.ensures),
+  does_then g.D.Device _ _ _ _ _ _ _ _ _ (each_then (Passes is_fruitless c.args.p)) c.loop.invariant.0
+      (does_one g.D.Device _ _ _ _ _ _ _ (flush_vain c.args.p c.flush-flushed.result) c.flush-flushed.ensures),
   keeps_then _ _ _ c.loop.invariant.1 (flushes_keep g.D.Device _ _ _ _ _ _ c.flush-flushed.ensures),
 )
 

@@ -11,6 +11,8 @@ loop-byte-preserved g c = λ plain.
     let small : get_or c.args.self.now.bytes.now c.loop-byte.byte-index 0 < 256 = search rules in
     let before = c.loop-byte.invariant plain in
     let still = before.plain in
-    let wrote : HasWritten g.W.Write.write_str_gives c.loop-byte.f (written_byte (get_or c.args.self.now.bytes.now c.loop-byte.byte-index 0)) c.write-in-loop-byte.new.self = search rules in
-    has_written_of_eq _ _ _ _ _ (row_more (offset_text c.args.self.now.at) c.args.self.now.bytes.now c.loop-byte.byte-index below small)
+    let wrote : HasWritten g.W.Write.write_str_gives c.loop-byte.f (written_byte
+    (get_or c.args.self.now.bytes.now c.loop-byte.byte-index 0)) c.write-in-loop-byte.new.self = search rules in
+    has_written_of_eq _ _ _ _ _
+    (row_more (offset_text c.args.self.now.at) c.args.self.now.bytes.now c.loop-byte.byte-index below small)
     (has_written_append _ _ _ _ _ _ before wrote)

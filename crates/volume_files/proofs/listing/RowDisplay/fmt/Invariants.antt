@@ -6,4 +6,5 @@ use Rattle.volume_files.proofs.listing.RowDisplay.fmt.Given as goal
 
 abbrev pub invariant-loop-byte : goal.invariant-loop-byte
 invariant-loop-byte g l =
-    IsPlainFormatter l.fn.f → HasWritten g.W.Write.write_str_gives l.fn.f (offset_text l.at ++ flat_map byte_text (take l.byte-index l.byte-items)) l.f
+    IsPlainFormatter l.fn.f → HasWritten g.W.Write.write_str_gives l.fn.f
+    (offset_text l.at ++ flat_map byte_text (take l.byte-index l.byte-items)) l.f
