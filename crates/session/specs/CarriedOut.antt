@@ -1,5 +1,5 @@
--- What carrying out a request comes to, of a session as of whoever else makes requests: these are all that a contract of
--- one says of its machine and its notes.
+-- What carrying out a request comes to, of a session as of whoever else makes requests: these are all that a contract
+-- of one says of its machine and its notes.
 use Rattle.std.specs.Prelude.{ℕ, List, Option, Result, OnOk}
 use Rattle.device.specs.declared.device.Device.{Ghosts}
 use Rattle.machine.specs.declared.act.Reply.{Reply}

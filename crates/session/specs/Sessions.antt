@@ -24,8 +24,8 @@ pub record SessionState (D A : Type 0) : Type 0 where
 abbrev pub no_notes : Notes
 no_notes = record { has_unmarked = false; has_failed = false }
 
--- A machine of this shape was started over a device. These lines are the volume's files, with their lengths as they were
--- opened: those that the bytes of an honest device recover to. Nothing is noted yet.
+-- A machine of this shape was started over a device. These lines are the volume's files, with their lengths as they
+-- were opened: those that the bytes of an honest device recover to. Nothing is noted yet.
 pub record IsStarted {D A : Type 0} (disk : Ghosts D) (device : D) (shape : Shape) (machine : Whole D) (notes : Notes)
     (lines : List (FileLine A)) : Type 0 where
   pub started : HasStarted disk device shape machine
