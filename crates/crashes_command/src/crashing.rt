@@ -40,41 +40,44 @@ where
     let steps = read_script(rt, alloc, script)?;
     let place = place(rt, path)?;
     let mut disk = open_disk(rt, path, &place, Access::Read, trust, note)?;
-    print_crashes(alloc, path, script, &steps, form, &mut disk, out)
-}
-
-// Prints what the crashes of a run of these steps leave of the volume of a device.
-fn print_crashes<'a, D: Device, A: Allocator + Copy, W: io::Write>(
-    alloc: A,
-    path: &'a str,
-    script: &'a str,
-    steps: &Script<A>,
-    form: Form,
-    disk: &mut D,
-    out: &mut W,
-) -> Result<(), Failure<'a>> {
-    let places = match read_table(alloc, disk) {
+    let places = match read_table(alloc, &mut disk) {
         Ok(table) => Places { table },
         Err(refusal) => {
-            let cause = refused_to_open(alloc, refusal, disk);
+            let cause = refused_to_open(alloc, refusal, &mut disk);
             return Err(Failure::File(not_opened(path, cause)));
         }
     };
-    let Some(image) = read_image(alloc, disk)? else {
+    let Some(image) = read_image(alloc, &mut disk)? else {
         return Err(Failure::File(unreadable(path, Refusal::Device)));
     };
-    let trial = match Trial::new(alloc, &image, steps.shape, &steps.steps) {
+    match print_crashes(alloc, script, &steps, &image, &places, form, out)? {
+        Ok(()) => Ok(()),
+        Err(refusal) => Err(refused_to_run(alloc, refusal, &mut disk, steps.shape).of_file(path)),
+    }
+}
+
+// Prints what the crashes of a run of these steps leave of a volume of these bytes. Where the run doesn't begin, it says
+// why.
+fn print_crashes<'a, A: Allocator + Copy, W: io::Write>(
+    alloc: A,
+    script: &'a str,
+    steps: &Script<A>,
+    image: &[u8],
+    places: &Places<A>,
+    form: Form,
+    out: &mut W,
+) -> Result<Result<(), Refusal>, Failure<'a>> {
+    let trial = match Trial::new(alloc, image, steps.shape, &steps.steps) {
         Ok(trial) => trial,
-        Err(CrashFault::Refused(refusal)) => {
-            return Err(refused_to_run(alloc, refusal, disk, steps.shape).of_file(path));
-        }
+        Err(CrashFault::Refused(refusal)) => return Ok(Err(refusal)),
         Err(fault) => return Err(failure_of(script, fault)),
     };
     let mut rows = match Rows::new(alloc, &trial) {
         Ok(rows) => rows,
         Err(fault) => return Err(failure_of(script, fault)),
     };
-    print_rows(alloc, script, &trial, &places, &mut rows, form, out)
+    print_rows(alloc, script, &trial, places, &mut rows, form, out)?;
+    Ok(Ok(()))
 }
 
 fn failure_of(script: &str, fault: CrashFault) -> Failure<'_> {
