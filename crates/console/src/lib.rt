@@ -2,17 +2,7 @@
 //! machine that maps their files, prints the files, says how a volume is, and copies files out of it.
 #![tactic(auto)]
 
-mod crashes;
-mod failure;
-mod look;
-mod printer;
 mod program;
-mod replay;
-mod run;
-mod scripted;
-mod serve;
-mod shape;
-mod threads;
 mod told;
 
 pub use program::perform;

@@ -1,15 +1,12 @@
 // What the program does, from its words to its status.
 ghost use Rattle.std.specs.Prelude.{◌≤◌, IfOk};
 
-use crate::crashes::crashes;
-use crate::failure::Failure;
-use crate::look::{check, dump_lines, info};
-use crate::replay::replay;
-use crate::run::run;
-use crate::serve::serve;
-use crate::threads::threads;
-use crate::told::{asks_for_json, tell_export, tell_failure, tell_format, tell_migrate};
+use crate::told::{asks_for_json, tell_failure};
 use command_line::{Job, read_words};
+use command_parts::Failure;
+use crashes_command::crashes;
+use run_commands::{replay, run};
+use serve_command::serve;
 use std::alloc::Allocator;
 use std::convert::AsStr;
 use std::fs::File;
@@ -18,7 +15,9 @@ use std::marker::Sync;
 use std::rt::Files;
 use std::sync::Wait;
 use std::thread::Threads;
-use volume_files::{ExportPlan, MigrationPlan, Plan, SyncNote, dump, export, format, migrate};
+use threads_command::threads;
+use volume_commands::{check, dump, export, format, info, migrate};
+use volume_files::{Plan, SyncNote};
 
 /// Does what the words ask for, of which the first is the program's name. What it prints goes to `out`, and where
 /// something is wrong, one line to `err`.
@@ -100,18 +99,11 @@ where
                 files: &files,
                 slots,
             };
-            let blocks = format(rt, alloc, disk, plan)?;
-            tell_format(rt.alloc(), json, blocks, out)?;
+            format(rt, alloc, disk, plan, json, out)?;
             Ok(0)
         }
         Job::Migrate(asked) => {
-            let plan = MigrationPlan {
-                old: asked.old,
-                new: asked.new,
-                slots: asked.slots,
-            };
-            let blocks = migrate(rt, alloc, plan, asked.trust, note)?;
-            tell_migrate(rt.alloc(), asked.json, blocks, out)?;
+            migrate(rt, alloc, asked, out, note)?;
             Ok(0)
         }
         Job::Run {
@@ -139,26 +131,19 @@ where
             Ok(status)
         }
         Job::Dump(look) => {
-            if look.json {
-                dump_lines(rt, alloc, look, out, note)?;
-            } else {
-                dump(rt, alloc, look.disk, look.trust, out, note)?;
-            }
+            dump(rt, alloc, look, out, note)?;
             Ok(0)
         }
         Job::Info(look) => {
             info(rt, alloc, look, out, note)?;
             Ok(0)
         }
-        Job::Check(look) => check(rt, alloc, look, out, note),
+        Job::Check(look) => {
+            let status = check(rt, alloc, look, out, note)?;
+            Ok(status)
+        }
         Job::Export(asked) => {
-            let plan = ExportPlan {
-                disk: asked.disk,
-                file: asked.file,
-                out: asked.out,
-            };
-            let bytes = export(rt, alloc, plan, asked.trust, note)?;
-            tell_export(rt.alloc(), asked.json, bytes, out)?;
+            export(rt, alloc, asked, out, note)?;
             Ok(0)
         }
         Job::Crashes {

@@ -1,7 +1,5 @@
-// What is said of a command that is done, or of its failure, as text or as JSON.
-
-use crate::failure::Failure;
-use crate::look::print_value;
+// What is said of a command that failed, as text or as JSON.
+use command_parts::Failure;
 use serde_json::{Value, json};
 use std::alloc::{AllocError, Global};
 use std::convert::AsStr;
@@ -14,56 +12,6 @@ const JSON: &str = "--json";
 /// Whether one of the words asks for JSON.
 pub fn asks_for_json<S: AsStr>(words: &[S]) -> bool {
     words.iter().any(|word| word.as_str() == JSON)
-}
-
-/// Says how many blocks a volume has that was made.
-pub fn tell_format<'a, W: io::Write>(
-    global: Global,
-    json: bool,
-    blocks: u64,
-    out: &mut W,
-) -> Result<(), Failure<'a>> {
-    tell_blocks(global, json, "formatted", blocks, out)
-}
-
-/// Says how many blocks the volume has that another was migrated to.
-pub fn tell_migrate<'a, W: io::Write>(
-    global: Global,
-    json: bool,
-    blocks: u64,
-    out: &mut W,
-) -> Result<(), Failure<'a>> {
-    tell_blocks(global, json, "migrated", blocks, out)
-}
-
-fn tell_blocks<'a, W: io::Write>(
-    global: Global,
-    json: bool,
-    done: &str,
-    blocks: u64,
-    out: &mut W,
-) -> Result<(), Failure<'a>> {
-    if json {
-        let value = json!(in global; {"blocks": blocks})?;
-        return print_value(global, &value, out);
-    }
-    writeln!(out, "{done} {blocks} blocks")?;
-    Ok(())
-}
-
-/// Says how many bytes a file has that was copied.
-pub fn tell_export<'a, W: io::Write>(
-    global: Global,
-    json: bool,
-    bytes: u64,
-    out: &mut W,
-) -> Result<(), Failure<'a>> {
-    if json {
-        let value = json!(in global; {"bytes": bytes})?;
-        return print_value(global, &value, out);
-    }
-    writeln!(out, "exported {bytes} bytes")?;
-    Ok(())
 }
 
 /// Says why a command failed. Where memory is refused for JSON it is said as text.

@@ -1,13 +1,10 @@
-//! The program, on files of its own: what it prints, its statuses, and what it leaves in the files.
+//! The program, on files of its own: what it says of its words and of volumes, its statuses, and what it leaves in the
+//! files.
 #![tactic(auto)]
 
 #[cfg(test)]
-mod crashes;
-#[cfg(test)]
 mod looks;
 #[cfg(test)]
-mod replays;
+mod volumes;
 #[cfg(test)]
-mod tests;
-#[cfg(test)]
-mod threaded;
+mod words;

@@ -1,5 +1,5 @@
 // What is said of a volume's bytes, and files that are copied out of it.
-use crate::tests::{
+use program_trials::{
     FIRST_DUMP, FIRST_REPLIES, FIRST_SCRIPT, Host, complains, holds, image, makes_volume, prints,
     removes, writes,
 };

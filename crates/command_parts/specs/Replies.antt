@@ -1,0 +1,16 @@
+-- Which replies say that the device failed.
+use Rattle.std.specs.Prelude.{Bool, true, false}
+use Rattle.machine.specs.declared.act.Reply.{Reply}
+use Rattle.machine.specs.declared.act.Reply.TheVariants.{Refused}
+use Rattle.page_entry.specs.declared.refusal.Refusal.{Refusal}
+use Rattle.page_entry.specs.declared.refusal.Refusal.TheVariants.{Device}
+
+-- that the device failed
+abbrev pub is_device : Refusal → Bool
+is_device Device = true
+is_device _ = false
+
+-- a reply that the device failed
+abbrev pub tells_failure : Reply → Bool
+tells_failure (Refused refusal) = is_device refusal
+tells_failure _ = false

@@ -1,0 +1,7 @@
+//! The program, on files of its own: what it prints of scripts, when, and what it leaves in the files.
+#![tactic(auto)]
+
+#[cfg(test)]
+mod scripts;
+#[cfg(test)]
+mod watched;

@@ -1,0 +1,219 @@
+// What the words of a command line get: help, or what is wrong.
+use program_trials::{
+    Host, complains, famsync, holds_image, is_cut_off, makes_volume, prints, removes, writes,
+    writes_script,
+};
+use std::alloc::{AllocError, Global};
+use std::fs;
+
+// Command lines, and what is said first of each.
+const BAD_WORDS: &[(&str, &str)] = &[
+    ("", "'famsync' requires a subcommand"),
+    ("frmat", "unrecognized subcommand 'frmat'"),
+    ("commit|bad.img|s.json", "unrecognized subcommand 'commit'"),
+    (
+        "threads|bad.img",
+        "the following required arguments were not provided: <SCRIPT>",
+    ),
+    ("a\nb", "unrecognized subcommand 'a b'"),
+    (
+        "format",
+        "the following required arguments were not provided: <DISK> <SLOTS> <FILE>...",
+    ),
+    (
+        "format|bad.img|4",
+        "the following required arguments were not provided: <FILE>...",
+    ),
+    (
+        "format|--all|bad.img|4|a=1",
+        "unexpected argument '--all' found",
+    ),
+    ("format|bad.img|-4|a=1", "unexpected argument '-4' found"),
+    ("format|--layout|two|bad.img|4|a=1", "LAYOUT is \"two\""),
+    ("format|--layout=+2|bad.img|4|a=1", "LAYOUT is \"+2\""),
+    ("format|--layout=|bad.img|4|a=1", "LAYOUT is \"\""),
+    ("format|bad.img|4x|a=1", "SLOTS is \"4x\""),
+    ("format|bad.img||a=1", "SLOTS is \"\""),
+    ("format|bad.img|+4|a=1", "SLOTS is \"+4\""),
+    (
+        "format|bad.img|18446744073709551616|a=1",
+        "SLOTS is \"18446744073709551616\"",
+    ),
+    ("format|bad.img|4|a", "FILE is \"a\""),
+    ("format|bad.img|4|a=", "FILE is \"a=\""),
+    ("format|bad.img|4|a=1|b=+1", "FILE is \"b=+1\""),
+    ("format|bad.img|4|a=5000/9000", "FILE is \"a=5000/9000\""),
+    ("format|--layout|2|bad.img|4|a=5/5", "FILE is \"a=5/5\""),
+    ("format|--layout|3|bad.img|4|a=5/6/7", "FILE is \"a=5/6/7\""),
+    ("format|--layout|3|bad.img|4|a=5/", "FILE is \"a=5/\""),
+    ("format|--layout|3|bad.img|4|a=/5", "FILE is \"a=/5\""),
+    (
+        "run|bad.img",
+        "the following required arguments were not provided: <SCRIPT>",
+    ),
+    (
+        "dump|bad.img|worse.img",
+        "unexpected argument 'worse.img' found",
+    ),
+];
+
+// Bad command lines, and what is said first of each. None makes a file.
+#[test]
+fn bad_words_are_refused(rt: HostRuntime) {
+    for &(line, cause) in BAD_WORDS {
+        assert!(rt; complains(&rt, line, 2, &[cause]), "{line}");
+    }
+    assert!(rt; fs::read(&rt, "bad.img").is_err());
+}
+
+// Command lines, and what is said of each.
+const FAULTS: &[(&str, &str)] = &[
+    (
+        "format|none.img|0|a=1",
+        "disk \"none.img\": badshape: SLOTS is 0, and 1 to 1020 are allowed\n",
+    ),
+    (
+        "format|none.img|1021|a=1",
+        "disk \"none.img\": badshape: SLOTS is 1021, and 1 to 1020 are allowed\n",
+    ),
+    (
+        "format|--layout|3|none.img|1|a=1",
+        "disk \"none.img\": badshape: SLOTS is 1, and 2 to 1020 are allowed\n",
+    ),
+    (
+        "format|--layout|3|none.img|4|a=0",
+        "disk \"none.img\": badshape: the capacity of \"a\" is 0, and capacities begin at 1\n",
+    ),
+    (
+        "format|--layout|3|none.img|4|a=6/5",
+        "disk \"none.img\": badshape: the length of \"a\" is 6, and its capacity is 5\n",
+    ),
+    (
+        "format|none.img|4|a=0",
+        "disk \"none.img\": badshape: the length of \"a\" is 0, and lengths begin at 1\n",
+    ),
+    (
+        "format|none.img|4|=1",
+        "disk \"none.img\": badshape: the name \"\" isn't 1 to 32 characters from ! to ~\n",
+    ),
+    (
+        "format|none.img|4|a=1|a=2",
+        "disk \"none.img\": badshape: two files have the name \"a\"\n",
+    ),
+    (
+        "format|none.img|4|a b=1",
+        "disk \"none.img\": badshape: the name \"a b\" isn't 1 to 32 characters from ! to ~\n",
+    ),
+    (
+        "format|none.img|4|abcdefghijklmnopqrstuvwxyz1234567=1",
+        "disk \"none.img\": badshape: the name \"abcdefghijklmnopqrstuvwxyz1234567\" isn't 1 to 32 characters from ! to ~\n",
+    ),
+    (
+        "format|none.img|4|a=18446744073709551615",
+        "disk \"none.img\": badshape: the volume would have more than 4294967295 blocks\n",
+    ),
+    (
+        "format|--layout|4|none.img|4|a=1",
+        "disk \"none.img\": badshape: LAYOUT is 4, and 1 to 3 are served\n",
+    ),
+    (
+        "format|--layout=0|none.img|4|a=1",
+        "disk \"none.img\": badshape: LAYOUT is 0, and 1 to 3 are served\n",
+    ),
+    ("format|none/x.img|4|a=1", "file \"none/x.img.new\": "),
+    ("format|none/x\n.img|4|a=1", "file \"none/x\\n.img.new\": "),
+    ("run|none.img|none.json", "file \"none.json\": "),
+    ("run|none.img|fault.json", "file \"none.img\": "),
+    (
+        "run|fault.json|fault.json",
+        "disk \"fault.json\": notavolume: the file has 51 bytes, and a volume has 4096 at least\n",
+    ),
+    ("dump|none.img", "file \"none.img\": "),
+];
+
+// What ends with status 3, and what is said of each. No file is made, and the disk isn't changed.
+#[test]
+fn faults_are_told(rt: HostRuntime) {
+    assert!(rt; makes_volume(&rt, "fault.img"));
+    assert!(rt; writes_script(&rt, "fault.json", &[]));
+    for &(line, cause) in FAULTS {
+        assert!(rt; complains(&rt, line, 3, &[cause]), "{line}");
+    }
+    assert!(rt; refuses_65_files(&rt));
+    assert!(rt; fs::read(&rt, "none.img").is_err());
+    assert!(rt; holds_image(&rt, "fault.img", &[]));
+    assert!(rt; removes(&rt, &["fault.img", "fault.json"]));
+}
+
+// Whether a volume of a file too many is refused.
+fn refuses_65_files<R: Host>(rt: &R) -> bool {
+    let cause = "disk \"none.img\": badshape: 65 files are asked for, and 1 to 64 are allowed\n";
+    match format_of_files(rt.alloc(), "none.img|4", 65) {
+        Ok(line) => complains(rt, line.as_str(), 3, &[cause]),
+        Err(_) => false,
+    }
+}
+
+// The words that make a volume of so many files of one byte.
+fn format_of_files(alloc: Global, disk: &str, count: usize) -> Result<String, AllocError> {
+    let mut words = format!(in alloc; "format|{disk}")?;
+    for i in 0..count {
+        let file = format!(in alloc; "|file_{i}=1")?;
+        words.push_str(file.as_str())?;
+    }
+    Ok(words)
+}
+
+// A volume of as many files and record slots as there can be, and the largest machine on it.
+#[test]
+fn limits_are_served(rt: HostRuntime) {
+    assert!(rt; makes_64_files(&rt));
+    let text =
+        r#"{"cpus":16,"tlb":64,"frames":1020,"copies":64,"steps":[[15,"create"],[0,"map",1,4096,4096,63,0,"rw","rw"],[16,"create"]]}"#;
+    assert!(rt; writes(&rt, "limits.json", &[text]));
+    let replies = "space 1\nmapped\neinval\n";
+    assert!(rt; prints(&rt, "run|limits.img|limits.json", 0, &[replies], &[]));
+    assert!(rt; removes(&rt, &["limits.img", "limits.json"]));
+}
+
+// Whether a volume of as many files and slots is made.
+fn makes_64_files<R: Host>(rt: &R) -> bool {
+    match format_of_files(rt.alloc(), "limits.img|1020", 64) {
+        Ok(line) => prints(rt, line.as_str(), 0, &["formatted 1087 blocks\n"], &[]),
+        Err(_) => false,
+    }
+}
+
+// Help and the version are printed with status 0.
+#[test]
+fn help_is_printed(rt: HostRuntime) {
+    for (line, text) in [
+        ("--help", "Usage: famsync <COMMAND>"),
+        ("help|run", "Usage: famsync run [OPTIONS] <DISK> <SCRIPT>"),
+        ("help|serve", "Usage: famsync serve [OPTIONS] <DISK>"),
+        (
+            "format|--help",
+            "Usage: famsync format [OPTIONS] <DISK> <SLOTS> <FILE>...",
+        ),
+        ("dump|-h", "Usage: famsync dump [OPTIONS] <DISK>"),
+        ("--version", "famsync 0.2.0\n"),
+    ] {
+        assert!(rt; shows(&rt, line, text), "{line}");
+    }
+}
+
+// Whether a run prints a text with this in it.
+fn shows<R: Host>(rt: &R, line: &str, text: &str) -> bool {
+    match famsync(rt, line) {
+        Ok(ran) => ran.has(text),
+        Err(_) => false,
+    }
+}
+
+// An output that becomes full is a fault.
+#[test]
+fn a_full_output_is_a_fault(rt: HostRuntime) {
+    let words = ["famsync", "format", "full_output.img", "4", "a=1"];
+    assert!(rt; is_cut_off(&rt, &words, &mut [0; 5]));
+    assert!(rt; removes(&rt, &["full_output.img"]));
+}

@@ -1,0 +1,3 @@
+-- What ties private code to the definitions that its clauses name.
+pub mod Failure
+pub mod Replay

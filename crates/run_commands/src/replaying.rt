@@ -1,0 +1,236 @@
+// Running a trace again, on a copy of the disk in memory.
+ghost use Rattle.std.specs.Prelude.{◌≡◌, ◌<◌, ◌≤◌, List, map, length, take, slice_get, true, false, Some, None, IfOk, IfErr, IfSome, IsTrue};
+ghost use Rattle.machine.specs.declared.act.Reply.{Reply};
+ghost use Rattle.machine.specs.Words.{reply_text};
+ghost use Rattle.engine.specs.Engine.{HasNotStarted, HasRun};
+ghost use Rattle.run_commands.specs.inside.Replay.{is_text, texts_of, verdict_by, Says, Compares};
+
+use command_parts::{Failure, is_failure, refused_to_run};
+use device::{Device, OverlayDisk};
+use engine::Listener;
+use machine::{Reply, Step};
+use page_entry::Refusal;
+use scripts::ScriptFault;
+use std::alloc::{AllocError, Allocator, Global};
+use std::fs::File;
+use std::io;
+use std::rt::Files;
+use traces::{Line, Trace, TraceFault};
+use volume_files::{Access, SyncNote, open_disk, place, read_file};
+
+/// What is said of a trace that was run again.
+#[derive(Clone, Copy, Debug, PartialEq, Eq)]
+pub enum Verdict {
+    /// Each reply has the text of its entry. So many entries there are.
+    Same(u64),
+    /// The reply to the entry of this number, counted from 1, is the first that has another text.
+    Differs(u64),
+}
+
+/// Compares each reply with the text of the next entry, and says to stop at the first that has another.
+#[derive(Clone, Copy)]
+pub struct Comparer<'a> {
+    global: Global,
+    entries: &'a [Line],
+    /// How many replies had the texts of their entries.
+    same: usize,
+    /// Whether the last one had another text.
+    differs: bool,
+    /// Whether memory was refused for the text of the last one.
+    refused: bool,
+    /// The number, counted from 1, of the first reply that says that the device failed.
+    failure: Option<u64>,
+}
+
+impl<'a> Comparer<'a> {
+    fn new(global: Global, entries: &'a [Line]) -> Self
+        ensures { result ≡ record {
+          global = global;
+          entries = entries.entry;
+          same = 0;
+          differs = false;
+          refused = false;
+          failure = None;
+        } }
+    {
+        Comparer {
+            global,
+            entries,
+            same: 0,
+            differs: false,
+            refused: false,
+            failure: None,
+        }
+    }
+
+    // Whether the next entry has the text of this reply.
+    fn is_next(&self, reply: &Reply) -> Result<bool, AllocError>
+        ensures found { IfOk result (λ is. is
+            ≡ is_text (slice_get self.now.entries.now self.now.same) (reply_text reply.now)) }
+        ensures within { IfOk result (λ is. IsTrue is → self.now.same < length self.now.entries.now) }
+    {
+        let text = format!(in self.global; "{reply}")?;
+        match self.entries.get(self.same) {
+            Some(entry) => Ok(entry.reply.as_str() == text.as_str()),
+            None => Ok(false),
+        }
+    }
+
+    // What it says in the end, unless memory was refused.
+    fn verdict(&self) -> Option<Verdict>
+        ensures { IfSome result
+            (λ said. verdict_by self.now.refused self.now.differs self.now.same ≡ Some said) }
+    {
+        let same = self.same as u64;
+        if self.refused {
+            None
+        } else if self.differs {
+            same.checked_add(1).map(Verdict::Differs)
+        } else {
+            Some(Verdict::Same(same))
+        }
+    }
+}
+
+impl Listener for Comparer<'_> {
+    ghost hears = { Compares };
+
+    fn hear(&mut self, reply: &Reply) -> bool {
+        if self.failure.is_none() && is_failure(reply) {
+            self.failure = Some((self.same as u64).saturating_add(1));
+        }
+        match self.is_next(reply) {
+            Ok(true) => {
+                self.same += 1;
+                true
+            }
+            Ok(false) => {
+                self.differs = true;
+                false
+            }
+            Err(_) => {
+                self.refused = true;
+                false
+            }
+        }
+    }
+}
+
+/// What came of a trace that was run again.
+#[derive(Clone, Copy)]
+pub struct Replayed {
+    /// Nothing is said where memory was refused.
+    pub verdict: Option<Verdict>,
+    /// The number of the first entry to which the device failed.
+    pub failure: Option<u64>,
+}
+
+// Opens the volume of a device, boots a machine of the shape of a trace, and makes the steps of the trace one at a
+// time, up to the first whose reply has another text. A refusal hands the device back.
+fn replay_on<D: Device, A: Allocator + Copy>(
+    global: Global,
+    alloc: A,
+    device: D,
+    trace: &Trace<A>,
+    steps: &[Step],
+) -> Result<(Replayed, D), (Refusal, D)>
+    requires { steps.now ≡ map (λ line. line.step) trace.now.entries.items }
+    ensures ran { IfOk result (λ replayed. (replies : List Reply)
+        × HasRun D.Device device trace.now.shape (take (length replies) steps.now) replies replayed.1
+        × IfSome replayed.0.verdict (Says (texts_of trace.now.entries.items) replies)) }
+    ensures refused { IfErr result (λ refused. HasNotStarted D.Device device trace.now.shape refused.1 refused.0) }
+{
+    let mut comparer = Comparer::new(global, &trace.entries);
+    match engine::run(alloc, device, trace.shape, steps, &mut comparer) {
+        Ok(device) => Ok((
+            Replayed {
+                verdict: comparer.verdict(),
+                failure: comparer.failure,
+            },
+            device,
+        )),
+        Err(refused) => Err(refused),
+    }
+}
+
+// The steps of entries, in order.
+fn steps_of<A: Allocator + Copy>(alloc: A, entries: &[Line]) -> Result<Vec<Step, A>, AllocError>
+    ensures { IfOk result (λ steps. steps.items ≡ map (λ line. line.step) entries.now) }
+{
+    entries.iter().map(|line| line.step).collect(alloc)
+}
+
+/// Runs a trace on a copy of the volume in a file, which costs memory for what it writes, and prints whether each reply
+/// has the text of its entry, or the number of the first entry that differs. Answers the status: 0 or 1. The trace is
+/// read whole before the disk is opened; `path` and `trace` are the names of the two files.
+pub fn replay<'a, R, A, W>(
+    rt: &R,
+    alloc: A,
+    path: &'a str,
+    trace: &'a str,
+    trust: bool,
+    out: &mut W,
+    note: &mut SyncNote,
+) -> Result<u8, Failure<'a>>
+where
+    R: Files<File = File> + AllocGlobal,
+    A: Allocator + Copy,
+    W: io::Write,
+    ensures { IfOk result (λ status. status ≤ 1) }
+{
+    let lines = read_trace(rt, alloc, trace)?;
+    let steps = steps_of(alloc, &lines.entries)?;
+    let place = place(rt, path)?;
+    let disk = open_disk(rt, path, &place, Access::Read, trust, note)?;
+    let copy = OverlayDisk::new(alloc, disk);
+    match replay_on(rt.alloc(), alloc, copy, &lines, &steps) {
+        Ok((replayed, copy)) => said(trace, replayed, copy.was_refused_memory(), out),
+        Err((Refusal::Device, copy)) if copy.was_refused_memory() => Err(Failure::Memory(
+            AllocError,
+        )),
+        Err((refusal, mut copy)) => {
+            Err(refused_to_run(alloc, refusal, &mut copy, lines.shape).of_file(path))
+        }
+    }
+}
+
+fn read_trace<'a, R, A>(rt: &R, alloc: A, path: &'a str) -> Result<Trace<A>, Failure<'a>>
+where
+    R: Files<File = File> + AllocGlobal,
+    A: Allocator + Copy,
+{
+    let text = read_file(rt, alloc, path)?;
+    match Trace::read(rt.alloc(), alloc, &text) {
+        Ok(trace) => Ok(trace),
+        Err(TraceFault::Memory(cause)) => Err(Failure::Memory(cause)),
+        Err(TraceFault::Shape(ScriptFault::Memory(cause))) => Err(Failure::Memory(cause)),
+        Err(cause) => Err(Failure::Trace { path, cause }),
+    }
+}
+
+// Prints what is said of a trace, and answers the status.
+fn said<'a, W: io::Write>(
+    trace: &'a str,
+    replayed: Replayed,
+    is_refused_memory: bool,
+    out: &mut W,
+) -> Result<u8, Failure<'a>>
+    ensures { IfOk result (λ status. status ≤ 1) }
+{
+    let status = match replayed.verdict {
+        Some(Verdict::Same(count)) => {
+            writeln!(out, "same {count}")?;
+            0
+        }
+        Some(Verdict::Differs(number)) => {
+            writeln!(out, "differs at {number}")?;
+            1
+        }
+        None => return Err(Failure::Memory(AllocError)),
+    };
+    match replayed.failure {
+        None => Ok(status),
+        Some(_) if is_refused_memory => Err(Failure::Memory(AllocError)),
+        Some(entry) => Err(Failure::Entry { path: trace, entry }),
+    }
+}

@@ -1,0 +1,30 @@
+// A script is run on a device, and its replies are printed as they come.
+ghost use Rattle.std.specs.Prelude.{◌≡◌, List, length, take, IfOk, IfErr};
+ghost use Rattle.machine.specs.declared.act.Reply.{Reply};
+ghost use Rattle.engine.specs.Engine.{HasNotStarted, HasRun, KeepsDevice, handed_back};
+ghost use Rattle.run_commands.specs.Replies.{ArePrintedOf};
+
+use crate::printer::Printer;
+use device::Device;
+use page_entry::Refusal;
+use scripts::Script;
+use std::alloc::Allocator;
+use std::io::Write;
+
+/// Runs a script on the volume of a device, and prints the reply of each step before the next one is made, up to the
+/// last step or to where the output fails. The device is handed back, with a refusal too; then nothing was printed.
+pub fn run_script<D: Device, A: Allocator + Copy, W: Write + Drop>(
+    alloc: A,
+    device: D,
+    script: &Script<A>,
+    printer: &mut Printer<W>,
+) -> Result<D, (Refusal, D)>
+    ensures ran { IfOk result (λ after. (replies : List Reply)
+        × ArePrintedOf W.contents (length script.now.steps.items) printer.old replies printer.new
+        × HasRun D.Device device script.now.shape (take (length replies) script.now.steps.items) replies after) }
+    ensures refused { IfErr result (λ refused. HasNotStarted D.Device device script.now.shape refused.1 refused.0
+        × (printer.new ≡ printer.old)) }
+    ensures kept { KeepsDevice D.Device device (handed_back result) }
+{
+    engine::run(alloc, device, script.shape, &script.steps, printer)
+}

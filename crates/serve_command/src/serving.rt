@@ -1,0 +1,157 @@
+// A session on the volume in a file: requests are read from the input, and answered on the output.
+ghost use Rattle.std.specs.Prelude.{◌++◌, ◌∷◌, [], codes, OnOk};
+ghost use Rattle.std.specs.Fmt.{decimal};
+ghost use Rattle.std.specs.Io.KnownBytes.{Appends};
+ghost use Rattle.std.specs.List.{flat_map};
+ghost use Rattle.session.specs.Ranges.{MakesStepsThat};
+ghost use Rattle.serve_command.specs.inside.Greeting.{file_text, greeting_text, ListsAndAnswers};
+
+use command_parts::{Failure, refused_to_run};
+use device::Device;
+use machine::Shape;
+use scripts::ScriptFault;
+use session::{FileLine, Line, Session, SessionFault, read_line, read_shape, serve_on, start};
+use std::alloc::{Allocator, Global};
+use std::fs::File;
+use std::io;
+use std::io::{BufRead, BufReader};
+use std::rt::Files;
+use volume_files::{SyncNote, open_to_write, place};
+
+/// The name of the input in what is said of its first line.
+const INPUT: &str = "-";
+
+/// Reads the shape of a machine, opens the volume in a file, and answers a request a line until the input ends. The
+/// first line is read before the disk is opened; `path` is the name of its file. `note` gets what is to be said of
+/// syncs that failed.
+pub fn serve<'a, R, A, W>(
+    rt: &R,
+    alloc: A,
+    path: &'a str,
+    trust: bool,
+    out: &mut W,
+    note: &mut SyncNote,
+) -> Result<(), Failure<'a>>
+where
+    R: Files<File = File> + Input + AllocGlobal,
+    A: Allocator + Copy,
+    W: io::Write,
+{
+    let mut input = match BufReader::new(alloc, rt.reader()) {
+        Ok(input) => input,
+        Err(cause) => return Err(Failure::Input(cause)),
+    };
+    let shape = first_line(rt, alloc, &mut input)?;
+    let place = place(rt, path)?;
+    let disk = open_to_write(rt, path, &place, trust, note)?;
+    match start(alloc, disk, shape) {
+        Ok(mut session) => {
+            let served = serve_session(rt.alloc(), alloc, &mut session, &mut input, out);
+            let failed = session.notes().has_failed;
+            *note = session.into_device().into_file().into_note();
+            outcome(path, served, failed)
+        }
+        Err((refusal, mut disk)) => {
+            let cause = refused_to_run(alloc, refusal, &mut disk, shape);
+            *note = disk.into_file().into_note();
+            Err(cause.of_file(path))
+        }
+    }
+}
+
+// The shape that the first line is.
+fn first_line<'a, R, A, I>(rt: &R, alloc: A, input: &mut I) -> Result<Shape, Failure<'a>>
+where
+    R: AllocGlobal,
+    A: Allocator + Copy,
+    I: BufRead,
+{
+    let mut line = Vec::new(alloc);
+    let found = match read_line(input, &mut line) {
+        Ok(found) => found,
+        Err(cause) => return Err(Failure::Input(cause)),
+    };
+    if found == Line::Long {
+        return Err(Failure::Script {
+            path: INPUT,
+            cause: ScriptFault::NotAnObject,
+        });
+    }
+    match read_shape(rt.alloc(), &line) {
+        Ok(shape) => Ok(shape),
+        Err(ScriptFault::Memory(cause)) => Err(Failure::Memory(cause)),
+        Err(cause) => Err(Failure::Script { path: INPUT, cause }),
+    }
+}
+
+// Says which files there are, and answers the requests. Where it answers `Ok`, nothing else was written.
+fn serve_session<D, A, I, W>(
+    global: Global,
+    alloc: A,
+    session: &mut Session<D, A>,
+    input: &mut I,
+    out: &mut W,
+) -> Result<(), SessionFault>
+where
+    D: Device,
+    A: Allocator + Copy,
+    I: BufRead,
+    W: io::Write,
+    ensures { OnOk result (MakesStepsThat D.Device session.old.machine session.old.notes
+        (ListsAndAnswers session.old.files.lines.items session.old.notes (I.remaining input.old) (I.remaining input.new)
+        (W.contents out.old) (W.contents out.new)) session.new.machine session.new.notes) }
+{
+    match greet(&session.files().lines, out) {
+        Ok(()) => serve_on(global, alloc, session, input, out),
+        Err(cause) => Err(SessionFault::Output(cause)),
+    }
+}
+
+// Prints a line with the number of files, and a line with the name and the length of each.
+fn greet<A: Allocator + Copy, W: io::Write>(files: &[FileLine<A>], out: &mut W) -> io::Result<()>
+    ensures { OnOk result (Appends (W.contents out.old) (W.contents out.new) (greeting_text files.now)) }
+{
+    write_count(files.len(), out)?;
+    write_files(files, out)?;
+    out.flush()
+}
+
+fn write_count<W: io::Write>(count: usize, out: &mut W) -> io::Result<()>
+    ensures { OnOk result (Appends (W.contents out.old) (W.contents out.new)
+        (codes "ready " ++ decimal count ++ 10 ∷ [])) }
+{
+    writeln!(out, "ready {count}")
+}
+
+fn write_files<A: Allocator + Copy, W: io::Write>(
+    files: &[FileLine<A>],
+    out: &mut W,
+) -> io::Result<()>
+    ensures { OnOk result (Appends (W.contents out.old) (W.contents out.new) (flat_map file_text files.now)) }
+{
+    for file in files {
+        write_file(file, out)?;
+    }
+    Ok(())
+}
+
+fn write_file<A: Allocator + Copy, W: io::Write>(file: &FileLine<A>, out: &mut W) -> io::Result<()>
+    ensures { OnOk result (Appends (W.contents out.old) (W.contents out.new) (file_text file.now)) }
+{
+    writeln!(out, "{} {}", file.name, file.length)
+}
+
+// How a session ended: before its input did, or with a step that was answered that the device failed, or neither.
+fn outcome<'a>(
+    path: &'a str,
+    served: Result<(), SessionFault>,
+    failed: bool,
+) -> Result<(), Failure<'a>> {
+    match served {
+        Ok(()) if failed => Err(Failure::Session { path }),
+        Ok(()) => Ok(()),
+        Err(SessionFault::Input(cause)) => Err(Failure::Input(cause)),
+        Err(SessionFault::Output(cause)) => Err(Failure::Output(cause)),
+        Err(SessionFault::Memory(cause)) => Err(Failure::Memory(cause)),
+    }
+}

@@ -1,0 +1,223 @@
+// Telling what the bytes of the volume in a file say, and printing its files. The file is only read. What is done once
+// the disk is open is written for any device, which costs the prover less than the device by its name.
+ghost use Rattle.std.specs.Prelude.{◌≡◌, ◌≤◌, length, IfOk};
+ghost use Rattle.volume_commands.specs.inside.Health.{health_status};
+
+use crate::print::print_value;
+use command_line::Look;
+use device::{Device, OverlayDisk};
+use inspection::{
+    Found, Health, LineFault, damage_value, examine, found_value, health_value, inspect,
+    write_file_lines, write_found,
+};
+use page_entry::Refusal;
+use std::alloc::{Allocator, Global};
+use std::fs::File;
+use std::io;
+use std::rt::Files;
+use volume_files::{
+    Access, FileFailure, Refused, SyncNote, not_opened, not_opened_on_copy, open_disk, place,
+    refused_to_open, unreadable,
+};
+
+/// Prints what the bytes of a volume say. `note` gets what is to be said of a sync that failed.
+pub fn info<'a, R, A, W>(
+    rt: &R,
+    alloc: A,
+    look: Look<'a>,
+    out: &mut W,
+    note: &mut SyncNote,
+) -> Result<(), FileFailure<'a>>
+where
+    R: Files<File = File> + AllocGlobal,
+    A: Allocator + Copy,
+    W: io::Write,
+{
+    let place = place(rt, look.disk)?;
+    let mut disk = open_disk(rt, look.disk, &place, Access::Read, look.trust, note)?;
+    let found = found_on(alloc, look.disk, &mut disk)?;
+    print_found(rt.alloc(), look.json, &found, out)
+}
+
+// What is found of the volume of a device.
+fn found_on<'a, D: Device, A: Allocator + Copy>(
+    alloc: A,
+    path: &'a str,
+    disk: &mut D,
+) -> Result<Found<A>, FileFailure<'a>>
+    ensures count { IfOk result (λ found. length found.lengths.items ≡ length found.table.files) }
+{
+    match inspect(alloc, disk) {
+        Ok(found) => Ok(found),
+        Err(refusal) => Err(not_opened(path, refused_to_open(alloc, refusal, disk))),
+    }
+}
+
+fn print_found<'a, A: Allocator + Copy, W: io::Write>(
+    global: Global,
+    json: bool,
+    found: &Found<A>,
+    out: &mut W,
+) -> Result<(), FileFailure<'a>>
+    requires { length found.now.lengths.items ≡ length found.now.table.files }
+{
+    if json {
+        let value = found_value(global, found)?;
+        return print_value(global, &value, out);
+    }
+    write_found(found, out)?;
+    Ok(())
+}
+
+/// Prints whether a volume is clean, needs opening, or is damaged, and answers the status: 0, 1 or 3. `note` gets what
+/// is to be said of a sync that failed.
+pub fn check<'a, R, A, W>(
+    rt: &R,
+    alloc: A,
+    look: Look<'a>,
+    out: &mut W,
+    note: &mut SyncNote,
+) -> Result<u8, FileFailure<'a>>
+where
+    R: Files<File = File> + AllocGlobal,
+    A: Allocator + Copy,
+    W: io::Write,
+    ensures { IfOk result (λ status. status ≤ 3) }
+{
+    let place = place(rt, look.disk)?;
+    let mut disk = open_disk(rt, look.disk, &place, Access::Read, look.trust, note)?;
+    check_disk(rt.alloc(), alloc, look, &mut disk, out)
+}
+
+// Prints how the volume of a device is, and answers the status.
+fn check_disk<'a, D: Device, A: Allocator + Copy, W: io::Write>(
+    global: Global,
+    alloc: A,
+    look: Look<'a>,
+    disk: &mut D,
+    out: &mut W,
+) -> Result<u8, FileFailure<'a>>
+    ensures { IfOk result (λ status. status ≤ 3) }
+{
+    match examine(alloc, disk) {
+        Ok(health) => {
+            print_health(global, look.json, health, out)?;
+            Ok(status_of(health))
+        }
+        Err(Refusal::Damaged) => {
+            let cause = refused_to_open(alloc, Refusal::Damaged, disk);
+            print_damage(global, look.json, &cause, out)?;
+            Ok(3)
+        }
+        Err(refusal) => Err(not_opened(look.disk, refused_to_open(alloc, refusal, disk))),
+    }
+}
+
+fn status_of(health: Health) -> u8
+    ensures status { result ≡ health_status health }
+    ensures small { result ≤ 3 }
+{
+    match health {
+        Health::Clean => 0,
+        Health::NeedsOpening => 1,
+    }
+}
+
+fn print_health<'a, W: io::Write>(
+    global: Global,
+    json: bool,
+    health: Health,
+    out: &mut W,
+) -> Result<(), FileFailure<'a>> {
+    if json {
+        let value = health_value(global, health)?;
+        return print_value(global, &value, out);
+    }
+    writeln!(out, "{health}")?;
+    Ok(())
+}
+
+// Prints that a volume is damaged, and why.
+fn print_damage<'a, W: io::Write>(
+    global: Global,
+    json: bool,
+    refused: &Refused<'_>,
+    out: &mut W,
+) -> Result<(), FileFailure<'a>> {
+    if json {
+        let cause = match &refused.cause {
+            Some(cause) => format!(in global; "{cause}")?,
+            None => String::new(global),
+        };
+        let value = damage_value(global, cause.as_str())?;
+        return print_value(global, &value, out);
+    }
+    writeln!(out, "{refused}")?;
+    Ok(())
+}
+
+/// Prints the files of a volume, as text or as lines of JSON. `note` gets what is to be said of a sync that failed.
+pub fn dump<'a, R, A, W>(
+    rt: &R,
+    alloc: A,
+    look: Look<'a>,
+    out: &mut W,
+    note: &mut SyncNote,
+) -> Result<(), FileFailure<'a>>
+where
+    R: Files<File = File> + AllocGlobal,
+    A: Allocator + Copy,
+    W: io::Write,
+{
+    if look.json {
+        dump_lines(rt, alloc, look, out, note)
+    } else {
+        volume_files::dump(rt, alloc, look.disk, look.trust, out, note)
+    }
+}
+
+fn dump_lines<'a, R, A, W>(
+    rt: &R,
+    alloc: A,
+    look: Look<'a>,
+    out: &mut W,
+    note: &mut SyncNote,
+) -> Result<(), FileFailure<'a>>
+where
+    R: Files<File = File> + AllocGlobal,
+    A: Allocator + Copy,
+    W: io::Write,
+{
+    let place = place(rt, look.disk)?;
+    let disk = open_disk(rt, look.disk, &place, Access::Read, look.trust, note)?;
+    print_lines(rt.alloc(), alloc, look.disk, disk, out)
+}
+
+// Prints the files of the volume of a device as lines of JSON, from a copy that keeps in memory what is written.
+fn print_lines<'a, D, A, W>(
+    global: Global,
+    alloc: A,
+    path: &'a str,
+    disk: D,
+    out: &mut W,
+) -> Result<(), FileFailure<'a>>
+where
+    D: Device + Drop,
+    A: Allocator + Copy,
+    W: io::Write,
+{
+    match write_file_lines(global, alloc, OverlayDisk::new(alloc, disk), out) {
+        Ok(Ok(())) => Ok(()),
+        Ok(Err(fault)) => Err(fault_of(path, fault)),
+        Err((refusal, mut copy)) => Err(not_opened_on_copy(alloc, path, refusal, &mut copy)),
+    }
+}
+
+// Why the files of the volume at a path weren't printed.
+fn fault_of(path: &str, fault: LineFault) -> FileFailure<'_> {
+    match fault {
+        LineFault::Unreadable(refusal) => unreadable(path, refusal),
+        LineFault::Output(fault) => FileFailure::Output(fault),
+        LineFault::Memory(fault) => FileFailure::Memory(fault),
+    }
+}
