@@ -1,5 +1,7 @@
 -- Where the bytes of a file lie on a device.
-use Rattle.std.proofs.Common.{◌≡◌, ◌<◌, ◌≤◌, ℕ, zero, suc, ◌+◌, ◌-◌, ◌*◌, List, [], ◌∷◌, length, take, drop, map, slice_get, slice_index, slice_range, Some, refl, sym, ◌∙◌, ap, subst, arith, length-take, length-drop}
+use Rattle.std.proofs.Common.{◌≡◌, ◌<◌, ◌≤◌, ℕ, zero, suc, ◌+◌, ◌-◌, ◌*◌, List, [], ◌∷◌}
+use Rattle.std.proofs.Common.{length, take, drop, map, slice_get, slice_index, slice_range}
+use Rattle.std.proofs.Common.{Some, refl, sym, ◌∙◌, ap, subst, arith, length-take, length-drop}
 use Rattle.std.proofs.lemmas.List.{drop-drop, take-take}
 use Rattle.volume_codec.specs.Files.{File, TableFile}
 use Rattle.volume_codec.specs.Layout.{block_at}
@@ -21,7 +23,8 @@ index_at [] i h = absurd (omega arith)
 index_at (x ∷ xs) zero h = refl
 index_at (x ∷ xs) (suc i) h = index_at xs i (omega arith)
 
-capacity_of : (fs : List TableFile) (i : ℕ) (f : TableFile) → slice_get fs i ≡ Some f → slice_index (map (λ (f : TableFile). f.capacity) fs) i ≡ f.capacity
+capacity_of : (fs : List TableFile) (i : ℕ) (f : TableFile) → slice_get fs i ≡ Some f
+    → slice_index (map (λ (f : TableFile). f.capacity) fs) i ≡ f.capacity
 capacity_of [] i f e = cc
 capacity_of (g ∷ fs) zero f e = let same : g ≡ f = cc in ap (λ (x : TableFile). x.capacity) same
 capacity_of (g ∷ fs) (suc i) f e = capacity_of fs i f e
@@ -32,14 +35,16 @@ bytes_at (g ∷ fs) zero f e = let same : g ≡ f = cc in ap (λ (x : File). x.b
 bytes_at (g ∷ fs) (suc i) f e = bytes_at fs i f e
 
 -- what is asked of one value is asked of an equal one
-pub asked_within : {D : Type 0} (v w : VolumeState D) (file at n : ℕ) → v ≡ w → file < length w.table.files → at + n ≤ slice_index w.lengths file
+pub asked_within : {D : Type 0} (v w : VolumeState D) (file at n : ℕ) → v ≡ w → file < length w.table.files
+    → at + n ≤ slice_index w.lengths file
     → (file < length v.table.files) × (at + n ≤ slice_index v.lengths file)
 asked_within {D} v w file at n same there within =
     let P : VolumeState D → Type 0 = λ u. (file < length u.table.files) × (at + n ≤ slice_index u.lengths file) in
     subst P (sym same) (there, within)
 
 -- a file ends before the next one
-pub file_end : (table : SuperValue) (lengths : List ℕ) → AreLengths table lengths → (file : ℕ) → file < length table.files
+pub file_end : (table : SuperValue) (lengths : List ℕ) → AreLengths table lengths → (file : ℕ)
+    → file < length table.files
     → 4096 * first_home_of table file + slice_index lengths file ≤ 4096 * first_home_of table (file + 1)
 file_end table lengths are file there =
     let f = some_at table.files file there in
@@ -47,20 +52,24 @@ file_end table lengths are file there =
     omega (arith, first_home_of-next table file there, le, capacity_of table.files file f.0 f.1)
 
 -- the bytes of a file, where they lie
-pub file_bytes : (table : SuperValue) (lengths : List ℕ) → AreLengths table lengths → (bytes : List ℕ) (file : ℕ) → file < length table.files → lengths ≡ lengths_in table (block_at bytes)
-    → bytes_of (files_of table bytes) file ≡ take (slice_index lengths file) (drop (4096 * first_home_of table file) bytes)
+pub file_bytes : (table : SuperValue) (lengths : List ℕ) → AreLengths table lengths → (bytes : List ℕ) (file : ℕ)
+    → file < length table.files → lengths ≡ lengths_in table (block_at bytes)
+    → bytes_of (files_of table bytes) file
+    ≡ take (slice_index lengths file) (drop (4096 * first_home_of table file) bytes)
 file_bytes table lengths are bytes file there same =
     let size = slice_index lengths file in
     let f = some_at table.files file there in
     let at_length = index_at lengths file (omega (arith, are.count)) in
     let le = are.within file size f.0 f.1 at_length in
-    let found = file_in-at table (block_at bytes) file size f.0 f.1 (ap (λ (l : List ℕ). slice_get l file) (sym same) ∙ at_length) in
+    let found = file_in-at table (block_at bytes) file size f.0 f.1
+    (ap (λ (l : List ℕ). slice_get l file) (sym same) ∙ at_length) in
     bytes_at (files_of table bytes) file _ found
     ∙ ap (take size) (blocks_from-device bytes (first_home_of table file) (pages_of f.0.capacity))
     ∙ take-take size (4096 * pages_of f.0.capacity) (drop (4096 * first_home_of table file) bytes) (omega (arith, le))
 
 -- as many as its length
-pub length_of_bytes : (table : SuperValue) (lengths : List ℕ) → AreLengths table lengths → (bytes : List ℕ) (file : ℕ) → file < length table.files → lengths ≡ lengths_in table (block_at bytes) → 4096 * block_count table ≤ length bytes
+pub length_of_bytes : (table : SuperValue) (lengths : List ℕ) → AreLengths table lengths → (bytes : List ℕ) (file : ℕ)
+    → file < length table.files → lengths ≡ lengths_in table (block_at bytes) → 4096 * block_count table ≤ length bytes
     → length (bytes_of (files_of table bytes) file) ≡ slice_index lengths file
 length_of_bytes table lengths are bytes file there same long =
     let at = 4096 * first_home_of table file in
@@ -69,7 +78,8 @@ length_of_bytes table lengths are bytes file there same long =
     ap length (file_bytes table lengths are bytes file there same)
     ∙ omega (arith, length-take (slice_index lengths file) (drop at bytes), length-drop at bytes, ends, last, long)
 
-module _ (table : SuperValue) (lengths : List ℕ) (are : AreLengths table lengths) (file at n : ℕ) (there : file < length table.files) (within : at + n ≤ slice_index lengths file) where
+module _ (table : SuperValue) (lengths : List ℕ) (are : AreLengths table lengths) (file at n : ℕ)
+    (there : file < length table.files) (within : at + n ≤ slice_index lengths file) where
   -- a part of a file lies within the volume
   pub file_room : (size : ℕ) → 4096 * block_count table ≤ size → 4096 * first_home_of table file + at + n ≤ size
   file_room size long =
@@ -80,8 +90,10 @@ module _ (table : SuperValue) (lengths : List ℕ) (are : AreLengths table lengt
       omega (arith, next, last, le, capacity_of table.files file f.0 f.1)
 
   -- a read at the file's first home block gives a part of it
-  pub read_part : (bytes : List ℕ) (home : ℕ) → home ≡ first_home_of table file → lengths ≡ lengths_in table (block_at bytes)
-      → slice_range bytes (4096 * home + at) (4096 * home + at + n) ≡ slice_range (bytes_of (files_of table bytes) file) at (at + n)
+  pub read_part : (bytes : List ℕ) (home : ℕ) → home ≡ first_home_of table file
+      → lengths ≡ lengths_in table (block_at bytes)
+      → slice_range bytes (4096 * home + at) (4096 * home + at + n)
+      ≡ slice_range (bytes_of (files_of table bytes) file) at (at + n)
   read_part bytes home is same =
       let size = slice_index lengths file in
       let part : 4096 * home + at + n - (4096 * home + at) ≡ n = omega arith in

@@ -16,8 +16,10 @@ pub magic_at : (v : SuperValue) (bytes : List ℕ) → IsSuper v (block_at bytes
 magic_at v bytes is = sym (take-take 8 4096 bytes (omega arith)) ∙ (reads_block v (block_at bytes 0) is).magic
 
 -- block 0 is refused
-pub refuses_super : (bytes : List ℕ) (e : Refusal) → 4096 ≤ length bytes → RefusesSuper (block_at bytes 0) e → RefusesOpening bytes e
-refuses_super bytes NotAVolume long refuses = inr (λ layout magic. refuses layout (take-take 8 4096 bytes (omega arith) ∙ magic))
+pub refuses_super : (bytes : List ℕ) (e : Refusal) → 4096 ≤ length bytes → RefusesSuper (block_at bytes 0) e
+    → RefusesOpening bytes e
+refuses_super bytes NotAVolume long refuses =
+    inr (λ layout magic. refuses layout (take-take 8 4096 bytes (omega arith) ∙ magic))
 refuses_super bytes Damaged long refuses = record {
   long = long;
   layout = refuses.0;
@@ -29,7 +31,8 @@ refuses_super bytes Device long refuses = tt
 refuses_super bytes _ long refuses = refuses
 
 -- the device ends before its volume
-pub refuses_short : (v : SuperValue) (bytes : List ℕ) → IsSuper v (block_at bytes 0) → 4096 ≤ length bytes → length bytes < 4096 * block_count v → IsDamaged bytes
+pub refuses_short : (v : SuperValue) (bytes : List ℕ) → IsSuper v (block_at bytes 0) → 4096 ≤ length bytes
+    → length bytes < 4096 * block_count v → IsDamaged bytes
 refuses_short v bytes is long short = record {
   long = long;
   layout = v.layout;
@@ -41,7 +44,8 @@ refuses_short v bytes is long short = record {
 }
 
 -- the open journals are refused
-pub refuses_journals : (v : SuperValue) (bytes : List ℕ) (e : Refusal) → IsSuper v (block_at bytes 0) → 4096 ≤ length bytes → RefusesJournals (geometry_of v) bytes e → RefusesOpening bytes e
+pub refuses_journals : (v : SuperValue) (bytes : List ℕ) (e : Refusal) → IsSuper v (block_at bytes 0)
+    → 4096 ≤ length bytes → RefusesJournals (geometry_of v) bytes e → RefusesOpening bytes e
 refuses_journals v bytes Damaged is long refuses = record {
   long = long;
   layout = v.layout;

@@ -12,7 +12,8 @@ pub kept_none : {D : Type 0} (disk : Ghosts D) (device : D) → IsAccounted {X =
 kept_none disk device = record { honest = (λ h. h, λ h. h); len = refl; cause = refl }
 
 -- a call that succeeded, and another
-pub kept_then : {D X Y : Type 0} {disk : Ghosts D} {old mid new : D} {x : X} {result : Result Y Refusal} → IsAccounted disk old (Ok x) mid → IsAccounted disk mid result new → IsAccounted disk old result new
+pub kept_then : {D X Y : Type 0} {disk : Ghosts D} {old mid new : D} {x : X} {result : Result Y Refusal}
+    → IsAccounted disk old (Ok x) mid → IsAccounted disk mid result new → IsAccounted disk old result new
 kept_then {D} {X} {Y} {disk} {old} {mid} {new} {x} {result} first second =
     let P : ℕ → Type 0 = λ n. MatchResult result (λ _. disk.faults_met new ≡ n) (HasCause n (disk.faults_met new)) in
     record {
@@ -22,17 +23,20 @@ kept_then {D} {X} {Y} {disk} {old} {mid} {new} {x} {result} first second =
     }
 
 -- the result's value doesn't matter
-pub kept_ok : {D X Y : Type 0} {disk : Ghosts D} {old new : D} {x : X} (y : Y) → IsAccounted disk old (Ok x) new → IsAccounted disk old (Ok y) new
+pub kept_ok : {D X Y : Type 0} {disk : Ghosts D} {old new : D} {x : X} (y : Y) → IsAccounted disk old (Ok x) new
+    → IsAccounted disk old (Ok y) new
 kept_ok y kept = record { honest = kept.honest; len = kept.len; cause = kept.cause }
 
 -- a call that failed as another did
-pub kept_err : {D X Y : Type 0} {disk : Ghosts D} {old new : D} {e : Refusal} (result : Result Y Refusal) → result ≡ Err e → IsAccounted {X = X} disk old (Err e) new → IsAccounted disk old result new
+pub kept_err : {D X Y : Type 0} {disk : Ghosts D} {old new : D} {e : Refusal} (result : Result Y Refusal)
+    → result ≡ Err e → IsAccounted {X = X} disk old (Err e) new → IsAccounted disk old result new
 kept_err {D} {X} {Y} {disk} {old} {new} {e} result is kept =
     let P : Result Y Refusal → Type 0 = λ r. IsAccounted disk old r new in
     subst P (sym is) (record { honest = kept.honest; len = kept.len; cause = kept.cause })
 
 -- calls that write nothing
-pub unwritten_then : {D : Type 0} {disk : Ghosts D} {old mid new : D} → IsUnwritten disk old mid → IsUnwritten disk mid new → IsUnwritten disk old new
+pub unwritten_then : {D : Type 0} {disk : Ghosts D} {old mid new : D} → IsUnwritten disk old mid
+    → IsUnwritten disk mid new → IsUnwritten disk old new
 unwritten_then first second = record {
   same = second.same ∙ first.same;
   left = λ c left. first.left c (second.left c left);
@@ -40,7 +44,8 @@ unwritten_then first second = record {
 }
 
 -- what is synced stays synced
-pub synced_after : {D : Type 0} {disk : Ghosts D} {old new : D} → IsUnwritten disk old new → Only (disk.may_leave old) (disk.seen old) → Only (disk.may_leave new) (disk.seen new)
+pub synced_after : {D : Type 0} {disk : Ghosts D} {old new : D} → IsUnwritten disk old new
+    → Only (disk.may_leave old) (disk.seen old) → Only (disk.may_leave new) (disk.seen new)
 synced_after {D} {disk} {old} {new} unwritten only =
     let P : List ℕ → Type 0 = λ bytes. Only (disk.may_leave new) bytes in
     subst P (sym unwritten.same) (λ c left. only c (unwritten.left c left))

@@ -1,5 +1,6 @@
 -- What opening makes of a device, what a crash meanwhile leaves, and when it refuses.
-use Rattle.std.specs.Prelude.{◌≡◌, ◌≢◌, ◌⊎◌, ℕ, ◌+◌, ◌*◌, List, length, sum_by, slice_index, Result, Ok, Err, MatchResult}
+use Rattle.std.specs.Prelude.{◌≡◌, ◌≢◌, ◌⊎◌, ℕ, ◌+◌, ◌*◌, List, length, sum_by}
+use Rattle.std.specs.Prelude.{slice_index, Result, Ok, Err, MatchResult}
 use Rattle.std.specs.List.{AllByRecursion}
 use Rattle.device.specs.Device.{Only, LeavesOnly}
 use Rattle.device.specs.declared.device.Device.{Ghosts}

@@ -22,8 +22,8 @@ pub record IsAtRest {D : Type 0} (disk : Ghosts D) (volume : VolumeState D) : Ty
   pub lengths_are : volume.lengths ≡ lengths_in volume.table (block_at (disk.seen volume.device))
   pub synced : Only (disk.may_leave volume.device) (disk.seen volume.device)
 
--- the device is long enough for a volume with this table and these lengths, which are the capacities in a layout without
--- a lengths block, and an honest one is at rest
+-- the device is long enough for a volume with this table and these lengths, which are the capacities in a layout
+-- without a lengths block, and an honest one is at rest
 pub record IsSettled {D : Type 0} (disk : Ghosts D) (volume : VolumeState D) : Type 0 where
   pub fits : Fits volume.table
   pub long : 4096 * block_count volume.table ≤ length (disk.seen volume.device)

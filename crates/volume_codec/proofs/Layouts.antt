@@ -4,7 +4,8 @@ use Rattle.std.proofs.lemmas.Bool.{cases_lt}
 use Rattle.std.proofs.lemmas.Nat.{mul-le}
 use Rattle.volume_codec.specs.declared.layout.Layout.{Layout}
 use Rattle.volume_codec.specs.declared.layout.Layout.TheVariants.{One, Two, Three}
-use Rattle.volume_codec.specs.Layout.{GeometryValue, IsGeometry, number_of, magic_of, journals_of, gate_block, descriptor_block, record_block, first_home, lengths_blocks, first_file_home}
+use Rattle.volume_codec.specs.Layout.{GeometryValue, IsGeometry, number_of, magic_of, journals_of, gate_block}
+use Rattle.volume_codec.specs.Layout.{descriptor_block, record_block, first_home, lengths_blocks, first_file_home}
 
 -- no two layouts have one number
 pub number_of-injective : (a b : Layout) → number_of a ≡ number_of b → a ≡ b
@@ -49,13 +50,16 @@ next_journal j k w h = let m = mul-le (suc j) w k w (omega arith) (omega arith) 
     step j w = omega arith
 
 -- a journal's parts lie before every home block
-pub gate_block-low : (layout : Layout) (slots j : ℕ) → j < journals_of layout → gate_block slots j < first_home layout slots
+pub gate_block-low : (layout : Layout) (slots j : ℕ) → j < journals_of layout
+    → gate_block slots j < first_home layout slots
 gate_block-low layout slots j h = let m = next_journal j (journals_of layout) (2 + slots) h in omega arith
 
-pub descriptor_block-low : (layout : Layout) (slots j : ℕ) → j < journals_of layout → descriptor_block slots j < first_home layout slots
+pub descriptor_block-low : (layout : Layout) (slots j : ℕ) → j < journals_of layout
+    → descriptor_block slots j < first_home layout slots
 descriptor_block-low layout slots j h = let m = next_journal j (journals_of layout) (2 + slots) h in omega arith
 
-pub record_block-low : (layout : Layout) (slots j i : ℕ) → j < journals_of layout → i < slots → record_block slots j i < first_home layout slots
+pub record_block-low : (layout : Layout) (slots j i : ℕ) → j < journals_of layout → i < slots
+    → record_block slots j i < first_home layout slots
 record_block-low layout slots j i h l = let m = next_journal j (journals_of layout) (2 + slots) h in omega arith
 
 -- and before the parts of the next journal

@@ -1,6 +1,8 @@
 -- Zeros, and bytes padded by them.
-use Rattle.std.proofs.Common.{◌≡◌, ℕ, ◌+◌, ◌-◌, ◌≤◌, List, [], ◌++◌, length, take, drop, refl, sym, ap, ◌∙◌, arith, length-append}
-use Rattle.std.proofs.lemmas.List.{length-replicate, replicate-append-replicate, take-replicate, drop-replicate, take_at, drop_at, length-take, length-drop, drop-drop}
+use Rattle.std.proofs.Common.{◌≡◌, ℕ, ◌+◌, ◌-◌, ◌≤◌, List, [], ◌++◌, length, take}
+use Rattle.std.proofs.Common.{drop, refl, sym, ap, ◌∙◌, arith, length-append}
+use Rattle.std.proofs.lemmas.List.{length-replicate, replicate-append-replicate, take-replicate}
+use Rattle.std.proofs.lemmas.List.{drop-replicate, take_at, drop_at, length-take, length-drop, drop-drop}
 use Rattle.std.proofs.Math.Seq.{take-add}
 use Rattle.std.proofs.lemmas.Slice.{take-put_mid, drop-put_mid}
 use borrow.Rule.Slice.PartMut.{put_mid}
@@ -35,10 +37,12 @@ drop-past p q n m h = sym (drop-drop m n (p ++ q)) ∙ ap (drop m) (drop_at p q 
 
 pub take-past : (p q : List ℕ) (n m : ℕ) → length p ≡ n → take (n + m) (p ++ q) ≡ p ++ take m q
 take-past p q n m h =
-    take-add n m (p ++ q) ∙ ap (λ (r : List ℕ). r ++ take m (drop n (p ++ q))) (take_at p q n h) ∙ ap (λ (r : List ℕ). p ++ take m r) (drop_at p q n h)
+    take-add n m (p ++ q) ∙ ap (λ (r : List ℕ). r ++ take m (drop n (p ++ q))) (take_at p q n h)
+    ∙ ap (λ (r : List ℕ). p ++ take m r) (drop_at p q n h)
 
 -- a block whose bytes from this place on are written
-pub length-pushed : (block bytes new : List ℕ) (at k : ℕ) → new ≡ bytes → k ≡ length bytes → at + length bytes ≤ 4096 → length block ≡ 4096 → length (put_mid at k block new) ≡ 4096
+pub length-pushed : (block bytes new : List ℕ) (at k : ℕ) → new ≡ bytes → k ≡ length bytes → at + length bytes ≤ 4096
+    → length block ≡ 4096 → length (put_mid at k block new) ≡ 4096
 length-pushed block bytes new at k e n h l =
     let same = ap length e in
     let front = length-take at block in
@@ -48,22 +52,29 @@ length-pushed block bytes new at k e n h l =
     let tail = length-append new (drop k (drop at block)) in
     omega arith
 
-pub drop-pushed : (block bytes new : List ℕ) (at k : ℕ) → new ≡ bytes → k ≡ length bytes → at + length bytes ≤ 4096 → length block ≡ 4096 → drop at block ≡ zeros (4096 - at)
+pub drop-pushed : (block bytes new : List ℕ) (at k : ℕ) → new ≡ bytes → k ≡ length bytes → at + length bytes ≤ 4096
+    → length block ≡ 4096 → drop at block ≡ zeros (4096 - at)
     → drop (at + length bytes) (put_mid at k block new) ≡ zeros (4096 - (at + length bytes))
 drop-pushed block bytes new at k e n h l z =
     let same = ap length e in
-    drop-put_mid at k block new (at + length bytes) (omega arith) (omega arith) (omega arith) ∙ sym (drop-drop (length bytes) at block)
+    drop-put_mid at k block new (at + length bytes) (omega arith) (omega arith) (omega arith)
+    ∙ sym (drop-drop (length bytes) at block)
     ∙ ap (drop (length bytes)) z ∙ drop-zeros (length bytes) (4096 - at) ∙ ap zeros (omega arith)
 
-pub take-pushed : (block bytes new : List ℕ) (at k : ℕ) → new ≡ bytes → k ≡ length bytes → at + length bytes ≤ 4096 → length block ≡ 4096
+pub take-pushed : (block bytes new : List ℕ) (at k : ℕ) → new ≡ bytes → k ≡ length bytes → at + length bytes ≤ 4096
+    → length block ≡ 4096
     → take (at + length bytes) (put_mid at k block new) ≡ take at block ++ bytes
 take-pushed block bytes new at k e n h l =
     let same = ap length e in
     take-put_mid at k block new (at + length bytes) (omega arith) (omega arith) ∙ ap (λ r. take at block ++ r) e
 
 -- a block of which more is left zero
-pub drop-skipped : (block : List ℕ) (at n : ℕ) → drop at block ≡ zeros (4096 - at) → drop (at + n) block ≡ zeros (4096 - (at + n))
-drop-skipped block at n z = sym (drop-drop n at block) ∙ ap (drop n) z ∙ drop-zeros n (4096 - at) ∙ ap zeros (omega arith)
+pub drop-skipped : (block : List ℕ) (at n : ℕ) → drop at block ≡ zeros (4096 - at)
+    → drop (at + n) block ≡ zeros (4096 - (at + n))
+drop-skipped block at n z =
+    sym (drop-drop n at block) ∙ ap (drop n) z ∙ drop-zeros n (4096 - at) ∙ ap zeros (omega arith)
 
-pub take-skipped : (block : List ℕ) (at n : ℕ) → at + n ≤ 4096 → drop at block ≡ zeros (4096 - at) → take (at + n) block ≡ take at block ++ zeros n
-take-skipped block at n h z = take-add at n block ∙ ap (λ r. take at block ++ r) (ap (take n) z ∙ take-zeros n (4096 - at) (omega arith))
+pub take-skipped : (block : List ℕ) (at n : ℕ) → at + n ≤ 4096 → drop at block ≡ zeros (4096 - at)
+    → take (at + n) block ≡ take at block ++ zeros n
+take-skipped block at n h z =
+    take-add at n block ∙ ap (λ r. take at block ++ r) (ap (take n) z ∙ take-zeros n (4096 - at) (omega arith))

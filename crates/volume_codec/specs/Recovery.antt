@@ -1,10 +1,12 @@
 -- What the bytes of a volume recover to, and which bytes are no volume. The contents of a volume are a function from a
 -- home block's number to the bytes of that block.
-use Rattle.std.specs.Prelude.{◌≡◌, ◌≢◌, ℕ, zero, suc, ◌+◌, ◌*◌, ◌<◌, ◌≤◌, ◌==◌, if◌then◌else◌, ◌⊎◌, Bool, true, List, [], ◌∷◌, ◌++◌, length, take, slice_index}
+use Rattle.std.specs.Prelude.{◌≡◌, ◌≢◌, ℕ, zero, suc, ◌+◌, ◌*◌, ◌<◌, ◌≤◌, ◌==◌, if◌then◌else◌}
+use Rattle.std.specs.Prelude.{◌⊎◌, Bool, true, List, [], ◌∷◌, ◌++◌, length, take, slice_index}
 use Rattle.std.specs.List.{AllByRecursion, list_any}
 use Rattle.volume_codec.specs.declared.layout.Layout.{Layout}
 use Rattle.volume_codec.specs.Files.{File, TableFile}
-use Rattle.volume_codec.specs.Layout.{GeometryValue, IsHome, magic_of, journals_of, gate_block, descriptor_block, record_block, first_file_home, block_at}
+use Rattle.volume_codec.specs.Layout.{GeometryValue, IsHome, magic_of, journals_of, gate_block}
+use Rattle.volume_codec.specs.Layout.{descriptor_block, record_block, first_file_home, block_at}
 use Rattle.volume_codec.specs.Super.{SuperValue, IsSuper, pages_of, block_count, geometry_of}
 use Rattle.volume_codec.specs.Descriptor.{IsDescriptor}
 use Rattle.volume_codec.specs.Lengths.{lengths_in, HasLengths}

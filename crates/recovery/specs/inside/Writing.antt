@@ -17,7 +17,8 @@ DidBoth {D} disk old first second done new =
 
 -- The n bytes from this offset on were written, piece by piece, by so many device calls, or by fewer of which the last
 -- failed. All other bytes are as before, also after a crash.
-pub record HasOverwritten {D X : Type 0} (disk : Ghosts D) (at n asked : ℕ) (old : D) (result : Result X Refusal) (new : D)
+pub record HasOverwritten {D X : Type 0} (disk : Ghosts D) (at n asked : ℕ) (old : D)
+    (result : Result X Refusal) (new : D)
     : Type 0 where
   pub torn : disk.is_honest old → Torn at n (disk.seen old) (disk.seen new)
   pub left : (c : List ℕ) → disk.may_leave new c → TornFrom at n (disk.may_leave old) c

@@ -6,5 +6,6 @@ use Rattle.recovery.proofs.calls.read_block.Goals as goal
 pub returns-clause-bytes : goal.returns-clause-bytes
 returns-clause-bytes g c = λ honest.
     c.in_ok-read.ensures.bytes honest
-    ∙ block_of_range (g.D.Device.seen c.args.device.now) c.from.result c.args.block (length c.zero_block-bytes.result) c.from.ensures
+    ∙ block_of_range (g.D.Device.seen c.args.device.now) c.from.result c.args.block
+    (length c.zero_block-bytes.result) c.from.ensures
     (ap length c.zero_block-bytes.ensures ∙ length-zeros 4096)

@@ -14,7 +14,14 @@ use Rattle.recovery.proofs.formatting.close_gates.Goals as goal
 pub write-requires : goal.write-requires
 write-requires g c =
     let low = c.gate_block-gate.ensures.low in
-    omega (arith, low, first_home-within c.args.geometry.now c.gate_block-gate.ensures.geometry, c.loop-journal.invariant.kept.len, c.requires, c.from.ensures)
+    omega (
+      arith,
+      low,
+      first_home-within c.args.geometry.now c.gate_block-gate.ensures.geometry,
+      c.loop-journal.invariant.kept.len,
+      c.requires,
+      c.from.ensures,
+    )
 
 pub loop-journal-init : goal.loop-journal-init
 loop-journal-init g c =
@@ -36,12 +43,17 @@ loop-journal-preserved g c =
     let low = c.gate_block-gate.ensures.low in
     let blocks = first_home-within c.args.geometry.now c.gate_block-gate.ensures.geometry in
     record {
-      closed = λ honest. close_more c.args.geometry.now.slots c.loop-journal.journal _ c.gate_block-gate.result _ _ _ _ (i.closed honest) c.gate_block-gate.ensures.value (omega (arith, c.from.ensures)) refl
+      closed = λ honest. close_more c.args.geometry.now.slots c.loop-journal.journal _ c.gate_block-gate.result _ _ _ _
+          (i.closed honest) c.gate_block-gate.ensures.value (omega (arith, c.from.ensures)) refl
           (omega (arith, low, blocks, c.requires, c.from.ensures)) (did.seen (i.kept.honest.1 honest));
-      torn = λ honest. torn_twice (i.torn honest) (torn_wider (write_torn _ _ true (omega (arith, low, blocks, i.kept.len, c.requires, c.from.ensures)) did (i.kept.honest.1 honest)) 4096 size
-          (omega (arith, c.gate_block-gate.ensures.value, c.from.ensures)) (omega (arith, low, blocks, c.from.ensures)));
-      left = λ l may. left_more 4096 size _ _ i.left (omega (arith, c.gate_block-gate.ensures.value, c.from.ensures)) (omega (arith, low, blocks, c.from.ensures)) l (did.left l may);
-      time = leaves_on {P = TornFrom 4096 size (g.D.Device.may_leave c.args.device.now)} i.time did.time (left_more 4096 size _ _ i.left (omega (arith, c.gate_block-gate.ensures.value, c.from.ensures))
+      torn = λ honest. torn_twice (i.torn honest) (torn_wider (write_torn _ _ true
+          (omega (arith, low, blocks, i.kept.len, c.requires, c.from.ensures)) did (i.kept.honest.1 honest)) 4096 size
+          (omega (arith, c.gate_block-gate.ensures.value, c.from.ensures))
+          (omega (arith, low, blocks, c.from.ensures)));
+      left = λ l may. left_more 4096 size _ _ i.left (omega (arith, c.gate_block-gate.ensures.value, c.from.ensures))
+          (omega (arith, low, blocks, c.from.ensures)) l (did.left l may);
+      time = leaves_on {P = TornFrom 4096 size (g.D.Device.may_leave c.args.device.now)} i.time did.time
+          (left_more 4096 size _ _ i.left (omega (arith, c.gate_block-gate.ensures.value, c.from.ensures))
           (omega (arith, low, blocks, c.from.ensures)));
       kept = kept_then i.kept (did_kept (Ok tt) tt did);
       calls = λ small. omega (arith, i.calls, write_calls _ _ true did);
@@ -56,10 +68,13 @@ returns-in_err-write-clause-overwrites g c =
     let blocks = first_home-within c.args.geometry.now c.gate_block-gate.ensures.geometry in
     let p = err_from_is_err_and c.from_residual.result c.from_residual.ensures.1 in
     overwritten_failed 4096 size (journals_of c.args.geometry.now.layout) c.from_residual.result (p.1 ∙ ap Err p.2)
-    (λ honest. torn_twice (i.torn honest) (torn_wider (write_torn _ _ false (omega (arith, low, blocks, i.kept.len, c.requires, c.from.ensures)) did (i.kept.honest.1 honest)) 4096 size
+    (λ honest. torn_twice (i.torn honest) (torn_wider (write_torn _ _ false
+    (omega (arith, low, blocks, i.kept.len, c.requires, c.from.ensures)) did (i.kept.honest.1 honest)) 4096 size
     (omega (arith, c.gate_block-gate.ensures.value, c.from.ensures)) (omega (arith, low, blocks, c.from.ensures))))
-    (λ l may. left_more 4096 size _ _ i.left (omega (arith, c.gate_block-gate.ensures.value, c.from.ensures)) (omega (arith, low, blocks, c.from.ensures)) l (did.left l may))
-    (leaves_on {P = TornFrom 4096 size (g.D.Device.may_leave c.args.device.now)} i.time did.time (left_more 4096 size _ _ i.left (omega (arith, c.gate_block-gate.ensures.value, c.from.ensures))
+    (λ l may. left_more 4096 size _ _ i.left (omega (arith, c.gate_block-gate.ensures.value, c.from.ensures))
+    (omega (arith, low, blocks, c.from.ensures)) l (did.left l may))
+    (leaves_on {P = TornFrom 4096 size (g.D.Device.may_leave c.args.device.now)} i.time did.time
+    (left_more 4096 size _ _ i.left (omega (arith, c.gate_block-gate.ensures.value, c.from.ensures))
     (omega (arith, low, blocks, c.from.ensures))))
     (kept_then i.kept (did_kept {X = Unit {0}} (Err c.in_err-write.field-0.0) c.in_err-write.ensures.fault did))
     (λ small. omega (arith, small, i.calls, write_calls _ _ false did))
@@ -67,11 +82,21 @@ returns-in_err-write-clause-overwrites g c =
 pub returns-clause-overwrites : goal.returns-clause-overwrites
 returns-clause-overwrites g c =
     let i = c.loop-journal.invariant in
-    let end : c.loop-journal.journal ≡ journals_of c.args.geometry.now.layout = omega (arith, c.loop-journal-test.false, c.journals-journal-end.ensures) in
-    record { torn = i.torn; left = i.left; time = i.time; kept = i.kept; calls = λ small. omega (arith, end, i.calls); most = λ small. omega (arith, small, end, i.calls) }
+    let end : c.loop-journal.journal ≡ journals_of c.args.geometry.now.layout =
+    omega (arith, c.loop-journal-test.false, c.journals-journal-end.ensures) in
+    record {
+      torn = i.torn;
+      left = i.left;
+      time = i.time;
+      kept = i.kept;
+      calls = λ small. omega (arith, end, i.calls);
+      most = λ small. omega (arith, small, end, i.calls);
+    }
 
 pub returns-clause-closed : goal.returns-clause-closed
 returns-clause-closed g c = λ honest.
-    let end : c.loop-journal.journal ≡ journals_of c.args.geometry.now.layout = omega (arith, c.loop-journal-test.false, c.journals-journal-end.ensures) in
-    let P : ℕ → Type 0 = λ n. AreClosed c.args.geometry.now.slots n (g.D.Device.seen c.args.device.now) (g.D.Device.seen c.loop-journal.device) in
+    let end : c.loop-journal.journal ≡ journals_of c.args.geometry.now.layout =
+    omega (arith, c.loop-journal-test.false, c.journals-journal-end.ensures) in
+    let P : ℕ → Type 0 = λ n. AreClosed c.args.geometry.now.slots n (g.D.Device.seen c.args.device.now)
+    (g.D.Device.seen c.loop-journal.device) in
     subst P end (c.loop-journal.invariant.closed honest)

@@ -12,8 +12,13 @@ pub returns-clause-emptied : goal.returns-clause-emptied
 returns-clause-emptied g c = λ honest.
     let honest_1 = c.in_ok-erase.ensures.overwrites.kept.honest.1 honest in
     on_ok_weaker c.put_lengths.result
-    (λ (said : 0 < lengths_blocks c.args.geometry.now.layout → block_at (g.D.Device.seen c.put_lengths.new.device) (first_home c.args.geometry.now.layout c.args.geometry.now.slots) ≡ lengths_text (lengths_asked (asked_by c.args.files.now))).
-    are_emptied c.args.geometry.now (lengths_asked (asked_by c.args.files.now)) _ _ _ _ _ (omega (arith, c.from-homes.ensures, c.first_home.ensures.value)) (omega (arith, c.from.ensures, c.block_count.ensures.value))
+    (λ (said : 0 < lengths_blocks c.args.geometry.now.layout
+    → block_at (g.D.Device.seen c.put_lengths.new.device)
+    (first_home c.args.geometry.now.layout c.args.geometry.now.slots)
+    ≡ lengths_text (lengths_asked (asked_by c.args.files.now))).
+    are_emptied c.args.geometry.now (lengths_asked (asked_by c.args.files.now)) _ _ _ _ _
+    (omega (arith, c.from-homes.ensures, c.first_home.ensures.value))
+    (omega (arith, c.from.ensures, c.block_count.ensures.value))
     (c.in_ok-erase.ensures.erased honest) (c.put_lengths.ensures.overwrites.torn honest_1) said)
     (c.put_lengths.ensures.said honest_1)
 
@@ -23,7 +28,8 @@ returns-in_err-erase-clause-overwrites g c =
     let room = first_home-within c.args.geometry.now c.first_home.ensures.geometry in
     let p = err_from_is_err_and c.from_residual.result c.from_residual.ensures.1 in
     overwritten_less (lengths_blocks c.args.geometry.now.layout) c.from_residual.result (p.1 ∙ ap Err p.2)
-    (overwritten_wider c.in_err-erase.ensures.overwrites (4096 * home) (4096 * c.args.geometry.now.blocks - 4096 * home) ((c.args.geometry.now.blocks - home + 7) / 8)
+    (overwritten_wider c.in_err-erase.ensures.overwrites (4096 * home) (4096 * c.args.geometry.now.blocks - 4096 * home)
+    ((c.args.geometry.now.blocks - home + 7) / 8)
     (omega (arith, c.from-homes.ensures, c.first_home.ensures.value))
     (omega (arith, room, c.from-homes.ensures, c.first_home.ensures.value, c.from.ensures, c.block_count.ensures.value))
     (omega (arith, c.from-homes.ensures, c.first_home.ensures.value, c.from.ensures, c.block_count.ensures.value)))
@@ -39,4 +45,5 @@ returns-clause-overwrites g c =
     (omega (arith, c.from-homes.ensures, c.first_home.ensures.value))
     (omega (arith, room, c.from-homes.ensures, c.first_home.ensures.value, c.from.ensures, c.block_count.ensures.value))
     (omega (arith, c.from-homes.ensures, c.first_home.ensures.value, c.from.ensures, c.block_count.ensures.value)))
-    (overwritten_wider c.put_lengths.ensures.overwrites (4096 * home) size (lengths_blocks c.args.geometry.now.layout) (omega arith) (omega (arith, room, some)) refl)
+    (overwritten_wider c.put_lengths.ensures.overwrites (4096 * home) size (lengths_blocks c.args.geometry.now.layout)
+    (omega arith) (omega (arith, room, some)) refl)

@@ -13,5 +13,7 @@ returns-in_err-sync-clause-finishes g c =
 pub returns-clause-finishes : goal.returns-clause-finishes
 returns-clause-finishes g c =
     let whole = ap length c.to_block.ensures ∙ length-super_text c.args.table.now c.requires.fits in
-    let P : List ℕ → Type 0 = λ block. HasFinished g.D.Device block c.args.device.now c.write_synced.result c.write_synced.new.device in
-    subst P c.to_block.ensures (finished_by c.to_block.result c.write_synced.result whole c.requires.long c.write_synced.ensures.fault c.in_ok-sync.ensures.did c.write_synced.ensures.did)
+    let P : List ℕ → Type 0 =
+    λ block. HasFinished g.D.Device block c.args.device.now c.write_synced.result c.write_synced.new.device in
+    subst P c.to_block.ensures (finished_by c.to_block.result c.write_synced.result whole c.requires.long
+    c.write_synced.ensures.fault c.in_ok-sync.ensures.did c.write_synced.ensures.did)

@@ -14,8 +14,10 @@ pub returns-clause-emptied : goal.returns-clause-emptied
 returns-clause-emptied g c = λ honest.
     let honest_1 = c.in_ok-empty_homes.ensures.overwrites.kept.honest.1 honest in
     on_ok_weaker c.close_gates.result
-    (λ (closed : AreClosed c.geometry-geometry.result.slots (journals_of c.geometry-geometry.result.layout) (g.D.Device.seen c.empty_homes.new.device) (g.D.Device.seen c.close_gates.new.device)).
-    laid c.args.table.now c.geometry-geometry.result (lengths_asked (asked_by c.args.files.now)) _ _ _ c.geometry-geometry.ensures.fits c.requires.long c.geometry-geometry.ensures.value
+    (λ (closed : AreClosed c.geometry-geometry.result.slots (journals_of c.geometry-geometry.result.layout)
+    (g.D.Device.seen c.empty_homes.new.device) (g.D.Device.seen c.close_gates.new.device)).
+    laid c.args.table.now c.geometry-geometry.result (lengths_asked (asked_by c.args.files.now)) _ _ _
+    c.geometry-geometry.ensures.fits c.requires.long c.geometry-geometry.ensures.value
     (c.in_ok-empty_homes.ensures.emptied honest) closed)
     (c.close_gates.ensures.closed honest_1)
 
@@ -44,4 +46,5 @@ returns-clause-overwrites g c =
     (overwritten_wider c.in_ok-empty_homes.ensures.overwrites 4096 (4096 * block_count table - 4096)
     ((block_count table - first_home table.layout table.slots + 7) / 8 + lengths_blocks table.layout)
     (omega (arith, homes)) (omega (arith, blocks, room, homes)) (omega (arith, blocks, homes, lengths)))
-    (overwritten_wider c.close_gates.ensures.overwrites 4096 (4096 * block_count table - 4096) (journals_of table.layout) (omega arith) (omega (arith, blocks)) journals)
+    (overwritten_wider c.close_gates.ensures.overwrites 4096 (4096 * block_count table - 4096)
+    (journals_of table.layout) (omega arith) (omega (arith, blocks)) journals)

@@ -18,8 +18,12 @@ returns-clause-said g c = λ honest.
     let room = first_home-within c.args.geometry.now c.first_home-home.ensures.geometry in
     let whole = length-lengths_text c.args.files.now c.requires.few in
     on_ok_weaker c.write.result
-    (λ (is : g.D.Device.seen c.write.new.device ≡ written (g.D.Device.seen c.args.device.now) (4096 * c.from.result) c.write_lengths_of.result). λ some.
-    said_there (first_home c.args.geometry.now.layout c.args.geometry.now.slots) (4096 * c.from.result) _ _ c.write_lengths_of.result _ (omega (arith, c.from.ensures, c.first_home-home.ensures.value)) (omega (arith, room, c.requires.long))
+    (λ (is : g.D.Device.seen c.write.new.device
+    ≡ written (g.D.Device.seen c.args.device.now) (4096 * c.from.result) c.write_lengths_of.result).
+    λ some.
+    said_there (first_home c.args.geometry.now.layout c.args.geometry.now.slots)
+    (4096 * c.from.result) _ _ c.write_lengths_of.result _
+    (omega (arith, c.from.ensures, c.first_home-home.ensures.value)) (omega (arith, room, c.requires.long))
     c.write_lengths_of.ensures whole is)
     (write_written (4096 * c.from.result) c.write_lengths_of.result c.write.result c.write.ensures.did honest)
 
@@ -28,7 +32,8 @@ returns-then-lengths_blocks-eq0-clause-overwrites g c =
     let low = 4096 * first_home c.args.geometry.now.layout c.args.geometry.now.slots in
     let count = lengths_blocks c.args.geometry.now.layout in
     let none : 0 ≡ count = omega (arith, ap lengths_blocks c.layout.ensures.value, c.lengths_blocks.ensures.value) in
-    overwritten_wider (overwritten_none {disk = g.D.Device} low (4096 * count) c.args.device.now (g.met.D.Device.since_now c.args.device.now)) low (4096 * count) count (omega arith) (omega arith) none
+    overwritten_wider (overwritten_none {disk = g.D.Device} low (4096 * count) c.args.device.now
+    (g.met.D.Device.since_now c.args.device.now)) low (4096 * count) count (omega arith) (omega arith) none
 
 pub returns-clause-overwrites : goal.returns-clause-overwrites
 returns-clause-overwrites g c =
@@ -37,6 +42,9 @@ returns-clause-overwrites g c =
     let one = ap lengths_blocks c.layout.ensures.value in
     let low = 4096 * first_home c.args.geometry.now.layout c.args.geometry.now.slots in
     let count = lengths_blocks c.args.geometry.now.layout in
-    overwritten_wider (overwritten_once (4096 * c.from.result) c.write_lengths_of.result c.write.result (omega (arith, room, whole, c.requires.long, c.from.ensures, c.first_home-home.ensures.value)) c.write.ensures.fault c.write.ensures.did)
+    overwritten_wider (overwritten_once (4096 * c.from.result) c.write_lengths_of.result c.write.result
+    (omega (arith, room, whole, c.requires.long, c.from.ensures, c.first_home-home.ensures.value))
+    c.write.ensures.fault c.write.ensures.did)
     low (4096 * count) count (omega (arith, c.from.ensures, c.first_home-home.ensures.value))
-    (omega (arith, whole, one, c.lengths_blocks.ensures.value, c.from.ensures, c.first_home-home.ensures.value)) (omega (arith, one, c.lengths_blocks.ensures.value, c.lengths_blocks.ensures.small))
+    (omega (arith, whole, one, c.lengths_blocks.ensures.value, c.from.ensures, c.first_home-home.ensures.value))
+    (omega (arith, one, c.lengths_blocks.ensures.value, c.lengths_blocks.ensures.small))

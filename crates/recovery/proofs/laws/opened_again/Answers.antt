@@ -9,7 +9,9 @@ returns g c =
     record {
       honest = λ n first later honest is. (later_as disk seen_is_left now_is_since n first later honest is).honest;
       left = λ n first later l honest is. (later_as disk seen_is_left now_is_since n first later honest is).left l;
-      tested = λ n first later test honest is. tested_as test (disk.may_leave first) (disk.may_leave later) (later_as disk seen_is_left now_is_since n first later honest is).left;
+      tested = λ n first later test honest is. tested_as test (disk.may_leave first) (disk.may_leave later)
+          (later_as disk seen_is_left now_is_since n first later honest is).left;
       finds = λ n first later after result test honest is all opens.
-          finds disk seen_is_left now_is_since first later after result test (later_as disk seen_is_left now_is_since n first later honest is) all opens;
+          finds disk seen_is_left now_is_since first later after result test
+          (later_as disk seen_is_left now_is_since n first later honest is) all opens;
     }

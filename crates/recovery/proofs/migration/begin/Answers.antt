@@ -13,19 +13,23 @@ use Rattle.recovery.proofs.migration.begin.Goals as goal
 
 pub returns-in_err-lay_out-clause-torn : goal.returns-in_err-lay_out-clause-torn
 returns-in_err-lay_out-clause-torn g c = λ honest table asked.
-    let same = ap (λ n. asked_by (take n c.specs_of-specs.result)) c.file_count.ensures.value ∙ c.specs_of-specs.ensures.specs in
+    let same = ap (λ n. asked_by (take n c.specs_of-specs.result)) c.file_count.ensures.value
+    ∙ c.specs_of-specs.ensures.specs in
     let one = one_again c.args.slots _ _ c.in_ok-table.table table same c.in_ok-table.ensures.ok.asked asked in
-    let P : SuperValue → Type 0 = λ v. Torn 4096 (4096 * block_count v - 4096) (g.E.Device.seen c.args.new.now) (g.E.Device.seen c.lay_out.new.device) in
+    let P : SuperValue → Type 0 = λ v. Torn 4096 (4096 * block_count v - 4096) (g.E.Device.seen c.args.new.now)
+    (g.E.Device.seen c.lay_out.new.device) in
     subst P one (c.in_err-lay_out.ensures.overwrites.torn honest)
 
 pub returns-in_err-lay_out-clause-kept : goal.returns-in_err-lay_out-clause-kept
 returns-in_err-lay_out-clause-kept g c =
     let p = err_from_is_err_and c.from_residual-in_err-lay_out.result c.from_residual-in_err-lay_out.ensures.1 in
-    kept_err {X = Unit {0}} c.from_residual-in_err-lay_out.result (p.1 ∙ ap Err p.2) c.in_err-lay_out.ensures.overwrites.kept
+    kept_err {X = Unit {0}} c.from_residual-in_err-lay_out.result
+    (p.1 ∙ ap Err p.2) c.in_err-lay_out.ensures.overwrites.kept
 
 pub returns-in_err-lay_out-clause-refused : goal.returns-in_err-lay_out-clause-refused
 returns-in_err-lay_out-clause-refused g c =
-    let same = ap (λ n. asked_by (take n c.specs_of-specs.result)) c.file_count.ensures.value ∙ c.specs_of-specs.ensures.specs in
+    let same = ap (λ n. asked_by (take n c.specs_of-specs.result)) c.file_count.ensures.value
+    ∙ c.specs_of-specs.ensures.specs in
     let shape = shape_again c.args.slots _ _ _ _ c.in_ok-table.table same c.len.ensures c.in_ok-table.ensures.ok in
     let p = err_from_is_err_and c.from_residual-in_err-lay_out.result c.from_residual-in_err-lay_out.ensures.1 in
     let P : Refusal → Type 0 = RefusesFormat 3 (asked_of c.args.old.now) c.args.slots _ in
@@ -33,28 +37,35 @@ returns-in_err-lay_out-clause-refused g c =
 
 pub returns-clause-emptied : goal.returns-clause-emptied
 returns-clause-emptied g c = λ honest.
-    let same = ap (λ n. asked_by (take n c.specs_of-specs.result)) c.file_count.ensures.value ∙ c.specs_of-specs.ensures.specs in
-    laid_again g.D.Device c.args.old.now c.specs_of-specs.ensures.settled _ c.in_ok-table.table _ same (c.in_ok-lay_out.ensures.emptied honest)
+    let same = ap (λ n. asked_by (take n c.specs_of-specs.result)) c.file_count.ensures.value
+    ∙ c.specs_of-specs.ensures.specs in
+    laid_again g.D.Device c.args.old.now c.specs_of-specs.ensures.settled _ c.in_ok-table.table _ same
+    (c.in_ok-lay_out.ensures.emptied honest)
 
 pub returns-clause-torn : goal.returns-clause-torn
 returns-clause-torn g c = λ honest table asked.
-    let same = ap (λ n. asked_by (take n c.specs_of-specs.result)) c.file_count.ensures.value ∙ c.specs_of-specs.ensures.specs in
+    let same = ap (λ n. asked_by (take n c.specs_of-specs.result)) c.file_count.ensures.value
+    ∙ c.specs_of-specs.ensures.specs in
     let one = one_again c.args.slots _ _ c.in_ok-table.table table same c.in_ok-table.ensures.ok.asked asked in
-    let P : SuperValue → Type 0 = λ v. Torn 4096 (4096 * block_count v - 4096) (g.E.Device.seen c.args.new.now) (g.E.Device.seen c.lay_out.new.device) in
+    let P : SuperValue → Type 0 = λ v. Torn 4096 (4096 * block_count v - 4096) (g.E.Device.seen c.args.new.now)
+    (g.E.Device.seen c.lay_out.new.device) in
     subst P one (c.in_ok-lay_out.ensures.overwrites.torn honest)
 
 pub returns-in_err-table-clause-time : goal.returns-in_err-table-clause-time
-returns-in_err-table-clause-time g c = leaves_at_start (λ l since. inl (g.met.E.Device.since_now c.args.new.now l since))
+returns-in_err-table-clause-time g c =
+    leaves_at_start (λ l since. inl (g.met.E.Device.since_now c.args.new.now l since))
 
 pub returns-in_err-lay_out-clause-time : goal.returns-in_err-lay_out-clause-time
 returns-in_err-lay_out-clause-time g c =
-    let same = ap (λ n. asked_by (take n c.specs_of-specs.result)) c.file_count.ensures.value ∙ c.specs_of-specs.ensures.specs in
+    let same = ap (λ n. asked_by (take n c.specs_of-specs.result)) c.file_count.ensures.value
+    ∙ c.specs_of-specs.ensures.specs in
     let shape = shape_again c.args.slots _ _ _ _ c.in_ok-table.table same c.len.ensures c.in_ok-table.ensures.ok in
     leaves_weaker c.in_err-lay_out.ensures.overwrites.time (λ l torn. inr (c.in_ok-table.table, shape, torn))
 
 pub returns-clause-time : goal.returns-clause-time
 returns-clause-time g c =
-    let same = ap (λ n. asked_by (take n c.specs_of-specs.result)) c.file_count.ensures.value ∙ c.specs_of-specs.ensures.specs in
+    let same = ap (λ n. asked_by (take n c.specs_of-specs.result)) c.file_count.ensures.value
+    ∙ c.specs_of-specs.ensures.specs in
     let shape = shape_again c.args.slots _ _ _ _ c.in_ok-table.table same c.len.ensures c.in_ok-table.ensures.ok in
     leaves_weaker c.in_ok-lay_out.ensures.overwrites.time (λ l torn. inr (c.in_ok-table.table, shape, torn))
 

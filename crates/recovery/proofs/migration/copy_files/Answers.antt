@@ -7,13 +7,15 @@ use Rattle.volume_codec.specs.Super.{SuperValue, total_pages}
 use Rattle.volume_codec.proofs.Places.{first_home_of-le}
 use Rattle.recovery.specs.Volume.{files_of, bytes_of}
 use Rattle.recovery.specs.inside.Copying.{AreCopied}
-use Rattle.recovery.proofs.Copied.{copied_none, copied_more, copies_none, copies_then, copies_wider, copies_err, copies_honest, files_stay}
+use Rattle.recovery.proofs.Copied.{copied_none, copied_more, copies_none, copies_then}
+use Rattle.recovery.proofs.Copied.{copies_wider, copies_err, copies_honest, files_stay}
 use Rattle.recovery.proofs.FileBytes.{file_end, length_of_bytes}
 use Rattle.recovery.proofs.migration.copy_files.Goals as goal
 
 pub loop-file-init : goal.loop-file-init
 loop-file-init g c = record {
-  copies = copies_none (λ l since. g.met.D.Device.since_now c.args.old.now.device l since) (λ l since. g.met.E.Device.since_now c.args.new.now l since);
+  copies = copies_none (λ l since. g.met.D.Device.since_now c.args.old.now.device l since)
+      (λ l since. g.met.E.Device.since_now c.args.new.now l since);
   copied = λ honest other. copied_none c.args.table.now c.args.old.now.lengths _ (g.E.Device.seen c.args.new.now);
 }
 
@@ -29,7 +31,14 @@ copy_file-requires-clause-small g c =
     let file = c.loop-file.file in
     let there : file < length table.files = omega (arith, c.requires.same) in
     let home = c.from-home.ensures ∙ c.first_home.ensures in
-    omega (arith, home, file_end table c.args.old.now.lengths c.requires.lengths file there, first_home_of-le table (file + 1), c.requires.fits.few_blocks, ap (λ (l : List ℕ). slice_index l file) i.copies.lengths)
+    omega (
+      arith,
+      home,
+      file_end table c.args.old.now.lengths c.requires.lengths file there,
+      first_home_of-le table (file + 1),
+      c.requires.fits.few_blocks,
+      ap (λ (l : List ℕ). slice_index l file) i.copies.lengths,
+    )
 
 pub copy_file-requires-clause-room : goal.copy_file-requires-clause-room
 copy_file-requires-clause-room g c =
@@ -38,7 +47,15 @@ copy_file-requires-clause-room g c =
     let file = c.loop-file.file in
     let there : file < length table.files = omega (arith, c.requires.same) in
     let home = c.from-home.ensures ∙ c.first_home.ensures in
-    omega (arith, home, file_end table c.args.old.now.lengths c.requires.lengths file there, first_home_of-le table (file + 1), c.requires.long, (copies_honest i.copies).2, ap (λ (l : List ℕ). slice_index l file) i.copies.lengths)
+    omega (
+      arith,
+      home,
+      file_end table c.args.old.now.lengths c.requires.lengths file there,
+      first_home_of-le table (file + 1),
+      c.requires.long,
+      (copies_honest i.copies).2,
+      ap (λ (l : List ℕ). slice_index l file) i.copies.lengths,
+    )
 
 pub loop-file-preserved : goal.loop-file-preserved
 loop-file-preserved g c =
@@ -52,16 +69,23 @@ loop-file-preserved g c =
     let last = first_home_of-le table (file + 1) in
     let length_stays = ap (λ (l : List ℕ). slice_index l file) i.copies.lengths in
     record {
-      copies = copies_then i.copies (copies_wider c.in_ok-copy_file.ensures.copies (4096 * first_file_home table.layout table.slots) (4096 * total_pages table.files) (omega (arith, home)) (omega (arith, home, ends, last, length_stays)));
+      copies = copies_then i.copies
+          (copies_wider c.in_ok-copy_file.ensures.copies (4096 * first_file_home table.layout table.slots)
+          (4096 * total_pages table.files) (omega (arith, home)) (omega (arith, home, ends, last, length_stays)));
       copied = λ honest other.
           let seen = g.D.Device.seen old.device in
           let settled = c.file_count-file-end.ensures.settled in
           let ready = copies_honest i.copies in
-          let size = length_of_bytes old.table old.lengths settled.lengths seen file (omega (arith, there, c.requires.same)) (settled.at_rest honest).lengths_are settled.long in
+          let size = length_of_bytes old.table old.lengths settled.lengths seen file
+          (omega (arith, there, c.requires.same)) (settled.at_rest honest).lengths_are settled.long in
           let is = c.in_ok-copy_file.ensures.copied (ready.0 honest) (ready.1 other)
-          ∙ ap (λ (files : List File). written (g.E.Device.seen c.loop-file.new) (4096 * c.from-home.result) (bytes_of files file)) (files_stay i.copies honest) in
-          copied_more table old.lengths (bytes_of (files_of old.table seen)) file (4096 * c.from-home.result) (g.E.Device.seen c.args.new.now) (g.E.Device.seen c.loop-file.new) (g.E.Device.seen c.copy_file.new.new) c.requires.lengths there
-          (i.copied honest other) (ap (λ h. 4096 * h) home) size (omega (arith, home, ends, last, c.requires.long, ready.2)) is;
+          ∙ ap (λ (files : List File). written (g.E.Device.seen c.loop-file.new) (4096 * c.from-home.result)
+          (bytes_of files file)) (files_stay i.copies honest) in
+          copied_more table old.lengths (bytes_of (files_of old.table seen)) file (4096 * c.from-home.result)
+          (g.E.Device.seen c.args.new.now) (g.E.Device.seen c.loop-file.new)
+          (g.E.Device.seen c.copy_file.new.new) c.requires.lengths there
+          (i.copied honest other) (ap (λ h. 4096 * h) home) size
+          (omega (arith, home, ends, last, c.requires.long, ready.2)) is;
     }
 
 pub returns-in_err-copy_file-clause-copies : goal.returns-in_err-copy_file-clause-copies
@@ -76,7 +100,9 @@ returns-in_err-copy_file-clause-copies g c =
     let length_stays = ap (λ (l : List ℕ). slice_index l file) i.copies.lengths in
     let p = err_from_is_err_and c.from_residual.result c.from_residual.ensures.1 in
     copies_err {X = Unit {0}} c.from_residual.result (p.1 ∙ ap Err p.2)
-    (copies_then i.copies (copies_wider c.in_err-copy_file.ensures.copies (4096 * first_file_home table.layout table.slots) (4096 * total_pages table.files) (omega (arith, home)) (omega (arith, home, ends, last, length_stays))))
+    (copies_then i.copies
+    (copies_wider c.in_err-copy_file.ensures.copies (4096 * first_file_home table.layout table.slots)
+    (4096 * total_pages table.files) (omega (arith, home)) (omega (arith, home, ends, last, length_stays))))
 
 pub returns-clause-copies : goal.returns-clause-copies
 returns-clause-copies g c = c.loop-file.invariant.copies
@@ -86,5 +112,6 @@ returns-clause-copied g c = λ honest other.
     let table = c.args.table.now in
     let old = c.args.old.now in
     let end : c.loop-file.file ≡ length table.files = omega (arith, c.requires.same) in
-    let P : ℕ → Type 0 = λ n. AreCopied table old.lengths (bytes_of (files_of old.table (g.D.Device.seen old.device))) n (g.E.Device.seen c.args.new.now) (g.E.Device.seen c.loop-file.new) in
+    let P : ℕ → Type 0 = λ n. AreCopied table old.lengths (bytes_of (files_of old.table (g.D.Device.seen old.device))) n
+    (g.E.Device.seen c.args.new.now) (g.E.Device.seen c.loop-file.new) in
     subst P end (c.loop-file.invariant.copied honest other)

@@ -12,14 +12,17 @@ use Rattle.recovery.specs.Migration.{asked_of, AreAccounted}
 use Rattle.recovery.proofs.Copied.{unwritten_none, accounts_then, accounts_err, copies_honest}
 use Rattle.recovery.proofs.Formatted.{both_ok}
 use Rattle.recovery.proofs.Kept.{kept_none, kept_ok, kept_err}
-use Rattle.recovery.proofs.Migrated.{migrated, laying_left, time_of_copying, time_of_filling, asked_files, asked_lengths_are}
+use Rattle.recovery.proofs.Migrated.{migrated, laying_left, time_of_copying}
+use Rattle.recovery.proofs.Migrated.{time_of_filling, asked_files, asked_lengths_are}
 use Rattle.recovery.proofs.migration.migrate.Goals as goal
 
 pub copy_files-requires-clause-same : goal.copy_files-requires-clause-same
-copy_files-requires-clause-same g c = ap length (asked_files g.D.Device c.args.old.now c.in_ok-table.ensures.settled c.args.slots c.in_ok-table.table c.in_ok-table.ensures.ok.asked)
+copy_files-requires-clause-same g c = ap length (asked_files g.D.Device c.args.old.now c.in_ok-table.ensures.settled
+    c.args.slots c.in_ok-table.table c.in_ok-table.ensures.ok.asked)
 
 pub copy_files-requires-clause-lengths : goal.copy_files-requires-clause-lengths
-copy_files-requires-clause-lengths g c = asked_lengths_are g.D.Device c.args.old.now c.in_ok-table.ensures.settled c.args.slots c.in_ok-table.table c.in_ok-table.ensures.ok.asked
+copy_files-requires-clause-lengths g c = asked_lengths_are g.D.Device c.args.old.now c.in_ok-table.ensures.settled
+    c.args.slots c.in_ok-table.table c.in_ok-table.ensures.ok.asked
 
 pub copy_files-requires-clause-fits : goal.copy_files-requires-clause-fits
 copy_files-requires-clause-fits g c = c.in_ok-table.ensures.ok.asked.fits
@@ -28,16 +31,23 @@ pub copy_files-requires-clause-long : goal.copy_files-requires-clause-long
 copy_files-requires-clause-long g c = omega (arith, c.in_ok-table.ensures.ok.long, c.in_ok-table.ensures.kept.len)
 
 pub finish-requires-clause-long : goal.finish-requires-clause-long
-finish-requires-clause-long g c = omega (arith, c.in_ok-table.ensures.ok.long, c.in_ok-table.ensures.kept.len, (copies_honest c.in_ok-copy_files.ensures.copies).2)
+finish-requires-clause-long g c = omega (
+  arith,
+  c.in_ok-table.ensures.ok.long,
+  c.in_ok-table.ensures.kept.len,
+  (copies_honest c.in_ok-copy_files.ensures.copies).2,
+)
 
 pub finish-requires-clause-fits : goal.finish-requires-clause-fits
 finish-requires-clause-fits g c = c.in_ok-table.ensures.ok.asked.fits
 
 pub returns-in_err-table-clause-unwritten : goal.returns-in_err-table-clause-unwritten
-returns-in_err-table-clause-unwritten g c = λ honest. unwritten_none (λ l since. g.met.D.Device.since_now c.args.old.now.device l since)
+returns-in_err-table-clause-unwritten g c =
+    λ honest. unwritten_none (λ l since. g.met.D.Device.since_now c.args.old.now.device l since)
 
 pub returns-in_err-table-clause-past : goal.returns-in_err-table-clause-past
-returns-in_err-table-clause-past g c = λ honest table i asked le. torn_after (c.in_err-table.ensures.torn honest table asked) i (omega (arith, le))
+returns-in_err-table-clause-past g c =
+    λ honest table i asked le. torn_after (c.in_err-table.ensures.torn honest table asked) i (omega (arith, le))
 
 pub returns-in_err-table-clause-unchanged : goal.returns-in_err-table-clause-unchanged
 returns-in_err-table-clause-unchanged g c =
@@ -50,13 +60,18 @@ returns-in_err-table-clause-unchanged g c =
 pub returns-in_err-table-clause-kept : goal.returns-in_err-table-clause-kept
 returns-in_err-table-clause-kept g c =
     let p = err_from_is_err_and c.from_residual.result c.from_residual.ensures.1 in
-    inr (kept_none g.D.Device c.args.old.now.device, kept_err c.from_residual.result (p.1 ∙ ap Err p.2) c.in_err-table.ensures.kept)
+    inr (
+      kept_none g.D.Device c.args.old.now.device,
+      kept_err c.from_residual.result (p.1 ∙ ap Err p.2) c.in_err-table.ensures.kept,
+    )
 
 pub returns-in_err-copy_files-clause-past : goal.returns-in_err-copy_files-clause-past
 returns-in_err-copy_files-clause-past g c = λ honest table i asked le.
     let laid = c.in_ok-table.ensures in
-    let same = ap (λ (v : SuperValue). block_count v) (one_asked 3 (asked_of c.args.old.now) c.args.slots table c.in_ok-table.table asked laid.ok.asked) in
-    torn_after (c.in_err-copy_files.ensures.copies.torn (laid.kept.honest.1 honest)) i (omega (arith, le, same)) ∙ torn_after (laid.torn honest table asked) i (omega (arith, le))
+    let same = ap (λ (v : SuperValue). block_count v)
+    (one_asked 3 (asked_of c.args.old.now) c.args.slots table c.in_ok-table.table asked laid.ok.asked) in
+    torn_after (c.in_err-copy_files.ensures.copies.torn (laid.kept.honest.1 honest)) i (omega (arith, le, same))
+    ∙ torn_after (laid.torn honest table asked) i (omega (arith, le))
 
 pub returns-in_err-copy_files-clause-refused : goal.returns-in_err-copy_files-clause-refused
 returns-in_err-copy_files-clause-refused g c =
@@ -67,17 +82,22 @@ returns-in_err-copy_files-clause-refused g c =
 pub returns-in_err-copy_files-clause-kept : goal.returns-in_err-copy_files-clause-kept
 returns-in_err-copy_files-clause-kept g c =
     let p = err_from_is_err_and c.from_residual-in_err-copy_files.result c.from_residual-in_err-copy_files.ensures.1 in
-    let first : AreAccounted {X = Unit {0}} g.D.Device g.E.Device c.args.old.now.device c.args.new.now (Ok tt) c.args.old.now.device c.begin.new.new = inr (kept_none g.D.Device c.args.old.now.device, kept_ok tt c.in_ok-table.ensures.kept) in
-    accounts_err {X = Unit {0}} c.from_residual-in_err-copy_files.result (p.1 ∙ ap Err p.2) (accounts_then first c.in_err-copy_files.ensures.copies.accounts)
+    let first : AreAccounted {X = Unit {0}} g.D.Device g.E.Device c.args.old.now.device c.args.new.now
+    (Ok tt) c.args.old.now.device c.begin.new.new =
+    inr (kept_none g.D.Device c.args.old.now.device, kept_ok tt c.in_ok-table.ensures.kept) in
+    accounts_err {X = Unit {0}} c.from_residual-in_err-copy_files.result (p.1 ∙ ap Err p.2)
+    (accounts_then first c.in_err-copy_files.ensures.copies.accounts)
 
 pub returns-clause-past : goal.returns-clause-past
 returns-clause-past g c = λ honest table i asked le.
     let laid = c.in_ok-table.ensures in
     let copies = c.in_ok-copy_files.ensures.copies in
     let honest_1 = laid.kept.honest.1 honest in
-    let same = ap (λ (v : SuperValue). block_count v) (one_asked 3 (asked_of c.args.old.now) c.args.slots table c.in_ok-table.table asked laid.ok.asked) in
+    let same = ap (λ (v : SuperValue). block_count v)
+    (one_asked 3 (asked_of c.args.old.now) c.args.slots table c.in_ok-table.table asked laid.ok.asked) in
     torn_after (c.finish.ensures.finishes.torn ((copies_honest copies).1 honest_1)) i (omega (arith, le))
-    ∙ torn_after (copies.torn honest_1) i (omega (arith, le, same)) ∙ torn_after (laid.torn honest table asked) i (omega (arith, le))
+    ∙ torn_after (copies.torn honest_1) i (omega (arith, le, same))
+    ∙ torn_after (laid.torn honest table asked) i (omega (arith, le))
 
 pub returns-clause-refused : goal.returns-clause-refused
 returns-clause-refused g c =
@@ -87,12 +107,16 @@ returns-clause-refused g c =
     subst P (sym is) (c.in_ok-table.table, c.in_ok-table.ensures.ok))
 
 pub returns-clause-unchanged : goal.returns-clause-unchanged
-returns-clause-unchanged g c = MatchResult-weaker c.finish.result c.finish.ensures.fault (λ x t. t) (λ (e : Refusal) (is : e ≡ Device). inl is)
+returns-clause-unchanged g c =
+    MatchResult-weaker c.finish.result c.finish.ensures.fault (λ x t. t) (λ (e : Refusal) (is : e ≡ Device). inl is)
 
 pub returns-clause-kept : goal.returns-clause-kept
 returns-clause-kept g c =
-    let first : AreAccounted {X = Unit {0}} g.D.Device g.E.Device c.args.old.now.device c.args.new.now (Ok tt) c.args.old.now.device c.begin.new.new = inr (kept_none g.D.Device c.args.old.now.device, kept_ok tt c.in_ok-table.ensures.kept) in
-    accounts_then (accounts_then first c.in_ok-copy_files.ensures.copies.accounts) (inr (kept_none g.D.Device c.copy_files.new.old.device, c.finish.ensures.finishes.kept))
+    let first : AreAccounted {X = Unit {0}} g.D.Device g.E.Device c.args.old.now.device c.args.new.now
+    (Ok tt) c.args.old.now.device c.begin.new.new =
+    inr (kept_none g.D.Device c.args.old.now.device, kept_ok tt c.in_ok-table.ensures.kept) in
+    accounts_then (accounts_then first c.in_ok-copy_files.ensures.copies.accounts)
+    (inr (kept_none g.D.Device c.copy_files.new.old.device, c.finish.ensures.finishes.kept))
 
 pub returns-clause-migrated : goal.returns-clause-migrated
 returns-clause-migrated g c = λ honest other.
@@ -103,23 +127,30 @@ returns-clause-migrated g c = λ honest other.
     let finishes = c.finish.ensures.finishes in
     let seen = g.E.Device.seen in
     on_ok_weaker c.finish.result
-    (λ (both : (seen c.finish.new.device ≡ written (seen c.copy_files.new.new) 0 (super_text c.in_ok-table.table)) × Only (g.E.Device.may_leave c.finish.new.device) (seen c.finish.new.device)).
-    migrated g.D.Device g.E.Device c.args.slots c.args.old.now c.args.new.now c.begin.new.new c.copy_files.new.new c.finish.new.device c.in_ok-table.table laid.ok laid.settled honest
-    (laid.emptied other) (laid.torn other c.in_ok-table.table laid.ok.asked) (copies.torn other_1) (c.in_ok-copy_files.ensures.copied honest other_1) both.0 both.1)
+    (λ (both : (seen c.finish.new.device ≡ written (seen c.copy_files.new.new) 0 (super_text c.in_ok-table.table))
+    × Only (g.E.Device.may_leave c.finish.new.device) (seen c.finish.new.device)).
+    migrated g.D.Device g.E.Device c.args.slots c.args.old.now c.args.new.now c.begin.new.new c.copy_files.new.new
+    c.finish.new.device c.in_ok-table.table laid.ok laid.settled honest
+    (laid.emptied other) (laid.torn other c.in_ok-table.table laid.ok.asked) (copies.torn other_1)
+    (c.in_ok-copy_files.ensures.copied honest other_1) both.0 both.1)
     (both_ok _ _ c.finish.result (finishes.done other_2) (finishes.synced other_2))
 
 pub returns-in_err-table-clause-crash : goal.returns-in_err-table-clause-crash
-returns-in_err-table-clause-crash g c = λ honest. leaves_weaker c.in_err-table.ensures.time (laying_left g.D.Device g.E.Device c.args.slots c.args.old.now c.args.new.now)
+returns-in_err-table-clause-crash g c = λ honest. leaves_weaker c.in_err-table.ensures.time
+    (laying_left g.D.Device g.E.Device c.args.slots c.args.old.now c.args.new.now)
 
 pub returns-in_err-copy_files-clause-crash : goal.returns-in_err-copy_files-clause-crash
 returns-in_err-copy_files-clause-crash g c = λ honest.
     let laid = c.in_ok-table.ensures in
-    time_of_copying g.D.Device g.E.Device c.args.slots c.args.old.now c.args.new.now c.begin.new.new c.in_ok-table.table laid.ok laid.time laid.left c.in_err-copy_files.ensures.copies
+    time_of_copying g.D.Device g.E.Device c.args.slots c.args.old.now c.args.new.now c.begin.new.new c.in_ok-table.table
+    laid.ok laid.time laid.left c.in_err-copy_files.ensures.copies
 
 pub returns-clause-crash : goal.returns-clause-crash
 returns-clause-crash g c = λ honest.
     let laid = c.in_ok-table.ensures in
     let copies = c.in_ok-copy_files.ensures.copies in
     let honest_1 = laid.kept.honest.1 honest in
-    time_of_filling g.D.Device g.E.Device c.args.slots c.args.old.now c.args.new.now c.begin.new.new c.in_ok-table.table laid.ok laid.time laid.left copies
-    laid.settled (laid.emptied honest) (λ on_volume. c.in_ok-copy_files.ensures.copied on_volume honest_1) honest_1 ((copies_honest copies).1 honest_1) c.finish.ensures.finishes
+    time_of_filling g.D.Device g.E.Device c.args.slots c.args.old.now c.args.new.now c.begin.new.new c.in_ok-table.table
+    laid.ok laid.time laid.left copies
+    laid.settled (laid.emptied honest) (λ on_volume. c.in_ok-copy_files.ensures.copied on_volume honest_1) honest_1
+    ((copies_honest copies).1 honest_1) c.finish.ensures.finishes

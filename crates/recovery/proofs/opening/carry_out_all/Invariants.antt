@@ -11,8 +11,10 @@ abbrev pub invariant-loop-oldest : goal.invariant-loop-oldest
 invariant-loop-oldest g l = record {
   kept : IsAccounted {X = Unit {0}} g.D.Device l.initial.device (Ok tt) l.device;
   carry : AllByRecursion (IsBatch l.geometry) (batches_of l.waiting.items);
-  under : (done : List Batch) × (batches_of l.initial.waiting.items ≡ batches_of l.waiting.items ++ done) × AllByRecursion (IsBatch l.geometry) done
-      × IsCarrying g.D.Device l.geometry (batches_of l.initial.waiting.items) (batches_of l.waiting.items) done l.initial.device l.device;
+  under : (done : List Batch) × (batches_of l.initial.waiting.items ≡ batches_of l.waiting.items ++ done)
+      × AllByRecursion (IsBatch l.geometry) done
+      × IsCarrying g.D.Device l.geometry (batches_of l.initial.waiting.items)
+      (batches_of l.waiting.items) done l.initial.device l.device;
 }
 
 abbrev pub decreases-loop-oldest : goal.decreases-loop-oldest

@@ -22,21 +22,34 @@ pub returns-in_err-lengths-clause-refused : goal.returns-in_err-lengths-clause-r
 returns-in_err-lengths-clause-refused g c = λ honest volume.
     let p = err_from_is_err_and c.from_residual.result c.from_residual.ensures.1 in
     let block = ap (λ (h : GeometryValue). lengths_blocks h.layout) c.geometry-geometry.ensures.value in
-    let some : 0 < lengths_blocks c.args.table.now.layout = omega (arith, block, ap lengths_blocks c.layout.ensures.value, c.lengths_blocks.ensures.value) in
-    let at = c.standing_first.ensures.value ∙ ap (λ (h : GeometryValue). standing_block h.slots (batches_of c.args.found.now) (first_home h.layout h.slots)) c.geometry-geometry.ensures.value in
-    rw (p.1, p.2) (refuses_stored c.args.table.now (batches_of c.args.found.now) _ _ _ (omega (arith, c.requires.long)) some at volume (c.in_err-lengths.ensures.refused honest))
+    let some : 0 < lengths_blocks c.args.table.now.layout =
+    omega (arith, block, ap lengths_blocks c.layout.ensures.value, c.lengths_blocks.ensures.value) in
+    let at = c.standing_first.ensures.value ∙ ap (λ (h : GeometryValue). standing_block h.slots
+    (batches_of c.args.found.now) (first_home h.layout h.slots)) c.geometry-geometry.ensures.value in
+    rw (p.1, p.2) (refuses_stored c.args.table.now (batches_of c.args.found.now) _ _ _
+    (omega (arith, c.requires.long)) some at volume (c.in_err-lengths.ensures.refused honest))
 
 pub returns-in_err-lengths-clause-most : goal.returns-in_err-lengths-clause-most
 returns-in_err-lengths-clause-most g c = λ small.
     let block = ap (λ (h : GeometryValue). lengths_blocks h.layout) c.geometry-geometry.ensures.value in
-    omega (arith, small, block, ap lengths_blocks c.layout.ensures.value, c.lengths_blocks.ensures.value, c.in_err-lengths.ensures.calls)
+    omega (
+      arith,
+      small,
+      block,
+      ap lengths_blocks c.layout.ensures.value,
+      c.lengths_blocks.ensures.value,
+      c.in_err-lengths.ensures.calls,
+    )
 
 pub returns-clause-lengths : goal.returns-clause-lengths
 returns-clause-lengths g c = λ honest.
     let block = ap (λ (h : GeometryValue). lengths_blocks h.layout) c.geometry-geometry.ensures.value in
-    let some : 0 < lengths_blocks c.args.table.now.layout = omega (arith, block, ap lengths_blocks c.layout.ensures.value, c.lengths_blocks.ensures.value) in
-    let at = c.standing_first.ensures.value ∙ ap (λ (h : GeometryValue). standing_block h.slots (batches_of c.args.found.now) (first_home h.layout h.slots)) c.geometry-geometry.ensures.value in
-    found_said c.args.table.now (batches_of c.args.found.now) _ _ _ c.geometry-geometry.ensures.fits some at (c.in_ok-lengths.ensures.said honest)
+    let some : 0 < lengths_blocks c.args.table.now.layout =
+    omega (arith, block, ap lengths_blocks c.layout.ensures.value, c.lengths_blocks.ensures.value) in
+    let at = c.standing_first.ensures.value ∙ ap (λ (h : GeometryValue). standing_block h.slots
+    (batches_of c.args.found.now) (first_home h.layout h.slots)) c.geometry-geometry.ensures.value in
+    found_said c.args.table.now (batches_of c.args.found.now) _ _ _ c.geometry-geometry.ensures.fits some at
+    (c.in_ok-lengths.ensures.said honest)
 
 pub returns-clause-fixed : goal.returns-clause-fixed
 returns-clause-fixed g c = λ none.
@@ -46,9 +59,25 @@ returns-clause-fixed g c = λ none.
 pub returns-clause-calls : goal.returns-clause-calls
 returns-clause-calls g c = λ small.
     let block = ap (λ (h : GeometryValue). lengths_blocks h.layout) c.geometry-geometry.ensures.value in
-    omega (arith, small, block, ap lengths_blocks c.layout.ensures.value, c.lengths_blocks.ensures.value, c.lengths_blocks.ensures.small, c.in_ok-lengths.ensures.calls)
+    omega (
+      arith,
+      small,
+      block,
+      ap lengths_blocks c.layout.ensures.value,
+      c.lengths_blocks.ensures.value,
+      c.lengths_blocks.ensures.small,
+      c.in_ok-lengths.ensures.calls,
+    )
 
 pub returns-clause-most : goal.returns-clause-most
 returns-clause-most g c = λ small.
     let block = ap (λ (h : GeometryValue). lengths_blocks h.layout) c.geometry-geometry.ensures.value in
-    omega (arith, small, block, ap lengths_blocks c.layout.ensures.value, c.lengths_blocks.ensures.value, c.lengths_blocks.ensures.small, c.in_ok-lengths.ensures.calls)
+    omega (
+      arith,
+      small,
+      block,
+      ap lengths_blocks c.layout.ensures.value,
+      c.lengths_blocks.ensures.value,
+      c.lengths_blocks.ensures.small,
+      c.in_ok-lengths.ensures.calls,
+    )

@@ -17,16 +17,19 @@ returns-in_err-lengths-clause-refused g c = λ honest.
     let same = (c.in_ok-table.ensures.unwritten honest).same in
     let P : List ℕ → Type 0 = λ bytes. RefusesOpening bytes c.in_err-lengths.field-0.0 in
     rw (p.1, p.2)
-    (subst P same (c.in_err-lengths.ensures.refused (c.in_ok-table.ensures.kept.honest.1 honest) (volume_of _ c.deref.ensures.value (sym same) (c.in_ok-table.ensures.volume honest))))
+    (subst P same (c.in_err-lengths.ensures.refused (c.in_ok-table.ensures.kept.honest.1 honest)
+    (volume_of _ c.deref.ensures.value (sym same) (c.in_ok-table.ensures.volume honest))))
 
 pub returns-in_err-lengths-clause-unwritten : goal.returns-in_err-lengths-clause-unwritten
 returns-in_err-lengths-clause-unwritten g c = λ honest.
-    unwritten_then (c.in_ok-table.ensures.unwritten honest) (c.find_lengths.ensures.unwritten (c.in_ok-table.ensures.kept.honest.1 honest))
+    unwritten_then (c.in_ok-table.ensures.unwritten honest)
+    (c.find_lengths.ensures.unwritten (c.in_ok-table.ensures.kept.honest.1 honest))
 
 pub returns-in_err-lengths-clause-kept : goal.returns-in_err-lengths-clause-kept
 returns-in_err-lengths-clause-kept g c =
     let p = err_from_is_err_and c.from_residual-in_err-lengths.result c.from_residual-in_err-lengths.ensures.1 in
-    kept_then c.in_ok-table.ensures.kept (kept_err c.from_residual-in_err-lengths.result (p.1 ∙ ap Err p.2) c.in_err-lengths.ensures.kept)
+    kept_then c.in_ok-table.ensures.kept
+    (kept_err c.from_residual-in_err-lengths.result (p.1 ∙ ap Err p.2) c.in_err-lengths.ensures.kept)
 
 pub returns-in_err-lengths-clause-most : goal.returns-in_err-lengths-clause-most
 returns-in_err-lengths-clause-most g c = λ honest. inr (
@@ -37,15 +40,18 @@ returns-in_err-lengths-clause-most g c = λ honest. inr (
 
 pub returns-clause-lengths : goal.returns-clause-lengths
 returns-clause-lengths g c = λ honest.
-    found_of _ c.deref.ensures.value (c.in_ok-table.ensures.unwritten honest).same (c.in_ok-lengths.ensures.lengths (c.in_ok-table.ensures.kept.honest.1 honest))
+    found_of _ c.deref.ensures.value (c.in_ok-table.ensures.unwritten honest).same
+    (c.in_ok-lengths.ensures.lengths (c.in_ok-table.ensures.kept.honest.1 honest))
 
 pub returns-clause-synced : goal.returns-clause-synced
 returns-clause-synced g c = λ honest.
-    synced_after {disk = g.D.Device} (c.find_lengths.ensures.unwritten (c.in_ok-table.ensures.kept.honest.1 honest)) (c.in_ok-table.ensures.synced honest)
+    synced_after {disk = g.D.Device} (c.find_lengths.ensures.unwritten (c.in_ok-table.ensures.kept.honest.1 honest))
+    (c.in_ok-table.ensures.synced honest)
 
 pub returns-clause-unwritten : goal.returns-clause-unwritten
 returns-clause-unwritten g c = λ honest.
-    unwritten_then (c.in_ok-table.ensures.unwritten honest) (c.find_lengths.ensures.unwritten (c.in_ok-table.ensures.kept.honest.1 honest))
+    unwritten_then (c.in_ok-table.ensures.unwritten honest)
+    (c.find_lengths.ensures.unwritten (c.in_ok-table.ensures.kept.honest.1 honest))
 
 pub returns-clause-kept : goal.returns-clause-kept
 returns-clause-kept g c = kept_then c.in_ok-table.ensures.kept (kept_ok _ c.in_ok-lengths.ensures.kept)

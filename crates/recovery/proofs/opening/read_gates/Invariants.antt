@@ -10,7 +10,8 @@ invariant-loop-journal g l = record {
   whole : length l.gates ≡ 2;
   honest : g.D.Device.is_honest l.device ↔ g.D.Device.is_honest l.initial.device;
   unwritten : g.D.Device.is_honest l.initial.device → IsUnwritten g.D.Device l.initial.device l.device;
-  found : g.D.Device.is_honest l.initial.device → (j : ℕ) → j < l.journal → ((slice_index_or l.gates j false ≡ true) ↔ IsOpen (g.D.Device.seen l.initial.device) l.geometry.slots j);
+  found : g.D.Device.is_honest l.initial.device → (j : ℕ) → j < l.journal
+      → ((slice_index_or l.gates j false ≡ true) ↔ IsOpen (g.D.Device.seen l.initial.device) l.geometry.slots j);
   faults : g.D.Device.faults_met l.device ≡ g.D.Device.faults_met l.initial.device;
   calls : Rises l.journal (g.D.Device.calls_made l.initial.device) (g.D.Device.calls_made l.device);
 }

@@ -7,12 +7,14 @@ use Rattle.recovery.proofs.opening.read_journals.Goals as goal
 
 pub returns-in_err-read_if_open-clause-unwritten : goal.returns-in_err-read_if_open-clause-unwritten
 returns-in_err-read_if_open-clause-unwritten g c = λ honest.
-    unwritten_then (c.loop-journal.invariant.unwritten honest) (c.read_if_open.ensures.unwritten (c.loop-journal.invariant.kept.honest.1 honest))
+    unwritten_then (c.loop-journal.invariant.unwritten honest)
+    (c.read_if_open.ensures.unwritten (c.loop-journal.invariant.kept.honest.1 honest))
 
 pub returns-in_err-read_if_open-clause-kept : goal.returns-in_err-read_if_open-clause-kept
 returns-in_err-read_if_open-clause-kept g c =
     let p = err_from_is_err_and c.from_residual.result c.from_residual.ensures.1 in
-    kept_then c.loop-journal.invariant.kept (kept_err c.from_residual.result (p.1 ∙ ap Err p.2) c.in_err-read_if_open.ensures.kept)
+    kept_then c.loop-journal.invariant.kept
+    (kept_err c.from_residual.result (p.1 ∙ ap Err p.2) c.in_err-read_if_open.ensures.kept)
 
 pub returns-in_err-read_if_open-clause-refused : goal.returns-in_err-read_if_open-clause-refused
 returns-in_err-read_if_open-clause-refused g c = λ honest.
@@ -30,8 +32,10 @@ loop-journal-preserved g c =
       unwritten = λ honest. unwritten_then (i.unwritten honest) (e.unwritten (i.kept.honest.1 honest));
       found = λ honest.
           let same = (i.unwritten honest).same in
-          let P : List ℕ → Type 0 = λ bytes. AreRead c.args.geometry.now bytes c.loop-journal.journal (batches_of c.loop-journal.found.items) in
-          let Q : List ℕ → Type 0 = λ bytes. AreRead c.args.geometry.now bytes (c.loop-journal.journal + 1) (batches_of c.read_if_open.new.found.items) in
+          let P : List ℕ → Type 0 = λ bytes.
+          AreRead c.args.geometry.now bytes c.loop-journal.journal (batches_of c.loop-journal.found.items) in
+          let Q : List ℕ → Type 0 = λ bytes. AreRead c.args.geometry.now bytes (c.loop-journal.journal + 1)
+          (batches_of c.read_if_open.new.found.items) in
           subst Q same (e.found (i.kept.honest.1 honest) (subst P (sym same) (i.found honest)));
       carry = e.carry i.carry;
       few = omega (arith, i.few, e.calls.1, e.calls.2);
@@ -40,6 +44,8 @@ loop-journal-preserved g c =
 
 pub returns-clause-found : goal.returns-clause-found
 returns-clause-found g c = λ honest.
-    let last : c.loop-journal.journal ≡ journals_of c.args.geometry.now.layout = omega (arith, c.journals-journals.ensures.value) in
-    let P : ℕ → Type 0 = λ n. AreRead c.args.geometry.now (g.D.Device.seen c.args.device.now) n (batches_of c.loop-journal.found.items) in
+    let last : c.loop-journal.journal ≡ journals_of c.args.geometry.now.layout =
+    omega (arith, c.journals-journals.ensures.value) in
+    let P : ℕ → Type 0 = λ n.
+    AreRead c.args.geometry.now (g.D.Device.seen c.args.device.now) n (batches_of c.loop-journal.found.items) in
     subst P last (c.loop-journal.invariant.found honest)

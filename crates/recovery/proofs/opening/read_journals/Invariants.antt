@@ -10,7 +10,8 @@ abbrev pub invariant-loop-journal : goal.invariant-loop-journal
 invariant-loop-journal g l = record {
   kept : IsAccounted {X = Unit {0}} g.D.Device l.initial.device (Ok tt) l.device;
   unwritten : g.D.Device.is_honest l.initial.device → IsUnwritten g.D.Device l.initial.device l.device;
-  found : g.D.Device.is_honest l.initial.device → AreRead l.geometry (g.D.Device.seen l.initial.device) l.journal (batches_of l.found.items);
+  found : g.D.Device.is_honest l.initial.device
+      → AreRead l.geometry (g.D.Device.seen l.initial.device) l.journal (batches_of l.found.items);
   carry : AllByRecursion (IsBatch l.geometry) (batches_of l.found.items);
   few : length l.found.items ≤ l.journal;
   calls : Rises (length l.found.items) (g.D.Device.calls_made l.initial.device) (g.D.Device.calls_made l.device);

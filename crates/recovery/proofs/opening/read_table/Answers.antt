@@ -16,5 +16,7 @@ pub returns-then-len-from-clause-refused : goal.returns-then-len-from-clause-ref
 returns-then-len-from-clause-refused g c = λ honest.
     let long : 4096 ≤ length (g.D.Device.seen c.args.device.now) = omega arith in
     let P : List ℕ → Type 0 = λ block. IsSuper c.in_ok-table.table block in
-    let short : length (g.D.Device.seen c.args.device.now) < 4096 * block_count c.in_ok-table.table = omega (arith, c.block_count.ensures.value, c.read_block.ensures.kept.len) in
-    refuses_short c.in_ok-table.table _ (subst P (c.in_ok-block.ensures.bytes honest) c.in_ok-table.ensures.ok) long short
+    let short : length (g.D.Device.seen c.args.device.now) < 4096 * block_count c.in_ok-table.table =
+    omega (arith, c.block_count.ensures.value, c.read_block.ensures.kept.len) in
+    refuses_short c.in_ok-table.table _
+    (subst P (c.in_ok-block.ensures.bytes honest) c.in_ok-table.ensures.ok) long short

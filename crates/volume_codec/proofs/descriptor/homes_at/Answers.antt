@@ -5,7 +5,9 @@ use Rattle.volume_codec.proofs.descriptor.homes_at.Goals as goal
 pub loop-i-preserved : goal.loop-i-preserved
 loop-i-preserved g c =
     let pushed : c.push.new.self.items ≡ c.loop-i.homes.items ++ c.u32_at.result ∷ [] = search rules in
-    number_found c.loop-i.homes.items _ c.u32_at.result 4 c.args.count c.loop-i.i 16 c.args.block.now (omega arith) c.loop-i.invariant c.u32_at.ensures pushed
+    number_found c.loop-i.homes.items _ c.u32_at.result 4 c.args.count c.loop-i.i 16 c.args.block.now
+    (omega arith) c.loop-i.invariant c.u32_at.ensures pushed
 
 pub returns : goal.returns
-returns g c = numbers_found c.loop-i.homes.items 4 c.args.count c.loop-i.i 16 c.args.block.now (omega arith) c.loop-i.invariant
+returns g c = numbers_found c.loop-i.homes.items 4 c.args.count c.loop-i.i 16 c.args.block.now
+    (omega arith) c.loop-i.invariant

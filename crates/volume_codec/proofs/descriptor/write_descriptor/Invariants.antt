@@ -5,6 +5,7 @@ use Rattle.volume_codec.proofs.descriptor.write_descriptor.Given as goal
 
 abbrev pub invariant-loop-home : goal.invariant-loop-home
 invariant-loop-home l = record {
-  written : l.block ≡ number_text 8 l.mark ++ number_text 4 (length l.homes) ++ zeros 4 ++ flat_map (number_text 4) (take l.home-index l.homes);
+  written : l.block ≡ number_text 8 l.mark ++ number_text 4 (length l.homes) ++ zeros 4
+      ++ flat_map (number_text 4) (take l.home-index l.homes);
   len : length l.block ≡ 16 + 4 * l.home-index;
 }

@@ -3,4 +3,9 @@ use Rattle.volume_codec.proofs.Batches.{recovers_front, length-recovered}
 use Rattle.volume_codec.proofs.laws.recovered_from.Goals as goal
 
 pub returns : goal.returns
-returns c = record { record_of_newest = standing_block-at; no_record = standing_block-other; within = recovers_front; whole = length-recovered }
+returns c = record {
+  record_of_newest = standing_block-at;
+  no_record = standing_block-other;
+  within = recovers_front;
+  whole = length-recovered;
+}

@@ -6,4 +6,5 @@ use Rattle.volume_codec.proofs.lengths_block.capacities.Goals as goal
 pub loop-file-preserved : goal.loop-file-preserved
 loop-file-preserved g c =
     let pushed : c.push.new.self.items ≡ c.loop-file.capacities.items ++ c.capacity.result ∷ [] = search rules in
-    capacity_pushed (capacities_in c.args.table.now) c.loop-file.capacities.items _ c.loop-file.file c.capacity.result pushed c.loop-file.invariant c.capacity.ensures
+    capacity_pushed (capacities_in c.args.table.now) c.loop-file.capacities.items _ c.loop-file.file c.capacity.result
+    pushed c.loop-file.invariant c.capacity.ensures

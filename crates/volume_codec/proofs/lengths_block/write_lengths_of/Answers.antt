@@ -7,4 +7,5 @@ use Rattle.volume_codec.proofs.lengths_block.write_lengths_of.Goals as goal
 
 pub returns : goal.returns
 returns c =
-    c.finish.ensures ∙ ap (padded 4096) (c.loop-file.invariant.written ∙ ap (flat_map asked_length_text) (take_all c.loop-file.file-index c.args.files.now (omega arith)) ∙ asked_text c.args.files.now)
+    c.finish.ensures ∙ ap (padded 4096) (c.loop-file.invariant.written ∙ ap (flat_map asked_length_text)
+    (take_all c.loop-file.file-index c.args.files.now (omega arith)) ∙ asked_text c.args.files.now)

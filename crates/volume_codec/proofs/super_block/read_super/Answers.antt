@@ -30,18 +30,23 @@ whole : (block : List ℕ) → length block ≡ 4096 → take 4064 (drop 32 bloc
 whole block h = take_all 4064 (drop 32 block) (omega (arith, length-drop 32 block))
 
 -- a table that is refused is one of a block that says no value, or memory was refused
-refused : (layout : Layout) (number : ℕ) (block : List ℕ) (files : List AskedFile) (slots : ℕ) (e : Refusal) → take 8 block ≡ magic_of layout
-    → (((v : SuperValue) → IsAsked number files slots v → ⊥) → (v : SuperValue) → IsSuper v block → ⊥) → RefusesTable number files slots e → RefusesSuper block (damage_of e)
+refused : (layout : Layout) (number : ℕ) (block : List ℕ) (files : List AskedFile) (slots : ℕ) (e : Refusal)
+    → take 8 block ≡ magic_of layout
+    → (((v : SuperValue) → IsAsked number files slots v → ⊥) → (v : SuperValue) → IsSuper v block → ⊥)
+    → RefusesTable number files slots e → RefusesSuper block (damage_of e)
 refused layout number block files slots BadShape magic none h = (layout, magic, none h)
 refused layout number block files slots OutOfMemory magic none h = tt
 refused layout number block files slots _ magic none h = absurd h
 
 -- what the entries read as
 found : (block : List ℕ) (files : List TableFile) (count : ℕ) → length block ≡ 4096
-    → (AllByRecursion (λ f. IsName f.name) (table_files_in count (take 4064 (drop 32 block))) → files ≡ table_files_in count (take 4064 (drop 32 block)))
-    → AllByRecursion (λ f. IsName f.name) (table_files_in count (drop 32 block)) → files ≡ table_files_in count (drop 32 block)
+    → (AllByRecursion (λ f. IsName f.name) (table_files_in count (take 4064 (drop 32 block)))
+    → files ≡ table_files_in count (take 4064 (drop 32 block)))
+    → AllByRecursion (λ f. IsName f.name) (table_files_in count (drop 32 block))
+    → files ≡ table_files_in count (drop 32 block)
 found block files count l h =
-    let P : List ℕ → Type 0 = λ entries. AllByRecursion (λ f. IsName f.name) (table_files_in count entries) → files ≡ table_files_in count entries in
+    let P : List ℕ → Type 0 = λ entries. AllByRecursion (λ f. IsName f.name) (table_files_in count entries)
+    → files ≡ table_files_in count entries in
     subst P (whole block l) h
 
 pub returns-in-Err-clause-refused : goal.returns-in-Err-clause-refused
@@ -49,9 +54,12 @@ returns-in-Err-clause-refused g c =
     let block = c.args.block.now in
     let numbered = sym c.number.ensures in
     let files = take c.u32_at-count.result c.files_at-files.result in
-    let r = refused c.in-Some.layout c.number.result block (asked_by files) c.from-slots.result c.in-Err.refusal c.in-Some.ensures.some
-    (refuses_table c.in-Some.layout c.number.result block files c.from-slots.result numbered c.files_at-files.ensures.full
-    (λ v is. read_value c.in-Some.layout v block files c.u32_at-count.result c.from-slots.result is c.in-Some.ensures.some c.u32_at-count.ensures (c.from-slots.ensures ∙ c.u32_at.ensures)
+    let r = refused c.in-Some.layout c.number.result block
+    (asked_by files) c.from-slots.result c.in-Err.refusal c.in-Some.ensures.some
+    (refuses_table c.in-Some.layout c.number.result block files c.from-slots.result numbered
+    c.files_at-files.ensures.full
+    (λ v is. read_value c.in-Some.layout v block files c.u32_at-count.result c.from-slots.result is
+    c.in-Some.ensures.some c.u32_at-count.ensures (c.from-slots.ensures ∙ c.u32_at.ensures)
     (found block (files_asked_for files) c.u32_at-count.result c.told-block c.files_at-files.ensures.files)))
     c.in-Err.ensures.refused in
     let P : Refusal → Type 0 = λ e. RefusesSuper block e in
@@ -62,11 +70,13 @@ returns-then-ne-clause-refused g c =
     let block = c.args.block.now in
     let files = take c.u32_at-count.result c.files_at-files.result in
     let numbered = sym c.number.ensures in
-    let same = asked_table c.in-Some.layout c.number.result files c.from-slots.result c.in-Ok.table numbered c.in-Ok.ensures.ok in (
+    let same = asked_table c.in-Some.layout c.number.result files c.from-slots.result c.in-Ok.table
+    numbered c.in-Ok.ensures.ok in (
       c.in-Some.layout,
       c.in-Some.ensures.some,
       refuses_spelling block c.to_block.result (table_of c.in-Some.layout files c.from-slots.result)
-          (λ v is. read_value c.in-Some.layout v block files c.u32_at-count.result c.from-slots.result is c.in-Some.ensures.some c.u32_at-count.ensures (c.from-slots.ensures ∙ c.u32_at.ensures)
+          (λ v is. read_value c.in-Some.layout v block files c.u32_at-count.result c.from-slots.result is
+          c.in-Some.ensures.some c.u32_at-count.ensures (c.from-slots.ensures ∙ c.u32_at.ensures)
           (found block (files_asked_for files) c.u32_at-count.result c.told-block c.files_at-files.ensures.files))
           (c.to_block.ensures ∙ ap super_text same)
           (other_by_ne _ _ _ c.ne.ensures c.if-ne.true),

@@ -6,5 +6,6 @@ use Rattle.volume_codec.proofs.super_block.Super.name.Goals as goal
 pub returns : goal.returns
 returns g c =
     ap (λ v. slice_get (names_in v) c.args.file) (sym c.self.view_is)
-    ∙ name_at_row c.self.inside.files.entries c.args.file _ (sym c.get_index.ensures.entry ∙ ap (option_map _) c.unwrap.ensures)
+    ∙ name_at_row c.self.inside.files.entries c.args.file _
+    (sym c.get_index.ensures.entry ∙ ap (option_map _) c.unwrap.ensures)
     ∙ ap Some (sym c.as_str.ensures.value)

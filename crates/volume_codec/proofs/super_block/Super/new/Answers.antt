@@ -16,8 +16,11 @@ table-requires-clause-distinct g c = names_fit _ _ _ c.in_ok-blocks.ensures.fits
 
 pub returns-in-Ok-clause-ok : goal.returns-in-Ok-clause-ok
 returns-in-Ok-clause-ok g c =
-    let P : List TableFile → Type 0 = λ fs. IsAsked c.args.layout (asked_by c.args.files.now) c.args.slots (record { layout = c.in-Some.layout; files = fs; slots = c.args.slots }) in
-    subst P (sym c.in-Ok.ensures.rows) (table_asked _ _ _ _ c.in-Some.ensures.some c.in_ok-blocks.ensures.lengths c.in_ok-blocks.ensures.fits)
+    let P : List TableFile → Type 0 = λ fs. IsAsked c.args.layout (asked_by c.args.files.now) c.args.slots
+    (record { layout = c.in-Some.layout; files = fs; slots = c.args.slots }) in
+    subst P (sym c.in-Ok.ensures.rows)
+    (table_asked _ _ _ _ c.in-Some.ensures.some c.in_ok-blocks.ensures.lengths c.in_ok-blocks.ensures.fits)
 
 pub returns-in-Err-clause-refused : goal.returns-in-Err-clause-refused
-returns-in-Err-clause-refused g c = (_, table_asked _ _ _ _ c.in-Some.ensures.some c.in_ok-blocks.ensures.lengths c.in_ok-blocks.ensures.fits)
+returns-in-Err-clause-refused g c =
+    (_, table_asked _ _ _ _ c.in-Some.ensures.some c.in_ok-blocks.ensures.lengths c.in_ok-blocks.ensures.fits)

@@ -6,7 +6,8 @@ use Rattle.volume_codec.proofs.super_block.Super.pages.Goals as goal
 
 pub returns : goal.returns
 returns g c =
-    let e = capacity_at_row c.self.inside.files.entries c.args.file _ (sym c.get_index.ensures.entry ∙ ap (option_map _) c.unwrap.ensures) in
+    let e = capacity_at_row c.self.inside.files.entries c.args.file _
+    (sym c.get_index.ensures.entry ∙ ap (option_map _) c.unwrap.ensures) in
     let i = index_by_get _ c.args.file _ (ap (λ v. slice_get (capacities_in v) c.args.file) (sym c.self.view_is) ∙ e) in
     c.pages_of.ensures.value ∙ ap pages_of (sym i)
 
